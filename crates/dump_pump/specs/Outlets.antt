@@ -1,0 +1,20 @@
+-- What a put does.
+use Rattle.std.specs.Prelude.{◌≡◌, ℕ, ◌+◌, ◌<◌, ◌≤◌, List, ◌++◌, take, length, Option, Some, None}
+use Rattle.std.specs.Io.KnownBytes.{Appends, Keeps}
+use Rattle.dump_pump.specs.declared.Put.{Put}
+use Rattle.dump_pump.specs.declared.Put.TheVariants.{Took, Failed}
+
+-- the bytes that were put out so far, and how many puts failed
+pub record Outgoing : Type 0 where
+  pub out : List ℕ
+  pub failures : ℕ
+
+-- a put takes a part at the front of what it is given, or fails and takes nothing
+abbrev pub IsPut : List ℕ → Outgoing → Outgoing → Put → Type 0
+IsPut given a b (Took n) = (0 < n) × (n ≤ length given) × (b.out ≡ a.out ++ take n given) × (b.failures ≡ a.failures)
+IsPut given a b Failed = (b.out ≡ a.out) × (b.failures ≡ a.failures + 1)
+
+-- what a write did to the bytes that a writer holds, where those are known: it appended the part that it took, or nothing
+abbrev pub IsTriedWrite : Option (List ℕ) → Option (List ℕ) → Option ℕ → List ℕ → Type 0
+IsTriedWrite old new (Some n) given = (0 < n) × (n ≤ length given) × Appends old new (take n given)
+IsTriedWrite old new None given = Keeps old new

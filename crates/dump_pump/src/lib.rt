@@ -1,0 +1,19 @@
+//! Where the bytes of a dump and the lines of a session go.
+#![tactic(auto)]
+
+pub mod history;
+pub mod outlet;
+pub mod write_outlet;
+
+pub use history::History;
+pub use outlet::Outlet;
+pub use write_outlet::WriteOutlet;
+
+/// What a put took.
+#[derive(Clone, Copy, PartialEq, Eq, Debug)]
+pub enum Put {
+    /// So many bytes from the front, at least one.
+    Took(usize),
+    /// Nothing.
+    Failed,
+}

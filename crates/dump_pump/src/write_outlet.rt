@@ -1,0 +1,77 @@
+//! Outlets over writers.
+ghost use Rattle.std.specs.Prelude.{◌<◌, length};
+ghost use Rattle.dump_pump.specs.Outlets.{IsTriedWrite};
+
+use crate::history::History;
+use crate::{Outlet, Put};
+use std::io::{ErrorKind, Write};
+
+/// How often an interrupted write is made again.
+pub const INTERRUPT_LIMIT: u32 = 100;
+
+/// An outlet of a writer. A write that takes nothing is a failure, and so is one that stays interrupted.
+#[derive(Drop)]
+pub struct WriteOutlet<W: Write> {
+    writer: W,
+    written: History<u8>,
+    failed: History<()>,
+}
+
+impl<W: Write> WriteOutlet<W> {
+    /// An outlet that has put out nothing yet.
+    pub fn new(writer: W) -> WriteOutlet<W> {
+        WriteOutlet {
+            writer,
+            written: History::new(),
+            failed: History::new(),
+        }
+    }
+
+    /// The writer.
+    pub fn into_writer(self) -> W {
+        let WriteOutlet {
+            writer,
+            written: _,
+            failed: _,
+        } = self;
+        writer
+    }
+}
+
+/// Writes once, and again where it is interrupted. None where it took nothing.
+fn write_once<W: Write>(writer: &mut W, given: &[u8]) -> Option<usize>
+    requires { 0 < length given.now }
+    ensures { IsTriedWrite (W.contents writer.old) (W.contents writer.new) result given.now }
+{
+    for _ in 0..INTERRUPT_LIMIT {
+        match writer.write(given) {
+            Ok(0) => return None,
+            Ok(n) => return Some(n),
+            Err(error) => {
+                if error.kind() != ErrorKind::Interrupted {
+                    return None;
+                }
+            }
+        }
+    }
+    None
+}
+
+impl<W: Write> Outlet for WriteOutlet<W> {
+    ghost use Rattle.std.specs.Prelude.{length};
+
+    ghost seen = { λ o. record { out = o.written.items; failures = length o.failed.items } };
+
+    fn put(&mut self, given: &[u8]) -> Put {
+        match write_once(&mut self.writer, given) {
+            Some(n) => {
+                self.written.extend(&given[..n]);
+                Put::Took(n)
+            }
+            None => {
+                self.failed = self.failed.and(&());
+                Put::Failed
+            }
+        }
+    }
+}

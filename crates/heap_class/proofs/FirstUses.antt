@@ -1,0 +1,162 @@
+-- Names in order of first use: they are what a set has into which they are put one after another.
+use Rattle.std.proofs.Common.{◌≡◌, ℕ, ◌+◌, ◌<◌, ◌≤◌, Bool, true, false, not, ◌&&◌, ◌||◌, cond, List, [], ◌∷◌, ◌++◌, length, filter, get_or, take, refl, sym, ap, subst, ◌∙◌, arith, append_assoc, length-append}
+use Rattle.std.specs.Prelude.{flat_map}
+use Rattle.std.specs.Cmp.Lexicographic.{nat_list_eq_equiv}
+use Rattle.std.specs.List.{All, IsDistinct, list_any, position_or_len}
+use Rattle.std.specs.Str.{bytes_eq}
+use Rattle.std.proofs.lemmas.Slice.Eq.{bytes_eq-Decides}
+use Rattle.std.proofs.lemmas.List.{append-nil, take_at}
+use Rattle.std.proofs.lemmas.List.Elements.{All-push, All-head, All-tail}
+use Rattle.std.proofs.lemmas.List.Folds.{list_any-append}
+use Rattle.std.proofs.lemmas.Grind.{flat_map-append, fold-append}
+use Rattle.std.proofs.lemmas.Map.Keys.{IsDistinct-push, apart_from_distinct}
+use Rattle.std.proofs.lemmas.List.Sums.{position_or_len_is}
+use Rattle.indexmap.specs.IndexSet.{insert_key, insert_all}
+use Rattle.heap_class.specs.Classes.{Class, first_uses, name_table, names_in}
+
+-- ---- equality of names
+
+pub bytes_same : (x y : List ℕ) → bytes_eq x y ≡ true → x ≡ y
+bytes_same x y = (bytes_eq-Decides x y).0
+
+pub bytes_self : (x : List ℕ) → bytes_eq x x ≡ true
+bytes_self x = nat_list_eq_equiv.refl x
+
+pub bytes_flip : (x y : List ℕ) → bytes_eq x y ≡ bytes_eq y x
+bytes_flip x y = nat_list_eq_equiv.symm x y
+
+-- ---- one filter after another
+
+cond_filter : {A : Type 0} (a b : Bool) (x : A) (p : A → Bool) (ys zs : List A) → p x ≡ b → filter p ys ≡ zs → filter p (cond a (x ∷ ys) ys) ≡ cond (a && b) (x ∷ zs) zs
+cond_filter true true x p ys zs e h = rw e (ap (λ l. x ∷ l) h)
+cond_filter true false x p ys zs e h = rw e h
+cond_filter false b x p ys zs e h = h
+
+-- what passes both tests
+filter_both : {A : Type 0} (p q r : A → Bool) → ((x : A) → r x ≡ (q x && p x)) → (xs : List A) → filter p (filter q xs) ≡ filter r xs
+filter_both p q r h [] = refl
+filter_both p q r h (x ∷ xs) =
+    cond_filter (q x) (p x) x p (filter q xs) (filter r xs) refl (filter_both p q r h xs)
+    ∙ ap (λ b. cond b (x ∷ filter r xs) (filter r xs)) (sym (h x))
+
+-- a test that all pass
+filter_all : {A : Type 0} (xs : List A) → filter (λ x. true) xs ≡ xs
+filter_all [] = refl
+filter_all (x ∷ xs) = ap (λ ys. x ∷ ys) (filter_all xs)
+
+-- ---- names put in one after another
+
+-- whether a list lacks a name
+abbrev lacks : List (List ℕ) → List ℕ → Bool
+lacks ks y = not (list_any (bytes_eq y) ks)
+
+last_lacks : (a b : Bool) → not (a || (b || false)) ≡ (not b && not a)
+last_lacks true true = refl
+last_lacks true false = refl
+last_lacks false true = refl
+last_lacks false false = refl
+
+-- a list with one more name
+lacks_more : (ks : List (List ℕ)) (x y : List ℕ) → lacks (ks ++ x ∷ []) y ≡ (not (bytes_eq x y) && lacks ks y)
+lacks_more ks x y =
+    ap not (list_any-append (bytes_eq y) ks (x ∷ []))
+    ∙ last_lacks (list_any (bytes_eq y) ks) (bytes_eq y x)
+    ∙ ap (λ b. not b && lacks ks y) (bytes_flip y x)
+
+-- a list that has x
+lacks_there : (ks : List (List ℕ)) (x y : List ℕ) → list_any (bytes_eq x) ks ≡ true → lacks ks y ≡ (not (bytes_eq x y) && lacks ks y)
+lacks_there ks x y h = go (bytes_eq x y) refl
+  where
+    go : (b : Bool) → bytes_eq x y ≡ b → lacks ks y ≡ (not b && lacks ks y)
+    go true e = ap not (subst (λ z. list_any (bytes_eq z) ks ≡ true) (bytes_same x y e) h)
+    go false e = refl
+
+step_there : (ks : List (List ℕ)) (x : List ℕ) (zs : List (List ℕ)) → list_any (bytes_eq x) ks ≡ true → ks ++ filter (lacks ks) zs ≡ ks ++ filter (lacks ks) (x ∷ filter (λ y. not (bytes_eq x y)) zs)
+step_there ks x zs h =
+    let rest : List (List ℕ) = filter (lacks ks) (filter (λ y. not (bytes_eq x y)) zs) in
+    ap (λ l. ks ++ l) (sym (filter_both (lacks ks) (λ y. not (bytes_eq x y)) (lacks ks) (λ y. lacks_there ks x y h) zs)
+    ∙ ap (λ b. cond (not b) (x ∷ rest) rest) (sym h))
+
+step_new : (ks : List (List ℕ)) (x : List ℕ) (zs : List (List ℕ)) → list_any (bytes_eq x) ks ≡ false → (ks ++ x ∷ []) ++ filter (lacks (ks ++ x ∷ [])) zs ≡ ks ++ filter (lacks ks) (x ∷ filter (λ y. not (bytes_eq x y)) zs)
+step_new ks x zs h =
+    let rest : List (List ℕ) = filter (lacks ks) (filter (λ y. not (bytes_eq x y)) zs) in
+    append_assoc ks (x ∷ []) (filter (lacks (ks ++ x ∷ [])) zs)
+    ∙ ap (λ l. ks ++ l) (ap (λ l. x ∷ l) (sym (filter_both (lacks ks) (λ y. not (bytes_eq x y)) (lacks (ks ++ x ∷ [])) (lacks_more ks x) zs))
+    ∙ ap (λ b. cond (not b) (x ∷ rest) rest) (sym h))
+
+-- what a list has into which names are put
+inserted : (ks xs : List (List ℕ)) → insert_all bytes_eq ks xs ≡ ks ++ filter (lacks ks) (first_uses xs)
+unfolding first_uses
+inserted ks [] = sym (append-nil ks)
+inserted ks (x ∷ xs) = go (list_any (bytes_eq x) ks) refl (inserted ks xs) (inserted (ks ++ x ∷ []) xs)
+  where
+    go : (b : Bool) → list_any (bytes_eq x) ks ≡ b → insert_all bytes_eq ks xs ≡ ks ++ filter (lacks ks) (first_uses xs)
+        → insert_all bytes_eq (ks ++ x ∷ []) xs ≡ (ks ++ x ∷ []) ++ filter (lacks (ks ++ x ∷ [])) (first_uses xs)
+        → insert_all bytes_eq (cond b ks (ks ++ x ∷ [])) xs ≡ ks ++ filter (lacks ks) (x ∷ filter (λ y. not (bytes_eq x y)) (first_uses xs))
+    go true e there new = there ∙ step_there ks x (first_uses xs) e
+    go false e there new = new ∙ step_new ks x (first_uses xs) e
+
+table_inserted : (cs : List Class) → name_table cs ≡ insert_all bytes_eq [] (flat_map names_in cs)
+unfolding name_table
+table_inserted cs = sym (inserted [] (flat_map names_in cs) ∙ filter_all (first_uses (flat_map names_in cs)))
+
+-- the names with those of one more class
+pub names_more : (cs : List Class) (c : Class) → name_table (cs ++ c ∷ []) ≡ insert_all bytes_eq (name_table cs) (names_in c)
+names_more cs c =
+    table_inserted (cs ++ c ∷ [])
+    ∙ ap (insert_all bytes_eq []) (flat_map-append names_in cs (c ∷ []) ∙ ap (λ l. flat_map names_in cs ++ l) (append-nil (names_in c)))
+    ∙ fold-append (insert_key bytes_eq) [] (flat_map names_in cs) (names_in c)
+    ∙ ap (λ t. insert_all bytes_eq t (names_in c)) (sym (table_inserted cs))
+
+-- ---- what stays and what is new
+
+pub inserted_prefix : (ks xs : List (List ℕ)) → take (length ks) (insert_all bytes_eq ks xs) ≡ ks
+inserted_prefix ks xs = ap (take (length ks)) (inserted ks xs) ∙ take_at ks (filter (lacks ks) (first_uses xs)) (length ks) refl
+
+pub inserted_longer : (ks xs : List (List ℕ)) → length ks ≤ length (insert_all bytes_eq ks xs)
+inserted_longer ks xs = omega (arith, ap length (inserted ks xs), length-append ks (filter (lacks ks) (first_uses xs)))
+
+key_length : (ks : List (List ℕ)) (x : List ℕ) → length (insert_key bytes_eq ks x) ≤ length ks + 1
+key_length ks x = go (list_any (bytes_eq x) ks)
+  where
+    go : (b : Bool) → length (cond b ks (ks ++ x ∷ [])) ≤ length ks + 1
+    go true = omega arith
+    go false = omega (arith, length-append ks (x ∷ []))
+
+pub inserted_length : (ks xs : List (List ℕ)) → length (insert_all bytes_eq ks xs) ≤ length ks + length xs
+inserted_length ks [] = omega arith
+inserted_length ks (x ∷ xs) = omega (arith, inserted_length (insert_key bytes_eq ks x) xs, key_length ks x)
+
+key_distinct : (ks : List (List ℕ)) (x : List ℕ) → IsDistinct bytes_eq ks → IsDistinct bytes_eq (insert_key bytes_eq ks x)
+key_distinct ks x h = go (list_any (bytes_eq x) ks) refl
+  where
+    go : (b : Bool) → list_any (bytes_eq x) ks ≡ b → IsDistinct bytes_eq (cond b ks (ks ++ x ∷ []))
+    go true e = h
+    go false e = IsDistinct-push nat_list_eq_equiv ks x h e
+
+inserted_distinct : (ks xs : List (List ℕ)) → IsDistinct bytes_eq ks → IsDistinct bytes_eq (insert_all bytes_eq ks xs)
+inserted_distinct ks [] h = h
+inserted_distinct ks (x ∷ xs) h = inserted_distinct (insert_key bytes_eq ks x) xs (key_distinct ks x h)
+
+-- no name stands twice
+pub table_distinct : (cs : List Class) → IsDistinct bytes_eq (name_table cs)
+unfolding IsDistinct
+table_distinct cs = subst (IsDistinct bytes_eq) (sym (table_inserted cs)) (inserted_distinct [] (flat_map names_in cs) tt)
+
+key_all : (P : List ℕ → Type 0) (ks : List (List ℕ)) (x : List ℕ) → All P ks → P x → All P (insert_key bytes_eq ks x)
+key_all P ks x h p = go (list_any (bytes_eq x) ks)
+  where
+    go : (b : Bool) → All P (cond b ks (ks ++ x ∷ []))
+    go true = h
+    go false = All-push P ks x h p
+
+pub inserted_all : (P : List ℕ → Type 0) (ks xs : List (List ℕ)) → All P ks → All P xs → All P (insert_all bytes_eq ks xs)
+inserted_all P ks [] h k = h
+inserted_all P ks (x ∷ xs) h k = inserted_all P (insert_key bytes_eq ks x) xs (key_all P ks x h (All-head P x xs k)) (All-tail P x xs k)
+
+-- where a name stands
+pub position_is : (ks : List (List ℕ)) (i : ℕ) → IsDistinct bytes_eq ks → i < length ks → position_or_len (bytes_eq (get_or ks i [])) ks ≡ i
+position_is ks i h lt =
+    position_or_len_is (bytes_eq (get_or ks i [])) ks i [] (omega arith)
+    (λ k l. bytes_flip (get_or ks i []) (get_or ks k []) ∙ apart_from_distinct bytes_eq ks k i [] h l lt)
+    (λ l. bytes_self (get_or ks i []))

@@ -1,0 +1,9 @@
+pub mod Refused
+pub mod Lists
+pub mod Slots
+pub mod FirstUses
+pub mod Tables
+pub mod Readers
+pub mod Places
+pub mod Accepted
+pub mod Defined

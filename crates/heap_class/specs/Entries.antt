@@ -1,0 +1,55 @@
+-- How the classes are kept: their distinct names in order of first use, and entries that say names by their places.
+use Rattle.std.specs.Prelude.{◌≡◌, ℕ, ◌<◌, ◌≤◌, List, [], ◌∷◌, map, length, take, reverse, slice_index_or}
+use Rattle.std.specs.List.{All}
+use Rattle.std.specs.Str.{bytes_eq}
+use Rattle.indexmap.specs.IndexSet.{insert_all}
+use Rattle.heap_class.specs.declared.Field.{Field}
+use Rattle.heap_class.specs.declared.OwnField.{OwnField}
+use Rattle.heap_class.specs.declared.Entry.{Entry}
+use Rattle.heap_class.specs.Classes.{Class, names_in, slot_table_after, IsClassTable}
+use Rattle.heap_class.specs.Limits.{class_limit, slot_limit, name_limit}
+
+-- the field and the class that these stand for
+abbrev pub field_of : List (List ℕ) → OwnField → Field
+field_of names f = record { name = slice_index_or names f.name []; kind = f.kind }
+
+abbrev pub class_of : List (List ℕ) → Entry → Class
+class_of names e = record {
+  name = slice_index_or names e.name [];
+  sup = e.sup;
+  fields = map (field_of names) e.fields.items;
+  is_array = e.is_array;
+}
+
+-- the places in an entry are below n
+pub record IsWithin (n : ℕ) (e : Entry) : Type 0 where
+  pub own : e.name < n
+  pub each : All (λ (f : OwnField). f.name < n) e.fields.items
+
+-- the place of a name, and a class's fields, by the names
+pub record AreNamed (names : List (List ℕ)) (name : List ℕ) (fields : List Field) (at : ℕ) (own : List OwnField) : Type 0 where
+  pub name_within : at < length names
+  pub name_is : slice_index_or names at [] ≡ name
+  pub fields_within : All (λ (f : OwnField). f.name < length names) own
+  pub fields_are : map (field_of names) own ≡ fields
+
+-- the names are those of the entries, newest first, each of which put in what was missing of its names
+abbrev pub IsPlaced : List (List ℕ) → List Entry → Type 0
+IsPlaced names [] = names ≡ []
+IsPlaced names (e ∷ es) = IsWithin (length names) e × (e.names_before ≤ length names)
+    × (names ≡ insert_all bytes_eq (take e.names_before names) (names_in (class_of names e)))
+    × IsPlaced (take e.names_before names) es
+
+-- few fields, and few slots
+pub record IsRoomy (e : Entry) : Type 0 where
+  pub few_fields : length e.fields.items ≤ slot_limit
+  pub few_slots : length e.slots.items ≤ slot_limit
+
+-- what is true of the names and the entries
+pub record IsTable (names : List (List ℕ)) (entries : List Entry) : Type 0 where
+  pub placed : IsPlaced names (reverse entries)
+  pub classes : IsClassTable [] (map (class_of names) entries)
+  pub slots : map (λ (e : Entry). e.slots.items) entries ≡ slot_table_after [] (map (class_of names) entries)
+  pub roomy : All IsRoomy entries
+  pub short : All (λ (n : List ℕ). length n ≤ name_limit) names
+  pub few : length entries ≤ class_limit

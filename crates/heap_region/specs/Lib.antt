@@ -1,0 +1,9 @@
+pub mod Limits
+pub mod Regions
+pub mod Pool
+pub mod Legal
+pub mod Opened
+pub mod Layout
+pub mod Table
+pub mod Live
+pub mod Changes

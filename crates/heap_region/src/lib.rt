@@ -1,0 +1,492 @@
+//! Regions of equal size, the objects in their cells, free lists and the pool.
+#![tactic(auto)]
+
+ghost use Rattle.std.specs.Prelude.{◌≡◌, ◌≢◌, ◌+◌, ◌<◌, ◌≤◌, ℕ, [], length, Some, None, true, false, IsTrue, IsSome, IfSome, IfOk, IfErr, OnErr, is_some, option_map, Bool, Contains, slice_get, slice_index, slice_index_or, reverse, MatchOption, IsSomeAnd};
+ghost use Rattle.std.specs.List.{enumerate_from, filter_map};
+ghost use Rattle.std.specs.Option.{option_map_or};
+ghost use Rattle.heap_class.specs.Refusals.{IsAnswered};
+ghost use Rattle.heap_class.specs.declared.ObjRef.{ObjRef};
+ghost use Rattle.heap_class.specs.declared.Refusal.TheVariants.{NoMemory};
+ghost use Rattle.heap_region.specs.Limits.{region_limit};
+ghost use Rattle.heap_region.specs.Regions.{Object, UsedRegion, Region, cell_size_for, object_at, object_of, used_at, id_of, ref_of, with_mark, with_word, live_places};
+ghost use Rattle.heap_region.specs.Pool.{RegionPool, opening_pool, alloc_refusal, is_fresh, free_place, new_place, taken, freed, released, restored, allocated, unallocated, blank_object};
+ghost use Rattle.heap_region.specs.Legal.{IsCellTable, IsRegionPool};
+ghost use Rattle.heap_region.specs.Layout.{IsCellSize, FitsWords};
+ghost use Rattle.heap_region.specs.Changes.{with_live, with_pending};
+ghost use Rattle.heap_region.specs.Live.{live_in, live_from};
+
+mod lists;
+mod slots;
+mod storage;
+#[cfg(test)]
+mod tests;
+
+use heap_class::{ObjKind, ObjRef, Refusal};
+pub use lists::{FreeCells, PoolRegions};
+use slots::{
+    find_room, first_free_in, free_in, pool_head, room, set_live_in, set_mark_in, set_pending_in,
+    set_word_in, size_class, slot_at, take_in, unfree_in,
+};
+use std::alloc::{AllocError, Global};
+use std::marker::Model;
+pub use storage::{ObjectCopy, Storage};
+
+const REGION_WORDS: u64 = 1024;
+
+const OBJECT_BASE: u64 = 0x1000_0000;
+
+/// All regions of a heap, and the pool of the empty ones.
+#[derive(Drop)]
+pub struct Regions {
+    alloc: Global,
+    slots: Vec<Option<Storage>>,
+    // For each region the number of its cell size if one of its cells is free, else 0.
+    rooms: Vec<u8>,
+    // The empty regions, the head last; it has room for all.
+    pool: Vec<usize>,
+}
+
+impl Model for Regions {
+    ghost use Rattle.heap_region.specs.Pool.{RegionPool};
+
+    ghost Value = { RegionPool };
+
+    ghost use Rattle.std.specs.Prelude.{map, reverse, vec_capacity};
+    ghost use Rattle.heap_region.specs.Table.{IsTable, shown_region};
+
+    ghost view = { λ h. record { regions = map shown_region h.slots.items; pool = reverse h.pool.items } };
+
+    ghost invariant = { λ h. IsTable h.slots.items h.rooms.items (reverse h.pool.items) (vec_capacity h.pool) };
+}
+
+/// The cell size for this many slots, of at most 1,024: the least that holds them.
+#[tactic(auto, unfolding(crate::specs::Regions::cell_size_for))]
+pub fn cell_size(slots: u64) -> u64
+    ensures { result ≡ cell_size_for slots }
+{
+    if slots <= 4 {
+        4
+    } else if slots <= 16 {
+        16
+    } else if slots <= 64 {
+        64
+    } else if slots <= 256 {
+        256
+    } else {
+        1024
+    }
+}
+
+impl Regions {
+    /// So many empty regions, 1 to 256. Room for the pool is reserved.
+    pub fn new(alloc: Global, count: u64) -> Result<Regions, Refusal>
+        requires { (1 ≤ count) × (count ≤ region_limit) }
+        ensures opened { IfOk result (λ s. s ≡ opening_pool count) }
+        ensures refused { IfErr result (λ e. e ≡ NoMemory) }
+    {
+        match Regions::open(alloc, count as usize) {
+            Ok(regions) => Ok(regions),
+            Err(_) => Err(Refusal::NoMemory),
+        }
+    }
+
+    /// How many regions there are.
+    pub fn count(&self) -> u64
+        ensures value { result ≡ length self.now.regions }
+        ensures limit { (1 ≤ result) × (result ≤ region_limit) }
+        ensures whole { IsRegionPool self.now }
+    {
+        self.slots.len() as u64
+    }
+
+    /// Makes an object of `len` slots, each 0, and answers its place and whether its region was taken from the pool.
+    /// Refused TooLarge, HeapFull, or NoMemory where a region's storage can't be had.
+    pub fn alloc(&mut self, kind: ObjKind, len: u64, mark: bool) -> Result<(ObjRef, bool), Refusal>
+        ensures answered { IsAnswered (alloc_refusal len self.old) (is_fresh len self.old) result }
+        ensures placed { IfOk result (λ p. new_place len self.old ≡ Some p) }
+        ensures allocated { IfOk result (λ p. self.new ≡ allocated p.0 p.1 (blank_object kind len mark) self.old) }
+        ensures unchanged { OnErr result (self.new ≡ self.old) }
+    {
+        if len > REGION_WORDS {
+            return Err(Refusal::TooLarge);
+        }
+        let size = cell_size(len) as usize;
+        if let Some(at) = self.place_for(size) {
+            self.take_at(at, kind, len as usize, mark);
+            return Ok((at, false));
+        }
+        let Some(region) = self.spare() else {
+            return Err(Refusal::HeapFull);
+        };
+        let Ok(mut storage) = Storage::new(self.alloc, size) else {
+            return Err(Refusal::NoMemory);
+        };
+        storage.take(0, kind, len as usize, mark);
+        self.restore(region as u64, storage);
+        let at = ObjRef {
+            region: region as u16,
+            cell: 0,
+        };
+        Ok((at, true))
+    }
+
+    /// Takes back an allocation. Takes no memory.
+    pub fn unalloc(&mut self, at: ObjRef, fresh: bool)
+        requires there { IsSome (object_at self.old.regions at) }
+        requires another { fresh ≡ false → (other : ObjRef) × (other.region ≡ at.region) × (other ≢ at) × IsSome (object_at self.old.regions other) }
+        ensures state { self.new ≡ unallocated at fresh self.old }
+        ensures back { (before : RegionPool) (o : Object) → IsRegionPool before → new_place (length o.words) before ≡ Some (at, fresh) → self.old ≡ allocated at fresh o before → self.new ≡ before }
+    {
+        if fresh {
+            drop(self.release(at.region as u64));
+        } else {
+            self.free(at);
+        }
+    }
+
+    /// Whether there is an object in the cell.
+    pub fn has_object(&self, at: ObjRef) -> bool
+        ensures { result ≡ is_some (object_at self.now.regions at) }
+    {
+        match self.used(at.region as usize) {
+            Some(storage) => storage.has_object(at.cell as usize),
+            None => false,
+        }
+    }
+
+    /// What the object in the cell is.
+    pub fn kind(&self, at: ObjRef) -> ObjKind
+        requires { IsSome (object_at self.now.regions at) }
+        ensures { IfSome (object_at self.now.regions at) (λ o. result ≡ o.kind) }
+    {
+        self.storage(at.region as usize).kind(at.cell as usize)
+    }
+
+    /// How many slots the object in the cell has: at most 1,024.
+    pub fn len(&self, at: ObjRef) -> u64
+        requires { IsSome (object_at self.now.regions at) }
+        ensures value { IfSome (object_at self.now.regions at) (λ o. result ≡ length o.words) }
+        ensures limit { result ≤ 1024 }
+    {
+        self.storage(at.region as usize).len(at.cell as usize) as u64
+    }
+
+    /// The two bits of the object in the cell, `live` and `mark`.
+    pub fn bits(&self, at: ObjRef) -> (bool, bool)
+        requires { IsSome (object_at self.now.regions at) }
+        ensures { IfSome (object_at self.now.regions at) (λ o. (result.0 ≡ o.live) × (result.1 ≡ o.mark)) }
+    {
+        self.storage(at.region as usize).bits(at.cell as usize)
+    }
+
+    /// A word of the object in the cell.
+    pub fn word(&self, at: ObjRef, slot: u64) -> u64
+        requires there { IsSome (object_at self.now.regions at) }
+        requires within { IfSome (object_at self.now.regions at) (λ o. slot < length o.words) }
+        ensures { IfSome (object_at self.now.regions at) (λ o. result ≡ slice_index o.words slot) }
+    {
+        self.storage(at.region as usize)
+            .word(at.cell as usize, slot as usize)
+    }
+
+    /// The words of the object in the cell, in slot order.
+    pub fn words(&self, at: ObjRef) -> &[u64]
+        requires { IsSome (object_at self.now.regions at) }
+        ensures { IfSome (object_at self.now.regions at) (λ o. result.now ≡ o.words) }
+    {
+        self.storage(at.region as usize).words(at.cell as usize)
+    }
+
+    /// Writes a word of the object in the cell.
+    pub fn set_word(&mut self, at: ObjRef, slot: u64, value: u64)
+        requires there { IsSome (object_at self.old.regions at) }
+        requires within { IfSome (object_at self.old.regions at) (λ o. slot < length o.words) }
+        ensures { self.new ≡ record self.old { regions = with_word at slot value self.old.regions } }
+    {
+        set_word_in(
+            &mut self.slots[at.region as usize],
+            at.cell as usize,
+            slot as usize,
+            value,
+        );
+    }
+
+    /// The words of each cell of a region; none where it is empty or there is no such region.
+    pub fn cell_size(&self, region: u64) -> Option<u64>
+        ensures { result ≡ option_map (λ u. u.cell_size) (used_at self.now.regions region) }
+    {
+        match self.used(region as usize) {
+            Some(storage) => Some(storage.cell_size() as u64),
+            None => None,
+        }
+    }
+
+    /// Whether a region is yet to be swept; none where it is empty or there is no such region.
+    pub fn pending(&self, region: u64) -> Option<bool>
+        ensures { result ≡ option_map (λ u. u.pending) (used_at self.now.regions region) }
+    {
+        match self.used(region as usize) {
+            Some(storage) => Some(storage.pending()),
+            None => None,
+        }
+    }
+
+    /// The id of a cell: the address of its first word.
+    pub fn id(&self, at: ObjRef) -> u64
+        ensures value { result ≡ id_of self.now.regions at }
+    {
+        let size = self.size_of(at.region as usize);
+        OBJECT_BASE + 8 * (REGION_WORDS * at.region as u64 + at.cell as u64 * size)
+    }
+
+    /// The place of the object that an id names.
+    pub fn place(&self, id: u64) -> ObjRef
+        requires { IsSome (object_of self.now.regions id) }
+        ensures { ref_of self.now.regions id ≡ Some result }
+    {
+        let word = (id - OBJECT_BASE) / 8;
+        let region = word / REGION_WORDS;
+        let size = self.storage(region as usize).cell_size() as u64;
+        ObjRef {
+            region: region as u16,
+            cell: (word % REGION_WORDS / size) as u16,
+        }
+    }
+
+    /// The first live object by region and cell.
+    pub fn first_live(&self) -> Option<ObjRef>
+        ensures { result ≡ slice_get (live_places self.now.regions) 0 }
+    {
+        self.live_from(0)
+    }
+
+    /// The next live object after a live one, by region and cell.
+    pub fn next_live(&self, at: ObjRef) -> Option<ObjRef>
+        ensures { (i : ℕ) → slice_get (live_places self.now.regions) i ≡ Some at → result ≡ slice_get (live_places self.now.regions) (i + 1) }
+    {
+        match self.next_live_in(at.region as usize, at.cell as usize + 1) {
+            Some(next) => Some(next),
+            None => self.live_from(at.region as usize + 1),
+        }
+    }
+
+    /// Writes the `mark` bit of an object. A second such call can take the first back.
+    pub fn set_mark(&mut self, at: ObjRef, mark: bool)
+        requires { IsSome (object_at self.old.regions at) }
+        ensures state { self.new ≡ record self.old { regions = with_mark mark at self.old.regions } }
+        ensures back { (before : RegionPool) (was : Bool) → IfSome (object_at before.regions at) (λ o. o.mark ≡ mark) → self.old ≡ record before { regions = with_mark was at before.regions } → self.new ≡ before }
+    {
+        set_mark_in(&mut self.slots[at.region as usize], at.cell as usize, mark);
+    }
+
+    /// Writes the `live` bit of an object. A second such call can take the first back.
+    pub fn set_live(&mut self, at: ObjRef, live: bool)
+        requires { IsSome (object_at self.old.regions at) }
+        ensures state { self.new ≡ record self.old { regions = with_live live at self.old.regions } }
+        ensures back { (before : RegionPool) (was : Bool) → IfSome (object_at before.regions at) (λ o. o.live ≡ live) → self.old ≡ record before { regions = with_live was at before.regions } → self.new ≡ before }
+    {
+        set_live_in(&mut self.slots[at.region as usize], at.cell as usize, live);
+    }
+
+    /// Says whether a region in use is yet to be swept. A second such call can take the first back.
+    pub fn set_pending(&mut self, region: u64, pending: bool)
+        requires { IsSome (used_at self.old.regions region) }
+        ensures state { self.new ≡ record self.old { regions = with_pending pending region self.old.regions } }
+        ensures back { (before : RegionPool) (was : Bool) → IfSome (used_at before.regions region) (λ u. u.pending ≡ pending) → self.old ≡ record before { regions = with_pending was region before.regions } → self.new ≡ before }
+    {
+        set_pending_in(&mut self.slots[region as usize], pending);
+    }
+
+    /// A copy of the object in the cell. Refused NoMemory where there is no room for its words.
+    pub fn object(&self, at: ObjRef) -> Result<ObjectCopy, Refusal>
+        requires { IsSome (object_at self.now.regions at) }
+        ensures copied { IfOk result (λ o. object_at self.now.regions at ≡ Some o) }
+        ensures refused { IfErr result (λ e. e ≡ NoMemory) }
+    {
+        let storage = self.storage(at.region as usize);
+        match storage.object(self.alloc, at.cell as usize) {
+            Ok(object) => Ok(object),
+            Err(_) => Err(Refusal::NoMemory),
+        }
+    }
+
+    /// Takes an object out of its cell, which then heads the free list; another object of the region stays.
+    /// It takes an `unfree` back.
+    pub fn free(&mut self, at: ObjRef)
+        requires there { IsSome (object_at self.old.regions at) }
+        requires another { (other : ObjRef) × (other.region ≡ at.region) × (other ≢ at) × IsSome (object_at self.old.regions other) }
+        ensures state { self.new ≡ freed at self.old }
+        ensures back { (before : RegionPool) (o : Object) → IsRegionPool before → IsSomeAnd (used_at before.regions at.region) (λ u. slice_get u.free 0 ≡ Some at.cell) → self.old ≡ taken at o before → self.new ≡ before }
+    {
+        let region = at.region as usize;
+        free_in(&mut self.slots[region], at.cell as usize);
+        self.rooms[region] = room(&self.slots[region]);
+    }
+
+    /// Puts an object into the cell, which heads its region's free list, of cells of the least size that holds it.
+    /// It takes a `free` back. Takes no memory.
+    pub fn unfree(&mut self, at: ObjRef, object: &ObjectCopy)
+        requires { IsSomeAnd (used_at self.old.regions at.region) (λ u. (slice_get u.free 0 ≡ Some at.cell) × FitsWords u.cell_size (length object.now.words)) }
+        ensures state { self.new ≡ taken at object.now self.old }
+        ensures back { (before : RegionPool) → object_at before.regions at ≡ Some object.now → self.old ≡ freed at before → self.new ≡ before }
+    {
+        let region = at.region as usize;
+        unfree_in(&mut self.slots[region], at.cell as usize, object);
+        self.rooms[region] = room(&self.slots[region]);
+    }
+
+    /// Moves a region's storage out; the region is then empty and heads the pool. It takes a `restore` back.
+    pub fn release(&mut self, region: u64) -> Storage
+        requires { IsSome (used_at self.old.regions region) }
+        ensures storage { used_at self.old.regions region ≡ Some result }
+        ensures table { IsCellTable result }
+        ensures state { self.new ≡ released region self.old }
+        ensures back { (before : RegionPool) (u : UsedRegion) → IsRegionPool before → slice_get before.pool 0 ≡ Some region → self.old ≡ restored region u before → self.new ≡ before }
+    {
+        let region = region as usize;
+        let slot = self.slots[region].take();
+        self.rooms[region] = 0;
+        self.pool.push_reserved(region);
+        match slot {
+            Some(storage) => storage,
+            None => unreachable!(),
+        }
+    }
+
+    /// Moves a storage with an object into the region that heads the pool. It takes a `release` back. Takes no memory.
+    pub fn restore(&mut self, region: u64, storage: Storage)
+        requires head { slice_get self.old.pool 0 ≡ Some region }
+        requires inhabited { (cell : ℕ) × (o : Object) × (slice_get storage.cells cell ≡ Some (Some o)) }
+        ensures state { self.new ≡ restored region storage self.old }
+        ensures back { (before : RegionPool) → used_at before.regions region ≡ Some storage → self.old ≡ released region before → self.new ≡ before }
+    {
+        let region = region as usize;
+        self.pool.pop();
+        self.slots[region] = Some(storage);
+        self.rooms[region] = room(&self.slots[region]);
+    }
+
+    /// The free cells of a region in use, head first.
+    pub fn free_list(&self, region: u64) -> FreeCells<'_>
+        requires { IsSome (used_at self.now.regions region) }
+        ensures { IfSome (used_at self.now.regions region) (λ u. result ≡ u.free) }
+    {
+        self.storage(region as usize).free_list()
+    }
+
+    /// The empty regions, in the order in which they are taken.
+    pub fn pool(&self) -> PoolRegions<'_>
+        ensures { result ≡ self.now.pool }
+    {
+        PoolRegions {
+            regions: &self.pool,
+        }
+    }
+
+    // So many empty regions.
+    fn open(alloc: Global, count: usize) -> Result<Regions, AllocError>
+        requires { (1 ≤ count) × (count ≤ region_limit) }
+        ensures { IfOk result (λ s. s ≡ opening_pool count) }
+    {
+        let mut slots = Vec::new(alloc);
+        let mut rooms = Vec::new(alloc);
+        rooms.resize(count, 0)?;
+        let mut pool = Vec::with_capacity(alloc, count)?;
+        for i in 0..count {
+            slots.push(None)?;
+            pool.push_reserved(count - 1 - i);
+        }
+        Ok(Regions {
+            alloc,
+            slots,
+            rooms,
+            pool,
+        })
+    }
+
+    // A region, if it is in use.
+    fn used(&self, region: usize) -> Option<&Storage>
+        ensures value { MatchOption result (used_at self.now.regions region ≡ None) (λ s. used_at self.now.regions region ≡ Some s.now) }
+        ensures limit { IfSome result (λ s. region < region_limit) }
+    {
+        slot_at(&self.slots, region)
+    }
+
+    // A region in use.
+    fn storage(&self, region: usize) -> &Storage
+        requires { IsSome (used_at self.now.regions region) }
+        ensures value { used_at self.now.regions region ≡ Some result.now }
+        ensures limit { region < region_limit }
+    {
+        match self.used(region) {
+            Some(storage) => storage,
+            None => unreachable!(),
+        }
+    }
+
+    // The words of each cell of a region, or 0 where it is empty.
+    fn size_of(&self, region: usize) -> u64
+        ensures value { result ≡ option_map_or (λ u. u.cell_size) (used_at self.now.regions region) 0 }
+        ensures limit { result ≤ 1024 }
+    {
+        match self.used(region) {
+            Some(storage) => storage.cell_size() as u64,
+            None => 0,
+        }
+    }
+
+    // The head of the free list of the lowest region that has a free cell of this size.
+    fn place_for(&self, size: usize) -> Option<ObjRef>
+        requires { IsCellSize size }
+        ensures { result ≡ slice_get (filter_map (free_place size) (enumerate_from 0 self.now.regions)) 0 }
+    {
+        let region = find_room(&self.rooms, size_class(size))?;
+        let cell = first_free_in(&self.slots[region])?;
+        Some(ObjRef {
+            region: region as u16,
+            cell: cell as u16,
+        })
+    }
+
+    // The head of the pool.
+    fn spare(&self) -> Option<usize>
+        ensures value { result ≡ slice_get self.now.pool 0 }
+        ensures limit { IfSome result (λ region. region < region_limit) }
+    {
+        pool_head(&self.pool)
+    }
+
+    // Puts a new object into the cell, which heads its region's free list.
+    fn take_at(&mut self, at: ObjRef, kind: ObjKind, len: usize, mark: bool)
+        requires { IsSomeAnd (used_at self.old.regions at.region) (λ u. (slice_get u.free 0 ≡ Some at.cell) × FitsWords u.cell_size len) }
+        ensures { self.new ≡ taken at (blank_object kind len mark) self.old }
+    {
+        let region = at.region as usize;
+        take_in(&mut self.slots[region], at.cell as usize, kind, len, mark);
+        self.rooms[region] = room(&self.slots[region]);
+    }
+
+    // The first live object of a region from a cell on.
+    fn next_live_in(&self, region: usize, from: usize) -> Option<ObjRef>
+        ensures { result ≡ slice_get (live_in self.now.regions region from) 0 }
+    {
+        let storage = self.used(region)?;
+        let cell = storage.next_live(from)?;
+        Some(ObjRef {
+            region: region as u16,
+            cell: cell as u16,
+        })
+    }
+
+    // The first live object from a region on.
+    fn live_from(&self, first: usize) -> Option<ObjRef>
+        ensures { result ≡ slice_get (live_from self.now.regions first) 0 }
+    {
+        for region in first..self.count() as usize {
+            if let Some(at) = self.next_live_in(region, 0) {
+                return Some(at);
+            }
+        }
+        None
+    }
+}

@@ -1,0 +1,356 @@
+//! A region in use: 1,024 words, cut into cells of one size, with the free cells in a list that lies in them.
+ghost use Rattle.std.specs.Prelude.{◌≡◌, ℕ, ◌+◌, ◌-◌, ◌*◌, ◌/◌, ◌<◌, ◌≤◌, List, [], ◌∷◌, length, ◌↔◌, IsTrue, IfOk, IsSome, IfSome, slice_index, slice_index_or, replicate, take, drop, Some, None, is_some, slice_get};
+ghost use Rattle.heap_region.specs.Layout.{next_link, IsCellSize, IsWhole, FitsWords, fresh_table, cell_object, words_at, changed_at, word_set, mark_set, live_set, cell_freed, filled, Heads, new_object, overwritten, header_live};
+ghost use Rattle.heap_region.specs.Live.{IsNextLive};
+
+use crate::lists::FreeCells;
+use heap_class::ObjKind;
+use std::alloc::{AllocError, Global};
+use std::marker::Model;
+
+#[derive(Clone, Copy)]
+struct Header {
+    kind: ObjKind,
+    len: usize,
+    live: bool,
+    mark: bool,
+}
+
+/// A region in use.
+#[derive(Drop)]
+pub struct Storage {
+    cell_size: usize,
+    pending: bool,
+    words: Vec<u64>,
+    // What is in each cell; none where it is free.
+    headers: Vec<Option<Header>>,
+    // The number of the cell that heads the free list, and one; 0 where there is none.
+    // The first word of each free cell has the next such number.
+    head: u64,
+}
+
+impl Model for Storage {
+    ghost use Rattle.heap_region.specs.Regions.{UsedRegion};
+
+    ghost Value = { UsedRegion };
+
+    ghost use Rattle.std.specs.Prelude.{length};
+    ghost use Rattle.heap_region.specs.Layout.{cells_from, walk, IsSound};
+
+    ghost view = { λ s. record {
+      cell_size = s.cell_size;
+      pending = s.pending;
+      cells = cells_from s.cell_size s.words.items 0 s.headers.items;
+      free = walk (length s.headers.items) s.cell_size s.words.items s.head;
+    } };
+
+    ghost invariant = { λ s. IsSound s.cell_size s.words.items s.headers.items s.head (walk (length s.headers.items) s.cell_size s.words.items s.head) };
+}
+
+/// A copy of an object: its kind, its slots and its two bits.
+#[derive(Drop)]
+pub struct ObjectCopy {
+    kind: ObjKind,
+    words: Vec<u64>,
+    live: bool,
+    mark: bool,
+}
+
+impl Model for ObjectCopy {
+    ghost use Rattle.heap_region.specs.Regions.{Object};
+
+    ghost Value = { Object };
+
+    ghost view = { λ o. record {
+      kind = o.kind;
+      words = o.words.items;
+      live = o.live;
+      mark = o.mark;
+    } };
+}
+
+// The header of a cell that has an object.
+fn header_at(headers: &[Option<Header>], cell: usize) -> Header
+    requires { IsSome (slice_index_or headers.now cell None) }
+    ensures { slice_index_or headers.now cell None ≡ Some result }
+{
+    match headers[cell] {
+        Some(header) => header,
+        None => unreachable!(),
+    }
+}
+
+// Whether a cell has an object.
+fn is_taken(headers: &[Option<Header>], cell: usize) -> bool
+    ensures { result ≡ is_some (slice_index_or headers.now cell None) }
+{
+    cell < headers.len() && headers[cell].is_some()
+}
+
+// Whether this is the header of a live object.
+fn is_live(header: &Option<Header>) -> bool
+    ensures { result ≡ header_live header.now }
+{
+    match header {
+        Some(header) => header.live,
+        None => false,
+    }
+}
+
+// So many words from `start` on.
+fn part(words: &[u64], start: usize, len: usize) -> &[u64]
+    requires { start + len ≤ length words.now }
+    ensures { result.now ≡ take len (drop start words.now) }
+{
+    &words[start..start + len]
+}
+
+// Makes so many words from `start` on 0.
+fn clear(words: &mut [u64], start: usize, len: usize)
+    requires { start + len ≤ length words.old }
+    ensures { words.new ≡ overwritten words.old start (replicate len 0) }
+{
+    words[start..start + len].fill(0);
+}
+
+// Copies the words in from `start` on.
+fn overwrite(words: &mut [u64], start: usize, from: &[u64])
+    requires { start + length from.now ≤ length words.old }
+    ensures { words.new ≡ overwritten words.old start from.now }
+{
+    words[start..start + from.len()].copy_from_slice(from);
+}
+
+// Links the first `count` cells, each to the next.
+fn link_cells(words: &mut [u64], cell_size: usize, count: usize)
+    requires sized { 0 < cell_size }
+    requires within { count * cell_size ≤ length words.old }
+    ensures { (cell : ℕ) → cell < count → slice_index words.new (cell * cell_size) ≡ next_link count cell }
+{
+    for cell in 0..count {
+        let link = if cell + 1 < count { cell as u64 + 2 } else { 0 };
+        words[cell * cell_size] = link;
+    }
+}
+
+impl Storage {
+    /// A region with cells of this size, all of them free.
+    pub(crate) fn new(alloc: Global, cell_size: usize) -> Result<Storage, AllocError>
+        requires { IsCellSize cell_size }
+        ensures { IfOk result (λ s. s ≡ fresh_table cell_size) }
+    {
+        let count = 1024 / cell_size;
+        let mut words = Vec::new(alloc);
+        words.resize(1024, 0)?;
+        let mut headers = Vec::new(alloc);
+        headers.resize(count, None)?;
+        link_cells(&mut words, cell_size, count);
+        Ok(Storage {
+            cell_size,
+            pending: false,
+            words,
+            headers,
+            head: 1,
+        })
+    }
+
+    /// The words of each cell.
+    pub(crate) fn cell_size(&self) -> usize
+        ensures value { result ≡ self.now.cell_size }
+        ensures whole { IsWhole self.now }
+    {
+        self.cell_size
+    }
+
+    /// Whether the region is yet to be swept.
+    pub(crate) fn pending(&self) -> bool
+        ensures { result ≡ self.now.pending }
+    {
+        self.pending
+    }
+
+    /// Says whether the region is yet to be swept.
+    pub(crate) fn set_pending(&mut self, pending: bool)
+        ensures { self.new ≡ record self.old { pending = pending } }
+    {
+        self.pending = pending;
+    }
+
+    /// The cell that heads the free list.
+    pub(crate) fn first_free(&self) -> Option<usize>
+        ensures value { result ≡ slice_get self.now.free 0 }
+        ensures limit { IfSome result (λ cell. cell < 256) }
+    {
+        if self.head == 0 {
+            None
+        } else {
+            Some((self.head - 1) as usize)
+        }
+    }
+
+    /// The free cells, head first.
+    pub(crate) fn free_list(&self) -> FreeCells<'_>
+        ensures { result ≡ self.now.free }
+    {
+        FreeCells {
+            words: &self.words,
+            cell_size: self.cell_size,
+            count: self.headers.len(),
+            link: self.head,
+        }
+    }
+
+    /// How many slots the object in the cell has.
+    pub(crate) fn len(&self, cell: usize) -> usize
+        requires { IsSome (cell_object self.now cell) }
+        ensures value { result ≡ length (words_at self.now cell) }
+        ensures limit { result ≤ 1024 }
+    {
+        header_at(&self.headers, cell).len
+    }
+
+    /// What the object in the cell is.
+    pub(crate) fn kind(&self, cell: usize) -> ObjKind
+        requires { IsSome (cell_object self.now cell) }
+        ensures { IfSome (cell_object self.now cell) (λ o. result ≡ o.kind) }
+    {
+        header_at(&self.headers, cell).kind
+    }
+
+    /// The two bits of the object in the cell, `live` and `mark`.
+    pub(crate) fn bits(&self, cell: usize) -> (bool, bool)
+        requires { IsSome (cell_object self.now cell) }
+        ensures { IfSome (cell_object self.now cell) (λ o. (result.0 ≡ o.live) × (result.1 ≡ o.mark)) }
+    {
+        let header = header_at(&self.headers, cell);
+        (header.live, header.mark)
+    }
+
+    /// Whether there is an object in the cell.
+    pub(crate) fn has_object(&self, cell: usize) -> bool
+        ensures { result ≡ is_some (cell_object self.now cell) }
+    {
+        is_taken(&self.headers, cell)
+    }
+
+    /// The first cell from this one on that has a live object.
+    pub(crate) fn next_live(&self, from: usize) -> Option<usize>
+        ensures value { IsNextLive self.now from result }
+        ensures limit { IfSome result (λ cell. cell < 256) }
+    {
+        for cell in from..self.headers.len() {
+            if is_live(&self.headers[cell]) {
+                return Some(cell);
+            }
+        }
+        None
+    }
+
+    /// A word of the object in the cell.
+    pub(crate) fn word(&self, cell: usize, slot: usize) -> u64
+        requires { slot < length (words_at self.now cell) }
+        ensures { result ≡ slice_index (words_at self.now cell) slot }
+    {
+        self.words[cell * self.cell_size + slot]
+    }
+
+    /// The words of the object in the cell, in slot order.
+    pub(crate) fn words(&self, cell: usize) -> &[u64]
+        requires { IsSome (cell_object self.now cell) }
+        ensures { IfSome (cell_object self.now cell) (λ o. result.now ≡ o.words) }
+    {
+        let len = header_at(&self.headers, cell).len;
+        part(&self.words, cell * self.cell_size, len)
+    }
+
+    /// Writes a word of the object in the cell.
+    pub(crate) fn set_word(&mut self, cell: usize, slot: usize, value: u64)
+        requires { slot < length (words_at self.old cell) }
+        ensures value { self.new ≡ changed_at self.old cell (word_set slot value) }
+        ensures whole { IsWhole self.new }
+    {
+        let at = cell * self.cell_size + slot;
+        self.words[at] = value;
+    }
+
+    /// Writes the `mark` bit of the object in the cell.
+    pub(crate) fn set_mark(&mut self, cell: usize, mark: bool)
+        requires { IsSome (cell_object self.old cell) }
+        ensures value { self.new ≡ changed_at self.old cell (mark_set mark) }
+        ensures whole { IsWhole self.new }
+    {
+        let header = header_at(&self.headers, cell);
+        self.headers[cell] = Some(Header { mark, ..header });
+    }
+
+    /// Writes the `live` bit of the object in the cell.
+    pub(crate) fn set_live(&mut self, cell: usize, live: bool)
+        requires { IsSome (cell_object self.old cell) }
+        ensures value { self.new ≡ changed_at self.old cell (live_set live) }
+        ensures whole { IsWhole self.new }
+    {
+        let header = header_at(&self.headers, cell);
+        self.headers[cell] = Some(Header { live, ..header });
+    }
+
+    /// A copy of the object in the cell.
+    pub(crate) fn object(&self, alloc: Global, cell: usize) -> Result<ObjectCopy, AllocError>
+        requires { IsSome (cell_object self.now cell) }
+        ensures { IfOk result (λ o. cell_object self.now cell ≡ Some o) }
+    {
+        let header = header_at(&self.headers, cell);
+        let start = cell * self.cell_size;
+        let words = Vec::from_slice(alloc, &self.words[start..start + header.len])?;
+        Ok(ObjectCopy {
+            kind: header.kind,
+            words,
+            live: header.live,
+            mark: header.mark,
+        })
+    }
+
+    /// Takes the object out of the cell, which then heads the free list.
+    pub(crate) fn free(&mut self, cell: usize)
+        requires { IsSome (cell_object self.old cell) }
+        ensures { self.new ≡ cell_freed self.old cell }
+    {
+        let start = cell * self.cell_size;
+        self.words[start] = self.head;
+        self.head = cell as u64 + 1;
+        self.headers[cell] = None;
+    }
+
+    /// Puts a new object into the cell, which heads the free list.
+    pub(crate) fn take(&mut self, cell: usize, kind: ObjKind, len: usize, mark: bool)
+        requires head { Heads cell self.old.free }
+        requires fits { FitsWords self.old.cell_size len }
+        ensures { self.new ≡ filled self.old cell (new_object kind len mark) }
+    {
+        let start = cell * self.cell_size;
+        self.head = self.words[start];
+        clear(&mut self.words, start, len);
+        self.headers[cell] = Some(Header {
+            kind,
+            len,
+            live: true,
+            mark,
+        });
+    }
+
+    /// Puts an object back into the cell, which heads the free list.
+    pub(crate) fn unfree(&mut self, cell: usize, object: &ObjectCopy)
+        requires head { Heads cell self.old.free }
+        requires fits { FitsWords self.old.cell_size (length object.now.words) }
+        ensures { self.new ≡ filled self.old cell object.now }
+    {
+        let start = cell * self.cell_size;
+        self.head = self.words[start];
+        overwrite(&mut self.words, start, &object.words);
+        self.headers[cell] = Some(Header {
+            kind: object.kind,
+            len: object.words.len(),
+            live: object.live,
+            mark: object.mark,
+        });
+    }
+}

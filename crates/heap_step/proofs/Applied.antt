@@ -1,0 +1,59 @@
+-- What a result of an event says, of `IsApplied`.
+use Rattle.std.proofs.Common.{◌≡◌, ◌⊎◌, ℕ, Bool, true, Option, Some, None, Result, Ok, Err, inl, inr, sym, ap, subst, ◌∙◌, IfOk}
+use Rattle.std.specs.Prelude.{IfErr}
+use Rattle.std.specs.Option.{option_map_or}
+use Rattle.heap_class.specs.declared.ObjRef.{ObjRef}
+use Rattle.heap_class.specs.declared.Refusal.{Refusal}
+use Rattle.heap_class.specs.declared.Refusal.TheVariants.{NoMemory}
+use Rattle.heap_class.specs.Refusals.{IsAnswered}
+use Rattle.heap_region.specs.Pool.{new_place}
+use Rattle.heap_world.specs.State.{HeapState, pool_of, register, place_of, word_of}
+use Rattle.heap_world.specs.Legal.{IsLegal}
+use Rattle.heap_step.specs.declared.Answer.{Answer}
+use Rattle.heap_step.specs.declared.Event.{Event}
+use Rattle.heap_step.specs.declared.Undo.{Undo}
+use Rattle.heap_step.specs.Apply.{refusal_of, state_after, answer_of, applied_unless, applied, event_may_grow}
+use Rattle.heap_step.specs.Records.{new_record, undo_record}
+use Rattle.heap_step.specs.Laws.{IsApplied}
+use Rattle.heap_step.proofs.Legal.{keeps_legal}
+
+-- a refusal
+pub refused_is : (e : Event) (before after : HeapState) (r : Refusal) → IsAnswered {A = Answer × Undo} (refusal_of e before) (event_may_grow e before) (Err r) → after ≡ before → IsApplied e before after (Err r)
+refused_is e before after r answered same = record { answered = answered; state = tt; answer = tt; recorded = tt; unchanged = same }
+
+-- an answer with its record
+pub done_is : (e : Event) (before after : HeapState) (a : Answer) (u : Undo) → refusal_of e before ≡ None → after ≡ state_after e before → a ≡ answer_of e before after → u ≡ undo_record e before → IsApplied e before after (Ok (a, u))
+done_is e before after a u accepted state answer recorded = record { answered = accepted; state = state; answer = answer; recorded = recorded; unchanged = tt }
+
+-- the record of a new object, and of a put
+pub new_record_is : (w : HeapState) (m r n : ℕ) (at : ObjRef) (fresh : Bool) (old : ℕ) → new_place n (pool_of w) ≡ Some (at, fresh) → old ≡ register w m r → Undo.New at fresh m r old ≡ new_record m r n w
+unfolding new_record
+new_record_is w m r n at fresh old place held =
+    ap (λ x. Undo.New at fresh m r x) held ∙ ap (λ (p : Option (ObjRef × Bool)). option_map_or (λ (p : ObjRef × Bool). Undo.New p.0 p.1 m r (register w m r)) p Undo.Class) (sym place)
+
+pub put_record_is : (w : HeapState) (m target slot : ℕ) (at : ObjRef) (old : ℕ) → at ≡ place_of w (register w m target) → old ≡ word_of w (register w m target) slot → Undo.Put at slot old ≡ Undo.Put (place_of w (register w m target)) slot (word_of w (register w m target) slot)
+put_record_is w m target slot at old place held = λ i. Undo.Put (place i) slot (held i)
+
+-- the event is `applied`
+pub done_of : (e : Event) (w v : HeapState) (r : Result (Answer × Undo) Refusal) → IsApplied e w v r → IfOk r (λ p. applied e w ≡ Ok (v, p.0))
+unfolding applied applied_unless
+done_of e w v (Err d) h = tt
+done_of e w v (Ok p) h =
+    ap (λ (o : Option Refusal). applied_unless o e w) h.answered
+    ∙ (λ i. Ok (sym h.state i, answer_of e w (sym h.state i)))
+    ∙ (λ i. Ok (v, sym h.answer i))
+
+-- it is refused, or memory is wanted
+pub refused_of : (e : Event) (w v : HeapState) (r : Result (Answer × Undo) Refusal) → IsApplied e w v r → IfErr r (λ d. (applied e w ≡ Err d) ⊎ ((refusal_of e w ≡ None) × (event_may_grow e w ≡ true) × (d ≡ NoMemory)))
+unfolding applied applied_unless
+refused_of e w v (Ok p) h = tt
+refused_of e w v (Err d) h = elim h.answered [ inl r ↦ inl (ap (λ (o : Option Refusal). applied_unless o e w) r) | inr m ↦ inr m ]
+
+-- the heap is legal
+pub legal_of : (e : Event) (w v : HeapState) (r : Result (Answer × Undo) Refusal) → IsLegal w → IsApplied e w v r → IsLegal v
+legal_of e w v (Ok p) l h = subst IsLegal (sym h.state) (keeps_legal e w l h.answered)
+legal_of e w v (Err d) l h = subst IsLegal (sym h.unchanged) l
+
+-- where the event is `was`
+pub as_event : (e was : Event) (w v : HeapState) (r : Result (Answer × Undo) Refusal) → e ≡ was → IsApplied was w v r → IsApplied e w v r
+as_event e was w v r is h = subst (λ d. IsApplied d w v r) (sym is) h

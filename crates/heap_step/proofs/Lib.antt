@@ -1,0 +1,7 @@
+pub mod TakenBack
+pub mod Created
+pub mod EachTakenBack
+pub mod Legal
+pub mod Applied
+pub mod Places
+pub mod Steps

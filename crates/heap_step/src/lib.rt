@@ -1,0 +1,73 @@
+//! The events, their answers, and the records by which each is taken back.
+#![tactic(auto)]
+
+ghost use Rattle.heap_world.specs.State.{HeapState};
+ghost use Rattle.heap_step.specs.declared.Event.{Event};
+ghost use Rattle.heap_step.specs.Laws.{IsTakenBack, KeepsLegal};
+
+pub mod step;
+
+use heap_class::{ClassNo, Fields, Name, ObjRef};
+pub use step::{apply, weight};
+
+/// One step that is asked for. Numbers of mutators, registers, classes and slots may be any 64-bit numbers.
+#[derive(Drop)]
+pub enum Event {
+    /// Defines an instance class.
+    Class {
+        name: Name,
+        sup: Option<ClassNo>,
+        fields: Fields,
+    },
+    /// Makes an instance of a class in register `r` of mutator `m`.
+    New {
+        m: u64,
+        r: u64,
+        class: ClassNo,
+    },
+    /// Writes a value slot of the object in register `target`.
+    Put {
+        m: u64,
+        target: u64,
+        slot: u64,
+        value: u64,
+    },
+}
+
+/// What an accepted event answers.
+#[derive(Clone, Copy, PartialEq, Eq, Debug)]
+pub enum Answer {
+    /// The number of the new class.
+    Class(u64),
+    /// The id of an object.
+    Object(u64),
+    Done,
+}
+
+/// What takes an accepted event back.
+#[derive(Clone, Copy, PartialEq, Eq, Debug)]
+pub enum Undo {
+    Put {
+        at: ObjRef,
+        slot: u16,
+        old: u64,
+    },
+    New {
+        at: ObjRef,
+        fresh: bool,
+        m: u8,
+        r: u8,
+        old: u64,
+    },
+    Class,
+}
+
+/// The law that each event that a legal heap accepts keeps it legal.
+pub fn keeps_legal()
+    ensures { (e : Event) (w : HeapState) → KeepsLegal e w }
+{}
+
+/// The law that the record of each event that a legal heap accepts takes it back.
+pub fn undo_takes_back()
+    ensures { (e : Event) (w : HeapState) → IsTakenBack e w }
+{}

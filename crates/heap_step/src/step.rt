@@ -1,0 +1,116 @@
+//! Applying events and taking them back.
+ghost use Rattle.std.specs.Prelude.{◌≡◌, ◌⊎◌, None, Ok, Err, true, IfOk, IfErr, OnErr};
+ghost use Rattle.heap_class.specs.Refusals.{IsAnswered};
+ghost use Rattle.heap_class.specs.declared.Refusal.TheVariants.{NoMemory};
+ghost use Rattle.heap_world.specs.State.{HeapState};
+ghost use Rattle.heap_world.specs.Legal.{IsLegal};
+ghost use Rattle.heap_step.specs.declared.Event.{Event};
+ghost use Rattle.heap_step.specs.Apply.{refusal_of, state_after, applied, event_may_grow};
+ghost use Rattle.heap_step.specs.Records.{undo_record, weight};
+ghost use Rattle.heap_step.specs.Laws.{IsApplied, IsStep};
+
+use crate::{Answer, Event, Undo};
+use heap_class::{ClassNo, Fields, Name, Refusal};
+use heap_world::World;
+
+/// Applies an event: at Ok its answer and the record that takes it back; refused, nothing has changed. NoMemory comes
+/// only where the event may grow and nothing else refuses it.
+pub fn apply(world: &mut World, event: &Event) -> Result<(Answer, Undo), Refusal>
+    ensures answered { IsAnswered (refusal_of event.now world.old) (event_may_grow event.now world.old) result }
+    ensures state { IfOk result (λ p. world.new ≡ state_after event.now world.old) }
+    ensures done { IfOk result (λ p. applied event.now world.old ≡ Ok (world.new, p.0)) }
+    ensures recorded { IfOk result (λ p. p.1 ≡ undo_record event.now world.old) }
+    ensures refused { IfErr result (λ e. (applied event.now world.old ≡ Err e) ⊎ ((refusal_of event.now world.old ≡ None) × (event_may_grow event.now world.old ≡ true) × (e ≡ NoMemory))) }
+    ensures unchanged { OnErr result (world.new ≡ world.old) }
+    ensures legal { IsLegal world.new }
+{
+    let _phase = world.phase();
+    match event {
+        Event::Class { name, sup, fields } => define(world, name, *sup, fields),
+        Event::New { m, r, class } => create(world, *m, *r, *class),
+        Event::Put {
+            m,
+            target,
+            slot,
+            value,
+        } => put(world, *m, *target, *slot, *value),
+    }
+}
+
+/// Applies an event that defines an instance class.
+fn define(
+    world: &mut World,
+    name: &Name,
+    sup: Option<ClassNo>,
+    fields: &Fields,
+) -> Result<(Answer, Undo), Refusal>
+    ensures { IsApplied (Event.Class name.now sup fields.now) world.old world.new result }
+{
+    let class = world.define_class(name, sup, fields)?;
+    Ok((Answer::Class(class), Undo::Class))
+}
+
+/// Applies an event that makes an instance of a class.
+fn create(world: &mut World, m: u64, r: u64, class: ClassNo) -> Result<(Answer, Undo), Refusal>
+    requires { IsLegal world.old }
+    ensures { IsApplied (Event.New m r class) world.old world.new result }
+{
+    let created = world.new_instance(m, r, class)?;
+    let record = Undo::New {
+        at: created.at,
+        fresh: created.fresh,
+        m: m as u8,
+        r: r as u8,
+        old: created.old,
+    };
+    Ok((Answer::Object(created.id), record))
+}
+
+/// Applies an event that writes a value slot.
+fn put(
+    world: &mut World,
+    m: u64,
+    target: u64,
+    slot: u64,
+    value: u64,
+) -> Result<(Answer, Undo), Refusal>
+    ensures { IsApplied (Event.Put m target slot value) world.old world.new result }
+{
+    let overwritten = world.put(m, target, slot, value)?;
+    let record = Undo::Put {
+        at: overwritten.at,
+        slot: slot as u16,
+        old: overwritten.old,
+    };
+    Ok((Answer::Done, record))
+}
+
+/// Takes back the step that left this record and this state. Takes no memory.
+#[tactic(auto, using(crate::proofs::Steps::taken_back))]
+pub fn undo(world: &mut World, left: Undo)
+    requires { (e : Event) × (before : HeapState) × IsStep e before world.old left }
+    ensures { (e : Event) (before : HeapState) → IsStep e before world.old left → world.new ≡ before }
+{
+    match left {
+        Undo::Put { at, slot, old } => world.unput(at, slot as u64, old),
+        Undo::New {
+            at,
+            fresh,
+            m,
+            r,
+            old,
+        } => world.unmake(at, fresh, m as u64, r as u64, old),
+        Undo::Class => world.undefine_class(),
+    }
+}
+
+/// What a record keeps besides its fixed fields.
+#[tactic(auto, unfolding(crate::specs::Records::weight))]
+pub fn weight(left: &Undo) -> u64
+    ensures { result ≡ weight left.now }
+{
+    match left {
+        Undo::Put { .. } => 1,
+        Undo::New { .. } | Undo::Class => 0,
+    }
+}

@@ -1,0 +1,111 @@
+-- What a step makes of a machine.
+use Rattle.std.proofs.Common.{◌≡◌, ℕ, ◌+◌, ◌<◌, ◌≤◌, true, false, List, ◌∷◌, length, length-take, take, sym, ap, subst, ◌∙◌, None, Ok, Err, inl, inr, arith}
+use Rattle.std.specs.Prelude.{nat_le, ◌⊎◌}
+use Rattle.circular_buffer.specs.Buffer.{Buffer, buffer}
+use Rattle.heap_class.specs.declared.Refusal.{Refusal}
+use Rattle.heap_class.specs.declared.Refusal.TheVariants.{NoMemory, ChronicleFull}
+use Rattle.heap_world.specs.State.{HeapState}
+use Rattle.heap_world.specs.Legal.{IsLegal}
+use Rattle.heap_step.specs.declared.Event.{Event}
+use Rattle.heap_step.specs.declared.Answer.{Answer}
+use Rattle.heap_step.specs.declared.Undo.{Undo}
+use Rattle.heap_step.specs.Apply.{refusal_of, state_after, applied, applied_unless, event_may_grow}
+use Rattle.heap_step.specs.Records.{undo_record, undone}
+use Rattle.heap_step.specs.Laws.{IsStep, IsTakenBack}
+use Rattle.heap_trail.specs.declared.Action.TheVariants.{Step}
+use Rattle.heap_trail.specs.declared.Reply.TheVariants.{Answered, Refused}
+use Rattle.heap_trail.specs.Limits.{last_place}
+use Rattle.heap_trail.specs.Trail.{stepped}
+use Rattle.heap_trail.specs.Machine.{Machine, after_result, after_step_at, acted, Refusing, may_grow, is_accepted, MayStand}
+use Rattle.heap_trail.specs.Records.{past_of, AreRecorded, IsKept, machine_of}
+use Rattle.heap_trail.proofs.Recorded.{past_of-take, recorded-take}
+
+-- a ring with one more record in front
+abbrev pub pushed : Undo → Buffer Undo → Buffer Undo
+pushed left ring = buffer (take ring.capacity (left ∷ ring.items)) ring.capacity
+
+-- an accepted event, the state after it and its record
+pub record IsAccepted (e : Event) (w v : HeapState) (left : Undo) : Type 0 where
+  pub accepted : refusal_of e w ≡ None
+  pub gave : v ≡ state_after e w
+  pub recorded : left ≡ undo_record e w
+  pub after : IsLegal v
+  pub law : IsTakenBack e w
+
+-- its record leads back
+pub leads_back : (e : Event) (w v : HeapState) (left : Undo) → IsLegal w → IsAccepted e w v left → undone left v ≡ w
+leads_back e w v left legal a = (λ i. undone (a.recorded i) (a.gave i)) ∙ a.law legal a.accepted
+
+short_take : {A : Type 0} (n : ℕ) (xs : List A) → length (take n xs) ≤ n
+short_take n xs = omega (arith, length-take n xs)
+
+pub kept_after_step : (e : Event) (w v : HeapState) (left : Undo) (ring : Buffer Undo) (place keep : ℕ) → IsKept w ring place keep → IsAccepted e w v left → place < last_place → IsKept v (pushed left ring) (place + 1) keep
+kept_after_step e w v left ring place keep k a h = record {
+  legal = a.after;
+  recorded = recorded-take ring.capacity v (left ∷ ring.items) all;
+  few = omega (arith, short_take ring.capacity (left ∷ ring.items), k.room);
+  room = k.room;
+  within = k.within;
+  placed = omega (arith, shorter ring.capacity (left ∷ ring.items), k.placed);
+  counted = omega (arith, h);
+}
+  where
+    Told : HeapState → Type 0
+    Told u = ((e : Event) × IsStep e u v left) × AreRecorded u ring.items
+
+    all : AreRecorded v (left ∷ ring.items)
+    all = subst Told (sym (leads_back e w v left k.legal a)) ((e, record { legal = k.legal; accepted = a.accepted; gave = a.gave; recorded = a.recorded }), k.recorded)
+
+    shorter : (n : ℕ) (xs : List Undo) → length (take n xs) ≤ length xs
+    shorter n xs = omega (arith, length-take n xs)
+
+not_last : (place : ℕ) → place < last_place → nat_le last_place place ≡ false
+not_last place h = grind (arith, h)
+
+is_last : (place : ℕ) → last_place ≤ place → nat_le last_place place ≡ true
+is_last place h = grind (arith, h)
+
+-- ---- replies
+
+pub step_done : (e : Event) (w v : HeapState) (left : Undo) (ring : Buffer Undo) (place keep : ℕ) (answer : Answer) → IsKept w ring place keep → IsAccepted e w v left → place < last_place → applied e w ≡ Ok (v, answer)
+    → acted (machine_of w ring place keep) (Step e) ≡ (machine_of v (pushed left ring) (place + 1) keep, Answered answer)
+unfolding acted after_step_at after_result stepped
+step_done e w v left ring place keep answer k a h done =
+    ap (λ b. after_step_at b e (machine_of w ring place keep)) (not_last place h)
+    ∙ ap (after_result (machine_of w ring place keep)) done
+    ∙ ap (λ vs. (let m : Machine = record (machine_of w ring place keep) { trail = record { place = place + 1; current = v; past = vs } } in m, Answered answer)) past
+  where
+    past : take keep (w ∷ past_of w ring.items) ≡ past_of v (take ring.capacity (left ∷ ring.items))
+    past = ap (λ n. take n (w ∷ past_of w ring.items)) (sym k.room)
+        ∙ ap (λ u. take ring.capacity (u ∷ past_of u ring.items)) (sym (leads_back e w v left k.legal a))
+        ∙ sym (past_of-take ring.capacity v (left ∷ ring.items))
+
+pub step_refused : (e : Event) (w : HeapState) (ring : Buffer Undo) (place keep : ℕ) (r : Refusal) → place < last_place → applied e w ≡ Err r
+    → acted (machine_of w ring place keep) (Step e) ≡ (machine_of w ring place keep, Refused r)
+unfolding acted after_step_at after_result
+step_refused e w ring place keep r h refused =
+    ap (λ b. after_step_at b e (machine_of w ring place keep)) (not_last place h)
+    ∙ ap (after_result (machine_of w ring place keep)) refused
+
+-- at the last place
+pub step_full : (e : Event) (w : HeapState) (ring : Buffer Undo) (place keep : ℕ) → last_place ≤ place
+    → acted (machine_of w ring place keep) (Step e) ≡ (machine_of w ring place keep, Refused ChronicleFull)
+unfolding acted after_step_at
+step_full e w ring place keep h = ap (λ b. after_step_at b e (machine_of w ring place keep)) (is_last place h)
+
+-- for want of memory, where nothing else refuses it
+pub step_starved : (e : Event) (w : HeapState) (ring : Buffer Undo) (place keep : ℕ) → place < last_place → refusal_of e w ≡ None → event_may_grow e w ≡ true
+    → MayStand (machine_of w ring place keep) (Step e, Refusing)
+unfolding acted after_step_at after_result applied applied_unless may_grow is_accepted
+step_starved e w ring place keep h none grows = (
+  grows,
+  ap (λ b. is_accepted (after_step_at b e (machine_of w ring place keep)).1) (not_last place h)
+      ∙ ap (λ r. is_accepted (after_result (machine_of w ring place keep) (applied_unless r e w)).1) none,
+)
+
+-- a step that is refused by its event
+pub step_err : (e : Event) (w v : HeapState) (ring : Buffer Undo) (place keep : ℕ) (r : Refusal) → place < last_place → v ≡ w
+    → (applied e w ≡ Err r) ⊎ ((refusal_of e w ≡ None) × (event_may_grow e w ≡ true) × (r ≡ NoMemory))
+    → (acted (machine_of w ring place keep) (Step e) ≡ (machine_of v ring place keep, Refused r)) ⊎ (MayStand (machine_of w ring place keep) (Step e, Refusing) × (r ≡ NoMemory))
+step_err e w v ring place keep r h same (inl refused) = inl (step_refused e w ring place keep r h refused ∙ ap (λ u. (machine_of u ring place keep, Refused r)) (sym same))
+step_err e w v ring place keep r h same (inr starved) = inr (step_starved e w ring place keep h starved.0 starved.1, starved.2)

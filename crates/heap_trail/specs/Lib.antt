@@ -1,0 +1,7 @@
+pub mod Limits
+pub mod Trail
+pub mod Pins
+pub mod Machine
+pub mod Laws
+pub mod Records
+pub mod Opened

@@ -1,0 +1,38 @@
+-- The past that the records tell, and when they tell it rightly.
+use Rattle.std.specs.Prelude.{◌≡◌, ℕ, ◌≤◌, List, [], ◌∷◌, length}
+use Rattle.circular_buffer.specs.Buffer.{Buffer}
+use Rattle.heap_world.specs.Limits.{keep_limit}
+use Rattle.heap_world.specs.State.{HeapState}
+use Rattle.heap_world.specs.Legal.{IsLegal}
+use Rattle.heap_step.specs.declared.Event.{Event}
+use Rattle.heap_step.specs.declared.Undo.{Undo}
+use Rattle.heap_step.specs.Records.{undone}
+use Rattle.heap_step.specs.Laws.{IsStep}
+use Rattle.heap_class.specs.declared.IdSize.TheVariants.{Eight}
+use Rattle.heap_trail.specs.Limits.{last_place}
+use Rattle.heap_trail.specs.Machine.{Machine}
+use Rattle.heap_trail.specs.Pins.{no_pins}
+
+-- the states before this one, the newest first: each is the one after it, with its record undone
+abbrev pub past_of : HeapState → List Undo → List HeapState
+past_of w [] = []
+past_of w (r ∷ rs) = let v = undone r w in v ∷ past_of v rs
+
+-- each record is that of an event that led from the state before it to the state after it
+abbrev pub AreRecorded : HeapState → List Undo → Type 0
+AreRecorded w [] = Unit {0}
+AreRecorded w (r ∷ rs) = ((e : Event) × IsStep e (undone r w) w r) × AreRecorded (undone r w) rs
+
+-- what holds of a machine's fields: the ring has room for `keep` records
+pub record IsKept (w : HeapState) (ring : Buffer Undo) (place keep : ℕ) : Type 0 where
+  pub legal : IsLegal w
+  pub recorded : AreRecorded w ring.items
+  pub few : length ring.items ≤ keep
+  pub room : ring.capacity ≡ keep
+  pub within : (1 ≤ keep) × (keep ≤ keep_limit)
+  pub placed : length ring.items ≤ place
+  pub counted : place ≤ last_place
+
+-- the machine that has this state, ring, place and number of records to keep
+abbrev pub machine_of : HeapState → Buffer Undo → ℕ → ℕ → Machine
+machine_of w ring place keep = record { keep = keep; ids = Eight; trail = record { place = place; current = w; past = past_of w ring.items }; pins = no_pins }

@@ -1,0 +1,95 @@
+-- Legality after a class is defined.
+use Rattle.std.proofs.Common.{◌≡◌, ◌≢◌, ℕ, ◌<◌, true, List, [], ◌∷◌, ◌++◌, length, zip, refl, sym, ap, subst, ◌∙◌, Some, None, All, Contains}
+use Rattle.heap_class.specs.declared.Kind.{Kind}
+use Rattle.heap_class.specs.declared.ObjKind.{ObjKind}
+use Rattle.heap_class.specs.declared.ObjKind.TheVariants.{Instance, Array, Prim}
+use Rattle.heap_class.specs.Kinds.{value_limit}
+use Rattle.heap_class.specs.Classes.{Class, class_refusal}
+use Rattle.heap_class.proofs.Slots.{slots_more, instance_within, instance_more, array_more, classes_more}
+use Rattle.heap_region.specs.Regions.{Object, object_of, slot_kinds, references_of}
+use Rattle.heap_class.specs.Classes.{slot_kinds_of}
+use Rattle.heap_region.proofs.Looked.{place_found}
+use Rattle.heap_region.proofs.References.{references_in, references_by_slots}
+use Rattle.heap_world.specs.State.{HeapState}
+use Rattle.heap_world.specs.Reach.{Names}
+use Rattle.heap_world.specs.Legal.{IsObjectOf, HasKind}
+use Rattle.heap_world.proofs.Clauses.{HasClauses}
+use Rattle.heap_world.specs.Events.{after_class}
+use Rattle.heap_world.proofs.Shelter.{sheltered_unmarked}
+use Rattle.heap_world.proofs.Tricolour.{Spares, spares_tricolour}
+use Rattle.heap_world.proofs.Registers.{namer, names_of}
+
+-- an object of a kind that exists has the same slots
+kinds_more : (cs : List Class) (c : Class) (kind : ObjKind) (n : ℕ) → HasKind cs kind n → slot_kinds_of (cs ++ c ∷ []) kind n ≡ slot_kinds_of cs kind n
+unfolding slot_kinds_of
+kinds_more cs c (Instance k) n h = slots_more cs c k (instance_within cs k h.0)
+kinds_more cs c (Array k) n h = refl
+kinds_more cs c (Prim kind) n h = refl
+
+kind_more : (cs : List Class) (c : Class) (kind : ObjKind) (n : ℕ) → HasKind cs kind n → HasKind (cs ++ c ∷ []) kind n
+kind_more cs c (Instance k) n h = (instance_more cs c k h.0, h.1 ∙ ap (λ l. length l) (sym (slots_more cs c k (instance_within cs k h.0))))
+kind_more cs c (Array k) n h = (array_more cs c k h.0, h.1)
+kind_more cs c (Prim kind) n h = h
+
+slot_kinds_more : (cs : List Class) (c : Class) (o : Object) → IsObjectOf cs o → slot_kinds (cs ++ c ∷ []) o ≡ slot_kinds cs o
+unfolding slot_kinds
+slot_kinds_more cs c o f = kinds_more cs c o.kind (length o.words) f.kind
+
+fits_more : (cs : List Class) (c : Class) (o : Object) → IsObjectOf cs o → IsObjectOf (cs ++ c ∷ []) o
+fits_more cs c o f = record {
+  kind = kind_more cs c o.kind (length o.words) f.kind;
+  values = subst (λ ks. All (λ p. p.0 ≢ Kind.Object → p.1 < value_limit p.0) (zip ks o.words)) (sym (slot_kinds_more cs c o f)) f.values;
+}
+
+references_more : (cs : List Class) (c : Class) (o : Object) → IsObjectOf cs o → references_of (cs ++ c ∷ []) o ≡ references_of cs o
+references_more cs c o f = references_by_slots (cs ++ c ∷ []) o ∙ ap (λ ks. references_in ks o.words) (slot_kinds_more cs c o f) ∙ sym (references_by_slots cs o)
+
+-- the heap with a further class
+abbrev with_class : Class → HeapState → HeapState
+with_class c w = record w { classes = w.classes ++ c ∷ [] }
+
+fits_named : (w : HeapState) → HasClauses w → (x : ℕ) (o : Object) → object_of w.regions x ≡ Some o → IsObjectOf w.classes o
+fits_named w l x o e = let p = place_found w.regions x o e in l.objects p.0 o p.2
+
+names_before : (w : HeapState) (c : Class) → HasClauses w → (x y : ℕ) → Names (with_class c w) x y → Names w x y
+names_before w c l x y n = let b = namer (with_class c w) x y n in names_of w x y b.0 b.1 (subst (λ k. Contains k y) (references_more w.classes c b.0 (fits_named w l x b.0 b.1)) b.2)
+
+names_after : (w : HeapState) (c : Class) → HasClauses w → (x y : ℕ) → Names w x y → Names (with_class c w) x y
+names_after w c l x y n = let b = namer w x y n in names_of (with_class c w) x y b.0 b.1 (subst (λ k. Contains k y) (sym (references_more w.classes c b.0 (fits_named w l x b.0 b.1))) b.2)
+
+class_spares_of : (w : HeapState) (c : Class) → HasClauses w → Spares w (with_class c w)
+class_spares_of w c l = record {
+  unmarked = λ x u. u;
+  marked = λ x y m n. (m, names_before w c l x y n);
+  gray = refl;
+  undrained = refl;
+  registers = λ x r u. r;
+  sheltered = λ x s. sheltered_unmarked w x s;
+  names_still = λ x y h n. names_after w c l x y n;
+}
+
+pub class_spares : (w : HeapState) (c : Class) → HasClauses w → Spares w (after_class c w)
+unfolding after_class
+class_spares w c l = class_spares_of w c l
+
+pub class_legal : (w : HeapState) (c : Class) → (c.is_array ≡ true → (c.sup ≡ None) × (c.fields ≡ [])) → HasClauses w → class_refusal w.classes c ≡ None → HasClauses (after_class c w)
+unfolding after_class
+class_legal w c bare l accepted = record {
+  sized = record { regions = l.sized.regions; mutators = l.sized.mutators };
+  classes = classes_more [] w.classes c l.classes accepted bare;
+  objects = λ at o e. fits_more w.classes c o (l.objects at o e);
+  least_cells = l.least_cells;
+  cells = l.cells;
+  pool = l.pool;
+  registers_live = l.registers_live;
+  slots_live = λ x y a n. l.slots_live x y a (names_before w c l x y n);
+  gray_live = l.gray_live;
+  log_live = l.log_live;
+  gray_distinct = l.gray_distinct;
+  gray_marked = l.gray_marked;
+  marked_live = l.marked_live;
+  drained_within = l.drained_within;
+  swept_live = l.swept_live;
+  idle = λ i. record { gray = (l.idle i).gray; log = (l.idle i).log; drained = (l.idle i).drained; unmarked = (l.idle i).unmarked };
+  tricolour = λ i. spares_tricolour w (with_class c w) (class_spares_of w c l) (l.tricolour i);
+}

@@ -1,0 +1,16 @@
+pub mod Opening
+pub mod Words
+pub mod Clauses
+pub mod Named
+pub mod Shelter
+pub mod Tricolour
+pub mod Distinct
+pub mod Stored
+pub mod Registers
+pub mod Written
+pub mod Taken
+pub mod New
+pub mod Classes
+pub mod Refused
+pub mod Kept
+pub mod Slot

@@ -1,0 +1,129 @@
+-- For each event, why it is refused, and the state after it where it isn't.
+use Rattle.std.specs.Prelude.{ℕ, Bool, true, false, not, ◌&&◌, ◌==◌, nat_lt, nat_le, [], ◌∷◌, ◌++◌, length, replicate, Option, is_none, if◌then◌else◌}
+use Rattle.std.specs.Option.{option_map_or}
+use Rattle.heap_class.specs.declared.Kind.{Kind}
+use Rattle.heap_class.specs.declared.Refusal.{Refusal}
+use Rattle.heap_class.specs.declared.Refusal.TheVariants.{NoClass, BadRegister, NullRegister, BadSlot, WrongKind, OutOfRange, TooLarge, HeapFull}
+use Rattle.heap_class.specs.declared.ObjKind.{ObjKind}
+use Rattle.heap_class.specs.declared.ObjKind.TheVariants.{Prim}
+use Rattle.heap_class.specs.Kinds.{is_reference, value_limit}
+use Rattle.heap_class.specs.Limits.{array_limit}
+use Rattle.heap_class.specs.Refusals.{first_refusal}
+use Rattle.heap_class.specs.Classes.{Class, is_instance_class, is_array_class, slots_of}
+use Rattle.heap_region.specs.Regions.{Object, with_word, id_of}
+use Rattle.heap_region.specs.Pool.{new_place, allocated}
+use Rattle.heap_mark.specs.Marking.{is_marking, logged, snapped, marked, drained_once, finished}
+use Rattle.heap_world.specs.State.{HeapState, pool_of, with_pool, marking_of, with_marking, is_register, register, with_register, place_of, slot_kind, word_of}
+
+-- a class is defined
+unfoldable pub after_class : Class → HeapState → HeapState
+after_class c w = record w { classes = w.classes ++ c ∷ [] }
+
+-- ---- a new object in a register
+
+-- its slots are 0; it is live, and marked exactly while a cycle runs
+unfoldable pub new_object : ObjKind → ℕ → HeapState → Object
+new_object kind n w = record { kind = kind; words = replicate n 0; live = true; mark = is_marking w.phase }
+
+unfoldable pub after_new : ℕ → ℕ → ObjKind → ℕ → HeapState → HeapState
+after_new m r kind n w = option_map_or (λ p. let s = allocated p.0 p.1 (new_object kind n w) (pool_of w) in with_register m r (id_of s.regions p.0) (with_pool s w)) (new_place n (pool_of w)) w
+
+unfoldable pub is_full : ℕ → HeapState → Bool
+is_full n w = is_none (new_place n (pool_of w))
+
+unfoldable pub new_refusal : ℕ → ℕ → ℕ → HeapState → Option Refusal
+new_refusal m r class w = first_refusal
+    ((not (is_register w m r), BadRegister)
+    ∷ (nat_le (length w.classes) class, NoClass)
+    ∷ (not (is_instance_class w.classes class), WrongKind)
+    ∷ (is_full (length (slots_of w.classes class)) w, HeapFull)
+    ∷ [])
+
+unfoldable pub new_array_refusal : ℕ → ℕ → ℕ → ℕ → HeapState → Option Refusal
+new_array_refusal m r class len w = first_refusal
+    ((not (is_register w m r), BadRegister)
+    ∷ (nat_le (length w.classes) class, NoClass)
+    ∷ (not (is_array_class w.classes class), WrongKind)
+    ∷ (nat_lt array_limit len, TooLarge)
+    ∷ (is_full len w, HeapFull)
+    ∷ [])
+
+unfoldable pub new_prim_refusal : ℕ → ℕ → Kind → ℕ → HeapState → Option Refusal
+new_prim_refusal m r kind len w = first_refusal
+    ((not (is_register w m r), BadRegister)
+    ∷ (is_reference kind, WrongKind)
+    ∷ (nat_lt array_limit len, TooLarge)
+    ∷ (is_full len w, HeapFull)
+    ∷ [])
+
+-- ---- slots of the object that an id names
+
+unfoldable pub lacks_slot : HeapState → ℕ → ℕ → Bool
+lacks_slot w x slot = is_none (slot_kind w x slot)
+
+unfoldable pub is_reference_slot : HeapState → ℕ → ℕ → Bool
+is_reference_slot w x slot = option_map_or is_reference (slot_kind w x slot) false
+
+unfoldable pub load_refusal : ℕ → ℕ → ℕ → ℕ → HeapState → Option Refusal
+load_refusal m to from slot w = first_refusal
+    ((not (is_register w m to && is_register w m from), BadRegister)
+    ∷ (register w m from == 0, NullRegister)
+    ∷ (lacks_slot w (register w m from) slot, BadSlot)
+    ∷ [])
+
+-- a reference goes to the register, and a value changes nothing
+unfoldable pub after_load : ℕ → ℕ → ℕ → ℕ → HeapState → HeapState
+after_load m to from slot w = let x = register w m from in if is_reference_slot w x slot then with_register m to (word_of w x slot) w else w
+
+unfoldable pub store_refusal : ℕ → ℕ → ℕ → ℕ → HeapState → Option Refusal
+store_refusal m target slot source w = first_refusal
+    ((not (is_register w m target && is_register w m source), BadRegister)
+    ∷ (register w m target == 0, NullRegister)
+    ∷ (lacks_slot w (register w m target) slot, BadSlot)
+    ∷ (not (is_reference_slot w (register w m target) slot), WrongKind)
+    ∷ [])
+
+-- the slot of the object x becomes the word
+unfoldable pub with_slot : ℕ → ℕ → ℕ → HeapState → HeapState
+with_slot x slot word w = record w { regions = with_word (place_of w x) slot word w.regions }
+
+-- the barrier logs what the slot held, and the slot becomes what the register holds
+unfoldable pub after_store : ℕ → ℕ → ℕ → ℕ → HeapState → HeapState
+after_store m target slot source w = let x = register w m target in with_slot x slot (register w m source) (with_marking (logged (word_of w x slot) (marking_of w)) w)
+
+unfoldable pub put_refusal : ℕ → ℕ → ℕ → ℕ → HeapState → Option Refusal
+put_refusal m target slot value w = first_refusal
+    ((not (is_register w m target), BadRegister)
+    ∷ (register w m target == 0, NullRegister)
+    ∷ (lacks_slot w (register w m target) slot, BadSlot)
+    ∷ (is_reference_slot w (register w m target) slot, WrongKind)
+    ∷ (option_map_or (λ k. nat_le (value_limit k) value) (slot_kind w (register w m target) slot) false, OutOfRange)
+    ∷ [])
+
+unfoldable pub after_put : ℕ → ℕ → ℕ → ℕ → HeapState → HeapState
+after_put m target slot value w = with_slot (register w m target) slot value w
+
+-- ---- registers
+
+unfoldable pub move_refusal : ℕ → ℕ → ℕ → ℕ → HeapState → Option Refusal
+move_refusal m to from_m from w = first_refusal ((not (is_register w m to && is_register w from_m from), BadRegister) ∷ [])
+
+unfoldable pub after_move : ℕ → ℕ → ℕ → ℕ → HeapState → HeapState
+after_move m to from_m from w = with_register m to (register w from_m from) w
+
+unfoldable pub clear_refusal : ℕ → ℕ → HeapState → Option Refusal
+clear_refusal m r w = first_refusal ((not (is_register w m r), BadRegister) ∷ [])
+
+-- ---- the marker and the sweeper
+
+unfoldable pub after_snap : HeapState → HeapState
+after_snap w = with_marking (snapped w.registers (marking_of w)) w
+
+unfoldable pub after_mark : HeapState → HeapState
+after_mark w = with_marking (marked w.classes (marking_of w)) w
+
+unfoldable pub after_drain : HeapState → HeapState
+after_drain w = with_marking (drained_once (marking_of w)) w
+
+unfoldable pub after_finish : HeapState → HeapState
+after_finish w = with_marking (finished (marking_of w)) w

@@ -1,0 +1,7 @@
+pub mod Limits
+pub mod State
+pub mod Legal
+pub mod Reach
+pub mod Events
+pub mod Opened
+pub mod Held

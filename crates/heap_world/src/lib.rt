@@ -1,0 +1,445 @@
+//! The whole state of the heap, its rule, and what each event does to it.
+#![tactic(auto)]
+
+ghost use Rattle.std.specs.Prelude.{◌≡◌, ◌≢◌, ◌⊎◌, ◌+◌, ◌-◌, ◌*◌, ◌<◌, ◌≤◌, ◌↔◌, ◌&&◌, nat_lt, [], length, reverse, take, replicate, Some, None, true, false, IsTrue, Contains, IsSome, IfSome, IfOk, IfErr, OnOk, OnErr, MatchOption, slice_index, slice_get, vec_capacity};
+ghost use Rattle.heap_class.specs.Classes.{class_refusal, instance_class, is_instance_class, slots_of};
+ghost use Rattle.heap_class.specs.Refusals.{IsAnswered};
+ghost use Rattle.heap_class.specs.declared.ObjKind.TheVariants.{Instance};
+ghost use Rattle.heap_class.specs.declared.Refusal.TheVariants.{NoMemory, NullRegister, BadSlot, HeapFull};
+ghost use Rattle.heap_region.specs.Regions.{object_at, ref_of, slot_kinds, with_word};
+ghost use Rattle.heap_region.specs.Pool.{new_place, is_fresh, unallocated};
+ghost use Rattle.heap_world.specs.Limits.{AreSettings, Settings};
+ghost use Rattle.heap_world.specs.State.{HeapState, opening_state, is_register, register, with_register, pool_of, with_pool, place_of, slot_kind, word_of};
+ghost use Rattle.heap_world.specs.Legal.{IsLegal, HasKind};
+ghost use Rattle.heap_world.specs.Events.{after_class, is_full, new_refusal, after_new, put_refusal, after_put};
+
+use heap_class::{ClassNo, Classes, Fields, Kind, Name, ObjKind, ObjRef, Refusal};
+use heap_mark::Phase;
+use heap_region::Regions;
+use std::alloc::Global;
+use std::marker::Model;
+
+/// Regions of a heap at most.
+pub const REGION_LIMIT: u64 = 256;
+
+/// Mutators of a heap at most.
+pub const MUTATOR_LIMIT: u64 = 16;
+
+/// Registers of each mutator.
+pub const REGISTERS_EACH: u64 = 8;
+
+/// Steps that can be undone at most.
+pub const KEEP_LIMIT: u64 = 65536;
+
+// Cells of a region at most.
+const CELLS_EACH: u64 = 256;
+
+/// What a heap is made with: 1 to 256 regions, 1 to 16 mutators, and 1 to 65,536 steps that can be undone.
+#[derive(Clone, Copy)]
+pub struct Config {
+    regions: u64,
+    mutators: u64,
+    keep: u64,
+}
+
+impl Model for Config {
+    ghost use Rattle.heap_world.specs.Limits.{AreSettings, Settings};
+
+    ghost Value = { Settings };
+
+    ghost view = { λ c. record { regions = c.regions; mutators = c.mutators; keep = c.keep } };
+
+    ghost inverse = { λ c. record { regions = c.regions; mutators = c.mutators; keep = c.keep } };
+
+    ghost invariant = { λ c. AreSettings c.regions c.mutators c.keep };
+}
+
+impl Config {
+    /// These settings; None where one is outside its limits.
+    pub fn new(regions: u64, mutators: u64, keep: u64) -> Option<Config>
+        ensures given { IfSome result (λ c. c ≡ record { regions = regions; mutators = mutators; keep = keep }) }
+        ensures within { IsSome result ↔ AreSettings regions mutators keep }
+    {
+        let sized = 1 <= regions
+            && regions <= REGION_LIMIT
+            && 1 <= mutators
+            && mutators <= MUTATOR_LIMIT;
+        if !sized || keep == 0 || keep > KEEP_LIMIT {
+            return None;
+        }
+        Some(Config {
+            regions,
+            mutators,
+            keep,
+        })
+    }
+
+    /// The number of regions, 1 to 256.
+    pub fn regions(&self) -> u64
+        ensures value { result ≡ self.now.regions }
+        ensures limits { AreSettings self.now.regions self.now.mutators self.now.keep }
+    {
+        self.regions
+    }
+
+    /// The number of mutators, 1 to 16.
+    pub fn mutators(&self) -> u64
+        ensures value { result ≡ self.now.mutators }
+    {
+        self.mutators
+    }
+
+    /// How many steps can be undone, 1 to 65,536.
+    pub fn keep(&self) -> u64
+        ensures value { result ≡ self.now.keep }
+        ensures limits { AreSettings self.now.regions self.now.mutators self.now.keep }
+    {
+        self.keep
+    }
+}
+
+/// What a new object's register and its undoing need: its id, its place, whether its region was taken from the pool,
+/// and what the register held.
+#[derive(Clone, Copy, PartialEq, Eq, Debug)]
+pub struct Created {
+    pub id: u64,
+    pub at: ObjRef,
+    pub fresh: bool,
+    pub old: u64,
+}
+
+/// Where a word was written, and what stood there.
+#[derive(Clone, Copy, PartialEq, Eq, Debug)]
+pub struct Overwritten {
+    pub at: ObjRef,
+    pub old: u64,
+}
+
+// So many null registers.
+fn nulls(alloc: Global, count: usize) -> Result<Vec<u64>, Refusal>
+    ensures null { IfOk result (λ v. v.items ≡ replicate count 0) }
+    ensures refused { IfErr result (λ e. e ≡ NoMemory) }
+{
+    match vec![in alloc; 0; count] {
+        Ok(registers) => Ok(registers),
+        Err(_) => Err(Refusal::NoMemory),
+    }
+}
+
+// An empty stack with room for so many ids.
+fn with_room(alloc: Global, ids: usize) -> Result<Vec<u64>, Refusal>
+    ensures empty { IfOk result (λ v. v.items ≡ []) }
+    ensures room { IfOk result (λ v. vec_capacity v ≡ ids) }
+    ensures refused { IfErr result (λ e. e ≡ NoMemory) }
+{
+    match Vec::with_capacity(alloc, ids) {
+        Ok(stack) => Ok(stack),
+        Err(_) => Err(Refusal::NoMemory),
+    }
+}
+
+// Whether mutator m has a register r.
+fn is_register(registers: &[u64], m: u64, r: u64) -> bool
+    requires { length registers.now ≤ 128 }
+    ensures { result ≡ (nat_lt r 8 && nat_lt (8 * m + r) (length registers.now)) }
+{
+    r < REGISTERS_EACH && m < MUTATOR_LIMIT && REGISTERS_EACH * m + r < registers.len() as u64
+}
+
+// The kind of a slot among these; none where there is no such slot.
+fn kind_at(kinds: &[Kind], slot: u64) -> Option<Kind>
+    ensures { result ≡ slice_get kinds.now slot }
+{
+    kinds.get(slot as usize).copied()
+}
+
+// The kind of a slot where all of so many have it; none where there is no such slot.
+fn kind_within(kind: Kind, len: u64, slot: u64) -> Option<Kind>
+    ensures { result ≡ slice_get (replicate len kind) slot }
+{
+    if slot < len { Some(kind) } else { None }
+}
+
+/// The heap. Contracts see its whole state.
+#[derive(Drop)]
+pub struct World {
+    classes: Classes,
+    regions: Regions,
+    registers: Vec<u64>,
+    // The gray stack, its top last; it has room for the ids of all objects.
+    gray: Vec<u64>,
+    log: Vec<u64>,
+    drained: u64,
+    phase: Phase,
+}
+
+impl Model for World {
+    ghost use Rattle.std.specs.Prelude.{vec_capacity};
+    ghost use Rattle.heap_world.specs.State.{HeapState};
+    ghost use Rattle.heap_world.specs.Held.{held, IsHeld};
+
+    ghost Value = { HeapState };
+
+    ghost view = { λ w. held w.classes w.regions w.registers.items w.gray.items w.log.items w.drained w.phase };
+
+    ghost invariant = { λ w. IsHeld (held w.classes w.regions w.registers.items w.gray.items w.log.items w.drained w.phase) (vec_capacity w.gray) };
+}
+
+impl World {
+    /// A heap as it begins: no class, each region empty, each register null. Room for the gray stack is reserved.
+    pub fn new(alloc: Global, config: Config) -> Result<World, Refusal>
+        ensures opened { IfOk result (λ w. w ≡ opening_state config.regions config.mutators) }
+        ensures refused { IfErr result (λ e. e ≡ NoMemory) }
+    {
+        let count = config.regions();
+        let mutators = config.mutators();
+        let regions = Regions::new(alloc, count)?;
+        let registers = nulls(alloc, (REGISTERS_EACH * mutators) as usize)?;
+        let gray = with_room(alloc, (CELLS_EACH * count) as usize)?;
+        Ok(World {
+            classes: Classes::new(alloc),
+            regions,
+            registers,
+            gray,
+            log: Vec::new(alloc),
+            drained: 0,
+            phase: Phase::Idle,
+        })
+    }
+
+    /// Whether a cycle is running.
+    pub fn phase(&self) -> Phase
+        ensures value { result ≡ self.now.phase }
+        ensures legal { IsLegal self.now }
+    {
+        self.phase
+    }
+
+    /// The classes.
+    pub fn classes(&self) -> &Classes
+        ensures { result.now ≡ self.now.classes }
+    {
+        &self.classes
+    }
+
+    /// The regions and the pool.
+    pub fn regions(&self) -> &Regions
+        ensures { result.now ≡ pool_of self.now }
+    {
+        &self.regions
+    }
+
+    /// The registers, mutator by mutator, 8 each.
+    pub fn registers(&self) -> &[u64]
+        ensures value { result.now ≡ self.now.registers }
+        ensures limit { length self.now.registers ≤ 128 }
+        ensures legal { IsLegal self.now }
+    {
+        &self.registers
+    }
+
+    /// Whether mutator `m` has a register `r`.
+    pub fn has_register(&self, m: u64, r: u64) -> bool
+        ensures { result ≡ is_register self.now m r }
+    {
+        is_register(&self.registers, m, r)
+    }
+
+    /// What register `r` of mutator `m` holds.
+    pub fn register(&self, m: u64, r: u64) -> u64
+        requires { IsTrue (is_register self.now m r) }
+        ensures { result ≡ register self.now m r }
+    {
+        self.registers[(REGISTERS_EACH * m + r) as usize]
+    }
+
+    /// The ids of the gray objects, the next to be marked last.
+    pub fn gray(&self) -> &[u64]
+        ensures { reverse result.now ≡ self.now.gray }
+    {
+        &self.gray
+    }
+
+    /// The ids that the barrier logged, the oldest first.
+    pub fn log(&self) -> &[u64]
+        ensures { result.now ≡ self.now.log }
+    {
+        &self.log
+    }
+
+    /// How many entries of the log were drained.
+    pub fn drained(&self) -> u64
+        ensures value { result ≡ self.now.drained }
+        ensures limit { result ≤ length self.now.log }
+    {
+        self.drained
+    }
+
+    /// Defines an instance class, and answers its number. Refused NoClass, ClassLimit, BadName, DuplicateName,
+    /// FieldLimit or NoMemory.
+    pub fn define_class(
+        &mut self,
+        name: &Name,
+        sup: Option<ClassNo>,
+        fields: &Fields,
+    ) -> Result<ClassNo, Refusal>
+        ensures answered { IsAnswered (class_refusal self.old.classes (instance_class name.now sup fields.now)) true result }
+        ensures defined { OnOk result (self.new ≡ after_class (instance_class name.now sup fields.now) self.old) }
+        ensures number { IfOk result (λ k. k ≡ length self.old.classes) }
+        ensures unchanged { OnErr result (self.new ≡ self.old) }
+    {
+        self.classes.define(name, sup, fields)
+    }
+
+    /// Takes back the last definition of a class. Takes no memory.
+    pub fn undefine_class(&mut self)
+        requires there { 0 < length self.old.classes }
+        requires legal { IsLegal (record self.old { classes = take (length self.old.classes - 1) self.old.classes }) }
+        ensures { self.new ≡ record self.old { classes = take (length self.old.classes - 1) self.old.classes } }
+    {
+        self.classes.undefine_last()
+    }
+
+    /// Makes an instance of a class in register `r` of mutator `m`. Refused BadRegister, NoClass, WrongKind, HeapFull, or
+    /// NoMemory where a region's storage can't be had.
+    pub fn new_instance(&mut self, m: u64, r: u64, class: ClassNo) -> Result<Created, Refusal>
+        ensures answered { IsAnswered (new_refusal m r class self.old) (is_fresh (length (slots_of self.old.classes class)) (pool_of self.old)) result }
+        ensures made { OnOk result (self.new ≡ after_new m r (Instance class) (length (slots_of self.old.classes class)) self.old) }
+        ensures placed { IfOk result (λ c. new_place (length (slots_of self.old.classes class)) (pool_of self.old) ≡ Some (c.at, c.fresh)) }
+        ensures held { IfOk result (λ c. (c.id ≡ register self.new m r) × (c.old ≡ register self.old m r)) }
+        ensures register { OnOk result (IsTrue (is_register self.old m r)) }
+        ensures unchanged { OnErr result (self.new ≡ self.old) }
+    {
+        let len = self.instance_len(m, r, class)?;
+        self.make(m, r, ObjKind::Instance(class), len)
+    }
+
+    /// Takes back the making of an object, and gives register `r` of mutator `m` its old word. Takes no memory.
+    pub fn unmake(&mut self, at: ObjRef, fresh: bool, m: u64, r: u64, old: u64)
+        requires there { IsSome (object_at self.old.regions at) }
+        requires register { IsTrue (is_register self.old m r) }
+        requires legal { IsLegal (with_register m r old (with_pool (unallocated at fresh (pool_of self.old)) self.old)) }
+        ensures { self.new ≡ with_register m r old (with_pool (unallocated at fresh (pool_of self.old)) self.old) }
+    {
+        self.regions.unalloc(at, fresh);
+        self.registers[(REGISTERS_EACH * m + r) as usize] = old;
+    }
+
+    /// Writes a value slot of the object that register `target` of mutator `m` names. Refused BadRegister, NullRegister,
+    /// BadSlot, WrongKind or OutOfRange. Takes no memory.
+    pub fn put(
+        &mut self,
+        m: u64,
+        target: u64,
+        slot: u64,
+        value: u64,
+    ) -> Result<Overwritten, Refusal>
+        ensures answered { IsAnswered (put_refusal m target slot value self.old) false result }
+        ensures written { OnOk result (self.new ≡ after_put m target slot value self.old) }
+        ensures placed { IfOk result (λ p. p.at ≡ place_of self.old (register self.old m target)) }
+        ensures old { IfOk result (λ p. p.old ≡ word_of self.old (register self.old m target) slot) }
+        ensures slot { OnOk result (slot < 1024) }
+        ensures unchanged { OnErr result (self.new ≡ self.old) }
+    {
+        let at = self.put_place(m, target, slot, value)?;
+        let old = self.regions.word(at, slot);
+        self.regions.set_word(at, slot, value);
+        Ok(Overwritten { at, old })
+    }
+
+    /// Gives a slot its old word. Takes no memory.
+    pub fn unput(&mut self, at: ObjRef, slot: u64, old: u64)
+        requires there { IsSome (object_at self.old.regions at) }
+        requires within { IfSome (object_at self.old.regions at) (λ o. slot < length o.words) }
+        requires legal { IsLegal (record self.old { regions = with_word at slot old self.old.regions }) }
+        ensures { self.new ≡ record self.old { regions = with_word at slot old self.old.regions } }
+    {
+        self.regions.set_word(at, slot, old)
+    }
+
+    // How many slots an instance of the class has, where there are the register and such a class.
+    fn instance_len(&self, m: u64, r: u64, class: ClassNo) -> Result<u64, Refusal>
+        ensures register { OnOk result (IsTrue (is_register self.now m r)) }
+        ensures class { OnOk result (is_instance_class self.now.classes class ≡ true) }
+        ensures refused { IfErr result (λ e. new_refusal m r class self.now ≡ Some e) }
+        ensures value { IfOk result (λ n. n ≡ length (slots_of self.now.classes class)) }
+    {
+        if !self.has_register(m, r) {
+            return Err(Refusal::BadRegister);
+        }
+        if class >= self.classes.len() {
+            return Err(Refusal::NoClass);
+        }
+        if !self.classes.is_instance(class) {
+            return Err(Refusal::WrongKind);
+        }
+        Ok(self.classes.slots(class).len() as u64)
+    }
+
+    // Makes an object of a kind that exists, with so many slots, in a register.
+    fn make(&mut self, m: u64, r: u64, kind: ObjKind, len: u64) -> Result<Created, Refusal>
+        requires register { IsTrue (is_register self.old m r) }
+        requires kind { HasKind self.old.classes kind len }
+        ensures room { OnOk result (is_full len self.old ≡ false) }
+        ensures refused { IfErr result (λ e. ((e ≡ HeapFull) × (is_full len self.old ≡ true)) ⊎ ((e ≡ NoMemory) × (is_fresh len (pool_of self.old) ≡ true))) }
+        ensures made { OnOk result (self.new ≡ after_new m r kind len self.old) }
+        ensures placed { IfOk result (λ c. new_place len (pool_of self.old) ≡ Some (c.at, c.fresh)) }
+        ensures held { IfOk result (λ c. (c.id ≡ register self.new m r) × (c.old ≡ register self.old m r)) }
+        ensures unchanged { OnErr result (self.new ≡ self.old) }
+    {
+        let (at, fresh) = self.regions.alloc(kind, len, self.phase.is_marking())?;
+        let id = self.regions.id(at);
+        let index = (REGISTERS_EACH * m + r) as usize;
+        let old = self.registers[index];
+        self.registers[index] = id;
+        Ok(Created { id, at, fresh, old })
+    }
+
+    // The kind of a slot of the object in the cell; none where it has no such slot.
+    fn slot_kind_at(&self, at: ObjRef, slot: u64) -> Option<Kind>
+        requires { IsSome (object_at self.now.regions at) }
+        ensures { IfSome (object_at self.now.regions at) (λ o. result ≡ slice_get (slot_kinds self.now.classes o) slot) }
+    {
+        match self.regions.kind(at) {
+            ObjKind::Instance(class) => kind_at(self.classes.slots(class), slot),
+            ObjKind::Array(_) => kind_within(Kind::Object, self.regions.len(at), slot),
+            ObjKind::Prim(kind) => kind_within(kind, self.regions.len(at), slot),
+        }
+    }
+
+    // Where the object stands that an id in a register names, and the kind of a slot of it.
+    fn slot_named(&self, id: u64, slot: u64) -> Result<(ObjRef, Kind), Refusal>
+        requires { Contains self.now.registers id }
+        ensures slot { IfOk result (λ p. (id ≢ 0) × (slot_kind self.now id slot ≡ Some p.1)) }
+        ensures placed { IfOk result (λ p. ref_of self.now.regions id ≡ Some p.0) }
+        ensures refused { IfErr result (λ e. ((e ≡ NullRegister) × (id ≡ 0)) ⊎ ((e ≡ BadSlot) × (id ≢ 0) × (slot_kind self.now id slot ≡ None))) }
+    {
+        if id == 0 {
+            return Err(Refusal::NullRegister);
+        }
+        let at = self.regions.place(id);
+        match self.slot_kind_at(at, slot) {
+            Some(kind) => Ok((at, kind)),
+            None => Err(Refusal::BadSlot),
+        }
+    }
+
+    // Where the object stands whose slot may be given the value.
+    fn put_place(&self, m: u64, target: u64, slot: u64, value: u64) -> Result<ObjRef, Refusal>
+        ensures accepted { OnOk result (put_refusal m target slot value self.now ≡ None) }
+        ensures refused { IfErr result (λ e. put_refusal m target slot value self.now ≡ Some e) }
+        ensures placed { IfOk result (λ at. ref_of self.now.regions (register self.now m target) ≡ Some at) }
+    {
+        if !self.has_register(m, target) {
+            return Err(Refusal::BadRegister);
+        }
+        let (at, kind) = self.slot_named(self.register(m, target), slot)?;
+        if kind.is_reference() {
+            return Err(Refusal::WrongKind);
+        }
+        if !kind.holds(value) {
+            return Err(Refusal::OutOfRange);
+        }
+        Ok(at)
+    }
+}

@@ -1,0 +1,105 @@
+-- The command line: which settings a list of words asks for.
+use Rattle.std.specs.Prelude.{◌≡◌, ◌==◌, ◌&&◌, ℕ, List, Option, Some, None, Bool, ⊤, true, false, codes}
+use Rattle.std.specs.Prelude.{length, map, nat_le, nat_lt, option_and_then, if◌then◌else◌}
+use Rattle.std.specs.List.{list_all, list_any}
+use Rattle.std.specs.Option.{option_map_or}
+use Rattle.clap.specs.Lexer.{long_of}
+use Rattle.std.specs.Borrow.{Bor}
+use Rattle.std.specs.Char.{is_ascii_digit}
+use Rattle.std.specs.Str.{bytes_eq}
+use Rattle.std.specs.Str.Parse.{digits_value}
+use Rattle.clap.specs.Words.{App, Row, Rule, Text, fault_of, first_of, new_app, new_rule, subcommand_of, with_rule, with_subcommand}
+use Rattle.clap.specs.declared.builder.ArgAction.TheVariants.{Set}
+use Rattle.heapdbg.specs.declared.settings.Task.{Task}
+use Rattle.heapdbg.specs.declared.settings.Task.TheVariants.{Run}
+use Rattle.heapdbg.specs.declared.settings.Settings.{Settings}
+use Rattle.heapdbg.specs.declared.settings.LineFault.{LineFault}
+use Rattle.heapdbg.specs.declared.settings.LineFault.TheVariants.{Bad, Memory}
+
+-- the texts that a list of words holds
+abbrev pub texts : List (Bor Text) → List Text
+texts = map (λ word. word.now)
+
+-- an option `--NAME VALUE`
+abbrev pub value_option : Text → Rule
+value_option name = record (new_rule name) { long = Some name; action = Some Set; value_names = 1 }
+
+-- the command `run` with its four options
+abbrev pub run_line : App
+run_line =
+    with_rule
+    (with_rule
+    (with_rule (with_rule (new_app (codes "run")) (value_option (codes "regions"))) (value_option (codes "mutators")))
+    (value_option (codes "keep")))
+    (value_option (codes "time"))
+
+-- the program's name, and a command that has to follow
+abbrev pub heapdbg_line : App
+heapdbg_line =
+    let named = new_app (codes "heapdbg") in
+    with_subcommand (record named { top = record named.top { subcommand_required = true } }) run_line.top
+
+-- the number that a text of digits alone writes, where it lies from least to most
+abbrev pub number_in : ℕ → ℕ → Text → Option ℕ
+number_in least most text =
+    if nat_lt 0 (length text) && (list_all is_ascii_digit text
+    && (nat_le least (digits_value 10 text) && nat_le (digits_value 10 text) most))
+    then Some (digits_value 10 text) else None
+
+-- the number that an option is given, and its default where it is not given
+abbrev pub number_or : ℕ → ℕ → ℕ → Option Text → Option ℕ
+number_or default least most None = Some default
+number_or default least most (Some text) = number_in least most text
+
+abbrev pub value_of : Text → ℕ → ℕ → ℕ → List Row → Option ℕ
+value_of name default least most rows = number_or default least most (first_of name rows)
+
+-- the settings, where each option has a value in its range
+abbrev pub settings_with : Task → Option ℕ → Option ℕ → Option ℕ → Option ℕ → Option Settings
+settings_with task (Some regions) (Some mutators) (Some keep) (Some time) = Some (record {
+  task = task;
+  regions = regions;
+  mutators = mutators;
+  keep = keep;
+  time = time;
+})
+settings_with task _ _ _ _ = None
+
+abbrev pub settings_in : Task → List Row → Option Settings
+settings_in task rows = settings_with task (value_of (codes "regions") 16 1 256 rows)
+    (value_of (codes "mutators") 2 1 16 rows)
+    (value_of (codes "keep") 1024 1 65536 rows)
+    (value_of (codes "time") 0 0 18446744073709551615 rows)
+
+-- the task of a command's name
+abbrev pub task_named : Text → Option Task
+task_named name = if bytes_eq name (codes "run") then Some Run else None
+
+abbrev pub settings_under : Text × List Row → Option Settings
+settings_under found = option_and_then (λ task. settings_in task found.1) (task_named found.0)
+
+-- the settings that the words ask for, where they are a command line of the program
+abbrev pub settings_of : List Text → Option Settings
+settings_of words =
+    if length (fault_of heapdbg_line words) == 0
+    then option_and_then settings_under (subcommand_of heapdbg_line words) else None
+
+-- the word is `--NAME` or `--NAME=VALUE`
+abbrev pub names_option : Text → Text → Bool
+names_option name word = option_map_or (λ found. bytes_eq found.0 name) (long_of word) false
+
+-- a word names the option
+abbrev pub is_given : Text → List Text → Bool
+is_given name words = list_any (names_option name) words
+
+-- an option that no word names has its default
+pub record HasDefaults (words : List Text) (s : Settings) : Type 0 where
+  pub regions : is_given (codes "regions") words ≡ false → s.regions ≡ 16
+  pub mutators : is_given (codes "mutators") words ≡ false → s.mutators ≡ 2
+  pub keep : is_given (codes "keep") words ≡ false → s.keep ≡ 1024
+  pub time : is_given (codes "time") words ≡ false → s.time ≡ 0
+
+-- what a refusal says of the settings that the words ask for
+abbrev pub IsRefusalOf : Option Settings → LineFault → Type 0
+IsRefusalOf asked (Bad text) = asked ≡ None
+IsRefusalOf asked Memory = ⊤

@@ -1,0 +1,41 @@
+-- How the program ends: its exit status, and the word on standard error.
+use Rattle.std.specs.Prelude.{ℕ, List, Result, Ok, Err, codes}
+use Rattle.session_text.specs.declared.Ended.{Ended}
+use Rattle.session_text.specs.declared.Ended.TheVariants.{Quit, Eof, CutLine, TooLong, ReadFault, TooManyReads, WriteFault, NoMemory}
+use Rattle.heapdbg.specs.declared.failure.Fault.{Fault}
+use Rattle.heapdbg.specs.declared.failure.Fault.TheVariants as fault
+use Rattle.heapdbg.specs.declared.failure.Failure.{Failure}
+use Rattle.heapdbg.specs.declared.failure.Failure.TheVariants.{Line, Work}
+use Rattle.heapdbg.specs.declared.settings.LineFault.{LineFault}
+use Rattle.heapdbg.specs.declared.settings.LineFault.TheVariants.{Bad, Memory}
+
+-- a session that ended by `end` or at the end of input is done, and any other is a fault
+abbrev pub outcome_of : Ended → Result (Unit {0}) Fault
+outcome_of Quit = Ok tt
+outcome_of Eof = Ok tt
+outcome_of CutLine = Err fault.Cut
+outcome_of TooLong = Err fault.Long
+outcome_of ReadFault = Err fault.Read
+outcome_of TooManyReads = Err fault.Reads
+outcome_of WriteFault = Err fault.Write
+outcome_of NoMemory = Err fault.Memory
+
+-- the word of a fault
+abbrev pub word_of : Fault → List ℕ
+word_of fault.Cut = codes "cut"
+word_of fault.Long = codes "long"
+word_of fault.Read = codes "read"
+word_of fault.Reads = codes "reads"
+word_of fault.Write = codes "write"
+word_of fault.Memory = codes "memory"
+
+-- a bad command line is shown its text, and want of memory is a fault like any other
+abbrev pub failure_of : LineFault → Failure
+failure_of (Bad text) = Line text
+failure_of Memory = Work fault.Memory
+
+-- 0 where the work is done, 1 after a fault, and 2 after a bad command line
+abbrev pub status_of : Result (Unit {0}) Failure → ℕ
+status_of (Ok done) = 0
+status_of (Err (Work f)) = 1
+status_of (Err (Line text)) = 2

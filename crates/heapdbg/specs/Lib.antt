@@ -1,0 +1,3 @@
+-- What the program's command line means, and how the program ends.
+pub mod CommandLine
+pub mod Endings

@@ -1,0 +1,194 @@
+//! Reads the command line.
+ghost use Rattle.std.specs.Prelude.{◌≡◌, Some, codes, false, IfOk, IfErr};
+ghost use Rattle.std.specs.List.{list_all};
+ghost use Rattle.std.specs.Prelude.{option_and_then};
+ghost use Rattle.std.specs.Char.{is_ascii_digit};
+ghost use Rattle.clap.specs.Words.{FailsBy, app_of, fault_of, found_of, kind_of, rows_of};
+ghost use Rattle.clap.specs.declared.builder.Command.TheViews.{out-Command};
+ghost use Rattle.clap.specs.Words.{rule_of, subcommand_of, subcommand_rows_of};
+ghost use Rattle.heap_world.specs.Limits.{AreSettings};
+ghost use Rattle.heapdbg.specs.CommandLine.{HasDefaults, IsRefusalOf, heapdbg_line, number_in, run_line, settings_in};
+ghost use Rattle.heapdbg.specs.CommandLine.{settings_of, settings_under, task_named, texts, value_of};
+ghost use Rattle.heapdbg.specs.CommandLine.{value_option};
+
+use crate::settings::{LineFault, Settings, Task};
+use clap::error::ErrorKind;
+use clap::{Arg, ArgAction, ArgMatches, Command, Error};
+use std::alloc::{AllocError, Global};
+
+/// The settings that the words ask for, the first of which is the program's name. Bad where they are
+/// no command line of this program or ask for help, and Memory only where memory ran out.
+pub fn settings(alloc: Global, words: &[&str]) -> Result<Settings, LineFault>
+    ensures ok { IfOk result (λ s. settings_of (texts words.now) ≡ Some s) }
+    ensures refused { IfErr result (IsRefusalOf (settings_of (texts words.now))) }
+    ensures limits { IfOk result (λ s. AreSettings s.regions s.mutators s.keep) }
+    ensures defaults { IfOk result (HasDefaults (texts words.now)) }
+{
+    let matches = match parsed(alloc, words) {
+        Ok(matches) => matches,
+        Err(error) => return Err(refusal(alloc, &error)),
+    };
+    match asked(&matches) {
+        Some(settings) => Ok(settings),
+        None => Err(bad(alloc, OUT_OF_RANGE)),
+    }
+}
+
+const OUT_OF_RANGE: &str =
+    "error: a value is in digits alone: --regions 1 to 256, --mutators 1 to 16, \
+    --keep 1 to 65536, --time below 2^64\n\nFor more information, try 'heapdbg run --help'.\n";
+
+/// What clap makes of the words.
+fn parsed<'a>(alloc: Global, words: &'a [&'a str]) -> Result<ArgMatches<'a>, Error>
+    ensures ok { IfOk result (λ m. subcommand_rows_of m ≡ subcommand_of heapdbg_line (texts words.now)) }
+    ensures faults { FailsBy (fault_of heapdbg_line (texts words.now)) result }
+{
+    let parser = parser(alloc)?;
+    parser.try_get_matches_from(words)
+}
+
+/// The program's name, after which a command has to follow.
+fn parser<'a>(alloc: Global) -> Result<Command<'a>, AllocError>
+    ensures { IfOk result (λ c. app_of c ≡ heapdbg_line) }
+{
+    let run = run_parser(alloc)?;
+    Command::new(alloc, "heapdbg")
+        .subcommand_required(true)
+        .subcommand(run)
+}
+
+/// The command `run`, with an option for each setting.
+fn run_parser<'a>(alloc: Global) -> Result<Command<'a>, AllocError>
+    ensures app { IfOk result (λ c. app_of c ≡ run_line) }
+    ensures local { IfOk result (λ c. (out-Command c).has_globals ≡ false) }
+{
+    let regions = value_arg(
+        alloc,
+        "regions",
+        "Regions of the heap, 1 to 256 [default: 16]",
+    );
+    let mutators = value_arg(
+        alloc,
+        "mutators",
+        "Mutators of the heap, 1 to 16 [default: 2]",
+    );
+    let keep = value_arg(
+        alloc,
+        "keep",
+        "Steps that can be undone, 1 to 65536 [default: 1024]",
+    );
+    let time = value_arg(
+        alloc,
+        "time",
+        "Milliseconds since 1970 in the header of a dump [default: 0]",
+    );
+    Command::new(alloc, "run")
+        .about("Reads commands from standard input and writes replies to standard output")
+        .arg(regions)?
+        .arg(mutators)?
+        .arg(keep)?
+        .arg(time)
+}
+
+/// The option `--NAME N`.
+fn value_arg<'a>(alloc: Global, name: &'a str, help: &'a str) -> Arg<'a>
+    ensures rule { rule_of result ≡ value_option name.entry.now }
+    ensures local { result.global ≡ false }
+{
+    Arg::new(alloc, name)
+        .long(name)
+        .action(ArgAction::Set)
+        .value_name("N")
+        .help(help)
+}
+
+/// The settings that the matches ask for.
+fn asked(matches: &ArgMatches<'_>) -> Option<Settings>
+    ensures { result ≡ option_and_then settings_under (subcommand_rows_of matches.now) }
+{
+    let (name, options) = matches.subcommand()?;
+    let task = task_of(name)?;
+    settings_from(task, options)
+}
+
+/// The task of a command's name.
+fn task_of(name: &str) -> Option<Task>
+    ensures { result ≡ task_named name.now }
+{
+    if name == "run" { Some(Task::Run) } else { None }
+}
+
+/// The settings that a task's options give, where each has a value in its range.
+fn settings_from(task: Task, options: &ArgMatches<'_>) -> Option<Settings>
+    ensures { result ≡ settings_in task (rows_of (found_of options.now)) }
+{
+    let regions = option_value(options, "regions", 16, 1, 256)?;
+    let mutators = option_value(options, "mutators", 2, 1, 16)?;
+    let keep = option_value(options, "keep", 1024, 1, 65536)?;
+    let time = option_value(options, "time", 0, 0, u64::MAX)?;
+    Some(Settings {
+        task,
+        regions,
+        mutators,
+        keep,
+        time,
+    })
+}
+
+/// The value of an option from `least` to `most`, and `default` where the option isn't given.
+fn option_value(
+    options: &ArgMatches<'_>,
+    name: &str,
+    default: u64,
+    least: u64,
+    most: u64,
+) -> Option<u64>
+    ensures { result ≡ value_of name.now default least most (rows_of (found_of options.now)) }
+{
+    match options.get_str(name) {
+        Some(text) => number(text, least, most),
+        None => Some(default),
+    }
+}
+
+/// The number that a text of digits alone writes, where it lies from `least` to `most`.
+fn number(text: &str, least: u64, most: u64) -> Option<u64>
+    ensures { result ≡ number_in least most text.now }
+{
+    if !is_digits(text) {
+        return None;
+    }
+    match text.parse::<u64>() {
+        Ok(number) if least <= number && number <= most => Some(number),
+        Ok(_) => None,
+        Err(_) => None,
+    }
+}
+
+/// Each byte is a decimal digit.
+fn is_digits(text: &str) -> bool
+    ensures { result ≡ list_all is_ascii_digit text.now }
+{
+    text.bytes().all(|byte| byte.is_ascii_digit())
+}
+
+/// The refusal that an error of clap stands for, with clap's text.
+fn refusal(alloc: Global, error: &Error) -> LineFault
+    ensures { kind_of error.now ≡ ErrorKind.OutOfMemory → result ≡ LineFault.Memory }
+{
+    if error.kind() == ErrorKind::OutOfMemory {
+        return LineFault::Memory;
+    }
+    match error.to_string(alloc) {
+        Ok(text) => LineFault::Bad(text),
+        Err(_) => LineFault::Memory,
+    }
+}
+
+/// A refusal with this text.
+fn bad(alloc: Global, text: &str) -> LineFault {
+    match String::from_str(alloc, text) {
+        Ok(text) => LineFault::Bad(text),
+        Err(_) => LineFault::Memory,
+    }
+}

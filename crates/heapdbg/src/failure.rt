@@ -1,0 +1,114 @@
+//! How the program ends.
+ghost use Rattle.std.specs.Prelude.{◌≡◌};
+ghost use Rattle.heapdbg.specs.Endings.{outcome_of, status_of, word_of};
+
+use crate::settings::LineFault;
+use session_text::Ended;
+use std::fmt;
+use thiserror::Error;
+
+/// Why the work is not done.
+#[derive(Clone, Copy, Debug, PartialEq, Eq)]
+pub enum Fault {
+    /// The input ended in the middle of a line.
+    Cut,
+    /// A line has more than 4,096 bytes.
+    Long,
+    /// A read failed.
+    Read,
+    /// The session made too many reads.
+    Reads,
+    /// A write failed.
+    Write,
+    /// Memory ran out.
+    Memory,
+}
+
+/// Why the program failed. Its `Display` is what standard error gets.
+#[derive(Debug, Drop, Error)]
+pub enum Failure {
+    /// The command line is bad. It holds a text for the user.
+    #[error("{0}")]
+    Line(String),
+    /// The work is not done.
+    #[error("heapdbg: {0}\n")]
+    Work(Fault),
+}
+
+impl Fault {
+    /// The word that standard error names the fault by.
+    pub fn word(self) -> &'static str
+        ensures { result.now ≡ word_of self }
+    {
+        match self {
+            Fault::Cut => "cut",
+            Fault::Long => "long",
+            Fault::Read => "read",
+            Fault::Reads => "reads",
+            Fault::Write => "write",
+            Fault::Memory => "memory",
+        }
+    }
+}
+
+impl fmt::Display for Fault {
+    ghost use Rattle.std.specs.Prelude.{Some};
+    ghost use Rattle.heapdbg.specs.Endings.{word_of};
+
+    ghost output = { λ fault. Some (word_of fault) };
+
+    fn fmt<W: fmt::Write>(&self, f: &mut fmt::Formatter<W>) -> fmt::Result {
+        f.write_str(self.word())
+    }
+}
+
+impl From<LineFault> for Failure {
+    ghost use Rattle.std.specs.Prelude.{◌≡◌};
+    ghost use Rattle.heapdbg.specs.Endings.{failure_of};
+
+    ghost from_gives = { λ line failure. failure ≡ failure_of line };
+
+    fn from(line: LineFault) -> Failure {
+        match line {
+            LineFault::Bad(text) => Failure::Line(text),
+            LineFault::Memory => Failure::Work(Fault::Memory),
+        }
+    }
+}
+
+impl From<Fault> for Failure {
+    ghost use Rattle.std.specs.Prelude.{◌≡◌};
+    ghost use Rattle.heapdbg.specs.declared.failure.Failure.TheVariants.{Work};
+
+    ghost from_gives = { λ fault failure. failure ≡ Work fault };
+
+    fn from(fault: Fault) -> Failure {
+        Failure::Work(fault)
+    }
+}
+
+/// What an ended session is for the program: done after `end` or the end of input, else a fault.
+pub fn outcome(ended: Ended) -> Result<(), Fault>
+    ensures { result ≡ outcome_of ended }
+{
+    match ended {
+        Ended::Quit | Ended::Eof => Ok(()),
+        Ended::CutLine => Err(Fault::Cut),
+        Ended::TooLong => Err(Fault::Long),
+        Ended::ReadFault => Err(Fault::Read),
+        Ended::TooManyReads => Err(Fault::Reads),
+        Ended::WriteFault => Err(Fault::Write),
+        Ended::NoMemory => Err(Fault::Memory),
+    }
+}
+
+/// The exit status: 0 where the work is done, 1 after a fault, 2 after a bad command line.
+pub fn status(done: &Result<(), Failure>) -> u8
+    ensures { result ≡ status_of done.now }
+{
+    match done {
+        Ok(()) => 0,
+        Err(Failure::Work(_)) => 1,
+        Err(Failure::Line(_)) => 2,
+    }
+}

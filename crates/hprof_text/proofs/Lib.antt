@@ -1,0 +1,10 @@
+pub mod Joined
+pub mod Joins
+pub mod Appended
+pub mod Bounds
+pub mod Lengths
+pub mod Loops
+pub mod Written
+pub mod Numbered
+pub mod Viewed
+pub mod Places

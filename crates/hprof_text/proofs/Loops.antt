@@ -1,0 +1,99 @@
+-- A loop that appends what each item of a list gives.
+use Rattle.std.proofs.Common.{◌≡◌, ◌≢◌, ℕ, zero, suc, ◌+◌, ◌<◌, ◌≤◌, List, [], ◌∷◌, ◌++◌, length, take, get_or, refl, sym, ap, ap₂, ◌∙◌, subst, arith, append_assoc, length-append, Bool, true, false, cond, inl, inr}
+use Rattle.std.proofs.lemmas.Bool.Decides.{eqb_tells}
+use Rattle.std.specs.Prelude.{flat_map, filter, not, ◌==◌, zip, Option, Some, None, slice_get, IfSome, sum_by}
+use Rattle.std.specs.List.{enumerate_from}
+use Rattle.std.proofs.lemmas.List.{append-nil, take_more, get_or_default, take_all}
+use Rattle.std.proofs.lemmas.List.Sums.{sum_by_more}
+use Rattle.std.proofs.lemmas.List.Concat.{flat_map-append}
+use Rattle.std.proofs.lemmas.List.Folds.{length-flat_map-take}
+use Rattle.std.proofs.lemmas.List.FromFn.{get_or-enumerate_from, length-enumerate_from}
+use Rattle.std.proofs.lemmas.Slice.Zip.{get_or-zip}
+use Rattle.std.proofs.lemmas.Option.{slice_get-get_or, get_or_from_slice_get, slice_get_within}
+use Rattle.heap_class.specs.declared.IdSize.{IdSize}
+use Rattle.heap_class.specs.declared.Kind.{Kind}
+use Rattle.heap_class.specs.declared.Field.{Field}
+use Rattle.heap_class.specs.Classes.{Class, name_id}
+use Rattle.hprof_text.specs.Records.{field_bytes}
+use Rattle.hprof_text.specs.Text.{field_entry, root_unknown}
+
+-- so far each item of the first i has been appended
+abbrev pub IsSoFar : {X : Type 0} → (X → List ℕ) → List X → ℕ → List ℕ → List ℕ → Type 0
+IsSoFar f xs i old now = now ≡ old ++ flat_map f (take i xs)
+
+pub so_far_none : {X : Type 0} (f : X → List ℕ) (xs : List X) (old : List ℕ) → IsSoFar f xs 0 old old
+so_far_none f xs old = sym (append-nil old)
+
+pub so_far_all : {X : Type 0} (f : X → List ℕ) (xs : List X) (old now : List ℕ) (i : ℕ) → i ≡ length xs → IsSoFar f xs i old now → now ≡ old ++ flat_map f xs
+so_far_all f xs old now i e h = h ∙ ap (λ l. old ++ flat_map f l) (take_all i xs (omega (arith, e)))
+
+-- one more item
+pub so_far_more : {X : Type 0} (f : X → List ℕ) (xs : List X) (old now new : List ℕ) (i : ℕ) (x : X) → i < length xs → x ≡ get_or xs i x → IsSoFar f xs i old now → new ≡ now ++ f x → IsSoFar f xs (i + 1) old new
+so_far_more f xs old now new i x h e s n =
+    n ∙ ap₂ (λ a b. a ++ f b) s e ∙ append_assoc old (flat_map f (take i xs)) (f (get_or xs i x))
+    ∙ ap (λ l. old ++ l)
+    (ap (λ l. flat_map f (take i xs) ++ l) (sym (append-nil (f (get_or xs i x))))
+    ∙ sym (flat_map-append f (take i xs) (get_or xs i x ∷ []))
+    ∙ ap (flat_map f) (sym (take_more xs i x h)))
+
+-- there is room for it
+pub so_far_room : {X : Type 0} (f : X → List ℕ) (xs : List X) (old now : List ℕ) (i limit : ℕ) (x : X) → i < length xs → x ≡ get_or xs i x → IsSoFar f xs i old now → length old + length (flat_map f xs) ≤ limit → length now + length (f x) ≤ limit
+so_far_room f xs old now i limit x h e s room =
+    let n : length now ≡ length old + length (flat_map f (take i xs)) = ap length s ∙ length-append old (flat_map f (take i xs)) in
+    let r : length (flat_map f (take i xs)) + length (f (get_or xs i x)) ≤ length (flat_map f xs) = length-flat_map-take f xs i x h in
+    let d : length (f x) ≡ length (f (get_or xs i x)) = ap (λ y. length (f y)) e in
+    omega (arith, n, r, d, room)
+
+-- ---- which item
+
+pub item_at : {X : Type 0} (xs : List X) (i : ℕ) (d : X) → i < length xs → get_or xs i d ≡ get_or xs i (get_or xs i d)
+item_at xs i d h = get_or_default xs i d (get_or xs i d) h
+
+pub item_got : {X : Type 0} (xs : List X) (i : ℕ) (x : X) → slice_get xs i ≡ Some x → x ≡ get_or xs i x
+item_got xs i x h = sym (get_or_from_slice_get xs i x x h)
+
+pub item_numbered : {X : Type 0} (n m : ℕ) (xs : List X) (i : ℕ) (x : X) → m ≡ n + i → i < length xs → x ≡ get_or xs i x → ◌≡◌ {A = ℕ × X} (m, x) (get_or (enumerate_from n xs) i (m, x))
+item_numbered {X} n m xs i x e h d = ap₂ (λ (a : ℕ) (b : X). let p : ℕ × X = (a, b) in p) e d ∙ sym (get_or-enumerate_from n xs i (m, x) h)
+
+pub item_zipped : {A B : Type 0} (ks : List A) (ws : List B) (i : ℕ) (k : A) (w : B) → i < length ks → i < length ws → k ≡ get_or ks i k → w ≡ get_or ws i w → ◌≡◌ {A = A × B} (k, w) (get_or (zip ks ws) i (k, w))
+item_zipped {A} {B} ks ws i k w h g a b = ap₂ (λ (x : A) (y : B). let p : A × B = (x, y) in p) a b ∙ sym (get_or-zip ks ws i (k, w) h g)
+
+pub some_item : {X : Type 0} (xs : List X) (i : ℕ) → i < length xs → (x : X) × (slice_get xs i ≡ Some x)
+some_item [] i h = absurd (omega (arith, h))
+some_item (x ∷ xs) zero h = (x, refl)
+some_item (x ∷ xs) (suc i) h = some_item xs i (omega (arith, h))
+
+-- a sum over the items so far, and one more
+pub sum_so_far : {X : Type 0} (f : X → ℕ) (xs : List X) (i : ℕ) (x : X) → i < length xs → x ≡ get_or xs i x → sum_by f (take (i + 1) xs) ≡ sum_by f (take i xs) + f x
+sum_so_far f xs i x h e = sum_by_more f xs i x h ∙ ap (λ y. sum_by f (take i xs) + f y) (sym e)
+
+pub all_taken : {X : Type 0} (i : ℕ) (xs : List X) → i ≡ length xs → take i xs ≡ xs
+all_taken i xs e = take_all i xs (omega (arith, e))
+
+-- ---- an own field
+
+pub field_is : (ids : IdSize) (classes : List Class) (fs : List Field) (i n : ℕ) (kind : Kind) (f : Field) → slice_get fs i ≡ Some f → IfSome (slice_get fs i) (λ f. n ≡ name_id classes f.name) → IfSome (slice_get fs i) (λ f. kind ≡ f.kind) → field_bytes ids n kind ≡ field_entry ids classes f
+unfolding field_entry
+field_is ids classes fs i n kind f e a b =
+    let P : Option Field → Type 0 = λ o. IfSome o (λ f. n ≡ name_id classes f.name) in
+    let Q : Option Field → Type 0 = λ o. IfSome o (λ f. kind ≡ f.kind) in
+    ap₂ (λ m k. field_bytes ids m k) (subst P e a) (subst Q e b)
+
+-- ---- the roots of the registers that aren't null
+
+abbrev pub root_or_nothing : IdSize → ℕ → List ℕ
+root_or_nothing ids x = cond (not (x == 0)) (root_unknown ids x) []
+
+pub filtered : (ids : IdSize) (xs : List ℕ) → flat_map (root_unknown ids) (filter (λ x. not (x == 0)) xs) ≡ flat_map (root_or_nothing ids) xs
+filtered ids [] = refl
+filtered ids (x ∷ xs) = go (not (x == 0)) (filtered ids xs)
+  where
+    go : (b : Bool) → flat_map (root_unknown ids) (filter (λ x. not (x == 0)) xs) ≡ flat_map (root_or_nothing ids) xs → flat_map (root_unknown ids) (cond b (x ∷ filter (λ x. not (x == 0)) xs) (filter (λ x. not (x == 0)) xs)) ≡ cond b (root_unknown ids x) [] ++ flat_map (root_or_nothing ids) xs
+    go true h = ap (λ l. root_unknown ids x ++ l) h
+    go false h = h
+
+pub root_is : (ids : IdSize) (x : ℕ) → x ≢ 0 → root_or_nothing ids x ≡ root_unknown ids x
+root_is ids x h = elim (eqb_tells x 0) [ inl p ↦ absurd (h p.1) | inr p ↦ ap (λ b. cond (not b) (root_unknown ids x) []) p.0 ]
+
+pub nothing_is : (ids : IdSize) (x : ℕ) → x ≡ 0 → root_or_nothing ids x ≡ []
+nothing_is ids x h = elim (eqb_tells x 0) [ inl p ↦ ap (λ b. cond (not b) (root_unknown ids x) []) p.0 | inr p ↦ absurd (p.1 h) ]

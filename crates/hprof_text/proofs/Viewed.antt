@@ -1,0 +1,67 @@
+-- What a view tells of the object at a place.
+use Rattle.std.proofs.Common.{◌≡◌, ◌≤◌, ◌<◌, ℕ, ◌+◌, List, [], ◌∷◌, ◌++◌, length, get_or, refl, sym, ap, ap₂, ◌∙◌, subst, arith}
+use Rattle.std.specs.Prelude.{slice_get, Option, Some, None, IfSome, Contains, All, flat_map, filter, not, ◌==◌}
+use Rattle.std.specs.List.{concat}
+use Rattle.std.proofs.lemmas.Option.{slice_get_within, slice_get-get_or, get_or_from_slice_get}
+use Rattle.heap_class.specs.declared.IdSize.{IdSize}
+use Rattle.heap_class.specs.Classes.{Class}
+use Rattle.heap_class.specs.declared.ObjKind.{ObjKind}
+use Rattle.heap_class.specs.declared.ObjRef.{ObjRef}
+use Rattle.heap_class.specs.Limits.{array_limit}
+use Rattle.hprof_text.specs.Image.{Image, DumpedObject, IsKnown, IsDumpable}
+use Rattle.hprof_text.specs.Pieces.{first_piece}
+use Rattle.hprof_text.specs.Records.{opening_of, record_head, class_records_of}
+use Rattle.hprof_text.specs.Sizes.{body_size}
+use Rattle.hprof_text.specs.Text.{dump_of, object_dump, root_unknown, register_roots}
+use Rattle.hprof_text.proofs.Joins.{roots_joined}
+use Rattle.hprof_text.proofs.Lengths.{body_length}
+use Rattle.hprof_text.proofs.Numbered.{first_piece_is}
+use Rattle.hprof_text.proofs.Loops.{some_item, item_got}
+
+pub is_there : {X : Type 0} (xs : List X) (i : ℕ) (x : X) → slice_get xs i ≡ Some x → Contains xs x
+is_there xs i x e = (i, slice_get_within xs i x e, get_or_from_slice_get xs i x x e)
+
+pub place_of : {X : Type 0} (xs : List X) (x : X) → Contains xs x → (i : ℕ) × (slice_get xs i ≡ Some x)
+place_of xs x c = (c.0, slice_get-get_or xs c.0 x c.1 ∙ ap Some c.2)
+
+-- the object at a place, by what a view tells of it
+pub record IsHere (image : Image) (i : ℕ) (kind : ObjKind) (words : List ℕ) : Type 0 where
+  pub object : DumpedObject
+  pub there : slice_get image.objects i ≡ Some object
+  pub same_kind : kind ≡ object.kind
+  pub same_words : words ≡ object.words
+  pub known : IsKnown image.classes kind (length words)
+  pub small : length words ≤ array_limit
+
+pub here : (image : Image) (places : List ObjRef) (i : ℕ) (at : ObjRef) (kind : ObjKind) (words : List ℕ) → IsDumpable image → length places ≡ length image.objects → slice_get places i ≡ Some at
+    → IfSome (slice_get image.objects i) (λ o. kind ≡ o.kind) → IfSome (slice_get image.objects i) (λ o. words ≡ o.words) → IsHere image i kind words
+here image places i at kind words d n e k w =
+    let h : i < length image.objects = omega (arith, slice_get_within places i at e, n) in
+    let p = some_item image.objects i h in
+    let o = p.0 in
+    let K : Option DumpedObject → Type 0 = λ x. IfSome x (λ o. kind ≡ o.kind) in
+    let W : Option DumpedObject → Type 0 = λ x. IfSome x (λ o. words ≡ o.words) in
+    let sk : kind ≡ o.kind = subst K p.1 k in
+    let sw : words ≡ o.words = subst W p.1 w in
+    let g : get_or image.objects i o ≡ o = get_or_from_slice_get image.objects i o o p.1 in
+    let A : DumpedObject → Type 0 = λ x. IsKnown image.classes x.kind (length x.words) in
+    let B : DumpedObject → Type 0 = λ x. length x.words ≤ array_limit in
+    let kn : A o = subst A g (d.known i o h) in
+    let sm : B o = subst B g (d.small i o h) in
+    let C : ObjKind → Type 0 = λ x. IsKnown image.classes x (length o.words) in
+    let D : List ℕ → Type 0 = λ x. IsKnown image.classes kind (length x) in
+    let F : List ℕ → Type 0 = λ x. length x ≤ array_limit in
+    record { object = o; there = p.1; same_kind = sk; same_words = sw; known = subst D (sym sw) (subst C (sym sk) kn); small = subst F (sym sw) sm }
+
+pub object_bytes_are : (ids : IdSize) (image : Image) (j : ℕ) (o : DumpedObject) (s : IdSize) (cs : List Class) (x : ℕ) (kind : ObjKind) (words : List ℕ) → slice_get image.objects j ≡ Some o → s ≡ ids → cs ≡ image.classes
+    → IfSome (slice_get image.objects j) (λ o. x ≡ o.id) → kind ≡ o.kind → words ≡ o.words → dump_of s cs x kind words ≡ object_dump ids image.classes o
+unfolding object_dump
+object_bytes_are ids image j o s cs x kind words e a b i k w =
+    let X : Option DumpedObject → Type 0 = λ y. IfSome y (λ o. x ≡ o.id) in
+    ap₂ (λ t ds. dump_of t ds x kind words) a b ∙ ap₂ (λ y m. dump_of ids image.classes y m words) (subst X e i) k ∙ ap (dump_of ids image.classes o.id o.kind) w
+
+pub opening_is : (ids : IdSize) (image : Image) (time n : ℕ) (s : IdSize) (cs : List Class) → IsDumpable image → s ≡ ids → cs ≡ image.classes → n ≡ body_size ids image → opening_of s cs time ++ record_head 0x0c n ++ class_records_of s cs ≡ first_piece ids image time
+opening_is ids image time n s cs d a b e = ap₂ (λ t ds. opening_of t ds time ++ record_head 0x0c n ++ class_records_of t ds) a b ∙ first_piece_is ids image time n (e ∙ sym (body_length ids image d))
+
+pub roots_are : (ids : IdSize) (image : Image) (s : IdSize) (rs : List ℕ) → s ≡ ids → rs ≡ image.registers → flat_map (root_unknown s) (filter (λ x. not (x == 0)) rs) ≡ concat (register_roots ids image)
+roots_are ids image s rs a b = ap₂ (λ t xs. flat_map (root_unknown t) (filter (λ x. not (x == 0)) xs)) a b ∙ sym (roots_joined ids image)

@@ -1,0 +1,10 @@
+pub mod Image
+pub mod Text
+pub mod Pieces
+pub mod Sizes
+pub mod Records
+pub mod Laws
+pub mod Opened
+pub mod Buffered
+pub mod Cursors
+pub mod Listed

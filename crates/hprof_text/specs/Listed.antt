@@ -1,0 +1,33 @@
+-- A heap given as lists.
+use Rattle.std.specs.Prelude.{ℕ, zero, suc, ◌+◌, ◌≤◌, List, [], ◌∷◌, length, map}
+use Rattle.heap_class.specs.declared.IdSize.{IdSize}
+use Rattle.heap_class.specs.declared.ObjRef.{ObjRef}
+use Rattle.heap_class.specs.Classes.{Class}
+use Rattle.heap_class.specs.Limits.{array_limit}
+use Rattle.hprof_text.specs.declared.list_view.ListedObject.{ListedObject}
+use Rattle.hprof_text.specs.Image.{Image, DumpedObject, IsKnown}
+
+-- a size of identifiers, and what is shown
+pub record Listed : Type 0 where
+  pub ids : IdSize
+  pub image : Image
+
+-- an object as a dump shows it
+abbrev pub dumped : ListedObject → DumpedObject
+dumped o = record { id = o.id; kind = o.kind; words = o.words.items }
+
+abbrev pub image_of : List Class → List ℕ → List ListedObject → Image
+image_of classes registers objects = record { classes = classes; registers = registers; objects = map dumped objects }
+
+-- an object whose kind is known, with few words
+abbrev pub IsShown : List Class → ListedObject → Type 0
+IsShown classes o = IsKnown classes o.kind (length o.words.items) × (length o.words.items ≤ array_limit)
+
+-- object i stands in region 0 at cell i
+abbrev pub listed_place : ℕ → ObjRef
+listed_place i = record { region = 0; cell = i }
+
+-- the places of n objects, from cell k
+abbrev pub places_from : ℕ → ℕ → List ObjRef
+places_from k zero = []
+places_from k (suc n) = listed_place k ∷ places_from (k + 1) n

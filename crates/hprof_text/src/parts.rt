@@ -1,0 +1,158 @@
+//! The parts of a dump: each writes the records of one list, in order.
+ghost use Rattle.std.specs.Prelude.{◌≡◌, ◌≢◌, ◌<◌, ◌≤◌, ◌++◌, length, map, filter, flat_map, zip, not, ◌==◌};
+ghost use Rattle.std.specs.List.{enumerate_from, concat};
+ghost use Rattle.byteorder.specs.Endian.{big_bytes};
+ghost use Rattle.heap_class.specs.Classes.{fields_of, name_table};
+ghost use Rattle.heap_class.specs.Limits.{class_limit, array_limit};
+ghost use Rattle.hprof_text.specs.Buffered.{HasRoom};
+ghost use Rattle.hprof_text.specs.Image.{IsKnown};
+ghost use Rattle.hprof_text.specs.Records.{opening_of, class_records_of};
+ghost use Rattle.hprof_text.specs.Text.{id, field_entry, utf8, load_class, class_dump, root_sticky_class, root_unknown, value_bytes, dump_of};
+
+use crate::buffer::Buffer;
+use heap_class::{ClassNo, Classes, IdSize, Kind, ObjKind};
+
+impl Buffer {
+    /// Appends the own fields of a class, in order.
+    pub fn fields(&mut self, ids: IdSize, classes: &Classes, class: ClassNo)
+        requires room { HasRoom self.old (flat_map (field_entry ids classes.now) (fields_of classes.now class)) }
+        requires known { class < length classes.now }
+        ensures written { self.new.written ≡ self.old.written ++ flat_map (field_entry ids classes.now) (fields_of classes.now class) }
+        ensures limit { self.new.limit ≡ self.old.limit }
+    {
+        for field in 0..classes.field_count(class) {
+            self.field(
+                ids,
+                classes.field_name_id(class, field),
+                classes.field_kind(class, field),
+            );
+        }
+    }
+
+    /// Appends the words of an instance, each in as many bytes as its slot's kind has.
+    pub fn values(&mut self, ids: IdSize, kinds: &[Kind], words: &[u64])
+        requires room { HasRoom self.old (flat_map (value_bytes ids) (zip kinds.now words.now)) }
+        requires same { length words.now ≡ length kinds.now }
+        ensures written { self.new.written ≡ self.old.written ++ flat_map (value_bytes ids) (zip kinds.now words.now) }
+        ensures limit { self.new.limit ≡ self.old.limit }
+    {
+        for (slot, kind) in kinds.iter().enumerate() {
+            self.number(kind.width(ids) as usize, words[slot]);
+        }
+    }
+
+    /// Appends the low `width` bytes of each word, 1 to 8.
+    pub fn numbers(&mut self, width: u64, words: &[u64])
+        requires width { width ≤ 8 }
+        requires room { HasRoom self.old (flat_map (big_bytes width) words.now) }
+        ensures written { self.new.written ≡ self.old.written ++ flat_map (big_bytes width) words.now }
+        ensures limit { self.new.limit ≡ self.old.limit }
+    {
+        for word in words {
+            self.number(width as usize, *word);
+        }
+    }
+
+    /// Appends a UTF8 record for each distinct name, in order of first use.
+    pub fn names(&mut self, ids: IdSize, classes: &Classes)
+        requires { HasRoom self.old (flat_map (utf8 ids) (enumerate_from 1 (name_table classes.now))) }
+        ensures written { self.new.written ≡ self.old.written ++ flat_map (utf8 ids) (enumerate_from 1 (name_table classes.now)) }
+        ensures limit { self.new.limit ≡ self.old.limit }
+    {
+        for index in 0..classes.name_count() {
+            self.utf8(ids, index + 1, classes.name_at(index));
+        }
+    }
+
+    /// Appends a LOAD CLASS record for each class, in order.
+    pub fn load_classes(&mut self, ids: IdSize, classes: &Classes)
+        requires { HasRoom self.old (flat_map (load_class ids classes.now) (enumerate_from 0 classes.now)) }
+        ensures written { self.new.written ≡ self.old.written ++ flat_map (load_class ids classes.now) (enumerate_from 0 classes.now) }
+        ensures limit { self.new.limit ≡ self.old.limit }
+    {
+        for class in 0..classes.len() {
+            self.load_class(ids, classes, class);
+        }
+    }
+
+    /// Appends a CLASS DUMP for each class, in order.
+    pub fn class_dumps(&mut self, ids: IdSize, classes: &Classes)
+        requires { HasRoom self.old (flat_map (class_dump ids classes.now) (enumerate_from 0 classes.now)) }
+        ensures written { self.new.written ≡ self.old.written ++ flat_map (class_dump ids classes.now) (enumerate_from 0 classes.now) }
+        ensures limit { self.new.limit ≡ self.old.limit }
+    {
+        for class in 0..classes.len() {
+            self.class_dump(ids, classes, class);
+        }
+    }
+
+    /// Appends a root for each class, in order.
+    pub fn class_roots(&mut self, ids: IdSize, classes: &Classes)
+        requires { HasRoom self.old (flat_map (root_sticky_class ids) (enumerate_from 0 classes.now)) }
+        ensures written { self.new.written ≡ self.old.written ++ flat_map (root_sticky_class ids) (enumerate_from 0 classes.now) }
+        ensures limit { self.new.limit ≡ self.old.limit }
+    {
+        for class in 0..classes.len() {
+            self.root_sticky_class(ids, class);
+        }
+    }
+
+    /// Appends a root for each register that isn't null.
+    pub fn register_roots(&mut self, ids: IdSize, registers: &[u64])
+        requires { HasRoom self.old (flat_map (root_unknown ids) (filter (λ x. not (x == 0)) registers.now)) }
+        ensures written { self.new.written ≡ self.old.written ++ flat_map (root_unknown ids) (filter (λ x. not (x == 0)) registers.now) }
+        ensures limit { self.new.limit ≡ self.old.limit }
+    {
+        for register in registers {
+            if *register != 0 {
+                self.root_unknown(ids, *register);
+            }
+        }
+    }
+
+    /// Appends what stands before the heap dump: header, names, classes, and the empty trace.
+    pub fn opening_records(&mut self, ids: IdSize, classes: &Classes, time: u64)
+        requires { HasRoom self.old (opening_of ids classes.now time) }
+        ensures written { self.new.written ≡ self.old.written ++ opening_of ids classes.now time }
+        ensures limit { self.new.limit ≡ self.old.limit }
+    {
+        self.header(ids, time);
+        self.names(ids, classes);
+        self.load_classes(ids, classes);
+        self.trace();
+    }
+
+    /// Appends the sub-records of the classes, then their roots.
+    pub fn class_records(&mut self, ids: IdSize, classes: &Classes)
+        requires { HasRoom self.old (class_records_of ids classes.now) }
+        ensures written { self.new.written ≡ self.old.written ++ class_records_of ids classes.now }
+        ensures limit { self.new.limit ≡ self.old.limit }
+    {
+        self.class_dumps(ids, classes);
+        self.class_roots(ids, classes);
+    }
+
+    /// Appends the sub-record of an object.
+    #[tactic(auto, unfolding(crate::specs::Text::dump_of))]
+    pub fn object_dump(
+        &mut self,
+        ids: IdSize,
+        classes: &Classes,
+        object: u64,
+        kind: ObjKind,
+        words: &[u64],
+    )
+        requires room { HasRoom self.old (dump_of ids classes.now object kind words.now) }
+        requires known { IsKnown classes.now kind (length words.now) }
+        requires small { length words.now ≤ array_limit }
+        ensures written { self.new.written ≡ self.old.written ++ dump_of ids classes.now object kind words.now }
+        ensures limit { self.new.limit ≡ self.old.limit }
+    {
+        let _count = classes.len();
+        match kind {
+            ObjKind::Instance(class) => self.instance_dump(ids, classes, object, class, words),
+            ObjKind::Array(class) => self.object_array_dump(ids, object, class, words),
+            ObjKind::Prim(kind) => self.primitive_array_dump(ids, object, kind, words),
+        }
+    }
+}

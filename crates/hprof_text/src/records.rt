@@ -1,0 +1,247 @@
+//! The records of a dump and its sub-records, each written as the format has it.
+ghost use Rattle.std.specs.Prelude.{◌≡◌, ◌<◌, ◌≤◌, ◌++◌, [], length};
+ghost use Rattle.std.specs.Option.{option_map_or};
+ghost use Rattle.heap_class.specs.Classes.{sup_of};
+ghost use Rattle.heap_class.specs.Limits.{class_limit, name_limit, slot_limit, array_limit};
+ghost use Rattle.hprof_text.specs.Buffered.{HasRoom};
+ghost use Rattle.hprof_text.specs.Image.{IsKnown};
+ghost use Rattle.hprof_text.specs.Records.{class_at, record_head, field_bytes, class_ids, class_counts, sticky_root};
+ghost use Rattle.heap_class.specs.declared.ObjKind.TheVariants.{Instance, Array, Prim};
+ghost use Rattle.hprof_text.specs.Text.{class_id, header, utf8, load_class, trace, class_dump, root_unknown, dump_of};
+
+use crate::buffer::Buffer;
+use crate::sizes::instance_size;
+use heap_class::{ClassNo, Classes, IdSize, Kind};
+
+/// The id of a class.
+pub fn class_id(class: ClassNo) -> u64
+    requires { class < class_limit }
+    ensures { result ≡ class_id class }
+{
+    0x0010_0000 + 8 * class
+}
+
+/// The id of a class's super, or 0.
+pub fn super_id(classes: &Classes, class: ClassNo) -> u64
+    requires known { class < length classes.now }
+    requires few { length classes.now ≤ class_limit }
+    ensures { result ≡ option_map_or class_id (sup_of classes.now class) 0 }
+{
+    match classes.sup(class) {
+        Some(sup) => class_id(sup),
+        None => 0,
+    }
+}
+
+impl Buffer {
+    /// Appends the header: the format's name, the size of identifiers, and the time in milliseconds since 1970.
+    #[tactic(auto, unfolding(crate::specs::Text::header))]
+    pub fn header(&mut self, ids: IdSize, time: u64)
+        requires { HasRoom self.old (header ids time) }
+        ensures written { self.new.written ≡ self.old.written ++ header ids time }
+        ensures limit { self.new.limit ≡ self.old.limit }
+    {
+        self.bytes(b"JAVA PROFILE 1.0.2\0");
+        self.u4(ids.bytes() as u32);
+        self.u4((time >> 32) as u32);
+        self.u4((time % (1 << 32)) as u32);
+    }
+
+    /// Appends the head of a record whose body has `length` bytes.
+    pub fn record_head(&mut self, tag: u8, length: u32)
+        requires { HasRoom self.old (record_head tag length) }
+        ensures written { self.new.written ≡ self.old.written ++ record_head tag length }
+        ensures limit { self.new.limit ≡ self.old.limit }
+    {
+        self.u1(tag);
+        self.u4(0);
+        self.u4(length);
+    }
+
+    /// Appends a UTF8 record: a name with its id.
+    #[tactic(auto, using(crate::proofs::Written::utf8_body), unfolding(crate::specs::Text::utf8, crate::specs::Text::record_of))]
+    pub fn utf8(&mut self, ids: IdSize, number: u64, name: &[u8])
+        requires room { HasRoom self.old (utf8 ids (number, name.now)) }
+        requires short { length name.now ≤ name_limit }
+        ensures written { self.new.written ≡ self.old.written ++ utf8 ids (number, name.now) }
+        ensures limit { self.new.limit ≡ self.old.limit }
+    {
+        self.record_head(0x01, (ids.bytes() + name.len() as u64) as u32);
+        self.id(ids, number);
+        self.bytes(name);
+    }
+
+    /// Appends a LOAD CLASS record. The serial of class k is k + 1.
+    #[tactic(auto, using(crate::proofs::Written::load_body, crate::proofs::Written::name_at), unfolding(crate::specs::Text::load_class, crate::specs::Text::record_of))]
+    pub fn load_class(&mut self, ids: IdSize, classes: &Classes, class: ClassNo)
+        requires room { HasRoom self.old (load_class ids classes.now (class, class_at classes.now class)) }
+        requires known { class < length classes.now }
+        requires few { length classes.now ≤ class_limit }
+        ensures written { self.new.written ≡ self.old.written ++ load_class ids classes.now (class, class_at classes.now class) }
+        ensures limit { self.new.limit ≡ self.old.limit }
+    {
+        self.record_head(0x02, (8 + 2 * ids.bytes()) as u32);
+        self.u4((class + 1) as u32);
+        self.id(ids, class_id(class));
+        self.u4(1);
+        self.id(ids, classes.class_name_id(class));
+    }
+
+    /// Appends the TRACE record: serial 1, thread 0, no frames.
+    #[tactic(auto, unfolding(crate::specs::Text::trace, crate::specs::Text::record_of))]
+    pub fn trace(&mut self)
+        requires { HasRoom self.old trace }
+        ensures written { self.new.written ≡ self.old.written ++ trace }
+        ensures limit { self.new.limit ≡ self.old.limit }
+    {
+        self.record_head(0x05, 12);
+        self.u4(1);
+        self.u4(0);
+        self.u4(0);
+    }
+
+    /// Appends the head of the HEAP DUMP record whose body has `length` bytes.
+    pub fn heap_dump_head(&mut self, length: u32)
+        requires { HasRoom self.old (record_head 0x0c length) }
+        ensures written { self.new.written ≡ self.old.written ++ record_head 0x0c length }
+        ensures limit { self.new.limit ≡ self.old.limit }
+    {
+        self.record_head(0x0c, length);
+    }
+
+    // The ids of a CLASS DUMP: the class's, its super's, and five that are null.
+    fn class_ids(&mut self, ids: IdSize, class: ClassNo, sup: u64)
+        requires room { HasRoom self.old (class_ids ids class sup) }
+        requires few { class < class_limit }
+        ensures written { self.new.written ≡ self.old.written ++ class_ids ids class sup }
+        ensures limit { self.new.limit ≡ self.old.limit }
+    {
+        self.u1(0x20);
+        self.id(ids, class_id(class));
+        self.u4(1);
+        self.id(ids, sup);
+        self.id(ids, 0);
+        self.id(ids, 0);
+        self.id(ids, 0);
+        self.id(ids, 0);
+        self.id(ids, 0);
+    }
+
+    // The numbers of a CLASS DUMP: the size of its instances, no constants, no static fields, its own fields.
+    fn class_counts(&mut self, size: u32, fields: u16)
+        requires { HasRoom self.old (class_counts size fields) }
+        ensures written { self.new.written ≡ self.old.written ++ class_counts size fields }
+        ensures limit { self.new.limit ≡ self.old.limit }
+    {
+        self.u4(size);
+        self.u2(0);
+        self.u2(0);
+        self.u2(fields);
+    }
+
+    /// Appends an own field in a CLASS DUMP: the id of its name, and its kind.
+    pub fn field(&mut self, ids: IdSize, name: u64, kind: Kind)
+        requires { HasRoom self.old (field_bytes ids name kind) }
+        ensures written { self.new.written ≡ self.old.written ++ field_bytes ids name kind }
+        ensures limit { self.new.limit ≡ self.old.limit }
+    {
+        self.id(ids, name);
+        self.u1(kind.type_code());
+    }
+
+    /// Appends a CLASS DUMP: super, size of instances and own fields. There is no loader, signer, protection
+    /// domain, constant or static field.
+    pub fn class_dump(&mut self, ids: IdSize, classes: &Classes, class: ClassNo)
+        requires room { HasRoom self.old (class_dump ids classes.now (class, class_at classes.now class)) }
+        requires known { class < length classes.now }
+        requires few { length classes.now ≤ class_limit }
+        ensures written { self.new.written ≡ self.old.written ++ class_dump ids classes.now (class, class_at classes.now class) }
+        ensures limit { self.new.limit ≡ self.old.limit }
+    {
+        self.class_ids(ids, class, super_id(classes, class));
+        self.class_counts(
+            instance_size(ids, classes, class),
+            classes.field_count(class) as u16,
+        );
+        self.fields(ids, classes, class);
+    }
+
+    /// Appends the root of a class.
+    pub fn root_sticky_class(&mut self, ids: IdSize, class: ClassNo)
+        requires room { HasRoom self.old (sticky_root ids class) }
+        requires few { class < class_limit }
+        ensures written { self.new.written ≡ self.old.written ++ sticky_root ids class }
+        ensures limit { self.new.limit ≡ self.old.limit }
+    {
+        self.u1(0x05);
+        self.id(ids, class_id(class));
+    }
+
+    /// Appends a root of which no more is known than the object's id.
+    #[tactic(auto, unfolding(crate::specs::Text::root_unknown))]
+    pub fn root_unknown(&mut self, ids: IdSize, object: u64)
+        requires { HasRoom self.old (root_unknown ids object) }
+        ensures written { self.new.written ≡ self.old.written ++ root_unknown ids object }
+        ensures limit { self.new.limit ≡ self.old.limit }
+    {
+        self.u1(0xff);
+        self.id(ids, object);
+    }
+
+    /// Appends an INSTANCE DUMP: own fields first, then the super's.
+    #[tactic(auto, unfolding(crate::specs::Text::dump_of))]
+    pub fn instance_dump(
+        &mut self,
+        ids: IdSize,
+        classes: &Classes,
+        object: u64,
+        class: ClassNo,
+        words: &[u64],
+    )
+        requires room { HasRoom self.old (dump_of ids classes.now object (Instance class) words.now) }
+        requires known { IsKnown classes.now (Instance class) (length words.now) }
+        requires few { length classes.now ≤ class_limit }
+        ensures written { self.new.written ≡ self.old.written ++ dump_of ids classes.now object (Instance class) words.now }
+        ensures limit { self.new.limit ≡ self.old.limit }
+    {
+        self.u1(0x21);
+        self.id(ids, object);
+        self.u4(1);
+        self.id(ids, class_id(class));
+        self.u4(instance_size(ids, classes, class));
+        self.values(ids, classes.slots(class), words);
+    }
+
+    /// Appends an OBJECT ARRAY DUMP.
+    #[tactic(auto, unfolding(crate::specs::Text::dump_of))]
+    pub fn object_array_dump(&mut self, ids: IdSize, object: u64, class: ClassNo, words: &[u64])
+        requires room { HasRoom self.old (dump_of ids [] object (Array class) words.now) }
+        requires small { length words.now ≤ array_limit }
+        requires few { class < class_limit }
+        ensures written { self.new.written ≡ self.old.written ++ dump_of ids [] object (Array class) words.now }
+        ensures limit { self.new.limit ≡ self.old.limit }
+    {
+        self.u1(0x22);
+        self.id(ids, object);
+        self.u4(1);
+        self.u4(words.len() as u32);
+        self.id(ids, class_id(class));
+        self.numbers(ids.bytes(), words);
+    }
+
+    /// Appends a PRIMITIVE ARRAY DUMP.
+    #[tactic(auto, unfolding(crate::specs::Text::dump_of, crate::specs::Text::value_bytes))]
+    pub fn primitive_array_dump(&mut self, ids: IdSize, object: u64, kind: Kind, words: &[u64])
+        requires room { HasRoom self.old (dump_of ids [] object (Prim kind) words.now) }
+        requires small { length words.now ≤ array_limit }
+        ensures written { self.new.written ≡ self.old.written ++ dump_of ids [] object (Prim kind) words.now }
+        ensures limit { self.new.limit ≡ self.old.limit }
+    {
+        self.u1(0x23);
+        self.id(ids, object);
+        self.u4(1);
+        self.u4(words.len() as u32);
+        self.u1(kind.type_code());
+        self.numbers(kind.width(ids), words);
+    }
+}

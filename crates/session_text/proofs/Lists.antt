@@ -1,0 +1,122 @@
+-- Lists cut in two.
+use Rattle.std.proofs.Common.{◌≡◌, ℕ, ◌+◌, ◌-◌, ◌<◌, ◌≤◌, Bool, true, false, List, [], ◌∷◌, ◌++◌, take, drop, length, get_or, refl, ap, sym, ◌∙◌, subst, arith, append_assoc, add-one, drop-cons}
+use Rattle.std.proofs.lemmas.List.{take-append-drop, length-take-le, length-drop, take_all}
+use Rattle.std.proofs.Math.Seq.{take-add}
+use Rattle.std.proofs.lemmas.List.{take-take, drop-take, drop-drop, take-append-le}
+use Rattle.std.proofs.Math.Seq.{take-append-add, drop-append_seam}
+use Rattle.std.specs.Bool.{◌==◌}
+use Rattle.std.proofs.lemmas.Bool.Decides.{nat_tests}
+use Rattle.std.proofs.lemmas.Slice.{take-put_mid_below}
+use borrow.Rule.Slice.PartMut.{put_mid, post_of}
+use Rattle.session_text.specs.declared.inlet.Take.{Take}
+use Rattle.session_text.specs.Inlets.{Incoming, IsTake, IsRead, count_of}
+use Rattle.dump_pump.specs.Outlets.{Outgoing}
+use Rattle.session_text.specs.Lines.{NoLf}
+use Rattle.session_text.specs.Writes.{IsCutShort, IsWritten}
+
+pub split_at : (xs : List ℕ) (n : ℕ) → n < length xs → get_or xs n 0 ≡ 10 → xs ≡ take n xs ++ 10 ∷ drop (n + 1) xs
+split_at xs n lt is =
+    let e : drop n xs ≡ get_or xs n 0 ∷ drop (n + 1) xs = rw (add-one, drop-cons xs n 0) in
+    sym (take-append-drop n xs) ∙ ap (λ l. take n xs ++ l) (e ∙ ap (λ b. b ∷ drop (n + 1) xs) is)
+
+-- what was put out goes on with a beginning of the rest
+pub put_more : (before bytes out out' : List ℕ) (at n : ℕ) → at ≤ length bytes → n ≤ length (take (length bytes - at) (drop at bytes)) → out ≡ before ++ take at bytes → out' ≡ out ++ take n (take (length bytes - at) (drop at bytes))
+    → (at + n ≤ length bytes) × (out' ≡ before ++ take (at + n) bytes)
+put_more before bytes out out' at n le fits was is =
+    let rest : take (length bytes - at) (drop at bytes) ≡ drop at bytes = take_all (length bytes - at) (drop at bytes) (omega (arith, length-drop at bytes)) in (
+      omega (arith, fits, ap length rest, length-drop at bytes, le),
+      is ∙ (λ i. was i ++ take n (rest i)) ∙ append_assoc before (take at bytes) (take n (drop at bytes)) ∙ ap (λ l. before ++ l) (sym (take-add at n bytes)),
+    )
+
+pub short_at : (before bytes out out' : List ℕ) (at : ℕ) → out ≡ before ++ take at bytes → out' ≡ out → IsCutShort before out' (before ++ bytes)
+short_at before bytes out out' at was is = record {
+  part = take at bytes;
+  rest = drop at bytes;
+  has = is ∙ was;
+  lacks = ap (λ l. before ++ l) (sym (take-append-drop at bytes)) ∙ sym (append_assoc before (take at bytes) (drop at bytes)) ∙ ap (λ l. l ++ drop at bytes) (sym (is ∙ was));
+}
+
+-- one text and then another
+pub written_more : (xs ys : List ℕ) (a b c : Outgoing) (r : Bool) → IsWritten xs a b true → IsWritten ys b c r → IsWritten (xs ++ ys) a c r
+written_more xs ys a b c true h k = (k.0 ∙ ap (λ l. l ++ ys) h.0 ∙ append_assoc a.out xs ys, k.1 ∙ h.1)
+written_more xs ys a b c false h k = (
+  record {
+    part = xs ++ k.0.part;
+    rest = k.0.rest;
+    has = k.0.has ∙ ap (λ l. l ++ k.0.part) h.0 ∙ append_assoc a.out xs k.0.part;
+    lacks = sym (append_assoc a.out xs ys) ∙ ap (λ l. l ++ ys) (sym h.0) ∙ k.0.lacks;
+  },
+  k.1 ∙ ap (λ n. n + 1) h.1,
+)
+
+pub written_short : (xs ys : List ℕ) (a b : Outgoing) → IsWritten xs a b false → IsWritten (xs ++ ys) a b false
+written_short xs ys a b h = (
+  record {
+    part = h.0.part;
+    rest = h.0.rest ++ ys;
+    has = h.0.has;
+    lacks = sym (append_assoc a.out xs ys) ∙ ap (λ l. l ++ ys) h.0.lacks ∙ append_assoc b.out h.0.rest ys;
+  },
+  h.1,
+)
+
+-- a window whose front moves
+pub drop_window : (xs : List ℕ) (s e n : ℕ) → s ≤ e → e ≤ length xs → n ≤ length (take (e - s) (drop s xs)) → take (e - (s + n)) (drop (s + n) xs) ≡ drop n (take (e - s) (drop s xs))
+drop_window xs s e n se el le =
+    let size : length (take (e - s) (drop s xs)) ≡ e - s = length-take-le (e - s) (drop s xs) (omega (arith, length-drop s xs)) in
+    let q : e - s ≡ n + (e - (s + n)) = omega arith in
+    sym (ap (λ k. drop n (take k (drop s xs))) q ∙ drop-take n (e - (s + n)) (drop s xs) ∙ ap (λ l. take (e - (s + n)) l) (drop-drop n s xs))
+
+-- a read into what lies behind the bytes in use
+pub refilled : (used : ℕ) (bytes room : List ℕ) (a b : Incoming) (t : Take) → used < length bytes → IsTake room a b t → IsRead (take used bytes) (take (used + count_of t) (put_mid used (length bytes - used) bytes room)) a b t
+refilled used bytes room a b (Take.Got n) lt h =
+    let size : length (take used bytes) ≡ used = length-take-le used bytes (omega arith) in
+    let behind = room ++ post_of used (length bytes - used) bytes in (
+      take n room,
+      ap (λ k. take (k + n) (take used bytes ++ behind)) (sym size) ∙ take-append-add (take used bytes) behind n ∙ ap (λ l. take used bytes ++ l) (take-append-le n room (post_of used (length bytes - used) bytes) h.1),
+      h.2,
+      h.3,
+      h.4,
+      h.5,
+    )
+refilled used bytes room a b Take.End lt h =
+    (take-put_mid_below used (length bytes - used) bytes room (used + 0) (omega arith) (omega arith) ∙ ap (λ k. take k bytes) (omega arith), h.0, h.1, h.2, h.3, h.4)
+refilled used bytes room a b Take.Failed lt h =
+    (take-put_mid_below used (length bytes - used) bytes room (used + 0) (omega arith) (omega arith) ∙ ap (λ k. take k bytes) (omega arith), h.0, h.1, h.2, h.3)
+
+zero_of : (n : ℕ) → true ≡ (n == 0) → n ≡ 0
+zero_of n h = grind (arith, nat_tests)
+
+some_of : (n : ℕ) → false ≡ (n == 0) → 0 < n
+some_of n h = grind (arith, nat_tests)
+
+empty_of : (xs : List ℕ) → length xs ≡ 0 → xs ≡ []
+empty_of [] h = refl
+empty_of (x ∷ xs) h = absurd (omega (arith, h))
+
+pub is_empty_of : (s m b : List ℕ) → s ≡ m → m ≡ b → true ≡ (length s == 0) → b ≡ []
+is_empty_of s m b e f h = empty_of b (sym (ap (λ l. length l) (e ∙ f)) ∙ zero_of (length s) h)
+
+pub is_some_of : (s m b : List ℕ) → s ≡ m → m ≡ b → false ≡ (length s == 0) → 0 < length b
+is_some_of s m b e f h = omega (arith, some_of (length s) h, ap (λ l. length l) (e ∙ f))
+
+pub cancel : (w xs ys : List ℕ) → w ++ xs ≡ w ++ ys → xs ≡ ys
+cancel w xs ys e = sym (drop-append_seam w xs) ∙ ap (λ l. drop (length w) l) e ∙ drop-append_seam w ys
+
+-- what had no LF has none where it moved
+pub still_none : (xs ys zs : List ℕ) (s used k : ℕ) → k ≤ used → NoLf (take k (drop s xs)) → take used ys ≡ take used (drop s xs) → take used zs ≡ take used ys → NoLf (take k zs)
+still_none xs ys zs s used k le none moved kept =
+    subst (λ l. NoLf l) (sym (sym (take-take k used zs le) ∙ ap (λ l. take k l) (kept ∙ moved) ∙ take-take k used (drop s xs) le)) none
+
+pub refilled_from : (used n : ℕ) (was bytes room : List ℕ) (start : ℕ) (a b : Incoming) (t : Take) → used ≡ n → used < length bytes → take used bytes ≡ take used (drop start was) → IsTake room a b t
+    → IsRead (take n (drop start was)) (take (n + count_of t) (put_mid used (length bytes - used) bytes room)) a b t
+refilled_from used n was bytes room start a b t e lt same h =
+    subst (λ k. IsRead (take k (drop start was)) (take (k + count_of t) (put_mid used (length bytes - used) bytes room)) a b t) e
+    (subst (λ l. IsRead l (take (used + count_of t) (put_mid used (length bytes - used) bytes room)) a b t) same (refilled used bytes room a b t lt h))
+
+pub moved_none : (xs ys : List ℕ) (s used k : ℕ) → k ≤ used → NoLf (take k (drop s xs)) → take used ys ≡ take used (drop s xs) → NoLf (take k ys)
+moved_none xs ys s used k le none moved =
+    subst (λ l. NoLf l) (sym (sym (take-take k used ys le) ∙ ap (λ l. take k l) moved ∙ take-take k used (drop s xs) le)) none
+
+pub kept_whole : (n : ℕ) (xs ys : List ℕ) → n ≡ length xs → take n (xs ++ ys) ≡ xs
+kept_whole n xs ys e = take-append-le n xs ys (omega (arith, e)) ∙ take_all n xs (omega (arith, e))

@@ -1,0 +1,130 @@
+-- The lines of a session.
+use Rattle.std.specs.Prelude.{ℕ, ◌+◌, ◌*◌, ◌-◌, ◌^◌, ◌&&◌, ◌==◌, nat_lt, nat_le, List, [], ◌∷◌, length, take, drop, slice_index, filter, find, codes, Option, Some, None, unwrap_or, option_map, option_and_then, if◌then◌else◌}
+use Rattle.std.specs.Char.{is_ascii_digit}
+use Rattle.std.specs.List.{list_all, position, slice_split}
+use Rattle.std.specs.Str.{bytes_eq}
+use Rattle.heap_class.specs.declared.Kind.{Kind}
+use Rattle.heap_class.specs.declared.Kind.TheVariants.{Boolean, Char, Float, Double, Byte, Short, Int, Long}
+use Rattle.heap_class.specs.declared.Field.{Field}
+use Rattle.heap_class.specs.Kinds.{kind_word}
+use Rattle.heap_step.specs.declared.Event.TheVariants.{Class, New, Put}
+use Rattle.heap_trail.specs.declared.Action.TheVariants.{Step, Rewind}
+use Rattle.session_text.specs.declared.command.Command.{Command}
+use Rattle.session_text.specs.declared.command.Command.TheVariants.{Blank, Bad, Ask, Dump, End}
+
+-- ---- words and numbers
+
+-- the words of a line: the longest runs of bytes other than space
+unfoldable pub words_of : List ℕ → List (List ℕ)
+words_of line = filter (λ w. nat_lt 0 (length w)) (slice_split (λ b. b == 32) line)
+
+-- a number with a digit more, where it stays below 2 ^ 64
+abbrev pub with_digit : ℕ → ℕ → Option ℕ
+with_digit n b = if is_ascii_digit b then (if nat_lt (n * 10 + (b - 48)) (2 ^ 64) then Some (n * 10 + (b - 48)) else None) else None
+
+-- a number with these digits more
+abbrev pub value_from : ℕ → List ℕ → Option ℕ
+value_from n [] = Some n
+value_from n (b ∷ bs) = option_and_then (λ m. value_from m bs) (with_digit n b)
+
+-- 1 to 20 decimal digits with a value below 2 ^ 64
+unfoldable pub number : List ℕ → Option ℕ
+number w = if nat_lt 0 (length w) && nat_le (length w) 20 then value_from 0 w else None
+
+-- a number, or None for `-`
+abbrev pub number_or_dash : List ℕ → Option (Option ℕ)
+number_or_dash w = if bytes_eq w (codes "-") then Some None else option_map Some (number w)
+
+-- ---- kinds and fields
+
+abbrev pub all_kinds : List Kind
+all_kinds = Kind.Object ∷ Boolean ∷ Char ∷ Float ∷ Double ∷ Byte ∷ Short ∷ Int ∷ Long ∷ []
+
+unfoldable pub kind_of : List ℕ → Option Kind
+kind_of w = find (λ k. bytes_eq (kind_word k) w) all_kinds
+
+-- NAME:KIND with one colon; no kind's word has one
+abbrev pub field_of : List ℕ → Option Field
+field_of w = option_and_then (λ n. option_map (λ k. record { name = take n w; kind = k }) (kind_of (drop (n + 1) w))) (position (λ b. b == 58) w)
+
+abbrev pub fields_of : List (List ℕ) → Option (List Field)
+fields_of [] = Some []
+fields_of (w ∷ ws) = option_and_then (λ f. option_map (λ fs. f ∷ fs) (fields_of ws)) (field_of w)
+
+-- ---- the words after the first
+
+-- the number that the first word is, and the other words
+abbrev pub next_number : List (List ℕ) → Option (ℕ × List (List ℕ))
+next_number [] = None
+next_number (w ∷ ws) = option_map (λ n. (n, ws)) (number w)
+
+-- x, where no word is left
+abbrev pub at_end : {A : Type 0} → A → List (List ℕ) → Option A
+at_end x [] = Some x
+at_end x (w ∷ ws) = None
+
+abbrev pub one_number : List (List ℕ) → Option ℕ
+one_number ws = option_and_then (λ a. at_end a.0 a.1) (next_number ws)
+
+abbrev pub three_numbers : List (List ℕ) → Option (ℕ × ℕ × ℕ)
+three_numbers ws = option_and_then (λ a. option_and_then (λ b. option_and_then (λ c. at_end (a.0, b.0, c.0) c.1) (next_number b.1)) (next_number a.1)) (next_number ws)
+
+abbrev pub four_numbers : List (List ℕ) → Option (ℕ × ℕ × ℕ × ℕ)
+four_numbers ws =
+    option_and_then (λ a. option_and_then (λ b. option_and_then (λ c. option_and_then (λ d. at_end (a.0, b.0, c.0, d.0) d.1) (next_number c.1)) (next_number b.1)) (next_number a.1)) (next_number ws)
+
+-- `class NAME SUPER FIELD ..`
+abbrev pub class_line : List (List ℕ) → Option Command
+class_line [] = None
+class_line (name ∷ []) = None
+class_line (name ∷ sup ∷ fields) = option_and_then (λ s. option_map (λ fs. Ask (Step (Class name s fs))) (fields_of fields)) (number_or_dash sup)
+
+-- `new M R CLASS`
+abbrev pub new_line : List (List ℕ) → Option Command
+new_line ws = option_map (λ n. Ask (Step (New n.0 n.1 n.2))) (three_numbers ws)
+
+-- `put M TARGET SLOT VALUE`
+abbrev pub put_line : List (List ℕ) → Option Command
+put_line ws = option_map (λ n. Ask (Step (Put n.0 n.1 n.2 n.3))) (four_numbers ws)
+
+-- `rewind N`
+abbrev pub rewind_line : List (List ℕ) → Option Command
+rewind_line ws = option_map (λ n. Ask (Rewind n)) (one_number ws)
+
+-- `dump -`
+abbrev pub dump_line : List (List ℕ) → Option Command
+dump_line [] = None
+dump_line (w ∷ ws) = if bytes_eq w (codes "-") then at_end Dump ws else None
+
+-- `end`
+abbrev pub end_line : List (List ℕ) → Option Command
+end_line ws = at_end End ws
+
+-- ---- the lines
+
+unfoldable pub line_after : List ℕ → List (List ℕ) → Option Command
+line_after w ws =
+    if bytes_eq w (codes "class") then class_line ws
+    else if bytes_eq w (codes "new") then new_line ws
+    else if bytes_eq w (codes "put") then put_line ws
+    else if bytes_eq w (codes "rewind") then rewind_line ws
+    else if bytes_eq w (codes "dump") then dump_line ws
+    else if bytes_eq w (codes "end") then end_line ws
+    else None
+
+-- the command of these words
+abbrev pub command_of_words : List (List ℕ) → Command
+command_of_words [] = Blank
+command_of_words (w ∷ ws) = unwrap_or (line_after w ws) Bad
+
+-- one CR at the end is dropped
+abbrev pub without_cr : List ℕ → List ℕ
+without_cr l = if slice_index l (length l - 1) == 13 then take (length l - 1) l else l
+
+-- a byte outside 0x20 to 0x7e makes a line bad
+abbrev pub command_of_text : List ℕ → Command
+command_of_text t = if list_all (λ b. nat_le 0x20 b && nat_le b 0x7e) t then command_of_words (words_of t) else Bad
+
+-- what a line without its LF asks for
+unfoldable pub command_of : List ℕ → Command
+command_of line = command_of_text (without_cr line)

@@ -1,0 +1,41 @@
+-- What a read does.
+use Rattle.std.specs.Prelude.{◌≡◌, ℕ, ◌+◌, ◌<◌, ◌≤◌, List, [], ◌++◌, take, length, Option, option_map, IfSome}
+use Rattle.std.specs.Io.KnownBytes.{Keeps, Consumes, IsAtEnd}
+use Rattle.session_text.specs.declared.inlet.Take.{Take}
+use Rattle.session_text.specs.declared.inlet.Take.TheVariants.{Got, End, Failed}
+
+-- the bytes that were given so far, those left where the inlet tells them, and the reads made and failed
+pub record Incoming : Type 0 where
+  pub taken : List ℕ
+  pub left : Option (List ℕ)
+  pub reads : ℕ
+  pub failures : ℕ
+
+-- all bytes, where they are known
+abbrev pub whole : Incoming → Option (List ℕ)
+whole a = option_map (λ xs. a.taken ++ xs) a.left
+
+abbrev pub NothingLeft : Incoming → Type 0
+NothingLeft a = IfSome a.left (λ xs. xs ≡ [])
+
+abbrev pub IsTake : List ℕ → Incoming → Incoming → Take → Type 0
+IsTake room a b (Got n) = (0 < n) × (n ≤ length room) × (b.taken ≡ a.taken ++ take n room) × (b.reads ≡ a.reads + 1) × (b.failures ≡ a.failures) × Keeps (whole a) (whole b)
+IsTake room a b End = NothingLeft b × (b.taken ≡ a.taken) × (b.reads ≡ a.reads + 1) × (b.failures ≡ a.failures) × Keeps (whole a) (whole b)
+IsTake room a b Failed = (b.taken ≡ a.taken) × (b.reads ≡ a.reads + 1) × (b.failures ≡ a.failures + 1) × Keeps (whole a) (whole b)
+
+-- what a read does to a buffer's bytes
+abbrev pub IsRead : List ℕ → List ℕ → Incoming → Incoming → Take → Type 0
+IsRead buf buf' a b (Got n) = (more : List ℕ) × (buf' ≡ buf ++ more) × (b.taken ≡ a.taken ++ more) × (b.reads ≡ a.reads + 1) × (b.failures ≡ a.failures) × Keeps (whole a) (whole b)
+IsRead buf buf' a b End = (buf' ≡ buf) × NothingLeft b × (b.taken ≡ a.taken) × (b.reads ≡ a.reads + 1) × (b.failures ≡ a.failures) × Keeps (whole a) (whole b)
+IsRead buf buf' a b Failed = (buf' ≡ buf) × (b.taken ≡ a.taken) × (b.reads ≡ a.reads + 1) × (b.failures ≡ a.failures + 1) × Keeps (whole a) (whole b)
+
+abbrev pub count_of : Take → ℕ
+count_of (Got n) = n
+count_of End = 0
+count_of Failed = 0
+
+-- what a read did to the bytes that a reader has left, where those are known
+abbrev pub IsTriedRead : Option (List ℕ) → Option (List ℕ) → Take → List ℕ → Type 0
+IsTriedRead old new (Got n) room = (0 < n) × (n ≤ length room) × Consumes old new (take n room)
+IsTriedRead old new End room = Keeps old new × IsAtEnd new
+IsTriedRead old new Failed room = Keeps old new

@@ -1,0 +1,10 @@
+-- How much a session reads, and which endings are whole.
+use Rattle.std.specs.Prelude.{Bool, true, false}
+use Rattle.session_text.specs.declared.Ended.{Ended}
+use Rattle.session_text.specs.declared.Ended.TheVariants.{Quit, Eof}
+
+-- each line was run
+abbrev pub is_whole : Ended → Bool
+is_whole Quit = true
+is_whole Eof = true
+is_whole e = false

@@ -1,0 +1,68 @@
+-- The lines that a session answers.
+use Rattle.std.specs.Prelude.{ℕ, zero, suc, List, [], ◌∷◌, ◌++◌, length, take, drop, flat_map, codes, decimal}
+use Rattle.byteorder.specs.Endian.{big_bytes}
+use Rattle.hex.specs.Hex.{encode_lower}
+use Rattle.heap_class.specs.declared.LostCause.{LostCause}
+use Rattle.heap_class.specs.declared.LostCause.TheVariants.{Rewound, Forgotten, Memory}
+use Rattle.heap_class.specs.declared.Refusal.{Refusal}
+use Rattle.heap_class.specs.declared.Refusal.TheVariants.{NotDone, SweepPending, NothingToSweep, TooFar, Lost}
+use Rattle.heap_class.specs.Table.{refusal_number, refusal_name}
+use Rattle.heap_step.specs.declared.Answer.{Answer}
+use Rattle.heap_step.specs.declared.Answer.TheVariants.{Class, Object, Done}
+use Rattle.heap_trail.specs.declared.Reply.{Reply}
+use Rattle.heap_trail.specs.declared.Reply.TheVariants.{Answered, Place, Refused}
+
+-- a space and a number
+abbrev pub and_number : ℕ → List ℕ
+and_number n = 32 ∷ decimal n
+
+abbrev pub answer_text : Answer → List ℕ
+answer_text (Class k) = codes "ok class" ++ and_number k
+answer_text (Object x) = codes "ok object 0x" ++ encode_lower (big_bytes 4 x)
+answer_text Done = codes "ok"
+
+abbrev pub cause_text : LostCause → List ℕ
+cause_text Rewound = codes "Rewound"
+cause_text Forgotten = codes "Forgotten"
+cause_text Memory = codes "Memory"
+cause_text LostCause.Closed = codes "Closed"
+
+-- what a refusal says beside its name
+abbrev pub facts_text : Refusal → List ℕ
+facts_text (NotDone gray undrained) = and_number gray ++ and_number undrained
+facts_text (SweepPending region) = and_number region
+facts_text (NothingToSweep region) = and_number region
+facts_text (TooFar asked retained) = and_number asked ++ and_number retained
+facts_text (Lost cause) = 32 ∷ cause_text cause
+facts_text r = []
+
+-- the number and the name of a refusal, and its facts
+abbrev pub refusal_text : Refusal → List ℕ
+refusal_text r = ((codes "no" ++ and_number (refusal_number r)) ++ 32 ∷ refusal_name r) ++ facts_text r
+
+-- what a reply prints, without its LF
+abbrev pub reply_words : Reply → List ℕ
+reply_words (Answered a) = answer_text a
+reply_words (Place p) = codes "ok place" ++ and_number p
+reply_words (Refused r) = refusal_text r
+
+-- a text and its LF
+abbrev pub line : List ℕ → List ℕ
+line text = text ++ 10 ∷ []
+
+abbrev pub reply_text : Reply → List ℕ
+reply_text r = line (reply_words r)
+
+-- one data line
+abbrev pub data_line : List ℕ → List ℕ
+data_line bytes = line (codes "data " ++ encode_lower bytes)
+
+-- the list in pieces of 64, the last one shorter; at most n pieces
+unfoldable pub chunks_of_64 : ℕ → List ℕ → List (List ℕ)
+chunks_of_64 zero xs = []
+chunks_of_64 (suc n) [] = []
+chunks_of_64 (suc n) (x ∷ xs) = take 64 (x ∷ xs) ∷ chunks_of_64 n (drop 64 (x ∷ xs))
+
+-- the data lines of a piece
+unfoldable pub data_lines : List ℕ → List ℕ
+data_lines bytes = flat_map data_line (chunks_of_64 (length bytes) bytes)

@@ -1,0 +1,81 @@
+//! Lines and their answers.
+ghost use Rattle.std.specs.Prelude.{◌≡◌, []};
+ghost use Rattle.session_text.specs.Endings.{StepTells, StopsAtEnd, step_of};
+ghost use Rattle.session_text.specs.Grammar.{command_of};
+
+use crate::buffer::Buffer;
+use crate::command::{Command, command_of};
+use crate::commands::Commands;
+use crate::dump::write_dump;
+use crate::page::Page;
+use crate::write::{write_all, write_reply};
+use dump_pump::Outlet;
+use heap_class::Refusal;
+use heap_trail::Reply;
+use std::alloc::Global;
+
+/// Whether a session goes on after a line.
+#[derive(Clone, Copy, PartialEq, Eq, Debug)]
+pub enum Step {
+    Next,
+    Quit,
+    Fault,
+}
+
+fn next_unless(written: bool) -> Step
+    ensures { result ≡ step_of written }
+{
+    if written { Step::Next } else { Step::Fault }
+}
+
+/// Answers one line.
+#[tactic(auto, using(crate::proofs::Ending::stops_unless, crate::proofs::Ending::takes_no_end, std::proofs::lemmas::Grind::common_steps))]
+fn answer_line<O: Outlet, C: Commands>(
+    alloc: Global,
+    line: &[u8],
+    time: u64,
+    page: &mut Page,
+    writer: &mut O,
+    commands: &mut C,
+) -> Step
+    requires { page.old ≡ [] }
+    ensures empty { page.new ≡ [] }
+    ensures stops { StopsAtEnd (command_of line.now) result }
+    ensures fault { StepTells (O.seen writer.old) (O.seen writer.new) result }
+{
+    match command_of(alloc, line) {
+        Err(_) => next_unless(write_reply(page, writer, Reply::Refused(Refusal::NoMemory))),
+        Ok(Command::Blank) => Step::Next,
+        Ok(Command::Bad) => next_unless(write_all(writer, b"bad command\n")),
+        Ok(Command::Ask(action)) => {
+            let reply = commands.act(action);
+            next_unless(write_reply(page, writer, reply))
+        }
+        Ok(Command::Dump) => next_unless(write_dump(page, writer, commands, time)),
+        Ok(Command::End) => Step::Quit,
+    }
+}
+
+/// Answers all whole lines of a buffer.
+pub fn answer_lines<O: Outlet, C: Commands>(
+    alloc: Global,
+    time: u64,
+    buffer: &mut Buffer,
+    page: &mut Page,
+    writer: &mut O,
+    commands: &mut C,
+) -> Step
+    requires { page.old ≡ [] }
+    ensures empty { page.new ≡ [] }
+    ensures fault { StepTells (O.seen writer.old) (O.seen writer.new) result }
+{
+    while let Some(n) = buffer.line_end() {
+        match answer_line(alloc, &buffer.as_slice()[..n], time, page, writer, commands) {
+            Step::Next => {}
+            Step::Quit => return Step::Quit,
+            Step::Fault => return Step::Fault,
+        }
+        buffer.pass(n + 1);
+    }
+    Step::Next
+}

@@ -1,0 +1,143 @@
+//! What has come of the lines that aren't answered yet.
+ghost use Rattle.std.specs.Prelude.{◌≡◌, ◌+◌, ◌-◌, ◌≤◌, ◌<◌, [], take, drop, length, IfOk, MatchOption};
+ghost use Rattle.session_text.specs.Inlets.{IsRead, count_of};
+ghost use Rattle.session_text.specs.Lines.{NoLf, IsLineAt};
+
+use crate::LINE_LIMIT;
+use crate::inlet::{Inlet, Take};
+use std::alloc::{AllocError, Global};
+use std::marker::Model;
+
+const LF: u8 = b'\n';
+
+/// Bytes, at most one more than a line may have. It takes its memory when it is made. Contracts see the bytes.
+#[derive(Drop)]
+pub struct Buffer {
+    bytes: Vec<u8>,
+    start: usize,
+    end: usize,
+    scanned: usize,
+}
+
+impl Model for Buffer {
+    ghost use Rattle.std.specs.Prelude.{◌≡◌, ℕ, ◌+◌, ◌-◌, ◌≤◌, List, take, drop, length};
+    ghost use Rattle.session_text.specs.Lines.{NoLf};
+
+    ghost Value = { List ℕ };
+
+    ghost view = { λ b. take (b.end - b.start) (drop b.start b.bytes.items) };
+
+    ghost invariant = { λ b. (b.start + b.scanned ≤ b.end) × (b.end ≤ 4097) × (length b.bytes.items ≡ 4097) × NoLf (take b.scanned (drop b.start b.bytes.items)) };
+}
+
+impl Buffer {
+    /// An empty buffer.
+    pub fn new(alloc: Global) -> Result<Buffer, AllocError>
+        ensures { IfOk result (λ b. b ≡ []) }
+    {
+        Ok(Buffer {
+            bytes: vec![in alloc; 0; LINE_LIMIT + 1]?,
+            start: 0,
+            end: 0,
+            scanned: 0,
+        })
+    }
+
+    /// The bytes.
+    pub fn as_slice(&self) -> &[u8]
+        ensures value { result.now ≡ self.now }
+        ensures most { length self.now ≤ 4097 }
+    {
+        &self.bytes[self.start..self.end]
+    }
+
+    /// Drops bytes at the front.
+    pub fn pass(&mut self, n: usize)
+        requires { n ≤ length self.old }
+        ensures { self.new ≡ drop n self.old }
+    {
+        self.start += n;
+        self.scanned = 0;
+    }
+
+    /// Where the first LF stands. What was looked at before isn't looked at again.
+    pub fn line_end(&mut self) -> Option<usize>
+        ensures same { self.new ≡ self.old }
+        ensures found { MatchOption result (NoLf self.old) (λ n. IsLineAt n self.old) }
+    {
+        let Buffer {
+            bytes,
+            start,
+            end,
+            scanned,
+        } = self;
+        let found = find_lf(&bytes[*start..*end], *scanned);
+        if found.is_none() {
+            *scanned = *end - *start;
+        }
+        found
+    }
+
+    /// Reads once, behind what is there.
+    pub fn read<I: Inlet>(&mut self, inlet: &mut I) -> Take
+        requires { length self.old ≤ 4096 }
+        ensures { IsRead self.old self.new (I.seen inlet.old) (I.seen inlet.new) result }
+    {
+        let Buffer {
+            bytes,
+            start,
+            end,
+            scanned: _,
+        } = self;
+        let used = *end - *start;
+        let took = refill(bytes, *start, *end, inlet);
+        *start = 0;
+        *end = used + count_of(took);
+        took
+    }
+}
+
+/// How many bytes a read gave.
+fn count_of(took: Take) -> usize
+    ensures { result ≡ count_of took }
+{
+    match took {
+        Take::Got(n) => n,
+        Take::End | Take::Failed => 0,
+    }
+}
+
+/// Moves a range to the front and reads once behind it.
+fn refill<I: Inlet>(bytes: &mut [u8], start: usize, end: usize, inlet: &mut I) -> Take
+    requires { (start ≤ end) × (end ≤ length bytes.old) × (end - start < length bytes.old) }
+    ensures read { IsRead (take (end - start) (drop start bytes.old)) (take (end - start + count_of result) bytes.new) (I.seen inlet.old) (I.seen inlet.new) result }
+    ensures kept { take (end - start) bytes.new ≡ take (end - start) (drop start bytes.old) }
+    ensures fits { end - start + count_of result ≤ length bytes.new }
+{
+    let used = shift(bytes, start, end);
+    inlet.take(&mut bytes[used..])
+}
+
+/// Moves a range to the front, and answers its length.
+fn shift(bytes: &mut [u8], start: usize, end: usize) -> usize
+    requires { (start ≤ end) × (end ≤ length bytes.old) }
+    ensures { (start + result ≡ end) × (take result bytes.new ≡ take result (drop start bytes.old)) }
+{
+    if start > 0 {
+        bytes.copy_within(start..end, 0);
+    }
+    end - start
+}
+
+/// Where the first LF stands, from a place before which there is none.
+fn find_lf(bytes: &[u8], from: usize) -> Option<usize>
+    requires { (from ≤ length bytes.now) × NoLf (take from bytes.now) }
+    ensures { MatchOption result (NoLf bytes.now) (λ n. IsLineAt n bytes.now) }
+{
+    for i in from..bytes.len() {
+        if bytes[i] == LF {
+            return Some(i);
+        }
+    }
+    None
+}

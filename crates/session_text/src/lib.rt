@@ -1,0 +1,74 @@
+//! Sessions: lines in, actions, replies, lines out.
+#![tactic(auto)]
+
+ghost use Rattle.std.specs.Prelude.{◌≡◌};
+ghost use Rattle.session_text.specs.Limits.{is_whole};
+
+pub mod answer;
+pub mod buffer;
+pub mod command;
+pub mod commands;
+pub mod dump;
+pub mod fields;
+pub mod inlet;
+pub mod number;
+pub mod page;
+pub mod read_inlet;
+pub mod reply;
+pub mod talk;
+#[cfg(test)]
+mod tests;
+pub mod words;
+pub mod write;
+
+pub use commands::{Commands, Local};
+pub use inlet::{Inlet, Take};
+pub use read_inlet::ReadInlet;
+pub use talk::serve;
+
+/// The most bytes of a line, without its LF.
+pub const LINE_LIMIT: usize = 4096;
+
+/// The most reads of a session.
+pub const READ_LIMIT: u64 = 1_000_000;
+
+/// The most pieces of a dump.
+pub const PIECE_LIMIT: u32 = 65_538;
+
+/// How a session ended.
+#[derive(Clone, Copy, PartialEq, Eq, Debug)]
+pub enum Ended {
+    /// By the line `end`.
+    Quit,
+    /// At the end of input, after a whole line.
+    Eof,
+    /// At the end of input, in a line, which was not run.
+    CutLine,
+    /// At a line of more than 4,096 bytes.
+    TooLong,
+    /// By a read that failed.
+    ReadFault,
+    /// After 1,000,000 reads.
+    TooManyReads,
+    /// By a write that failed or took nothing. Nothing more was written or read.
+    WriteFault,
+    /// No memory for a line or a reply. Nothing was read.
+    NoMemory,
+}
+
+/// How reading ended.
+#[derive(Clone, Copy, PartialEq, Eq, Debug)]
+pub enum ReadEnd {
+    Over,
+    Failed,
+    Spent,
+}
+
+impl Ended {
+    /// Whether each line was run.
+    pub fn is_whole(self) -> bool
+        ensures { result ≡ is_whole self }
+    {
+        matches!(self, Ended::Quit | Ended::Eof)
+    }
+}

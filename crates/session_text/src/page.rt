@@ -1,0 +1,99 @@
+//! Text on its way out.
+ghost use Rattle.std.specs.Prelude.{◌≡◌, ◌+◌, ◌*◌, ◌≤◌, ◌++◌, [], ◌∷◌, take, decimal, length, IfOk};
+ghost use Rattle.hex.specs.Hex.{encode_lower};
+ghost use Rattle.session_text.specs.Replies.{and_number};
+
+use std::alloc::{AllocError, Global};
+use std::marker::Model;
+
+/// The most bytes of a page.
+pub const PAGE_LIMIT: usize = 8192;
+
+/// Text that isn't written yet. It takes its memory when it is made. Contracts see the bytes.
+#[derive(Drop)]
+pub struct Page {
+    bytes: Vec<u8>,
+    used: usize,
+}
+
+impl Model for Page {
+    ghost use Rattle.std.specs.Prelude.{◌≡◌, ℕ, ◌≤◌, List, take, length};
+
+    ghost Value = { List ℕ };
+
+    ghost view = { λ p. take p.used p.bytes.items };
+
+    ghost invariant = { λ p. (p.used ≤ 8192) × (length p.bytes.items ≡ 8192) };
+}
+
+impl Page {
+    /// An empty page.
+    pub fn new(alloc: Global) -> Result<Page, AllocError>
+        ensures { IfOk result (λ p. p ≡ []) }
+    {
+        Ok(Page {
+            bytes: vec![in alloc; 0; PAGE_LIMIT]?,
+            used: 0,
+        })
+    }
+
+    /// The bytes.
+    pub fn as_slice(&self) -> &[u8]
+        ensures value { result.now ≡ self.now }
+        ensures most { length self.now ≤ 8192 }
+    {
+        &self.bytes[..self.used]
+    }
+
+    /// Drops all bytes.
+    pub fn clear(&mut self)
+        ensures { self.new ≡ [] }
+    {
+        self.used = 0;
+    }
+
+    /// Adds a text.
+    pub fn add(&mut self, text: &[u8])
+        requires { length self.old + length text.now ≤ 8192 }
+        ensures { self.new ≡ self.old ++ text.now }
+    {
+        place(&mut self.bytes, self.used, text);
+        self.used += text.len();
+    }
+
+    /// Adds the lower-case hexadecimal digits of some bytes.
+    pub fn add_hex(&mut self, given: &[u8])
+        requires { length self.old + 2 * length given.now ≤ 8192 }
+        ensures { self.new ≡ self.old ++ encode_lower given.now }
+    {
+        place_hex(&mut self.bytes, self.used, given);
+        self.used += 2 * given.len();
+    }
+
+    /// Adds a space and a number.
+    pub fn add_number(&mut self, n: u64)
+        requires { length self.old + 21 ≤ 8192 }
+        ensures text { self.new ≡ self.old ++ and_number n }
+        ensures short { length self.new ≤ length self.old + 21 }
+    {
+        self.add(b" ");
+        self.add(itoa::Buffer::new().format(n).as_bytes());
+    }
+}
+
+/// Writes a text behind the bytes before a place.
+fn place(bytes: &mut [u8], at: usize, text: &[u8])
+    requires { at + length text.now ≤ length bytes.old }
+    ensures { take (at + length text.now) bytes.new ≡ take at bytes.old ++ text.now }
+{
+    bytes[at..at + text.len()].copy_from_slice(text);
+}
+
+/// Writes hexadecimal digits behind the bytes before a place.
+fn place_hex(bytes: &mut [u8], at: usize, given: &[u8])
+    requires { at + 2 * length given.now ≤ length bytes.old }
+    ensures { take (at + 2 * length given.now) bytes.new ≡ take at bytes.old ++ encode_lower given.now }
+{
+    let written = hex::encode_to_slice(given, &mut bytes[at..at + 2 * given.len()]);
+    prove!(written.is_ok());
+}

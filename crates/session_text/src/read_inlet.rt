@@ -1,0 +1,67 @@
+//! Inlets over readers.
+ghost use Rattle.std.specs.Prelude.{◌<◌, length};
+ghost use Rattle.session_text.specs.Inlets.{IsTriedRead};
+
+use crate::inlet::{Inlet, Take};
+use dump_pump::History;
+use std::io::{ErrorKind, Read};
+
+/// How often an interrupted read is made again.
+pub const INTERRUPT_LIMIT: u32 = 100;
+
+/// An inlet of a reader. A read that stays interrupted is a failure.
+#[derive(Drop)]
+pub struct ReadInlet<R: Read> {
+    reader: R,
+    taken: History<u8>,
+    asked: History<()>,
+    failed: History<()>,
+}
+
+impl<R: Read> ReadInlet<R> {
+    /// An inlet that has given nothing yet.
+    pub fn new(reader: R) -> ReadInlet<R> {
+        ReadInlet {
+            reader,
+            taken: History::new(),
+            asked: History::new(),
+            failed: History::new(),
+        }
+    }
+}
+
+/// Reads once, and again where it is interrupted.
+fn read_once<R: Read>(reader: &mut R, room: &mut [u8]) -> Take
+    requires { 0 < length room.old }
+    ensures { IsTriedRead (R.remaining reader.old) (R.remaining reader.new) result room.new }
+{
+    for _ in 0..INTERRUPT_LIMIT {
+        match reader.read(room) {
+            Ok(0) => return Take::End,
+            Ok(n) => return Take::Got(n),
+            Err(error) => {
+                if error.kind() != ErrorKind::Interrupted {
+                    return Take::Failed;
+                }
+            }
+        }
+    }
+    Take::Failed
+}
+
+impl<R: Read> Inlet for ReadInlet<R> {
+    ghost use Rattle.std.specs.Prelude.{length};
+
+    ghost seen = { λ i. record { taken = i.taken.items; left = R.remaining i.reader; reads = length i.asked.items; failures = length i.failed.items } };
+
+    fn take(&mut self, room: &mut [u8]) -> Take {
+        let took = read_once(&mut self.reader, room);
+        self.asked = self.asked.and(&());
+        match took {
+            Take::Got(n) => self.taken.extend(&room[..n]),
+            Take::End => {}
+            Take::Failed => self.failed = self.failed.and(&()),
+        }
+        took
+    }
+}

@@ -1,0 +1,60 @@
+//! Writing.
+ghost use Rattle.std.specs.Prelude.{◌≡◌, ◌≤◌, [], length};
+ghost use Rattle.session_text.specs.Endings.{Tells};
+ghost use Rattle.session_text.specs.Writes.{IsWritten};
+
+use crate::page::Page;
+use crate::reply::add_reply;
+use dump_pump::{Outlet, Put};
+use heap_trail::Reply;
+
+/// The most bytes of a page to which a line is added.
+const LINE_START: usize = 8000;
+
+/// Puts out all bytes, unless a write fails.
+pub fn write_all<O: Outlet>(outlet: &mut O, bytes: &[u8]) -> bool
+    ensures { IsWritten bytes.now (O.seen outlet.old) (O.seen outlet.new) result }
+{
+    let mut at = 0;
+    while at < bytes.len() {
+        match outlet.put(&bytes[at..]) {
+            Put::Took(n) => at += n,
+            Put::Failed => return false,
+        }
+    }
+    true
+}
+
+/// Puts out a page, which is empty afterwards.
+pub fn flush<O: Outlet>(page: &mut Page, outlet: &mut O) -> bool
+    ensures written { IsWritten page.old (O.seen outlet.old) (O.seen outlet.new) result }
+    ensures empty { page.new ≡ [] }
+{
+    let written = write_all(outlet, page.as_slice());
+    page.clear();
+    written
+}
+
+/// Puts out a page that has no room for a line.
+pub fn make_room<O: Outlet>(page: &mut Page, outlet: &mut O) -> bool
+    ensures room { length page.new ≤ 8000 }
+    ensures fault { Tells (O.seen outlet.old) (O.seen outlet.new) result }
+{
+    if page.as_slice().len() <= LINE_START {
+        return true;
+    }
+    flush(page, outlet)
+}
+
+/// Puts out a page and a reply behind it.
+pub fn write_reply<O: Outlet>(page: &mut Page, outlet: &mut O, reply: Reply) -> bool
+    ensures empty { page.new ≡ [] }
+    ensures fault { Tells (O.seen outlet.old) (O.seen outlet.new) result }
+{
+    if !make_room(page, outlet) {
+        page.clear();
+        return false;
+    }
+    add_reply(page, reply);
+    flush(page, outlet)
+}

@@ -1,4 +1,5 @@
-# `make run` proves, builds and runs the worked example; `make test` is the whole gate.
+# `make run` proves, builds and runs the worked example; `make test` is the whole gate, before which
+# the tests of the regions are run with each of the first six allocations refused.
 .PHONY: run test bench
 
 run:
@@ -6,6 +7,7 @@ run:
 
 test:
 	cmp examples/point.session crates/heapdbg/stdin
+	for n in 1 2 3 4 5 6; do (cd crates/heap_region && rt try --test --fail-alloc $$n) || exit 1; done
 	rt ci
 
 bench:

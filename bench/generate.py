@@ -2,7 +2,9 @@
 """Prints a session of many lines, the same for the same seed: `generate.py KIND COUNT [SEED]`.
 
 KIND `first` mixes `new`, `put` and `rewind` over one class of two fields.
-KIND `last` fills every region but the last with objects of one size, and then makes and takes back objects in the last."""
+KIND `last` fills every region but the last with objects of one size, and then makes and takes back objects in the last.
+KIND `puts` writes the two fields of one object.
+KIND `mixed` makes objects and arrays until some thousands are there, and else stores, loads, puts, moves and clears."""
 import random
 import sys
 
@@ -30,10 +32,41 @@ def last(count, rng):
         yield "rewind 1"
 
 
+def mixed(count, rng):
+    yield "class Node - next:object v:long"
+    yield "new 0 0 0"
+    yield "newprim 0 1 int 10"
+    for _ in range(count):
+        pick = rng.random()
+        mutator = rng.randrange(2)
+        register = rng.randrange(2, 8)
+        if pick < 0.005:
+            yield f"new {mutator} {register} 0"
+        elif pick < 0.006:
+            yield f"newprim {mutator} {register} int {rng.randrange(16)}"
+        elif pick < 0.25:
+            yield f"store 0 0 0 {rng.choice((0, 2, 3, 4))}"
+        elif pick < 0.50:
+            yield f"put 0 0 1 {rng.randrange(1 << 64)}"
+        elif pick < 0.75:
+            yield f"load 0 {register} 0 {rng.randrange(2)}"
+        elif pick < 0.90:
+            yield f"move {mutator} {register} 0 {rng.randrange(2)}"
+        else:
+            yield f"clear {mutator} {register}"
+
+
+def puts(count, rng):
+    yield "class Point - x:int y:int"
+    yield "new 0 0 0"
+    for _ in range(count):
+        yield f"put 0 0 {rng.randrange(2)} {rng.randrange(1 << 32)}"
+
+
 def main():
     kind, count = sys.argv[1], int(sys.argv[2])
     rng = random.Random(int(sys.argv[3]) if len(sys.argv) > 3 else 1)
-    print("\n".join({"first": first, "last": last}[kind](count, rng)))
+    print("\n".join({"first": first, "last": last, "mixed": mixed, "puts": puts}[kind](count, rng)))
 
 
 if __name__ == "__main__":

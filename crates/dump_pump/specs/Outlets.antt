@@ -1,5 +1,5 @@
 -- What a put does.
-use Rattle.std.specs.Prelude.{◌≡◌, ℕ, ◌+◌, ◌<◌, ◌≤◌, List, ◌++◌, take, length, Option, Some, None}
+use Rattle.std.specs.Prelude.{◌≡◌, ℕ, ◌+◌, ◌<◌, ◌≤◌, List, ◌++◌, map, take, length, Option, Some, None}
 use Rattle.std.specs.Io.KnownBytes.{Appends, Keeps}
 use Rattle.dump_pump.specs.declared.Put.{Put}
 use Rattle.dump_pump.specs.declared.Put.TheVariants.{Took, Failed}
@@ -8,6 +8,10 @@ use Rattle.dump_pump.specs.declared.Put.TheVariants.{Took, Failed}
 pub record Outgoing : Type 0 where
   pub out : List ℕ
   pub failures : ℕ
+
+-- the bytes of a ledger
+abbrev pub bytes_of : List (ℕ × Unit {0}) → List ℕ
+bytes_of entries = map (λ e. e.0) entries
 
 -- a put takes a part at the front of what it is given, or fails and takes nothing
 abbrev pub IsPut : List ℕ → Outgoing → Outgoing → Put → Type 0

@@ -1,11 +1,10 @@
 //! Where the bytes of a dump and the lines of a session go.
 #![tactic(auto)]
 
-pub mod history;
+pub mod ledger;
 pub mod outlet;
 pub mod write_outlet;
 
-pub use history::History;
 pub use outlet::Outlet;
 pub use write_outlet::WriteOutlet;
 

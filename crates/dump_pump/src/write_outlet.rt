@@ -1,9 +1,10 @@
 //! Outlets over writers.
-ghost use Rattle.std.specs.Prelude.{◌<◌, length};
+ghost use Rattle.std.specs.Prelude.{◌≡◌, ◌<◌, [], length};
 ghost use Rattle.dump_pump.specs.Outlets.{IsTriedWrite};
 
-use crate::history::History;
+use crate::ledger::note_bytes;
 use crate::{Outlet, Put};
+use http_server::Log;
 use std::io::{ErrorKind, Write};
 
 /// How often an interrupted write is made again.
@@ -13,22 +14,27 @@ pub const INTERRUPT_LIMIT: u32 = 100;
 #[derive(Drop)]
 pub struct WriteOutlet<W: Write> {
     writer: W,
-    written: History<u8>,
-    failed: History<()>,
+    written: Log<u8, ()>,
+    failed: Log<(), ()>,
 }
 
 impl<W: Write> WriteOutlet<W> {
     /// An outlet that has put out nothing yet.
-    pub fn new(writer: W) -> WriteOutlet<W> {
+    pub fn new(writer: W) -> WriteOutlet<W>
+        ensures given { result.writer ≡ writer }
+        ensures nothing { (result.written.items ≡ []) × (result.failed.items ≡ []) }
+    {
         WriteOutlet {
             writer,
-            written: History::new(),
-            failed: History::new(),
+            written: Log::new(),
+            failed: Log::new(),
         }
     }
 
     /// The writer.
-    pub fn into_writer(self) -> W {
+    pub fn into_writer(self) -> W
+        ensures { result ≡ self.writer }
+    {
         let WriteOutlet {
             writer,
             written: _,
@@ -59,17 +65,18 @@ fn write_once<W: Write>(writer: &mut W, given: &[u8]) -> Option<usize>
 
 impl<W: Write> Outlet for WriteOutlet<W> {
     ghost use Rattle.std.specs.Prelude.{length};
+    ghost use Rattle.dump_pump.specs.Outlets.{bytes_of};
 
-    ghost seen = { λ o. record { out = o.written.items; failures = length o.failed.items } };
+    ghost seen = { λ o. record { out = bytes_of o.written.items; failures = length o.failed.items } };
 
     fn put(&mut self, given: &[u8]) -> Put {
         match write_once(&mut self.writer, given) {
             Some(n) => {
-                self.written.extend(&given[..n]);
+                note_bytes(&mut self.written, &given[..n]);
                 Put::Took(n)
             }
             None => {
-                self.failed = self.failed.and(&());
+                self.failed = self.failed.and(&(), &());
                 Put::Failed
             }
         }

@@ -705,6 +705,14 @@ impl Classes {
         self.entries[class as usize].fields[field as usize].kind
     }
 
+    /// The distinct names of classes and fields, in order of first use: class by class the class name, then its own
+    /// fields' names. Takes no memory.
+    pub fn name_table(&self) -> &IndexSet<Name>
+        ensures { result.now.keys ≡ name_table self.now }
+    {
+        &self.names
+    }
+
     /// How many distinct names there are, of classes and fields.
     pub fn name_count(&self) -> u64
         ensures value { result ≡ length (name_table self.now) }

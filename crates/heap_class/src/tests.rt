@@ -79,7 +79,7 @@ fn names_have_ids_by_first_use(rt: HostRuntime) -> Result<(), Fail> {
     assert_eq!(rt; classes.name_count(), 4);
     assert_eq!(rt; classes.name_at(3), b"Sub".as_slice());
     classes.undefine_last();
-    assert_eq!(rt; classes.name_count(), 3);
+    assert_eq!(rt; classes.name_table().len(), 3);
     Ok(())
 }
 

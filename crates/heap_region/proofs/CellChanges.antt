@@ -1,13 +1,13 @@
 -- What each call of a storage shows afterwards, and that it is sound.
 use Rattle.std.specs.Prelude.{slice_get}
 use Rattle.std.proofs.Math.Nat.{mul-le-mul_left}
-use Rattle.std.proofs.Common.{IsTrue, nat_eq, ◌≡◌, ◌⊎◌, ℕ, zero, suc, ◌+◌, ◌-◌, ◌*◌, ◌<◌, ◌≤◌, Bool, true, false, ◌||◌, not, eqb, List, length, [], ◌∷◌, ◌++◌, map, Option, Some, None, is_none, IsSome, option_map, get_or, set, take, drop, replicate, refl, sym, ap, ap₂, subst, ◌∙◌, inl, inr, arith, rules, length-set, length-take, length-drop, length-append}
-use Rattle.std.proofs.lemmas.Bool.{cases_eq, cases_lt, ne_eqb, eq-eqb, eqb-false, both_ways}
-use Rattle.std.proofs.lemmas.List.{ext_get_or, get_or-set_same, get_or-set_other, get_or-take, get_or-drop, get_or_past, get_or_append_left, get_or-append_right, length-take-le, drop_at, take_at, set-get_or, drop-set-add, get_or_read}
+use Rattle.std.proofs.Common.{◌≡◌, ℕ, zero, suc, ◌+◌, ◌-◌, ◌*◌, ◌<◌, ◌≤◌, Bool, true, false, ◌||◌, eqb, List, length, [], ◌∷◌, ◌++◌, map, Option, Some, None, is_none, IsSome, option_map, get_or, set, take, drop, refl, sym, ap, ap₂, subst, ◌∙◌, inl, inr, arith, rules, length-set, length-take, length-drop, length-append}
+use Rattle.std.proofs.lemmas.Bool.{cases_lt, eq-eqb}
+use Rattle.std.proofs.lemmas.List.{get_or-set_same, get_or-set_other, get_or-take, get_or-drop, get_or_past, get_or_append_left, get_or-append_right, length-take-le, drop_at, take_at, set-get_or, drop-set-add}
 use Rattle.std.specs.List.{list_any}
 use Rattle.heap_region.specs.Regions.{Object, UsedRegion}
 use Rattle.heap_region.specs.declared.storage.Header.{Header}
-use Rattle.heap_region.specs.Layout.{IsWhole, ObjectFits, words_of, cell_object, with_cell, changed_at, word_set, cell_freed, filled, Heads, overwritten, IsApart, is_vacant, header_object, cells_from, walk, IsChain, HeaderFits, IsLocal, IsSound}
+use Rattle.heap_region.specs.Layout.{IsWhole, ObjectFits, words_of, with_cell, changed_at, word_set, cell_freed, filled, Heads, overwritten, is_vacant, header_object, cells_from, walk, IsChain, HeaderFits, IsLocal, IsSound}
 use Rattle.heap_region.proofs.Cells.{length-cells_from, cells_changed, cell_shows, cell_lies, header_within, header_shows, length_of_object}
 use Rattle.heap_region.proofs.Sound.{shown, sound_written, sound_filled, sound_freed, sound_closes, walk_finds, vacant_within, vacant_at, size_positive}
 
@@ -164,14 +164,6 @@ module _ (size : ℕ) (pending : Bool) (ws : List ℕ) (hs : List (Option Header
           (λ gs. IsSound size new gs link (walk (length gs) size new link) × (shown size pending new gs link ≡ changed_at (shown size pending ws hs link) cell (word_set slot v)))
           back
           (changed cell new h h (word_set slot v) is local fits (ap (λ zs. Some (record { kind = h.kind; words = zs; live = h.live; mark = h.mark })) words))
-
-  -- `put`, at words and a link that are known by equations
-  pub put_in : (cell : ℕ) (ys : List ℕ) (h : Header) → Heads cell (walk (length hs) size ws link) → HeaderFits size (Some h) → h.len ≡ length ys → (new : List ℕ) (next : ℕ) → new ≡ overwritten ws (cell * size) ys → next ≡ get_or ws (cell * size) next → IsSound size new (set hs cell (Some h)) next (walk (length (set hs cell (Some h))) size new next) × (shown size pending new (set hs cell (Some h)) next ≡ filled (shown size pending ws hs link) cell (record { kind = h.kind; words = ys; live = h.live; mark = h.mark }))
-  put_in cell ys h heads fit len new next is read =
-      let lies : cell * size + size ≤ length ws = (head_vacant size ws hs link (walk (length hs) size ws link) cell sound heads).1 in
-      let wide : 4 ≤ size = size_positive size sound.sized in
-      let at : next ≡ get_or ws (cell * size) 0 = get_or_read ws (cell * size) next (omega arith) read 0 in
-      rw (is, at) (put cell ys h heads fit len)
 
 -- the head of the list, by the link
 pub first_known : (size : ℕ) (ws : List ℕ) (link : ℕ) (free : List ℕ) → IsChain size ws link free → (link ≡ 0 → ⊥) → Some (link - 1) ≡ slice_get free 0

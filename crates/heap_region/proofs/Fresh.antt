@@ -1,13 +1,11 @@
 -- A fresh region: its links, and what it shows.
-use Rattle.std.proofs.Common.{◌≡◌, ◌⊎◌, ℕ, zero, suc, ◌+◌, ◌-◌, ◌*◌, ◌/◌, ◌<◌, ◌≤◌, Bool, true, false, ◌||◌, eqb, nat_lt, cond, List, length, [], ◌∷◌, map, Option, Some, None, is_none, get_or, set, replicate, refl, sym, ap, ap₂, subst, ◌∙◌, inl, inr, arith, mul-le-mul_right, take, drop, ◌++◌, append-nil}
+use Rattle.std.proofs.Common.{◌≡◌, ℕ, zero, suc, ◌+◌, ◌-◌, ◌*◌, ◌/◌, ◌<◌, ◌≤◌, true, false, ◌||◌, eqb, nat_lt, List, length, [], ◌∷◌, Option, None, is_none, get_or, set, replicate, refl, sym, ap, ap₂, subst, ◌∙◌, inl, inr, arith, mul-le-mul_right, take, ◌++◌}
 use Rattle.std.proofs.lemmas.Bool.{cases_eq, ne_eqb, eq-eqb, lt-ltb, le-ltb, cond-true, cond-false}
 use Rattle.std.proofs.lemmas.List.{length-replicate, get_or-set_same, get_or-set_other}
-use Rattle.std.proofs.lemmas.List.FromFn.{length-range_with_len}
 use Rattle.std.specs.List.{list_any, range_with_len}
-use Rattle.heap_region.specs.Regions.{Object, UsedRegion}
 use Rattle.heap_region.specs.declared.storage.Header.{Header}
-use Rattle.heap_region.specs.Layout.{IsCellSize, fresh_table, IsApart, is_vacant, header_object, cells_from, walk, IsChain, HeaderFits, IsSound, next_link}
-use Rattle.heap_region.proofs.Sound.{shown, sound_closes, walk_finds}
+use Rattle.heap_region.specs.Layout.{IsCellSize, fresh_table, IsApart, is_vacant, cells_from, IsChain, IsSound, next_link}
+use Rattle.heap_region.proofs.Sound.{shown, walk_finds}
 use Rattle.heap_region.proofs.CellChanges.{same_shown}
 
 pub cells_fill : (size : ℕ) → IsCellSize size → (1024 / size * size ≡ 1024) × (0 < 1024 / size) × (4 ≤ size)

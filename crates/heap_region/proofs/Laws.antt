@@ -1,5 +1,5 @@
 -- A second change that takes the first back.
-use Rattle.std.proofs.Common.{◌≡◌, ℕ, Bool, List, ◌∷◌, Option, Some, None, IfSome, IsSomeAnd, set, drop, refl, sym, ap, subst, ◌∙◌}
+use Rattle.std.proofs.Common.{◌≡◌, ℕ, Bool, List, ◌∷◌, Option, Some, None, IfSome, IsSomeAnd, length, option_map, set, drop, refl, sym, ap, subst, ◌∙◌}
 use Rattle.std.specs.Prelude.{slice_get, option_and_then}
 use Rattle.std.proofs.lemmas.List.{set-set}
 use Rattle.heap_class.specs.declared.ObjRef.{ObjRef}
@@ -8,8 +8,9 @@ use Rattle.heap_region.specs.Regions.{Object, UsedRegion, Region, Empty, InUse, 
 use Rattle.heap_region.specs.Changes.{with_live, with_pending}
 use Rattle.heap_region.specs.Pool.{RegionPool, taken, freed, restored, released}
 use Rattle.heap_region.specs.Legal.{IsRegionPool}
-use Rattle.heap_region.proofs.Lookups.{object_back, region_back}
-use Rattle.heap_region.proofs.Places.{freed_taken, HeadIsEmpty}
+use Rattle.heap_region.specs.Layout.{FitsWords}
+use Rattle.heap_region.proofs.Lookups.{object_back, region_back, used_there}
+use Rattle.heap_region.proofs.Places.{freed_taken}
 use Rattle.heap_region.proofs.Good.{head_is_empty, pool_is_empty}
 
 known : {A : Type 0} (P : A → Type 0) (o : Option A) (x : A) → IfSome o P → o ≡ Some x → P x
@@ -43,6 +44,19 @@ cell_there regions at u o used there =
     inner : (x : Option (Option Object)) → option_and_then (λ (o : Option Object). o) x ≡ Some o → x ≡ Some (Some o)
     inner None e = cc
     inner (Some y) e = ap Some e
+
+-- a cell whose object left it heads the free list, and the object fits
+pub freed_heads : (at : ObjRef) (o : Object) (s : RegionPool) → IsRegionPool s → object_at s.regions at ≡ Some o → IsSomeAnd (used_at (freed at s).regions at.region) (λ u. (slice_get u.free 0 ≡ Some at.cell) × FitsWords u.cell_size (length o.words))
+unfolding freed object_at
+freed_heads at o s legal there = rw (used_there at.region _ s.regions) (go (used_at s.regions at.region) refl)
+  where
+    go : (x : Option UsedRegion) → used_at s.regions at.region ≡ x → IsSomeAnd (option_map (λ (u : UsedRegion). record u { cells = set u.cells at.cell None; free = at.cell ∷ u.free }) x) (λ u. (slice_get u.free 0 ≡ Some at.cell) × FitsWords u.cell_size (length o.words))
+    go None e =
+        let none : ◌≡◌ {A = Option Object} None (Some o) = ap (option_and_then (λ (u : UsedRegion). option_and_then (λ (o : Option Object). o) (slice_get u.cells at.cell))) (sym e) ∙ there in
+        absurd (cc)
+    go (Some u) e =
+        let cell : slice_get u.cells at.cell ≡ Some (Some o) = cell_there s.regions at u o e there in
+        (refl, ((legal.tables at.region u e).fits at.cell o cell, (legal.tables at.region u e).least at.cell o cell))
 
 -- an object that left its cell is put back
 pub freed_back : (at : ObjRef) (o : Object) (s : RegionPool) → object_at s.regions at ≡ Some o → taken at o (freed at s) ≡ s

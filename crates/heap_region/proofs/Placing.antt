@@ -1,6 +1,6 @@
 -- Where a new object goes, what refuses it, and the state afterwards.
-use Rattle.std.proofs.Common.{◌≡◌, ℕ, zero, suc, ◌+◌, ◌-◌, ◌*◌, ◌%◌, ◌/◌, ◌<◌, ◌≤◌, Bool, true, false, cond, List, [], ◌∷◌, length, set, replicate, Option, Some, None, IsSome, IsSomeAnd, get_or, inl, inr, refl, sym, ap, subst, ◌∙◌, arith, rules, get_or-set_same}
-use Rattle.std.specs.Prelude.{◌⊎◌, nat_lt, nat_le, unwrap_or, is_none, slice_get, option_and_then, drop}
+use Rattle.std.proofs.Common.{◌≡◌, ℕ, zero, suc, ◌+◌, ◌-◌, ◌*◌, ◌%◌, ◌/◌, ◌<◌, ◌≤◌, Bool, true, false, cond, List, length, set, replicate, Option, Some, None, IsSome, IsSomeAnd, get_or, inl, inr, refl, sym, ap, subst, ◌∙◌, arith, rules}
+use Rattle.std.specs.Prelude.{◌⊎◌, nat_le, unwrap_or, is_none, slice_get, option_and_then, drop}
 use Rattle.std.specs.List.{filter_map, enumerate_from, range_with_len}
 use Rattle.std.specs.Option.{option_map_or}
 use Rattle.std.proofs.lemmas.Bool.{lt-ltb, le-ltb}
@@ -8,7 +8,6 @@ use Rattle.std.proofs.lemmas.List.{length-replicate}
 use Rattle.std.proofs.lemmas.Option.{cond_some}
 use Rattle.heap_class.specs.declared.ObjRef.{ObjRef}
 use Rattle.heap_class.specs.declared.ObjKind.{ObjKind}
-use Rattle.heap_class.specs.declared.Refusal.{Refusal}
 use Rattle.heap_class.specs.declared.Refusal.TheVariants.{TooLarge, HeapFull}
 use Rattle.heap_class.specs.Refusals.{first_refusal}
 use Rattle.heap_region.specs.Regions.{Object, UsedRegion, Region, InUse, used_at, object_at, object_base, id_of, cell_around, ref_of, object_of, in_used, with_region, cell_size_for}

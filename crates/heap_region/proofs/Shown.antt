@@ -3,7 +3,7 @@ use Rattle.std.proofs.Common.{◌≡◌, ℕ, zero, suc, ◌<◌, Bool, List, le
 use Rattle.std.specs.Prelude.{slice_get, option_and_then, drop}
 use Rattle.std.proofs.lemmas.List.{map-set}
 use Rattle.heap_class.specs.declared.ObjRef.{ObjRef}
-use Rattle.heap_region.specs.Regions.{Object, UsedRegion, Region, Empty, InUse, used_part, used_at, object_at, updated, in_used, with_region, with_object, with_word, with_mark}
+use Rattle.heap_region.specs.Regions.{Object, UsedRegion, Region, used_part, used_at, object_at, updated, in_used, with_region, with_object, with_word, with_mark}
 use Rattle.heap_region.specs.Changes.{with_live, with_pending}
 use Rattle.heap_region.specs.Pool.{RegionPool, taken, freed, released, restored}
 use Rattle.heap_region.specs.Layout.{cell_object, words_of, cell_freed, changed_at, filled, word_set, mark_set, live_set, pending_set}

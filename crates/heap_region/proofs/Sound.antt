@@ -1,13 +1,12 @@
 -- How each change of one cell keeps the storage sound, and what it shows then.
-use Rattle.std.proofs.Common.{◌≡◌, ◌⊎◌, ℕ, zero, suc, ◌+◌, ◌*◌, ◌<◌, ◌≤◌, Bool, true, false, ◌||◌, not, eqb, List, length, [], ◌∷◌, map, Option, Some, None, is_none, get_or, set, refl, sym, ap, subst, ◌∙◌, inl, inr, arith, length-set}
-use Rattle.std.proofs.lemmas.Bool.{cases_eq, cases_lt, ne_eqb, eq-eqb, eqb-false, both_ways, or_parts}
+use Rattle.std.proofs.Common.{◌≡◌, ℕ, ◌+◌, ◌*◌, ◌<◌, ◌≤◌, Bool, true, false, ◌||◌, eqb, List, length, [], ◌∷◌, map, Option, None, is_none, get_or, set, refl, sym, ap, subst, ◌∙◌, inl, inr, arith, length-set}
+use Rattle.std.proofs.lemmas.Bool.{cases_eq, cases_lt, ne_eqb, eq-eqb, both_ways, or_parts}
 use Rattle.std.proofs.lemmas.List.{map-set, length-map, get_or-map, get_or-set_same, get_or-set_other, get_or_past}
 use Rattle.std.proofs.lemmas.Map.Steps.{length-le_from_distinct_below}
 use Rattle.std.specs.List.{list_any, IsDistinct, AllByRecursion}
-use Rattle.heap_region.specs.Regions.{Object, UsedRegion}
+use Rattle.heap_region.specs.Regions.{UsedRegion}
 use Rattle.heap_region.specs.declared.storage.Header.{Header}
-use Rattle.heap_region.specs.Layout.{IsCellSize, IsApart, is_vacant, header_object, cells_from, walk, IsChain, HeaderFits, IsLocal, IsSound}
-use Rattle.heap_region.proofs.Cells.{cells_changed, cell_shows}
+use Rattle.heap_region.specs.Layout.{IsCellSize, IsApart, is_vacant, cells_from, walk, IsChain, HeaderFits, IsLocal, IsSound}
 use Rattle.heap_region.proofs.Links.{walk_is, chain_kept}
 
 pub size_positive : (size : ℕ) → IsCellSize size → 4 ≤ size

@@ -1,12 +1,12 @@
 -- How each change of one region keeps the tables right.
-use Rattle.std.proofs.Common.{◌≡◌, ◌⊎◌, ℕ, zero, suc, ◌+◌, ◌-◌, ◌<◌, ◌≤◌, Bool, true, false, ◌||◌, eqb, List, length, [], ◌∷◌, map, reverse, Option, Some, None, is_none, IsSome, IfSome, IsSomeAnd, option_map, get_or, set, drop, ◌++◌, option_to_list, replicate, rules, refl, sym, ap, subst, ◌∙◌, inl, inr, arith, length-set}
+use Rattle.std.proofs.Common.{◌≡◌, ◌⊎◌, ℕ, zero, suc, ◌+◌, ◌<◌, ◌≤◌, Bool, true, false, ◌||◌, eqb, List, length, [], ◌∷◌, map, reverse, Option, Some, None, is_none, IsSome, IfSome, IsSomeAnd, option_map, get_or, set, drop, ◌++◌, option_to_list, replicate, rules, refl, sym, ap, subst, ◌∙◌, inl, inr, arith, length-set}
 use Rattle.std.proofs.lemmas.Bool.{cases_eq, cases_lt, ne_eqb, eq-eqb, both_ways}
 use Rattle.std.proofs.lemmas.List.{reverse-append, length-reverse, length-replicate, get_or_read, get_or-map, set-get_or, map-set, length-map, get_or-set_same, get_or-set_other, get_or_past}
 use Rattle.std.proofs.lemmas.Map.Steps.{length-le_from_distinct_below}
 use Rattle.std.specs.List.{list_any, range_with_len}
 use Rattle.std.specs.Prelude.{slice_get}
 use Rattle.heap_class.proofs.Lists.{head_back}
-use Rattle.heap_region.specs.Regions.{Object, UsedRegion, Region, Empty}
+use Rattle.heap_region.specs.Regions.{Object, UsedRegion, Empty}
 use Rattle.heap_region.specs.Layout.{Heads, IsApart, IsWhole, FitsWords, is_vacant, filled, cell_freed, changed_at, pending_set}
 use Rattle.heap_region.specs.Table.{shown_region, room_of, slot_object, IsTable, IsGood}
 use Rattle.heap_region.proofs.Sound.{distinct, vacant_within, vacant_at, vacant_changed, vacant_other}

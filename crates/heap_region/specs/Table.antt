@@ -1,5 +1,5 @@
 -- How all regions lie in their tables.
-use Rattle.std.specs.Prelude.{◌≡◌, ℕ, ◌≤◌, ◌<◌, Bool, true, false, List, length, [], ◌∷◌, map, Option, Some, None, IsSome, eqb, nat_le, slice_index_or, slice_get, if◌then◌else◌}
+use Rattle.std.specs.Prelude.{◌≡◌, ℕ, ◌≤◌, List, length, [], ◌∷◌, map, Option, Some, None, IsSome, eqb, nat_le, slice_index_or, slice_get, if◌then◌else◌}
 use Rattle.std.specs.List.{list_any}
 use Rattle.heap_region.specs.Regions.{Object, UsedRegion, Region, Empty, InUse}
 use Rattle.heap_region.specs.Layout.{IsApart, IsWhole, is_vacant, cell_object}

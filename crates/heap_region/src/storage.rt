@@ -1,9 +1,10 @@
 //! A region in use: 1,024 words, cut into cells of one size, with the free cells in a list that lies in them.
-ghost use Rattle.std.specs.Prelude.{◌≡◌, ℕ, ◌+◌, ◌-◌, ◌*◌, ◌/◌, ◌<◌, ◌≤◌, List, [], ◌∷◌, length, ◌↔◌, IsTrue, IfOk, IsSome, IfSome, slice_index, slice_index_or, replicate, take, drop, Some, None, is_some, slice_get};
+ghost use Rattle.std.specs.Prelude.{◌≡◌, ℕ, ◌+◌, ◌-◌, ◌*◌, ◌/◌, ◌<◌, ◌≤◌, List, [], ◌∷◌, length, ◌↔◌, IsTrue, IfOk, IsSome, IfSome, slice_index, slice_index_or, replicate, take, drop, Some, None, is_some, slice_get, slice_set};
 ghost use Rattle.heap_region.specs.Layout.{next_link, IsCellSize, IsWhole, FitsWords, fresh_table, cell_object, words_at, changed_at, word_set, mark_set, live_set, cell_freed, filled, Heads, new_object, overwritten, header_live};
 ghost use Rattle.heap_region.specs.Live.{IsNextLive};
 
 use crate::lists::FreeCells;
+use arrayvec::ArrayVec;
 use heap_class::ObjKind;
 use std::alloc::{AllocError, Global};
 use std::marker::Model;
@@ -16,14 +17,20 @@ struct Header {
     mark: bool,
 }
 
+// What one region takes of the memory.
+#[derive(Drop)]
+struct Block {
+    words: [u64; 1024],
+    // What is in each cell; none where it is free.
+    headers: ArrayVec<Option<Header>, 256>,
+}
+
 /// A region in use.
 #[derive(Drop)]
 pub struct Storage {
     cell_size: usize,
     pending: bool,
-    words: Vec<u64>,
-    // What is in each cell; none where it is free.
-    headers: Vec<Option<Header>>,
+    block: Box<Block>,
     // The number of the cell that heads the free list, and one; 0 where there is none.
     // The first word of each free cell has the next such number.
     head: u64,
@@ -40,11 +47,11 @@ impl Model for Storage {
     ghost view = { λ s. record {
       cell_size = s.cell_size;
       pending = s.pending;
-      cells = cells_from s.cell_size s.words.items 0 s.headers.items;
-      free = walk (length s.headers.items) s.cell_size s.words.items s.head;
+      cells = cells_from s.cell_size s.block.value.words 0 s.block.value.headers.items;
+      free = walk (length s.block.value.headers.items) s.cell_size s.block.value.words s.head;
     } };
 
-    ghost invariant = { λ s. IsSound s.cell_size s.words.items s.headers.items s.head (walk (length s.headers.items) s.cell_size s.words.items s.head) };
+    ghost invariant = { λ s. IsSound s.cell_size s.block.value.words s.block.value.headers.items s.head (walk (length s.block.value.headers.items) s.cell_size s.block.value.words s.head) };
 }
 
 /// A copy of an object: its kind, its slots and its two bits.
@@ -133,6 +140,39 @@ fn link_cells(words: &mut [u64], cell_size: usize, count: usize)
     }
 }
 
+// Writes what is in a cell.
+fn set_header(headers: &mut ArrayVec<Option<Header>, 256>, cell: usize, header: Option<Header>)
+    requires { cell < length headers.old.items }
+    ensures { headers.new.items ≡ slice_set headers.old.items cell header }
+{
+    headers[cell] = header;
+}
+
+// Adds so many cells, all of them free.
+fn add_vacant(headers: &mut ArrayVec<Option<Header>, 256>, count: usize)
+    requires none { headers.old.items ≡ [] }
+    requires few { count ≤ 256 }
+    ensures { headers.new.items ≡ replicate count None }
+{
+    for _ in 0..count {
+        headers.push(None);
+    }
+}
+
+impl Block {
+    // Words that are all 0, and no cells. It stays a call, so that no other function has a block on its stack.
+    #[inline(never)]
+    fn blank(alloc: Global) -> Result<Box<Block>, AllocError>
+        ensures { IfOk result (λ b. (b.value.words ≡ replicate 1024 0) × (b.value.headers.items ≡ [])) }
+    {
+        let blank = Block {
+            words: [0; 1024],
+            headers: ArrayVec::new(),
+        };
+        Ok(Box::new(alloc, blank)?)
+    }
+}
+
 impl Storage {
     /// A region with cells of this size, all of them free.
     pub(crate) fn new(alloc: Global, cell_size: usize) -> Result<Storage, AllocError>
@@ -140,16 +180,13 @@ impl Storage {
         ensures { IfOk result (λ s. s ≡ fresh_table cell_size) }
     {
         let count = 1024 / cell_size;
-        let mut words = Vec::new(alloc);
-        words.resize(1024, 0)?;
-        let mut headers = Vec::new(alloc);
-        headers.resize(count, None)?;
-        link_cells(&mut words, cell_size, count);
+        let mut block = Block::blank(alloc)?;
+        add_vacant(&mut block.headers, count);
+        link_cells(&mut block.words, cell_size, count);
         Ok(Storage {
             cell_size,
             pending: false,
-            words,
-            headers,
+            block,
             head: 1,
         })
     }
@@ -192,10 +229,11 @@ impl Storage {
     pub(crate) fn free_list(&self) -> FreeCells<'_>
         ensures { result ≡ self.now.free }
     {
+        let block = &*self.block;
         FreeCells {
-            words: &self.words,
+            words: &block.words,
             cell_size: self.cell_size,
-            count: self.headers.len(),
+            count: block.headers.len(),
             link: self.head,
         }
     }
@@ -206,7 +244,7 @@ impl Storage {
         ensures value { result ≡ length (words_at self.now cell) }
         ensures limit { result ≤ 1024 }
     {
-        header_at(&self.headers, cell).len
+        header_at(&self.block.headers, cell).len
     }
 
     /// What the object in the cell is.
@@ -214,7 +252,7 @@ impl Storage {
         requires { IsSome (cell_object self.now cell) }
         ensures { IfSome (cell_object self.now cell) (λ o. result ≡ o.kind) }
     {
-        header_at(&self.headers, cell).kind
+        header_at(&self.block.headers, cell).kind
     }
 
     /// The two bits of the object in the cell, `live` and `mark`.
@@ -222,7 +260,7 @@ impl Storage {
         requires { IsSome (cell_object self.now cell) }
         ensures { IfSome (cell_object self.now cell) (λ o. (result.0 ≡ o.live) × (result.1 ≡ o.mark)) }
     {
-        let header = header_at(&self.headers, cell);
+        let header = header_at(&self.block.headers, cell);
         (header.live, header.mark)
     }
 
@@ -230,7 +268,7 @@ impl Storage {
     pub(crate) fn has_object(&self, cell: usize) -> bool
         ensures { result ≡ is_some (cell_object self.now cell) }
     {
-        is_taken(&self.headers, cell)
+        is_taken(&self.block.headers, cell)
     }
 
     /// The first cell from this one on that has a live object.
@@ -238,8 +276,9 @@ impl Storage {
         ensures value { IsNextLive self.now from result }
         ensures limit { IfSome result (λ cell. cell < 256) }
     {
-        for cell in from..self.headers.len() {
-            if is_live(&self.headers[cell]) {
+        let headers: &[Option<Header>] = &self.block.headers;
+        for cell in from..headers.len() {
+            if is_live(&headers[cell]) {
                 return Some(cell);
             }
         }
@@ -251,7 +290,7 @@ impl Storage {
         requires { slot < length (words_at self.now cell) }
         ensures { result ≡ slice_index (words_at self.now cell) slot }
     {
-        self.words[cell * self.cell_size + slot]
+        self.block.words[cell * self.cell_size + slot]
     }
 
     /// The words of the object in the cell, in slot order.
@@ -259,8 +298,9 @@ impl Storage {
         requires { IsSome (cell_object self.now cell) }
         ensures { IfSome (cell_object self.now cell) (λ o. result.now ≡ o.words) }
     {
-        let len = header_at(&self.headers, cell).len;
-        part(&self.words, cell * self.cell_size, len)
+        let block = &*self.block;
+        let len = header_at(&block.headers, cell).len;
+        part(&block.words, cell * self.cell_size, len)
     }
 
     /// Writes a word of the object in the cell.
@@ -270,7 +310,7 @@ impl Storage {
         ensures whole { IsWhole self.new }
     {
         let at = cell * self.cell_size + slot;
-        self.words[at] = value;
+        self.block.words[at] = value;
     }
 
     /// Writes the `mark` bit of the object in the cell.
@@ -279,8 +319,9 @@ impl Storage {
         ensures value { self.new ≡ changed_at self.old cell (mark_set mark) }
         ensures whole { IsWhole self.new }
     {
-        let header = header_at(&self.headers, cell);
-        self.headers[cell] = Some(Header { mark, ..header });
+        let block = &mut *self.block;
+        let header = header_at(&block.headers, cell);
+        set_header(&mut block.headers, cell, Some(Header { mark, ..header }));
     }
 
     /// Writes the `live` bit of the object in the cell.
@@ -289,8 +330,9 @@ impl Storage {
         ensures value { self.new ≡ changed_at self.old cell (live_set live) }
         ensures whole { IsWhole self.new }
     {
-        let header = header_at(&self.headers, cell);
-        self.headers[cell] = Some(Header { live, ..header });
+        let block = &mut *self.block;
+        let header = header_at(&block.headers, cell);
+        set_header(&mut block.headers, cell, Some(Header { live, ..header }));
     }
 
     /// A copy of the object in the cell.
@@ -298,9 +340,9 @@ impl Storage {
         requires { IsSome (cell_object self.now cell) }
         ensures { IfOk result (λ o. cell_object self.now cell ≡ Some o) }
     {
-        let header = header_at(&self.headers, cell);
-        let start = cell * self.cell_size;
-        let words = Vec::from_slice(alloc, &self.words[start..start + header.len])?;
+        let block = &*self.block;
+        let header = header_at(&block.headers, cell);
+        let words = Vec::from_slice(alloc, part(&block.words, cell * self.cell_size, header.len))?;
         Ok(ObjectCopy {
             kind: header.kind,
             words,
@@ -315,9 +357,10 @@ impl Storage {
         ensures { self.new ≡ cell_freed self.old cell }
     {
         let start = cell * self.cell_size;
-        self.words[start] = self.head;
+        let block = &mut *self.block;
+        block.words[start] = self.head;
+        set_header(&mut block.headers, cell, None);
         self.head = cell as u64 + 1;
-        self.headers[cell] = None;
     }
 
     /// Puts a new object into the cell, which heads the free list.
@@ -327,14 +370,16 @@ impl Storage {
         ensures { self.new ≡ filled self.old cell (new_object kind len mark) }
     {
         let start = cell * self.cell_size;
-        self.head = self.words[start];
-        clear(&mut self.words, start, len);
-        self.headers[cell] = Some(Header {
+        let block = &mut *self.block;
+        self.head = block.words[start];
+        clear(&mut block.words, start, len);
+        let header = Header {
             kind,
             len,
             live: true,
             mark,
-        });
+        };
+        set_header(&mut block.headers, cell, Some(header));
     }
 
     /// Puts an object back into the cell, which heads the free list.
@@ -344,13 +389,15 @@ impl Storage {
         ensures { self.new ≡ filled self.old cell object.now }
     {
         let start = cell * self.cell_size;
-        self.head = self.words[start];
-        overwrite(&mut self.words, start, &object.words);
-        self.headers[cell] = Some(Header {
+        let block = &mut *self.block;
+        self.head = block.words[start];
+        overwrite(&mut block.words, start, &object.words);
+        let header = Header {
             kind: object.kind,
             len: object.words.len(),
             live: object.live,
             mark: object.mark,
-        });
+        };
+        set_header(&mut block.headers, cell, Some(header));
     }
 }

@@ -1,6 +1,6 @@
 -- What a result of an event says, of `IsApplied`.
 use Rattle.std.proofs.Common.{◌≡◌, ◌⊎◌, ℕ, Bool, true, Option, Some, None, Result, Ok, Err, inl, inr, sym, ap, subst, ◌∙◌, IfOk}
-use Rattle.std.specs.Prelude.{IfErr}
+use Rattle.std.specs.Prelude.{IfErr, if◌then◌else◌}
 use Rattle.std.specs.Option.{option_map_or}
 use Rattle.heap_class.specs.declared.ObjRef.{ObjRef}
 use Rattle.heap_class.specs.declared.Refusal.{Refusal}
@@ -9,11 +9,13 @@ use Rattle.heap_class.specs.Refusals.{IsAnswered}
 use Rattle.heap_region.specs.Pool.{new_place}
 use Rattle.heap_world.specs.State.{HeapState, pool_of, register, place_of, word_of}
 use Rattle.heap_world.specs.Legal.{IsLegal}
+use Rattle.heap_world.specs.Events.{is_reference_slot, is_logged}
 use Rattle.heap_step.specs.declared.Answer.{Answer}
+use Rattle.heap_step.specs.declared.Answer.TheVariants.{Value}
 use Rattle.heap_step.specs.declared.Event.{Event}
 use Rattle.heap_step.specs.declared.Undo.{Undo}
-use Rattle.heap_step.specs.Apply.{refusal_of, state_after, answer_of, applied_unless, applied, event_may_grow}
-use Rattle.heap_step.specs.Records.{new_record, undo_record}
+use Rattle.heap_step.specs.Apply.{refusal_of, state_after, object_or_null, answer_of, applied_unless, applied, event_may_grow}
+use Rattle.heap_step.specs.Records.{reg_record, new_record, undo_record}
 use Rattle.heap_step.specs.Laws.{IsApplied}
 use Rattle.heap_step.proofs.Legal.{keeps_legal}
 
@@ -25,14 +27,29 @@ refused_is e before after r answered same = record { answered = answered; state 
 pub done_is : (e : Event) (before after : HeapState) (a : Answer) (u : Undo) → refusal_of e before ≡ None → after ≡ state_after e before → a ≡ answer_of e before after → u ≡ undo_record e before → IsApplied e before after (Ok (a, u))
 done_is e before after a u accepted state answer recorded = record { answered = accepted; state = state; answer = answer; recorded = recorded; unchanged = tt }
 
--- the record of a new object, and of a put
+-- ---- the records, and what a load answers
+
 pub new_record_is : (w : HeapState) (m r n : ℕ) (at : ObjRef) (fresh : Bool) (old : ℕ) → new_place n (pool_of w) ≡ Some (at, fresh) → old ≡ register w m r → Undo.New at fresh m r old ≡ new_record m r n w
 unfolding new_record
 new_record_is w m r n at fresh old place held =
-    ap (λ x. Undo.New at fresh m r x) held ∙ ap (λ (p : Option (ObjRef × Bool)). option_map_or (λ (p : ObjRef × Bool). Undo.New p.0 p.1 m r (register w m r)) p Undo.Class) (sym place)
+    ap (λ x. Undo.New at fresh m r x) held ∙ ap (λ (p : Option (ObjRef × Bool)). option_map_or (λ (p : ObjRef × Bool). Undo.New p.0 p.1 m r (register w m r)) p (reg_record m r w)) (sym place)
+
+pub reg_record_is : (w : HeapState) (m r old : ℕ) → old ≡ register w m r → Undo.Reg m r old ≡ reg_record m r w
+unfolding reg_record
+reg_record_is w m r old held = ap (λ x. Undo.Reg m r x) held
 
 pub put_record_is : (w : HeapState) (m target slot : ℕ) (at : ObjRef) (old : ℕ) → at ≡ place_of w (register w m target) → old ≡ word_of w (register w m target) slot → Undo.Put at slot old ≡ Undo.Put (place_of w (register w m target)) slot (word_of w (register w m target) slot)
 put_record_is w m target slot at old place held = λ i. Undo.Put (place i) slot (held i)
+
+pub store_record_is : (w : HeapState) (m target slot : ℕ) (at : ObjRef) (old : ℕ) (logged : Bool) → at ≡ place_of w (register w m target) → old ≡ word_of w (register w m target) slot → logged ≡ is_logged w (register w m target) slot
+    → Undo.Store at slot old logged ≡ Undo.Store (place_of w (register w m target)) slot (word_of w (register w m target) slot) (is_logged w (register w m target) slot)
+store_record_is w m target slot at old logged place held log = λ i. Undo.Store (place i) slot (held i) (log i)
+
+pub slot_answer_is : (w : HeapState) (x slot word : ℕ) (reference : Bool) → word ≡ word_of w x slot → reference ≡ is_reference_slot w x slot
+    → (if reference then object_or_null word else Value word) ≡ (if is_reference_slot w x slot then object_or_null (word_of w x slot) else Value (word_of w x slot))
+slot_answer_is w x slot word reference held kind = λ i. if kind i then object_or_null (held i) else Value (held i)
+
+-- ---- the clauses of a result
 
 -- the event is `applied`
 pub done_of : (e : Event) (w v : HeapState) (r : Result (Answer × Undo) Refusal) → IsApplied e w v r → IfOk r (λ p. applied e w ≡ Ok (v, p.0))

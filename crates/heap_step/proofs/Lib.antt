@@ -4,4 +4,5 @@ pub mod EachTakenBack
 pub mod Legal
 pub mod Applied
 pub mod Places
+pub mod Fits
 pub mod Steps

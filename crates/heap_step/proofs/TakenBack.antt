@@ -1,18 +1,21 @@
--- What the records of a class and of a put take back.
-use Rattle.std.proofs.Common.{◌≡◌, ℕ, zero, suc, ◌-◌, List, [], ◌∷◌, ◌++◌, refl, ap, ◌∙◌, length, take, Option, Some, None, false, arith, length-append}
+-- What the records of classes, registers and writes take back.
+use Rattle.std.proofs.Common.{◌≡◌, ℕ, zero, suc, ◌+◌, ◌-◌, ◌*◌, Bool, true, false, not, ◌&&◌, List, [], ◌∷◌, ◌++◌, refl, ap, ◌∙◌, length, take, Option, Some, None, arith, length-append}
 use Rattle.std.proofs.lemmas.List.{set-set, set-get_or, take-append-le}
 use Rattle.std.proofs.Math.Seq.{take-length}
-use Rattle.std.specs.Prelude.{slice_get, slice_index, slice_set, option_map, option_and_then, unwrap_or, is_none}
+use Rattle.std.specs.Prelude.{slice_get, slice_index, slice_set, option_map, option_and_then, unwrap_or, is_none, ◌==◌, if◌then◌else◌}
 use Rattle.std.specs.Option.{option_map_or}
 use Rattle.heap_class.specs.declared.ObjRef.{ObjRef}
 use Rattle.heap_class.specs.declared.Field.{Field}
 use Rattle.heap_class.proofs.Refused.{none_holds}
 use Rattle.heap_region.specs.Regions.{Object, Region, Empty, InUse, updated, in_used, with_region, with_object, with_word, object_at, used_at, object_of, ref_of, slot_kinds}
-use Rattle.heap_world.specs.State.{HeapState, register, place_of, word_of, slot_kind}
-use Rattle.heap_world.specs.Events.{after_class, after_put, with_slot, put_refusal, lacks_slot}
+use Rattle.heap_mark.specs.Marking.{is_marking, logged}
+use Rattle.heap_world.specs.State.{HeapState, marking_of, with_marking, register, with_register, place_of, word_of, slot_kind}
+use Rattle.heap_world.specs.Events.{after_class, after_load, after_move, after_store, after_put, with_slot, is_reference_slot, is_logged, without_last, store_refusal, put_refusal, lacks_slot}
 use Rattle.heap_step.specs.declared.Event.{Event}
+use Rattle.heap_step.specs.declared.Event.TheVariants.{ArrayClass, Load, Move, Clear}
+use Rattle.heap_step.specs.declared.Undo.{Undo}
 use Rattle.heap_step.specs.Apply.{state_after, refusal_of}
-use Rattle.heap_step.specs.Records.{undone, undo_record}
+use Rattle.heap_step.specs.Records.{undone, undo_record, reg_record}
 use Rattle.heap_step.specs.Laws.{IsTakenBack}
 
 -- a list without the item that was put at its end
@@ -24,6 +27,34 @@ all_but_last xs x =
 pub class_back : (w : HeapState) (name : List ℕ) (sup : Option ℕ) (fields : List Field) → IsTakenBack (Event.Class name sup fields) w
 unfolding state_after undone undo_record after_class
 class_back w name sup fields legal accepted = ap (λ l. record w { classes = l }) (all_but_last w.classes _)
+
+pub array_class_back : (w : HeapState) (name : List ℕ) → IsTakenBack (ArrayClass name) w
+unfolding state_after undone undo_record after_class
+array_class_back w name legal accepted = ap (λ l. record w { classes = l }) (all_but_last w.classes _)
+
+-- ---- registers
+
+-- a register that is written twice, the second time with what it had, is as it was
+register_back : (w : HeapState) (m r x : ℕ) → with_register m r (register w m r) (with_register m r x w) ≡ w
+register_back w m r x = ap (λ l. record w { registers = l }) (set-set w.registers (8 * m + r) x (register w m r) ∙ set-get_or w.registers (8 * m + r) 0)
+
+pub clear_back : (w : HeapState) (m r : ℕ) → IsTakenBack (Clear m r) w
+unfolding state_after undone undo_record reg_record
+clear_back w m r legal accepted = register_back w m r 0
+
+pub move_back : (w : HeapState) (m to from_m from : ℕ) → IsTakenBack (Move m to from_m from) w
+unfolding state_after undone undo_record reg_record after_move
+move_back w m to from_m from legal accepted = register_back w m to (register w from_m from)
+
+pub load_back : (w : HeapState) (m to from slot : ℕ) → IsTakenBack (Load m to from slot) w
+unfolding state_after undone undo_record reg_record after_load
+load_back w m to from slot legal accepted = go (is_reference_slot w (register w m from) slot)
+  where
+    go : (b : Bool) → with_register m to (register w m to) (if b then with_register m to (word_of w (register w m from) slot) w else w) ≡ w
+    go true = register_back w m to _
+    go false = ap (λ l. record w { registers = l }) (set-get_or w.registers (8 * m + to) 0)
+
+-- ---- words
 
 -- the word of a slot of the object in a cell
 cell_word : List (Option Object) → ℕ → ℕ → ℕ
@@ -69,3 +100,22 @@ slot_back w x slot value there =
 pub put_back : (w : HeapState) (m target slot value : ℕ) → IsTakenBack (Event.Put m target slot value) w
 unfolding state_after undone undo_record after_put with_slot refusal_of put_refusal
 put_back w m target slot value legal accepted = ap (λ l. record w { regions = l }) (slot_back w (register w m target) slot value (none_holds _ accepted).1.1.0)
+
+pub store_back : (w : HeapState) (m target slot source : ℕ) → IsTakenBack (Event.Store m target slot source) w
+unfolding state_after undone undo_record after_store with_slot is_logged refusal_of store_refusal logged place_of without_last
+store_back w m target slot source legal accepted = go (is_marking w.phase) (word_of w (register w m target) slot == 0)
+  where
+    x : ℕ
+    x = register w m target
+
+    old : ℕ
+    old = word_of w x slot
+
+    back : with_word (place_of w x) slot old (with_word (place_of w x) slot (register w m source) w.regions) ≡ w.regions
+    back = slot_back w x slot (register w m source) (none_holds _ accepted).1.1.0
+
+    go : (b c : Bool) → let v : HeapState = with_marking (if b then (if c then marking_of w else record (marking_of w) { log = w.log ++ old ∷ [] }) else marking_of w) w in
+        undone (Undo.Store (place_of w x) slot old (b && not c)) (record v { regions = with_word (place_of v x) slot (register w m source) v.regions }) ≡ w
+    go true true = ap (λ l. record w { regions = l }) back
+    go true false = λ i. record w { regions = back i; log = all_but_last w.log old i }
+    go false c = ap (λ l. record w { regions = l }) back

@@ -1,33 +1,58 @@
 -- What an event does: one function, with a case for each event.
-use Rattle.std.specs.Prelude.{Bool, true, false, length, Option, Some, None, Result, Ok, Err}
+use Rattle.std.specs.Prelude.{ℕ, Bool, true, false, ◌==◌, length, Option, Some, None, Result, Ok, Err, if◌then◌else◌}
 use Rattle.heap_class.specs.declared.Refusal.{Refusal}
-use Rattle.heap_class.specs.declared.ObjKind.TheVariants.{Instance}
-use Rattle.heap_class.specs.Classes.{class_refusal, instance_class, slots_of}
+use Rattle.heap_class.specs.declared.ObjKind.TheVariants.{Instance, Array, Prim}
+use Rattle.heap_class.specs.Classes.{class_refusal, instance_class, array_class, slots_of}
 use Rattle.heap_region.specs.Pool.{is_fresh}
-use Rattle.heap_world.specs.State.{HeapState, pool_of, register}
-use Rattle.heap_world.specs.Events.{after_class, after_new, new_refusal, put_refusal, after_put}
+use Rattle.heap_world.specs.State.{HeapState, pool_of, register, with_register, word_of}
+use Rattle.heap_world.specs.Events.{after_class, after_new, new_refusal, new_array_refusal, new_prim_refusal, is_reference_slot, load_refusal, after_load, is_logged, store_refusal, after_store, put_refusal, after_put, move_refusal, after_move, clear_refusal}
 use Rattle.heap_step.specs.declared.Event.{Event}
-use Rattle.heap_step.specs.declared.Event.TheVariants.{New, Put}
+use Rattle.heap_step.specs.declared.Event.TheVariants.{ArrayClass, New, NewArray, NewPrim, Load, Store, Put, Move, Clear}
 use Rattle.heap_step.specs.declared.Answer.{Answer}
-use Rattle.heap_step.specs.declared.Answer.TheVariants.{Object, Done}
+use Rattle.heap_step.specs.declared.Answer.TheVariants.{Object, Null, Value, Done}
 
 -- the first refusal of the event that holds
 unfoldable pub refusal_of : Event → HeapState → Option Refusal
 refusal_of (Event.Class name sup fields) w = class_refusal w.classes (instance_class name sup fields)
+refusal_of (ArrayClass name) w = class_refusal w.classes (array_class name)
 refusal_of (New m r class) w = new_refusal m r class w
+refusal_of (NewArray m r class len) w = new_array_refusal m r class len w
+refusal_of (NewPrim m r kind len) w = new_prim_refusal m r kind len w
+refusal_of (Load m to from slot) w = load_refusal m to from slot w
+refusal_of (Store m target slot source) w = store_refusal m target slot source w
 refusal_of (Put m target slot value) w = put_refusal m target slot value w
+refusal_of (Move m to from_m from) w = move_refusal m to from_m from w
+refusal_of (Clear m r) w = clear_refusal m r w
 
 -- the state after an event that isn't refused
 unfoldable pub state_after : Event → HeapState → HeapState
 state_after (Event.Class name sup fields) w = after_class (instance_class name sup fields) w
+state_after (ArrayClass name) w = after_class (array_class name) w
 state_after (New m r class) w = after_new m r (Instance class) (length (slots_of w.classes class)) w
+state_after (NewArray m r class len) w = after_new m r (Array class) len w
+state_after (NewPrim m r kind len) w = after_new m r (Prim kind) len w
+state_after (Load m to from slot) w = after_load m to from slot w
+state_after (Store m target slot source) w = after_store m target slot source w
 state_after (Put m target slot value) w = after_put m target slot value w
+state_after (Move m to from_m from) w = after_move m to from_m from w
+state_after (Clear m r) w = with_register m r 0 w
+
+-- a reference as an answer
+unfoldable pub object_or_null : ℕ → Answer
+object_or_null x = if x == 0 then Null else Object x
 
 -- the answer of an event that isn't refused, from the states before and after it
 unfoldable pub answer_of : Event → HeapState → HeapState → Answer
 answer_of (Event.Class name sup fields) w v = Answer.Class (length w.classes)
+answer_of (ArrayClass name) w v = Answer.Class (length w.classes)
 answer_of (New m r class) w v = Object (register v m r)
+answer_of (NewArray m r class len) w v = Object (register v m r)
+answer_of (NewPrim m r kind len) w v = Object (register v m r)
+answer_of (Load m to from slot) w v = let x = register w m from in if is_reference_slot w x slot then object_or_null (word_of w x slot) else Value (word_of w x slot)
+answer_of (Store m target slot source) w v = Done
 answer_of (Put m target slot value) w v = Done
+answer_of (Move m to from_m from) w v = Done
+answer_of (Clear m r) w v = Done
 
 -- the refusal, if there is one, and else the new state and the answer
 unfoldable pub applied_unless : Option Refusal → Event → HeapState → Result (HeapState × Answer) Refusal
@@ -40,5 +65,12 @@ applied e w = applied_unless (refusal_of e w) e w
 -- the event of this state may want memory
 unfoldable pub event_may_grow : Event → HeapState → Bool
 event_may_grow (Event.Class name sup fields) w = true
+event_may_grow (ArrayClass name) w = true
 event_may_grow (New m r class) w = is_fresh (length (slots_of w.classes class)) (pool_of w)
+event_may_grow (NewArray m r class len) w = is_fresh len (pool_of w)
+event_may_grow (NewPrim m r kind len) w = is_fresh len (pool_of w)
+event_may_grow (Load m to from slot) w = false
+event_may_grow (Store m target slot source) w = is_logged w (register w m target) slot
 event_may_grow (Put m target slot value) w = false
+event_may_grow (Move m to from_m from) w = false
+event_may_grow (Clear m r) w = false

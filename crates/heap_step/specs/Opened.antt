@@ -1,7 +1,7 @@
 -- All functions of this crate, opened at once, for rows by computation.
-use Rattle.heap_step.specs.Apply.{refusal_of, state_after, answer_of, applied_unless, applied, event_may_grow}
-use Rattle.heap_step.specs.Records.{new_record, undo_record, weight, undone}
+use Rattle.heap_step.specs.Apply.{refusal_of, state_after, object_or_null, answer_of, applied_unless, applied, event_may_grow}
+use Rattle.heap_step.specs.Records.{reg_record, new_record, undo_record, weight, undone}
 
 unfoldable pub opened : Unit {0}
-unfolding refusal_of state_after answer_of applied_unless applied event_may_grow new_record undo_record weight undone
+unfolding refusal_of state_after object_or_null answer_of applied_unless applied event_may_grow reg_record new_record undo_record weight undone
 opened = tt

@@ -5,13 +5,16 @@ ghost use Rattle.heap_world.specs.State.{HeapState};
 ghost use Rattle.heap_step.specs.declared.Event.{Event};
 ghost use Rattle.heap_step.specs.Laws.{IsTakenBack, KeepsLegal};
 
+mod events;
 pub mod step;
+#[cfg(test)]
+mod tests;
 
-use heap_class::{ClassNo, Fields, Name, ObjRef};
+use heap_class::{ClassNo, Fields, Kind, Name, ObjRef};
 pub use step::{apply, weight};
 
 /// One step that is asked for. Numbers of mutators, registers, classes and slots may be any 64-bit numbers.
-#[derive(Drop)]
+#[derive(PartialEq, Eq, Drop)]
 pub enum Event {
     /// Defines an instance class.
     Class {
@@ -19,11 +22,43 @@ pub enum Event {
         sup: Option<ClassNo>,
         fields: Fields,
     },
+    /// Defines a class of object arrays.
+    ArrayClass {
+        name: Name,
+    },
     /// Makes an instance of a class in register `r` of mutator `m`.
     New {
         m: u64,
         r: u64,
         class: ClassNo,
+    },
+    /// Makes an object array of a class in register `r` of mutator `m`.
+    NewArray {
+        m: u64,
+        r: u64,
+        class: ClassNo,
+        len: u64,
+    },
+    /// Makes an array of values of a kind in register `r` of mutator `m`.
+    NewPrim {
+        m: u64,
+        r: u64,
+        kind: Kind,
+        len: u64,
+    },
+    /// Reads a slot of the object in register `from`: a reference goes to register `to`.
+    Load {
+        m: u64,
+        to: u64,
+        from: u64,
+        slot: u64,
+    },
+    /// Writes what register `source` holds to a reference slot of the object in register `target`.
+    Store {
+        m: u64,
+        target: u64,
+        slot: u64,
+        source: u64,
     },
     /// Writes a value slot of the object in register `target`.
     Put {
@@ -31,6 +66,18 @@ pub enum Event {
         target: u64,
         slot: u64,
         value: u64,
+    },
+    /// Copies register `from` of mutator `from_m` to register `to` of mutator `m`.
+    Move {
+        m: u64,
+        to: u64,
+        from_m: u64,
+        from: u64,
+    },
+    /// Makes register `r` of mutator `m` null.
+    Clear {
+        m: u64,
+        r: u64,
     },
 }
 
@@ -41,6 +88,10 @@ pub enum Answer {
     Class(u64),
     /// The id of an object.
     Object(u64),
+    /// The null reference.
+    Null,
+    /// What a value slot holds.
+    Value(u64),
     Done,
 }
 
@@ -50,6 +101,17 @@ pub enum Undo {
     Put {
         at: ObjRef,
         slot: u16,
+        old: u64,
+    },
+    Store {
+        at: ObjRef,
+        slot: u16,
+        old: u64,
+        logged: bool,
+    },
+    Reg {
+        m: u8,
+        r: u8,
         old: u64,
     },
     New {

@@ -7,10 +7,11 @@ ghost use Rattle.heap_world.specs.Legal.{IsLegal};
 ghost use Rattle.heap_step.specs.declared.Event.{Event};
 ghost use Rattle.heap_step.specs.Apply.{refusal_of, state_after, applied, event_may_grow};
 ghost use Rattle.heap_step.specs.Records.{undo_record, weight};
-ghost use Rattle.heap_step.specs.Laws.{IsApplied, IsStep};
+ghost use Rattle.heap_step.specs.Laws.{IsStep};
 
+use crate::events::dispatch;
 use crate::{Answer, Event, Undo};
-use heap_class::{ClassNo, Fields, Name, Refusal};
+use heap_class::Refusal;
 use heap_world::World;
 
 /// Applies an event: at Ok its answer and the record that takes it back; refused, nothing has changed. NoMemory comes
@@ -25,64 +26,7 @@ pub fn apply(world: &mut World, event: &Event) -> Result<(Answer, Undo), Refusal
     ensures legal { IsLegal world.new }
 {
     let _phase = world.phase();
-    match event {
-        Event::Class { name, sup, fields } => define(world, name, *sup, fields),
-        Event::New { m, r, class } => create(world, *m, *r, *class),
-        Event::Put {
-            m,
-            target,
-            slot,
-            value,
-        } => put(world, *m, *target, *slot, *value),
-    }
-}
-
-/// Applies an event that defines an instance class.
-fn define(
-    world: &mut World,
-    name: &Name,
-    sup: Option<ClassNo>,
-    fields: &Fields,
-) -> Result<(Answer, Undo), Refusal>
-    ensures { IsApplied (Event.Class name.now sup fields.now) world.old world.new result }
-{
-    let class = world.define_class(name, sup, fields)?;
-    Ok((Answer::Class(class), Undo::Class))
-}
-
-/// Applies an event that makes an instance of a class.
-fn create(world: &mut World, m: u64, r: u64, class: ClassNo) -> Result<(Answer, Undo), Refusal>
-    requires { IsLegal world.old }
-    ensures { IsApplied (Event.New m r class) world.old world.new result }
-{
-    let created = world.new_instance(m, r, class)?;
-    let record = Undo::New {
-        at: created.at,
-        fresh: created.fresh,
-        m: m as u8,
-        r: r as u8,
-        old: created.old,
-    };
-    Ok((Answer::Object(created.id), record))
-}
-
-/// Applies an event that writes a value slot.
-fn put(
-    world: &mut World,
-    m: u64,
-    target: u64,
-    slot: u64,
-    value: u64,
-) -> Result<(Answer, Undo), Refusal>
-    ensures { IsApplied (Event.Put m target slot value) world.old world.new result }
-{
-    let overwritten = world.put(m, target, slot, value)?;
-    let record = Undo::Put {
-        at: overwritten.at,
-        slot: slot as u16,
-        old: overwritten.old,
-    };
-    Ok((Answer::Done, record))
+    dispatch(world, event)
 }
 
 /// Takes back the step that left this record and this state. Takes no memory.
@@ -93,6 +37,13 @@ pub fn undo(world: &mut World, left: Undo)
 {
     match left {
         Undo::Put { at, slot, old } => world.unput(at, slot as u64, old),
+        Undo::Store {
+            at,
+            slot,
+            old,
+            logged,
+        } => world.unstore(at, slot as u64, old, logged),
+        Undo::Reg { m, r, old } => world.unregister(m as u64, r as u64, old),
         Undo::New {
             at,
             fresh,
@@ -110,7 +61,7 @@ pub fn weight(left: &Undo) -> u64
     ensures { result ≡ weight left.now }
 {
     match left {
-        Undo::Put { .. } => 1,
-        Undo::New { .. } | Undo::Class => 0,
+        Undo::Put { .. } | Undo::Store { .. } => 1,
+        Undo::Reg { .. } | Undo::New { .. } | Undo::Class => 0,
     }
 }

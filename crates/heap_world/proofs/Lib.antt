@@ -14,3 +14,6 @@ pub mod Classes
 pub mod Refused
 pub mod Kept
 pub mod Slot
+pub mod NewArrays
+pub mod NamedSlots
+pub mod Barrier

@@ -24,7 +24,7 @@ pub later : (b : Bool) (e : Refusal) (ts : List (Bool × Refusal)) (x : Option R
 unfolding first_refusal
 later b e ts x h r = ap (λ t. cond t (Some e) (first_refusal ts)) h ∙ r
 
-none_left : first_refusal [] ≡ None
+pub none_left : first_refusal [] ≡ None
 unfolding first_refusal
 none_left = refl
 
@@ -52,7 +52,7 @@ full_or_room None h = cc
 full_or_room (Some p) h = refl
 
 -- a heap that has a fresh region isn't full
-fresh_room : (n : ℕ) (w : HeapState) → is_fresh n (pool_of w) ≡ true → is_full n w ≡ false
+pub fresh_room : (n : ℕ) (w : HeapState) → is_fresh n (pool_of w) ≡ true → is_full n w ≡ false
 unfolding is_fresh is_full
 fresh_room n w h = full_or_room (new_place n (pool_of w)) h
 

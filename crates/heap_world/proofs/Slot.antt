@@ -145,7 +145,7 @@ kind_by w v x slot room at k h e c n r f = slot_kind_is v x slot at k (ref_by w 
 pub slot_by : (w v : HeapState) (x slot room : ℕ) (at : ObjRef) (k : Kind) → IsHeld w room → w ≡ v → ref_of v.regions x ≡ Some at → slot_kind v x slot ≡ Some k → HasSlot w x slot at
 slot_by w v x slot room at k h e r f = subst (λ (u : HeapState). HasSlot u x slot at) (sym e) (has_slot v x slot at k (subst IsLegal e h.legal) r f)
 
-some_kind : (p : Option Kind) → is_none p ≡ false → (k : Kind) × (p ≡ Some k)
+pub some_kind : (p : Option Kind) → is_none p ≡ false → (k : Kind) × (p ≡ Some k)
 some_kind None h = cc
 some_kind (Some k) h = (k, refl)
 

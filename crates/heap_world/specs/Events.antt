@@ -1,5 +1,5 @@
 -- For each event, why it is refused, and the state after it where it isn't.
-use Rattle.std.specs.Prelude.{ℕ, Bool, true, false, not, ◌&&◌, ◌==◌, nat_lt, nat_le, [], ◌∷◌, ◌++◌, length, replicate, Option, is_none, if◌then◌else◌}
+use Rattle.std.specs.Prelude.{ℕ, Bool, true, false, not, ◌-◌, ◌&&◌, ◌==◌, nat_lt, nat_le, List, [], ◌∷◌, ◌++◌, length, take, replicate, Option, is_none, if◌then◌else◌}
 use Rattle.std.specs.Option.{option_map_or}
 use Rattle.heap_class.specs.declared.Kind.{Kind}
 use Rattle.heap_class.specs.declared.Refusal.{Refusal}
@@ -82,6 +82,14 @@ store_refusal m target slot source w = first_refusal
     ∷ (lacks_slot w (register w m target) slot, BadSlot)
     ∷ (not (is_reference_slot w (register w m target) slot), WrongKind)
     ∷ [])
+
+-- a word written over it goes to the log: a cycle runs, and the slot isn't null
+unfoldable pub is_logged : HeapState → ℕ → ℕ → Bool
+is_logged w x slot = is_marking w.phase && not (word_of w x slot == 0)
+
+-- the list without its last item
+unfoldable pub without_last : List ℕ → List ℕ
+without_last xs = take (length xs - 1) xs
 
 -- the slot of the object x becomes the word
 unfoldable pub with_slot : ℕ → ℕ → ℕ → HeapState → HeapState

@@ -13,6 +13,11 @@ ghost use Rattle.heap_world.specs.State.{HeapState, opening_state, is_register, 
 ghost use Rattle.heap_world.specs.Legal.{IsLegal, HasKind};
 ghost use Rattle.heap_world.specs.Events.{after_class, is_full, new_refusal, after_new, put_refusal, after_put};
 
+mod arrays;
+mod references;
+#[cfg(test)]
+mod tests;
+
 use heap_class::{ClassNo, Classes, Fields, Kind, Name, ObjKind, ObjRef, Refusal};
 use heap_mark::Phase;
 use heap_region::Regions;
@@ -27,6 +32,9 @@ pub const MUTATOR_LIMIT: u64 = 16;
 
 /// Registers of each mutator.
 pub const REGISTERS_EACH: u64 = 8;
+
+/// Elements of an array at most.
+pub const ARRAY_LIMIT: u64 = 1024;
 
 /// Steps that can be undone at most.
 pub const KEEP_LIMIT: u64 = 65536;
@@ -112,6 +120,22 @@ pub struct Created {
 #[derive(Clone, Copy, PartialEq, Eq, Debug)]
 pub struct Overwritten {
     pub at: ObjRef,
+    pub old: u64,
+}
+
+/// Where a reference was written, what stood there, and whether that went to the log.
+#[derive(Clone, Copy, PartialEq, Eq, Debug)]
+pub struct Replaced {
+    pub at: ObjRef,
+    pub old: u64,
+    pub logged: bool,
+}
+
+/// What a slot holds, whether it is a reference, and what the register held to which it would go.
+#[derive(Clone, Copy, PartialEq, Eq, Debug)]
+pub struct Loaded {
+    pub word: u64,
+    pub reference: bool,
     pub old: u64,
 }
 

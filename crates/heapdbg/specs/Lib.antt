@@ -1,3 +1,4 @@
 -- What the program's command line means, and how the program ends.
 pub mod CommandLine
 pub mod Endings
+pub mod Runs

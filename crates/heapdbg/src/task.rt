@@ -1,17 +1,18 @@
 //! The tasks, from the words of the command line on.
 ghost use Rattle.std.specs.Prelude.{◌≡◌, Some, IfOk, IfErr, map, string_bytes};
 ghost use Rattle.heapdbg.specs.CommandLine.{IsRefusalOf, settings_of, texts};
+ghost use Rattle.heapdbg.specs.Runs.{IsRun};
 ghost use Rattle.heap_world.specs.Limits.{AreSettings};
 
 use crate::command_line::settings;
 use crate::failure::{Failure, Fault, outcome};
 use crate::settings::{LineFault, Settings, Task};
-use dump_pump::WriteOutlet;
+use dump_pump::{Outlet, WriteOutlet};
 use heap_trail::Machine;
 use heap_world::Config;
-use session_text::{Local, ReadInlet, serve};
+use session_text::{Inlet, Local, ReadInlet, serve_local};
 use std::alloc::{AllocError, Global};
-use std::io::{Error, ErrorKind, Read, Write};
+use std::io::{Error, ErrorKind};
 use std::rt::Env;
 use std::{env, io};
 
@@ -23,7 +24,11 @@ pub fn perform<R: AllocGlobal + Env + Input + Print>(rt: &R) -> Result<(), Failu
     };
     let asked = asked(rt.alloc(), words.as_slice())?;
     match asked.task {
-        Task::Run => session(rt.alloc(), &asked, rt.reader(), io::writer(rt))?,
+        Task::Run => {
+            let mut reader = ReadInlet::new(rt.reader());
+            let mut writer = WriteOutlet::new(io::writer(rt));
+            session(rt.alloc(), &asked, &mut reader, &mut writer)?;
+        }
     }
     Ok(())
 }
@@ -74,21 +79,20 @@ fn config(settings: &Settings) -> Config
 }
 
 /// One session over a heap of its own.
-fn session<R: Read + Drop, W: Write + Drop>(
+fn session<I: Inlet, O: Outlet>(
     alloc: Global,
     settings: &Settings,
-    reader: R,
-    writer: W,
+    reader: &mut I,
+    writer: &mut O,
 ) -> Result<(), Fault>
     requires { AreSettings settings.now.regions settings.now.mutators settings.now.keep }
+    ensures { IsRun settings.now (I.seen reader.old) (I.seen reader.new) (O.seen writer.old) (O.seen writer.new) result }
 {
-    let machine = Machine::new(alloc, config(settings)).map_err(|_| Fault::Memory)?;
-    let ended = serve(
-        alloc,
-        &mut ReadInlet::new(reader),
-        &mut WriteOutlet::new(writer),
-        &mut Local { machine },
-        settings.time,
-    );
-    outcome(ended)
+    match Machine::new(alloc, config(settings)) {
+        Ok(machine) => {
+            let mut local = Local { machine };
+            outcome(serve_local(alloc, reader, writer, &mut local, settings.time))
+        }
+        Err(_) => Err(Fault::Memory),
+    }
 }

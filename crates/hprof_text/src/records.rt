@@ -221,10 +221,11 @@ impl Buffer {
         ensures written { self.new.written ≡ self.old.written ++ dump_of ids [] object (Array class) words.now }
         ensures limit { self.new.limit ≡ self.old.limit }
     {
+        let count = words.len();
         self.u1(0x22);
         self.id(ids, object);
         self.u4(1);
-        self.u4(words.len() as u32);
+        self.u4(count as u32);
         self.id(ids, class_id(class));
         self.numbers(ids.bytes(), words);
     }

@@ -1,6 +1,9 @@
 pub mod Lists
+pub mod Written
 pub mod Worded
 pub mod Sizes
 pub mod Numbers
 pub mod Fielded
-pub mod Ending
+pub mod Talking
+pub mod Sessions
+pub mod Dumping

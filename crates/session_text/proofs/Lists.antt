@@ -3,16 +3,15 @@ use Rattle.std.proofs.Common.{◌≡◌, ℕ, ◌+◌, ◌-◌, ◌<◌, ◌≤�
 use Rattle.std.proofs.lemmas.List.{take-append-drop, length-take-le, length-drop, take_all}
 use Rattle.std.proofs.Math.Seq.{take-add}
 use Rattle.std.proofs.lemmas.List.{take-take, drop-take, drop-drop, take-append-le}
-use Rattle.std.proofs.Math.Seq.{take-append-add, drop-append_seam}
+use Rattle.std.proofs.Math.Seq.{take-append-add}
 use Rattle.std.specs.Bool.{◌==◌}
 use Rattle.std.proofs.lemmas.Bool.Decides.{nat_tests}
 use Rattle.std.proofs.lemmas.Slice.{take-put_mid_below}
 use borrow.Rule.Slice.PartMut.{put_mid, post_of}
 use Rattle.session_text.specs.declared.inlet.Take.{Take}
 use Rattle.session_text.specs.Inlets.{Incoming, IsTake, IsRead, count_of}
-use Rattle.dump_pump.specs.Outlets.{Outgoing}
 use Rattle.session_text.specs.Lines.{NoLf}
-use Rattle.session_text.specs.Writes.{IsCutShort, IsWritten}
+use Rattle.session_text.specs.Writes.{IsCutShort}
 
 pub split_at : (xs : List ℕ) (n : ℕ) → n < length xs → get_or xs n 0 ≡ 10 → xs ≡ take n xs ++ 10 ∷ drop (n + 1) xs
 split_at xs n lt is =
@@ -28,37 +27,13 @@ put_more before bytes out out' at n le fits was is =
       is ∙ (λ i. was i ++ take n (rest i)) ∙ append_assoc before (take at bytes) (take n (drop at bytes)) ∙ ap (λ l. before ++ l) (sym (take-add at n bytes)),
     )
 
-pub short_at : (before bytes out out' : List ℕ) (at : ℕ) → out ≡ before ++ take at bytes → out' ≡ out → IsCutShort before out' (before ++ bytes)
+pub short_at : (before bytes out out' : List ℕ) (at : ℕ) → out ≡ before ++ take at bytes → out' ≡ out → IsCutShort bytes before out'
 short_at before bytes out out' at was is = record {
   part = take at bytes;
   rest = drop at bytes;
   has = is ∙ was;
-  lacks = ap (λ l. before ++ l) (sym (take-append-drop at bytes)) ∙ sym (append_assoc before (take at bytes) (drop at bytes)) ∙ ap (λ l. l ++ drop at bytes) (sym (is ∙ was));
+  lacks = sym (take-append-drop at bytes);
 }
-
--- one text and then another
-pub written_more : (xs ys : List ℕ) (a b c : Outgoing) (r : Bool) → IsWritten xs a b true → IsWritten ys b c r → IsWritten (xs ++ ys) a c r
-written_more xs ys a b c true h k = (k.0 ∙ ap (λ l. l ++ ys) h.0 ∙ append_assoc a.out xs ys, k.1 ∙ h.1)
-written_more xs ys a b c false h k = (
-  record {
-    part = xs ++ k.0.part;
-    rest = k.0.rest;
-    has = k.0.has ∙ ap (λ l. l ++ k.0.part) h.0 ∙ append_assoc a.out xs k.0.part;
-    lacks = sym (append_assoc a.out xs ys) ∙ ap (λ l. l ++ ys) (sym h.0) ∙ k.0.lacks;
-  },
-  k.1 ∙ ap (λ n. n + 1) h.1,
-)
-
-pub written_short : (xs ys : List ℕ) (a b : Outgoing) → IsWritten xs a b false → IsWritten (xs ++ ys) a b false
-written_short xs ys a b h = (
-  record {
-    part = h.0.part;
-    rest = h.0.rest ++ ys;
-    has = h.0.has;
-    lacks = sym (append_assoc a.out xs ys) ∙ ap (λ l. l ++ ys) h.0.lacks ∙ append_assoc b.out h.0.rest ys;
-  },
-  h.1,
-)
 
 -- a window whose front moves
 pub drop_window : (xs : List ℕ) (s e n : ℕ) → s ≤ e → e ≤ length xs → n ≤ length (take (e - s) (drop s xs)) → take (e - (s + n)) (drop (s + n) xs) ≡ drop n (take (e - s) (drop s xs))
@@ -84,10 +59,10 @@ refilled used bytes room a b Take.End lt h =
 refilled used bytes room a b Take.Failed lt h =
     (take-put_mid_below used (length bytes - used) bytes room (used + 0) (omega arith) (omega arith) ∙ ap (λ k. take k bytes) (omega arith), h.0, h.1, h.2, h.3)
 
-zero_of : (n : ℕ) → true ≡ (n == 0) → n ≡ 0
+pub zero_of : (n : ℕ) → true ≡ (n == 0) → n ≡ 0
 zero_of n h = grind (arith, nat_tests)
 
-some_of : (n : ℕ) → false ≡ (n == 0) → 0 < n
+pub some_of : (n : ℕ) → false ≡ (n == 0) → 0 < n
 some_of n h = grind (arith, nat_tests)
 
 empty_of : (xs : List ℕ) → length xs ≡ 0 → xs ≡ []
@@ -99,9 +74,6 @@ is_empty_of s m b e f h = empty_of b (sym (ap (λ l. length l) (e ∙ f)) ∙ ze
 
 pub is_some_of : (s m b : List ℕ) → s ≡ m → m ≡ b → false ≡ (length s == 0) → 0 < length b
 is_some_of s m b e f h = omega (arith, some_of (length s) h, ap (λ l. length l) (e ∙ f))
-
-pub cancel : (w xs ys : List ℕ) → w ++ xs ≡ w ++ ys → xs ≡ ys
-cancel w xs ys e = sym (drop-append_seam w xs) ∙ ap (λ l. drop (length w) l) e ∙ drop-append_seam w ys
 
 -- what had no LF has none where it moved
 pub still_none : (xs ys zs : List ℕ) (s used k : ℕ) → k ≤ used → NoLf (take k (drop s xs)) → take used ys ≡ take used (drop s xs) → take used zs ≡ take used ys → NoLf (take k zs)

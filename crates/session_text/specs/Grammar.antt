@@ -7,7 +7,7 @@ use Rattle.heap_class.specs.declared.Kind.{Kind}
 use Rattle.heap_class.specs.declared.Kind.TheVariants.{Boolean, Char, Float, Double, Byte, Short, Int, Long}
 use Rattle.heap_class.specs.declared.Field.{Field}
 use Rattle.heap_class.specs.Kinds.{kind_word}
-use Rattle.heap_step.specs.declared.Event.TheVariants.{Class, New, Put}
+use Rattle.heap_step.specs.declared.Event.TheVariants.{Class, ArrayClass, New, NewArray, NewPrim, Load, Store, Put, Move, Clear}
 use Rattle.heap_trail.specs.declared.Action.TheVariants.{Step, Rewind}
 use Rattle.session_text.specs.declared.command.Command.{Command}
 use Rattle.session_text.specs.declared.command.Command.TheVariants.{Blank, Bad, Ask, Dump, End}
@@ -58,6 +58,11 @@ abbrev pub next_number : List (List ℕ) → Option (ℕ × List (List ℕ))
 next_number [] = None
 next_number (w ∷ ws) = option_map (λ n. (n, ws)) (number w)
 
+-- the kind that the first word names, and the other words
+abbrev pub next_kind : List (List ℕ) → Option (Kind × List (List ℕ))
+next_kind [] = None
+next_kind (w ∷ ws) = option_map (λ k. (k, ws)) (kind_of w)
+
 -- x, where no word is left
 abbrev pub at_end : {A : Type 0} → A → List (List ℕ) → Option A
 at_end x [] = Some x
@@ -65,6 +70,9 @@ at_end x (w ∷ ws) = None
 
 abbrev pub one_number : List (List ℕ) → Option ℕ
 one_number ws = option_and_then (λ a. at_end a.0 a.1) (next_number ws)
+
+abbrev pub two_numbers : List (List ℕ) → Option (ℕ × ℕ)
+two_numbers ws = option_and_then (λ a. option_and_then (λ b. at_end (a.0, b.0) b.1) (next_number a.1)) (next_number ws)
 
 abbrev pub three_numbers : List (List ℕ) → Option (ℕ × ℕ × ℕ)
 three_numbers ws = option_and_then (λ a. option_and_then (λ b. option_and_then (λ c. at_end (a.0, b.0, c.0) c.1) (next_number b.1)) (next_number a.1)) (next_number ws)
@@ -79,13 +87,43 @@ class_line [] = None
 class_line (name ∷ []) = None
 class_line (name ∷ sup ∷ fields) = option_and_then (λ s. option_map (λ fs. Ask (Step (Class name s fs))) (fields_of fields)) (number_or_dash sup)
 
+-- `array NAME`
+abbrev pub array_line : List (List ℕ) → Option Command
+array_line [] = None
+array_line (name ∷ ws) = at_end (Ask (Step (ArrayClass name))) ws
+
 -- `new M R CLASS`
 abbrev pub new_line : List (List ℕ) → Option Command
 new_line ws = option_map (λ n. Ask (Step (New n.0 n.1 n.2))) (three_numbers ws)
 
+-- `newarray M R CLASS LEN`
+abbrev pub newarray_line : List (List ℕ) → Option Command
+newarray_line ws = option_map (λ n. Ask (Step (NewArray n.0 n.1 n.2 n.3))) (four_numbers ws)
+
+-- `newprim M R KIND LEN`
+abbrev pub newprim_line : List (List ℕ) → Option Command
+newprim_line ws =
+    option_and_then (λ m. option_and_then (λ r. option_and_then (λ k. option_and_then (λ n. at_end (Ask (Step (NewPrim m.0 r.0 k.0 n.0))) n.1) (next_number k.1)) (next_kind r.1)) (next_number m.1)) (next_number ws)
+
+-- `load M TO FROM SLOT`
+abbrev pub load_line : List (List ℕ) → Option Command
+load_line ws = option_map (λ n. Ask (Step (Load n.0 n.1 n.2 n.3))) (four_numbers ws)
+
+-- `store M TARGET SLOT SOURCE`
+abbrev pub store_line : List (List ℕ) → Option Command
+store_line ws = option_map (λ n. Ask (Step (Store n.0 n.1 n.2 n.3))) (four_numbers ws)
+
 -- `put M TARGET SLOT VALUE`
 abbrev pub put_line : List (List ℕ) → Option Command
 put_line ws = option_map (λ n. Ask (Step (Put n.0 n.1 n.2 n.3))) (four_numbers ws)
+
+-- `move M TO FROM_M FROM`
+abbrev pub move_line : List (List ℕ) → Option Command
+move_line ws = option_map (λ n. Ask (Step (Move n.0 n.1 n.2 n.3))) (four_numbers ws)
+
+-- `clear M R`
+abbrev pub clear_line : List (List ℕ) → Option Command
+clear_line ws = option_map (λ n. Ask (Step (Clear n.0 n.1))) (two_numbers ws)
 
 -- `rewind N`
 abbrev pub rewind_line : List (List ℕ) → Option Command
@@ -102,15 +140,46 @@ end_line ws = at_end End ws
 
 -- ---- the lines
 
-unfoldable pub line_after : List ℕ → List (List ℕ) → Option Command
-line_after w ws =
-    if bytes_eq w (codes "class") then class_line ws
-    else if bytes_eq w (codes "new") then new_line ws
+-- those that make an object
+unfoldable pub making_line : List ℕ → List (List ℕ) → Option Command
+making_line w ws =
+    if bytes_eq w (codes "new") then new_line ws
+    else if bytes_eq w (codes "newarray") then newarray_line ws
+    else if bytes_eq w (codes "newprim") then newprim_line ws
+    else None
+
+-- those that read or write a slot or a register
+unfoldable pub access_line : List ℕ → List (List ℕ) → Option Command
+access_line w ws =
+    if bytes_eq w (codes "load") then load_line ws
+    else if bytes_eq w (codes "store") then store_line ws
     else if bytes_eq w (codes "put") then put_line ws
-    else if bytes_eq w (codes "rewind") then rewind_line ws
+    else if bytes_eq w (codes "move") then move_line ws
+    else if bytes_eq w (codes "clear") then clear_line ws
+    else None
+
+-- those that ask the machine or the session for something
+unfoldable pub session_line : List ℕ → List (List ℕ) → Option Command
+session_line w ws =
+    if bytes_eq w (codes "rewind") then rewind_line ws
     else if bytes_eq w (codes "dump") then dump_line ws
     else if bytes_eq w (codes "end") then end_line ws
     else None
+
+-- a command, or else another one
+abbrev pub or_else : Option Command → Option Command → Option Command
+or_else None other = other
+or_else (Some c) other = Some c
+
+-- a line that takes no memory for its reading
+abbrev pub plain_line : List ℕ → List (List ℕ) → Option Command
+plain_line w ws = or_else (making_line w ws) (or_else (access_line w ws) (session_line w ws))
+
+unfoldable pub line_after : List ℕ → List (List ℕ) → Option Command
+line_after w ws =
+    if bytes_eq w (codes "class") then class_line ws
+    else if bytes_eq w (codes "array") then array_line ws
+    else plain_line w ws
 
 -- the command of these words
 abbrev pub command_of_words : List (List ℕ) → Command

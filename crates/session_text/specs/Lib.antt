@@ -6,4 +6,8 @@ pub mod Reads
 pub mod Replies
 pub mod Writes
 pub mod Lines
+pub mod Dumps
+pub mod Answers
+pub mod Talks
 pub mod Endings
+pub mod Session

@@ -8,7 +8,7 @@ use Rattle.heap_class.specs.declared.Refusal.{Refusal}
 use Rattle.heap_class.specs.declared.Refusal.TheVariants.{NotDone, SweepPending, NothingToSweep, TooFar, Lost}
 use Rattle.heap_class.specs.Table.{refusal_number, refusal_name}
 use Rattle.heap_step.specs.declared.Answer.{Answer}
-use Rattle.heap_step.specs.declared.Answer.TheVariants.{Class, Object, Done}
+use Rattle.heap_step.specs.declared.Answer.TheVariants.{Class, Object, Null, Value, Done}
 use Rattle.heap_trail.specs.declared.Reply.{Reply}
 use Rattle.heap_trail.specs.declared.Reply.TheVariants.{Answered, Place, Refused}
 
@@ -19,6 +19,8 @@ and_number n = 32 ∷ decimal n
 abbrev pub answer_text : Answer → List ℕ
 answer_text (Class k) = codes "ok class" ++ and_number k
 answer_text (Object x) = codes "ok object 0x" ++ encode_lower (big_bytes 4 x)
+answer_text Null = codes "ok null"
+answer_text (Value v) = codes "ok value" ++ and_number v
 answer_text Done = codes "ok"
 
 abbrev pub cause_text : LostCause → List ℕ

@@ -2,13 +2,19 @@
 use Rattle.std.specs.Prelude.{◌≡◌, ℕ, ◌+◌, Bool, true, false, List, ◌++◌}
 use Rattle.dump_pump.specs.Outlets.{Outgoing}
 
--- b is a and a part of what makes it full
-pub record IsCutShort (a b full : List ℕ) : Type 0 where
+-- b is a and a beginning of the bytes
+pub record IsCutShort (bytes a b : List ℕ) : Type 0 where
   pub part : List ℕ
   pub rest : List ℕ
   pub has : b ≡ a ++ part
-  pub lacks : full ≡ b ++ rest
+  pub lacks : bytes ≡ part ++ rest
 
+-- the bytes were put out, or a beginning of them where a write failed
 abbrev pub IsWritten : List ℕ → Outgoing → Outgoing → Bool → Type 0
 IsWritten bytes a b true = (b.out ≡ a.out ++ bytes) × (b.failures ≡ a.failures)
-IsWritten bytes a b false = IsCutShort a.out b.out (a.out ++ bytes) × (b.failures ≡ a.failures + 1)
+IsWritten bytes a b false = IsCutShort bytes a.out b.out × (b.failures ≡ a.failures + 1)
+
+-- the page and then the text were put out up to what the page has now, or a beginning of them where a write failed
+abbrev pub IsAdded : List ℕ → List ℕ → Outgoing → List ℕ → Outgoing → Bool → Type 0
+IsAdded text page a page' b true = (put : List ℕ) × (b.out ≡ a.out ++ put) × (page ++ text ≡ put ++ page') × (b.failures ≡ a.failures)
+IsAdded text page a page' b false = IsCutShort (page ++ text) a.out b.out × (b.failures ≡ a.failures + 1)

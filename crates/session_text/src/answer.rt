@@ -1,7 +1,9 @@
 //! Lines and their answers.
 ghost use Rattle.std.specs.Prelude.{◌≡◌, []};
-ghost use Rattle.session_text.specs.Endings.{StepTells, StopsAtEnd, step_of};
+ghost use Rattle.session_text.specs.Answers.{Answers, Begins};
+ghost use Rattle.session_text.specs.Endings.{step_of};
 ghost use Rattle.session_text.specs.Grammar.{command_of};
+ghost use Rattle.session_text.specs.Talks.{IsStep, IsAnswered};
 
 use crate::buffer::Buffer;
 use crate::command::{Command, command_of};
@@ -29,7 +31,6 @@ fn next_unless(written: bool) -> Step
 }
 
 /// Answers one line.
-#[tactic(auto, using(crate::proofs::Ending::stops_unless, crate::proofs::Ending::takes_no_end, std::proofs::lemmas::Grind::common_steps))]
 fn answer_line<O: Outlet, C: Commands>(
     alloc: Global,
     line: &[u8],
@@ -40,8 +41,7 @@ fn answer_line<O: Outlet, C: Commands>(
 ) -> Step
     requires { page.old ≡ [] }
     ensures empty { page.new ≡ [] }
-    ensures stops { StopsAtEnd (command_of line.now) result }
-    ensures fault { StepTells (O.seen writer.old) (O.seen writer.new) result }
+    ensures step { IsStep (Answers C.acts C.gives time) (Begins C.acts C.gives time) (command_of line.now) commands.old (O.seen writer.old) commands.new (O.seen writer.new) result }
 {
     match command_of(alloc, line) {
         Err(_) => next_unless(write_reply(page, writer, Reply::Refused(Refusal::NoMemory))),
@@ -67,7 +67,7 @@ pub fn answer_lines<O: Outlet, C: Commands>(
 ) -> Step
     requires { page.old ≡ [] }
     ensures empty { page.new ≡ [] }
-    ensures fault { StepTells (O.seen writer.old) (O.seen writer.new) result }
+    ensures answered { IsAnswered (Answers C.acts C.gives time) (Begins C.acts C.gives time) buffer.old commands.old (O.seen writer.old) buffer.new commands.new (O.seen writer.new) result }
 {
     while let Some(n) = buffer.line_end() {
         match answer_line(alloc, &buffer.as_slice()[..n], time, page, writer, commands) {

@@ -2,13 +2,13 @@
 ghost use Rattle.std.specs.Prelude.{◌≡◌, ◌&&◌, nat_le, MatchResult};
 ghost use Rattle.std.specs.Str.{bytes_eq};
 ghost use Rattle.std.specs.List.{list_all};
-ghost use Rattle.session_text.specs.Grammar.{words_of, number_or_dash, at_end, one_number, three_numbers, four_numbers, class_line, new_line, put_line, rewind_line, dump_line, end_line, line_after, command_of_words, without_cr, command_of_text, command_of};
-ghost use Rattle.session_text.specs.Reads.{TakesMemory, MayTakeMemory, IsNextNumber};
+ghost use Rattle.session_text.specs.Grammar.{words_of, number_or_dash, at_end, one_number, three_numbers, two_numbers, four_numbers, class_line, array_line, new_line, newarray_line, newprim_line, load_line, store_line, put_line, move_line, clear_line, rewind_line, dump_line, end_line, making_line, access_line, session_line, plain_line, line_after, command_of_words, without_cr, command_of_text, command_of};
+ghost use Rattle.session_text.specs.Reads.{TakesMemory, MayTakeMemory, IsNextNumber, IsNextKind};
 
-use crate::fields::{are_fields, read_fields};
+use crate::fields::{are_fields, kind_of, read_fields};
 use crate::number::number;
 use crate::words::Words;
-use heap_class::{ClassNo, Name};
+use heap_class::{ClassNo, Kind, Name};
 use heap_step::Event;
 use heap_trail::Action;
 use std::alloc::{AllocError, Global};
@@ -52,6 +52,13 @@ fn next_number(words: &mut Words) -> Option<u64>
     number(words.next()?)
 }
 
+/// The kind that the next word names.
+fn next_kind(words: &mut Words) -> Option<Kind>
+    ensures { IsNextKind (words_of words.old.rest.now) (words_of words.new.rest.now) result }
+{
+    kind_of(words.next()?)
+}
+
 /// A value, where no word is left.
 fn at_end<T: Drop>(value: T, mut words: Words) -> Option<T>
     ensures { result ≡ at_end value (words_of words.entry.rest.now) }
@@ -68,6 +75,15 @@ fn one_number(mut words: Words) -> Option<u64>
 {
     let a = next_number(&mut words)?;
     at_end(a, words)
+}
+
+/// The words' two numbers.
+fn two_numbers(mut words: Words) -> Option<(u64, u64)>
+    ensures { result ≡ two_numbers (words_of words.entry.rest.now) }
+{
+    let a = next_number(&mut words)?;
+    let b = next_number(&mut words)?;
+    at_end((a, b), words)
 }
 
 /// The words' three numbers.
@@ -112,12 +128,69 @@ fn class_line(alloc: Global, mut words: Words) -> Result<Option<Command>, AllocE
     Ok(Some(Command::Ask(Action::Step(Event::Class { name, sup, fields }))))
 }
 
+/// `array NAME`. No memory is taken where it isn't one.
+fn array_line(alloc: Global, mut words: Words) -> Result<Option<Command>, AllocError>
+    ensures { MatchResult result (λ c. c ≡ array_line (words_of words.entry.rest.now)) (λ _. MayTakeMemory (array_line (words_of words.entry.rest.now))) }
+{
+    let Some(name) = words.next() else {
+        return Ok(None);
+    };
+    if words.next().is_some() {
+        return Ok(None);
+    }
+    let name = Name::new(alloc, name)?;
+    Ok(Some(Command::Ask(Action::Step(Event::ArrayClass { name }))))
+}
+
 /// `new M R CLASS`.
 fn new_line(words: Words) -> Option<Command>
     ensures { result ≡ new_line (words_of words.entry.rest.now) }
 {
     let (m, r, class) = three_numbers(words)?;
     Some(Command::Ask(Action::Step(Event::New { m, r, class })))
+}
+
+/// `newarray M R CLASS LEN`.
+fn newarray_line(words: Words) -> Option<Command>
+    ensures { result ≡ newarray_line (words_of words.entry.rest.now) }
+{
+    let (m, r, class, len) = four_numbers(words)?;
+    Some(Command::Ask(Action::Step(Event::NewArray { m, r, class, len })))
+}
+
+/// `newprim M R KIND LEN`.
+fn newprim_line(mut words: Words) -> Option<Command>
+    ensures { result ≡ newprim_line (words_of words.entry.rest.now) }
+{
+    let m = next_number(&mut words)?;
+    let r = next_number(&mut words)?;
+    let kind = next_kind(&mut words)?;
+    let len = next_number(&mut words)?;
+    at_end(
+        Command::Ask(Action::Step(Event::NewPrim { m, r, kind, len })),
+        words,
+    )
+}
+
+/// `load M TO FROM SLOT`.
+fn load_line(words: Words) -> Option<Command>
+    ensures { result ≡ load_line (words_of words.entry.rest.now) }
+{
+    let (m, to, from, slot) = four_numbers(words)?;
+    Some(Command::Ask(Action::Step(Event::Load { m, to, from, slot })))
+}
+
+/// `store M TARGET SLOT SOURCE`.
+fn store_line(words: Words) -> Option<Command>
+    ensures { result ≡ store_line (words_of words.entry.rest.now) }
+{
+    let (m, target, slot, source) = four_numbers(words)?;
+    Some(Command::Ask(Action::Step(Event::Store {
+        m,
+        target,
+        slot,
+        source,
+    })))
 }
 
 /// `put M TARGET SLOT VALUE`.
@@ -131,6 +204,27 @@ fn put_line(words: Words) -> Option<Command>
         slot,
         value,
     })))
+}
+
+/// `move M TO FROM_M FROM`.
+fn move_line(words: Words) -> Option<Command>
+    ensures { result ≡ move_line (words_of words.entry.rest.now) }
+{
+    let (m, to, from_m, from) = four_numbers(words)?;
+    Some(Command::Ask(Action::Step(Event::Move {
+        m,
+        to,
+        from_m,
+        from,
+    })))
+}
+
+/// `clear M R`.
+fn clear_line(words: Words) -> Option<Command>
+    ensures { result ≡ clear_line (words_of words.entry.rest.now) }
+{
+    let (m, r) = two_numbers(words)?;
+    Some(Command::Ask(Action::Step(Event::Clear { m, r })))
 }
 
 /// `rewind N`.
@@ -159,6 +253,76 @@ fn end_line(words: Words) -> Option<Command>
     at_end(Command::End, words)
 }
 
+/// The command of a first word that makes an object, and of the words after it.
+#[tactic(auto, unfolding(crate::specs::Grammar::making_line))]
+fn making_line(word: &[u8], words: Words) -> Option<Command>
+    ensures { result ≡ making_line word.now (words_of words.entry.rest.now) }
+{
+    if is_word(word, b"new") {
+        return new_line(words);
+    }
+    if is_word(word, b"newarray") {
+        return newarray_line(words);
+    }
+    if is_word(word, b"newprim") {
+        return newprim_line(words);
+    }
+    None
+}
+
+/// The command of a first word that reads or writes a slot or a register, and of the words after it.
+#[tactic(auto, unfolding(crate::specs::Grammar::access_line))]
+fn access_line(word: &[u8], words: Words) -> Option<Command>
+    ensures { result ≡ access_line word.now (words_of words.entry.rest.now) }
+{
+    if is_word(word, b"load") {
+        return load_line(words);
+    }
+    if is_word(word, b"store") {
+        return store_line(words);
+    }
+    if is_word(word, b"put") {
+        return put_line(words);
+    }
+    if is_word(word, b"move") {
+        return move_line(words);
+    }
+    if is_word(word, b"clear") {
+        return clear_line(words);
+    }
+    None
+}
+
+/// The command of a first word that asks the machine or the session for something, and of the words after it.
+#[tactic(auto, unfolding(crate::specs::Grammar::session_line))]
+fn session_line(word: &[u8], words: Words) -> Option<Command>
+    ensures { result ≡ session_line word.now (words_of words.entry.rest.now) }
+{
+    if is_word(word, b"rewind") {
+        return rewind_line(words);
+    }
+    if is_word(word, b"dump") {
+        return dump_line(words);
+    }
+    if is_word(word, b"end") {
+        return end_line(words);
+    }
+    None
+}
+
+/// The command of a first word whose line takes no memory for its reading, and of the words after it.
+fn plain_line(word: &[u8], words: Words) -> Option<Command>
+    ensures { result ≡ plain_line word.now (words_of words.entry.rest.now) }
+{
+    if let Some(command) = making_line(word, words) {
+        return Some(command);
+    }
+    if let Some(command) = access_line(word, words) {
+        return Some(command);
+    }
+    session_line(word, words)
+}
+
 /// The command of a first word and those after it.
 #[tactic(auto, unfolding(crate::specs::Grammar::line_after))]
 fn line_after(alloc: Global, word: &[u8], words: Words) -> Result<Option<Command>, AllocError>
@@ -167,22 +331,10 @@ fn line_after(alloc: Global, word: &[u8], words: Words) -> Result<Option<Command
     if is_word(word, b"class") {
         return class_line(alloc, words);
     }
-    if is_word(word, b"new") {
-        return Ok(new_line(words));
+    if is_word(word, b"array") {
+        return array_line(alloc, words);
     }
-    if is_word(word, b"put") {
-        return Ok(put_line(words));
-    }
-    if is_word(word, b"rewind") {
-        return Ok(rewind_line(words));
-    }
-    if is_word(word, b"dump") {
-        return Ok(dump_line(words));
-    }
-    if is_word(word, b"end") {
-        return Ok(end_line(words));
-    }
-    Ok(None)
+    Ok(plain_line(word, words))
 }
 
 /// The command of some words.

@@ -1,6 +1,8 @@
 //! Dumps, in data lines.
-ghost use Rattle.std.specs.Prelude.{◌≡◌, ◌+◌, ◌*◌, ◌≤◌, ◌<◌, ◌^◌, [], length};
-ghost use Rattle.session_text.specs.Endings.{Tells};
+ghost use Rattle.std.specs.Prelude.{◌≡◌, ◌+◌, ◌*◌, ◌≤◌, ◌<◌, ◌^◌, ◌++◌, [], length};
+ghost use Rattle.session_text.specs.Dumps.{WritesDump, total_line};
+ghost use Rattle.session_text.specs.Replies.{data_line, data_lines};
+ghost use Rattle.session_text.specs.Writes.{IsAdded};
 
 use crate::PIECE_LIMIT;
 use crate::commands::Commands;
@@ -16,6 +18,7 @@ const DATA_LIMIT: usize = 64;
 /// Adds a data line of at most 64 bytes.
 fn add_data_line(page: &mut Page, bytes: &[u8])
     requires { (length page.old ≤ 8000) × (length bytes.now ≤ 64) }
+    ensures { page.new ≡ page.old ++ data_line bytes.now }
 {
     page.add(b"data ");
     page.add_hex(bytes);
@@ -24,7 +27,7 @@ fn add_data_line(page: &mut Page, bytes: &[u8])
 
 /// Adds the data lines of a piece, and puts out the page each time that it is full.
 fn write_data<O: Outlet>(page: &mut Page, outlet: &mut O, bytes: &[u8]) -> bool
-    ensures { Tells (O.seen outlet.old) (O.seen outlet.new) result }
+    ensures { IsAdded (data_lines bytes.now) page.old (O.seen outlet.old) page.new (O.seen outlet.new) result }
 {
     let mut rest = bytes;
     while !rest.is_empty() {
@@ -38,18 +41,26 @@ fn write_data<O: Outlet>(page: &mut Page, outlet: &mut O, bytes: &[u8]) -> bool
     true
 }
 
+/// Adds the last line of a dump.
+fn add_total(page: &mut Page, total: u64)
+    requires { length page.old ≤ 8000 }
+    ensures { page.new ≡ page.old ++ total_line total }
+{
+    page.add(b"ok dump");
+    page.add_number(total);
+    page.add(b"\n");
+}
+
 /// Puts out the last line of a dump.
 fn write_total<O: Outlet>(page: &mut Page, outlet: &mut O, total: u64) -> bool
+    ensures added { IsAdded (total_line total) page.old (O.seen outlet.old) page.new (O.seen outlet.new) result }
     ensures empty { page.new ≡ [] }
-    ensures fault { Tells (O.seen outlet.old) (O.seen outlet.new) result }
 {
     if !make_room(page, outlet) {
         page.clear();
         return false;
     }
-    page.add(b"ok dump");
-    page.add_number(total);
-    page.add(b"\n");
+    add_total(page, total);
     flush(page, outlet)
 }
 
@@ -60,8 +71,9 @@ pub fn write_dump<O: Outlet, C: Commands>(
     commands: &C,
     time: u64,
 ) -> bool
+    requires { page.old ≡ [] }
     ensures empty { page.new ≡ [] }
-    ensures fault { Tells (O.seen outlet.old) (O.seen outlet.new) result }
+    ensures text { WritesDump C.gives commands.now time (O.seen outlet.old) (O.seen outlet.new) result }
 {
     let mut cursor = Cursor::Start;
     let mut total: u64 = 0;

@@ -23,7 +23,7 @@ const KINDS: [Kind; 9] = [
 
 /// The kind of this name.
 #[tactic(auto, unfolding(crate::specs::Grammar::kind_of))]
-fn kind_of(word: &[u8]) -> Option<Kind>
+pub fn kind_of(word: &[u8]) -> Option<Kind>
     ensures { result ≡ kind_of word.now }
 {
     for kind in KINDS {

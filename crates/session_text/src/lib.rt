@@ -9,6 +9,8 @@ pub mod buffer;
 pub mod command;
 pub mod commands;
 pub mod dump;
+#[cfg(test)]
+mod faults;
 pub mod fields;
 pub mod inlet;
 pub mod number;
@@ -24,7 +26,7 @@ pub mod write;
 pub use commands::{Commands, Local};
 pub use inlet::{Inlet, Take};
 pub use read_inlet::ReadInlet;
-pub use talk::serve;
+pub use talk::{serve, serve_local};
 
 /// The most bytes of a line, without its LF.
 pub const LINE_LIMIT: usize = 4096;

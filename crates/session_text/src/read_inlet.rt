@@ -1,9 +1,10 @@
 //! Inlets over readers.
-ghost use Rattle.std.specs.Prelude.{◌<◌, length};
+ghost use Rattle.std.specs.Prelude.{◌≡◌, ◌<◌, [], length};
 ghost use Rattle.session_text.specs.Inlets.{IsTriedRead};
 
 use crate::inlet::{Inlet, Take};
-use dump_pump::History;
+use dump_pump::ledger::note_bytes;
+use http_server::Log;
 use std::io::{ErrorKind, Read};
 
 /// How often an interrupted read is made again.
@@ -13,19 +14,22 @@ pub const INTERRUPT_LIMIT: u32 = 100;
 #[derive(Drop)]
 pub struct ReadInlet<R: Read> {
     reader: R,
-    taken: History<u8>,
-    asked: History<()>,
-    failed: History<()>,
+    taken: Log<u8, ()>,
+    asked: Log<(), ()>,
+    failed: Log<(), ()>,
 }
 
 impl<R: Read> ReadInlet<R> {
     /// An inlet that has given nothing yet.
-    pub fn new(reader: R) -> ReadInlet<R> {
+    pub fn new(reader: R) -> ReadInlet<R>
+        ensures given { result.reader ≡ reader }
+        ensures nothing { (result.taken.items ≡ []) × (result.asked.items ≡ []) × (result.failed.items ≡ []) }
+    {
         ReadInlet {
             reader,
-            taken: History::new(),
-            asked: History::new(),
-            failed: History::new(),
+            taken: Log::new(),
+            asked: Log::new(),
+            failed: Log::new(),
         }
     }
 }
@@ -51,16 +55,17 @@ fn read_once<R: Read>(reader: &mut R, room: &mut [u8]) -> Take
 
 impl<R: Read> Inlet for ReadInlet<R> {
     ghost use Rattle.std.specs.Prelude.{length};
+    ghost use Rattle.dump_pump.specs.Outlets.{bytes_of};
 
-    ghost seen = { λ i. record { taken = i.taken.items; left = R.remaining i.reader; reads = length i.asked.items; failures = length i.failed.items } };
+    ghost seen = { λ i. record { taken = bytes_of i.taken.items; left = R.remaining i.reader; reads = length i.asked.items; failures = length i.failed.items } };
 
     fn take(&mut self, room: &mut [u8]) -> Take {
         let took = read_once(&mut self.reader, room);
-        self.asked = self.asked.and(&());
+        self.asked = self.asked.and(&(), &());
         match took {
-            Take::Got(n) => self.taken.extend(&room[..n]),
+            Take::Got(n) => note_bytes(&mut self.taken, &room[..n]),
             Take::End => {}
-            Take::Failed => self.failed = self.failed.and(&()),
+            Take::Failed => self.failed = self.failed.and(&(), &()),
         }
         took
     }

@@ -29,6 +29,11 @@ fn add_answer(page: &mut Page, answer: Answer)
             page.add_number(k);
         }
         Answer::Object(id) => add_object(page, id),
+        Answer::Null => page.add(b"ok null"),
+        Answer::Value(value) => {
+            page.add(b"ok value");
+            page.add_number(value);
+        }
         Answer::Done => page.add(b"ok"),
     }
 }

@@ -1,10 +1,13 @@
 //! Sessions.
 ghost use Rattle.std.specs.Prelude.{◌≡◌, []};
+ghost use Rattle.session_text.specs.Answers.{Answers, Begins};
 ghost use Rattle.session_text.specs.Endings.{Ends, ended_of};
+ghost use Rattle.session_text.specs.Session.{IsSession};
+ghost use Rattle.session_text.specs.Talks.{Serves};
 
 use crate::answer::{Step, answer_lines};
 use crate::buffer::Buffer;
-use crate::commands::Commands;
+use crate::commands::{Commands, Local};
 use crate::inlet::{Inlet, Take};
 use crate::page::Page;
 use crate::write::write_all;
@@ -29,7 +32,7 @@ fn talk<I: Inlet, O: Outlet, C: Commands>(
 ) -> Ended
     requires buffer { buffer.old ≡ [] }
     requires page { page.old ≡ [] }
-    ensures { Ends (I.seen reader.old) (I.seen reader.new) (O.seen writer.old) (O.seen writer.new) result }
+    ensures { Serves (Answers C.acts C.gives time) (Begins C.acts C.gives time) (I.seen reader.old) (I.seen reader.new) commands.old (O.seen writer.old) commands.new (O.seen writer.new) result }
 {
     let mut reads: u64 = 0;
     loop {
@@ -60,8 +63,9 @@ fn talk<I: Inlet, O: Outlet, C: Commands>(
     }
 }
 
-/// Reads lines, and writes the answers of the commands, until an ending. `time`, in milliseconds, stands in the header
-/// of each dump.
+/// Reads lines, and writes the answers of the commands in order, until an ending. In which chunks bytes come and go doesn't
+/// show. After a write that failed nothing more is read or written, and the commands that were done stay done. `time`, in
+/// milliseconds, stands in the header of each dump.
 pub fn serve<I: Inlet, O: Outlet, C: Commands>(
     alloc: Global,
     reader: &mut I,
@@ -69,7 +73,8 @@ pub fn serve<I: Inlet, O: Outlet, C: Commands>(
     commands: &mut C,
     time: u64,
 ) -> Ended
-    ensures { Ends (I.seen reader.old) (I.seen reader.new) (O.seen writer.old) (O.seen writer.new) result }
+    ensures ends { Ends (I.seen reader.old) (I.seen reader.new) (O.seen writer.old) (O.seen writer.new) result }
+    ensures text { Serves (Answers C.acts C.gives time) (Begins C.acts C.gives time) (I.seen reader.old) (I.seen reader.new) commands.old (O.seen writer.old) commands.new (O.seen writer.new) result }
 {
     match (Buffer::new(alloc), Page::new(alloc)) {
         (Ok(mut buffer), Ok(mut page)) => {
@@ -85,4 +90,19 @@ pub fn serve<I: Inlet, O: Outlet, C: Commands>(
         }
         _ => Ended::NoMemory,
     }
+}
+
+/// A session of a machine of one's own: `serve`, where what is written and the machine afterwards are a function of the
+/// bytes read, of where memory was refused and of how reading ended.
+pub fn serve_local<I: Inlet, O: Outlet>(
+    alloc: Global,
+    reader: &mut I,
+    writer: &mut O,
+    local: &mut Local,
+    time: u64,
+) -> Ended
+    ensures ends { Ends (I.seen reader.old) (I.seen reader.new) (O.seen writer.old) (O.seen writer.new) result }
+    ensures session { IsSession local.old.machine time (I.seen reader.old) (I.seen reader.new) (O.seen writer.old) (O.seen writer.new) local.new.machine result }
+{
+    serve(alloc, reader, writer, local, time)
 }

@@ -25,9 +25,15 @@ impl Read for Chunks<'_> {
     }
 }
 
-/// What a session writes that is read in chunks of a size, and how it ends.
-fn session(alloc: Global, keep: u64, size: usize, text: &str) -> Result<(Ended, Vec<u8>), Fail> {
-    let config = Config::new(16, 2, keep).ok_or("settings out of range")?;
+/// What a session writes whose heap has so many regions, and that is read in chunks of a size, and how it ends.
+fn session_over(
+    alloc: Global,
+    regions: u64,
+    keep: u64,
+    size: usize,
+    text: &str,
+) -> Result<(Ended, Vec<u8>), Fail> {
+    let config = Config::new(regions, 2, keep).ok_or("settings out of range")?;
     let mut local = Local {
         machine: Machine::new(alloc, config)?,
     };
@@ -38,6 +44,11 @@ fn session(alloc: Global, keep: u64, size: usize, text: &str) -> Result<(Ended, 
     let mut writer = WriteOutlet::new(Vec::new(alloc));
     let ended = serve(alloc, &mut reader, &mut writer, &mut local, 0);
     Ok((ended, writer.into_writer()))
+}
+
+/// The same with 16 regions.
+fn session(alloc: Global, keep: u64, size: usize, text: &str) -> Result<(Ended, Vec<u8>), Fail> {
+    session_over(alloc, 16, keep, size, text)
 }
 
 const EMPTY_DUMP: &str = "\
@@ -152,11 +163,200 @@ fn keep_one(rt: HostRuntime) -> Result<(), Fail> {
 
 #[test]
 fn lines_and_cut_end(rt: HostRuntime) -> Result<(), Fail> {
-    let (ended, text) = session(rt.alloc(), 1024, 3, "foo\n\n \nnew 0 9 0\r\nnew 0")?;
+    let (ended, text) = session(rt.alloc(), 1024, 3, "foo\n\nclear 0 9\r\nclear 0")?;
     assert_eq!(rt; ended, Ended::CutLine);
     assert_eq!(rt;
         text.as_slice(),
         "bad command\nno 7 BadRegister\nbad cut\n".as_bytes()
     );
+    Ok(())
+}
+
+const DUMP_OF_BOOLEAN_ARRAY: &str = "\
+ok object 0x10000000\n\
+ok\n\
+data 4a4156412050524f46494c4520312e302e320000000008000000000000000005000000000000000c0000000100000000000000000c000000000000001e\n\
+data 230000000010000000000000010000000304000100\n\
+data ff0000000010000000\n\
+ok dump 91\n\
+";
+
+const DUMP_OF_OBJECT_ARRAY: &str = "\
+ok class 0\n\
+ok object 0x10000000\n\
+ok\n\
+data 4a4156412050524f46494c4520312e302e320000000008000000000000000001000000000000000c00000000000000015b4c713b020000000000000018000000\n\
+data 01000000000010000000000001000000000000000105000000000000000c0000000100000000000000000c000000000000008220000000000010000000000001\n\
+data 00000000000000000000000000000000000000000000000000000000000000000000000000000000000000000000000000000000000000000000050000000000\n\
+data 100000\n\
+data 2200000000100000000000000100000002000000000010000000000000000000000000000010000000\n\
+data ff0000000010000000\n\
+ok dump 245\n\
+";
+
+#[test]
+fn dump_of_boolean_array(rt: HostRuntime) -> Result<(), Fail> {
+    let lines = "newprim 0 0 boolean 3\nput 0 0 1 1\ndump -\n";
+    let (ended, text) = session(rt.alloc(), 1024, 11, lines)?;
+    assert_eq!(rt; ended, Ended::Eof);
+    assert_eq!(rt; text.as_slice(), DUMP_OF_BOOLEAN_ARRAY.as_bytes());
+    Ok(())
+}
+
+#[test]
+fn dump_of_object_array(rt: HostRuntime) -> Result<(), Fail> {
+    let lines = "array [Lq;\nnewarray 0 0 0 2\nstore 0 0 1 0\ndump -\n";
+    let (ended, text) = session(rt.alloc(), 1024, 2, lines)?;
+    assert_eq!(rt; ended, Ended::Eof);
+    assert_eq!(rt; text.as_slice(), DUMP_OF_OBJECT_ARRAY.as_bytes());
+    Ok(())
+}
+
+#[test]
+fn limits_of_one_region(rt: HostRuntime) -> Result<(), Fail> {
+    let lines = "newprim 0 0 long 1024\nnewprim 0 1 long 1025\nnewprim 0 1 long 1024\n";
+    let replies = "ok object 0x10000000\nno 12 TooLarge\nno 13 HeapFull\n";
+    let (ended, text) = session_over(rt.alloc(), 1, 1024, 4096, lines)?;
+    assert_eq!(rt; ended, Ended::Eof);
+    assert_eq!(rt; text.as_slice(), replies.as_bytes());
+    Ok(())
+}
+
+const REFUSED_LINES: &str = "\
+class A - x:int x:int\n\
+class a+b -\n\
+class A 3\n\
+class Point - x:int y:int\n\
+new 0 0 0\n\
+put 0 0 0 4294967296\n\
+load 0 1 0 2\n\
+load 0 1 1 0\n\
+store 0 0 0 1\n\
+put 0 0 1 5\n\
+load 0 1 0 1\n\
+";
+
+const REFUSALS_OF_MUTATORS: &str = "\
+no 5 DuplicateName\n\
+no 4 BadName\n\
+no 2 NoClass\n\
+ok class 0\n\
+ok object 0x10000000\n\
+no 11 OutOfRange\n\
+no 9 BadSlot\n\
+no 8 NullRegister\n\
+no 10 WrongKind\n\
+ok\n\
+ok value 5\n\
+";
+
+#[test]
+fn refusals_of_mutators(rt: HostRuntime) -> Result<(), Fail> {
+    let (ended, text) = session(rt.alloc(), 1024, 4096, REFUSED_LINES)?;
+    assert_eq!(rt; ended, Ended::Eof);
+    assert_eq!(rt; text.as_slice(), REFUSALS_OF_MUTATORS.as_bytes());
+    Ok(())
+}
+
+#[test]
+fn lowest_region_first(rt: HostRuntime) -> Result<(), Fail> {
+    let lines =
+        "class Node - next:object v:long\nnewprim 0 0 long 5\nnew 0 1 0\nnewprim 0 2 long 6\nnewprim 0 3 long 17\nrewind 1\nnewprim 0 3 int 16\n";
+    let replies =
+        "ok class 0\nok object 0x10000000\nok object 0x10002000\nok object 0x10000080\nno 13 HeapFull\nok place 3\nok object 0x10000080\n";
+    let (ended, text) = session_over(rt.alloc(), 2, 1024, 9, lines)?;
+    assert_eq!(rt; ended, Ended::Eof);
+    assert_eq!(rt; text.as_slice(), replies.as_bytes());
+    Ok(())
+}
+
+#[test]
+fn rewind_gives_back_cells(rt: HostRuntime) -> Result<(), Fail> {
+    let lines = "class Point - x:int y:int\nnew 0 0 0\nnew 0 1 0\nrewind 2\nnew 0 0 0\n";
+    let replies =
+        "ok class 0\nok object 0x10000000\nok object 0x10000020\nok place 1\nok object 0x10000000\n";
+    let (ended, text) = session(rt.alloc(), 1024, 13, lines)?;
+    assert_eq!(rt; ended, Ended::Eof);
+    assert_eq!(rt; text.as_slice(), replies.as_bytes());
+    Ok(())
+}
+
+#[test]
+fn rewind_too_far(rt: HostRuntime) -> Result<(), Fail> {
+    let lines = "clear 0 0\nclear 0 0\nclear 0 0\nclear 0 0\nrewind 3\nrewind 1\n";
+    let replies = "ok\nok\nok\nok\nok place 1\nno 21 TooFar 1 0\n";
+    let (ended, text) = session(rt.alloc(), 3, 6, lines)?;
+    assert_eq!(rt; ended, Ended::Eof);
+    assert_eq!(rt; text.as_slice(), replies.as_bytes());
+    Ok(())
+}
+
+#[test]
+fn references_move(rt: HostRuntime) -> Result<(), Fail> {
+    let lines =
+        "class Node - next:object v:long\nnew 0 0 0\nstore 0 0 0 0\nload 0 1 0 0\nmove 1 0 0 1\nclear 0 0\nload 1 1 1 0\nload 1 0 0 0\n";
+    let replies =
+        "ok class 0\nok object 0x10000000\nok\nok object 0x10000000\nok\nok\nno 8 NullRegister\nok object 0x10000000\n";
+    let (ended, text) = session(rt.alloc(), 1024, 4096, lines)?;
+    assert_eq!(rt; ended, Ended::Eof);
+    assert_eq!(rt; text.as_slice(), replies.as_bytes());
+    Ok(())
+}
+
+/// What a session of one line answers.
+fn answer(alloc: Global, line: &[u8]) -> Result<(Ended, Vec<u8>), Fail> {
+    let config = Config::new(1, 1, 1).ok_or("settings out of range")?;
+    let mut local = Local {
+        machine: Machine::new(alloc, config)?,
+    };
+    let mut reader = ReadInlet::new(line);
+    let mut writer = WriteOutlet::new(Vec::new(alloc));
+    let ended = serve(alloc, &mut reader, &mut writer, &mut local, 0);
+    Ok((ended, writer.into_writer()))
+}
+
+/// Whether each line is answered so, and all are run.
+fn are_answered(alloc: Global, lines: &[(&[u8], &[u8])]) -> Result<bool, Fail> {
+    for (line, reply) in lines {
+        let (ended, text) = answer(alloc, line)?;
+        if ended != Ended::Eof || text.as_slice() != *reply {
+            return Ok(false);
+        }
+    }
+    Ok(true)
+}
+
+#[test]
+fn lines_at_the_limits(rt: HostRuntime) -> Result<(), Fail> {
+    let lines: [(&[u8], &[u8]); 8] = [
+        (b"clear 0 00000000000000000000\n", b"ok\n"),
+        (b"clear 0 000000000000000000000\n", b"bad command\n"),
+        (b"clear 0 18446744073709551615\n", b"no 7 BadRegister\n"),
+        (b"clear 0 18446744073709551616\n", b"bad command\n"),
+        (b"put 0 0 0 -1\n", b"bad command\n"),
+        (b"clear 0 0\x80\n", b"bad command\n"),
+        (b"class A - x:y:int\n", b"bad command\n"),
+        (b"class a:b -\n", b"no 4 BadName\n"),
+    ];
+    assert!(rt; are_answered(rt.alloc(), &lines)?);
+    Ok(())
+}
+
+/// So many letters and a line end.
+fn letters(alloc: Global, count: usize) -> Result<Vec<u8>, Fail> {
+    let mut line = vec![in alloc; b'a'; count]?;
+    line.push(b'\n')?;
+    Ok(line)
+}
+
+#[test]
+fn longest_lines(rt: HostRuntime) -> Result<(), Fail> {
+    let alloc = rt.alloc();
+    let (ended, text) = answer(alloc, letters(alloc, 4096)?.as_slice())?;
+    assert_eq!(rt; ended, Ended::Eof);
+    assert_eq!(rt; text.as_slice(), b"bad command\n".as_slice());
+    let (ended, text) = answer(alloc, letters(alloc, 4097)?.as_slice())?;
+    assert_eq!(rt; ended, Ended::TooLong);
+    assert_eq!(rt; text.as_slice(), b"bad long\n".as_slice());
     Ok(())
 }

@@ -1,7 +1,7 @@
 //! Writing.
 ghost use Rattle.std.specs.Prelude.{◌≡◌, ◌≤◌, [], length};
-ghost use Rattle.session_text.specs.Endings.{Tells};
-ghost use Rattle.session_text.specs.Writes.{IsWritten};
+ghost use Rattle.session_text.specs.Replies.{reply_text};
+ghost use Rattle.session_text.specs.Writes.{IsWritten, IsAdded};
 
 use crate::page::Page;
 use crate::reply::add_reply;
@@ -27,7 +27,7 @@ pub fn write_all<O: Outlet>(outlet: &mut O, bytes: &[u8]) -> bool
 
 /// Puts out a page, which is empty afterwards.
 pub fn flush<O: Outlet>(page: &mut Page, outlet: &mut O) -> bool
-    ensures written { IsWritten page.old (O.seen outlet.old) (O.seen outlet.new) result }
+    ensures added { IsAdded [] page.old (O.seen outlet.old) page.new (O.seen outlet.new) result }
     ensures empty { page.new ≡ [] }
 {
     let written = write_all(outlet, page.as_slice());
@@ -37,8 +37,8 @@ pub fn flush<O: Outlet>(page: &mut Page, outlet: &mut O) -> bool
 
 /// Puts out a page that has no room for a line.
 pub fn make_room<O: Outlet>(page: &mut Page, outlet: &mut O) -> bool
+    ensures added { IsAdded [] page.old (O.seen outlet.old) page.new (O.seen outlet.new) result }
     ensures room { length page.new ≤ 8000 }
-    ensures fault { Tells (O.seen outlet.old) (O.seen outlet.new) result }
 {
     if page.as_slice().len() <= LINE_START {
         return true;
@@ -48,8 +48,8 @@ pub fn make_room<O: Outlet>(page: &mut Page, outlet: &mut O) -> bool
 
 /// Puts out a page and a reply behind it.
 pub fn write_reply<O: Outlet>(page: &mut Page, outlet: &mut O, reply: Reply) -> bool
+    ensures added { IsAdded (reply_text reply) page.old (O.seen outlet.old) page.new (O.seen outlet.new) result }
     ensures empty { page.new ≡ [] }
-    ensures fault { Tells (O.seen outlet.old) (O.seen outlet.new) result }
 {
     if !make_room(page, outlet) {
         page.clear();

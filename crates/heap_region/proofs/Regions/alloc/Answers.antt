@@ -1,6 +1,6 @@
-use Rattle.std.proofs.Common.{◌≡◌, ◌≤◌, ℕ, List, length, None, Some, true, false, arith, sym, ap, ◌∙◌, subst, refl, inl, inr}
-use Rattle.heap_region.specs.Regions.{Object, UsedRegion, cell_size_for}
-use Rattle.heap_region.specs.Pool.{blank_object, new_place, restored}
+use Rattle.std.proofs.Common.{◌≡◌, None, arith, sym, ap, ◌∙◌, subst, refl, inl, inr}
+use Rattle.heap_region.specs.Regions.{Object, cell_size_for}
+use Rattle.heap_region.specs.Pool.{restored}
 use Rattle.heap_region.specs.Layout.{Heads, FitsWords, fresh_table, filled, new_object}
 use Rattle.heap_region.specs.Table.{HasObject}
 use Rattle.heap_region.proofs.Clauses.{size_holds}

@@ -1,7 +1,7 @@
-use Rattle.std.proofs.Common.{◌≡◌, ℕ, List, IsSome, None, Option, option_map, get_or, sym, subst, ap, ◌∙◌, arith, map, reverse, set, get_or-set_same}
+use Rattle.std.proofs.Common.{◌≡◌, IsSome, None, Option, option_map, get_or, sym, subst, ap, ◌∙◌, arith, get_or-set_same}
 use Rattle.std.proofs.lemmas.List.{get_or_read}
 use Rattle.heap_class.specs.declared.ObjRef.{ObjRef}
-use Rattle.heap_region.specs.Regions.{UsedRegion, Region}
+use Rattle.heap_region.specs.Regions.{UsedRegion}
 use Rattle.heap_region.specs.Layout.{cell_freed}
 use Rattle.heap_region.specs.Table.{slot_object}
 use Rattle.heap_region.specs.Pool.{freed}

@@ -1,9 +1,8 @@
-use Rattle.std.proofs.Common.{◌≡◌, ℕ, List, IsSome, None, Option, option_map, get_or, sym, ap, ◌∙◌, arith, map, reverse, set, get_or-set_same}
+use Rattle.std.proofs.Common.{◌≡◌, IsSome, None, Option, option_map, get_or, sym, ap, ◌∙◌, arith, get_or-set_same}
 use Rattle.std.proofs.lemmas.List.{get_or_read}
-use Rattle.heap_region.specs.Regions.{UsedRegion, Region}
-use Rattle.heap_region.specs.Pool.{RegionPool, blank_object}
+use Rattle.heap_region.specs.Regions.{UsedRegion}
+use Rattle.heap_region.specs.Pool.{blank_object}
 use Rattle.heap_region.specs.Layout.{new_object, filled}
-use Rattle.heap_region.specs.Table.{shown_region}
 use Rattle.heap_region.proofs.Shown.{used_shown, taken_shown}
 use Rattle.heap_region.proofs.Tables.{table_changed, used_from, in_use_within, told_length, take_ready, taken_good, mapped_some}
 use Rattle.heap_region.proofs.Regions.take_at.Goals as goal

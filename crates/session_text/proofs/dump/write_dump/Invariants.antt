@@ -1,5 +1,9 @@
-use Rattle.std.proofs.Common.{◌≡◌, ◌*◌, ◌≤◌}
+use Rattle.std.proofs.Common.{◌≡◌, ◌*◌, ◌≤◌, List, ℕ, true}
+use Rattle.session_text.specs.Writes.{IsAdded}
+use Rattle.session_text.proofs.Dumping.{Onward}
 use Rattle.session_text.proofs.dump.write_dump.Given as goal
 
 abbrev pub invariant-loop-number : goal.invariant-loop-number
-invariant-loop-number g l = g.C.Commands.stands l.commands l.cursor × (l.total ≤ l.number * 16777216) × ((g.O.Outlet.seen l.outlet).failures ≡ (g.O.Outlet.seen l.initial.outlet).failures)
+invariant-loop-number g l =
+    g.C.Commands.stands l.commands l.cursor × (l.total ≤ l.number * 16777216)
+    × (text : List ℕ) × IsAdded text l.initial.page (g.O.Outlet.seen l.initial.outlet) l.page (g.O.Outlet.seen l.outlet) true × Onward g.C.Commands.gives l.commands l.time l.number l.cursor l.total text

@@ -1,58 +1,104 @@
-use Rattle.std.proofs.Common.{◌∙◌, ◌+◌, ◌<◌, ap, inl, inr, arith}
+use Rattle.std.proofs.Common.{◌≡◌, ◌∙◌, ◌+◌, ◌<◌, ◌≤◌, ap, refl, length, arith}
 use Rattle.std.specs.Prelude.{codes}
-use Rattle.session_text.specs.declared.Ended.TheVariants.{CutLine, TooLong, ReadFault, TooManyReads}
-use Rattle.session_text.proofs.Ending.{says, open_none, open_read}
+use Rattle.session_text.specs.declared.Ended.TheVariants.{Quit, Eof, CutLine, TooLong, ReadFault, TooManyReads}
+use Rattle.session_text.specs.Answers.{Answers, Begins}
+use Rattle.session_text.specs.Inlets.{whole}
+use Rattle.session_text.proofs.Lists.{is_empty_of, is_some_of}
+use Rattle.session_text.proofs.Talking.{keeps_same, open_none, open_answered, open_read, ends_plainly, ends_saying, ends_broken}
 use Rattle.session_text.proofs.talk.talk.Goals as goal
 
 pub loop-buffer-init : goal.loop-buffer-init
-loop-buffer-init g c = (c.requires.page, open_none _ _)
+loop-buffer-init g c = (c.requires.page, open_none (Answers g.C.Commands.acts g.C.Commands.gives c.args.time) (g.I.Inlet.seen c.args.reader.now) c.args.buffer.now c.args.commands.now (g.O.Outlet.seen c.args.writer.now) c.requires.buffer)
 
 pub returns-in-Quit : goal.returns-in-Quit
-returns-in-Quit g c = let o = c.loop-buffer.invariant.1 in (c.in-Quit.ensures.fault ∙ o.written, o.no_fault)
+returns-in-Quit g c =
+    let e = c.in-Quit.ensures.answered in
+    let says = Answers g.C.Commands.acts g.C.Commands.gives c.args.time in
+    let begins = Begins g.C.Commands.acts g.C.Commands.gives c.args.time in
+    let w1 = g.O.Outlet.seen c.answer_lines.new.writer in
+    let a = g.I.Inlet.seen c.loop-buffer.reader in
+    let o = open_answered says _ _ _ _ _ _ _ _ c.answer_lines.new.buffer e.0 c.answer_lines.new.commands w1 c.loop-buffer.invariant.1 e.1 e.3 in
+    ends_plainly says begins _ _ _ _ _ _ _ _ a Quit o refl (keeps_same (whole a)) (e.2, refl, o.no_fault) (λ x. x)
 
 pub returns-in-Fault : goal.returns-in-Fault
-returns-in-Fault g c = let o = c.loop-buffer.invariant.1 in (c.in-Fault.ensures.fault ∙ ap (λ n. n + 1) o.written, inl o.no_fault)
+returns-in-Fault g c =
+    let e = c.in-Fault.ensures.answered in
+    let says = Answers g.C.Commands.acts g.C.Commands.gives c.args.time in
+    let begins = Begins g.C.Commands.acts g.C.Commands.gives c.args.time in
+    ends_broken says begins _ _ _ _ _ _ _ _ e.0 e.1 e.2 e.3 c.answer_lines.new.commands (g.O.Outlet.seen c.answer_lines.new.writer) c.loop-buffer.invariant.1 e.4 e.5 e.6
 
 pub returns-then-as_slice-gt-LINE_LIMIT : goal.returns-then-as_slice-gt-LINE_LIMIT
 returns-then-as_slice-gt-LINE_LIMIT g c =
-    let o = c.loop-buffer.invariant.1 in
-    let e = c.in-Next.ensures.fault ∙ o.written in
-    rw c.unless_fault.ensures (says _ _ _ (g.O.Outlet.seen c.answer_lines.new.writer) (g.O.Outlet.seen c.write_all.new.outlet) TooLong (codes "bad long\n") c.write_all.result e c.write_all.ensures (λ k. (k, o.no_fault)) (inl o.no_fault))
+    let e = c.in-Next.ensures.answered in
+    let says = Answers g.C.Commands.acts g.C.Commands.gives c.args.time in
+    let begins = Begins g.C.Commands.acts g.C.Commands.gives c.args.time in
+    let w1 = g.O.Outlet.seen c.answer_lines.new.writer in
+    let a = g.I.Inlet.seen c.loop-buffer.reader in
+    let o = open_answered says _ _ _ _ _ _ _ _ c.answer_lines.new.buffer e.0 c.answer_lines.new.commands w1 c.loop-buffer.invariant.1 e.1 e.3 in
+    let z = ap (λ l. length l) c.as_slice.ensures.value in
+    let n : length c.answer_lines.new.buffer ≡ 4097 = omega (arith, z, c.as_slice.ensures.most, c.if-as_slice-gt-LINE_LIMIT.true) in
+    rw c.unless_fault.ensures (ends_saying says begins _ _ _ _ _ _ _ _ a (g.O.Outlet.seen c.write_all.new.outlet) TooLong (codes "bad long\n") c.write_all.result o refl (keeps_same (whole a)) (e.2, n, refl, o.no_fault) c.write_all.ensures (λ x. x))
 
 pub returns-then-reads-eq-READ_LIMIT : goal.returns-then-reads-eq-READ_LIMIT
 returns-then-reads-eq-READ_LIMIT g c =
-    let o = c.loop-buffer.invariant.1 in
-    let e = c.in-Next.ensures.fault ∙ o.written in
+    let e = c.in-Next.ensures.answered in
+    let says = Answers g.C.Commands.acts g.C.Commands.gives c.args.time in
+    let begins = Begins g.C.Commands.acts g.C.Commands.gives c.args.time in
+    let w1 = g.O.Outlet.seen c.answer_lines.new.writer in
+    let a = g.I.Inlet.seen c.loop-buffer.reader in
     let w = c.write_all-then-reads-eq-READ_LIMIT in
-    rw c.unless_fault-then-reads-eq-READ_LIMIT.ensures (says _ _ _ (g.O.Outlet.seen c.answer_lines.new.writer) (g.O.Outlet.seen w.new.outlet) TooManyReads (codes "bad reads\n") w.result e w.ensures
-    (λ k. (k, (omega (arith, o.reads_are, c.if-reads-eq-READ_LIMIT.true), o.no_fault))) (inl o.no_fault))
+    let o = open_answered says _ _ _ _ _ _ _ _ c.answer_lines.new.buffer e.0 c.answer_lines.new.commands w1 c.loop-buffer.invariant.1 e.1 e.3 in
+    let z = ap (λ l. length l) c.as_slice.ensures.value in
+    let n : length c.answer_lines.new.buffer ≤ 4096 = omega (arith, z, c.if-as_slice-gt-LINE_LIMIT.false) in
+    rw c.unless_fault-then-reads-eq-READ_LIMIT.ensures (ends_saying says begins _ _ _ _ _ _ _ _ a (g.O.Outlet.seen w.new.outlet) TooManyReads (codes "bad reads\n") w.result o refl (keeps_same (whole a))
+    (record { most = n; no_lf = e.2 }, omega (arith, o.reads_are, c.if-reads-eq-READ_LIMIT.true), refl, o.no_fault) w.ensures (λ x. x))
 
 pub loop-buffer-preserved : goal.loop-buffer-preserved
 loop-buffer-preserved g c =
-    let o = c.loop-buffer.invariant.1 in
+    let e = c.in-Next.ensures.answered in
     let r = c.in-Got.ensures in
+    let says = Answers g.C.Commands.acts g.C.Commands.gives c.args.time in
+    let w1 = g.O.Outlet.seen c.answer_lines.new.writer in
+    let o = open_answered says _ _ _ _ _ _ _ _ c.answer_lines.new.buffer e.0 c.answer_lines.new.commands w1 c.loop-buffer.invariant.1 e.1 e.3 in
     let less : c.loop-buffer.reads < 1000000 = omega (arith, o.most, c.if-reads-eq-READ_LIMIT.false) in
-    (c.in-Next.ensures.empty, open_read _ _ (g.I.Inlet.seen c.read.new.inlet) _ _ (g.O.Outlet.seen c.answer_lines.new.writer) _ o less c.in-Next.ensures.fault r.3 r.4)
+    (c.in-Next.ensures.empty, open_read says _ _ _ _ _ _ _ _ (g.I.Inlet.seen c.read.new.inlet) c.read.new.self r.0 o less r.1 r.2 r.3 r.4 r.5)
 
 pub returns-then-is_empty : goal.returns-then-is_empty
 returns-then-is_empty g c =
-    let o = c.loop-buffer.invariant.1 in
+    let e = c.in-Next.ensures.answered in
     let r = c.in-End.ensures in
-    (c.in-Next.ensures.fault ∙ o.written, (r.1, r.4 ∙ o.no_fault))
+    let says = Answers g.C.Commands.acts g.C.Commands.gives c.args.time in
+    let begins = Begins g.C.Commands.acts g.C.Commands.gives c.args.time in
+    let w1 = g.O.Outlet.seen c.answer_lines.new.writer in
+    let o = open_answered says _ _ _ _ _ _ _ _ c.answer_lines.new.buffer e.0 c.answer_lines.new.commands w1 c.loop-buffer.invariant.1 e.1 e.3 in
+    let none = is_empty_of c.as_slice-in-End.result.now c.read.new.self c.answer_lines.new.buffer c.as_slice-in-End.ensures.value r.0 c.if-is_empty.ensures in
+    ends_plainly says begins _ _ _ _ _ _ _ _ (g.I.Inlet.seen c.read.new.inlet) Eof o r.2 r.5 (none, r.1, refl, r.4 ∙ o.no_fault) (λ x. x)
 
 pub returns-in-End : goal.returns-in-End
 returns-in-End g c =
-    let o = c.loop-buffer.invariant.1 in
+    let e = c.in-Next.ensures.answered in
     let r = c.in-End.ensures in
-    let e = c.in-Next.ensures.fault ∙ o.written in
+    let says = Answers g.C.Commands.acts g.C.Commands.gives c.args.time in
+    let begins = Begins g.C.Commands.acts g.C.Commands.gives c.args.time in
+    let w1 = g.O.Outlet.seen c.answer_lines.new.writer in
     let w = c.write_all-in-End in
-    rw c.unless_fault-in-End.ensures (says _ _ _ (g.O.Outlet.seen c.answer_lines.new.writer) (g.O.Outlet.seen w.new.outlet) CutLine (codes "bad cut\n") w.result e w.ensures (λ k. (k, (r.1, r.4 ∙ o.no_fault))) (inl (r.4 ∙ o.no_fault)))
+    let o = open_answered says _ _ _ _ _ _ _ _ c.answer_lines.new.buffer e.0 c.answer_lines.new.commands w1 c.loop-buffer.invariant.1 e.1 e.3 in
+    let z = ap (λ l. length l) c.as_slice.ensures.value in
+    let n : length c.answer_lines.new.buffer ≤ 4096 = omega (arith, z, c.if-as_slice-gt-LINE_LIMIT.false) in
+    let some = is_some_of c.as_slice-in-End.result.now c.read.new.self c.answer_lines.new.buffer c.as_slice-in-End.ensures.value r.0 c.if-is_empty.ensures in
+    rw c.unless_fault-in-End.ensures (ends_saying says begins _ _ _ _ _ _ _ _ (g.I.Inlet.seen c.read.new.inlet) (g.O.Outlet.seen w.new.outlet) CutLine (codes "bad cut\n") w.result o r.2 r.5
+    (record { most = n; no_lf = e.2 }, some, r.1, refl, r.4 ∙ o.no_fault) w.ensures (λ x. x))
 
 pub returns-in-Failed : goal.returns-in-Failed
 returns-in-Failed g c =
-    let o = c.loop-buffer.invariant.1 in
+    let e = c.in-Next.ensures.answered in
     let r = c.in-Failed.ensures in
-    let e = c.in-Next.ensures.fault ∙ o.written in
+    let says = Answers g.C.Commands.acts g.C.Commands.gives c.args.time in
+    let begins = Begins g.C.Commands.acts g.C.Commands.gives c.args.time in
+    let w1 = g.O.Outlet.seen c.answer_lines.new.writer in
     let w = c.write_all-in-Failed in
-    let rose = r.3 ∙ ap (λ k. k + 1) o.no_fault in
-    rw c.unless_fault-in-Failed.ensures (says _ _ _ (g.O.Outlet.seen c.answer_lines.new.writer) (g.O.Outlet.seen w.new.outlet) ReadFault (codes "bad read\n") w.result e w.ensures (λ k. (k, rose)) (inr rose))
+    let o = open_answered says _ _ _ _ _ _ _ _ c.answer_lines.new.buffer e.0 c.answer_lines.new.commands w1 c.loop-buffer.invariant.1 e.1 e.3 in
+    let z = ap (λ l. length l) c.as_slice.ensures.value in
+    let n : length c.answer_lines.new.buffer ≤ 4096 = omega (arith, z, c.if-as_slice-gt-LINE_LIMIT.false) in
+    rw c.unless_fault-in-Failed.ensures (ends_saying says begins _ _ _ _ _ _ _ _ (g.I.Inlet.seen c.read.new.inlet) (g.O.Outlet.seen w.new.outlet) ReadFault (codes "bad read\n") w.result o r.1 r.4
+    (record { most = n; no_lf = e.2 }, refl, r.3 ∙ ap (λ k. k + 1) o.no_fault) w.ensures (λ x. x))

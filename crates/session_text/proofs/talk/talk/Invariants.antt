@@ -1,9 +1,13 @@
 use Rattle.std.proofs.Common.{◌≡◌, [], ◌-◌}
-use Rattle.session_text.specs.Endings.{IsOpen}
+use Rattle.session_text.specs.Answers.{Answers}
+use Rattle.session_text.proofs.Talking.{IsOpen}
 use Rattle.session_text.proofs.talk.talk.Given as goal
 
 abbrev pub invariant-loop-buffer : goal.invariant-loop-buffer
-invariant-loop-buffer g l = (l.page ≡ []) × IsOpen (g.I.Inlet.seen l.initial.reader) (g.I.Inlet.seen l.reader) (g.O.Outlet.seen l.initial.writer) (g.O.Outlet.seen l.writer) l.reads
+invariant-loop-buffer g l =
+    let s = l.initial in
+    (l.page ≡ [])
+    × IsOpen (Answers g.C.Commands.acts g.C.Commands.gives l.time) (g.I.Inlet.seen s.reader) s.commands (g.O.Outlet.seen s.writer) (g.I.Inlet.seen l.reader) l.buffer l.commands (g.O.Outlet.seen l.writer) l.reads
 
 abbrev pub decreases-loop-buffer : goal.decreases-loop-buffer
 decreases-loop-buffer g l = 1000000 - l.reads

@@ -1,9 +1,8 @@
-use Rattle.std.proofs.Common.{◌≡◌, ℕ, List, length, true, arith, sym, ◌∙◌, replicate, take_at}
+use Rattle.std.proofs.Common.{◌≡◌, ℕ, List, length, true, arith, sym, replicate}
 use Rattle.std.proofs.lemmas.List.{length-replicate}
-use Rattle.heap_region.specs.Layout.{HeaderFits}
 use Rattle.heap_region.specs.declared.storage.Header.{Header}
 use Rattle.heap_region.proofs.Sound.{size_positive}
-use Rattle.heap_region.proofs.CellChanges.{head_vacant, put_in}
+use Rattle.heap_region.proofs.CellChanges.{head_vacant, put}
 use Rattle.heap_region.proofs.storage.Storage.take.Goals as goal
 
 pub overflow_mul-start : goal.overflow_mul-start
@@ -11,21 +10,26 @@ overflow_mul-start c =
     let head = head_vacant _ _ _ _ _ c.args.cell c.self.invariant (rw (← c.self.view_is) at c.requires.head) in
     omega (arith, head.1, c.self.invariant.words)
 
-pub index-requires : goal.index-requires
-index-requires c =
+pub offset_bounds-block-start : goal.offset_bounds-block-start
+offset_bounds-block-start c =
     let head = head_vacant _ _ _ _ _ c.args.cell c.self.invariant (rw (← c.self.view_is) at c.requires.head) in
-    omega (arith, head.1, c.self.inside.words.ok.0, size_positive _ c.self.invariant.sized)
+    omega (arith, head.1, c.self.invariant.words)
+
+pub bounds-block-start : goal.bounds-block-start
+bounds-block-start c =
+    let head = head_vacant _ _ _ _ _ c.args.cell c.self.invariant (rw (← c.self.view_is) at c.requires.head) in
+    omega (arith, head.1, c.self.invariant.words, size_positive _ c.self.invariant.sized)
 
 pub clear-requires : goal.clear-requires
 clear-requires c =
     let head = head_vacant _ _ _ _ _ c.args.cell c.self.invariant (rw (← c.self.view_is) at c.requires.head) in
     let fits = rw (← c.self.view_is) at c.requires.fits in
-    rw c.deref_mut.ensures.value (omega (arith, head.1, fits))
+    rw c.deref_mut-block.ensures.value (omega (arith, head.1, fits))
 
-pub index_mut-requires : goal.index_mut-requires
-index_mut-requires c =
+pub set_header-requires : goal.set_header-requires
+set_header-requires c =
     let head = head_vacant _ _ _ _ _ c.args.cell c.self.invariant (rw (← c.self.view_is) at c.requires.head) in
-    omega (arith, head.0, c.self.inside.headers.ok.0)
+    rw c.deref_mut-block.ensures.value head.0
 
 pub invariant_of-self : goal.invariant_of-self
 invariant_of-self c =
@@ -35,9 +39,7 @@ invariant_of-self c =
     let long : length zeros ≡ c.args.len = length-replicate c.args.len 0 in
     let heads = rw (← c.self.view_is) at c.requires.head in
     let fits = rw (← c.self.view_is) at c.requires.fits in
-    let is = rw c.deref_mut.ensures.value at c.clear.ensures in
-    let kept : length c.clear.new.words ≡ i.words.len = omega (arith, c.clear.auto.words, c.deref_mut.ensures.len) in
-    (put_in i.cell_size i.pending i.words.items i.headers.items i.head c.self.invariant c.args.cell zeros h heads fits (sym long) _ _ (take_at c.clear.new.words _ _ kept ∙ is) c.index.ensures).0
+    rw (c.set_header.ensures, c.clear.ensures, c.deref_mut-block.ensures.value) (put i.cell_size i.pending i.block.value.words i.block.value.headers.items i.head c.self.invariant c.args.cell zeros h heads fits (sym long)).0
 
 pub returns : goal.returns
 returns c =
@@ -47,6 +49,4 @@ returns c =
     let long : length zeros ≡ c.args.len = length-replicate c.args.len 0 in
     let heads = rw (← c.self.view_is) at c.requires.head in
     let fits = rw (← c.self.view_is) at c.requires.fits in
-    let is = rw c.deref_mut.ensures.value at c.clear.ensures in
-    let kept : length c.clear.new.words ≡ i.words.len = omega (arith, c.clear.auto.words, c.deref_mut.ensures.len) in
-    rw (← c.self.view_is) (put_in i.cell_size i.pending i.words.items i.headers.items i.head c.self.invariant c.args.cell zeros h heads fits (sym long) _ _ (take_at c.clear.new.words _ _ kept ∙ is) c.index.ensures).1
+    rw (← c.self.view_is, c.set_header.ensures, c.clear.ensures, c.deref_mut-block.ensures.value) (put i.cell_size i.pending i.block.value.words i.block.value.headers.items i.head c.self.invariant c.args.cell zeros h heads fits (sym long)).1

@@ -1,0 +1,14 @@
+//! What happened at an end so far, for contracts alone.
+ghost use Rattle.std.specs.Prelude.{◌≡◌, ◌++◌};
+ghost use Rattle.dump_pump.specs.Outlets.{bytes_of};
+
+use http_server::Log;
+
+/// Bytes more. It takes no memory, and nothing is kept at run time.
+pub fn note_bytes(log: &mut Log<u8, ()>, bytes: &[u8])
+    ensures { bytes_of log.new.items ≡ bytes_of log.old.items ++ bytes.now }
+{
+    for b in bytes {
+        *log = log.and(b, &());
+    }
+}

@@ -1,0 +1,32 @@
+use Rattle.heap_step.proofs.Applied.{as_event}
+use Rattle.heap_step.proofs.events.dispatch.Goals as goal
+
+pub returns-in-Class : goal.returns-in-Class
+returns-in-Class c = as_event _ _ _ _ _ c.in-Class.is c.define.ensures
+
+pub returns-in-ArrayClass : goal.returns-in-ArrayClass
+returns-in-ArrayClass c = as_event _ _ _ _ _ c.in-ArrayClass.is c.define_array.ensures
+
+pub returns-in-New : goal.returns-in-New
+returns-in-New c = as_event _ _ _ _ _ c.in-New.is c.create.ensures
+
+pub returns-in-NewArray : goal.returns-in-NewArray
+returns-in-NewArray c = as_event _ _ _ _ _ c.in-NewArray.is c.create_array.ensures
+
+pub returns-in-NewPrim : goal.returns-in-NewPrim
+returns-in-NewPrim c = as_event _ _ _ _ _ c.in-NewPrim.is c.create_prim.ensures
+
+pub returns-in-Load : goal.returns-in-Load
+returns-in-Load c = as_event _ _ _ _ _ c.in-Load.is c.load.ensures
+
+pub returns-in-Store : goal.returns-in-Store
+returns-in-Store c = as_event _ _ _ _ _ c.in-Store.is c.store.ensures
+
+pub returns-in-Put : goal.returns-in-Put
+returns-in-Put c = as_event _ _ _ _ _ c.in-Put.is c.put.ensures
+
+pub returns-in-Move : goal.returns-in-Move
+returns-in-Move c = as_event _ _ _ _ _ c.in-Move.is c.copy.ensures
+
+pub returns-in-Clear : goal.returns-in-Clear
+returns-in-Clear c = as_event _ _ _ _ _ c.in-Clear.is c.clear.ensures

@@ -1,0 +1,217 @@
+//! What each event does to the heap, with its answer and its record.
+ghost use Rattle.std.specs.Prelude.{◌≡◌, if◌then◌else◌};
+ghost use Rattle.heap_world.specs.Legal.{IsLegal};
+ghost use Rattle.heap_step.specs.declared.Event.{Event};
+ghost use Rattle.heap_step.specs.declared.Answer.TheVariants.{Object, Value};
+ghost use Rattle.heap_step.specs.declared.Undo.{Undo};
+ghost use Rattle.heap_step.specs.Apply.{object_or_null};
+ghost use Rattle.heap_step.specs.Laws.{IsApplied};
+
+use crate::{Answer, Event, Undo};
+use heap_class::{ClassNo, Fields, Kind, Name, Refusal};
+use heap_world::{Created, Loaded, World};
+
+/// Applies an event by the function of its kind.
+pub fn dispatch(world: &mut World, event: &Event) -> Result<(Answer, Undo), Refusal>
+    requires { IsLegal world.old }
+    ensures { IsApplied event.now world.old world.new result }
+{
+    match event {
+        Event::Class { name, sup, fields } => define(world, name, *sup, fields),
+        Event::ArrayClass { name } => define_array(world, name),
+        Event::New { m, r, class } => create(world, *m, *r, *class),
+        Event::NewArray { m, r, class, len } => create_array(world, *m, *r, *class, *len),
+        Event::NewPrim { m, r, kind, len } => create_prim(world, *m, *r, *kind, *len),
+        Event::Load { m, to, from, slot } => load(world, *m, *to, *from, *slot),
+        Event::Store {
+            m,
+            target,
+            slot,
+            source,
+        } => store(world, *m, *target, *slot, *source),
+        Event::Put {
+            m,
+            target,
+            slot,
+            value,
+        } => put(world, *m, *target, *slot, *value),
+        Event::Move {
+            m,
+            to,
+            from_m,
+            from,
+        } => copy(world, *m, *to, *from_m, *from),
+        Event::Clear { m, r } => clear(world, *m, *r),
+    }
+}
+
+/// Applies an event that defines an instance class.
+fn define(
+    world: &mut World,
+    name: &Name,
+    sup: Option<ClassNo>,
+    fields: &Fields,
+) -> Result<(Answer, Undo), Refusal>
+    ensures { IsApplied (Event.Class name.now sup fields.now) world.old world.new result }
+{
+    let class = world.define_class(name, sup, fields)?;
+    Ok((Answer::Class(class), Undo::Class))
+}
+
+/// Applies an event that defines a class of object arrays.
+fn define_array(world: &mut World, name: &Name) -> Result<(Answer, Undo), Refusal>
+    ensures { IsApplied (Event.ArrayClass name.now) world.old world.new result }
+{
+    let class = world.define_array_class(name)?;
+    Ok((Answer::Class(class), Undo::Class))
+}
+
+/// Applies an event that makes an instance of a class.
+fn create(world: &mut World, m: u64, r: u64, class: ClassNo) -> Result<(Answer, Undo), Refusal>
+    requires { IsLegal world.old }
+    ensures { IsApplied (Event.New m r class) world.old world.new result }
+{
+    let created = world.new_instance(m, r, class)?;
+    Ok(made(m as u8, r as u8, created))
+}
+
+/// Applies an event that makes an object array.
+fn create_array(
+    world: &mut World,
+    m: u64,
+    r: u64,
+    class: ClassNo,
+    len: u64,
+) -> Result<(Answer, Undo), Refusal>
+    requires { IsLegal world.old }
+    ensures { IsApplied (Event.NewArray m r class len) world.old world.new result }
+{
+    let created = world.new_array(m, r, class, len)?;
+    Ok(made(m as u8, r as u8, created))
+}
+
+/// Applies an event that makes an array of values.
+fn create_prim(
+    world: &mut World,
+    m: u64,
+    r: u64,
+    kind: Kind,
+    len: u64,
+) -> Result<(Answer, Undo), Refusal>
+    requires { IsLegal world.old }
+    ensures { IsApplied (Event.NewPrim m r kind len) world.old world.new result }
+{
+    let created = world.new_prim(m, r, kind, len)?;
+    Ok(made(m as u8, r as u8, created))
+}
+
+/// Applies an event that reads a slot.
+fn load(world: &mut World, m: u64, to: u64, from: u64, slot: u64) -> Result<(Answer, Undo), Refusal>
+    requires { IsLegal world.old }
+    ensures { IsApplied (Event.Load m to from slot) world.old world.new result }
+{
+    let loaded = world.load(m, to, from, slot)?;
+    Ok((
+        slot_answer(loaded),
+        reg_record(m as u8, to as u8, loaded.old),
+    ))
+}
+
+/// Applies an event that writes a reference slot.
+fn store(
+    world: &mut World,
+    m: u64,
+    target: u64,
+    slot: u64,
+    source: u64,
+) -> Result<(Answer, Undo), Refusal>
+    ensures { IsApplied (Event.Store m target slot source) world.old world.new result }
+{
+    let replaced = world.store(m, target, slot, source)?;
+    let record = Undo::Store {
+        at: replaced.at,
+        slot: slot as u16,
+        old: replaced.old,
+        logged: replaced.logged,
+    };
+    Ok((Answer::Done, record))
+}
+
+/// Applies an event that writes a value slot.
+fn put(
+    world: &mut World,
+    m: u64,
+    target: u64,
+    slot: u64,
+    value: u64,
+) -> Result<(Answer, Undo), Refusal>
+    ensures { IsApplied (Event.Put m target slot value) world.old world.new result }
+{
+    let overwritten = world.put(m, target, slot, value)?;
+    let record = Undo::Put {
+        at: overwritten.at,
+        slot: slot as u16,
+        old: overwritten.old,
+    };
+    Ok((Answer::Done, record))
+}
+
+/// Applies an event that copies a register.
+fn copy(
+    world: &mut World,
+    m: u64,
+    to: u64,
+    from_m: u64,
+    from: u64,
+) -> Result<(Answer, Undo), Refusal>
+    requires { IsLegal world.old }
+    ensures { IsApplied (Event.Move m to from_m from) world.old world.new result }
+{
+    let held = world.move_register(m, to, from_m, from)?;
+    Ok((Answer::Done, reg_record(m as u8, to as u8, held)))
+}
+
+/// Applies an event that makes a register null.
+fn clear(world: &mut World, m: u64, r: u64) -> Result<(Answer, Undo), Refusal>
+    requires { IsLegal world.old }
+    ensures { IsApplied (Event.Clear m r) world.old world.new result }
+{
+    let held = world.clear_register(m, r)?;
+    Ok((Answer::Done, reg_record(m as u8, r as u8, held)))
+}
+
+/// What a load answers: of a reference the object or null, of a value the value.
+#[tactic(auto, unfolding(crate::specs::Apply::object_or_null))]
+fn slot_answer(loaded: Loaded) -> Answer
+    ensures { result ≡ (if loaded.reference then object_or_null loaded.word else Value loaded.word) }
+{
+    if !loaded.reference {
+        return Answer::Value(loaded.word);
+    }
+    if loaded.word == 0 {
+        return Answer::Null;
+    }
+    Answer::Object(loaded.word)
+}
+
+/// What a new object in register `r` of mutator `m` answers, and its record.
+fn made(m: u8, r: u8, created: Created) -> (Answer, Undo)
+    ensures answer { result.0 ≡ Object created.id }
+    ensures record { result.1 ≡ Undo.New created.at created.fresh m r created.old }
+{
+    let record = Undo::New {
+        at: created.at,
+        fresh: created.fresh,
+        m,
+        r,
+        old: created.old,
+    };
+    (Answer::Object(created.id), record)
+}
+
+/// The record of register `r` of mutator `m` that held `old`.
+fn reg_record(m: u8, r: u8, old: u64) -> Undo
+    ensures { result ≡ Undo.Reg m r old }
+{
+    Undo::Reg { m, r, old }
+}

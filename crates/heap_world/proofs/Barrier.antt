@@ -1,0 +1,109 @@
+-- A store with its barrier, and what takes it back.
+use Rattle.std.proofs.Common.{◌≡◌, ◌⊎◌, ℕ, Bool, true, false, not, List, [], ◌∷◌, ◌++◌, length, Some, None, refl, sym, ap, subst, ◌∙◌, inr}
+use Rattle.std.specs.Prelude.{◌&&◌, ◌==◌, if◌then◌else◌, IfSome, slice_index}
+use Rattle.heap_class.proofs.Refused.{none_holds}
+use Rattle.heap_class.specs.declared.ObjRef.{ObjRef}
+use Rattle.heap_class.specs.declared.Refusal.{Refusal}
+use Rattle.heap_class.specs.declared.Refusal.TheVariants.{NoMemory}
+use Rattle.heap_region.specs.Regions.{object_at, ref_of, with_word}
+use Rattle.heap_region.specs.Pool.{RegionPool}
+use Rattle.heap_mark.specs.Marking.{is_marking, logged}
+use Rattle.heap_world.specs.State.{HeapState, with_pool, marking_of, with_marking, is_register, register, place_of, slot_kind, word_of}
+use Rattle.heap_world.specs.Legal.{IsLegal}
+use Rattle.heap_world.specs.Held.{IsHeld}
+use Rattle.heap_world.specs.Events.{lacks_slot, is_logged, without_last, with_slot, store_refusal, after_store}
+use Rattle.heap_world.proofs.Clauses.{clauses_of, legal_by}
+use Rattle.heap_world.proofs.Registers.{second_register}
+use Rattle.heap_world.proofs.Written.{length_written, place_is, store_legal}
+use Rattle.heap_world.proofs.Kept.{held_by}
+use Rattle.heap_world.proofs.Slot.{HasSlot, some_kind, slot_by}
+
+-- ---- what a store that isn't refused finds
+
+pub source_there : (m target slot source : ℕ) (w : HeapState) → store_refusal m target slot source w ≡ None → is_register w m source ≡ true
+unfolding store_refusal
+source_there m target slot source w accepted = second_register _ _ (none_holds _ accepted).0
+
+pub store_by : (w v : HeapState) (m target slot source room : ℕ) (at : ObjRef) → IsHeld w room → w ≡ v → store_refusal m target slot source v ≡ None → ref_of v.regions (register v m target) ≡ Some at → HasSlot w (register v m target) slot at
+unfolding store_refusal lacks_slot
+store_by w v m target slot source room at h e accepted r =
+    let k = some_kind (slot_kind v (register v m target) slot) (none_holds _ accepted).1.1.0 in
+    slot_by w v (register v m target) slot room at k.0 h e r k.1
+
+-- and what the slot holds
+pub old_by : (w v : HeapState) (m target slot source old room : ℕ) (at : ObjRef) → IsHeld w room → w ≡ v → store_refusal m target slot source v ≡ None → ref_of v.regions (register v m target) ≡ Some at
+    → IfSome (object_at w.regions at) (λ o. old ≡ slice_index o.words slot) → old ≡ word_of v (register v m target) slot
+old_by w v m target slot source old room at h e accepted r f = (store_by w v m target slot source room at h e accepted r).word old f ∙ ap (λ (u : HeapState). word_of u (register v m target) slot) e
+
+-- ---- the log
+
+-- what is put in the log is what the slot held
+pub logs : (w v : HeapState) (m target slot old : ℕ) (b : Bool) → w ≡ v → old ≡ word_of v (register v m target) slot → b ≡ (is_marking w.phase && not (old == 0)) → b ≡ is_logged v (register v m target) slot
+unfolding is_logged
+logs w v m target slot old b e o f = f ∙ ap (λ y. is_marking w.phase && not (y == 0)) o
+    ∙ ap (λ (u : HeapState). is_marking u.phase && not (word_of v (register v m target) slot == 0)) e
+
+-- the log can't grow
+pub no_room : (w v : HeapState) (m target slot source old : ℕ) (x : Refusal) → w ≡ v → store_refusal m target slot source v ≡ None → old ≡ word_of v (register v m target) slot
+    → (x ≡ NoMemory) × ((is_marking w.phase && not (old == 0)) ≡ true)
+    → (store_refusal m target slot source v ≡ Some x) ⊎ ((store_refusal m target slot source v ≡ None) × (is_logged v (register v m target) slot ≡ true) × (x ≡ NoMemory))
+no_room w v m target slot source old x e accepted o p = inr (accepted, sym (logs w v m target slot old true e o (sym p.1)), p.0)
+
+-- ---- the state after a store
+
+stored : (v : HeapState) (m target slot source : ℕ) (at : ObjRef) → ref_of v.regions (register v m target) ≡ Some at
+    → record v { regions = with_word at slot (register v m source) v.regions; log = if is_logged v (register v m target) slot then v.log ++ word_of v (register v m target) slot ∷ [] else v.log } ≡ after_store m target slot source v
+unfolding after_store with_slot logged is_logged place_of
+stored v m target slot source at r =
+    ap (λ p. record v { regions = with_word p slot (register v m source) v.regions; log = if is_marking v.phase && not (old == 0) then v.log ++ old ∷ [] else v.log }) (sym (place_is v x at r))
+    ∙ go (is_marking v.phase) (old == 0)
+  where
+    x : ℕ
+    x = register v m target
+
+    old : ℕ
+    old = word_of v x slot
+
+    go : (b c : Bool) → record v { regions = with_word (place_of v x) slot (register v m source) v.regions; log = if b && not c then v.log ++ old ∷ [] else v.log }
+        ≡ (let u : HeapState = with_marking (if b then (if c then marking_of v else record (marking_of v) { log = v.log ++ old ∷ [] }) else marking_of v) v in
+        record u { regions = with_word (place_of u x) slot (register v m source) u.regions })
+    go true true = refl
+    go true false = refl
+    go false c = refl
+
+-- the fields after a store
+pub store_made : (w v : HeapState) (m target slot source old word : ℕ) (at : ObjRef) (b : Bool) (s : RegionPool) (log : List ℕ) → w ≡ v → ref_of v.regions (register v m target) ≡ Some at
+    → old ≡ word_of v (register v m target) slot → word ≡ register v m source → b ≡ is_logged v (register v m target) slot → log ≡ (if b then w.log ++ old ∷ [] else w.log)
+    → s ≡ record { regions = with_word at slot word w.regions; pool = w.pool } → record (with_pool s w) { log = log } ≡ after_store m target slot source v
+store_made w v m target slot source old word at b s log e r o a l f g =
+    ap (λ (t : RegionPool). record (with_pool t w) { log = log }) g
+    ∙ ap (λ (xs : List ℕ). record w { regions = with_word at slot word w.regions; log = xs }) f
+    ∙ ap (λ y. record w { regions = with_word at slot y w.regions; log = if b then w.log ++ old ∷ [] else w.log }) a
+    ∙ ap (λ y. record w { regions = with_word at slot (register v m source) w.regions; log = if b then w.log ++ y ∷ [] else w.log }) o
+    ∙ ap (λ c. record w { regions = with_word at slot (register v m source) w.regions; log = if c then w.log ++ word_of v (register v m target) slot ∷ [] else w.log }) l
+    ∙ ap (λ (u : HeapState). record u { regions = with_word at slot (register v m source) u.regions; log = if is_logged v (register v m target) slot then u.log ++ word_of v (register v m target) slot ∷ [] else u.log }) e
+    ∙ stored v m target slot source at r
+
+store_holds : (v : HeapState) (m target slot source room : ℕ) (at : ObjRef) → IsHeld v room → store_refusal m target slot source v ≡ None → ref_of v.regions (register v m target) ≡ Some at → IsHeld (after_store m target slot source v) room
+store_holds v m target slot source room at h accepted r = held_by (after_store m target slot source v) v room h
+    (legal_by (after_store m target slot source v) (store_legal v m target slot source (clauses_of v h.legal) accepted))
+    (ap (λ (u : HeapState). length u.regions) (sym (stored v m target slot source at r)) ∙ length_written v.regions at slot (register v m source))
+
+pub store_held : (w v : HeapState) (m target slot source old word room : ℕ) (at : ObjRef) (b : Bool) (s : RegionPool) (log : List ℕ) → IsHeld w room → w ≡ v → store_refusal m target slot source v ≡ None
+    → ref_of v.regions (register v m target) ≡ Some at → old ≡ word_of v (register v m target) slot → word ≡ register v m source → b ≡ is_logged v (register v m target) slot → log ≡ (if b then w.log ++ old ∷ [] else w.log)
+    → s ≡ record { regions = with_word at slot word w.regions; pool = w.pool } → IsHeld (record (with_pool s w) { log = log }) room
+store_held w v m target slot source old word room at b s log h e accepted r o a l f g =
+    subst (λ (u : HeapState). IsHeld u room) (sym (store_made w v m target slot source old word at b s log e r o a l f g))
+    (store_holds v m target slot source room at (subst (λ (u : HeapState). IsHeld u room) e h) accepted r)
+
+-- ---- a store is taken back
+
+pub unstored_held : (w v : HeapState) (slot word room : ℕ) (at : ObjRef) (b : Bool) (s : RegionPool) (log : List ℕ) → IsHeld w room → w ≡ v → log ≡ (if b then without_last w.log else w.log)
+    → s ≡ record { regions = with_word at slot word w.regions; pool = w.pool } → IsLegal (record v { regions = with_word at slot word v.regions; log = if b then without_last v.log else v.log })
+    → IsHeld (record (with_pool s w) { log = log }) room
+unstored_held w v slot word room at b s log h e f g l =
+    subst (λ (t : RegionPool). IsHeld (record (with_pool t w) { log = log }) room) (sym g)
+    (subst (λ (xs : List ℕ). IsHeld (record w { regions = with_word at slot word w.regions; log = xs }) room) (sym f)
+    (held_by (record w { regions = with_word at slot word w.regions; log = if b then without_last w.log else w.log }) w room h
+    (subst (λ (u : HeapState). IsLegal (record u { regions = with_word at slot word u.regions; log = if b then without_last u.log else u.log })) (sym e) l)
+    (length_written w.regions at slot word)))

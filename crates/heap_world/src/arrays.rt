@@ -1,0 +1,97 @@
+//! Arrays and their classes.
+ghost use Rattle.std.specs.Prelude.{◌≡◌, length, Some, true, IsTrue, IfOk, IfErr, OnOk, OnErr};
+ghost use Rattle.heap_class.specs.Classes.{array_class, class_refusal};
+ghost use Rattle.heap_class.specs.Refusals.{IsAnswered};
+ghost use Rattle.heap_class.specs.declared.ObjKind.TheVariants.{Array, Prim};
+ghost use Rattle.heap_region.specs.Pool.{new_place, is_fresh};
+ghost use Rattle.heap_world.specs.State.{is_register, register, pool_of};
+ghost use Rattle.heap_world.specs.Legal.{HasKind};
+ghost use Rattle.heap_world.specs.Events.{after_class, new_array_refusal, new_prim_refusal, after_new};
+
+use super::{ARRAY_LIMIT, Created, World};
+use heap_class::{ClassNo, Kind, Name, ObjKind, Refusal};
+
+impl World {
+    /// Defines a class of object arrays, and answers its number. Refused ClassLimit, BadName, DuplicateName or NoMemory.
+    pub fn define_array_class(&mut self, name: &Name) -> Result<ClassNo, Refusal>
+        ensures answered { IsAnswered (class_refusal self.old.classes (array_class name.now)) true result }
+        ensures defined { OnOk result (self.new ≡ after_class (array_class name.now) self.old) }
+        ensures number { IfOk result (λ k. k ≡ length self.old.classes) }
+        ensures unchanged { OnErr result (self.new ≡ self.old) }
+    {
+        self.classes.define_array(name)
+    }
+
+    /// Makes an object array of a class in register `r` of mutator `m`, its elements null. Refused BadRegister, NoClass,
+    /// WrongKind, TooLarge over 1,024 elements, HeapFull, or NoMemory where a region's storage can't be had.
+    pub fn new_array(
+        &mut self,
+        m: u64,
+        r: u64,
+        class: ClassNo,
+        len: u64,
+    ) -> Result<Created, Refusal>
+        ensures answered { IsAnswered (new_array_refusal m r class len self.old) (is_fresh len (pool_of self.old)) result }
+        ensures made { OnOk result (self.new ≡ after_new m r (Array class) len self.old) }
+        ensures placed { IfOk result (λ c. new_place len (pool_of self.old) ≡ Some (c.at, c.fresh)) }
+        ensures held { IfOk result (λ c. (c.id ≡ register self.new m r) × (c.old ≡ register self.old m r)) }
+        ensures register { OnOk result (IsTrue (is_register self.old m r)) }
+        ensures unchanged { OnErr result (self.new ≡ self.old) }
+    {
+        self.allow_array(m, r, class, len)?;
+        self.make(m, r, ObjKind::Array(class), len)
+    }
+
+    /// Makes an array of values of a kind in register `r` of mutator `m`, its elements 0. Refused BadRegister, WrongKind for
+    /// the kind object, TooLarge over 1,024 elements, HeapFull, or NoMemory where a region's storage can't be had.
+    pub fn new_prim(&mut self, m: u64, r: u64, kind: Kind, len: u64) -> Result<Created, Refusal>
+        ensures answered { IsAnswered (new_prim_refusal m r kind len self.old) (is_fresh len (pool_of self.old)) result }
+        ensures made { OnOk result (self.new ≡ after_new m r (Prim kind) len self.old) }
+        ensures placed { IfOk result (λ c. new_place len (pool_of self.old) ≡ Some (c.at, c.fresh)) }
+        ensures held { IfOk result (λ c. (c.id ≡ register self.new m r) × (c.old ≡ register self.old m r)) }
+        ensures register { OnOk result (IsTrue (is_register self.old m r)) }
+        ensures unchanged { OnErr result (self.new ≡ self.old) }
+    {
+        self.allow_prim(m, r, kind, len)?;
+        self.make(m, r, ObjKind::Prim(kind), len)
+    }
+
+    // Whether such an object array may be made where there is room.
+    fn allow_array(&self, m: u64, r: u64, class: ClassNo, len: u64) -> Result<(), Refusal>
+        ensures register { OnOk result (IsTrue (is_register self.now m r)) }
+        ensures kind { OnOk result (HasKind self.now.classes (Array class) len) }
+        ensures refused { IfErr result (λ e. new_array_refusal m r class len self.now ≡ Some e) }
+    {
+        if !self.has_register(m, r) {
+            return Err(Refusal::BadRegister);
+        }
+        if class >= self.classes.len() {
+            return Err(Refusal::NoClass);
+        }
+        if !self.classes.is_array(class) {
+            return Err(Refusal::WrongKind);
+        }
+        if len > ARRAY_LIMIT {
+            return Err(Refusal::TooLarge);
+        }
+        Ok(())
+    }
+
+    // Whether such an array of values may be made where there is room.
+    fn allow_prim(&self, m: u64, r: u64, kind: Kind, len: u64) -> Result<(), Refusal>
+        ensures register { OnOk result (IsTrue (is_register self.now m r)) }
+        ensures kind { OnOk result (HasKind self.now.classes (Prim kind) len) }
+        ensures refused { IfErr result (λ e. new_prim_refusal m r kind len self.now ≡ Some e) }
+    {
+        if !self.has_register(m, r) {
+            return Err(Refusal::BadRegister);
+        }
+        if kind.is_reference() {
+            return Err(Refusal::WrongKind);
+        }
+        if len > ARRAY_LIMIT {
+            return Err(Refusal::TooLarge);
+        }
+        Ok(())
+    }
+}

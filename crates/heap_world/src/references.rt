@@ -1,0 +1,173 @@
+//! Slots of references, and registers.
+ghost use Rattle.std.specs.Prelude.{◌≡◌, ◌<◌, ◌++◌, ◌∷◌, [], ◌==◌, ◌&&◌, not, length, Some, None, true, false, IsTrue, IsSome, IfSome, IfOk, IfErr, OnOk, OnErr, if◌then◌else◌};
+ghost use Rattle.heap_class.specs.Refusals.{IsAnswered};
+ghost use Rattle.heap_class.specs.declared.Refusal.TheVariants.{NoMemory};
+ghost use Rattle.heap_mark.specs.Marking.{is_marking};
+ghost use Rattle.heap_region.specs.Regions.{object_at, ref_of, with_word};
+ghost use Rattle.heap_world.specs.State.{is_register, register, with_register, place_of, word_of};
+ghost use Rattle.heap_world.specs.Legal.{IsLegal};
+ghost use Rattle.heap_world.specs.Events.{is_reference_slot, load_refusal, after_load, is_logged, without_last, store_refusal, after_store, move_refusal, after_move, clear_refusal};
+
+use super::{Loaded, REGISTERS_EACH, Replaced, World};
+use heap_class::{ObjRef, Refusal};
+use heap_mark::Phase;
+
+// Puts a word that is written over at the end of the log where a cycle runs and it isn't null, and says whether it did.
+fn log_word(log: &mut Vec<u64>, phase: Phase, word: u64) -> Result<bool, Refusal>
+    ensures logged { IfOk result (λ b. b ≡ (is_marking phase && not (word == 0))) }
+    ensures log { IfOk result (λ b. log.new.items ≡ (if b then log.old.items ++ word ∷ [] else log.old.items)) }
+    ensures refused { IfErr result (λ e. (e ≡ NoMemory) × ((is_marking phase && not (word == 0)) ≡ true)) }
+    ensures unchanged { OnErr result (log.new.items ≡ log.old.items) }
+{
+    let logged = phase.is_marking() && word != 0;
+    if logged {
+        log.push(word)?;
+    }
+    Ok(logged)
+}
+
+// Takes the last entry off the log where one was put there.
+#[tactic(auto, unfolding(crate::specs::Events::without_last))]
+fn unlog_word(log: &mut Vec<u64>, logged: bool)
+    ensures { log.new.items ≡ (if logged then without_last log.old.items else log.old.items) }
+{
+    if logged {
+        log.pop();
+    }
+}
+
+impl World {
+    /// Reads a slot of the object that register `from` of mutator `m` names; a reference goes to register `to`. Refused
+    /// BadRegister, NullRegister or BadSlot. Takes no memory.
+    pub fn load(&mut self, m: u64, to: u64, from: u64, slot: u64) -> Result<Loaded, Refusal>
+        ensures answered { IsAnswered (load_refusal m to from slot self.old) false result }
+        ensures loaded { OnOk result (self.new ≡ after_load m to from slot self.old) }
+        ensures word { IfOk result (λ l. l.word ≡ word_of self.old (register self.old m from) slot) }
+        ensures reference { IfOk result (λ l. l.reference ≡ is_reference_slot self.old (register self.old m from) slot) }
+        ensures old { IfOk result (λ l. l.old ≡ register self.old m to) }
+        ensures register { OnOk result (IsTrue (is_register self.old m to)) }
+        ensures unchanged { OnErr result (self.new ≡ self.old) }
+    {
+        if !self.has_register(m, to) || !self.has_register(m, from) {
+            return Err(Refusal::BadRegister);
+        }
+        let (at, kind) = self.slot_named(self.register(m, from), slot)?;
+        let word = self.regions.word(at, slot);
+        let reference = kind.is_reference();
+        let old = self.register(m, to);
+        if reference {
+            self.set_register(m, to, word);
+        }
+        Ok(Loaded {
+            word,
+            reference,
+            old,
+        })
+    }
+
+    /// Writes what register `source` of mutator `m` holds to a reference slot of the object that register `target` names;
+    /// while a cycle runs, an old reference goes to the log. Refused BadRegister, NullRegister, BadSlot, WrongKind, or
+    /// NoMemory where the log can't grow.
+    pub fn store(
+        &mut self,
+        m: u64,
+        target: u64,
+        slot: u64,
+        source: u64,
+    ) -> Result<Replaced, Refusal>
+        ensures answered { IsAnswered (store_refusal m target slot source self.old) (is_logged self.old (register self.old m target) slot) result }
+        ensures stored { OnOk result (self.new ≡ after_store m target slot source self.old) }
+        ensures placed { IfOk result (λ p. p.at ≡ place_of self.old (register self.old m target)) }
+        ensures old { IfOk result (λ p. p.old ≡ word_of self.old (register self.old m target) slot) }
+        ensures logged { IfOk result (λ p. p.logged ≡ is_logged self.old (register self.old m target) slot) }
+        ensures slot { OnOk result (slot < 1024) }
+        ensures unchanged { OnErr result (self.new ≡ self.old) }
+    {
+        let at = self.store_place(m, target, slot, source)?;
+        let old = self.regions.word(at, slot);
+        let word = self.register(m, source);
+        let logged = log_word(&mut self.log, self.phase, old)?;
+        self.regions.set_word(at, slot, word);
+        Ok(Replaced { at, old, logged })
+    }
+
+    /// Gives a reference slot its old word, and takes the log's last entry off where that was logged. Takes no memory.
+    pub fn unstore(&mut self, at: ObjRef, slot: u64, old: u64, logged: bool)
+        requires there { IsSome (object_at self.old.regions at) }
+        requires within { IfSome (object_at self.old.regions at) (λ o. slot < length o.words) }
+        requires entry { IsTrue logged → 0 < length self.old.log }
+        requires legal { IsLegal (record self.old { regions = with_word at slot old self.old.regions; log = if logged then without_last self.old.log else self.old.log }) }
+        ensures { self.new ≡ record self.old { regions = with_word at slot old self.old.regions; log = if logged then without_last self.old.log else self.old.log } }
+    {
+        unlog_word(&mut self.log, logged);
+        self.regions.set_word(at, slot, old)
+    }
+
+    /// Copies register `from` of mutator `from_m` to register `to` of mutator `m`, and answers what stood there. Refused
+    /// BadRegister. Takes no memory.
+    pub fn move_register(&mut self, m: u64, to: u64, from_m: u64, from: u64) -> Result<u64, Refusal>
+        ensures answered { IsAnswered (move_refusal m to from_m from self.old) false result }
+        ensures moved { OnOk result (self.new ≡ after_move m to from_m from self.old) }
+        ensures old { IfOk result (λ x. x ≡ register self.old m to) }
+        ensures register { OnOk result (IsTrue (is_register self.old m to)) }
+        ensures unchanged { OnErr result (self.new ≡ self.old) }
+    {
+        if !self.has_register(m, to) || !self.has_register(from_m, from) {
+            return Err(Refusal::BadRegister);
+        }
+        let copied = self.register(from_m, from);
+        let old = self.register(m, to);
+        self.set_register(m, to, copied);
+        Ok(old)
+    }
+
+    /// Makes register `r` of mutator `m` null, and answers what stood there. Refused BadRegister. Takes no memory.
+    pub fn clear_register(&mut self, m: u64, r: u64) -> Result<u64, Refusal>
+        ensures answered { IsAnswered (clear_refusal m r self.old) false result }
+        ensures cleared { OnOk result (self.new ≡ with_register m r 0 self.old) }
+        ensures old { IfOk result (λ x. x ≡ register self.old m r) }
+        ensures register { OnOk result (IsTrue (is_register self.old m r)) }
+        ensures unchanged { OnErr result (self.new ≡ self.old) }
+    {
+        if !self.has_register(m, r) {
+            return Err(Refusal::BadRegister);
+        }
+        let old = self.register(m, r);
+        self.set_register(m, r, 0);
+        Ok(old)
+    }
+
+    /// Gives register `r` of mutator `m` its old word. Takes no memory.
+    pub fn unregister(&mut self, m: u64, r: u64, old: u64)
+        requires register { IsTrue (is_register self.old m r) }
+        requires legal { IsLegal (with_register m r old self.old) }
+        ensures { self.new ≡ with_register m r old self.old }
+    {
+        self.set_register(m, r, old)
+    }
+
+    // Writes a word to a register, which keeps a legal heap legal.
+    fn set_register(&mut self, m: u64, r: u64, word: u64)
+        requires register { IsTrue (is_register self.old m r) }
+        requires legal { IsLegal self.old → IsLegal (with_register m r word self.old) }
+        ensures { self.new ≡ with_register m r word self.old }
+    {
+        self.registers[(REGISTERS_EACH * m + r) as usize] = word;
+    }
+
+    // Where the object stands whose slot may be given what the source holds.
+    fn store_place(&self, m: u64, target: u64, slot: u64, source: u64) -> Result<ObjRef, Refusal>
+        ensures accepted { OnOk result (store_refusal m target slot source self.now ≡ None) }
+        ensures refused { IfErr result (λ e. store_refusal m target slot source self.now ≡ Some e) }
+        ensures placed { IfOk result (λ at. ref_of self.now.regions (register self.now m target) ≡ Some at) }
+    {
+        if !self.has_register(m, target) || !self.has_register(m, source) {
+            return Err(Refusal::BadRegister);
+        }
+        let (at, kind) = self.slot_named(self.register(m, target), slot)?;
+        if !kind.is_reference() {
+            return Err(Refusal::WrongKind);
+        }
+        Ok(at)
+    }
+}

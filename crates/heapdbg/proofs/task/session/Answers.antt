@@ -1,0 +1,19 @@
+use Rattle.std.proofs.Common.{◌≡◌, ◌∙◌, ap, subst, inl}
+use Rattle.heap_class.specs.declared.IdSize.TheVariants.{Eight}
+use Rattle.heap_trail.specs.Machine.{Machine, opening_machine}
+use Rattle.session_text.specs.Session.{IsSession}
+use Rattle.heapdbg.proofs.task.session.Goals as goal
+
+pub returns-in-Ok : goal.returns-in-Ok
+returns-in-Ok g c =
+    let opened : c.in-Ok.machine ≡ opening_machine Eight c.args.settings.now.regions c.args.settings.now.mutators c.args.settings.now.keep =
+    c.in-Ok.ensures.opened ∙ ap (λ s. opening_machine Eight s.regions s.mutators s.keep) c.config.ensures in
+    inl (
+      c.serve_local.result,
+      c.serve_local.new.local.machine,
+      subst
+          (λ (m : Machine). IsSession m c.args.settings.now.time (g.I.Inlet.seen c.args.reader.now) (g.I.Inlet.seen c.serve_local.new.reader) (g.O.Outlet.seen c.args.writer.now) (g.O.Outlet.seen c.serve_local.new.writer) c.serve_local.new.local.machine c.serve_local.result)
+          opened
+          c.serve_local.ensures.session,
+      c.outcome.ensures,
+    )

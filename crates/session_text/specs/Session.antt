@@ -1,0 +1,142 @@
+-- A whole session over a machine of one's own: bytes in, bytes out.
+use Rattle.std.specs.Prelude.{◌≡◌, ℕ, zero, suc, ◌+◌, ◌⊎◌, Bool, true, false, ◌==◌, nat_lt, List, [], ◌∷◌, ◌++◌, length, codes, if◌then◌else◌}
+use Rattle.std.specs.List.{slice_split}
+use mathlib.Core.List.{IsPrefix}
+use Rattle.dump_pump.specs.Outlets.{Outgoing}
+use Rattle.heap_class.specs.declared.Refusal.TheVariants.{NoMemory}
+use Rattle.heap_trail.specs.declared.Action.{Action}
+use Rattle.heap_trail.specs.declared.Reply.TheVariants.{Refused}
+use Rattle.heap_trail.specs.Machine.{Machine, Mark, Fine, Refusing, MayStand, acted_under}
+use Rattle.heap_trail.specs.Pins.{image_of}
+use Rattle.hprof_text.specs.declared.Piece.{Piece}
+use Rattle.hprof_text.specs.Pieces.{piece_of}
+use Rattle.session_text.specs.declared.Ended.{Ended}
+use Rattle.session_text.specs.declared.Ended.TheVariants.{Quit, Eof, CutLine, TooLong, ReadFault, TooManyReads, WriteFault, NoMemory as NoRoom}
+use Rattle.session_text.specs.declared.ReadEnd.{ReadEnd}
+use Rattle.session_text.specs.declared.ReadEnd.TheVariants.{Over, Failed, Spent}
+use Rattle.session_text.specs.declared.command.Command.{Command}
+use Rattle.session_text.specs.declared.command.Command.TheVariants.{Blank, Bad, Ask, Dump, End}
+use Rattle.session_text.specs.Dumps.{total_line, piece_limit}
+use Rattle.session_text.specs.Grammar.{command_of}
+use Rattle.session_text.specs.Inlets.{Incoming}
+use Rattle.session_text.specs.Reads.{ActionTakesMemory}
+use Rattle.session_text.specs.Replies.{reply_text, data_lines}
+
+-- a session between two lines: the machine, the marks of what is to come (none: fine), and what was written
+pub record Talk : Type 0 where
+  pub machine : Machine
+  pub marks : List Mark
+  pub written : List ℕ
+
+abbrev pub wrote : List ℕ → Talk → Talk
+wrote text t = record { machine = t.machine; marks = t.marks; written = t.written ++ text }
+
+-- the mark of what comes next, and the session without it
+abbrev pub mark_of : List Mark → Mark
+mark_of [] = Fine
+mark_of (k ∷ ks) = k
+
+abbrev pub marks_after : List Mark → List Mark
+marks_after [] = []
+marks_after (k ∷ ks) = ks
+
+abbrev pub marked : Talk → Talk
+marked t = record { machine = t.machine; marks = marks_after t.marks; written = t.written }
+
+-- ---- the answers of lines
+
+-- an action; where its line found no memory it is as an action that found none
+abbrev pub done : Action → Talk → Talk
+done a t = let r = acted_under t.machine (a, mark_of t.marks) in record { machine = r.0; marks = marks_after t.marks; written = t.written ++ reply_text r.1 }
+
+-- a dump after its next piece, where `more` is the dump from there; `so_far` counts the bytes of the pieces before
+abbrev pub after_piece : (Talk → ℕ → Talk) → ℕ → Mark → Piece → Talk → Talk
+after_piece more so_far Fine p t =
+    let n = so_far + length p.bytes in
+    if p.last then wrote (total_line n) (wrote (data_lines p.bytes) t) else more (wrote (data_lines p.bytes) t) n
+after_piece more so_far Refusing p t = wrote (reply_text (Refused NoMemory)) t
+
+-- a dump of the current state from piece i on, at most n pieces
+unfoldable pub dumped : ℕ → ℕ → ℕ → Talk → ℕ → Talk
+dumped zero i time t so_far = t
+dumped (suc n) i time t so_far = after_piece (dumped n (i + 1) time) so_far (mark_of t.marks) (piece_of t.machine.ids (image_of t.machine.trail.current) time i) (marked t)
+
+-- ---- the session
+
+-- after a command other than `end`
+abbrev pub after_command : ℕ → Command → Talk → Talk
+after_command time Blank t = t
+after_command time Bad t = wrote (codes "bad command\n") t
+after_command time (Ask a) t = done a t
+after_command time Dump t = dumped piece_limit 0 time t 0
+after_command time End t = t
+
+abbrev pub is_end : Command → Bool
+is_end End = true
+is_end Blank = false
+is_end Bad = false
+is_end (Ask a) = false
+is_end Dump = false
+
+-- it goes on with `more` after a command, unless that is `end`
+abbrev pub go_on : (Talk → Talk × Ended) → ℕ → Command → Talk → Talk × Ended
+go_on more time k t = if is_end k then (t, Quit) else more (after_command time k t)
+
+-- after the last LF: how reading ended, and whether no bytes are left
+abbrev pub at_end : ReadEnd → Bool → Talk → Talk × Ended
+at_end Over true t = (t, Eof)
+at_end Over false t = (wrote (codes "bad cut\n") t, CutLine)
+at_end Failed none t = (wrote (codes "bad read\n") t, ReadFault)
+at_end Spent none t = (wrote (codes "bad reads\n") t, TooManyReads)
+
+abbrev pub at_long : Talk → Talk × Ended
+at_long t = (wrote (codes "bad long\n") t, TooLong)
+
+-- the lines, of which the last has no LF
+abbrev pub talked : ℕ → ReadEnd → List (List ℕ) → Talk → Talk × Ended
+talked time e [] t = at_end e true t
+talked time e (rest ∷ []) t = if nat_lt 4096 (length rest) then at_long t else at_end e (length rest == 0) t
+talked time e (l ∷ m ∷ more) t = if nat_lt 4096 (length l) then at_long t else go_on (talked time e (m ∷ more)) time (command_of l) t
+
+-- the session's end, from the machine at its start, the marks, the bytes read and how reading ended
+unfoldable pub session_of : Machine → List Mark → ℕ → List ℕ → ReadEnd → Talk × Ended
+session_of m marks time bytes e = talked time e (slice_split (λ b. b == 10) bytes) (record { machine = m; marks = marks; written = [] })
+
+-- ---- which marks may stand
+
+-- the mark of an action refuses only where the machine may find no memory for it, or where its line's reading takes memory
+abbrev pub FitsCommand : Command → Talk → Type 0
+FitsCommand Blank t = Unit {0}
+FitsCommand Bad t = Unit {0}
+FitsCommand (Ask a) t = MayStand t.machine (a, mark_of t.marks) ⊎ ActionTakesMemory a
+FitsCommand Dump t = Unit {0}
+FitsCommand End t = Unit {0}
+
+abbrev pub FitLines : ℕ → List (List ℕ) → Talk → Type 0
+FitLines time [] t = Unit {0}
+FitLines time (rest ∷ []) t = Unit {0}
+FitLines time (l ∷ m ∷ more) t = FitsCommand (command_of l) t × FitLines time (m ∷ more) (after_command time (command_of l) t)
+
+-- the marks may stand in the session of these bytes
+abbrev pub MarksFit : Machine → List Mark → ℕ → List ℕ → Type 0
+MarksFit m marks time bytes = FitLines time (slice_split (λ b. b == 10) bytes) (record { machine = m; marks = marks; written = [] })
+
+-- ---- what of it is shown
+
+-- all marks are used up, this was written, and the machine is so
+abbrev pub Shows : Machine → List Mark → ℕ → List ℕ → ReadEnd → List ℕ → Machine → Ended → Type 0
+Shows m marks time bytes e out m' ended = session_of m marks time bytes e ≡ (record { machine = m'; marks = []; written = out }, ended)
+
+abbrev pub IsShown : Machine → List Mark → ℕ → List ℕ → List ℕ → Machine → Ended → Type 0
+IsShown m marks time bytes out m' Quit = (e : ReadEnd) → Shows m marks time bytes e out m' Quit
+IsShown m marks time bytes out m' Eof = Shows m marks time bytes Over out m' Eof
+IsShown m marks time bytes out m' CutLine = Shows m marks time bytes Over out m' CutLine
+IsShown m marks time bytes out m' TooLong = (e : ReadEnd) → Shows m marks time bytes e out m' TooLong
+IsShown m marks time bytes out m' ReadFault = Shows m marks time bytes Failed out m' ReadFault
+IsShown m marks time bytes out m' TooManyReads = Shows m marks time bytes Spent out m' TooManyReads
+IsShown m marks time bytes out m' WriteFault = (e : ReadEnd) × IsPrefix out (session_of m marks time bytes e).0.written
+IsShown m marks time bytes out m' NoRoom = (bytes ≡ []) × (out ≡ []) × (m' ≡ m)
+
+-- the bytes taken and the bytes put out, for some marks of refused memory that may stand there
+abbrev pub IsSession : Machine → ℕ → Incoming → Incoming → Outgoing → Outgoing → Machine → Ended → Type 0
+IsSession m time a b w w' m' ended = (bytes : List ℕ) × (out : List ℕ) × (marks : List Mark) × MarksFit m marks time bytes × (b.taken ≡ a.taken ++ bytes) × (w'.out ≡ w.out ++ out) × IsShown m marks time bytes out m' ended

@@ -1,0 +1,95 @@
+-- Sessions: the lines that were read, and the texts that were written for them.
+use Rattle.std.specs.Prelude.{◌≡◌, ℕ, ◌+◌, ◌≤◌, ◌<◌, ◌⊎◌, true, false, List, [], ◌∷◌, ◌++◌, length, flat_map, codes}
+use Rattle.std.specs.Io.KnownBytes.{Keeps}
+use Rattle.dump_pump.specs.Outlets.{Outgoing}
+use Rattle.session_text.specs.declared.Ended.{Ended}
+use Rattle.session_text.specs.declared.Ended.TheVariants.{Quit, Eof, CutLine, TooLong, ReadFault, TooManyReads, WriteFault, NoMemory}
+use Rattle.session_text.specs.declared.answer.Step.{Step}
+use Rattle.session_text.specs.declared.answer.Step.TheVariants.{Next, Quit as Stop, Fault}
+use Rattle.session_text.specs.declared.command.Command.{Command}
+use Rattle.session_text.specs.declared.command.Command.TheVariants.{End}
+use Rattle.session_text.specs.Answers.{Says}
+use Rattle.session_text.specs.Grammar.{command_of}
+use Rattle.session_text.specs.Inlets.{Incoming, NothingLeft, whole}
+use Rattle.session_text.specs.Lines.{NoLf}
+use Rattle.session_text.specs.Writes.{IsWritten}
+
+-- a line without its LF, or the beginning of one
+pub record IsLine (l : List ℕ) : Type 0 where
+  pub most : length l ≤ 4096
+  pub no_lf : NoLf l
+
+-- ---- lines
+
+-- each line in turn, and the texts of their answers in order
+abbrev pub Talks : {S : Type 0} → Says S → List (List ℕ) → S → List ℕ → S → Type 0
+Talks says [] c text c' = (text ≡ []) × (c' ≡ c)
+Talks {S} says (l ∷ ls) c text c' = (first : List ℕ) × (between : S) × (more : List ℕ) × IsLine l × says (command_of l) c first between × Talks says ls between more c' × (text ≡ first ++ more)
+
+-- the lines as they came
+abbrev pub stream : List (List ℕ) → List ℕ
+stream ls = flat_map (λ l. l ++ 10 ∷ []) ls
+
+-- the bytes are lines, all answered, and then `rest`
+pub record IsTalk {S : Type 0} (says : Says S) (bytes : List ℕ) (c : S) (rest text : List ℕ) (c' : S) : Type 0 where
+  pub lines : List (List ℕ)
+  pub are : bytes ≡ stream lines ++ rest
+  pub talks : Talks says lines c text c'
+
+-- bytes that begin with this line
+abbrev pub BeginsWith : List ℕ → List ℕ → Type 0
+BeginsWith l bytes = IsLine l × (more : List ℕ) × (bytes ≡ l ++ 10 ∷ more)
+
+abbrev pub IsQuit : List ℕ → Type 0
+IsQuit rest = (l : List ℕ) × BeginsWith l rest × (command_of l ≡ End)
+
+-- a write fails in the answer of the next line
+abbrev pub IsBrokenOff : {S : Type 0} → Says S → List ℕ → S → List ℕ → S → Type 0
+IsBrokenOff begins rest c tail c' = (l : List ℕ) × BeginsWith l rest × begins (command_of l) c tail c'
+
+-- ---- one line, and all whole lines of a buffer
+
+abbrev pub IsStep : {S : Type 0} → Says S → Says S → Command → S → Outgoing → S → Outgoing → Step → Type 0
+IsStep says begins k c w c' w' Next = (text : List ℕ) × says k c text c' × IsWritten text w w' true
+IsStep says begins k c w c' w' Stop = (k ≡ End) × (c' ≡ c) × (w' ≡ w)
+IsStep says begins k c w c' w' Fault = (text : List ℕ) × begins k c text c' × IsWritten text w w' false
+
+abbrev pub IsAnswered : {S : Type 0} → Says S → Says S → List ℕ → S → Outgoing → List ℕ → S → Outgoing → Step → Type 0
+IsAnswered says begins bytes c w rest c' w' Next = (text : List ℕ) × IsTalk says bytes c rest text c' × NoLf rest × IsWritten text w w' true
+IsAnswered says begins bytes c w rest c' w' Stop = (text : List ℕ) × IsTalk says bytes c rest text c' × IsQuit rest × IsWritten text w w' true
+IsAnswered {S} says begins bytes c w rest c' w' Fault =
+    (left : List ℕ) × (text : List ℕ) × (between : S) × (tail : List ℕ)
+    × IsTalk says bytes c left text between × IsBrokenOff begins left between tail c' × IsWritten (text ++ tail) w w' false
+
+-- ---- endings
+
+-- what an ending says of the bytes behind the last line that was answered, of the reader, and what it prints
+abbrev pub Closes : List ℕ → Incoming → Incoming → Ended → List ℕ → Type 0
+Closes rest a b Quit tail = IsQuit rest × (tail ≡ []) × (b.failures ≡ a.failures)
+Closes rest a b Eof tail = (rest ≡ []) × NothingLeft b × (tail ≡ []) × (b.failures ≡ a.failures)
+Closes rest a b CutLine tail = IsLine rest × (0 < length rest) × NothingLeft b × (tail ≡ codes "bad cut\n") × (b.failures ≡ a.failures)
+Closes rest a b TooLong tail = NoLf rest × (length rest ≡ 4097) × (tail ≡ codes "bad long\n") × (b.failures ≡ a.failures)
+Closes rest a b ReadFault tail = IsLine rest × (tail ≡ codes "bad read\n") × (b.failures ≡ a.failures + 1)
+Closes rest a b TooManyReads tail = IsLine rest × (b.reads ≡ a.reads + 1000000) × (tail ≡ codes "bad reads\n") × (b.failures ≡ a.failures)
+Closes rest a b WriteFault tail = ⊥
+Closes rest a b NoMemory tail = ⊥
+
+-- where a write failed: in the answer of a line, or in what an ending prints
+abbrev pub Breaks : {S : Type 0} → Says S → List ℕ → Incoming → Incoming → S → List ℕ → S → Type 0
+Breaks begins rest a b c tail c' = (IsBrokenOff begins rest c tail c' × (b.failures ≡ a.failures)) ⊎ ((ended : Ended) × Closes rest a b ended tail × (c' ≡ c))
+
+-- ---- whole sessions
+
+-- the bytes read, the commands and the writer before and after, and the ending
+abbrev pub IsServed : {S : Type 0} → Says S → Says S → List ℕ → Incoming → Incoming → S → Outgoing → S → Outgoing → Ended → Type 0
+IsServed {S} says begins bytes a b c w c' w' WriteFault =
+    (rest : List ℕ) × (text : List ℕ) × (between : S) × (tail : List ℕ)
+    × IsTalk says bytes c rest text between × Breaks begins rest a b between tail c' × IsWritten (text ++ tail) w w' false
+IsServed says begins bytes a b c w c' w' NoMemory = (bytes ≡ []) × (b ≡ a) × (c' ≡ c) × (w' ≡ w)
+IsServed says begins bytes a b c w c' w' ended =
+    (rest : List ℕ) × (text : List ℕ) × (tail : List ℕ)
+    × IsTalk says bytes c rest text c' × Closes rest a b ended tail × IsWritten (text ++ tail) w w' true
+
+-- what `serve` does
+abbrev pub Serves : {S : Type 0} → Says S → Says S → Incoming → Incoming → S → Outgoing → S → Outgoing → Ended → Type 0
+Serves says begins a b c w c' w' ended = (bytes : List ℕ) × (b.taken ≡ a.taken ++ bytes) × Keeps (whole a) (whole b) × IsServed says begins bytes a b c w c' w' ended

@@ -4,7 +4,8 @@
 KIND `first` mixes `new`, `put` and `rewind` over one class of two fields.
 KIND `last` fills every region but the last with objects of one size, and then makes and takes back objects in the last.
 KIND `puts` writes the two fields of one object.
-KIND `mixed` makes objects and arrays until some thousands are there, and else stores, loads, puts, moves and clears."""
+KIND `mixed` makes an object or an array now and then, and else stores, loads, puts, moves and clears.
+KIND `mixed_full` is the same after 248 regions were filled by an array each."""
 import random
 import sys
 
@@ -40,9 +41,9 @@ def mixed(count, rng):
         pick = rng.random()
         mutator = rng.randrange(2)
         register = rng.randrange(2, 8)
-        if pick < 0.005:
+        if pick < 0.0005:
             yield f"new {mutator} {register} 0"
-        elif pick < 0.006:
+        elif pick < 0.0007:
             yield f"newprim {mutator} {register} int {rng.randrange(16)}"
         elif pick < 0.25:
             yield f"store 0 0 0 {rng.choice((0, 2, 3, 4))}"
@@ -56,6 +57,12 @@ def mixed(count, rng):
             yield f"clear {mutator} {register}"
 
 
+def mixed_full(count, rng):
+    for _ in range(248):
+        yield "newprim 1 7 long 1024"
+    yield from mixed(count, rng)
+
+
 def puts(count, rng):
     yield "class Point - x:int y:int"
     yield "new 0 0 0"
@@ -66,7 +73,7 @@ def puts(count, rng):
 def main():
     kind, count = sys.argv[1], int(sys.argv[2])
     rng = random.Random(int(sys.argv[3]) if len(sys.argv) > 3 else 1)
-    print("\n".join({"first": first, "last": last, "mixed": mixed, "puts": puts}[kind](count, rng)))
+    print("\n".join({"first": first, "last": last, "mixed": mixed, "mixed_full": mixed_full, "puts": puts}[kind](count, rng)))
 
 
 if __name__ == "__main__":

@@ -21,6 +21,6 @@ P
 measure first 100000 16
 measure first 100000 256
 measure last 100000 256
-measure mixed 1000000 1
-measure mixed 1000000 256
+measure mixed 1000000 8
+measure mixed_full 1000000 256
 measure puts 1000000 16

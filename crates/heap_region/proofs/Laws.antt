@@ -1,16 +1,19 @@
 -- A second change that takes the first back.
-use Rattle.std.proofs.Common.{◌≡◌, ℕ, Bool, List, ◌∷◌, Option, Some, None, IfSome, IsSomeAnd, length, option_map, set, drop, refl, sym, ap, subst, ◌∙◌}
-use Rattle.std.specs.Prelude.{slice_get, option_and_then}
+use Rattle.std.proofs.Common.{◌≡◌, ℕ, Bool, List, ◌∷◌, Option, Some, None, IfSome, IsSomeAnd, length, ◌<◌, ◌/◌, option_map, set, drop, refl, sym, ap, subst, ◌∙◌}
+use Rattle.std.specs.Prelude.{slice_get, option_and_then, IsSome}
+use Rattle.std.proofs.lemmas.Option.{slice_get_within}
 use Rattle.std.proofs.lemmas.List.{set-set}
 use Rattle.heap_class.specs.declared.ObjRef.{ObjRef}
 use Rattle.heap_class.proofs.Lists.{set_same, head_back}
-use Rattle.heap_region.specs.Regions.{Object, UsedRegion, Region, Empty, InUse, used_at, object_at, with_mark}
+use Rattle.heap_region.specs.Regions.{Object, UsedRegion, Region, Empty, InUse, used_at, object_at, object_of, id_of, with_mark}
 use Rattle.heap_region.specs.Changes.{with_live, with_pending}
 use Rattle.heap_region.specs.Pool.{RegionPool, taken, freed, restored, released}
 use Rattle.heap_region.specs.Legal.{IsRegionPool}
 use Rattle.heap_region.specs.Layout.{FitsWords}
 use Rattle.heap_region.proofs.Lookups.{object_back, region_back, used_there}
 use Rattle.heap_region.proofs.Places.{freed_taken}
+use Rattle.heap_region.proofs.Ids.{ref_back}
+use Rattle.heap_region.proofs.Looked.{object_at_ref}
 use Rattle.heap_region.proofs.Good.{head_is_empty, pool_is_empty}
 
 known : {A : Type 0} (P : A → Type 0) (o : Option A) (x : A) → IfSome o P → o ≡ Some x → P x
@@ -57,6 +60,31 @@ freed_heads at o s legal there = rw (used_there at.region _ s.regions) (go (used
     go (Some u) e =
         let cell : slice_get u.cells at.cell ≡ Some (Some o) = cell_there s.regions at u o e there in
         (refl, ((legal.tables at.region u e).fits at.cell o cell, (legal.tables at.region u e).least at.cell o cell))
+
+-- the id of an object's cell names the object
+pub named_by_id : (at : ObjRef) (o : Object) (s : RegionPool) → IsRegionPool s → object_at s.regions at ≡ Some o → object_of s.regions (id_of s.regions at) ≡ Some o
+unfolding object_at
+named_by_id at o s legal there = go (used_at s.regions at.region) refl
+  where
+    nowhere : used_at s.regions at.region ≡ None → object_at s.regions at ≡ None
+    nowhere e = ap (option_and_then (λ (u : UsedRegion). option_and_then (λ (o : Option Object). o) (slice_get u.cells at.cell))) e
+
+    clash : {A : Type 0} (x : A) → ◌≡◌ {A = Option A} None (Some x) → ⊥
+    clash x e = cc
+
+    go : (x : Option UsedRegion) → used_at s.regions at.region ≡ x → object_of s.regions (id_of s.regions at) ≡ Some o
+    go None e = absurd (clash o (sym (nowhere e) ∙ there))
+    go (Some u) e =
+        let cell : slice_get u.cells at.cell ≡ Some (Some o) = cell_there s.regions at u o e there in
+        let fits : at.cell < 1024 / u.cell_size = subst (λ n. at.cell < n) (legal.tables at.region u e).cells (slice_get_within u.cells at.cell (Some o) cell) in
+        object_at_ref s.regions (id_of s.regions at) at (ref_back s.regions at u e fits) ∙ there
+
+pub names_one : (at : ObjRef) (s : RegionPool) → IsRegionPool s → IsSome (object_at s.regions at) → IsSome (object_of s.regions (id_of s.regions at))
+names_one at s legal there = go (object_at s.regions at) refl there
+  where
+    go : (x : Option Object) → object_at s.regions at ≡ x → IsSome x → IsSome (object_of s.regions (id_of s.regions at))
+    go None e h = absurd (cc)
+    go (Some o) e h = subst (λ (y : Option Object). IsSome y) (sym (named_by_id at o s legal e)) h
 
 -- an object that left its cell is put back
 pub freed_back : (at : ObjRef) (o : Object) (s : RegionPool) → object_at s.regions at ≡ Some o → taken at o (freed at s) ≡ s

@@ -40,6 +40,14 @@ fn made(
     }
 }
 
+// The place that the id of a cell with an object names.
+fn found_again(regions: &Regions, at: ObjRef) -> ObjRef
+    requires { IsSome (object_at regions.now.regions at) }
+{
+    let _count = regions.count();
+    regions.place(regions.id(at))
+}
+
 // A copy of an object. Where memory is refused, it asks once more.
 fn copied(regions: &Regions, at: ObjRef) -> Result<ObjectCopy, Refusal>
     requires { IsSome (object_at regions.now.regions at) }
@@ -102,6 +110,7 @@ fn the_last_free_cell_is_reused_first(rt: HostRuntime) -> Result<(), Fail> {
     let (second, _) = made(&mut regions, kind, 2, false)?;
     assert_eq!(rt; second, ObjRef { region: 0, cell: 1 });
     assert!(rt; regions.has_object(second));
+    assert_eq!(rt; found_again(&regions, second), second);
     assert!(rt; regions.len(second) == 2);
     regions.set_word(second, 1, 7);
     assert!(rt; regions.has_object(second));

@@ -1,5 +1,5 @@
 -- Dumps, line by line and piece by piece.
-use Rattle.std.proofs.Common.{◌≡◌, ℕ, zero, suc, ◌+◌, ◌-◌, ◌<◌, ◌≤◌, ◌⊎◌, inl, inr, Bool, true, false, List, [], ◌∷◌, ◌++◌, take, drop, length, refl, ap, sym, ◌∙◌, subst, arith, append_assoc, Result, Ok, Err}
+use Rattle.std.proofs.Common.{◌≡◌, ℕ, zero, suc, ◌+◌, ◌-◌, ◌<◌, ◌≤◌, inl, inr, Bool, true, false, List, [], ◌∷◌, ◌++◌, take, drop, length, refl, ap, sym, ◌∙◌, subst, arith, append_assoc, Result, Ok, Err}
 use Rattle.std.proofs.lemmas.List.{append-nil, length-drop, take_all, drop_all}
 use Rattle.std.specs.Prelude.{flat_map, min}
 use Rattle.dump_pump.specs.Outlets.{Outgoing}
@@ -9,9 +9,9 @@ use Rattle.hprof_text.specs.declared.Cursor.{Cursor}
 use Rattle.hprof_text.specs.declared.Cursor.TheVariants.{Start}
 use Rattle.hprof_text.specs.declared.Piece.{Piece}
 use Rattle.session_text.specs.Replies.{reply_text, data_line, data_lines, chunks_of_64}
-use Rattle.session_text.specs.Writes.{IsAdded, IsWritten}
-use Rattle.session_text.specs.Dumps.{Dumps, WritesDump, total_line, piece_limit}
-use Rattle.session_text.proofs.Written.{added_here, added_more, added_as, added_short, added_then_here, written_of}
+use Rattle.session_text.specs.Writes.{IsAdded}
+use Rattle.session_text.specs.Dumps.{Dumps, WritesDump, total_line}
+use Rattle.session_text.proofs.Written.{added_short, written_of}
 
 -- any number that is no less than the length cuts the whole list
 chunks_alike : (n m : ℕ) (xs : List ℕ) → length xs ≤ n → length xs ≤ m → chunks_of_64 n xs ≡ chunks_of_64 m xs

@@ -1,5 +1,5 @@
 -- The session of a machine of one's own, from that for any commands.
-use Rattle.std.proofs.Common.{◌≡◌, ℕ, zero, suc, ◌+◌, ◌<◌, ◌≤◌, ◌⊎◌, inl, inr, Bool, true, false, List, [], ◌∷◌, ◌++◌, length, refl, ap, sym, ◌∙◌, subst, arith, append_assoc, Result, Ok, Err}
+use Rattle.std.proofs.Common.{◌≡◌, ℕ, zero, suc, ◌+◌, ◌<◌, ◌≤◌, ◌⊎◌, inl, inr, Bool, true, false, List, [], ◌∷◌, ◌++◌, length, refl, ap, sym, ◌∙◌, subst, arith, append_assoc, Result}
 use Rattle.std.specs.Prelude.{codes, nat_lt, if◌then◌else◌}
 use Rattle.std.specs.Bool.{◌==◌}
 use Rattle.std.specs.List.{slice_split}
@@ -28,7 +28,7 @@ use Rattle.session_text.specs.declared.ReadEnd.TheVariants.{Over, Failed, Spent}
 use Rattle.session_text.specs.declared.command.Command.{Command}
 use Rattle.session_text.specs.declared.command.Command.TheVariants.{Blank, Bad, Ask, Dump, End}
 use Rattle.session_text.specs.declared.commands.Local.{Local}
-use Rattle.session_text.specs.Answers.{Says, Answers, Begins}
+use Rattle.session_text.specs.Answers.{Answers, Begins}
 use Rattle.session_text.specs.Dumps.{Dumps, total_line, piece_limit}
 use Rattle.session_text.specs.Grammar.{command_of}
 use Rattle.session_text.specs.Inlets.{Incoming}
@@ -36,8 +36,8 @@ use Rattle.session_text.specs.Lines.{NoLf}
 use Rattle.session_text.specs.Local.{LocalActs, LocalGives}
 use Rattle.session_text.specs.Reads.{ActionTakesMemory}
 use Rattle.session_text.specs.Replies.{reply_text, data_lines}
-use Rattle.session_text.specs.Session.{Talk, wrote, mark_of, marks_after, marked, done, after_piece, dumped, after_command, is_end, go_on, FitsCommand, FitLines, MarksFit, at_end, at_long, talked, session_of, Shows, IsShown, IsSession}
-use Rattle.session_text.specs.Talks.{IsLine, Talks, stream, IsTalk, IsQuit, IsBrokenOff, Closes, Breaks, Serves}
+use Rattle.session_text.specs.Session.{Talk, wrote, mark_of, marks_after, marked, done, after_piece, dumped, after_command, is_end, go_on, FitsCommand, FitLines, MarksFit, at_end, at_long, talked, session_of, Shows, IsSession}
+use Rattle.session_text.specs.Talks.{IsLine, Talks, stream, IsTalk, IsQuit, Closes, Breaks, Serves}
 
 abbrev is_lf : ℕ → Bool
 is_lf b = b == 10

@@ -3,7 +3,6 @@ use Rattle.std.proofs.Common.{◌≡◌, ℕ, ◌+◌, ◌<◌, ◌≤◌, ◌�
 use Rattle.std.proofs.lemmas.List.{append-nil, length-take-le}
 use Rattle.std.proofs.lemmas.Grind.{flat_map-append}
 use Rattle.std.specs.Io.KnownBytes.{Keeps}
-use Rattle.std.specs.Prelude.{codes}
 use Rattle.dump_pump.specs.Outlets.{Outgoing}
 use Rattle.heap_class.specs.declared.Refusal.TheVariants.{NoMemory as NoRoom}
 use Rattle.heap_trail.specs.declared.Reply.TheVariants.{Refused}
@@ -12,11 +11,11 @@ use Rattle.session_text.specs.declared.Ended.TheVariants.{Quit, Eof, CutLine, To
 use Rattle.session_text.specs.declared.command.Command.{Command}
 use Rattle.session_text.specs.declared.command.Command.TheVariants.{Blank, Bad, Ask, Dump, End}
 use Rattle.session_text.specs.Answers.{Acts, Gives, Says, Answers, Begins}
-use Rattle.session_text.specs.Dumps.{WritesDump, piece_limit}
+use Rattle.session_text.specs.Dumps.{WritesDump}
 use Rattle.session_text.specs.Endings.{Ends, ended_of, step_of}
 use Rattle.session_text.specs.Grammar.{command_of}
-use Rattle.session_text.specs.Inlets.{Incoming, NothingLeft, whole}
-use Rattle.session_text.specs.Lines.{NoLf, IsLineAt}
+use Rattle.session_text.specs.Inlets.{Incoming, whole}
+use Rattle.session_text.specs.Lines.{IsLineAt}
 use Rattle.session_text.specs.Reads.{TakesMemory}
 use Rattle.session_text.specs.Replies.{reply_text}
 use Rattle.session_text.specs.Talks.{IsLine, Talks, stream, IsTalk, BeginsWith, IsQuit, IsBrokenOff, IsStep, Closes, Breaks, IsServed, Serves}

@@ -2,7 +2,7 @@
 use Rattle.std.proofs.Common.{◌≡◌, ℕ, ◌+◌, Bool, true, false, List, [], ◌++◌, refl, ap, sym, ◌∙◌, append_assoc}
 use Rattle.std.proofs.lemmas.List.{append-nil}
 use Rattle.dump_pump.specs.Outlets.{Outgoing}
-use Rattle.session_text.specs.Writes.{IsCutShort, IsWritten, IsAdded}
+use Rattle.session_text.specs.Writes.{IsWritten, IsAdded}
 
 -- the page alone took it
 pub added_here : (text page : List ℕ) (a : Outgoing) (page' : List ℕ) → page' ≡ page ++ text → IsAdded text page a page' a true

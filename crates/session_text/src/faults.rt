@@ -1,4 +1,5 @@
 //! Readers and writers that take little at a time, or fail.
+use crate::tests::DUMP_OF_ONE_POINT;
 use crate::{Ended, Local, READ_LIMIT, ReadInlet, serve};
 use dump_pump::WriteOutlet;
 use heap_trail::Machine;
@@ -171,6 +172,14 @@ fn stops_after(alloc: Global, all: &[u8], count: usize, spent: Spent) -> Result<
             && all.starts_with(text)
             && stopped.place == place,
     )
+}
+
+#[test]
+fn bytes_come_and_go_one_by_one(rt: HostRuntime) -> Result<(), Fail> {
+    let outcome = write_bytes(rt.alloc(), usize::MAX, Spent::Fails)?;
+    assert_eq!(rt; outcome.ended, Ended::Eof);
+    assert_eq!(rt; outcome.text.as_slice(), DUMP_OF_ONE_POINT.as_bytes());
+    Ok(())
 }
 
 #[test]

@@ -56,7 +56,7 @@ data 4a4156412050524f46494c4520312e302e32000000000800000000000000000500000000000
 ok dump 61\n\
 ";
 
-const DUMP_OF_ONE_POINT: &str = "\
+pub const DUMP_OF_ONE_POINT: &str = "\
 ok class 0\n\
 ok object 0x10000000\n\
 ok\n\

@@ -1,6 +1,5 @@
-use Rattle.std.proofs.Common.{◌∙◌, ◌+◌, ◌++◌, ◌≤◌, ap, sym, subst, true, false, drop, length, append_assoc}
+use Rattle.std.proofs.Common.{◌∙◌, ◌+◌, ◌++◌, ◌≤◌, ap, subst, true, false, drop, length}
 use Rattle.session_text.specs.Answers.{Answers, Begins}
-use Rattle.session_text.specs.Writes.{IsWritten}
 use Rattle.session_text.proofs.Talking.{written_more, talk_then, line_answered, line_broken}
 use Rattle.session_text.proofs.answer.answer_lines.Goals as goal
 

@@ -1,4 +1,4 @@
-use Rattle.std.proofs.Common.{◌++◌, ◌<◌, ◌≡◌, length, true, arith}
+use Rattle.std.proofs.Common.{◌++◌, length, true}
 use Rattle.session_text.specs.Replies.{data_line}
 use Rattle.session_text.proofs.Dumping.{data_lines_go, data_lines_all}
 use Rattle.session_text.proofs.Lists.{zero_of, some_of}

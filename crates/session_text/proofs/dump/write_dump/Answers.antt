@@ -1,4 +1,4 @@
-use Rattle.std.proofs.Common.{◌≡◌, ◌∙◌, ◌+◌, ◌<◌, ◌++◌, true, false, ap, sym, subst, refl, [], length, arith}
+use Rattle.std.proofs.Common.{◌+◌, ◌++◌, true, false, ap, subst, length, arith}
 use Rattle.heap_trail.specs.declared.Reply.TheVariants.{Refused}
 use Rattle.session_text.specs.Dumps.{total_line}
 use Rattle.session_text.specs.Replies.{reply_text, data_lines}

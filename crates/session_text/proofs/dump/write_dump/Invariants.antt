@@ -1,4 +1,4 @@
-use Rattle.std.proofs.Common.{◌≡◌, ◌*◌, ◌≤◌, List, ℕ, true}
+use Rattle.std.proofs.Common.{◌*◌, ◌≤◌, List, ℕ, true}
 use Rattle.session_text.specs.Writes.{IsAdded}
 use Rattle.session_text.proofs.Dumping.{Onward}
 use Rattle.session_text.proofs.dump.write_dump.Given as goal

@@ -5,7 +5,11 @@ KIND `first` mixes `new`, `put` and `rewind` over one class of two fields.
 KIND `last` fills every region but the last with objects of one size, and then makes and takes back objects in the last.
 KIND `puts` writes the two fields of one object.
 KIND `mixed` makes an object or an array now and then, and else stores, loads, puts, moves and clears.
-KIND `mixed_full` is the same after 248 regions were filled by an array each."""
+KIND `mixed_full` is the same after 248 regions were filled by an array each.
+KIND `marking` fills every region but the last with one list, and then begins a cycle, marks, stores and drains in turn, and
+rewinds to where the cycle began, again and again.
+KIND `cycles` fills every region but the last with two lists, drops one of them, runs a whole cycle with a store, sweeps every
+region, and makes the dropped list again, and so on."""
 import random
 import sys
 
@@ -63,6 +67,53 @@ def mixed_full(count, rng):
     yield from mixed(count, rng)
 
 
+def marking(count, rng):
+    yield "class Node - next:object v:long"
+    for _ in range(255 * 256):
+        yield "new 0 0 0"
+        yield "store 0 0 0 1"
+        yield "move 0 1 0 0"
+    yield "new 0 2 0"
+    yield "new 0 0 0"
+    yield "store 0 0 0 1"
+    for _ in range(count // 902):
+        yield "snap"
+        for turn in range(300):
+            yield "mark"
+            yield f"store 0 0 0 {1 + turn % 2}"
+            yield "drain"
+        yield "rewind 901"
+
+
+def linked(count, head):
+    """Lines that make a list of so many nodes, the head of which goes to a register."""
+    yield f"clear 0 {head}"
+    for _ in range(count):
+        yield "new 0 0 0"
+        yield f"store 0 0 0 {head}"
+        yield f"move 0 {head} 0 0"
+    yield "clear 0 0"
+
+
+def cycles(count, rng):
+    half = 255 * 128
+    yield "class Node - next:object v:long"
+    yield from linked(half, 1)
+    for _ in range(1 + count // (4 * half)):
+        yield from linked(half - 2, 3)
+        yield "clear 0 3"
+        yield "snap"
+        yield "new 0 2 0"
+        yield "store 0 2 0 1"
+        yield "store 0 2 0 2"
+        yield from ["mark"] * half
+        yield "drain"
+        yield "clear 0 2"
+        yield "finish"
+        for region in range(255):
+            yield f"sweep {region}"
+
+
 def puts(count, rng):
     yield "class Point - x:int y:int"
     yield "new 0 0 0"
@@ -71,9 +122,10 @@ def puts(count, rng):
 
 
 def main():
+    kinds = {each.__name__: each for each in (first, last, mixed, mixed_full, marking, cycles, puts)}
     kind, count = sys.argv[1], int(sys.argv[2])
     rng = random.Random(int(sys.argv[3]) if len(sys.argv) > 3 else 1)
-    print("\n".join({"first": first, "last": last, "mixed": mixed, "mixed_full": mixed_full, "puts": puts}[kind](count, rng)))
+    print("\n".join(kinds[kind](count, rng)))
 
 
 if __name__ == "__main__":

@@ -1,1 +1,17 @@
+pub mod Marks
+pub mod Shading
+pub mod Undone
+pub mod Each
 pub mod Shades
+pub mod Room
+pub mod Work
+pub mod Way
+pub mod Children
+pub mod Pops
+pub mod Calls
+pub mod Firsts
+pub mod Numbers
+pub mod Written
+pub mod Unmarked
+pub mod Pending
+pub mod Finishes

@@ -99,6 +99,11 @@ impl Regions {
         self.slots.len() as u64
     }
 
+    /// The allocator from which regions and copies of objects are taken.
+    pub fn allocator(&self) -> Global {
+        self.alloc
+    }
+
     /// Makes an object of `len` slots, each 0, and answers its place and whether its region was taken from the pool.
     /// Refused TooLarge, HeapFull, or NoMemory where a region's storage can't be had.
     pub fn alloc(&mut self, kind: ObjKind, len: u64, mark: bool) -> Result<(ObjRef, bool), Refusal>

@@ -76,6 +76,15 @@ impl Model for ObjectCopy {
     } };
 }
 
+impl ObjectCopy {
+    /// How many slots the object has.
+    pub fn len(&self) -> u64
+        ensures { result ≡ length self.now.words }
+    {
+        self.words.len() as u64
+    }
+}
+
 // The header of a cell that has an object.
 fn header_at(headers: &[Option<Header>], cell: usize) -> Header
     requires { IsSome (slice_index_or headers.now cell None) }
@@ -189,6 +198,14 @@ impl Storage {
             block,
             head: 1,
         })
+    }
+
+    /// How many cells the region has.
+    pub fn cells(&self) -> u64
+        ensures value { result ≡ length self.now.cells }
+        ensures limit { result ≤ 256 }
+    {
+        self.block.headers.len() as u64
     }
 
     /// The words of each cell.

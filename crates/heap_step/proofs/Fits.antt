@@ -1,25 +1,29 @@
 -- The state after an event is one from which the event's record can be taken back.
-use Rattle.std.proofs.Common.{◌≡◌, ℕ, ◌+◌, ◌*◌, ◌<◌, Bool, true, false, not, ◌&&◌, List, [], ◌∷◌, ◌++◌, length, Option, Some, None, refl, ap, ◌∙◌, arith, length-append}
-use Rattle.std.specs.Prelude.{nat_lt, is_none, ◌==◌, if◌then◌else◌}
+use Rattle.std.proofs.Common.{◌≡◌, ℕ, ◌+◌, ◌-◌, ◌*◌, ◌<◌, ◌≤◌, Bool, true, false, not, ◌&&◌, List, [], ◌∷◌, ◌++◌, length, Option, Some, None, refl, sym, ap, subst, ◌∙◌, arith, length-append}
+use Rattle.std.specs.Prelude.{nat_lt, slice_get, slice_index, unwrap_or, is_none, ◌==◌, if◌then◌else◌}
 use Rattle.std.specs.Option.{option_map_or}
+use Rattle.std.proofs.lemmas.Bool.{eqb-false}
 use Rattle.std.proofs.lemmas.List.{length-set}
 use Rattle.heap_class.proofs.Refused.{none_holds}
 use Rattle.heap_class.specs.declared.ObjRef.{ObjRef}
 use Rattle.heap_class.specs.declared.ObjKind.{ObjKind}
 use Rattle.heap_class.specs.declared.ObjKind.TheVariants.{Instance, Array, Prim}
 use Rattle.heap_class.specs.Classes.{Class, instance_class, array_class, slots_of}
-use Rattle.heap_region.specs.Regions.{Object, object_at, with_word}
-use Rattle.heap_region.specs.Pool.{new_place}
-use Rattle.heap_mark.specs.Marking.{is_marking, logged}
+use Rattle.heap_region.specs.Regions.{Object, UsedRegion, object_at, used_at, with_region, with_word}
+use Rattle.heap_region.specs.Pool.{new_place, fresh_region, released}
+use Rattle.heap_mark.specs.Marking.{MarkState, is_marking, logged, snap_refusal, mark_refusal, drained_once}
+use Rattle.heap_mark.proofs.Shading.{shading}
+use Rattle.heap_sweep.specs.Sweep.{sweep_refusal, is_emptied, dead_at, swept, swept_region}
+use Rattle.heap_sweep.proofs.Swept.{pending_is}
 use Rattle.heap_world.specs.State.{HeapState, pool_of, marking_of, with_marking, register, with_register, place_of, is_register, word_of}
 use Rattle.heap_world.specs.Legal.{IsLegal}
-use Rattle.heap_world.specs.Events.{new_object, after_new, after_class, after_load, after_move, after_store, after_put, with_slot, is_full, is_reference_slot, is_logged, new_refusal, new_array_refusal, new_prim_refusal, load_refusal, store_refusal, put_refusal, move_refusal, clear_refusal}
+use Rattle.heap_world.specs.Events.{new_object, after_new, after_class, after_load, after_move, after_store, after_put, with_slot, is_full, is_reference_slot, is_logged, new_refusal, new_array_refusal, new_prim_refusal, load_refusal, store_refusal, put_refusal, move_refusal, clear_refusal, after_snap, after_mark, after_drain, after_sweep}
 use Rattle.heap_world.proofs.Registers.{both_registers}
 use Rattle.heap_step.specs.declared.Event.{Event}
 use Rattle.heap_step.specs.declared.Undo.{Undo}
 use Rattle.heap_step.specs.declared.Undo.TheVariants.{Put, Store, Reg, New, Class as Defined}
 use Rattle.heap_step.specs.Apply.{state_after, refusal_of}
-use Rattle.heap_step.specs.Records.{undo_record, reg_record, new_record}
+use Rattle.heap_step.specs.Records.{undo_record, reg_record, new_record, sweep_record}
 use Rattle.heap_step.proofs.Places.{new_stands, new_registers, written_stands}
 
 -- the object at the place has the slot
@@ -30,6 +34,18 @@ HasSlot w at slot = (o : Object) × (object_at w.regions at ≡ Some o) × (slot
 abbrev pub IsHeld : HeapState → ObjRef → ℕ → ℕ → Type 0
 IsHeld w at m r = ((o : Object) × (object_at w.regions at ≡ Some o)) × (is_register w m r ≡ true)
 
+-- a snap of a legal heap that accepts it gave the state
+abbrev pub IsSnapped : HeapState → Type 0
+IsSnapped w = (before : HeapState) × IsLegal before × (snap_refusal (marking_of before) ≡ None) × (w ≡ after_snap before)
+
+-- a sweep of a legal heap that accepts it gave the state: it left objects in the region, and took these out
+abbrev pub IsSwept : ℕ → List (ℕ × Object) → HeapState → Type 0
+IsSwept region dead w = (before : HeapState) × IsLegal before × (sweep_refusal region (pool_of before) ≡ None) × (is_emptied region (pool_of before) ≡ false) × (dead ≡ dead_at region (pool_of before)) × (w ≡ after_sweep region before)
+
+-- one of the cells has an object
+abbrev pub IsInhabited : UsedRegion → Type 0
+IsInhabited u = (cell : ℕ) × (o : Object) × (slice_get u.cells cell ≡ Some (Some o))
+
 -- what the state has that the record needs
 abbrev pub Fits : Undo → HeapState → Type 0
 Fits (Put at slot old) w = HasSlot w at slot
@@ -37,6 +53,12 @@ Fits (Store at slot old logged) w = HasSlot w at slot × (logged ≡ true → 0 
 Fits (Reg m r old) w = is_register w m r ≡ true
 Fits (New at fresh m r old) w = IsHeld w at m r
 Fits Defined w = 0 < length w.classes
+Fits Undo.Snap w = IsSnapped w
+Fits (Undo.Mark parent pushed) w = pushed ≤ length w.gray
+Fits (Undo.Drain pushed) w = (pushed ≤ length w.gray) × (0 < w.drained)
+Fits (Undo.Finish log) w = Unit {0}
+Fits (Undo.Sweep region dead) w = IsSwept region dead w
+Fits (Undo.Reclaim region storage) w = (slice_get w.pool 0 ≡ Some region) × IsInhabited storage
 
 not_false : (b : Bool) → not b ≡ false → b ≡ true
 not_false true h = refl
@@ -116,6 +138,40 @@ store_fits w m target slot source legal accepted = go (is_marking w.phase) (word
     go true false = (there, λ e. more w.log (word_of w x slot))
     go false c = (there, λ e. cc)
 
+-- ---- the marker
+
+snap_fits : (w : HeapState) → IsLegal w → snap_refusal (marking_of w) ≡ None → IsSnapped (after_snap w)
+snap_fits w legal accepted = (w, legal, accepted, refl)
+
+mark_fits : (w : HeapState) → mark_refusal (marking_of w) ≡ None → length (after_mark w).gray + 1 - length w.gray ≤ length (after_mark w).gray
+unfolding mark_refusal
+mark_fits w accepted = omega (arith, eqb-false (length w.gray) 0 (none_holds _ accepted).1.0)
+
+drain_fits : (w : HeapState) → (length (after_drain w).gray - length w.gray ≤ length (after_drain w).gray) × (0 < (after_drain w).drained)
+unfolding after_drain drained_once
+drain_fits w = (omega arith, omega (arith, (shading (slice_index w.log w.drained ∷ []) begun).drained))
+  where
+    begun : MarkState
+    begun = record (marking_of w) { drained = w.drained + 1 }
+
+-- ---- the sweeper
+
+-- a region without live objects heads the pool
+emptied_heads : (w : HeapState) (region : ℕ) → is_emptied region (pool_of w) ≡ true → slice_get (after_sweep region w).pool 0 ≡ Some region
+unfolding after_sweep swept released
+emptied_heads w region emptied = ap (λ (b : Bool). slice_get (if b then released region (pool_of w) else record (pool_of w) { regions = with_region region swept_region w.regions }).pool 0) emptied
+
+sweep_fits : (w : HeapState) (region : ℕ) → IsLegal w → sweep_refusal region (pool_of w) ≡ None → Fits (sweep_record region w) (after_sweep region w)
+unfolding sweep_record sweep_refusal
+sweep_fits w region legal accepted = go (is_emptied region (pool_of w)) refl
+  where
+    found : (u : UsedRegion) × (used_at w.regions region ≡ Some u) × (u.pending ≡ true)
+    found = pending_is w.regions region (none_holds _ accepted).0
+
+    go : (b : Bool) → is_emptied region (pool_of w) ≡ b → Fits (if b then Undo.Reclaim region (unwrap_or (used_at w.regions region) (fresh_region 4)) else Undo.Sweep region (dead_at region (pool_of w))) (after_sweep region w)
+    go true e = (emptied_heads w region e, subst (λ (p : Option UsedRegion). IsInhabited (unwrap_or p (fresh_region 4))) (sym found.1) (legal.regions.tables region found.0 found.1).inhabited)
+    go false e = (w, legal, accepted, e, refl, refl)
+
 -- ---- every event
 
 pub record_fits : (e : Event) (w : HeapState) → IsLegal w → refusal_of e w ≡ None → Fits (undo_record e w) (state_after e w)
@@ -130,3 +186,8 @@ record_fits (Event.Store m target slot source) w legal accepted = store_fits w m
 record_fits (Event.Put m target slot value) w legal accepted = put_fits w m target slot value legal accepted
 record_fits (Event.Move m to from_m from) w legal accepted = move_fits w m to from_m from accepted
 record_fits (Event.Clear m r) w legal accepted = clear_fits w m r accepted
+record_fits Event.Snap w legal accepted = snap_fits w legal accepted
+record_fits Event.Mark w legal accepted = mark_fits w accepted
+record_fits Event.Drain w legal accepted = drain_fits w
+record_fits Event.Finish w legal accepted = tt
+record_fits (Event.Sweep region) w legal accepted = sweep_fits w region legal accepted

@@ -1,7 +1,12 @@
 pub mod TakenBack
 pub mod Created
+pub mod Marked
+pub mod Finish
+pub mod Swept
 pub mod EachTakenBack
 pub mod Legal
+pub mod Found
+pub mod Kept
 pub mod Applied
 pub mod Places
 pub mod Fits

@@ -1,10 +1,12 @@
 -- What the record of a step says of the state that the step gave.
-use Rattle.std.proofs.Common.{◌≡◌, ℕ, ◌-◌, ◌<◌, Bool, true, length, take, refl, sym, subst, ◌∙◌}
-use Rattle.std.specs.Prelude.{IsSome, IfSome, if◌then◌else◌}
+use Rattle.std.proofs.Common.{◌≡◌, ℕ, List, Some, ◌-◌, ◌<◌, ◌≤◌, Bool, true, length, take, refl, sym, subst, ◌∙◌}
+use Rattle.std.specs.Prelude.{IsSome, IfSome, slice_get, if◌then◌else◌}
 use Rattle.heap_class.specs.declared.ObjRef.{ObjRef}
-use Rattle.heap_region.specs.Regions.{object_at, with_word}
-use Rattle.heap_region.specs.Pool.{unallocated}
-use Rattle.heap_world.specs.State.{HeapState, pool_of, with_pool, with_register, is_register}
+use Rattle.heap_region.specs.Regions.{Object, UsedRegion, object_at, with_word}
+use Rattle.heap_region.specs.Pool.{unallocated, restored}
+use Rattle.heap_mark.specs.Marking.{unsnapped, unmarked, undrained, unfinished}
+use Rattle.heap_sweep.specs.Sweep.{unswept}
+use Rattle.heap_world.specs.State.{HeapState, pool_of, with_pool, marking_of, with_marking, with_register, is_register}
 use Rattle.heap_world.specs.Legal.{IsLegal}
 use Rattle.heap_world.specs.Events.{without_last}
 use Rattle.heap_step.specs.declared.Event.{Event}
@@ -12,7 +14,7 @@ use Rattle.heap_step.specs.declared.Undo.{Undo}
 use Rattle.heap_step.specs.Records.{undone, undo_record}
 use Rattle.heap_step.specs.Laws.{IsStep}
 use Rattle.heap_step.proofs.EachTakenBack.{undo_takes_back}
-use Rattle.heap_step.proofs.Fits.{HasSlot, IsHeld, Fits, record_fits}
+use Rattle.heap_step.proofs.Fits.{HasSlot, IsHeld, IsSnapped, IsSwept, IsInhabited, Fits, record_fits}
 
 -- ---- what holds of the state that a step gave, where the record is `was`
 
@@ -112,4 +114,71 @@ pub class_is : (e : Event) (before after : HeapState) (left : Undo) → IsStep e
 unfolding undone
 class_is e before after left s is = back_is e before after left Undo.Class s is
 
-pub ruleset taken_back = (put_there, put_legal, put_is, store_there, store_is, reg_register, reg_legal, reg_is, new_there, new_register, new_is, class_there, class_legal, class_is)
+-- ---- the marker's records
+
+pub snap_before : (e : Event) (before after : HeapState) (left : Undo) → IsStep e before after left → left ≡ Undo.Snap → IsSnapped after
+snap_before e before after left s is = fits e before after left Undo.Snap s is
+
+pub snap_is : (e : Event) (before after : HeapState) (left : Undo) → IsStep e before after left → left ≡ Undo.Snap → with_marking (unsnapped (marking_of after)) after ≡ before
+unfolding undone
+snap_is e before after left s is = back_is e before after left Undo.Snap s is
+
+pub mark_within : (e : Event) (before after : HeapState) (left : Undo) → IsStep e before after left → (parent pushed : ℕ) → left ≡ Undo.Mark parent pushed → pushed ≤ length after.gray
+mark_within e before after left s parent pushed is = fits e before after left (Undo.Mark parent pushed) s is
+
+pub mark_legal : (e : Event) (before after : HeapState) (left : Undo) → IsStep e before after left → (parent pushed : ℕ) → left ≡ Undo.Mark parent pushed → IsLegal (with_marking (unmarked parent pushed (marking_of after)) after)
+unfolding undone
+mark_legal e before after left s parent pushed is = back_legal e before after left (Undo.Mark parent pushed) s is
+
+pub mark_is : (e : Event) (before after : HeapState) (left : Undo) → IsStep e before after left → (parent pushed : ℕ) → left ≡ Undo.Mark parent pushed → with_marking (unmarked parent pushed (marking_of after)) after ≡ before
+unfolding undone
+mark_is e before after left s parent pushed is = back_is e before after left (Undo.Mark parent pushed) s is
+
+pub drain_within : (e : Event) (before after : HeapState) (left : Undo) → IsStep e before after left → (pushed : ℕ) → left ≡ Undo.Drain pushed → pushed ≤ length after.gray
+drain_within e before after left s pushed is = (fits e before after left (Undo.Drain pushed) s is).0
+
+pub drain_begun : (e : Event) (before after : HeapState) (left : Undo) → IsStep e before after left → (pushed : ℕ) → left ≡ Undo.Drain pushed → 0 < after.drained
+drain_begun e before after left s pushed is = (fits e before after left (Undo.Drain pushed) s is).1
+
+pub drain_legal : (e : Event) (before after : HeapState) (left : Undo) → IsStep e before after left → (pushed : ℕ) → left ≡ Undo.Drain pushed → IsLegal (with_marking (undrained pushed (marking_of after)) after)
+unfolding undone
+drain_legal e before after left s pushed is = back_legal e before after left (Undo.Drain pushed) s is
+
+pub drain_is : (e : Event) (before after : HeapState) (left : Undo) → IsStep e before after left → (pushed : ℕ) → left ≡ Undo.Drain pushed → with_marking (undrained pushed (marking_of after)) after ≡ before
+unfolding undone
+drain_is e before after left s pushed is = back_is e before after left (Undo.Drain pushed) s is
+
+-- ---- the record of a finish
+
+pub finish_legal : (e : Event) (before after : HeapState) (left : Undo) → IsStep e before after left → (log : List ℕ) → left ≡ Undo.Finish log → IsLegal (with_marking (unfinished log (marking_of after)) after)
+unfolding undone
+finish_legal e before after left s log is = back_legal e before after left (Undo.Finish log) s is
+
+pub finish_is : (e : Event) (before after : HeapState) (left : Undo) → IsStep e before after left → (log : List ℕ) → left ≡ Undo.Finish log → with_marking (unfinished log (marking_of after)) after ≡ before
+unfolding undone
+finish_is e before after left s log is = back_is e before after left (Undo.Finish log) s is
+
+-- ---- the records of a sweep
+
+pub sweep_before : (e : Event) (before after : HeapState) (left : Undo) → IsStep e before after left → (region : ℕ) (dead : List (ℕ × Object)) → left ≡ Undo.Sweep region dead → IsSwept region dead after
+sweep_before e before after left s region dead is = fits e before after left (Undo.Sweep region dead) s is
+
+pub sweep_is : (e : Event) (before after : HeapState) (left : Undo) → IsStep e before after left → (region : ℕ) (dead : List (ℕ × Object)) → left ≡ Undo.Sweep region dead → with_pool (unswept region dead (pool_of after)) after ≡ before
+unfolding undone
+sweep_is e before after left s region dead is = back_is e before after left (Undo.Sweep region dead) s is
+
+pub reclaim_head : (e : Event) (before after : HeapState) (left : Undo) → IsStep e before after left → (region : ℕ) (storage : UsedRegion) → left ≡ Undo.Reclaim region storage → slice_get after.pool 0 ≡ Some region
+reclaim_head e before after left s region storage is = (fits e before after left (Undo.Reclaim region storage) s is).0
+
+pub reclaim_inhabited : (e : Event) (before after : HeapState) (left : Undo) → IsStep e before after left → (region : ℕ) (storage : UsedRegion) → left ≡ Undo.Reclaim region storage → IsInhabited storage
+reclaim_inhabited e before after left s region storage is = (fits e before after left (Undo.Reclaim region storage) s is).1
+
+pub reclaim_legal : (e : Event) (before after : HeapState) (left : Undo) → IsStep e before after left → (region : ℕ) (storage : UsedRegion) → left ≡ Undo.Reclaim region storage → IsLegal (with_pool (restored region storage (pool_of after)) after)
+unfolding undone
+reclaim_legal e before after left s region storage is = back_legal e before after left (Undo.Reclaim region storage) s is
+
+pub reclaim_is : (e : Event) (before after : HeapState) (left : Undo) → IsStep e before after left → (region : ℕ) (storage : UsedRegion) → left ≡ Undo.Reclaim region storage → with_pool (restored region storage (pool_of after)) after ≡ before
+unfolding undone
+reclaim_is e before after left s region storage is = back_is e before after left (Undo.Reclaim region storage) s is
+
+pub ruleset taken_back = (put_there, put_legal, put_is, store_there, store_is, reg_register, reg_legal, reg_is, new_there, new_register, new_is, class_there, class_legal, class_is, snap_is, mark_within, mark_is, drain_within, drain_is, finish_is, sweep_is, reclaim_head, reclaim_is)

@@ -1,15 +1,17 @@
 -- What an event does: one function, with a case for each event.
-use Rattle.std.specs.Prelude.{ℕ, Bool, true, false, ◌==◌, length, Option, Some, None, Result, Ok, Err, if◌then◌else◌}
+use Rattle.std.specs.Prelude.{ℕ, ◌+◌, ◌-◌, Bool, true, false, ◌==◌, length, Option, Some, None, Result, Ok, Err, if◌then◌else◌}
 use Rattle.heap_class.specs.declared.Refusal.{Refusal}
 use Rattle.heap_class.specs.declared.ObjKind.TheVariants.{Instance, Array, Prim}
 use Rattle.heap_class.specs.Classes.{class_refusal, instance_class, array_class, slots_of}
 use Rattle.heap_region.specs.Pool.{is_fresh}
-use Rattle.heap_world.specs.State.{HeapState, pool_of, register, with_register, word_of}
-use Rattle.heap_world.specs.Events.{after_class, after_new, new_refusal, new_array_refusal, new_prim_refusal, is_reference_slot, load_refusal, after_load, is_logged, store_refusal, after_store, put_refusal, after_put, move_refusal, after_move, clear_refusal}
+use Rattle.heap_mark.specs.Marking.{snap_refusal, mark_refusal, drain_refusal, finish_refusal, dead_count}
+use Rattle.heap_sweep.specs.Sweep.{sweep_refusal, dead_at, is_emptied, copies_dead}
+use Rattle.heap_world.specs.State.{HeapState, pool_of, marking_of, register, with_register, word_of}
+use Rattle.heap_world.specs.Events.{after_class, after_new, new_refusal, new_array_refusal, new_prim_refusal, is_reference_slot, load_refusal, after_load, is_logged, store_refusal, after_store, put_refusal, after_put, move_refusal, after_move, clear_refusal, after_snap, after_mark, after_drain, after_finish, after_sweep}
 use Rattle.heap_step.specs.declared.Event.{Event}
-use Rattle.heap_step.specs.declared.Event.TheVariants.{ArrayClass, New, NewArray, NewPrim, Load, Store, Put, Move, Clear}
+use Rattle.heap_step.specs.declared.Event.TheVariants.{ArrayClass, New, NewArray, NewPrim, Load, Store, Put, Move, Clear, Snap, Mark, Drain, Finish, Sweep}
 use Rattle.heap_step.specs.declared.Answer.{Answer}
-use Rattle.heap_step.specs.declared.Answer.TheVariants.{Object, Null, Value, Done}
+use Rattle.heap_step.specs.declared.Answer.TheVariants.{Object, Null, Value, Done, Pushed, Condemned, Swept}
 
 -- the first refusal of the event that holds
 unfoldable pub refusal_of : Event → HeapState → Option Refusal
@@ -23,6 +25,11 @@ refusal_of (Store m target slot source) w = store_refusal m target slot source w
 refusal_of (Put m target slot value) w = put_refusal m target slot value w
 refusal_of (Move m to from_m from) w = move_refusal m to from_m from w
 refusal_of (Clear m r) w = clear_refusal m r w
+refusal_of Snap w = snap_refusal (marking_of w)
+refusal_of Mark w = mark_refusal (marking_of w)
+refusal_of Drain w = drain_refusal (marking_of w)
+refusal_of Finish w = finish_refusal (marking_of w)
+refusal_of (Sweep region) w = sweep_refusal region (pool_of w)
 
 -- the state after an event that isn't refused
 unfoldable pub state_after : Event → HeapState → HeapState
@@ -36,6 +43,11 @@ state_after (Store m target slot source) w = after_store m target slot source w
 state_after (Put m target slot value) w = after_put m target slot value w
 state_after (Move m to from_m from) w = after_move m to from_m from w
 state_after (Clear m r) w = with_register m r 0 w
+state_after Snap w = after_snap w
+state_after Mark w = after_mark w
+state_after Drain w = after_drain w
+state_after Finish w = after_finish w
+state_after (Sweep region) w = after_sweep region w
 
 -- a reference as an answer
 unfoldable pub object_or_null : ℕ → Answer
@@ -53,6 +65,11 @@ answer_of (Store m target slot source) w v = Done
 answer_of (Put m target slot value) w v = Done
 answer_of (Move m to from_m from) w v = Done
 answer_of (Clear m r) w v = Done
+answer_of Snap w v = Pushed (length v.gray)
+answer_of Mark w v = Pushed (length v.gray + 1 - length w.gray)
+answer_of Drain w v = Pushed (length v.gray - length w.gray)
+answer_of Finish w v = Condemned (dead_count v.regions)
+answer_of (Sweep region) w v = Swept (length (dead_at region (pool_of w))) (is_emptied region (pool_of w))
 
 -- the refusal, if there is one, and else the new state and the answer
 unfoldable pub applied_unless : Option Refusal → Event → HeapState → Result (HeapState × Answer) Refusal
@@ -74,3 +91,8 @@ event_may_grow (Store m target slot source) w = is_logged w (register w m target
 event_may_grow (Put m target slot value) w = false
 event_may_grow (Move m to from_m from) w = false
 event_may_grow (Clear m r) w = false
+event_may_grow Snap w = false
+event_may_grow Mark w = false
+event_may_grow Drain w = false
+event_may_grow Finish w = false
+event_may_grow (Sweep region) w = copies_dead region (pool_of w)

@@ -1,11 +1,15 @@
 -- What applying and taking back keep.
-use Rattle.std.specs.Prelude.{◌≡◌, None, Result, IfOk, OnErr}
+use Rattle.std.specs.Prelude.{◌≡◌, ◌⊎◌, ℕ, None, Result, IfOk, OnErr}
 use Rattle.heap_class.specs.declared.Refusal.{Refusal}
 use Rattle.heap_class.specs.Refusals.{IsAnswered}
+use Rattle.heap_region.specs.Regions.{object_of}
+use Rattle.heap_mark.specs.declared.Phase.TheVariants.{Marking}
 use Rattle.heap_world.specs.State.{HeapState}
-use Rattle.heap_world.specs.Legal.{IsLegal}
+use Rattle.heap_world.specs.Legal.{IsLegal, IsLive, IsMarked, Sheltered}
+use Rattle.heap_world.specs.Reach.{Reaches}
 use Rattle.heap_step.specs.declared.Answer.{Answer}
 use Rattle.heap_step.specs.declared.Event.{Event}
+use Rattle.heap_step.specs.declared.Event.TheVariants.{Finish, Sweep}
 use Rattle.heap_step.specs.declared.Undo.{Undo}
 use Rattle.heap_step.specs.Apply.{refusal_of, state_after, answer_of, event_may_grow}
 use Rattle.heap_step.specs.Records.{undo_record, undone}
@@ -17,6 +21,18 @@ KeepsLegal e w = IsLegal w → refusal_of e w ≡ None → IsLegal (state_after 
 -- an accepted event's record takes it back
 abbrev pub IsTakenBack : Event → HeapState → Type 0
 IsTakenBack e w = IsLegal w → refusal_of e w ≡ None → undone (undo_record e w) (state_after e w) ≡ w
+
+-- while a cycle runs, what is marked or sheltered in the first state is so in the second
+abbrev pub StaysFound : HeapState → HeapState → Type 0
+StaysFound w v = w.phase ≡ Marking → v.phase ≡ Marking → (x : ℕ) → (IsMarked w x ⊎ Sheltered w x) → (IsMarked v x ⊎ Sheltered v x)
+
+-- a sweep leaves each object that the registers reach, its kind and words too
+abbrev pub SweepSpares : ℕ → HeapState → Type 0
+SweepSpares region w = IsLegal w → refusal_of (Sweep region) w ≡ None → (x : ℕ) → Reaches w x → object_of (state_after (Sweep region) w).regions x ≡ object_of w.regions x
+
+-- after a finish all that the registers reach is live
+abbrev pub FinishSpares : HeapState → Type 0
+FinishSpares w = IsLegal w → refusal_of Finish w ≡ None → let v = state_after Finish w in (x : ℕ) → Reaches v x → IsLive v x
 
 -- the event, accepted in the legal state `before`, gave the state `after` and left the record
 pub record IsStep (e : Event) (before after : HeapState) (left : Undo) : Type 0 where

@@ -1,14 +1,18 @@
 //! What each event does to the heap, with its answer and its record.
-ghost use Rattle.std.specs.Prelude.{◌≡◌, if◌then◌else◌};
+ghost use Rattle.std.specs.Prelude.{◌≡◌, ℕ, List, if◌then◌else◌};
+ghost use Rattle.heap_region.specs.Regions.{Object, UsedRegion};
+ghost use Rattle.heap_sweep.specs.declared.Reclaimed.TheVariants.{Swept, Emptied};
 ghost use Rattle.heap_world.specs.Legal.{IsLegal};
 ghost use Rattle.heap_step.specs.declared.Event.{Event};
-ghost use Rattle.heap_step.specs.declared.Answer.TheVariants.{Object, Value};
+ghost use Rattle.heap_step.specs.declared.Answer.{Answer};
+ghost use Rattle.heap_step.specs.declared.Answer.TheVariants.{Value};
 ghost use Rattle.heap_step.specs.declared.Undo.{Undo};
 ghost use Rattle.heap_step.specs.Apply.{object_or_null};
 ghost use Rattle.heap_step.specs.Laws.{IsApplied};
 
 use crate::{Answer, Event, Undo};
 use heap_class::{ClassNo, Fields, Kind, Name, Refusal};
+use heap_sweep::Reclaimed;
 use heap_world::{Created, Loaded, World};
 
 /// Applies an event by the function of its kind.
@@ -42,6 +46,11 @@ pub fn dispatch(world: &mut World, event: &Event) -> Result<(Answer, Undo), Refu
             from,
         } => copy(world, *m, *to, *from_m, *from),
         Event::Clear { m, r } => clear(world, *m, *r),
+        Event::Snap => snap(world),
+        Event::Mark => mark(world),
+        Event::Drain => drain(world),
+        Event::Finish => finish(world),
+        Event::Sweep { region } => sweep(world, *region),
     }
 }
 
@@ -180,6 +189,70 @@ fn clear(world: &mut World, m: u64, r: u64) -> Result<(Answer, Undo), Refusal>
     Ok((Answer::Done, reg_record(m as u8, r as u8, held)))
 }
 
+/// Applies an event that begins a marking cycle.
+fn snap(world: &mut World) -> Result<(Answer, Undo), Refusal>
+    ensures { IsApplied Event.Snap world.old world.new result }
+{
+    let pushed = world.snap()?;
+    Ok((Answer::Pushed(pushed), Undo::Snap))
+}
+
+/// Applies an event that marks the children of the newest gray object.
+fn mark(world: &mut World) -> Result<(Answer, Undo), Refusal>
+    ensures { IsApplied Event.Mark world.old world.new result }
+{
+    let marked = world.mark()?;
+    let record = Undo::Mark {
+        parent: marked.parent,
+        pushed: marked.pushed,
+    };
+    Ok((Answer::Pushed(marked.pushed), record))
+}
+
+/// Applies an event that marks what the next entry of the log names.
+fn drain(world: &mut World) -> Result<(Answer, Undo), Refusal>
+    ensures { IsApplied Event.Drain world.old world.new result }
+{
+    let pushed = world.drain()?;
+    Ok((Answer::Pushed(pushed), Undo::Drain { pushed }))
+}
+
+/// Applies an event that ends a marking cycle.
+fn finish(world: &mut World) -> Result<(Answer, Undo), Refusal>
+    ensures { IsApplied Event.Finish world.old world.new result }
+{
+    let finished = world.finish()?;
+    let record = Undo::Finish { log: finished.log };
+    Ok((Answer::Condemned(finished.condemned), record))
+}
+
+/// Applies an event that removes the objects of a region that aren't live.
+fn sweep(world: &mut World, region: u64) -> Result<(Answer, Undo), Refusal>
+    ensures { IsApplied (Event.Sweep region) world.old world.new result }
+{
+    let reclaimed = world.sweep(region)?;
+    let answer = Answer::Swept {
+        dead: reclaimed.dead(),
+        emptied: reclaimed.emptied(),
+    };
+    Ok((answer, sweep_record(reclaimed)))
+}
+
+/// The record of a sweep that took this out.
+fn sweep_record(reclaimed: Reclaimed) -> Undo
+    ensures swept { (region : ℕ) (dead : List (ℕ × Object)) → reclaimed ≡ Swept region dead → result ≡ Undo.Sweep region dead }
+    ensures emptied { (region : ℕ) (storage : UsedRegion) (dead : ℕ) → reclaimed ≡ Emptied region storage dead → result ≡ Undo.Reclaim region storage }
+{
+    match reclaimed {
+        Reclaimed::Swept { region, dead } => Undo::Sweep { region, dead },
+        Reclaimed::Emptied {
+            region,
+            storage,
+            ..
+        } => Undo::Reclaim { region, storage },
+    }
+}
+
 /// What a load answers: of a reference the object or null, of a value the value.
 #[tactic(auto, unfolding(crate::specs::Apply::object_or_null))]
 fn slot_answer(loaded: Loaded) -> Answer
@@ -196,7 +269,7 @@ fn slot_answer(loaded: Loaded) -> Answer
 
 /// What a new object in register `r` of mutator `m` answers, and its record.
 fn made(m: u8, r: u8, created: Created) -> (Answer, Undo)
-    ensures answer { result.0 ≡ Object created.id }
+    ensures answer { result.0 ≡ Answer.Object created.id }
     ensures record { result.1 ≡ Undo.New created.at created.fresh m r created.old }
 {
     let record = Undo::New {

@@ -1,9 +1,12 @@
 //! The events, their answers, and the records by which each is taken back.
 #![tactic(auto)]
 
+ghost use Rattle.std.specs.Prelude.{◌≡◌, ℕ, None};
 ghost use Rattle.heap_world.specs.State.{HeapState};
+ghost use Rattle.heap_world.specs.Legal.{IsLegal};
 ghost use Rattle.heap_step.specs.declared.Event.{Event};
-ghost use Rattle.heap_step.specs.Laws.{IsTakenBack, KeepsLegal};
+ghost use Rattle.heap_step.specs.Apply.{refusal_of, state_after};
+ghost use Rattle.heap_step.specs.Laws.{FinishSpares, IsTakenBack, KeepsLegal, StaysFound, SweepSpares};
 
 mod events;
 pub mod step;
@@ -11,6 +14,9 @@ pub mod step;
 mod tests;
 
 use heap_class::{ClassNo, Fields, Kind, Name, ObjRef};
+use heap_mark::Log;
+use heap_region::Storage;
+use heap_sweep::DeadCells;
 pub use step::{apply, weight};
 
 /// One step that is asked for. Numbers of mutators, registers, classes and slots may be any 64-bit numbers.
@@ -79,6 +85,18 @@ pub enum Event {
         m: u64,
         r: u64,
     },
+    /// Begins a marking cycle with what the registers name.
+    Snap,
+    /// Marks the unmarked children of the newest gray object.
+    Mark,
+    /// Marks what the next entry of the log names.
+    Drain,
+    /// Ends the cycle: what isn't marked is no longer live.
+    Finish,
+    /// Removes the objects of a region that aren't live.
+    Sweep {
+        region: u64,
+    },
 }
 
 /// What an accepted event answers.
@@ -93,10 +111,16 @@ pub enum Answer {
     /// What a value slot holds.
     Value(u64),
     Done,
+    /// How many objects were marked and pushed on the gray stack.
+    Pushed(u64),
+    /// How many objects of the heap aren't live.
+    Condemned(u64),
+    /// How many objects were removed, and whether that left the region empty.
+    Swept { dead: u64, emptied: bool },
 }
 
 /// What takes an accepted event back.
-#[derive(Clone, Copy, PartialEq, Eq, Debug)]
+#[derive(Drop)]
 pub enum Undo {
     Put {
         at: ObjRef,
@@ -122,6 +146,25 @@ pub enum Undo {
         old: u64,
     },
     Class,
+    Snap,
+    Mark {
+        parent: u64,
+        pushed: u64,
+    },
+    Drain {
+        pushed: u64,
+    },
+    Finish {
+        log: Log,
+    },
+    Sweep {
+        region: u64,
+        dead: DeadCells,
+    },
+    Reclaim {
+        region: u64,
+        storage: Storage,
+    },
 }
 
 /// The law that each event that a legal heap accepts keeps it legal.
@@ -132,4 +175,19 @@ pub fn keeps_legal()
 /// The law that the record of each event that a legal heap accepts takes it back.
 pub fn undo_takes_back()
     ensures { (e : Event) (w : HeapState) → IsTakenBack e w }
+{}
+
+/// The law that while a cycle runs each accepted event of a legal heap leaves what is marked or sheltered so.
+pub fn stays_found()
+    ensures { (e : Event) (w : HeapState) → IsLegal w → refusal_of e w ≡ None → StaysFound w (state_after e w) }
+{}
+
+/// The law that a sweep of a legal heap leaves each object that the registers reach.
+pub fn sweep_spares()
+    ensures { (region : ℕ) (w : HeapState) → SweepSpares region w }
+{}
+
+/// The law that after a finish of a legal heap all that the registers reach is live.
+pub fn finish_spares()
+    ensures { (w : HeapState) → FinishSpares w }
 {}

@@ -1,5 +1,5 @@
 //! Applying events and taking them back.
-ghost use Rattle.std.specs.Prelude.{◌≡◌, ◌⊎◌, None, Ok, Err, true, IfOk, IfErr, OnErr};
+ghost use Rattle.std.specs.Prelude.{◌≡◌, ◌⊎◌, None, Ok, Err, true, IfOk, IfErr, OnOk, OnErr};
 ghost use Rattle.heap_class.specs.Refusals.{IsAnswered};
 ghost use Rattle.heap_class.specs.declared.Refusal.TheVariants.{NoMemory};
 ghost use Rattle.heap_world.specs.State.{HeapState};
@@ -7,7 +7,7 @@ ghost use Rattle.heap_world.specs.Legal.{IsLegal};
 ghost use Rattle.heap_step.specs.declared.Event.{Event};
 ghost use Rattle.heap_step.specs.Apply.{refusal_of, state_after, applied, event_may_grow};
 ghost use Rattle.heap_step.specs.Records.{undo_record, weight};
-ghost use Rattle.heap_step.specs.Laws.{IsStep};
+ghost use Rattle.heap_step.specs.Laws.{IsStep, StaysFound};
 
 use crate::events::dispatch;
 use crate::{Answer, Event, Undo};
@@ -15,7 +15,7 @@ use heap_class::Refusal;
 use heap_world::World;
 
 /// Applies an event: at Ok its answer and the record that takes it back; refused, nothing has changed. NoMemory comes
-/// only where the event may grow and nothing else refuses it.
+/// only where the event may grow and nothing else refuses it. While a cycle runs, what is marked or sheltered stays so.
 pub fn apply(world: &mut World, event: &Event) -> Result<(Answer, Undo), Refusal>
     ensures answered { IsAnswered (refusal_of event.now world.old) (event_may_grow event.now world.old) result }
     ensures state { IfOk result (λ p. world.new ≡ state_after event.now world.old) }
@@ -24,6 +24,7 @@ pub fn apply(world: &mut World, event: &Event) -> Result<(Answer, Undo), Refusal
     ensures refused { IfErr result (λ e. (applied event.now world.old ≡ Err e) ⊎ ((refusal_of event.now world.old ≡ None) × (event_may_grow event.now world.old ≡ true) × (e ≡ NoMemory))) }
     ensures unchanged { OnErr result (world.new ≡ world.old) }
     ensures legal { IsLegal world.new }
+    ensures found { OnOk result (StaysFound world.old world.new) }
 {
     let _phase = world.phase();
     dispatch(world, event)
@@ -52,6 +53,12 @@ pub fn undo(world: &mut World, left: Undo)
             old,
         } => world.unmake(at, fresh, m as u64, r as u64, old),
         Undo::Class => world.undefine_class(),
+        Undo::Snap => world.unsnap(),
+        Undo::Mark { parent, pushed } => world.unmark(parent, pushed),
+        Undo::Drain { pushed } => world.undrain(pushed),
+        Undo::Finish { log } => world.unfinish(log),
+        Undo::Sweep { region, dead } => world.unsweep(region, dead),
+        Undo::Reclaim { region, storage } => world.unreclaim(region, storage),
     }
 }
 
@@ -63,5 +70,9 @@ pub fn weight(left: &Undo) -> u64
     match left {
         Undo::Put { .. } | Undo::Store { .. } => 1,
         Undo::Reg { .. } | Undo::New { .. } | Undo::Class => 0,
+        Undo::Snap | Undo::Mark { .. } | Undo::Drain { .. } => 0,
+        Undo::Finish { log } => log.len(),
+        Undo::Sweep { dead, .. } => dead.weight(),
+        Undo::Reclaim { storage, .. } => 1024 + storage.cells(),
     }
 }

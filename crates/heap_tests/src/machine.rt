@@ -2,11 +2,14 @@
 ghost use Rattle.std.specs.Prelude.{◌<◌};
 
 use crate::observed::observed;
+use crate::plain::PlainHeap;
 use crate::plain_machine::PlainMachine;
-use heap_class::{Field, Fields, Kind, Name};
-use heap_step::Event;
+use crate::readers::{tell_classes, tell_registers, tell_the_same};
+use crate::scripts::node;
+use heap_class::{Field, Fields, Kind, Name, Refusal};
+use heap_step::{Answer, Event};
 use heap_trail::Machine;
-use heap_world::Config;
+use heap_world::{Config, World};
 use rand_core::Rng;
 use rand_pcg::Pcg32;
 use std::alloc::{AllocError, Global};
@@ -30,6 +33,26 @@ fn below(random: &mut Pcg32, limit: u32) -> u64
     ensures { result < limit }
 {
     (random.next_u32() % limit) as u64
+}
+
+/// A number that is mostly this one, and else below a limit.
+fn mostly(random: &mut Pcg32, usual: u64, limit: u32) -> u64
+    requires { 0 < limit }
+{
+    match below(random, 4) {
+        0 => below(random, limit),
+        _ => usual,
+    }
+}
+
+/// A number that is mostly a small one, and else below a limit.
+fn mostly_small(random: &mut Pcg32, limit: u32) -> u64
+    requires { 0 < limit }
+{
+    match below(random, 8) {
+        0 => below(random, limit),
+        _ => below(random, 3),
+    }
 }
 
 /// One of the kinds.
@@ -87,30 +110,38 @@ fn any_length(random: &mut Pcg32) -> u64 {
 
 /// What makes an object or defines a class.
 fn any_making(alloc: Global, random: &mut Pcg32) -> Result<Event, AllocError> {
-    let (m, r) = (below(random, 3), below(random, 9));
-    let class = below(random, 5);
+    let (m, r) = (below(random, 8) / 3, mostly_small(random, 9));
     let len = any_length(random);
     match below(random, 24) {
         0 | 1 | 2 => any_class(alloc, random),
         3 => Ok(Event::ArrayClass {
             name: any_name(alloc, random)?,
         }),
-        4..=9 => Ok(Event::NewArray { m, r, class, len }),
+        4..=9 => Ok(Event::NewArray {
+            m,
+            r,
+            class: mostly(random, 1, 5),
+            len,
+        }),
         10..=12 => Ok(Event::NewPrim {
             m,
             r,
             kind: any_kind(random),
             len,
         }),
-        _ => Ok(Event::New { m, r, class }),
+        _ => Ok(Event::New {
+            m,
+            r,
+            class: mostly(random, 0, 5),
+        }),
     }
 }
 
 /// What reads or writes slots and registers.
 fn any_access(random: &mut Pcg32) -> Event {
-    let m = below(random, 3).min(1);
-    let (a, b) = (below(random, 8), below(random, 9));
-    let slot = below(random, 6);
+    let m = below(random, 8) / 4;
+    let (a, b) = (mostly_small(random, 8), mostly_small(random, 9));
+    let slot = mostly(random, 0, 6);
     match below(random, 10) {
         0 | 1 => Event::Load {
             m,
@@ -140,72 +171,155 @@ fn any_access(random: &mut Pcg32) -> Event {
     }
 }
 
+/// A step of the marker or of the sweeper.
+fn any_collecting(random: &mut Pcg32) -> Event {
+    match below(random, 20) {
+        0 | 1 => Event::Snap,
+        2..=7 => Event::Mark,
+        8 | 9 => Event::Drain,
+        10..=12 => Event::Finish,
+        _ => Event::Sweep {
+            region: below(random, 6),
+        },
+    }
+}
+
 /// Any event.
 fn any_event(alloc: Global, random: &mut Pcg32) -> Result<Event, AllocError> {
-    if below(random, 5) < 2 {
-        return any_making(alloc, random);
+    match below(random, 10) {
+        0..=2 => any_making(alloc, random),
+        3..=6 => Ok(any_access(random)),
+        _ => Ok(any_collecting(random)),
     }
-    Ok(any_access(random))
 }
 
-/// Whether both machines take a step alike.
-fn steps_alike(
+/// The machine and the plain one beside it, and what came up so far.
+#[derive(Drop)]
+struct Pair {
     alloc: Global,
-    event: &Event,
-    machine: &mut Machine,
-    plain: &mut PlainMachine,
-) -> Result<bool, AllocError> {
-    let expected = plain.step(alloc, event)?;
-    Ok(machine.step(event) == expected)
+    machine: Machine,
+    plain: PlainMachine,
+    refused: u64,
+    pushed: u64,
+    logged: u64,
+    finished: u64,
+    dead: u64,
+    emptied: u64,
 }
 
-/// Whether both machines go back alike.
-fn rewinds_alike(n: u64, machine: &mut Machine, plain: &mut PlainMachine) -> bool {
-    machine.rewind(n) == plain.rewind(n)
-}
+impl Pair {
+    fn new(alloc: Global, regions: u64) -> Result<Pair, Fail> {
+        let config = Config::new(regions, 2, 12).ok_or("settings out of range")?;
+        Ok(Pair {
+            alloc,
+            machine: Machine::new(alloc, config)?,
+            plain: PlainMachine::new(alloc, regions, 2, 12)?,
+            refused: 0,
+            pushed: 0,
+            logged: 0,
+            finished: 0,
+            dead: 0,
+            emptied: 0,
+        })
+    }
 
-/// Whether all readers tell the plain machine's state.
-fn is_alike(alloc: Global, machine: &Machine, plain: &PlainMachine) -> Result<bool, AllocError> {
-    Ok(
-        machine.place() == plain.place
-            && machine.retained() == plain.past.len() as u64
-            && observed(alloc, machine.world())? == plain.current,
-    )
-}
-
-/// Whether both machines take a seeded action alike.
-fn acts_alike(
-    alloc: Global,
-    random: &mut Pcg32,
-    machine: &mut Machine,
-    plain: &mut PlainMachine,
-) -> Result<bool, AllocError> {
-    let answered = if below(random, 12) == 0 {
-        let n = below(random, 10);
-        rewinds_alike(n, machine, plain)
-    } else {
-        let event = any_event(alloc, random)?;
-        steps_alike(alloc, &event, machine, plain)?
-    };
-    Ok(answered && is_alike(alloc, machine, plain)?)
-}
-
-/// How many seeded actions both machines take alike, of so many.
-fn alike(alloc: Global, seed: u64, regions: u64, actions: u64) -> Result<u64, Fail> {
-    let config = Config::new(regions, 2, 12).ok_or("settings out of range")?;
-    let mut machine = Machine::new(alloc, config)?;
-    let mut plain = PlainMachine::new(alloc, regions, 2, 12)?;
-    let mut random = Pcg32::new(seed, 1);
-    for done in 0..actions {
-        if !acts_alike(alloc, &mut random, &mut machine, &mut plain)? {
-            return Ok(done);
+    /// Counts what an answer says.
+    fn count(&mut self, answer: Result<Answer, Refusal>) {
+        match answer {
+            Ok(Answer::Pushed(n)) => self.pushed = self.pushed.saturating_add(n),
+            Ok(Answer::Condemned(_)) => self.finished = self.finished.saturating_add(1),
+            Ok(Answer::Swept { dead, emptied }) => {
+                self.dead = self.dead.saturating_add(dead);
+                self.emptied = self.emptied.saturating_add(emptied as u64);
+            }
+            Ok(_) => {}
+            Err(_) => self.refused = self.refused.saturating_add(1),
         }
+        let log = self.machine.world().log().len() as u64;
+        self.logged = self.logged.max(log);
     }
-    Ok(actions)
+
+    /// Whether both take a step alike.
+    fn step(&mut self, event: &Event) -> Result<bool, AllocError> {
+        let expected = self.plain.step(self.alloc, event)?;
+        let answer = self.machine.step(event);
+        self.count(answer);
+        Ok(answer == expected)
+    }
+
+    /// Whether both go back alike.
+    fn rewind(&mut self, n: u64) -> bool {
+        self.machine.rewind(n) == self.plain.rewind(n)
+    }
+
+    /// Whether all readers tell the plain machine's state.
+    fn is_alike(&self) -> Result<bool, AllocError> {
+        let world = self.machine.world();
+        Ok(
+            self.machine.place() == self.plain.place
+                && self.machine.retained() == self.plain.past.len() as u64
+                && observed(self.alloc, world)? == self.plain.current
+                && readers_tell(world, &self.plain.current),
+        )
+    }
+
+    /// Whether both take a seeded action alike.
+    fn act(&mut self, random: &mut Pcg32) -> Result<bool, AllocError> {
+        let alike = if below(random, 12) == 0 {
+            self.rewind(below(random, 14))
+        } else {
+            let event = any_event(self.alloc, random)?;
+            self.step(&event)?
+        };
+        Ok(alike && self.is_alike()?)
+    }
+
+    /// Whether both define a class of nodes and one of arrays alike.
+    fn begin(&mut self) -> Result<bool, AllocError> {
+        let nodes = node(self.alloc)?;
+        let arrays = Event::ArrayClass {
+            name: Name::new(self.alloc, b"[Node;")?,
+        };
+        Ok(self.step(&nodes)? && self.step(&arrays)? && self.is_alike()?)
+    }
+
+    /// Whether both take so many seeded actions alike.
+    fn play(&mut self, seed: u64, actions: u64) -> Result<bool, Fail> {
+        let mut random = Pcg32::new(seed, 1);
+        for _ in 0..actions {
+            if !self.act(&mut random)? {
+                return Ok(false);
+            }
+        }
+        Ok(true)
+    }
+}
+
+/// Whether the readers that ask for one thing at a time tell the plain heap.
+fn readers_tell(world: &World, plain: &PlainHeap) -> bool {
+    tell_classes(world.classes(), &plain.classes)
+        && tell_registers(world, plain)
+        && tell_the_same(world.regions(), plain)
 }
 
 #[test]
 fn seeded_actions(rt: HostRuntime) -> Result<(), Fail> {
-    assert_eq!(rt; alike(rt.alloc(), 1, 8, 2000)?, 2000);
+    let mut pair = Pair::new(rt.alloc(), 5)?;
+    assert!(rt; pair.begin()?);
+    assert!(rt; pair.play(1, 2000)?);
+    assert!(rt;
+        pair.refused > 200 && pair.refused < 1500,
+        "refused {}",
+        pair.refused
+    );
+    assert!(rt; pair.pushed > 20, "pushed {}", pair.pushed);
+    assert!(rt; pair.logged > 1, "logged {}", pair.logged);
+    assert!(rt; pair.finished > 3, "finished {}", pair.finished);
+    assert!(rt;
+        pair.dead > 20 && pair.emptied > 3,
+        "dead {}, emptied {}",
+        pair.dead,
+        pair.emptied
+    );
     Ok(())
 }

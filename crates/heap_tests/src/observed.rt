@@ -3,6 +3,7 @@ use crate::plain::{
     PlainClass, PlainField, PlainHeap, PlainObject, PlainRegion, copied_bytes, copied_kinds,
     copied_numbers,
 };
+use crate::plain_regions::place;
 use heap_class::{Classes, ObjRef};
 use heap_region::Regions;
 use heap_world::World;
@@ -47,14 +48,6 @@ fn classes_of(alloc: Global, classes: &Classes) -> Result<Vec<PlainClass>, Alloc
         })?;
     }
     Ok(plain)
-}
-
-/// A place by its numbers, each below 256.
-fn place(region: u64, cell: u64) -> ObjRef {
-    ObjRef {
-        region: region.min(255) as u16,
-        cell: cell.min(255) as u16,
-    }
 }
 
 /// The object in a cell.
@@ -103,7 +96,7 @@ fn free_of(alloc: Global, regions: &Regions, region: u64) -> Result<Vec<u64>, Al
 }
 
 /// The empty regions, the next one last.
-fn pool_of(alloc: Global, regions: &Regions) -> Result<Vec<u64>, AllocError> {
+pub fn pool_of(alloc: Global, regions: &Regions) -> Result<Vec<u64>, AllocError> {
     let mut list = Vec::new(alloc);
     for region in regions.pool() {
         list.push(region)?;
@@ -130,7 +123,10 @@ fn region_at(
 }
 
 /// All regions.
-fn regions_of(alloc: Global, regions: &Regions) -> Result<Vec<Option<PlainRegion>>, AllocError> {
+pub fn regions_of(
+    alloc: Global,
+    regions: &Regions,
+) -> Result<Vec<Option<PlainRegion>>, AllocError> {
     let mut plain = Vec::new(alloc);
     for region in 0..regions.count() {
         plain.push(region_at(alloc, regions, region)?)?;

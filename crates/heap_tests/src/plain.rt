@@ -232,28 +232,6 @@ impl PlainHeap {
         Some((8 * m + r) as usize)
     }
 
-    /// The region and cell that an id names.
-    fn place(&self, id: u64) -> Option<(usize, usize)> {
-        let word = id.checked_sub(0x1000_0000)? / 8;
-        let region = (word / 1024) as usize;
-        let used = self.regions.get(region)?.as_ref()?;
-        if used.cell_size == 0 {
-            return None;
-        }
-        Some((region, (word % 1024 / used.cell_size) as usize))
-    }
-
-    /// The object that an id names.
-    pub fn object(&self, id: u64) -> Option<&PlainObject> {
-        let (region, cell) = self.place(id)?;
-        self.regions
-            .get(region)?
-            .as_ref()?
-            .cells
-            .get(cell)?
-            .as_ref()
-    }
-
     /// The kind of a slot of an object.
     pub fn slot_kind(&self, object: &PlainObject, slot: u64) -> Option<Kind> {
         let index = slot as usize;
@@ -271,14 +249,9 @@ impl PlainHeap {
 
     /// Writes a slot of the object that an id names.
     pub fn set_word(&mut self, id: u64, slot: u64, word: u64) {
-        let Some((region, cell)) = self.place(id) else {
-            return;
-        };
-        if let Some(Some(used)) = self.regions.get_mut(region) {
-            if let Some(Some(object)) = used.cells.get_mut(cell) {
-                if let Some(place) = object.words.get_mut(slot as usize) {
-                    *place = word;
-                }
+        if let Some(object) = self.object_mut(id) {
+            if let Some(place) = object.words.get_mut(slot as usize) {
+                *place = word;
             }
         }
     }

@@ -1,5 +1,5 @@
 //! What each event does to the plain heap.
-use crate::plain::{PlainClass, PlainField, PlainHeap, PlainObject, PlainRegion, copied_bytes};
+use crate::plain::{PlainClass, PlainField, PlainHeap, PlainObject, copied_bytes};
 use heap_class::{Field, Kind, ObjKind, Refusal};
 use heap_step::{Answer, Event};
 use std::alloc::{AllocError, Global};
@@ -52,14 +52,6 @@ fn slots_over(alloc: Global, fields: &[Field], sup: &[Kind]) -> Result<Vec<Kind>
     }
     slots.extend_from_slice(sup)?;
     Ok(slots)
-}
-
-/// The least cell size that holds so many slots.
-fn cell_size_for(slots: u64) -> u64 {
-    [4, 16, 64, 256]
-        .into_iter()
-        .find(|size| slots <= *size)
-        .unwrap_or(1024)
 }
 
 impl PlainHeap {
@@ -124,57 +116,18 @@ impl PlainHeap {
         Ok(Ok(Answer::Class(number)))
     }
 
-    /// Whether a region has cells of this size and one of them free.
-    fn has_room(&self, region: usize, cell_size: u64) -> bool {
-        match self.regions.get(region) {
-            Some(Some(used)) => used.cell_size == cell_size && !used.free.is_empty(),
-            _ => false,
-        }
-    }
-
-    /// The lowest region with a free cell of this size, by looking at each.
-    fn scanned(&self, cell_size: u64) -> Option<usize> {
-        (0..self.regions.len()).find(|region| self.has_room(*region, cell_size))
-    }
-
-    /// The region where an object of this cell size goes: a scanned one, else one from the pool; None where there is none.
-    fn region_for(&mut self, alloc: Global, cell_size: u64) -> Result<Option<usize>, AllocError> {
-        if let Some(region) = self.scanned(cell_size) {
-            return Ok(Some(region));
-        }
-        let Some(head) = self.pool.pop() else {
-            return Ok(None);
-        };
-        let fresh = PlainRegion::fresh(alloc, cell_size)?;
-        if let Some(place) = self.regions.get_mut(head as usize) {
-            *place = Some(fresh);
-        }
-        Ok(Some(head as usize))
-    }
-
-    /// Puts an object into the first free cell of a region, and answers its id.
-    fn place_in(&mut self, region: usize, object: PlainObject) -> Option<u64> {
-        let used = self.regions.get_mut(region)?.as_mut()?;
-        let cell = used.free.pop()?;
-        let first_word = (region as u64)
-            .checked_mul(1024)?
-            .checked_add(cell.checked_mul(used.cell_size)?)?;
-        *used.cells.get_mut(cell as usize)? = Some(object);
-        first_word.checked_mul(8)?.checked_add(0x1000_0000)
-    }
-
     /// Makes an object with so many slots in a register.
     fn make(&mut self, alloc: Global, register: usize, kind: ObjKind, len: u64) -> Outcome {
-        let Some(region) = self.region_for(alloc, cell_size_for(len))? else {
-            return Ok(Err(Refusal::HeapFull));
-        };
         let object = PlainObject {
             kind,
             words: vec![in alloc; 0; len as usize]?,
             live: true,
             mark: self.marking,
         };
-        let id = self.place_in(region, object).unwrap_or(0);
+        let Some((at, _)) = self.alloc(alloc, object)? else {
+            return Ok(Err(Refusal::HeapFull));
+        };
+        let id = self.id(at).unwrap_or(0);
         if let Some(place) = self.registers.get_mut(register) {
             *place = id;
         }
@@ -368,6 +321,11 @@ impl PlainHeap {
                 from,
             } => Ok(self.move_register(*m, *to, *from_m, *from)),
             Event::Clear { m, r } => Ok(self.clear(*m, *r)),
+            Event::Snap => self.snap(alloc),
+            Event::Mark => self.mark(alloc),
+            Event::Drain => self.drain(),
+            Event::Finish => Ok(self.finish()),
+            Event::Sweep { region } => self.sweep(alloc, *region),
         }
     }
 }

@@ -1,5 +1,8 @@
 pub mod Recorded
 pub mod Stepping
+pub mod Retained
+pub mod Found
+pub mod Reached
 pub mod Rewinding
 pub mod Acting
 pub mod Counted

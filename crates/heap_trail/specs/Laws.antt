@@ -1,7 +1,10 @@
 -- What holds of a trail.
-use Rattle.std.specs.Prelude.{◌≡◌, ℕ, ◌≤◌, List, [], ◌∷◌, None}
+use Rattle.std.specs.Prelude.{◌≡◌, ℕ, ◌≤◌, true, not, List, [], ◌∷◌, length, find, Some, None}
+use Rattle.heap_region.specs.Regions.{Object, object_of}
+use Rattle.heap_mark.specs.Marking.{is_marking}
 use Rattle.heap_world.specs.State.{HeapState}
-use Rattle.heap_world.specs.Legal.{IsLegal}
+use Rattle.heap_world.specs.Reach.{Reaches}
+use Rattle.heap_world.specs.Legal.{IsLegal, IsLive, NamesOne}
 use Rattle.heap_step.specs.declared.Event.{Event}
 use Rattle.heap_step.specs.Apply.{refusal_of, state_after}
 use Rattle.heap_step.specs.declared.Answer.{Answer}
@@ -24,3 +27,15 @@ pub record IsTrail (keep : ℕ) (t : Trail) : Type 0 where
 -- a step that is answered and a rewind of one after it lead back to the state and the place before
 abbrev pub LeadsBack : Machine → Event → Machine → Answer → Type 0
 LeadsBack m e n a = 1 ≤ m.keep → acted m (Step e) ≡ (n, Answered a) → ((acted n (Rewind 1)).0.trail.current ≡ m.trail.current) × ((acted n (Rewind 1)).1 ≡ Place m.trail.place)
+
+-- what the registers reach in w is in v as it was
+abbrev pub SparesReached : HeapState → HeapState → Type 0
+SparesReached w v = (x : ℕ) → Reaches w x → object_of v.regions x ≡ object_of w.regions x
+
+-- all that the registers reach is live
+abbrev pub ReachesLive : HeapState → Type 0
+ReachesLive v = (x : ℕ) → Reaches v x → IsLive v x
+
+-- what the registers reached in the newest of these states in which no cycle ran is in v, with its kind and as many words, and live
+abbrev pub FindsSnapshot : List HeapState → HeapState → Type 0
+FindsSnapshot past v = (w : HeapState) → find (λ u. not (is_marking u.phase)) past ≡ Some w → (x : ℕ) (o : Object) → Reaches w x → object_of w.regions x ≡ Some o → NamesOne v (λ p. (p.kind ≡ o.kind) × (length p.words ≡ length o.words) × (p.live ≡ true)) x

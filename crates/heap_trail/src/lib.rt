@@ -1,10 +1,11 @@
 //! The machine: the current state and the retained past.
 #![tactic(auto)]
 
-ghost use Rattle.std.specs.Prelude.{◌≡◌, ◌⊎◌, ◌<◌, ◌≤◌, ◌+◌, ◌^◌, ℕ, length, None, Some, true, IfOk, IfErr, OnErr};
+ghost use Rattle.std.specs.Prelude.{◌≡◌, ◌⊎◌, ◌<◌, ◌≤◌, ◌+◌, ◌^◌, ℕ, length, None, Some, true, IfOk, IfErr, OnOk, OnErr};
 ghost use Rattle.heap_class.specs.declared.IdSize.TheVariants.{Eight};
 ghost use Rattle.heap_class.specs.declared.Refusal.TheVariants.{NoMemory};
 ghost use Rattle.heap_step.specs.declared.Event.{Event};
+ghost use Rattle.heap_step.specs.declared.Event.TheVariants.{Finish, Sweep};
 ghost use Rattle.heap_step.specs.declared.Answer.{Answer};
 ghost use Rattle.heap_step.specs.Apply.{event_may_grow};
 ghost use Rattle.heap_world.specs.Legal.{IsLegal};
@@ -12,7 +13,7 @@ ghost use Rattle.heap_trail.specs.declared.Action.{Action};
 ghost use Rattle.heap_trail.specs.declared.Action.TheVariants.{Step, Rewind};
 ghost use Rattle.heap_trail.specs.declared.Reply.TheVariants.{Answered, Place, Refused};
 ghost use Rattle.heap_trail.specs.Machine.{Machine, Fine, Refusing, acted, acted_under, may_grow, MayStand, Mark, opening_machine};
-ghost use Rattle.heap_trail.specs.Laws.{IsTrail, LeadsBack};
+ghost use Rattle.heap_trail.specs.Laws.{FindsSnapshot, IsTrail, LeadsBack, ReachesLive, SparesReached};
 ghost use Rattle.heap_trail.specs.Trail.{retained, rewound};
 ghost use Rattle.heap_trail.specs.Pins.{image_of, StandsIn};
 ghost use Rattle.heap_region.specs.Regions.{live_places};
@@ -104,10 +105,17 @@ impl Machine {
 
     /// Takes a step, and keeps its record in place of the oldest where `keep` are there. Refused ChronicleFull at place
     /// 2^62, else as the event is; then nothing has changed.
+    ///
+    /// A sweep leaves each object that the registers reach as it was. After a finish all that they reach is live. What
+    /// they reached when the cycle began, in the newest retained state in which none ran, is after its finish still
+    /// there with its kind and as many words, and live: Yuasa's law.
     pub fn step(&mut self, event: &Event) -> Result<Answer, Refusal>
         ensures done { IfOk result (λ a. acted self.old (Step event.now) ≡ (self.new, Answered a)) }
         ensures refused { IfErr result (λ e. (acted self.old (Step event.now) ≡ (self.new, Refused e)) ⊎ (MayStand self.old (Step event.now, Refusing) × (e ≡ NoMemory))) }
         ensures unchanged { OnErr result (self.new ≡ self.old) }
+        ensures spares { OnOk result ((region : ℕ) → event.now ≡ Sweep region → SparesReached self.old.trail.current self.new.trail.current) }
+        ensures live { OnOk result (event.now ≡ Finish → ReachesLive self.new.trail.current) }
+        ensures finds { OnOk result (event.now ≡ Finish → FindsSnapshot self.old.trail.past self.new.trail.current) }
     {
         if self.place >= LAST_PLACE {
             return Err(Refusal::ChronicleFull);
@@ -115,6 +123,7 @@ impl Machine {
         // By this law the record leads back to the state before.
         undo_takes_back();
         let (answer, left) = apply(&mut self.world, event)?;
+        // A record that leaves the full ring at its old end is dropped, with the memory that it holds.
         self.records.push_front(left);
         self.place += 1;
         Ok(answer)

@@ -1,6 +1,6 @@
 -- A store with its barrier, and what takes it back.
-use Rattle.std.proofs.Common.{◌≡◌, ◌⊎◌, ℕ, Bool, true, false, not, List, [], ◌∷◌, ◌++◌, length, Some, None, refl, sym, ap, subst, ◌∙◌, inr}
-use Rattle.std.specs.Prelude.{◌&&◌, ◌==◌, if◌then◌else◌, IfSome, slice_index}
+use Rattle.std.proofs.Common.{◌≡◌, ◌⊎◌, ℕ, ◌-◌, ◌<◌, ◌≤◌, Bool, true, false, not, [], ◌∷◌, ◌++◌, length, take, Some, None, refl, sym, ap, subst, ◌∙◌, inr, arith, length-take}
+use Rattle.std.specs.Prelude.{◌&&◌, ◌==◌, if◌then◌else◌, IfSome, IsTrue, slice_index}
 use Rattle.heap_class.proofs.Refused.{none_holds}
 use Rattle.heap_class.specs.declared.ObjRef.{ObjRef}
 use Rattle.heap_class.specs.declared.Refusal.{Refusal}
@@ -8,6 +8,7 @@ use Rattle.heap_class.specs.declared.Refusal.TheVariants.{NoMemory}
 use Rattle.heap_region.specs.Regions.{object_at, ref_of, with_word}
 use Rattle.heap_region.specs.Pool.{RegionPool}
 use Rattle.heap_mark.specs.Marking.{is_marking, logged}
+use Rattle.heap_mark.specs.Marker.{MarkerState}
 use Rattle.heap_world.specs.State.{HeapState, with_pool, marking_of, with_marking, is_register, register, place_of, slot_kind, word_of}
 use Rattle.heap_world.specs.Legal.{IsLegal}
 use Rattle.heap_world.specs.Held.{IsHeld}
@@ -16,6 +17,7 @@ use Rattle.heap_world.proofs.Clauses.{clauses_of, legal_by}
 use Rattle.heap_world.proofs.Registers.{second_register}
 use Rattle.heap_world.proofs.Written.{length_written, place_is, store_legal}
 use Rattle.heap_world.proofs.Kept.{held_by}
+use Rattle.heap_world.proofs.Held.{marker_of, with_marker}
 use Rattle.heap_world.proofs.Slot.{HasSlot, some_kind, slot_by}
 
 -- ---- what a store that isn't refused finds
@@ -71,13 +73,19 @@ stored v m target slot source at r =
     go true false = refl
     go false c = refl
 
+-- the heap with the marker after the barrier
+with_log : (w : HeapState) (room old : ℕ) (b : Bool) → with_marker (if b then record (marker_of w room) { log = w.log ++ old ∷ [] } else marker_of w room) w ≡ record w { log = if b then w.log ++ old ∷ [] else w.log }
+with_log w room old true = refl
+with_log w room old false = refl
+
 -- the fields after a store
-pub store_made : (w v : HeapState) (m target slot source old word : ℕ) (at : ObjRef) (b : Bool) (s : RegionPool) (log : List ℕ) → w ≡ v → ref_of v.regions (register v m target) ≡ Some at
-    → old ≡ word_of v (register v m target) slot → word ≡ register v m source → b ≡ is_logged v (register v m target) slot → log ≡ (if b then w.log ++ old ∷ [] else w.log)
-    → s ≡ record { regions = with_word at slot word w.regions; pool = w.pool } → record (with_pool s w) { log = log } ≡ after_store m target slot source v
-store_made w v m target slot source old word at b s log e r o a l f g =
-    ap (λ (t : RegionPool). record (with_pool t w) { log = log }) g
-    ∙ ap (λ (xs : List ℕ). record w { regions = with_word at slot word w.regions; log = xs }) f
+pub store_made : (w v : HeapState) (m target slot source old word room : ℕ) (at : ObjRef) (b : Bool) (s : RegionPool) (k : MarkerState) → w ≡ v → ref_of v.regions (register v m target) ≡ Some at
+    → old ≡ word_of v (register v m target) slot → word ≡ register v m source → b ≡ is_logged v (register v m target) slot → k ≡ (if b then record (marker_of w room) { log = w.log ++ old ∷ [] } else marker_of w room)
+    → s ≡ record { regions = with_word at slot word w.regions; pool = w.pool } → with_marker k (with_pool s w) ≡ after_store m target slot source v
+store_made w v m target slot source old word room at b s k e r o a l f g =
+    ap (λ (t : RegionPool). with_marker k (with_pool t w)) g
+    ∙ ap (λ (j : MarkerState). record (with_marker j w) { regions = with_word at slot word w.regions }) f
+    ∙ ap (λ (u : HeapState). record u { regions = with_word at slot word w.regions }) (with_log w room old b)
     ∙ ap (λ y. record w { regions = with_word at slot y w.regions; log = if b then w.log ++ old ∷ [] else w.log }) a
     ∙ ap (λ y. record w { regions = with_word at slot (register v m source) w.regions; log = if b then w.log ++ y ∷ [] else w.log }) o
     ∙ ap (λ c. record w { regions = with_word at slot (register v m source) w.regions; log = if c then w.log ++ word_of v (register v m target) slot ∷ [] else w.log }) l
@@ -89,21 +97,57 @@ store_holds v m target slot source room at h accepted r = held_by (after_store m
     (legal_by (after_store m target slot source v) (store_legal v m target slot source (clauses_of v h.legal) accepted))
     (ap (λ (u : HeapState). length u.regions) (sym (stored v m target slot source at r)) ∙ length_written v.regions at slot (register v m source))
 
-pub store_held : (w v : HeapState) (m target slot source old word room : ℕ) (at : ObjRef) (b : Bool) (s : RegionPool) (log : List ℕ) → IsHeld w room → w ≡ v → store_refusal m target slot source v ≡ None
-    → ref_of v.regions (register v m target) ≡ Some at → old ≡ word_of v (register v m target) slot → word ≡ register v m source → b ≡ is_logged v (register v m target) slot → log ≡ (if b then w.log ++ old ∷ [] else w.log)
-    → s ≡ record { regions = with_word at slot word w.regions; pool = w.pool } → IsHeld (record (with_pool s w) { log = log }) room
-store_held w v m target slot source old word room at b s log h e accepted r o a l f g =
-    subst (λ (u : HeapState). IsHeld u room) (sym (store_made w v m target slot source old word at b s log e r o a l f g))
-    (store_holds v m target slot source room at (subst (λ (u : HeapState). IsHeld u room) e h) accepted r)
+pub store_held : (w v : HeapState) (m target slot source old word room : ℕ) (at : ObjRef) (b : Bool) (s : RegionPool) (k : MarkerState) → IsHeld w room → w ≡ v → store_refusal m target slot source v ≡ None
+    → ref_of v.regions (register v m target) ≡ Some at → old ≡ word_of v (register v m target) slot → word ≡ register v m source → b ≡ is_logged v (register v m target) slot
+    → k ≡ (if b then record (marker_of w room) { log = w.log ++ old ∷ [] } else marker_of w room)
+    → s ≡ record { regions = with_word at slot word w.regions; pool = w.pool } → IsHeld (with_marker k (with_pool s w)) k.room
+store_held w v m target slot source old word room at b s k h e accepted r o a l f g =
+    subst (λ n. IsHeld (with_marker k (with_pool s w)) n) (sym (ap (λ (j : MarkerState). j.room) f ∙ go b))
+    (subst (λ (u : HeapState). IsHeld u room) (sym (store_made w v m target slot source old word room at b s k e r o a l f g))
+    (store_holds v m target slot source room at (subst (λ (u : HeapState). IsHeld u room) e h) accepted r))
+  where
+    go : (c : Bool) → (if c then record (marker_of w room) { log = w.log ++ old ∷ [] } else marker_of w room).room ≡ room
+    go true = refl
+    go false = refl
 
 -- ---- a store is taken back
 
-pub unstored_held : (w v : HeapState) (slot word room : ℕ) (at : ObjRef) (b : Bool) (s : RegionPool) (log : List ℕ) → IsHeld w room → w ≡ v → log ≡ (if b then without_last w.log else w.log)
+without_log : (w : HeapState) (room : ℕ) (b : Bool) → with_marker (if b then record (marker_of w room) { log = take (length w.log - 1) w.log } else marker_of w room) w ≡ record w { log = if b then without_last w.log else w.log }
+unfolding without_last
+without_log w room true = refl
+without_log w room false = refl
+
+-- the entry isn't drained
+pub entry_there : (w v : HeapState) (slot word : ℕ) (at : ObjRef) (b : Bool) → w ≡ v → (IsTrue b → 0 < length v.log) → IsLegal (record v { regions = with_word at slot word v.regions; log = if b then without_last v.log else v.log }) → IsTrue b → w.drained < length w.log
+unfolding without_last
+entry_there w v slot word at b e some l t = subst (λ (u : HeapState). u.drained < length u.log) (sym e) (go b t some l.drained_within)
+  where
+    go : (c : Bool) → IsTrue c → (IsTrue c → 0 < length v.log) → v.drained ≤ length (if c then take (length v.log - 1) v.log else v.log) → v.drained < length v.log
+    go true h more within = let n = more h in omega (arith, within, n, length-take (length v.log - 1) v.log)
+    go false h more within = cc
+
+unstored : (w : HeapState) (slot word room : ℕ) (at : ObjRef) (b : Bool) (s : RegionPool) (k : MarkerState) → k ≡ (if b then record (marker_of w room) { log = take (length w.log - 1) w.log } else marker_of w room)
+    → s ≡ record { regions = with_word at slot word w.regions; pool = w.pool } → with_marker k (with_pool s w) ≡ record w { regions = with_word at slot word w.regions; log = if b then without_last w.log else w.log }
+unstored w slot word room at b s k f g =
+    ap (λ (t : RegionPool). with_marker k (with_pool t w)) g
+    ∙ ap (λ (j : MarkerState). record (with_marker j w) { regions = with_word at slot word w.regions }) f
+    ∙ ap (λ (u : HeapState). record u { regions = with_word at slot word w.regions }) (without_log w room b)
+
+pub unstored_made : (w v : HeapState) (slot word room : ℕ) (at : ObjRef) (b : Bool) (s : RegionPool) (k : MarkerState) → w ≡ v → k ≡ (if b then record (marker_of w room) { log = take (length w.log - 1) w.log } else marker_of w room)
+    → s ≡ record { regions = with_word at slot word w.regions; pool = w.pool } → with_marker k (with_pool s w) ≡ record v { regions = with_word at slot word v.regions; log = if b then without_last v.log else v.log }
+unstored_made w v slot word room at b s k e f g = unstored w slot word room at b s k f g
+    ∙ ap (λ (u : HeapState). record u { regions = with_word at slot word u.regions; log = if b then without_last u.log else u.log }) e
+
+pub unstored_held : (w v : HeapState) (slot word room : ℕ) (at : ObjRef) (b : Bool) (s : RegionPool) (k : MarkerState) → IsHeld w room → w ≡ v → k ≡ (if b then record (marker_of w room) { log = take (length w.log - 1) w.log } else marker_of w room)
     → s ≡ record { regions = with_word at slot word w.regions; pool = w.pool } → IsLegal (record v { regions = with_word at slot word v.regions; log = if b then without_last v.log else v.log })
-    → IsHeld (record (with_pool s w) { log = log }) room
-unstored_held w v slot word room at b s log h e f g l =
-    subst (λ (t : RegionPool). IsHeld (record (with_pool t w) { log = log }) room) (sym g)
-    (subst (λ (xs : List ℕ). IsHeld (record w { regions = with_word at slot word w.regions; log = xs }) room) (sym f)
+    → IsHeld (with_marker k (with_pool s w)) k.room
+unstored_held w v slot word room at b s k h e f g l =
+    subst (λ n. IsHeld (with_marker k (with_pool s w)) n) (sym (ap (λ (j : MarkerState). j.room) f ∙ go b))
+    (subst (λ (u : HeapState). IsHeld u room) (sym (unstored w slot word room at b s k f g))
     (held_by (record w { regions = with_word at slot word w.regions; log = if b then without_last w.log else w.log }) w room h
     (subst (λ (u : HeapState). IsLegal (record u { regions = with_word at slot word u.regions; log = if b then without_last u.log else u.log })) (sym e) l)
     (length_written w.regions at slot word)))
+  where
+    go : (c : Bool) → (if c then record (marker_of w room) { log = take (length w.log - 1) w.log } else marker_of w room).room ≡ room
+    go true = refl
+    go false = refl

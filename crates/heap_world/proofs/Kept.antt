@@ -18,9 +18,10 @@ use Rattle.heap_region.proofs.Updated.{length_updated}
 use Rattle.heap_region.proofs.Lookups.{used_there, object_found}
 use Rattle.heap_region.proofs.References.{length_set}
 use Rattle.heap_mark.specs.Marking.{is_marking}
-use Rattle.heap_world.specs.State.{HeapState, pool_of, with_pool, register, with_register}
+use Rattle.heap_world.specs.State.{HeapState, pool_of, with_pool, register_index, register, with_register}
 use Rattle.heap_world.specs.Legal.{IsLegal, HasKind}
-use Rattle.heap_world.specs.Held.{cells_each, IsHeld}
+use Rattle.heap_mark.specs.Marker.{cells_each}
+use Rattle.heap_world.specs.Held.{IsHeld}
 use Rattle.heap_world.specs.Events.{after_class, after_new, new_object, is_full, put_refusal, after_put, with_slot}
 use Rattle.heap_world.proofs.Clauses.{clauses_of, legal_by}
 use Rattle.heap_world.proofs.Classes.{class_legal}
@@ -78,10 +79,11 @@ unfolding blank_object new_object
 blank_new kind n w = refl
 
 -- the parts of a heap after a new object
-pub made : (m r n x : ℕ) (kind : ObjKind) (mark : Bool) (w : HeapState) (at : ObjRef) (fresh : Bool) (s : RegionPool) → mark ≡ is_marking w.phase → new_place n (pool_of w) ≡ Some (at, fresh)
-    → s ≡ allocated at fresh (blank_object kind n mark) (pool_of w) → x ≡ id_of s.regions at → with_register m r x (with_pool s w) ≡ after_new m r kind n w
-made m r n x kind mark w at fresh s marked place e id =
-    ap (λ y. with_register m r y (with_pool s w)) id
+pub made : (m r n x : ℕ) (kind : ObjKind) (mark : Bool) (w : HeapState) (at : ObjRef) (fresh : Bool) (s : RegionPool) (rs : List ℕ) → mark ≡ is_marking w.phase → new_place n (pool_of w) ≡ Some (at, fresh)
+    → s ≡ allocated at fresh (blank_object kind n mark) (pool_of w) → x ≡ id_of s.regions at → rs ≡ slice_set w.registers (register_index m r) x → record (with_pool s w) { registers = rs } ≡ after_new m r kind n w
+made m r n x kind mark w at fresh s rs marked place e id g =
+    ap (λ (xs : List ℕ). record (with_pool s w) { registers = xs }) g
+    ∙ ap (λ y. with_register m r y (with_pool s w)) id
     ∙ ap (λ (t : RegionPool). with_register m r (id_of t.regions at) (with_pool t w)) (e ∙ ap (λ o. allocated at fresh o (pool_of w)) (ap (blank_object kind n) marked ∙ blank_new kind n w))
     ∙ sym (made_state m r n kind w at fresh place)
 
@@ -159,11 +161,11 @@ word_held w v slot word room at s h e f l = subst (λ (t : RegionPool). IsHeld (
     (held_by (record w { regions = with_word at slot word w.regions }) w room h
     (subst (λ (u : HeapState). IsLegal (record u { regions = with_word at slot word u.regions })) (sym e) l) (length_word at slot word w.regions))
 
-pub unmade_held : (w v : HeapState) (m r old room : ℕ) (at : ObjRef) (fresh : Bool) (s : RegionPool) → IsHeld w room → w ≡ v → s ≡ unallocated at fresh (pool_of w)
-    → IsLegal (with_register m r old (with_pool (unallocated at fresh (pool_of v)) v)) → IsHeld (with_register m r old (with_pool s w)) room
-unmade_held w v m r old room at fresh s h e f l = subst (λ (t : RegionPool). IsHeld (with_register m r old (with_pool t w)) room) (sym f)
+pub unmade_held : (w v : HeapState) (m r old room : ℕ) (at : ObjRef) (fresh : Bool) (s : RegionPool) (rs : List ℕ) → IsHeld w room → w ≡ v → s ≡ unallocated at fresh (pool_of w)
+    → IsLegal (with_register m r old (with_pool (unallocated at fresh (pool_of v)) v)) → rs ≡ slice_set w.registers (register_index m r) old → IsHeld (record (with_pool s w) { registers = rs }) room
+unmade_held w v m r old room at fresh s rs h e f l g = subst (λ (xs : List ℕ). IsHeld (record (with_pool s w) { registers = xs }) room) (sym g) (subst (λ (t : RegionPool). IsHeld (with_register m r old (with_pool t w)) room) (sym f)
     (held_by (with_register m r old (with_pool (unallocated at fresh (pool_of w)) w)) w room h
-    (subst (λ (u : HeapState). IsLegal (with_register m r old (with_pool (unallocated at fresh (pool_of u)) u))) (sym e) l) (length_unallocated at fresh (pool_of w)))
+    (subst (λ (u : HeapState). IsLegal (with_register m r old (with_pool (unallocated at fresh (pool_of u)) u))) (sym e) l) (length_unallocated at fresh (pool_of w))))
 
 -- ---- by the fields
 
@@ -174,14 +176,14 @@ instance_held w room name sup fields cs result h a d e = class_held w room (inst
     no_array : false ≡ true → (sup ≡ None) × (fields ≡ [])
     no_array b = cc
 
-pub made_held : (w v : HeapState) (m r n x room : ℕ) (kind : ObjKind) (mark : Bool) (at : ObjRef) (fresh : Bool) (s : RegionPool) → IsHeld w room → w ≡ v → HasKind v.classes kind n → mark ≡ is_marking w.phase → new_place n (pool_of w) ≡ Some (at, fresh)
-    → s ≡ allocated at fresh (blank_object kind n mark) (pool_of w) → x ≡ id_of s.regions at → IsHeld (with_register m r x (with_pool s w)) room
-made_held w v m r n x room kind mark at fresh s h e k marked place f id = subst (λ (u : HeapState). IsHeld u room) (sym (made m r n x kind mark w at fresh s marked place f id))
+pub made_held : (w v : HeapState) (m r n x room : ℕ) (kind : ObjKind) (mark : Bool) (at : ObjRef) (fresh : Bool) (s : RegionPool) (rs : List ℕ) → IsHeld w room → w ≡ v → HasKind v.classes kind n → mark ≡ is_marking w.phase → new_place n (pool_of w) ≡ Some (at, fresh)
+    → s ≡ allocated at fresh (blank_object kind n mark) (pool_of w) → x ≡ id_of s.regions at → rs ≡ slice_set w.registers (register_index m r) x → IsHeld (record (with_pool s w) { registers = rs }) room
+made_held w v m r n x room kind mark at fresh s rs h e k marked place f id g = subst (λ (u : HeapState). IsHeld u room) (sym (made m r n x kind mark w at fresh s rs marked place f id g))
     (new_held m r n room kind w at fresh h (subst (λ (u : HeapState). HasKind u.classes kind n) (sym e) k) place)
 
-pub made_by : (w v : HeapState) (m r n x : ℕ) (kind : ObjKind) (mark : Bool) (at : ObjRef) (fresh : Bool) (s : RegionPool) → w ≡ v → mark ≡ is_marking w.phase → new_place n (pool_of w) ≡ Some (at, fresh)
-    → s ≡ allocated at fresh (blank_object kind n mark) (pool_of w) → x ≡ id_of s.regions at → with_register m r x (with_pool s w) ≡ after_new m r kind n v
-made_by w v m r n x kind mark at fresh s e marked place f id = made m r n x kind mark w at fresh s marked place f id ∙ ap (after_new m r kind n) e
+pub made_by : (w v : HeapState) (m r n x : ℕ) (kind : ObjKind) (mark : Bool) (at : ObjRef) (fresh : Bool) (s : RegionPool) (rs : List ℕ) → w ≡ v → mark ≡ is_marking w.phase → new_place n (pool_of w) ≡ Some (at, fresh)
+    → s ≡ allocated at fresh (blank_object kind n mark) (pool_of w) → x ≡ id_of s.regions at → rs ≡ slice_set w.registers (register_index m r) x → record (with_pool s w) { registers = rs } ≡ after_new m r kind n v
+made_by w v m r n x kind mark at fresh s rs e marked place f id g = made m r n x kind mark w at fresh s rs marked place f id g ∙ ap (after_new m r kind n) e
 
 pub room_by : (w v : HeapState) (n : ℕ) (at : ObjRef) (fresh : Bool) → w ≡ v → new_place n (pool_of w) ≡ Some (at, fresh) → is_full n v ≡ false
 room_by w v n at fresh e place = ap (is_full n) (sym e) ∙ has_room n w at fresh place

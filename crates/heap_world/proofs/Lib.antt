@@ -16,4 +16,13 @@ pub mod Kept
 pub mod Slot
 pub mod NewArrays
 pub mod NamedSlots
+pub mod Held
 pub mod Barrier
+pub mod Marks
+pub mod Steps
+pub mod Finish
+pub mod Sweep
+pub mod Found
+pub mod Shapes
+pub mod Phases
+pub mod SweepSteps

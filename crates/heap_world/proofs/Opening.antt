@@ -6,7 +6,7 @@ use Rattle.heap_class.specs.declared.ObjRef.{ObjRef}
 use Rattle.heap_region.specs.Regions.{Object, UsedRegion, Empty, used_part, used_at, object_at}
 use Rattle.heap_class.specs.Classes.{Class}
 use Rattle.heap_region.specs.Pool.{RegionPool, opening_pool}
-use Rattle.heap_mark.specs.declared.Phase.TheVariants.{Idle}
+use Rattle.heap_mark.specs.Marker.{MarkerState, idle_marker}
 use Rattle.heap_world.specs.State.{HeapState, opening_state}
 use Rattle.heap_world.specs.Limits.{AreSettings}
 use Rattle.heap_world.specs.Held.{held, IsHeld}
@@ -104,10 +104,10 @@ begins_legal n m n1 n_few m1 m_few = record {
 }
 
 -- the fields of a heap as it begins
-pub opens : (n m k : ℕ) (classes : List Class) (pool : RegionPool) (registers gray log : List ℕ) → classes ≡ [] → pool ≡ opening_pool n → registers ≡ replicate k 0 → k ≡ 8 * m → gray ≡ [] → log ≡ []
-    → held classes pool registers gray log 0 Idle ≡ opening_state n m
+pub opens : (n m k room : ℕ) (classes : List Class) (pool : RegionPool) (registers : List ℕ) (marker : MarkerState) → classes ≡ [] → pool ≡ opening_pool n → registers ≡ replicate k 0 → k ≡ 8 * m → marker ≡ idle_marker room
+    → held classes pool registers marker ≡ opening_state n m
 unfolding opening_state opening_pool
-opens n m k classes pool registers gray log a b c d e f = λ i. held (a i) (b i) ((c ∙ ap (λ j. replicate j 0) d) i) (e i) (f i) 0 Idle
+opens n m k room classes pool registers marker a b c d e = λ i. held (a i) (b i) ((c ∙ ap (λ j. replicate j 0) d) i) (e i)
 
 pub opens_held : (n m keep room : ℕ) (w : HeapState) → w ≡ opening_state n m → AreSettings n m keep → room ≡ 256 * n → IsHeld w room
 unfolding opening_state

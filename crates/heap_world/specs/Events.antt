@@ -13,6 +13,7 @@ use Rattle.heap_class.specs.Classes.{Class, is_instance_class, is_array_class, s
 use Rattle.heap_region.specs.Regions.{Object, with_word, id_of}
 use Rattle.heap_region.specs.Pool.{new_place, allocated}
 use Rattle.heap_mark.specs.Marking.{is_marking, logged, snapped, marked, drained_once, finished}
+use Rattle.heap_sweep.specs.Sweep.{swept}
 use Rattle.heap_world.specs.State.{HeapState, pool_of, with_pool, marking_of, with_marking, is_register, register, with_register, place_of, slot_kind, word_of}
 
 -- a class is defined
@@ -135,3 +136,6 @@ after_drain w = with_marking (drained_once (marking_of w)) w
 
 unfoldable pub after_finish : HeapState → HeapState
 after_finish w = with_marking (finished (marking_of w)) w
+
+unfoldable pub after_sweep : ℕ → HeapState → HeapState
+after_sweep region w = with_pool (swept region (pool_of w)) w

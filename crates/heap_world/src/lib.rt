@@ -1,7 +1,7 @@
 //! The whole state of the heap, its rule, and what each event does to it.
 #![tactic(auto)]
 
-ghost use Rattle.std.specs.Prelude.{◌≡◌, ◌≢◌, ◌⊎◌, ◌+◌, ◌-◌, ◌*◌, ◌<◌, ◌≤◌, ◌↔◌, ◌&&◌, nat_lt, [], length, reverse, take, replicate, Some, None, true, false, IsTrue, Contains, IsSome, IfSome, IfOk, IfErr, OnOk, OnErr, MatchOption, slice_index, slice_get, vec_capacity};
+ghost use Rattle.std.specs.Prelude.{◌≡◌, ◌≢◌, ◌⊎◌, ◌+◌, ◌-◌, ◌*◌, ◌<◌, ◌≤◌, ◌↔◌, ◌&&◌, nat_lt, length, reverse, take, replicate, Some, None, true, false, IsTrue, Contains, IsSome, IfSome, IfOk, IfErr, OnOk, OnErr, MatchOption, slice_index, slice_get, slice_set};
 ghost use Rattle.heap_class.specs.Classes.{class_refusal, instance_class, is_instance_class, slots_of};
 ghost use Rattle.heap_class.specs.Refusals.{IsAnswered};
 ghost use Rattle.heap_class.specs.declared.ObjKind.TheVariants.{Instance};
@@ -14,12 +14,14 @@ ghost use Rattle.heap_world.specs.Legal.{IsLegal, HasKind};
 ghost use Rattle.heap_world.specs.Events.{after_class, is_full, new_refusal, after_new, put_refusal, after_put};
 
 mod arrays;
+mod marking;
 mod references;
+mod sweeping;
 #[cfg(test)]
 mod tests;
 
 use heap_class::{ClassNo, Classes, Fields, Kind, Name, ObjKind, ObjRef, Refusal};
-use heap_mark::Phase;
+use heap_mark::{Marker, Phase};
 use heap_region::Regions;
 use std::alloc::Global;
 use std::marker::Model;
@@ -150,24 +152,20 @@ fn nulls(alloc: Global, count: usize) -> Result<Vec<u64>, Refusal>
     }
 }
 
-// An empty stack with room for so many ids.
-fn with_room(alloc: Global, ids: usize) -> Result<Vec<u64>, Refusal>
-    ensures empty { IfOk result (λ v. v.items ≡ []) }
-    ensures room { IfOk result (λ v. vec_capacity v ≡ ids) }
-    ensures refused { IfErr result (λ e. e ≡ NoMemory) }
-{
-    match Vec::with_capacity(alloc, ids) {
-        Ok(stack) => Ok(stack),
-        Err(_) => Err(Refusal::NoMemory),
-    }
-}
-
 // Whether mutator m has a register r.
 fn is_register(registers: &[u64], m: u64, r: u64) -> bool
     requires { length registers.now ≤ 128 }
     ensures { result ≡ (nat_lt r 8 && nat_lt (8 * m + r) (length registers.now)) }
 {
     r < REGISTERS_EACH && m < MUTATOR_LIMIT && REGISTERS_EACH * m + r < registers.len() as u64
+}
+
+// Writes a word to register r of mutator m.
+fn write_register(registers: &mut Vec<u64>, m: u64, r: u64, word: u64)
+    requires { IsTrue (nat_lt r 8 && nat_lt (8 * m + r) (length registers.old.items)) }
+    ensures { registers.new.items ≡ slice_set registers.old.items (8 * m + r) word }
+{
+    registers[(REGISTERS_EACH * m + r) as usize] = word;
 }
 
 // The kind of a slot among these; none where there is no such slot.
@@ -190,23 +188,19 @@ pub struct World {
     classes: Classes,
     regions: Regions,
     registers: Vec<u64>,
-    // The gray stack, its top last; it has room for the ids of all objects.
-    gray: Vec<u64>,
-    log: Vec<u64>,
-    drained: u64,
-    phase: Phase,
+    // Its stack has room for the ids of all objects.
+    marker: Marker,
 }
 
 impl Model for World {
-    ghost use Rattle.std.specs.Prelude.{vec_capacity};
     ghost use Rattle.heap_world.specs.State.{HeapState};
     ghost use Rattle.heap_world.specs.Held.{held, IsHeld};
 
     ghost Value = { HeapState };
 
-    ghost view = { λ w. held w.classes w.regions w.registers.items w.gray.items w.log.items w.drained w.phase };
+    ghost view = { λ w. held w.classes w.regions w.registers.items w.marker };
 
-    ghost invariant = { λ w. IsHeld (held w.classes w.regions w.registers.items w.gray.items w.log.items w.drained w.phase) (vec_capacity w.gray) };
+    ghost invariant = { λ w. IsHeld (held w.classes w.regions w.registers.items w.marker) w.marker.room };
 }
 
 impl World {
@@ -219,15 +213,12 @@ impl World {
         let mutators = config.mutators();
         let regions = Regions::new(alloc, count)?;
         let registers = nulls(alloc, (REGISTERS_EACH * mutators) as usize)?;
-        let gray = with_room(alloc, (CELLS_EACH * count) as usize)?;
+        let marker = Marker::new(alloc, CELLS_EACH * count)?;
         Ok(World {
             classes: Classes::new(alloc),
             regions,
             registers,
-            gray,
-            log: Vec::new(alloc),
-            drained: 0,
-            phase: Phase::Idle,
+            marker,
         })
     }
 
@@ -236,7 +227,7 @@ impl World {
         ensures value { result ≡ self.now.phase }
         ensures legal { IsLegal self.now }
     {
-        self.phase
+        self.marker.phase()
     }
 
     /// The classes.
@@ -281,14 +272,14 @@ impl World {
     pub fn gray(&self) -> &[u64]
         ensures { reverse result.now ≡ self.now.gray }
     {
-        &self.gray
+        self.marker.gray()
     }
 
     /// The ids that the barrier logged, the oldest first.
     pub fn log(&self) -> &[u64]
         ensures { result.now ≡ self.now.log }
     {
-        &self.log
+        self.marker.log()
     }
 
     /// How many entries of the log were drained.
@@ -296,7 +287,7 @@ impl World {
         ensures value { result ≡ self.now.drained }
         ensures limit { result ≤ length self.now.log }
     {
-        self.drained
+        self.marker.drained()
     }
 
     /// Defines an instance class, and answers its number. Refused NoClass, ClassLimit, BadName, DuplicateName,
@@ -346,7 +337,7 @@ impl World {
         ensures { self.new ≡ with_register m r old (with_pool (unallocated at fresh (pool_of self.old)) self.old) }
     {
         self.regions.unalloc(at, fresh);
-        self.registers[(REGISTERS_EACH * m + r) as usize] = old;
+        write_register(&mut self.registers, m, r, old);
     }
 
     /// Writes a value slot of the object that register `target` of mutator `m` names. Refused BadRegister, NullRegister,
@@ -411,11 +402,11 @@ impl World {
         ensures held { IfOk result (λ c. (c.id ≡ register self.new m r) × (c.old ≡ register self.old m r)) }
         ensures unchanged { OnErr result (self.new ≡ self.old) }
     {
-        let (at, fresh) = self.regions.alloc(kind, len, self.phase.is_marking())?;
+        let mark = self.marker.phase().is_marking();
+        let old = self.register(m, r);
+        let (at, fresh) = self.regions.alloc(kind, len, mark)?;
         let id = self.regions.id(at);
-        let index = (REGISTERS_EACH * m + r) as usize;
-        let old = self.registers[index];
-        self.registers[index] = id;
+        write_register(&mut self.registers, m, r, id);
         Ok(Created { id, at, fresh, old })
     }
 

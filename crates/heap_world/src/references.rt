@@ -1,40 +1,13 @@
 //! Slots of references, and registers.
-ghost use Rattle.std.specs.Prelude.{◌≡◌, ◌<◌, ◌++◌, ◌∷◌, [], ◌==◌, ◌&&◌, not, length, Some, None, true, false, IsTrue, IsSome, IfSome, IfOk, IfErr, OnOk, OnErr, if◌then◌else◌};
+ghost use Rattle.std.specs.Prelude.{◌≡◌, ◌<◌, length, Some, None, false, IsTrue, IsSome, IfSome, IfOk, IfErr, OnOk, OnErr, if◌then◌else◌};
 ghost use Rattle.heap_class.specs.Refusals.{IsAnswered};
-ghost use Rattle.heap_class.specs.declared.Refusal.TheVariants.{NoMemory};
-ghost use Rattle.heap_mark.specs.Marking.{is_marking};
 ghost use Rattle.heap_region.specs.Regions.{object_at, ref_of, with_word};
 ghost use Rattle.heap_world.specs.State.{is_register, register, with_register, place_of, word_of};
 ghost use Rattle.heap_world.specs.Legal.{IsLegal};
 ghost use Rattle.heap_world.specs.Events.{is_reference_slot, load_refusal, after_load, is_logged, without_last, store_refusal, after_store, move_refusal, after_move, clear_refusal};
 
-use super::{Loaded, REGISTERS_EACH, Replaced, World};
+use super::{Loaded, Replaced, World, write_register};
 use heap_class::{ObjRef, Refusal};
-use heap_mark::Phase;
-
-// Puts a word that is written over at the end of the log where a cycle runs and it isn't null, and says whether it did.
-fn log_word(log: &mut Vec<u64>, phase: Phase, word: u64) -> Result<bool, Refusal>
-    ensures logged { IfOk result (λ b. b ≡ (is_marking phase && not (word == 0))) }
-    ensures log { IfOk result (λ b. log.new.items ≡ (if b then log.old.items ++ word ∷ [] else log.old.items)) }
-    ensures refused { IfErr result (λ e. (e ≡ NoMemory) × ((is_marking phase && not (word == 0)) ≡ true)) }
-    ensures unchanged { OnErr result (log.new.items ≡ log.old.items) }
-{
-    let logged = phase.is_marking() && word != 0;
-    if logged {
-        log.push(word)?;
-    }
-    Ok(logged)
-}
-
-// Takes the last entry off the log where one was put there.
-#[tactic(auto, unfolding(crate::specs::Events::without_last))]
-fn unlog_word(log: &mut Vec<u64>, logged: bool)
-    ensures { log.new.items ≡ (if logged then without_last log.old.items else log.old.items) }
-{
-    if logged {
-        log.pop();
-    }
-}
 
 impl World {
     /// Reads a slot of the object that register `from` of mutator `m` names; a reference goes to register `to`. Refused
@@ -86,7 +59,7 @@ impl World {
         let at = self.store_place(m, target, slot, source)?;
         let old = self.regions.word(at, slot);
         let word = self.register(m, source);
-        let logged = log_word(&mut self.log, self.phase, old)?;
+        let logged = self.marker.log_old(old)?;
         self.regions.set_word(at, slot, word);
         Ok(Replaced { at, old, logged })
     }
@@ -99,7 +72,7 @@ impl World {
         requires legal { IsLegal (record self.old { regions = with_word at slot old self.old.regions; log = if logged then without_last self.old.log else self.old.log }) }
         ensures { self.new ≡ record self.old { regions = with_word at slot old self.old.regions; log = if logged then without_last self.old.log else self.old.log } }
     {
-        unlog_word(&mut self.log, logged);
+        self.marker.unlog_old(logged);
         self.regions.set_word(at, slot, old)
     }
 
@@ -152,7 +125,7 @@ impl World {
         requires legal { IsLegal self.old → IsLegal (with_register m r word self.old) }
         ensures { self.new ≡ with_register m r word self.old }
     {
-        self.registers[(REGISTERS_EACH * m + r) as usize] = word;
+        write_register(&mut self.registers, m, r, word);
     }
 
     // Where the object stands whose slot may be given what the source holds.

@@ -1,9 +1,14 @@
 //! Public calls, each where it succeeds, and the refusals of a full heap.
 use super::*;
 use heap_class::Field;
+use heap_mark::Marked;
 use std::test::Fail;
 
 const FIRST: u64 = 0x1000_0000;
+
+const SECOND: u64 = 0x1000_0020;
+
+const SECOND_PLACE: ObjRef = ObjRef { region: 0, cell: 1 };
 
 fn opened(alloc: Global) -> Result<World, Fail> {
     let config = Config::new(1, 1, 1).ok_or("settings")?;
@@ -22,6 +27,21 @@ fn define_node(alloc: Global, world: &mut World) -> Result<ClassNo, Fail> {
     own.push(field(alloc, b"v", Kind::Long)?)?;
     let name = Name::new(alloc, b"Node")?;
     Ok(world.define_class(&name, None, &Fields::from_vec(own))?)
+}
+
+// A node in register 0, and one that its next alone names.
+fn two_nodes(alloc: Global) -> Result<World, Fail> {
+    let mut world = opened(alloc)?;
+    define_node(alloc, &mut world)?;
+    world.new_instance(0, 0, 0)?;
+    world.new_instance(0, 1, 0)?;
+    world.store(0, 0, 0, 1)?;
+    world.clear_register(0, 1)?;
+    Ok(world)
+}
+
+fn is_marked(world: &World, at: ObjRef) -> bool {
+    world.regions().has_object(at) && world.regions().bits(at).1
 }
 
 fn define_array(alloc: Global, world: &mut World) -> Result<ClassNo, Fail> {
@@ -155,5 +175,55 @@ fn a_clearing_is_taken_back(rt: HostRuntime) -> Result<(), Fail> {
     assert!(rt; world.has_register(0, 0));
     world.unregister(0, 0, old);
     assert_eq!(rt; world.registers(), [FIRST, 0, 0, 0, 0, 0, 0, 0].as_slice());
+    Ok(())
+}
+
+#[test]
+fn a_marking_is_taken_back(rt: HostRuntime) -> Result<(), Fail> {
+    let mut world = two_nodes(rt.alloc())?;
+    assert_eq!(rt; world.phase(), Phase::Idle);
+    assert_eq!(rt; world.snap()?, 1);
+    assert_eq!(rt; world.phase(), Phase::Marking);
+    let marked = world.mark()?;
+    assert_eq!(rt;
+        marked,
+        Marked {
+            parent: FIRST,
+            pushed: 1,
+        }
+    );
+    assert_eq!(rt; world.gray(), [SECOND].as_slice());
+    world.unmark(marked.parent, marked.pushed);
+    assert!(rt; !is_marked(&world, SECOND_PLACE));
+    world.unsnap();
+    assert!(rt; world.gray().is_empty());
+    Ok(())
+}
+
+#[test]
+fn an_overwritten_reference_is_drained(rt: HostRuntime) -> Result<(), Fail> {
+    let mut world = two_nodes(rt.alloc())?;
+    world.snap()?;
+    assert!(rt; world.store(0, 0, 0, 2)?.logged);
+    assert_eq!(rt; world.phase(), Phase::Marking);
+    let pushed = world.drain()?;
+    assert!(rt; is_marked(&world, SECOND_PLACE));
+    assert_eq!(rt; world.log(), [SECOND].as_slice());
+    assert_eq!(rt; world.drained(), 1);
+    world.undrain(pushed);
+    assert_eq!(rt; world.drained(), 0);
+    Ok(())
+}
+
+#[test]
+fn a_region_without_live_objects_is_reclaimed(rt: HostRuntime) -> Result<(), Fail> {
+    let mut world = opened(rt.alloc())?;
+    world.new_prim(0, 0, Kind::Int, 1)?;
+    world.clear_register(0, 0)?;
+    assert_eq!(rt; world.snap()?, 0);
+    let finished = world.finish()?;
+    assert_eq!(rt; (finished.condemned, finished.log.len()), (1, 0));
+    let reclaimed = world.sweep(0)?;
+    assert_eq!(rt; (reclaimed.dead(), reclaimed.emptied()), (1, true));
     Ok(())
 }

@@ -1,4 +1,5 @@
 pub mod Lists
+pub mod Found
 pub mod Written
 pub mod Worded
 pub mod Sizes

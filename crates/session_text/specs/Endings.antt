@@ -1,11 +1,12 @@
 -- What an ending says of the reader and the writer.
-use Rattle.std.specs.Prelude.{◌≡◌, ◌+◌, ◌⊎◌, Bool, true, false}
+use Rattle.std.specs.Prelude.{◌≡◌, ℕ, ◌+◌, ◌⊎◌, Bool, true, false, List}
 use Rattle.dump_pump.specs.Outlets.{Outgoing}
 use Rattle.session_text.specs.declared.Ended.{Ended}
 use Rattle.session_text.specs.declared.Ended.TheVariants.{Quit, Eof, CutLine, TooLong, ReadFault, TooManyReads, WriteFault, NoMemory}
 use Rattle.session_text.specs.declared.answer.Step.{Step}
 use Rattle.session_text.specs.declared.answer.Step.TheVariants.{Next, Fault}
 use Rattle.session_text.specs.Inlets.{Incoming, NothingLeft}
+use Rattle.session_text.specs.Writes.{IsWritten}
 
 abbrev pub step_of : Bool → Step
 step_of true = Next
@@ -14,6 +15,10 @@ step_of false = Fault
 abbrev pub ended_of : Ended → Bool → Ended
 ended_of ended true = ended
 ended_of ended false = WriteFault
+
+-- an ending's line was written, or the session ended by that write
+abbrev pub EndsWith : List ℕ → Outgoing → Outgoing → Ended → Ended → Type 0
+EndsWith line w w' ended result = (written : Bool) × IsWritten line w w' written × (result ≡ ended_of ended written)
 
 -- the reader before and after, where no write failed
 abbrev pub ReaderEnds : Incoming → Incoming → Ended → Type 0

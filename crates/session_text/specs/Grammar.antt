@@ -7,7 +7,8 @@ use Rattle.heap_class.specs.declared.Kind.{Kind}
 use Rattle.heap_class.specs.declared.Kind.TheVariants.{Boolean, Char, Float, Double, Byte, Short, Int, Long}
 use Rattle.heap_class.specs.declared.Field.{Field}
 use Rattle.heap_class.specs.Kinds.{kind_word}
-use Rattle.heap_step.specs.declared.Event.TheVariants.{Class, ArrayClass, New, NewArray, NewPrim, Load, Store, Put, Move, Clear}
+use Rattle.heap_step.specs.declared.Event.{Event}
+use Rattle.heap_step.specs.declared.Event.TheVariants.{Class, ArrayClass, New, NewArray, NewPrim, Load, Store, Put, Move, Clear, Snap, Mark, Drain, Finish, Sweep}
 use Rattle.heap_trail.specs.declared.Action.TheVariants.{Step, Rewind}
 use Rattle.session_text.specs.declared.command.Command.{Command}
 use Rattle.session_text.specs.declared.command.Command.TheVariants.{Blank, Bad, Ask, Dump, End}
@@ -125,6 +126,14 @@ move_line ws = option_map (λ n. Ask (Step (Move n.0 n.1 n.2 n.3))) (four_number
 abbrev pub clear_line : List (List ℕ) → Option Command
 clear_line ws = option_map (λ n. Ask (Step (Clear n.0 n.1))) (two_numbers ws)
 
+-- a step that takes no words
+abbrev pub step_line : Event → List (List ℕ) → Option Command
+step_line e ws = at_end (Ask (Step e)) ws
+
+-- `sweep REGION`
+abbrev pub sweep_line : List (List ℕ) → Option Command
+sweep_line ws = option_map (λ region. Ask (Step (Sweep region))) (one_number ws)
+
 -- `rewind N`
 abbrev pub rewind_line : List (List ℕ) → Option Command
 rewind_line ws = option_map (λ n. Ask (Rewind n)) (one_number ws)
@@ -158,6 +167,16 @@ access_line w ws =
     else if bytes_eq w (codes "clear") then clear_line ws
     else None
 
+-- those that mark or sweep
+unfoldable pub marking_line : List ℕ → List (List ℕ) → Option Command
+marking_line w ws =
+    if bytes_eq w (codes "snap") then step_line Snap ws
+    else if bytes_eq w (codes "mark") then step_line Mark ws
+    else if bytes_eq w (codes "drain") then step_line Drain ws
+    else if bytes_eq w (codes "finish") then step_line Finish ws
+    else if bytes_eq w (codes "sweep") then sweep_line ws
+    else None
+
 -- those that ask the machine or the session for something
 unfoldable pub session_line : List ℕ → List (List ℕ) → Option Command
 session_line w ws =
@@ -173,7 +192,7 @@ or_else (Some c) other = Some c
 
 -- a line that takes no memory for its reading
 abbrev pub plain_line : List ℕ → List (List ℕ) → Option Command
-plain_line w ws = or_else (making_line w ws) (or_else (access_line w ws) (session_line w ws))
+plain_line w ws = or_else (making_line w ws) (or_else (access_line w ws) (or_else (marking_line w ws) (session_line w ws)))
 
 unfoldable pub line_after : List ℕ → List (List ℕ) → Option Command
 line_after w ws =

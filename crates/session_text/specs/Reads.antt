@@ -2,7 +2,7 @@
 use Rattle.std.specs.Prelude.{◌≡◌, ℕ, List, Option, Some, None}
 use Rattle.heap_class.specs.declared.Kind.{Kind}
 use Rattle.heap_step.specs.declared.Event.{Event}
-use Rattle.heap_step.specs.declared.Event.TheVariants.{Class, ArrayClass, New, NewArray, NewPrim, Load, Store, Put, Move, Clear}
+use Rattle.heap_step.specs.declared.Event.TheVariants.{Class, ArrayClass, New, NewArray, NewPrim, Load, Store, Put, Move, Clear, Snap, Mark, Drain, Finish, Sweep}
 use Rattle.heap_trail.specs.declared.Action.{Action}
 use Rattle.heap_trail.specs.declared.Action.TheVariants.{Step, Rewind}
 use Rattle.session_text.specs.Grammar.{next_number, next_kind}
@@ -21,6 +21,11 @@ DefinesClass (Store m target slot source) = ⊥
 DefinesClass (Put m target slot value) = ⊥
 DefinesClass (Move m to from_m from) = ⊥
 DefinesClass (Clear m r) = ⊥
+DefinesClass Snap = ⊥
+DefinesClass Mark = ⊥
+DefinesClass Drain = ⊥
+DefinesClass Finish = ⊥
+DefinesClass (Sweep region) = ⊥
 
 abbrev pub ActionTakesMemory : Action → Type 0
 ActionTakesMemory (Step e) = DefinesClass e

@@ -1,5 +1,5 @@
 -- The lines that a session answers.
-use Rattle.std.specs.Prelude.{ℕ, zero, suc, List, [], ◌∷◌, ◌++◌, length, take, drop, flat_map, codes, decimal}
+use Rattle.std.specs.Prelude.{ℕ, zero, suc, List, [], ◌∷◌, ◌++◌, length, take, drop, flat_map, codes, decimal, if◌then◌else◌}
 use Rattle.byteorder.specs.Endian.{big_bytes}
 use Rattle.hex.specs.Hex.{encode_lower}
 use Rattle.heap_class.specs.declared.LostCause.{LostCause}
@@ -8,7 +8,7 @@ use Rattle.heap_class.specs.declared.Refusal.{Refusal}
 use Rattle.heap_class.specs.declared.Refusal.TheVariants.{NotDone, SweepPending, NothingToSweep, TooFar, Lost}
 use Rattle.heap_class.specs.Table.{refusal_number, refusal_name}
 use Rattle.heap_step.specs.declared.Answer.{Answer}
-use Rattle.heap_step.specs.declared.Answer.TheVariants.{Class, Object, Null, Value, Done}
+use Rattle.heap_step.specs.declared.Answer.TheVariants.{Class, Object, Null, Value, Done, Pushed, Condemned, Swept}
 use Rattle.heap_trail.specs.declared.Reply.{Reply}
 use Rattle.heap_trail.specs.declared.Reply.TheVariants.{Answered, Place, Refused}
 
@@ -22,6 +22,9 @@ answer_text (Object x) = codes "ok object 0x" ++ encode_lower (big_bytes 4 x)
 answer_text Null = codes "ok null"
 answer_text (Value v) = codes "ok value" ++ and_number v
 answer_text Done = codes "ok"
+answer_text (Pushed n) = codes "ok pushed" ++ and_number n
+answer_text (Condemned n) = codes "ok condemned" ++ and_number n
+answer_text (Swept dead emptied) = (codes "ok swept" ++ and_number dead) ++ (if emptied then codes " empty" else [])
 
 abbrev pub cause_text : LostCause → List ℕ
 cause_text Rewound = codes "Rewound"

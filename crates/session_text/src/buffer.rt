@@ -5,6 +5,7 @@ ghost use Rattle.session_text.specs.Lines.{NoLf, IsLineAt};
 
 use crate::LINE_LIMIT;
 use crate::inlet::{Inlet, Take};
+use memchr::memchr;
 use std::alloc::{AllocError, Global};
 use std::marker::Model;
 
@@ -134,10 +135,8 @@ fn find_lf(bytes: &[u8], from: usize) -> Option<usize>
     requires { (from ≤ length bytes.now) × NoLf (take from bytes.now) }
     ensures { MatchOption result (NoLf bytes.now) (λ n. IsLineAt n bytes.now) }
 {
-    for i in from..bytes.len() {
-        if bytes[i] == LF {
-            return Some(i);
-        }
+    match memchr(LF, &bytes[from..]) {
+        Some(behind) => Some(from + behind),
+        None => None,
     }
-    None
 }

@@ -2,7 +2,7 @@
 ghost use Rattle.std.specs.Prelude.{◌≡◌, ◌&&◌, nat_le, MatchResult};
 ghost use Rattle.std.specs.Str.{bytes_eq};
 ghost use Rattle.std.specs.List.{list_all};
-ghost use Rattle.session_text.specs.Grammar.{words_of, number_or_dash, at_end, one_number, three_numbers, two_numbers, four_numbers, class_line, array_line, new_line, newarray_line, newprim_line, load_line, store_line, put_line, move_line, clear_line, rewind_line, dump_line, end_line, making_line, access_line, session_line, plain_line, line_after, command_of_words, without_cr, command_of_text, command_of};
+ghost use Rattle.session_text.specs.Grammar.{words_of, number_or_dash, at_end, one_number, three_numbers, two_numbers, four_numbers, class_line, array_line, new_line, newarray_line, newprim_line, load_line, store_line, put_line, move_line, clear_line, step_line, sweep_line, rewind_line, dump_line, end_line, making_line, access_line, marking_line, session_line, plain_line, line_after, command_of_words, without_cr, command_of_text, command_of};
 ghost use Rattle.session_text.specs.Reads.{TakesMemory, MayTakeMemory, IsNextNumber, IsNextKind};
 
 use crate::fields::{are_fields, kind_of, read_fields};
@@ -227,6 +227,21 @@ fn clear_line(words: Words) -> Option<Command>
     Some(Command::Ask(Action::Step(Event::Clear { m, r })))
 }
 
+/// A step that takes no words.
+fn step_line(event: Event, words: Words) -> Option<Command>
+    ensures { result ≡ step_line event (words_of words.entry.rest.now) }
+{
+    at_end(Command::Ask(Action::Step(event)), words)
+}
+
+/// `sweep REGION`.
+fn sweep_line(words: Words) -> Option<Command>
+    ensures { result ≡ sweep_line (words_of words.entry.rest.now) }
+{
+    let region = one_number(words)?;
+    Some(Command::Ask(Action::Step(Event::Sweep { region })))
+}
+
 /// `rewind N`.
 fn rewind_line(words: Words) -> Option<Command>
     ensures { result ≡ rewind_line (words_of words.entry.rest.now) }
@@ -293,6 +308,29 @@ fn access_line(word: &[u8], words: Words) -> Option<Command>
     None
 }
 
+/// The command of a first word that marks or sweeps, and of the words after it.
+#[tactic(auto, unfolding(crate::specs::Grammar::marking_line))]
+fn marking_line(word: &[u8], words: Words) -> Option<Command>
+    ensures { result ≡ marking_line word.now (words_of words.entry.rest.now) }
+{
+    if is_word(word, b"snap") {
+        return step_line(Event::Snap, words);
+    }
+    if is_word(word, b"mark") {
+        return step_line(Event::Mark, words);
+    }
+    if is_word(word, b"drain") {
+        return step_line(Event::Drain, words);
+    }
+    if is_word(word, b"finish") {
+        return step_line(Event::Finish, words);
+    }
+    if is_word(word, b"sweep") {
+        return sweep_line(words);
+    }
+    None
+}
+
 /// The command of a first word that asks the machine or the session for something, and of the words after it.
 #[tactic(auto, unfolding(crate::specs::Grammar::session_line))]
 fn session_line(word: &[u8], words: Words) -> Option<Command>
@@ -318,6 +356,9 @@ fn plain_line(word: &[u8], words: Words) -> Option<Command>
         return Some(command);
     }
     if let Some(command) = access_line(word, words) {
+        return Some(command);
+    }
+    if let Some(command) = marking_line(word, words) {
         return Some(command);
     }
     session_line(word, words)

@@ -91,14 +91,15 @@ impl Write for ByteWriter {
 
 /// What came of a session.
 #[derive(Drop)]
-struct Outcome {
+struct Outcome<R> {
     ended: Ended,
     text: Vec<u8>,
     place: u64,
+    reader: R,
 }
 
 /// A session over a reader and a writer.
-fn play<R: Read + Drop>(alloc: Global, reader: R, writer: ByteWriter) -> Result<Outcome, Fail> {
+fn play<R: Read + Drop>(alloc: Global, reader: R, writer: ByteWriter) -> Result<Outcome<R>, Fail> {
     let config = Config::new(1, 1, 8).ok_or("settings out of range")?;
     let mut local = Local {
         machine: Machine::new(alloc, config)?,
@@ -110,6 +111,7 @@ fn play<R: Read + Drop>(alloc: Global, reader: R, writer: ByteWriter) -> Result<
         ended,
         text: outlet.into_writer().taken,
         place: local.machine.place(),
+        reader: inlet.into_reader(),
     })
 }
 
@@ -123,7 +125,11 @@ fn writer(alloc: Global, writes_left: usize, spent: Spent) -> ByteWriter {
 }
 
 /// A session of some bytes, read and written byte by byte, the reader failing after so many reads.
-fn read_bytes(alloc: Global, bytes: &[u8], reads_left: usize) -> Result<Outcome, Fail> {
+fn read_bytes<'a>(
+    alloc: Global,
+    bytes: &'a [u8],
+    reads_left: usize,
+) -> Result<Outcome<ByteReader<'a>>, Fail> {
     let reader = ByteReader {
         rest: bytes,
         reads_left,
@@ -132,7 +138,11 @@ fn read_bytes(alloc: Global, bytes: &[u8], reads_left: usize) -> Result<Outcome,
 }
 
 /// The example's session with a writer of so many writes.
-fn write_bytes(alloc: Global, writes_left: usize, spent: Spent) -> Result<Outcome, Fail> {
+fn write_bytes(
+    alloc: Global,
+    writes_left: usize,
+    spent: Spent,
+) -> Result<Outcome<ByteReader<'static>>, Fail> {
     let reader = ByteReader {
         rest: POINT.as_bytes(),
         reads_left: usize::MAX,
@@ -160,17 +170,30 @@ fn lines_in(text: &[u8]) -> u64 {
     text.iter().filter(|b| **b == b'\n').count() as u64
 }
 
-/// Whether a writer that takes so many bytes of the example's output takes a beginning of it, and the machine is that
-/// after the lines up to the one that was being answered.
+/// Whether a reader of the example gave so many lines of it with a read for each byte, and no read was made after them.
+fn gave_lines(reader: &ByteReader<'_>, lines: u64) -> bool {
+    match POINT.as_bytes().strip_suffix(reader.rest) {
+        Some(given) => {
+            given.ends_with(b"\n".as_slice())
+                && lines_in(given) == lines
+                && usize::MAX - reader.reads_left == given.len()
+        }
+        None => false,
+    }
+}
+
+/// Whether a writer that takes so many bytes of the example's output takes a beginning of it, the machine is that after
+/// the lines up to the one that was being answered, and nothing after that line was read.
 fn stops_after(alloc: Global, all: &[u8], count: usize, spent: Spent) -> Result<bool, Fail> {
     let stopped = write_bytes(alloc, count, spent)?;
     let text = stopped.text.as_slice();
-    let place = lines_in(text).saturating_add(1).min(3);
+    let answered = lines_in(text).min(3);
     Ok(
         stopped.ended == Ended::WriteFault
             && text.len() == count
             && all.starts_with(text)
-            && stopped.place == place,
+            && stopped.place == (answered + 1).min(3)
+            && gave_lines(&stopped.reader, answered + 1),
     )
 }
 

@@ -32,6 +32,19 @@ impl<R: Read> ReadInlet<R> {
             failed: Log::new(),
         }
     }
+
+    /// The reader.
+    pub fn into_reader(self) -> R
+        ensures { result ≡ self.reader }
+    {
+        let ReadInlet {
+            reader,
+            taken: _,
+            asked: _,
+            failed: _,
+        } = self;
+        reader
+    }
 }
 
 /// Reads once, and again where it is interrupted.

@@ -1,7 +1,7 @@
 //! The lines that a session answers.
 ghost use Rattle.std.specs.Prelude.{◌≡◌, ◌+◌, ◌≤◌, ◌++◌, [], ◌∷◌, codes, length};
 ghost use Rattle.heap_class.specs.Table.{refusal_name};
-ghost use Rattle.heap_step.specs.declared.Answer.TheVariants.{Object};
+ghost use Rattle.heap_step.specs.declared.Answer.TheVariants.{Object, Swept};
 ghost use Rattle.session_text.specs.Replies.{answer_text, cause_text, facts_text, refusal_text, reply_text};
 
 use crate::page::Page;
@@ -18,10 +18,22 @@ fn add_object(page: &mut Page, id: u64)
     page.add_hex(&id.to_be_bytes()[4..]);
 }
 
+fn add_swept(page: &mut Page, dead: u64, emptied: bool)
+    requires { length page.old ≤ 8000 }
+    ensures text { page.new ≡ page.old ++ answer_text (Swept dead emptied) }
+    ensures short { length page.new ≤ length page.old + 35 }
+{
+    page.add(b"ok swept");
+    page.add_number(dead);
+    if emptied {
+        page.add(b" empty");
+    }
+}
+
 fn add_answer(page: &mut Page, answer: Answer)
     requires { length page.old ≤ 8000 }
     ensures text { page.new ≡ page.old ++ answer_text answer }
-    ensures short { length page.new ≤ length page.old + 29 }
+    ensures short { length page.new ≤ length page.old + 35 }
 {
     match answer {
         Answer::Class(k) => {
@@ -35,6 +47,15 @@ fn add_answer(page: &mut Page, answer: Answer)
             page.add_number(value);
         }
         Answer::Done => page.add(b"ok"),
+        Answer::Pushed(count) => {
+            page.add(b"ok pushed");
+            page.add_number(count);
+        }
+        Answer::Condemned(count) => {
+            page.add(b"ok condemned");
+            page.add_number(count);
+        }
+        Answer::Swept { dead, emptied } => add_swept(page, dead, emptied),
     }
 }
 

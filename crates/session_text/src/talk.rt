@@ -1,7 +1,7 @@
 //! Sessions.
 ghost use Rattle.std.specs.Prelude.{◌≡◌, []};
 ghost use Rattle.session_text.specs.Answers.{Answers, Begins};
-ghost use Rattle.session_text.specs.Endings.{Ends, ended_of};
+ghost use Rattle.session_text.specs.Endings.{Ends, EndsWith};
 ghost use Rattle.session_text.specs.Session.{IsSession};
 ghost use Rattle.session_text.specs.Talks.{Serves};
 
@@ -15,10 +15,15 @@ use crate::{Ended, LINE_LIMIT, READ_LIMIT};
 use dump_pump::Outlet;
 use std::alloc::Global;
 
-fn unless_fault(ended: Ended, written: bool) -> Ended
-    ensures { result ≡ ended_of ended written }
+/// Puts out an ending's line.
+fn end_with<O: Outlet>(writer: &mut O, ended: Ended, line: &[u8]) -> Ended
+    ensures { EndsWith line.now (O.seen writer.old) (O.seen writer.new) ended result }
 {
-    if written { ended } else { Ended::WriteFault }
+    if write_all(writer, line) {
+        ended
+    } else {
+        Ended::WriteFault
+    }
 }
 
 fn talk<I: Inlet, O: Outlet, C: Commands>(
@@ -42,10 +47,10 @@ fn talk<I: Inlet, O: Outlet, C: Commands>(
             Step::Fault => return Ended::WriteFault,
         }
         if buffer.as_slice().len() > LINE_LIMIT {
-            return unless_fault(Ended::TooLong, write_all(writer, b"bad long\n"));
+            return end_with(writer, Ended::TooLong, b"bad long\n");
         }
         if reads == READ_LIMIT {
-            return unless_fault(Ended::TooManyReads, write_all(writer, b"bad reads\n"));
+            return end_with(writer, Ended::TooManyReads, b"bad reads\n");
         }
         reads += 1;
         match buffer.read(reader) {
@@ -54,11 +59,9 @@ fn talk<I: Inlet, O: Outlet, C: Commands>(
                 if buffer.as_slice().is_empty() {
                     return Ended::Eof;
                 }
-                return unless_fault(Ended::CutLine, write_all(writer, b"bad cut\n"));
+                return end_with(writer, Ended::CutLine, b"bad cut\n");
             }
-            Take::Failed => {
-                return unless_fault(Ended::ReadFault, write_all(writer, b"bad read\n"));
-            }
+            Take::Failed => return end_with(writer, Ended::ReadFault, b"bad read\n"),
         }
     }
 }

@@ -303,6 +303,189 @@ fn references_move(rt: HostRuntime) -> Result<(), Fail> {
     Ok(())
 }
 
+const NODES_SNAPPED: &str = "\
+class Node - next:object v:long\n\
+new 0 0 0\n\
+new 0 1 0\n\
+store 0 0 0 1\n\
+clear 0 1\n\
+snap\n\
+";
+
+const NODES_SNAPPED_REPLIES: &str = "\
+ok class 0\n\
+ok object 0x10000000\n\
+ok object 0x10000020\n\
+ok\n\
+ok\n\
+ok pushed 1\n\
+";
+
+/// Whether a session of the snapped nodes and these lines gives these replies behind theirs.
+fn are_answered_after_snap(alloc: Global, lines: &str, replies: &str) -> Result<bool, Fail> {
+    let lines = format!(in alloc; "{NODES_SNAPPED}{lines}")?;
+    let (ended, text) = session(alloc, 1024, 4096, lines.as_str())?;
+    let rest = text
+        .as_slice()
+        .strip_prefix(NODES_SNAPPED_REPLIES.as_bytes());
+    Ok(ended == Ended::Eof && rest == Some(replies.as_bytes()))
+}
+
+#[test]
+fn mark_and_drain_rewound(rt: HostRuntime) -> Result<(), Fail> {
+    let lines = "store 0 0 0 2\nmark\nmark\ndrain\nrewind 1\ndrain\nmark\nsnap\n";
+    let replies =
+        "ok\nok pushed 0\nno 16 NothingToMark\nok pushed 1\nok place 8\nok pushed 1\nok pushed 0\nno 14 AlreadyMarking\n";
+    assert!(rt; are_answered_after_snap(rt.alloc(), lines, replies)?);
+    Ok(())
+}
+
+#[test]
+fn mark_undone_pushes_back(rt: HostRuntime) -> Result<(), Fail> {
+    let lines = "mark\nrewind 1\nmark\ndrain\n";
+    let replies = "ok pushed 1\nok place 6\nok pushed 1\nno 17 NothingToDrain\n";
+    assert!(rt; are_answered_after_snap(rt.alloc(), lines, replies)?);
+    Ok(())
+}
+
+const UNREADY_FINISHES: &str = "\
+class Node - next:object v:long\n\
+new 0 0 0\n\
+new 0 1 0\n\
+newprim 0 2 long 5\n\
+store 0 0 0 1\n\
+snap\n\
+store 0 0 0 0\n\
+store 0 0 0 1\n\
+mark\n\
+mark\n\
+mark\n\
+finish\n\
+drain\n\
+drain\n\
+finish\n\
+sweep 0\n\
+snap\n\
+mark\n\
+mark\n\
+mark\n\
+finish\n\
+";
+
+const UNREADY_FINISHES_REPLIES: &str = "\
+ok class 0\n\
+ok object 0x10000000\n\
+ok object 0x10000020\n\
+ok object 0x10002000\n\
+ok\n\
+ok pushed 3\n\
+ok\n\
+ok\n\
+ok pushed 0\n\
+ok pushed 0\n\
+ok pushed 0\n\
+no 18 NotDone 0 2\n\
+ok pushed 0\n\
+ok pushed 0\n\
+ok condemned 0\n\
+ok swept 0\n\
+ok pushed 3\n\
+ok pushed 0\n\
+ok pushed 0\n\
+ok pushed 0\n\
+no 19 SweepPending 1\n\
+";
+
+#[test]
+fn finish_refused_until_ready(rt: HostRuntime) -> Result<(), Fail> {
+    let (ended, text) = session(rt.alloc(), 1024, 4096, UNREADY_FINISHES)?;
+    assert_eq!(rt; ended, Ended::Eof);
+    assert_eq!(rt; text.as_slice(), UNREADY_FINISHES_REPLIES.as_bytes());
+    Ok(())
+}
+
+const SWEPT_POINTS: &str = "\
+class Point - x:int y:int\n\
+new 0 0 0\n\
+new 0 1 0\n\
+new 0 2 0\n\
+clear 0 0\n\
+clear 0 1\n\
+snap\n\
+mark\n\
+finish\n\
+new 0 3 0\n\
+sweep 0\n\
+new 0 4 0\n\
+rewind 1\n\
+new 0 4 0\n\
+new 0 5 0\n\
+sweep 0\n\
+";
+
+const SWEPT_POINTS_REPLIES: &str = "\
+ok class 0\n\
+ok object 0x10000000\n\
+ok object 0x10000020\n\
+ok object 0x10000040\n\
+ok\n\
+ok\n\
+ok pushed 1\n\
+ok pushed 0\n\
+ok condemned 2\n\
+ok object 0x10000060\n\
+ok swept 2\n\
+ok object 0x10000020\n\
+ok place 11\n\
+ok object 0x10000020\n\
+ok object 0x10000000\n\
+no 20 NothingToSweep 0\n\
+";
+
+#[test]
+fn sweep_order_and_reuse(rt: HostRuntime) -> Result<(), Fail> {
+    let (ended, text) = session(rt.alloc(), 1024, 10, SWEPT_POINTS)?;
+    assert_eq!(rt; ended, Ended::Eof);
+    assert_eq!(rt; text.as_slice(), SWEPT_POINTS_REPLIES.as_bytes());
+    Ok(())
+}
+
+const EMPTIED_REGION: &str = "\
+class Node - next:object v:long\n\
+new 0 0 0\n\
+newprim 0 1 long 5\n\
+clear 0 0\n\
+snap\n\
+mark\n\
+finish\n\
+snap\n\
+sweep 0\n\
+newprim 0 0 long 17\n\
+rewind 3\n\
+";
+
+const EMPTIED_REGION_REPLIES: &str = "\
+ok class 0\n\
+ok object 0x10000000\n\
+ok object 0x10002000\n\
+ok\n\
+ok pushed 1\n\
+ok pushed 0\n\
+ok condemned 1\n\
+ok pushed 1\n\
+ok swept 1 empty\n\
+ok object 0x10000000\n\
+ok place 7\n\
+";
+
+#[test]
+fn sweep_and_reuse_rewound(rt: HostRuntime) -> Result<(), Fail> {
+    let (ended, text) = session_over(rt.alloc(), 2, 1024, 17, EMPTIED_REGION)?;
+    assert_eq!(rt; ended, Ended::Eof);
+    assert_eq!(rt; text.as_slice(), EMPTIED_REGION_REPLIES.as_bytes());
+    Ok(())
+}
+
 /// What a session of one line answers.
 fn answer(alloc: Global, line: &[u8]) -> Result<(Ended, Vec<u8>), Fail> {
     let config = Config::new(1, 1, 1).ok_or("settings out of range")?;

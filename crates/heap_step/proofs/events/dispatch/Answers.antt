@@ -30,3 +30,18 @@ returns-in-Move c = as_event _ _ _ _ _ c.in-Move.is c.copy.ensures
 
 pub returns-in-Clear : goal.returns-in-Clear
 returns-in-Clear c = as_event _ _ _ _ _ c.in-Clear.is c.clear.ensures
+
+pub returns-in-Snap : goal.returns-in-Snap
+returns-in-Snap c = as_event _ _ _ _ _ c.in-Snap.is c.snap.ensures
+
+pub returns-in-Mark : goal.returns-in-Mark
+returns-in-Mark c = as_event _ _ _ _ _ c.in-Mark.is c.mark.ensures
+
+pub returns-in-Drain : goal.returns-in-Drain
+returns-in-Drain c = as_event _ _ _ _ _ c.in-Drain.is c.drain.ensures
+
+pub returns-in-Finish : goal.returns-in-Finish
+returns-in-Finish c = as_event _ _ _ _ _ c.in-Finish.is c.finish.ensures
+
+pub returns-in-Sweep : goal.returns-in-Sweep
+returns-in-Sweep c = as_event _ _ _ _ _ c.in-Sweep.is c.sweep.ensures

@@ -1,4 +1,4 @@
-use Rattle.heap_step.proofs.Applied.{done_of, refused_of, legal_of}
+use Rattle.heap_step.proofs.Applied.{done_of, refused_of, legal_of, found_of}
 use Rattle.heap_step.proofs.step.apply.Goals as goal
 
 pub returns-clause-done : goal.returns-clause-done
@@ -9,3 +9,6 @@ returns-clause-refused c = refused_of _ _ _ _ c.dispatch.ensures
 
 pub returns-clause-legal : goal.returns-clause-legal
 returns-clause-legal c = legal_of _ _ _ _ c.phase-phase.ensures.legal c.dispatch.ensures
+
+pub returns-clause-found : goal.returns-clause-found
+returns-clause-found c = found_of _ _ _ _ c.phase-phase.ensures.legal c.dispatch.ensures

@@ -1,4 +1,4 @@
-use Rattle.heap_step.proofs.Steps.{put_within, store_within, store_entry, store_legal, new_legal}
+use Rattle.heap_step.proofs.Steps.{put_within, store_within, store_entry, store_legal, new_legal, snap_before, mark_legal, drain_begun, drain_legal, finish_legal, sweep_before, reclaim_inhabited, reclaim_legal}
 use Rattle.heap_step.proofs.step.undo.Goals as goal
 
 pub unput-requires-clause-within : goal.unput-requires-clause-within
@@ -15,3 +15,27 @@ unstore-requires-clause-legal c = store_legal c.requires.0 c.requires.1 _ _ c.re
 
 pub unmake-requires-clause-legal : goal.unmake-requires-clause-legal
 unmake-requires-clause-legal c = new_legal c.requires.0 c.requires.1 _ _ c.requires.2 c.in-New.at c.in-New.fresh c.in-New.m c.in-New.r c.in-New.old c.in-New.is
+
+pub unsnap-requires : goal.unsnap-requires
+unsnap-requires c = record { snapped = snap_before c.requires.0 c.requires.1 _ _ c.requires.2 c.in-Snap.is }
+
+pub unmark-requires-clause-legal : goal.unmark-requires-clause-legal
+unmark-requires-clause-legal c = mark_legal c.requires.0 c.requires.1 _ _ c.requires.2 c.in-Mark.parent c.in-Mark.pushed c.in-Mark.is
+
+pub undrain-requires-clause-drained : goal.undrain-requires-clause-drained
+undrain-requires-clause-drained c = drain_begun c.requires.0 c.requires.1 _ _ c.requires.2 c.in-Drain.pushed c.in-Drain.is
+
+pub undrain-requires-clause-legal : goal.undrain-requires-clause-legal
+undrain-requires-clause-legal c = drain_legal c.requires.0 c.requires.1 _ _ c.requires.2 c.in-Drain.pushed c.in-Drain.is
+
+pub unfinish-requires : goal.unfinish-requires
+unfinish-requires c = record { legal = finish_legal c.requires.0 c.requires.1 _ _ c.requires.2 c.in-Finish.log c.in-Finish.is }
+
+pub unsweep-requires : goal.unsweep-requires
+unsweep-requires c = record { swept = sweep_before c.requires.0 c.requires.1 _ _ c.requires.2 c.in-Sweep.region c.in-Sweep.dead c.in-Sweep.is }
+
+pub unreclaim-requires-clause-inhabited : goal.unreclaim-requires-clause-inhabited
+unreclaim-requires-clause-inhabited c = reclaim_inhabited c.requires.0 c.requires.1 _ _ c.requires.2 c.in-Reclaim.region c.in-Reclaim.storage c.in-Reclaim.is
+
+pub unreclaim-requires-clause-legal : goal.unreclaim-requires-clause-legal
+unreclaim-requires-clause-legal c = reclaim_legal c.requires.0 c.requires.1 _ _ c.requires.2 c.in-Reclaim.region c.in-Reclaim.storage c.in-Reclaim.is

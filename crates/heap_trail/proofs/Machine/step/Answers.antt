@@ -1,14 +1,17 @@
-use Rattle.std.proofs.Common.{◌≡◌, ◌⊎◌, ◌+◌, ◌<◌, inl, sym, ap, subst, ◌∙◌}
+use Rattle.std.proofs.Common.{◌≡◌, ◌⊎◌, ℕ, ◌+◌, ◌<◌, inl, sym, ap, subst, ◌∙◌}
 use Rattle.std.proofs.lemmas.Result.{err_from_is_err_and}
 use Rattle.circular_buffer.specs.Buffer.{Buffer}
 use Rattle.heap_class.specs.declared.Refusal.TheVariants.{NoMemory, ChronicleFull}
+use Rattle.heap_step.specs.declared.Event.TheVariants.{Finish, Sweep}
 use Rattle.heap_step.specs.declared.Undo.{Undo}
 use Rattle.heap_trail.specs.declared.Action.TheVariants.{Step}
 use Rattle.heap_trail.specs.declared.Reply.TheVariants.{Answered, Refused}
 use Rattle.heap_trail.specs.Limits.{last_place}
 use Rattle.heap_trail.specs.Machine.{Machine, Refusing, MayStand, acted}
+use Rattle.heap_trail.specs.Laws.{SparesReached, FindsSnapshot}
 use Rattle.heap_trail.specs.Records.{IsKept, machine_of}
 use Rattle.heap_trail.proofs.Stepping.{IsAccepted, pushed, kept_after_step, step_done, step_full, step_err}
+use Rattle.heap_trail.proofs.Reached.{sweep_leaves, finish_lives, finish_finds}
 use Rattle.heap_trail.proofs.Machine.step.Goals as goal
 
 pub returns-then-self-ge-LAST_PLACE-clause-refused : goal.returns-then-self-ge-LAST_PLACE-clause-refused
@@ -50,3 +53,16 @@ returns-clause-done c =
     step_done c.args.event.now c.self.inside.world c.apply.new.world c.in_ok-answer.left c.self.inside.records c.self.inside.place c.self.inside.keep c.in_ok-answer.answer c.self.invariant a c.if-self-ge-LAST_PLACE.false c.in_ok-answer.ensures.done in
     ap (λ (m : Machine). acted m (Step c.args.event.now)) (sym c.self.view_is) ∙ t
     ∙ ap (λ (r : Buffer Undo). (machine_of c.apply.new.world r (c.self.inside.place + 1) c.self.inside.keep, Answered c.in_ok-answer.answer)) (sym c.push_front.ensures.items)
+
+pub returns-clause-spares : goal.returns-clause-spares
+returns-clause-spares c =
+    subst (λ (m : Machine). (region : ℕ) → c.args.event.now ≡ Sweep region → SparesReached m.trail.current c.apply.new.world) c.self.view_is
+    (sweep_leaves c.self.inside.world c.apply.new.world c.args.event.now c.self.invariant.legal (c.in_ok-answer.ensures.answered, c.in_ok-answer.ensures.state))
+
+pub returns-clause-live : goal.returns-clause-live
+returns-clause-live c = finish_lives c.self.inside.world c.apply.new.world c.args.event.now c.self.invariant.legal (c.in_ok-answer.ensures.answered, c.in_ok-answer.ensures.state)
+
+pub returns-clause-finds : goal.returns-clause-finds
+returns-clause-finds c =
+    subst (λ (m : Machine). c.args.event.now ≡ Finish → FindsSnapshot m.trail.past c.apply.new.world) c.self.view_is
+    (finish_finds c.self.inside.world c.apply.new.world c.args.event.now c.self.inside.records c.self.inside.place c.self.inside.keep c.self.invariant (c.in_ok-answer.ensures.answered, c.in_ok-answer.ensures.state))

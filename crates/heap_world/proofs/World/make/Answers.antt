@@ -1,4 +1,6 @@
+use Rattle.std.proofs.Common.{ap, ◌∙◌}
 use Rattle.std.proofs.lemmas.Result.{err_from_is_err_and}
+use Rattle.heap_mark.specs.Marking.{is_marking}
 use Rattle.heap_world.proofs.Kept.{made_held, made_by, room_by, refused_by}
 use Rattle.heap_world.proofs.World.make.Goals as goal
 
@@ -8,10 +10,10 @@ returns-in_err-at-clause-refused c =
     rw (p.1, p.2) (refused_by _ _ _ _ c.args.kind _ c.self.invariant c.self.view_is c.requires.kind c.in_err-at.ensures.answered)
 
 pub invariant_of-self-2 : goal.invariant_of-self-2
-invariant_of-self-2 c = made_held _ _ _ _ _ _ _ _ _ _ _ _ c.self.invariant c.self.view_is c.requires.kind c.is_marking.ensures c.in_ok-at.ensures.placed c.in_ok-at.ensures.allocated c.id-id.ensures.value
+invariant_of-self-2 c = made_held _ _ _ _ _ _ _ _ _ _ _ _ _ c.self.invariant c.self.view_is c.requires.kind (c.is_marking-mark.ensures ∙ ap is_marking c.phase.ensures) c.in_ok-at.ensures.placed c.in_ok-at.ensures.allocated c.id-id.ensures.value c.write_register.ensures
 
 pub returns-clause-room : goal.returns-clause-room
 returns-clause-room c = room_by _ _ c.args.len c.in_ok-at.at c.in_ok-at.fresh c.self.view_is c.in_ok-at.ensures.placed
 
 pub returns-clause-made : goal.returns-clause-made
-returns-clause-made c = made_by _ _ _ _ _ _ _ _ _ _ _ c.self.view_is c.is_marking.ensures c.in_ok-at.ensures.placed c.in_ok-at.ensures.allocated c.id-id.ensures.value
+returns-clause-made c = made_by _ _ _ _ _ _ _ _ _ _ _ _ c.self.view_is (c.is_marking-mark.ensures ∙ ap is_marking c.phase.ensures) c.in_ok-at.ensures.placed c.in_ok-at.ensures.allocated c.id-id.ensures.value c.write_register.ensures

@@ -34,7 +34,7 @@ invariant_of-self-2 c =
 pub returns-clause-stored : goal.returns-clause-stored
 returns-clause-stored c =
     let old = old_by _ _ _ _ _ _ _ _ _ c.self.invariant c.self.view_is c.in_ok-at.ensures.accepted c.in_ok-at.ensures.placed c.word-old.ensures in
-    store_made _ _ _ _ _ _ _ _ _ _ _ _ c.self.view_is c.in_ok-at.ensures.placed old c.register-word.ensures
+    store_made _ _ _ _ _ _ _ _ _ _ _ _ _ c.self.view_is c.in_ok-at.ensures.placed old c.register-word.ensures
     (logs _ _ _ _ _ _ _ c.self.view_is old c.in_ok-logged.ensures.logged) c.in_ok-logged.ensures.log c.set_word.ensures
 
 pub returns-clause-placed : goal.returns-clause-placed

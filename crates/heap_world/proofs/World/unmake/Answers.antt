@@ -5,4 +5,4 @@ pub unalloc-requires-clause-another : goal.unalloc-requires-clause-another
 unalloc-requires-clause-another c = another_by _ _ _ _ _ _ _ c.self.view_is c.requires.there c.requires.legal
 
 pub invariant_of-self : goal.invariant_of-self
-invariant_of-self c = unmade_held _ _ _ _ _ _ _ _ _ c.self.invariant c.self.view_is c.unalloc.ensures.state c.requires.legal
+invariant_of-self c = unmade_held _ _ _ _ _ _ _ _ _ _ c.self.invariant c.self.view_is c.unalloc.ensures.state c.requires.legal c.write_register.ensures

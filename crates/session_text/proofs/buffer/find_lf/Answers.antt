@@ -1,18 +1,8 @@
-use Rattle.std.proofs.Common.{◌≡◌, ◌<◌, take, length, subst, arith, false, get_or}
-use Rattle.std.specs.Bool.{◌==◌}
-use Rattle.std.proofs.lemmas.List.{take_all}
-use Rattle.std.proofs.lemmas.List.Elements.{All-more}
-use Rattle.std.proofs.lemmas.Bool.Decides.{nat_tests}
-use Rattle.session_text.specs.Lines.{NoLf}
+use Rattle.session_text.proofs.Found.{none_behind, line_behind}
 use Rattle.session_text.proofs.buffer.find_lf.Goals as goal
 
-pub loop-i-preserved : goal.loop-i-preserved
-loop-i-preserved c =
-    let lt : c.loop-i.i < length c.args.bytes.now = omega arith in
-    let is : (get_or c.args.bytes.now c.loop-i.i 0 == 10) ≡ false = grind (arith, nat_tests, c.if-bytes-i-eq-LF.false) in
-    All-more (λ b. (b == 10) ≡ false) c.args.bytes.now c.loop-i.i 0 lt c.loop-i.invariant is
+pub returns-in-Some : goal.returns-in-Some
+returns-in-Some c = line_behind c.args.bytes.now c.args.from c.in-Some.behind c.requires.0 c.requires.1 c.in-Some.ensures
 
-pub returns : goal.returns
-returns c =
-    let all : take c.loop-i.i c.args.bytes.now ≡ c.args.bytes.now = take_all c.loop-i.i c.args.bytes.now (omega arith) in
-    subst (λ l. NoLf l) all c.loop-i.invariant
+pub returns-in-None : goal.returns-in-None
+returns-in-None c = none_behind c.args.bytes.now c.args.from c.requires.1 c.in-None.ensures

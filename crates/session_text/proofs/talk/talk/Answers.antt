@@ -37,7 +37,8 @@ returns-then-as_slice-gt-LINE_LIMIT g c =
     let o = open_answered says _ _ _ _ _ _ _ _ c.answer_lines.new.buffer e.0 c.answer_lines.new.commands w1 c.loop-buffer.invariant.1 e.1 e.3 in
     let z = ap (λ l. length l) c.as_slice.ensures.value in
     let n : length c.answer_lines.new.buffer ≡ 4097 = omega (arith, z, c.as_slice.ensures.most, c.if-as_slice-gt-LINE_LIMIT.true) in
-    rw c.unless_fault.ensures (ends_saying says begins _ _ _ _ _ _ _ _ a (g.O.Outlet.seen c.write_all.new.outlet) TooLong (codes "bad long\n") c.write_all.result o refl (keeps_same (whole a)) (e.2, n, refl, o.no_fault) c.write_all.ensures (λ x. x))
+    let w = c.end_with in
+    rw w.ensures.2 (ends_saying says begins _ _ _ _ _ _ _ _ a (g.O.Outlet.seen w.new.writer) TooLong (codes "bad long\n") w.ensures.0 o refl (keeps_same (whole a)) (e.2, n, refl, o.no_fault) w.ensures.1 (λ x. x))
 
 pub returns-then-reads-eq-READ_LIMIT : goal.returns-then-reads-eq-READ_LIMIT
 returns-then-reads-eq-READ_LIMIT g c =
@@ -46,12 +47,12 @@ returns-then-reads-eq-READ_LIMIT g c =
     let begins = Begins g.C.Commands.acts g.C.Commands.gives c.args.time in
     let w1 = g.O.Outlet.seen c.answer_lines.new.writer in
     let a = g.I.Inlet.seen c.loop-buffer.reader in
-    let w = c.write_all-then-reads-eq-READ_LIMIT in
+    let w = c.end_with-then-reads-eq-READ_LIMIT in
     let o = open_answered says _ _ _ _ _ _ _ _ c.answer_lines.new.buffer e.0 c.answer_lines.new.commands w1 c.loop-buffer.invariant.1 e.1 e.3 in
     let z = ap (λ l. length l) c.as_slice.ensures.value in
     let n : length c.answer_lines.new.buffer ≤ 4096 = omega (arith, z, c.if-as_slice-gt-LINE_LIMIT.false) in
-    rw c.unless_fault-then-reads-eq-READ_LIMIT.ensures (ends_saying says begins _ _ _ _ _ _ _ _ a (g.O.Outlet.seen w.new.outlet) TooManyReads (codes "bad reads\n") w.result o refl (keeps_same (whole a))
-    (record { most = n; no_lf = e.2 }, omega (arith, o.reads_are, c.if-reads-eq-READ_LIMIT.true), refl, o.no_fault) w.ensures (λ x. x))
+    rw w.ensures.2 (ends_saying says begins _ _ _ _ _ _ _ _ a (g.O.Outlet.seen w.new.writer) TooManyReads (codes "bad reads\n") w.ensures.0 o refl (keeps_same (whole a))
+    (record { most = n; no_lf = e.2 }, omega (arith, o.reads_are, c.if-reads-eq-READ_LIMIT.true), refl, o.no_fault) w.ensures.1 (λ x. x))
 
 pub loop-buffer-preserved : goal.loop-buffer-preserved
 loop-buffer-preserved g c =
@@ -81,13 +82,13 @@ returns-in-End g c =
     let says = Answers g.C.Commands.acts g.C.Commands.gives c.args.time in
     let begins = Begins g.C.Commands.acts g.C.Commands.gives c.args.time in
     let w1 = g.O.Outlet.seen c.answer_lines.new.writer in
-    let w = c.write_all-in-End in
+    let w = c.end_with-in-End in
     let o = open_answered says _ _ _ _ _ _ _ _ c.answer_lines.new.buffer e.0 c.answer_lines.new.commands w1 c.loop-buffer.invariant.1 e.1 e.3 in
     let z = ap (λ l. length l) c.as_slice.ensures.value in
     let n : length c.answer_lines.new.buffer ≤ 4096 = omega (arith, z, c.if-as_slice-gt-LINE_LIMIT.false) in
     let some = is_some_of c.as_slice-in-End.result.now c.read.new.self c.answer_lines.new.buffer c.as_slice-in-End.ensures.value r.0 c.if-is_empty.ensures in
-    rw c.unless_fault-in-End.ensures (ends_saying says begins _ _ _ _ _ _ _ _ (g.I.Inlet.seen c.read.new.inlet) (g.O.Outlet.seen w.new.outlet) CutLine (codes "bad cut\n") w.result o r.2 r.5
-    (record { most = n; no_lf = e.2 }, some, r.1, refl, r.4 ∙ o.no_fault) w.ensures (λ x. x))
+    rw w.ensures.2 (ends_saying says begins _ _ _ _ _ _ _ _ (g.I.Inlet.seen c.read.new.inlet) (g.O.Outlet.seen w.new.writer) CutLine (codes "bad cut\n") w.ensures.0 o r.2 r.5
+    (record { most = n; no_lf = e.2 }, some, r.1, refl, r.4 ∙ o.no_fault) w.ensures.1 (λ x. x))
 
 pub returns-in-Failed : goal.returns-in-Failed
 returns-in-Failed g c =
@@ -96,9 +97,9 @@ returns-in-Failed g c =
     let says = Answers g.C.Commands.acts g.C.Commands.gives c.args.time in
     let begins = Begins g.C.Commands.acts g.C.Commands.gives c.args.time in
     let w1 = g.O.Outlet.seen c.answer_lines.new.writer in
-    let w = c.write_all-in-Failed in
+    let w = c.end_with-in-Failed in
     let o = open_answered says _ _ _ _ _ _ _ _ c.answer_lines.new.buffer e.0 c.answer_lines.new.commands w1 c.loop-buffer.invariant.1 e.1 e.3 in
     let z = ap (λ l. length l) c.as_slice.ensures.value in
     let n : length c.answer_lines.new.buffer ≤ 4096 = omega (arith, z, c.if-as_slice-gt-LINE_LIMIT.false) in
-    rw c.unless_fault-in-Failed.ensures (ends_saying says begins _ _ _ _ _ _ _ _ (g.I.Inlet.seen c.read.new.inlet) (g.O.Outlet.seen w.new.outlet) ReadFault (codes "bad read\n") w.result o r.1 r.4
-    (record { most = n; no_lf = e.2 }, refl, r.3 ∙ ap (λ k. k + 1) o.no_fault) w.ensures (λ x. x))
+    rw w.ensures.2 (ends_saying says begins _ _ _ _ _ _ _ _ (g.I.Inlet.seen c.read.new.inlet) (g.O.Outlet.seen w.new.writer) ReadFault (codes "bad read\n") w.ensures.0 o r.1 r.4
+    (record { most = n; no_lf = e.2 }, refl, r.3 ∙ ap (λ k. k + 1) o.no_fault) w.ensures.1 (λ x. x))

@@ -1,0 +1,24 @@
+use Rattle.std.proofs.Common.{ℕ, List, reverse, ap₂, ◌∙◌}
+use Rattle.std.specs.Prelude.{vec_capacity}
+use Rattle.heap_mark.specs.declared.Phase.TheVariants.{Marking}
+use Rattle.heap_mark.specs.Marking.{unfinished}
+use Rattle.heap_mark.specs.Marker.{MarkerState, at_work}
+use Rattle.heap_mark.proofs.Calls.{at_work_after}
+use Rattle.heap_mark.proofs.Finishes.{finish_back}
+use Rattle.heap_mark.proofs.marker.Marker.unfinish.Goals as goal
+
+pub returns-clause-marker : goal.returns-clause-marker
+unfolding unfinished
+returns-clause-marker c =
+    let i = c.self.inside in
+    let with_log : List ℕ → ℕ → MarkerState = λ l n. record { gray = reverse i.gray.items; room = vec_capacity i.gray; log = l; drained = n; phase = Marking } in
+    rw (← c.self.view_is) (ap₂ with_log c.log.view_is c.len-self-inside.ensures)
+
+pub returns-clause-regions : goal.returns-clause-regions
+unfolding unfinished
+returns-clause-regions c = c.unfinish_all.ensures
+
+pub returns-clause-back : goal.returns-clause-back
+returns-clause-back c before accepted live within same is =
+    let s = at_work c.args.regions.now.regions c.args.self.now in
+    at_work_after c.args.regions.now _ c.args.self.now _ (unfinished c.args.log s) (returns-clause-marker c) (returns-clause-regions c) ∙ finish_back before s c.args.log accepted live within same is

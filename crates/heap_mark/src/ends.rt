@@ -1,0 +1,134 @@
+//! What the end of a cycle does to the bits of every object, and what takes that back.
+ghost use Rattle.std.specs.Prelude.{◌≡◌, ◌≤◌, length, IsSome, slice_get};
+ghost use Rattle.heap_region.specs.Regions.{object_at, used_at, with_object, with_region};
+ghost use Rattle.heap_region.specs.Live.{cells_of};
+ghost use Rattle.heap_mark.specs.Marking.{pending_regions, dead_count, each_region, finished_region, unfinished_region};
+ghost use Rattle.heap_mark.specs.Marker.{cells_each};
+ghost use Rattle.heap_mark.specs.Ends.{finished_object, unfinished_object, is_unmarked, unmarked_in};
+
+use heap_class::ObjRef;
+use heap_region::Regions;
+
+// The lowest region that is yet to be swept.
+pub fn first_pending(regions: &Regions) -> Option<u64>
+    ensures { result ≡ slice_get (pending_regions regions.now.regions) 0 }
+{
+    for region in 0..regions.count() {
+        if regions.pending(region).unwrap_or(false) {
+            return Some(region);
+        }
+    }
+    None
+}
+
+// Ends the cycle for every object. Answers how many aren't live then.
+pub fn finish_all(regions: &mut Regions) -> u64
+    ensures regions { regions.new ≡ record regions.old { regions = each_region finished_region regions.old.regions } }
+    ensures condemned { result ≡ dead_count regions.new.regions }
+{
+    let mut condemned = 0;
+    for region in 0..regions.count() {
+        if regions.cell_size(region).is_some() {
+            condemned += finish_region(regions, region);
+        }
+    }
+    condemned
+}
+
+// Takes the end of a cycle back for every object.
+pub fn unfinish_all(regions: &mut Regions)
+    ensures { regions.new ≡ record regions.old { regions = each_region unfinished_region regions.old.regions } }
+{
+    for region in 0..regions.count() {
+        if regions.cell_size(region).is_some() {
+            unfinish_region(regions, region);
+        }
+    }
+}
+
+// Ends the cycle for the objects of a region in use, which is then yet to be swept. Answers how many weren't marked.
+fn finish_region(regions: &mut Regions, region: u64) -> u64
+    requires { IsSome (used_at regions.old.regions region) }
+    ensures regions { regions.new ≡ record regions.old { regions = with_region region finished_region regions.old.regions } }
+    ensures unmarked { result ≡ unmarked_in (used_at regions.old.regions region) }
+    ensures limit { result ≤ cells_each }
+{
+    let number = region_number(regions, region);
+    let mut unmarked = 0;
+    for cell in 0..cell_count(regions, region) {
+        let at = ObjRef {
+            region: number,
+            cell,
+        };
+        if finish_cell(regions, at) {
+            unmarked += 1;
+        }
+    }
+    regions.set_pending(region, true);
+    unmarked
+}
+
+// Takes the end of a cycle back for the objects of a region in use.
+fn unfinish_region(regions: &mut Regions, region: u64)
+    requires { IsSome (used_at regions.old.regions region) }
+    ensures { regions.new ≡ record regions.old { regions = with_region region unfinished_region regions.old.regions } }
+{
+    let number = region_number(regions, region);
+    for cell in 0..cell_count(regions, region) {
+        let at = ObjRef {
+            region: number,
+            cell,
+        };
+        unfinish_cell(regions, at);
+    }
+    regions.set_pending(region, false);
+}
+
+// Where there is an object in the cell, it is live if it was marked, and no longer marked. Answers whether there is one
+// that wasn't.
+fn finish_cell(regions: &mut Regions, at: ObjRef) -> bool
+    ensures regions { regions.new ≡ record regions.old { regions = with_object at finished_object regions.old.regions } }
+    ensures unmarked { result ≡ is_unmarked (object_at regions.old.regions at) }
+{
+    if !regions.has_object(at) {
+        return false;
+    }
+    let (_, is_marked) = regions.bits(at);
+    regions.set_live(at, is_marked);
+    regions.set_mark(at, false);
+    !is_marked
+}
+
+// Where there is an object in the cell, it is marked if it was live, and live.
+fn unfinish_cell(regions: &mut Regions, at: ObjRef)
+    ensures { regions.new ≡ record regions.old { regions = with_object at unfinished_object regions.old.regions } }
+{
+    if !regions.has_object(at) {
+        return;
+    }
+    let (is_live, _) = regions.bits(at);
+    regions.set_mark(at, is_live);
+    regions.set_live(at, true);
+}
+
+// The number of a region in use, which is small.
+fn region_number(regions: &Regions, region: u64) -> u16
+    requires { IsSome (used_at regions.now.regions region) }
+    ensures { result ≡ region }
+{
+    let _count = regions.count();
+    region as u16
+}
+
+// How many cells a region in use has.
+fn cell_count(regions: &Regions, region: u64) -> u16
+    requires { IsSome (used_at regions.now.regions region) }
+    ensures value { result ≡ length (cells_of (used_at regions.now.regions region)) }
+    ensures limit { result ≤ cells_each }
+{
+    let _count = regions.count();
+    match regions.cell_size(region) {
+        Some(size) => (1024 / size) as u16,
+        None => 0,
+    }
+}

@@ -1,0 +1,405 @@
+//! The marker's calls, and what takes each back.
+ghost use Rattle.std.specs.Prelude.{ℕ, take, false, IsTrue, ◌≡◌, ◌+◌, ◌-◌, ◌<◌, ◌≤◌, ◌++◌, ◌∷◌, ◌==◌, ◌&&◌, [], not, length, reverse, slice_get, slice_index, List, None, Some, true, Contains, IsSome, IfSome, IsSomeAnd, fold, IfOk, IfErr, OnOk, OnErr, if◌then◌else◌};
+ghost use Rattle.heap_class.specs.Refusals.{IsAnswered};
+ghost use Rattle.heap_class.specs.Classes.{Class};
+ghost use Rattle.heap_class.specs.Kinds.{is_reference};
+ghost use Rattle.heap_class.specs.declared.Kind.{Kind};
+ghost use Rattle.heap_class.specs.declared.Refusal.TheVariants.{NoMemory};
+ghost use Rattle.heap_region.specs.Regions.{object_at, object_of};
+ghost use Rattle.heap_region.specs.Legal.{EachObject};
+ghost use Rattle.heap_mark.specs.Marking.{MarkState, shaded, unshaded, is_marking, children_of, snap_refusal, snapped, unsnapped, mark_refusal, marked, unmarked, drain_refusal, drained_once, undrained, finish_refusal, finished, unfinished, dead_count};
+ghost use Rattle.heap_mark.specs.Marker.{references_among, MarkerState, at_work, after_work, idle_marker, IsNullOrNames, IsGraySound, HasSlots, IsUnmarked};
+
+use crate::Phase;
+use crate::ends::{finish_all, first_pending, unfinish_all};
+use heap_class::{Classes, Kind, ObjKind, ObjRef, Refusal};
+use heap_region::Regions;
+use std::alloc::Global;
+use std::marker::Model;
+use std::mem;
+
+/// What a mark did: the id of the object that was taken off the gray stack, and how many of its children were pushed.
+#[derive(Clone, Copy, PartialEq, Eq, Debug)]
+pub struct Marked {
+    pub parent: u64,
+    pub pushed: u64,
+}
+
+/// The log of a cycle that has ended, moved whole.
+#[derive(Drop)]
+pub struct Log {
+    ids: Vec<u64>,
+}
+
+impl Model for Log {
+    ghost use Rattle.std.specs.Prelude.{ℕ, List};
+
+    ghost Value = { List ℕ };
+
+    ghost view = { λ l. l.ids.items };
+}
+
+impl Log {
+    /// How many entries it has.
+    pub fn len(&self) -> u64
+        ensures { result ≡ length self.now }
+    {
+        self.ids.len() as u64
+    }
+}
+
+/// What a finish did: how many objects aren't live now, and the cycle's log.
+#[derive(Drop)]
+pub struct Finished {
+    pub condemned: u64,
+    pub log: Log,
+}
+
+/// The marker: a stack of gray ids with room for every object, a log of overwritten references of which a beginning was
+/// drained, and the phase. The marks themselves are bits of the objects.
+#[derive(Drop)]
+pub struct Marker {
+    alloc: Global,
+    // The gray stack, its top last.
+    gray: Vec<u64>,
+    log: Vec<u64>,
+    drained: u64,
+    phase: Phase,
+}
+
+impl Model for Marker {
+    ghost use Rattle.std.specs.Prelude.{reverse, vec_capacity, ◌≤◌, length};
+    ghost use Rattle.heap_mark.specs.Marker.{MarkerState};
+
+    ghost Value = { MarkerState };
+
+    ghost view = { λ m. record { gray = reverse m.gray.items; room = vec_capacity m.gray; log = m.log.items; drained = m.drained; phase = m.phase } };
+
+    ghost invariant = { λ m. m.drained ≤ length m.log.items };
+}
+
+impl Marker {
+    /// A marker at rest, with room for so many gray ids. Refused NoMemory where that room can't be had.
+    pub fn new(alloc: Global, room: u64) -> Result<Marker, Refusal>
+        ensures idle { IfOk result (λ m. m ≡ idle_marker room) }
+        ensures refused { IfErr result (λ e. e ≡ NoMemory) }
+    {
+        Ok(Marker {
+            alloc,
+            gray: Vec::with_capacity(alloc, room as usize)?,
+            log: Vec::new(alloc),
+            drained: 0,
+            phase: Phase::Idle,
+        })
+    }
+
+    /// Whether a cycle is running.
+    pub fn phase(&self) -> Phase
+        ensures { result ≡ self.now.phase }
+    {
+        self.phase
+    }
+
+    /// The ids of the gray objects, the next to be marked last.
+    pub fn gray(&self) -> &[u64]
+        ensures { reverse result.now ≡ self.now.gray }
+    {
+        &self.gray
+    }
+
+    /// The ids that the barrier logged, the oldest first.
+    pub fn log(&self) -> &[u64]
+        ensures { result.now ≡ self.now.log }
+    {
+        &self.log
+    }
+
+    /// How many entries of the log were drained.
+    pub fn drained(&self) -> u64
+        ensures value { result ≡ self.now.drained }
+        ensures limit { result ≤ length self.now.log }
+    {
+        self.drained
+    }
+
+    /// Begins a cycle: the objects that the roots name, null passed over, are marked and pushed in order, each once.
+    /// Answers how many. Refused AlreadyMarking. Takes no memory.
+    pub fn snap(&mut self, regions: &mut Regions, roots: &[u64]) -> Result<u64, Refusal>
+        requires sound { IsGraySound regions.old.regions self.old }
+        requires roots { (x : ℕ) → Contains roots.now x → IsNullOrNames regions.old.regions x }
+        ensures answered { IsAnswered (snap_refusal (at_work regions.old.regions self.old)) false result }
+        ensures marker { OnOk result (self.new ≡ after_work (snapped roots.now (at_work regions.old.regions self.old)) self.old) }
+        ensures regions { OnOk result (regions.new ≡ record regions.old { regions = (snapped roots.now (at_work regions.old.regions self.old)).regions }) }
+        ensures pushed { IfOk result (λ n. n ≡ length self.new.gray) }
+        ensures unchanged { OnErr result ((self.new ≡ self.old) × (regions.new ≡ regions.old)) }
+    {
+        if self.phase.is_marking() {
+            return Err(Refusal::AlreadyMarking);
+        }
+        self.phase = Phase::Marking;
+        self.shade_all(regions, roots);
+        Ok(self.gray.len() as u64)
+    }
+
+    /// Takes a snap back: no object is marked, nothing is gray and no cycle runs. Takes no memory.
+    pub fn unsnap(&mut self, regions: &mut Regions)
+        requires snapped { (before : MarkState) × (roots : List ℕ) × IsUnmarked before × (at_work regions.old.regions self.old ≡ snapped roots before) }
+        ensures marker { self.new ≡ after_work (unsnapped (at_work regions.old.regions self.old)) self.old }
+        ensures regions { regions.new ≡ record regions.old { regions = (unsnapped (at_work regions.old.regions self.old)).regions } }
+        ensures back { (before : MarkState) (roots : List ℕ) → IsUnmarked before → at_work regions.old.regions self.old ≡ snapped roots before → at_work regions.new.regions self.new ≡ before }
+    {
+        let count = self.gray.len() as u64;
+        self.unshade(regions, count);
+        self.phase = Phase::Idle;
+    }
+
+    /// Takes the object at the top of the gray stack off it, and marks and pushes its unmarked children in slot order.
+    /// Refused NotMarking or NothingToMark. Takes no memory.
+    pub fn mark(&mut self, regions: &mut Regions, classes: &Classes) -> Result<Marked, Refusal>
+        requires sound { IsGraySound regions.old.regions self.old }
+        requires slots { (x : ℕ) → Contains self.old.gray x → IfSome (object_of regions.old.regions x) (λ o. HasSlots classes.now o.kind (length o.words)) }
+        requires children { (x : ℕ) → Contains self.old.gray x → (y : ℕ) → Contains (children_of classes.now regions.old.regions x) y → IsSome (object_of regions.old.regions y) }
+        ensures answered { IsAnswered (mark_refusal (at_work regions.old.regions self.old)) false result }
+        ensures marker { OnOk result (self.new ≡ after_work (marked classes.now (at_work regions.old.regions self.old)) self.old) }
+        ensures regions { OnOk result (regions.new ≡ record regions.old { regions = (marked classes.now (at_work regions.old.regions self.old)).regions }) }
+        ensures parent { IfOk result (λ p. p.parent ≡ slice_index self.old.gray 0) }
+        ensures pushed { IfOk result (λ p. p.pushed ≡ length self.new.gray + 1 - length self.old.gray) }
+        ensures unchanged { OnErr result ((self.new ≡ self.old) × (regions.new ≡ regions.old)) }
+    {
+        if !self.phase.is_marking() {
+            return Err(Refusal::NotMarking);
+        }
+        let Some(parent) = self.gray.pop() else {
+            return Err(Refusal::NothingToMark);
+        };
+        let before = self.gray.len();
+        self.shade_children(regions, classes, parent);
+        let pushed = (self.gray.len() - before) as u64;
+        Ok(Marked { parent, pushed })
+    }
+
+    /// Takes a mark back: the `pushed` newest gray objects are unmarked and leave the stack, and the parent heads it again.
+    /// Takes no memory.
+    pub fn unmark(&mut self, regions: &mut Regions, parent: u64, pushed: u64)
+        requires sound { IsGraySound regions.old.regions self.old }
+        requires within { pushed ≤ length self.old.gray }
+        requires given { IsGraySound (unmarked parent pushed (at_work regions.old.regions self.old)).regions (after_work (unmarked parent pushed (at_work regions.old.regions self.old)) self.old) }
+        ensures marker { self.new ≡ after_work (unmarked parent pushed (at_work regions.old.regions self.old)) self.old }
+        ensures regions { regions.new ≡ record regions.old { regions = (unmarked parent pushed (at_work regions.old.regions self.old)).regions } }
+        ensures back { (before : MarkState) (classes : List Class) → mark_refusal before ≡ None → at_work regions.old.regions self.old ≡ marked classes before → parent ≡ slice_index before.gray 0 → pushed ≡ length self.old.gray + 1 - length before.gray → at_work regions.new.regions self.new ≡ before }
+    {
+        self.unshade(regions, pushed);
+        let _count = regions.count();
+        self.gray.push_reserved(parent);
+    }
+
+    /// Marks and pushes the object that the next entry of the log names, where it is unmarked. Answers how many were
+    /// pushed, 0 or 1. Refused NotMarking or NothingToDrain. Takes no memory.
+    pub fn drain(&mut self, regions: &mut Regions) -> Result<u64, Refusal>
+        requires sound { IsGraySound regions.old.regions self.old }
+        requires entries { (x : ℕ) → Contains self.old.log x → IsSome (object_of regions.old.regions x) }
+        ensures answered { IsAnswered (drain_refusal (at_work regions.old.regions self.old)) false result }
+        ensures marker { OnOk result (self.new ≡ after_work (drained_once (at_work regions.old.regions self.old)) self.old) }
+        ensures regions { OnOk result (regions.new ≡ record regions.old { regions = (drained_once (at_work regions.old.regions self.old)).regions }) }
+        ensures pushed { IfOk result (λ n. n ≡ length self.new.gray - length self.old.gray) }
+        ensures unchanged { OnErr result ((self.new ≡ self.old) × (regions.new ≡ regions.old)) }
+    {
+        if !self.phase.is_marking() {
+            return Err(Refusal::NotMarking);
+        }
+        if self.drained >= self.log.len() as u64 {
+            return Err(Refusal::NothingToDrain);
+        }
+        let id = self.log[self.drained as usize];
+        self.drained += 1;
+        let before = self.gray.len();
+        self.shade(regions, id);
+        Ok((self.gray.len() - before) as u64)
+    }
+
+    /// Takes a drain back: the `pushed` newest gray objects are unmarked and leave the stack, and the last drained entry is
+    /// to be drained again. Takes no memory.
+    pub fn undrain(&mut self, regions: &mut Regions, pushed: u64)
+        requires sound { IsGraySound regions.old.regions self.old }
+        requires within { pushed ≤ length self.old.gray }
+        requires drained { 0 < self.old.drained }
+        ensures marker { self.new ≡ after_work (undrained pushed (at_work regions.old.regions self.old)) self.old }
+        ensures regions { regions.new ≡ record regions.old { regions = (undrained pushed (at_work regions.old.regions self.old)).regions } }
+        ensures back { (before : MarkState) → at_work regions.old.regions self.old ≡ drained_once before → pushed ≡ length self.old.gray - length before.gray → at_work regions.new.regions self.new ≡ before }
+    {
+        self.unshade(regions, pushed);
+        self.drained -= 1;
+    }
+
+    /// Ends the cycle: an object is live now where it was marked, none is marked, the log is handed out, and every region in
+    /// use is yet to be swept. Answers how many objects aren't live. Refused NotMarking, NotDone while something is gray or
+    /// in the log undrained, or SweepPending with the lowest region that is yet to be swept. Takes no memory.
+    pub fn finish(&mut self, regions: &mut Regions) -> Result<Finished, Refusal>
+        ensures answered { IsAnswered (finish_refusal (at_work regions.old.regions self.old)) false result }
+        ensures marker { OnOk result (self.new ≡ after_work (finished (at_work regions.old.regions self.old)) self.old) }
+        ensures regions { OnOk result (regions.new ≡ record regions.old { regions = (finished (at_work regions.old.regions self.old)).regions }) }
+        ensures condemned { IfOk result (λ f. f.condemned ≡ dead_count regions.new.regions) }
+        ensures log { IfOk result (λ f. f.log ≡ self.old.log) }
+        ensures unchanged { OnErr result ((self.new ≡ self.old) × (regions.new ≡ regions.old)) }
+    {
+        if !self.phase.is_marking() {
+            return Err(Refusal::NotMarking);
+        }
+        let gray = self.gray.len() as u64;
+        let undrained = self.log.len() as u64 - self.drained;
+        if gray > 0 || undrained > 0 {
+            return Err(Refusal::NotDone { gray, undrained });
+        }
+        if let Some(region) = first_pending(regions) {
+            return Err(Refusal::SweepPending { region });
+        }
+        let condemned = finish_all(regions);
+        let ids = mem::replace(&mut self.log, Vec::new(self.alloc));
+        (self.drained, self.phase) = (0, Phase::Idle);
+        Ok(Finished {
+            condemned,
+            log: Log { ids },
+        })
+    }
+
+    /// Takes a finish back, with the log that it handed out: what is live was marked, all was live, no region was yet to be
+    /// swept, and the log was drained. Takes no memory.
+    pub fn unfinish(&mut self, regions: &mut Regions, log: Log)
+        ensures marker { self.new ≡ after_work (unfinished log (at_work regions.old.regions self.old)) self.old }
+        ensures regions { regions.new ≡ record regions.old { regions = (unfinished log (at_work regions.old.regions self.old)).regions } }
+        ensures back { (before : MarkState) → finish_refusal before ≡ None → EachObject before.regions (λ at o. o.live ≡ true) → before.drained ≤ length before.log → log ≡ before.log → at_work regions.old.regions self.old ≡ finished before → at_work regions.new.regions self.new ≡ before }
+    {
+        unfinish_all(regions);
+        self.drained = log.len();
+        self.log = log.ids;
+        self.phase = Phase::Marking;
+    }
+
+    /// The barrier: while a cycle runs, a reference that is overwritten goes to the log if it isn't null. Answers whether it
+    /// did. Refused NoMemory where the log can't grow; then nothing has changed.
+    pub fn log_old(&mut self, old: u64) -> Result<bool, Refusal>
+        ensures logged { IfOk result (λ b. b ≡ (is_marking self.old.phase && not (old == 0))) }
+        ensures log { IfOk result (λ b. self.new ≡ (if b then record self.old { log = self.old.log ++ old ∷ [] } else self.old)) }
+        ensures refused { IfErr result (λ e. (e ≡ NoMemory) × ((is_marking self.old.phase && not (old == 0)) ≡ true)) }
+        ensures unchanged { OnErr result (self.new ≡ self.old) }
+    {
+        if !self.phase.is_marking() || old == 0 {
+            return Ok(false);
+        }
+        self.log.push(old)?;
+        Ok(true)
+    }
+
+    /// Takes the entry of a barrier back, where there was one. Takes no memory.
+    pub fn unlog_old(&mut self, logged: bool)
+        requires entry { IsTrue logged → self.old.drained < length self.old.log }
+        ensures log { self.new ≡ (if logged then record self.old { log = take (length self.old.log - 1) self.old.log } else self.old) }
+        ensures back { (before : MarkerState) (old : ℕ) → self.old ≡ (if logged then record before { log = before.log ++ old ∷ [] } else before) → self.new ≡ before }
+    {
+        if logged {
+            self.log.pop();
+        }
+    }
+
+    // Marks and pushes the object that the id names, where it is unmarked; null is passed over.
+    fn shade(&mut self, regions: &mut Regions, id: u64)
+        requires sound { IsGraySound regions.old.regions self.old }
+        requires names { IsNullOrNames regions.old.regions id }
+        ensures marker { self.new ≡ after_work (shaded (at_work regions.old.regions self.old) id) self.old }
+        ensures regions { regions.new ≡ record regions.old { regions = (shaded (at_work regions.old.regions self.old) id).regions } }
+    {
+        if id == 0 {
+            return;
+        }
+        let at = regions.place(id);
+        let (_, is_marked) = regions.bits(at);
+        if is_marked {
+            return;
+        }
+        // The stack has room for the ids of all cells of that many regions.
+        let _count = regions.count();
+        regions.set_mark(at, true);
+        self.gray.push_reserved(id);
+    }
+
+    // Shades what the ids name, one after another.
+    fn shade_all(&mut self, regions: &mut Regions, ids: &[u64])
+        requires sound { IsGraySound regions.old.regions self.old }
+        requires names { (x : ℕ) → Contains ids.now x → IsNullOrNames regions.old.regions x }
+        ensures marker { self.new ≡ after_work (fold shaded (at_work regions.old.regions self.old) ids.now) self.old }
+        ensures regions { regions.new ≡ record regions.old { regions = (fold shaded (at_work regions.old.regions self.old) ids.now).regions } }
+    {
+        for id in ids {
+            self.shade(regions, *id);
+        }
+    }
+
+    // Shades what the references of an object name, in slot order.
+    fn shade_children(&mut self, regions: &mut Regions, classes: &Classes, parent: u64)
+        requires sound { IsGraySound regions.old.regions self.old }
+        requires slots { IsSomeAnd (object_of regions.old.regions parent) (λ o. HasSlots classes.now o.kind (length o.words)) }
+        requires children { (y : ℕ) → Contains (children_of classes.now regions.old.regions parent) y → IsSome (object_of regions.old.regions y) }
+        ensures marker { self.new ≡ after_work (fold shaded (at_work regions.old.regions self.old) (children_of classes.now regions.old.regions parent)) self.old }
+        ensures regions { regions.new ≡ record regions.old { regions = (fold shaded (at_work regions.old.regions self.old) (children_of classes.now regions.old.regions parent)).regions } }
+    {
+        let at = regions.place(parent);
+        match regions.kind(at) {
+            ObjKind::Instance(class) => self.shade_fields(regions, at, classes.slots(class)),
+            ObjKind::Array(_) => self.shade_elements(regions, at),
+            ObjKind::Prim(_) => {}
+        }
+    }
+
+    // Shades what the reference slots of an object name, by the kinds of its slots.
+    fn shade_fields(&mut self, regions: &mut Regions, at: ObjRef, kinds: &[Kind])
+        requires sound { IsGraySound regions.old.regions self.old }
+        requires slots { IsSomeAnd (object_at regions.old.regions at) (λ o. length o.words ≡ length kinds.now) }
+        requires names { IfSome (object_at regions.old.regions at) (λ o. (slot : ℕ) (kind : Kind) → slice_get kinds.now slot ≡ Some kind → is_reference kind ≡ true → IsNullOrNames regions.old.regions (slice_index o.words slot)) }
+        ensures marker { IfSome (object_at regions.old.regions at) (λ o. self.new ≡ after_work (fold shaded (at_work regions.old.regions self.old) (references_among kinds.now o.words)) self.old) }
+        ensures regions { IfSome (object_at regions.old.regions at) (λ o. regions.new ≡ record regions.old { regions = (fold shaded (at_work regions.old.regions self.old) (references_among kinds.now o.words)).regions }) }
+    {
+        for (slot, kind) in kinds.iter().enumerate() {
+            if kind.is_reference() {
+                self.shade(regions, regions.word(at, slot as u64));
+            }
+        }
+    }
+
+    // Shades what the slots of an array of references name.
+    fn shade_elements(&mut self, regions: &mut Regions, at: ObjRef)
+        requires sound { IsGraySound regions.old.regions self.old }
+        requires names { IsSomeAnd (object_at regions.old.regions at) (λ o. (y : ℕ) → Contains o.words y → IsNullOrNames regions.old.regions y) }
+        ensures marker { IfSome (object_at regions.old.regions at) (λ o. self.new ≡ after_work (fold shaded (at_work regions.old.regions self.old) o.words) self.old) }
+        ensures regions { IfSome (object_at regions.old.regions at) (λ o. regions.new ≡ record regions.old { regions = (fold shaded (at_work regions.old.regions self.old) o.words).regions }) }
+    {
+        for slot in 0..regions.len(at) {
+            self.shade(regions, regions.word(at, slot));
+        }
+    }
+
+    // Unmarks the `count` newest gray objects and takes them off the stack.
+    fn unshade(&mut self, regions: &mut Regions, count: u64)
+        requires within { count ≤ length self.old.gray }
+        requires names { (x : ℕ) → Contains self.old.gray x → IsSome (object_of regions.old.regions x) }
+        ensures marker { self.new ≡ after_work (unshaded count (at_work regions.old.regions self.old)) self.old }
+        ensures regions { regions.new ≡ record regions.old { regions = (unshaded count (at_work regions.old.regions self.old)).regions } }
+    {
+        for _step in 0..count {
+            self.unshade_top(regions);
+        }
+    }
+
+    // Unmarks the object at the top of the gray stack and takes it off.
+    fn unshade_top(&mut self, regions: &mut Regions)
+        requires within { 0 < length self.old.gray }
+        requires names { IsSome (object_of regions.old.regions (slice_index self.old.gray 0)) }
+        ensures marker { self.new ≡ after_work (unshaded 1 (at_work regions.old.regions self.old)) self.old }
+        ensures regions { regions.new ≡ record regions.old { regions = (unshaded 1 (at_work regions.old.regions self.old)).regions } }
+    {
+        let Some(id) = self.gray.pop() else {
+            unreachable!();
+        };
+        let at = regions.place(id);
+        regions.set_mark(at, false);
+    }
+}

@@ -1,0 +1,5 @@
+use Rattle.heap_step.proofs.Found.{stays_found}
+use Rattle.heap_step.proofs.stays_found.Goals as goal
+
+pub returns : goal.returns
+returns c = stays_found

@@ -1,0 +1,209 @@
+-- Legality after a finish.
+use Rattle.std.proofs.Common.{◌≡◌, ◌⊎◌, ◌↔◌, ℕ, ◌+◌, ◌-◌, ◌≤◌, Bool, true, false, List, [], ◌∷◌, length, drop, refl, sym, ap, subst, ◌∙◌, Option, Some, None, IfSome, Contains, arith, length-drop}
+use mathlib.Core.Logic.{inl, inr}
+use Rattle.std.specs.Prelude.{slice_get, option_map, option_and_then, nat_lt}
+use Rattle.std.specs.Option.{option_map_or}
+use Rattle.std.proofs.lemmas.Option.{slice_get-map}
+use Rattle.std.proofs.lemmas.List.{length-map}
+use Rattle.heap_class.proofs.Refused.{none_holds}
+use Rattle.heap_class.specs.declared.ObjRef.{ObjRef}
+use Rattle.heap_class.specs.Classes.{Class}
+use Rattle.heap_region.specs.Regions.{Object, UsedRegion, Region, Empty, InUse, used_part, used_at, object_of, object_at, ref_of, in_used, references_of, slot_kinds, cell_size_for}
+use Rattle.heap_region.proofs.Looked.{ref_same, size_at, number_of, place_found}
+use Rattle.heap_region.proofs.References.{member_none}
+use Rattle.heap_mark.specs.declared.Phase.TheVariants.{Idle, Marking}
+use Rattle.heap_mark.specs.Marking.{each_object, each_region, finish_refusal, finished_region, finished}
+use Rattle.heap_world.specs.State.{HeapState, marking_of, with_marking}
+use Rattle.heap_world.specs.Reach.{Names}
+use Rattle.heap_world.specs.Legal.{IsObjectOf, IsUnmarked, IsLive, Sheltered}
+use Rattle.heap_world.proofs.Clauses.{HasClauses}
+use Rattle.heap_region.proofs.Clauses.{IsPartition}
+use Rattle.heap_world.specs.Events.{after_finish}
+use Rattle.heap_world.proofs.Registers.{namer, names_of, mark_or_not}
+use Rattle.heap_world.proofs.Marks.{marking_is}
+
+-- ---- each object of each region
+
+-- an object that a cycle finished with
+abbrev pub settled : Object → Object
+settled o = record o { live = o.mark; mark = false }
+
+used_each : (f : UsedRegion → UsedRegion) (rs : List Region) (r : ℕ) → used_at (each_region f rs) r ≡ option_map f (used_at rs r)
+unfolding used_at each_region in_used
+used_each f rs r = ap (option_and_then used_part) (slice_get-map (in_used f) rs r) ∙ go (slice_get rs r)
+  where
+    go : (p : Option Region) → option_and_then used_part (option_map (in_used f) p) ≡ option_map f (option_and_then used_part p)
+    go None = refl
+    go (Some Empty) = refl
+    go (Some (InUse u)) = refl
+
+object_settled : (rs : List Region) (at : ObjRef) → object_at (each_region finished_region rs) at ≡ option_map settled (object_at rs at)
+unfolding object_at finished_region each_object
+object_settled rs at = ap (option_and_then look) (used_each finished_region rs at.region) ∙ go (used_at rs at.region)
+  where
+    look : UsedRegion → Option Object
+    look u = option_and_then (λ (o : Option Object). o) (slice_get u.cells at.cell)
+
+    join : (p : Option (Option Object)) → option_and_then (λ (o : Option Object). o) (option_map (option_map settled) p) ≡ option_map settled (option_and_then (λ (o : Option Object). o) p)
+    join None = refl
+    join (Some None) = refl
+    join (Some (Some o)) = refl
+
+    go : (p : Option UsedRegion) → option_and_then look (option_map finished_region p) ≡ option_map settled (option_and_then look p)
+    go None = refl
+    go (Some u) = ap (option_and_then (λ (o : Option Object). o)) (slice_get-map (option_map settled) u.cells at.cell) ∙ join (slice_get u.cells at.cell)
+
+size_settled : (rs : List Region) (r d : ℕ) → size_at (each_region finished_region rs) r d ≡ size_at rs r d
+unfolding size_at finished_region each_object
+size_settled rs r d = ap (λ (p : Option UsedRegion). option_map_or (λ (u : UsedRegion). u.cell_size) p d) (used_each finished_region rs r) ∙ go (used_at rs r)
+  where
+    go : (p : Option UsedRegion) → option_map_or (λ (u : UsedRegion). u.cell_size) (option_map finished_region p) d ≡ option_map_or (λ (u : UsedRegion). u.cell_size) p d
+    go None = refl
+    go (Some u) = refl
+
+-- what an id names after a finish
+pub named_settled : (rs : List Region) (x : ℕ) → object_of (each_region finished_region rs) x ≡ option_map settled (object_of rs x)
+unfolding object_of
+named_settled rs x = ap (option_and_then (object_at (each_region finished_region rs))) (ref_same (each_region finished_region rs) rs x (λ d. size_settled rs (number_of x) d)) ∙ go (ref_of rs x)
+  where
+    go : (p : Option ObjRef) → option_and_then (object_at (each_region finished_region rs)) p ≡ option_map settled (option_and_then (object_at rs) p)
+    go None = refl
+    go (Some at) = object_settled rs at
+
+was_settled : (p : Option Object) (o' : Object) → option_map settled p ≡ Some o' → (o : Object) × (p ≡ Some o) × (o' ≡ settled o)
+was_settled None o' h = cc
+was_settled (Some o) o' h = (o, refl, cc)
+
+-- ---- regions and the pool
+
+table_settled : (u : UsedRegion) → IsPartition u → IsPartition (finished_region u)
+unfolding finished_region each_object
+table_settled u t = record {
+  cells = length-map u.cells (option_map settled) ∙ t.cells;
+  free = record { distinct = t.free.distinct; each = λ k. (λ m. slice_get-map (option_map settled) u.cells k ∙ ap (option_map (option_map settled)) ((t.free.each k).0 m), λ e. (t.free.each k).1 (none_back (slice_get u.cells k) (sym (slice_get-map (option_map settled) u.cells k) ∙ e))) };
+  inhabited = (t.inhabited.0, settled t.inhabited.1, slice_get-map (option_map settled) u.cells t.inhabited.0 ∙ ap (option_map (option_map settled)) t.inhabited.2);
+}
+  where
+    none_back : (p : Option (Option Object)) → option_map (option_map settled) p ≡ Some None → p ≡ Some None
+    none_back None e = cc
+    none_back (Some None) e = refl
+    none_back (Some (Some o)) e = cc
+
+table_each : (rs : List Region) → ((r : ℕ) (u : UsedRegion) → used_at rs r ≡ Some u → IsPartition u) → (r : ℕ) (v : UsedRegion) → used_at (each_region finished_region rs) r ≡ Some v → IsPartition v
+table_each rs h r v e = go (used_at rs r) refl (sym (used_each finished_region rs r) ∙ e)
+  where
+    go : (p : Option UsedRegion) → used_at rs r ≡ p → option_map finished_region p ≡ Some v → IsPartition v
+    go None f g = cc
+    go (Some u) f g = let s : finished_region u ≡ v = cc in subst IsPartition s (table_settled u (h r u f))
+
+empty_each : (rs : List Region) (r : ℕ) → (slice_get (each_region finished_region rs) r ≡ Some Empty) ↔ (slice_get rs r ≡ Some Empty)
+unfolding each_region in_used
+empty_each rs r = (λ e. back (slice_get rs r) (sym (slice_get-map (in_used finished_region) rs r) ∙ e), λ e. slice_get-map (in_used finished_region) rs r ∙ ap (option_map (in_used finished_region)) e)
+  where
+    back : (p : Option Region) → option_map (in_used finished_region) p ≡ Some Empty → p ≡ Some Empty
+    back None e = cc
+    back (Some Empty) e = refl
+    back (Some (InUse u)) e = cc
+
+least_each : (rs : List Region) (r n : ℕ) → IfSome (used_at rs r) (λ u. u.cell_size ≡ n) → IfSome (used_at (each_region finished_region rs) r) (λ u. u.cell_size ≡ n)
+unfolding finished_region each_object
+least_each rs r n h = subst (λ (p : Option UsedRegion). IfSome p (λ u. u.cell_size ≡ n)) (sym (used_each finished_region rs r)) (go (used_at rs r) h)
+  where
+    go : (p : Option UsedRegion) → IfSome p (λ u. u.cell_size ≡ n) → IfSome (option_map finished_region p) (λ u. u.cell_size ≡ n)
+    go None q = q
+    go (Some u) q = q
+
+pending_each : (rs : List Region) (r : ℕ) (b : Bool) → IfSome (used_at (each_region finished_region rs) r) (λ u. u.pending ≡ false → b ≡ true)
+unfolding finished_region each_object
+pending_each rs r b = subst (λ (p : Option UsedRegion). IfSome p (λ u. u.pending ≡ false → b ≡ true)) (sym (used_each finished_region rs r)) (go (used_at rs r))
+  where
+    go : (p : Option UsedRegion) → IfSome (option_map finished_region p) (λ u. u.pending ≡ false → b ≡ true)
+    go None = tt
+    go (Some u) = λ e. cc
+
+pub length_each : (rs : List Region) → length (each_region finished_region rs) ≡ length rs
+unfolding each_region
+length_each rs = length-map rs (in_used finished_region)
+
+-- ---- nothing shelters at a finish
+
+nothing_left : (gray log drained : ℕ) → nat_lt 0 (gray + (log - drained)) ≡ false → (gray ≡ 0) × (log ≤ drained)
+nothing_left gray log drained h = (grind arith, grind arith)
+
+-- where no object is gray and the log is drained, none is sheltered
+pub no_shelter : (w : HeapState) (x : ℕ) → length w.gray ≡ 0 → length w.log ≤ w.drained → Sheltered w x → ⊥
+no_shelter w x g d s = go s.2
+  where
+    go : Contains (drop w.drained w.log) s.0 ⊎ ((h : ℕ) × Contains w.gray h × Names w h s.0) → ⊥
+    go (inl c) = absurd (omega (arith, c.1, length-drop w.drained w.log, d))
+    go (inr h) = absurd (omega (arith, h.1.1, g))
+
+no_length : (xs : List ℕ) → length xs ≡ 0 → xs ≡ []
+no_length [] e = refl
+no_length (x ∷ xs) e = absurd (omega (arith, e))
+
+settled_fits : (classes : List Class) (o : Object) → IsObjectOf classes o → IsObjectOf classes (settled o)
+unfolding slot_kinds
+settled_fits classes o f = record { kind = f.kind; values = f.values }
+
+references_settled : (classes : List Class) (o : Object) → references_of classes (settled o) ≡ references_of classes o
+unfolding references_of slot_kinds
+references_settled classes o = refl
+
+-- a marked object is live
+pub marked_object_live : (w : HeapState) → HasClauses w → (x : ℕ) (o : Object) → object_of w.regions x ≡ Some o → o.mark ≡ true → IsLive w x
+marked_object_live w l x o e m = let p = place_found w.regions x o e in (o, e, l.marked_live p.0 o p.2 m)
+
+pub finish_legal : (w : HeapState) → HasClauses w → finish_refusal (marking_of w) ≡ None → HasClauses (after_finish w)
+unfolding finish_refusal after_finish finished
+finish_legal w l accepted = record {
+  sized = record { regions = subst (λ n. (1 ≤ n) × (n ≤ 256)) (sym (length_each w.regions)) l.sized.regions; mutators = l.sized.mutators };
+  classes = l.classes;
+  objects = λ at o' e. (let q = was at o' e in subst (IsObjectOf w.classes) (sym q.2) (settled_fits w.classes q.0 (l.objects at q.0 q.1)));
+  least_cells = λ at o' e. (let q = was at o' e in subst (λ (o : Object). IfSome (used_at (each_region finished_region w.regions) at.region) (λ u. u.cell_size ≡ cell_size_for (length o.words))) (sym q.2) (least_each w.regions at.region (cell_size_for (length q.0.words)) (l.least_cells at q.0 q.1)));
+  cells = table_each w.regions l.cells;
+  pool = record { distinct = l.pool.distinct; each = λ r. (λ m. (empty_each w.regions r).1 ((l.pool.each r).0 m), λ e. (l.pool.each r).1 ((empty_each w.regions r).0 e)) };
+  registers_live = λ x c n. (let a = l.registers_live x c n in found x a.0 a.1 (λ u. (l.tricolour phase).registers x c u));
+  slots_live = λ x y a n. slots x y a n;
+  gray_live = λ x c. absurd (nobody x c);
+  log_live = λ x c. absurd (member_none x c);
+  gray_distinct = l.gray_distinct;
+  gray_marked = λ x c. absurd (nobody x c);
+  marked_live = λ at o' e m. (let q = was at o' e in let f : o'.mark ≡ false = ap (λ (o : Object). o.mark) q.2 in cc);
+  drained_within = omega arith;
+  swept_live = λ at o' e. pending_each w.regions at.region o'.live;
+  idle = λ i. record { gray = no_length w.gray left.0; log = refl; drained = refl; unmarked = λ at o' e. ap (λ (o : Object). o.mark) (was at o' e).2 };
+  tricolour = λ i. cc;
+}
+  where
+    v : HeapState
+    v = with_marking (record { regions = each_region finished_region w.regions; gray = w.gray; log = []; drained = 0; phase = Idle }) w
+
+    phase : w.phase ≡ Marking
+    phase = marking_is w.phase (none_holds _ accepted).0
+
+    left : (length w.gray ≡ 0) × (length w.log ≤ w.drained)
+    left = nothing_left (length w.gray) (length w.log) w.drained (none_holds _ accepted).1.0
+
+    nobody : (x : ℕ) → Contains w.gray x → ⊥
+    nobody x c = absurd (omega (arith, c.1, left.0))
+
+    was : (at : ObjRef) (o' : Object) → object_at (each_region finished_region w.regions) at ≡ Some o' → (o : Object) × (object_at w.regions at ≡ Some o) × (o' ≡ settled o)
+    was at o' e = was_settled (object_at w.regions at) o' (sym (object_settled w.regions at) ∙ e)
+
+    -- an object that would be sheltered were it unmarked is live afterwards
+    found : (x : ℕ) (o : Object) → object_of w.regions x ≡ Some o → (IsUnmarked w x → Sheltered w x) → IsLive v x
+    found x o e h = elim (mark_or_not w x o e) [
+      | inl m ↦ (settled m.0, named_settled w.regions x ∙ ap (option_map settled) m.1, m.2)
+      | inr u ↦ absurd (no_shelter w x left.0 left.1 (h u))
+    ]
+
+    slots : (x y : ℕ) → IsLive v x → Names v x y → IsLive v y
+    slots x y a n =
+        let q = was_settled (object_of w.regions x) a.0 (sym (named_settled w.regions x) ∙ a.1) in
+        let b = namer v x y n in
+        let same : b.0 ≡ settled q.0 = (let i = b.1 in let j = a.1 in let k = q.2 in cc) in
+        let named : Names w x y = names_of w x y q.0 q.1 (subst (λ k. Contains k y) (references_settled w.classes q.0) (subst (λ (o : Object). Contains (references_of w.classes o) y) same b.2)) in
+        let mark : q.0.mark ≡ true = ap (λ (o : Object). o.live) (sym q.2) ∙ a.2 in
+        let there : IsLive w y = l.slots_live x y (marked_object_live w l x q.0 q.1 mark) named in
+        found y there.0 there.1 (λ u. (l.tricolour phase).slots x y (q.0, q.1, mark) (λ c. nobody x c) named u)

@@ -1,0 +1,5 @@
+use Rattle.heap_world.proofs.SweepSteps.{unreclaim_held}
+use Rattle.heap_world.proofs.World.unreclaim.Goals as goal
+
+pub invariant_of-self : goal.invariant_of-self
+invariant_of-self c = unreclaim_held _ _ _ c.args.region c.args.storage _ c.self.invariant c.self.view_is c.requires.legal c.restore.ensures.state

@@ -1,0 +1,97 @@
+//! The marker's steps on the heap, and what takes each back.
+ghost use Rattle.std.specs.Prelude.{◌≡◌, ◌+◌, ◌-◌, ◌<◌, ◌≤◌, length, slice_index, None, false, IfOk, OnOk, OnErr};
+ghost use Rattle.heap_class.specs.Refusals.{IsAnswered};
+ghost use Rattle.heap_mark.specs.Marking.{snap_refusal, unsnapped, mark_refusal, unmarked, drain_refusal, undrained, finish_refusal, unfinished, dead_count};
+ghost use Rattle.heap_world.specs.State.{HeapState, marking_of, with_marking};
+ghost use Rattle.heap_world.specs.Legal.{IsLegal};
+ghost use Rattle.heap_world.specs.Events.{after_snap, after_mark, after_drain, after_finish};
+
+use super::World;
+use heap_class::Refusal;
+use heap_mark::{Finished, Log, Marked};
+
+impl World {
+    /// Begins a cycle: each object that a register names is marked and pushed on the gray stack, once, in the order of the
+    /// registers. Answers how many. Refused AlreadyMarking. Takes no memory.
+    pub fn snap(&mut self) -> Result<u64, Refusal>
+        ensures answered { IsAnswered (snap_refusal (marking_of self.old)) false result }
+        ensures snapped { OnOk result (self.new ≡ after_snap self.old) }
+        ensures pushed { IfOk result (λ n. n ≡ length self.new.gray) }
+        ensures unchanged { OnErr result (self.new ≡ self.old) }
+    {
+        self.marker.snap(&mut self.regions, &self.registers)
+    }
+
+    /// Takes a snap back. Takes no memory.
+    pub fn unsnap(&mut self)
+        requires snapped { (before : HeapState) × IsLegal before × (snap_refusal (marking_of before) ≡ None) × (self.old ≡ after_snap before) }
+        ensures { self.new ≡ with_marking (unsnapped (marking_of self.old)) self.old }
+    {
+        self.marker.unsnap(&mut self.regions)
+    }
+
+    /// Takes the newest object off the gray stack, and marks and pushes its unmarked children in slot order. Answers which
+    /// object it was, and how many children were pushed. Refused NotMarking or NothingToMark. Takes no memory.
+    pub fn mark(&mut self) -> Result<Marked, Refusal>
+        ensures answered { IsAnswered (mark_refusal (marking_of self.old)) false result }
+        ensures marked { OnOk result (self.new ≡ after_mark self.old) }
+        ensures parent { IfOk result (λ p. p.parent ≡ slice_index self.old.gray 0) }
+        ensures pushed { IfOk result (λ p. p.pushed ≡ length self.new.gray + 1 - length self.old.gray) }
+        ensures unchanged { OnErr result (self.new ≡ self.old) }
+    {
+        self.marker.mark(&mut self.regions, &self.classes)
+    }
+
+    /// Takes a mark back: the newest `pushed` gray objects are unmarked and taken off, and the parent is gray again. Takes
+    /// no memory.
+    pub fn unmark(&mut self, parent: u64, pushed: u64)
+        requires within { pushed ≤ length self.old.gray }
+        requires legal { IsLegal (with_marking (unmarked parent pushed (marking_of self.old)) self.old) }
+        ensures { self.new ≡ with_marking (unmarked parent pushed (marking_of self.old)) self.old }
+    {
+        self.marker.unmark(&mut self.regions, parent, pushed)
+    }
+
+    /// Marks and pushes the object that the next entry of the log names, where it is unmarked. Answers how many were
+    /// pushed, 0 or 1. Refused NotMarking or NothingToDrain. Takes no memory.
+    pub fn drain(&mut self) -> Result<u64, Refusal>
+        ensures answered { IsAnswered (drain_refusal (marking_of self.old)) false result }
+        ensures drained { OnOk result (self.new ≡ after_drain self.old) }
+        ensures pushed { IfOk result (λ n. n ≡ length self.new.gray - length self.old.gray) }
+        ensures unchanged { OnErr result (self.new ≡ self.old) }
+    {
+        self.marker.drain(&mut self.regions)
+    }
+
+    /// Takes a drain back: the newest `pushed` gray objects are unmarked and taken off, and the log's entry is to be
+    /// drained again. Takes no memory.
+    pub fn undrain(&mut self, pushed: u64)
+        requires within { pushed ≤ length self.old.gray }
+        requires drained { 0 < self.old.drained }
+        requires legal { IsLegal (with_marking (undrained pushed (marking_of self.old)) self.old) }
+        ensures { self.new ≡ with_marking (undrained pushed (marking_of self.old)) self.old }
+    {
+        self.marker.undrain(&mut self.regions, pushed)
+    }
+
+    /// Ends the cycle: an object is live now where it was marked, none is marked, the log is handed out, and every region in
+    /// use is yet to be swept. Answers how many objects aren't live. Refused NotMarking, NotDone while something is gray or
+    /// in the log undrained, or SweepPending with the lowest region that is yet to be swept. Takes no memory.
+    pub fn finish(&mut self) -> Result<Finished, Refusal>
+        ensures answered { IsAnswered (finish_refusal (marking_of self.old)) false result }
+        ensures finished { OnOk result (self.new ≡ after_finish self.old) }
+        ensures condemned { IfOk result (λ f. f.condemned ≡ dead_count self.new.regions) }
+        ensures log { IfOk result (λ f. f.log ≡ self.old.log) }
+        ensures unchanged { OnErr result (self.new ≡ self.old) }
+    {
+        self.marker.finish(&mut self.regions)
+    }
+
+    /// Takes a finish back, with the log that it handed out. Takes no memory.
+    pub fn unfinish(&mut self, log: Log)
+        requires legal { IsLegal (with_marking (unfinished log (marking_of self.old)) self.old) }
+        ensures { self.new ≡ with_marking (unfinished log (marking_of self.old)) self.old }
+    {
+        self.marker.unfinish(&mut self.regions, log)
+    }
+}

@@ -1,0 +1,46 @@
+//! Sweeping on the heap, and what takes it back.
+ghost use Rattle.std.specs.Prelude.{◌≡◌, ℕ, slice_get, None, Some, false, IfOk, OnOk, OnErr};
+ghost use Rattle.heap_class.specs.Refusals.{IsAnswered};
+ghost use Rattle.heap_region.specs.Regions.{Object};
+ghost use Rattle.heap_region.specs.Pool.{restored};
+ghost use Rattle.heap_sweep.specs.Sweep.{sweep_refusal, copies_dead, reclaimed, is_emptied, dead_at, unswept};
+ghost use Rattle.heap_world.specs.State.{HeapState, pool_of, with_pool};
+ghost use Rattle.heap_world.specs.Legal.{IsLegal};
+ghost use Rattle.heap_world.specs.Events.{after_sweep};
+
+use super::World;
+use heap_class::Refusal;
+use heap_region::Storage;
+use heap_sweep::{DeadCells, Reclaimed};
+
+impl World {
+    /// Removes a region's objects that aren't live; their cells head its free list, the highest first. A region left without
+    /// objects becomes empty and heads the pool. Answers what was removed. Refused NothingToSweep, or NoMemory where the
+    /// dead objects of a region in which others stay can't be copied.
+    pub fn sweep(&mut self, region: u64) -> Result<Reclaimed, Refusal>
+        ensures answered { IsAnswered (sweep_refusal region (pool_of self.old)) (copies_dead region (pool_of self.old)) result }
+        ensures swept { OnOk result (self.new ≡ after_sweep region self.old) }
+        ensures reclaimed { IfOk result (λ r. r ≡ reclaimed region (pool_of self.old)) }
+        ensures unchanged { OnErr result (self.new ≡ self.old) }
+    {
+        heap_sweep::sweep(&mut self.regions, region)
+    }
+
+    /// Takes a sweep back that left objects in its region, with what it removed. Takes no memory.
+    pub fn unsweep(&mut self, region: u64, dead: DeadCells)
+        requires swept { (before : HeapState) × IsLegal before × (sweep_refusal region (pool_of before) ≡ None) × (is_emptied region (pool_of before) ≡ false) × (dead ≡ dead_at region (pool_of before)) × (self.old ≡ after_sweep region before) }
+        ensures { self.new ≡ with_pool (unswept region dead (pool_of self.old)) self.old }
+    {
+        heap_sweep::unsweep(&mut self.regions, Reclaimed::Swept { region, dead })
+    }
+
+    /// Takes a sweep back that emptied its region, with the region's storage. Takes no memory.
+    pub fn unreclaim(&mut self, region: u64, storage: Storage)
+        requires head { slice_get self.old.pool 0 ≡ Some region }
+        requires inhabited { (cell : ℕ) × (o : Object) × (slice_get storage.cells cell ≡ Some (Some o)) }
+        requires legal { IsLegal (with_pool (restored region storage (pool_of self.old)) self.old) }
+        ensures { self.new ≡ with_pool (restored region storage (pool_of self.old)) self.old }
+    {
+        self.regions.restore(region, storage)
+    }
+}

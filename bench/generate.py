@@ -2,14 +2,15 @@
 """Prints a session of many lines, the same for the same seed: `generate.py KIND COUNT [SEED]`.
 
 KIND `first` mixes `new`, `put` and `rewind` over one class of two fields.
-KIND `last` fills every region but the last with objects of one size, and then makes and takes back objects in the last.
+KIND `pairs` makes an object in a region that has room, and takes it back, again and again.
+KIND `last` does the same after it filled every region but the last with objects of that size.
 KIND `puts` writes the two fields of one object.
 KIND `mixed` makes an object or an array now and then, and else stores, loads, puts, moves and clears.
 KIND `mixed_full` is the same after 248 regions were filled by an array each.
-KIND `marking` fills every region but the last with one list, and then begins a cycle, marks, stores and drains in turn, and
-rewinds to where the cycle began, again and again.
-KIND `cycles` fills every region but the last with two lists, drops one of them, runs a whole cycle with a store, sweeps every
-region, and makes the dropped list again, and so on."""
+KIND `marking` fills every region but the last with one list, and then begins a cycle and, again and again, cuts the list
+behind the marker, so that the barrier logs an unmarked object, drains, marks and walks on; and rewinds to where the cycle began.
+KIND `cycles` fills every region but the last with nodes of two lists in turn, drops one of them, runs a whole cycle with a
+store, sweeps every region, which copies half of its objects, and makes the dropped list again, and so on."""
 import random
 import sys
 
@@ -28,13 +29,24 @@ def first(count, rng):
             yield f"rewind {rng.randrange(1, 4)}"
 
 
+def made_and_taken_back(count):
+    """Lines that make an object, which keeps a region in use, and then make and take back another as often as is asked."""
+    yield "new 0 2 0"
+    for _ in range(count // 2):
+        yield "new 0 1 0"
+        yield "rewind 1"
+
+
+def pairs(count, rng):
+    yield "class Point - x:int y:int"
+    yield from made_and_taken_back(count)
+
+
 def last(count, rng):
     yield "class Point - x:int y:int"
     for _ in range(255 * 256):
         yield "new 0 0 0"
-    for _ in range(count // 2):
-        yield "new 0 1 0"
-        yield "rewind 1"
+    yield from made_and_taken_back(count)
 
 
 def mixed(count, rng):
@@ -67,40 +79,39 @@ def mixed_full(count, rng):
     yield from mixed(count, rng)
 
 
+def node(head):
+    """Lines that put a new node before the list that a register heads."""
+    yield "new 0 0 0"
+    yield f"store 0 0 0 {head}"
+    yield f"move 0 {head} 0 0"
+
+
 def marking(count, rng):
     yield "class Node - next:object v:long"
     for _ in range(255 * 256):
-        yield "new 0 0 0"
-        yield "store 0 0 0 1"
-        yield "move 0 1 0 0"
+        yield from node(1)
+    yield "clear 0 0"
     yield "new 0 2 0"
-    yield "new 0 0 0"
-    yield "store 0 0 0 1"
+    yield "move 0 4 0 1"
     for _ in range(count // 902):
         yield "snap"
-        for turn in range(300):
-            yield "mark"
-            yield f"store 0 0 0 {1 + turn % 2}"
+        for _ in range(180):
+            yield "load 0 5 4 0"
+            yield "store 0 4 0 2"
             yield "drain"
+            yield "mark"
+            yield "load 0 4 5 0"
         yield "rewind 901"
-
-
-def linked(count, head):
-    """Lines that make a list of so many nodes, the head of which goes to a register."""
-    yield f"clear 0 {head}"
-    for _ in range(count):
-        yield "new 0 0 0"
-        yield f"store 0 0 0 {head}"
-        yield f"move 0 {head} 0 0"
-    yield "clear 0 0"
 
 
 def cycles(count, rng):
     half = 255 * 128
     yield "class Node - next:object v:long"
-    yield from linked(half, 1)
+    for _ in range(half):
+        yield from node(1)
+        yield from node(3)
     for _ in range(1 + count // (4 * half)):
-        yield from linked(half - 2, 3)
+        yield "clear 0 0"
         yield "clear 0 3"
         yield "snap"
         yield "new 0 2 0"
@@ -110,8 +121,10 @@ def cycles(count, rng):
         yield "drain"
         yield "clear 0 2"
         yield "finish"
-        for region in range(255):
+        for region in range(256):
             yield f"sweep {region}"
+        for _ in range(half):
+            yield from node(3)
 
 
 def puts(count, rng):
@@ -122,7 +135,7 @@ def puts(count, rng):
 
 
 def main():
-    kinds = {each.__name__: each for each in (first, last, mixed, mixed_full, marking, cycles, puts)}
+    kinds = {each.__name__: each for each in (first, pairs, last, mixed, mixed_full, marking, cycles, puts)}
     kind, count = sys.argv[1], int(sys.argv[2])
     rng = random.Random(int(sys.argv[3]) if len(sys.argv) > 3 else 1)
     print("\n".join(kinds[kind](count, rng)))

@@ -34,7 +34,8 @@ P
 }
 measure first 100000 16
 measure first 100000 256
-measure last 100000 256
+measure pairs 4000000 1
+measure last 4000000 256
 measure mixed 1000000 8
 measure mixed_full 1000000 256
 measure marking 1000000 256

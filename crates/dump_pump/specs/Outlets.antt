@@ -1,5 +1,6 @@
 -- What a put does.
 use Rattle.std.specs.Prelude.{◌≡◌, ℕ, ◌+◌, ◌<◌, ◌≤◌, List, ◌++◌, map, take, length, Option, Some, None}
+use Rattle.std.specs.Coded.{Unit-prop, Coded-set, coded_list, coded_ℕ}
 use Rattle.std.specs.Io.KnownBytes.{Appends, Keeps}
 use Rattle.dump_pump.specs.declared.Put.{Put}
 use Rattle.dump_pump.specs.declared.Put.TheVariants.{Took, Failed}
@@ -13,6 +14,11 @@ pub record Outgoing : Type 0 where
 abbrev pub bytes_of : List (ℕ × Unit {0}) → List ℕ
 bytes_of entries = map (λ e. e.0) entries
 
+-- the bytes that a writer told when its outlet was made, and then those that were put out
+abbrev pub out_of : Option (List ℕ) → List ℕ → List ℕ
+out_of None put = put
+out_of (Some start) put = start ++ put
+
 -- a put takes a part at the front of what it is given, or fails and takes nothing
 abbrev pub IsPut : List ℕ → Outgoing → Outgoing → Put → Type 0
 IsPut given a b (Took n) = (0 < n) × (n ≤ length given) × (b.out ≡ a.out ++ take n given) × (b.failures ≡ a.failures)
@@ -22,3 +28,9 @@ IsPut given a b Failed = (b.out ≡ a.out) × (b.failures ≡ a.failures + 1)
 abbrev pub IsTriedWrite : Option (List ℕ) → Option (List ℕ) → Option ℕ → List ℕ → Type 0
 IsTriedWrite old new (Some n) given = (0 < n) × (n ≤ length given) × Appends old new (take n given)
 IsTriedWrite old new None given = Keeps old new
+
+-- there is one proof at most that bytes were appended
+pub Appends-prop : (old new : Option (List ℕ)) (bytes : List ℕ) → IsProp (Appends old new bytes)
+Appends-prop None new bytes = Unit-prop
+Appends-prop (Some xs) None bytes = Prim.hlevel
+Appends-prop (Some xs) (Some ys) bytes = Coded-set (coded_list coded_ℕ) ys (xs ++ bytes)

@@ -746,6 +746,3 @@ impl Classes {
         self.entries[class as usize].fields[field as usize].name as u64 + 1
     }
 }
-
-#[cfg(test)]
-mod tests;

@@ -10,7 +10,6 @@ pub mod Children
 pub mod Pops
 pub mod Calls
 pub mod Firsts
-pub mod Numbers
 pub mod Written
 pub mod Unmarked
 pub mod Pending

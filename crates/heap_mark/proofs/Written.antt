@@ -2,9 +2,8 @@
 use Rattle.std.proofs.Common.{◌≡◌, ℕ, suc, ◌+◌, ◌≤◌, Bool, true, false, List, length, map, get_or, Option, Some, None, refl, sym, ap, ◌∙◌, arith}
 use Rattle.std.specs.Prelude.{slice_get, option_map, option_and_then, is_some, IsSome, IfSome}
 use Rattle.heap_class.specs.declared.ObjRef.{ObjRef}
-use Rattle.heap_region.specs.Regions.{Object, UsedRegion, Region, Empty, InUse, used_part, used_at, object_at, updated, in_used, with_region, with_object, with_mark}
+use Rattle.heap_region.specs.Regions.{Object, UsedRegion, Region, Empty, InUse, used_part, used_at, object_at, updated, in_used, with_region, with_object, with_mark, slot_object}
 use Rattle.heap_region.specs.Pool.{RegionPool}
-use Rattle.heap_region.specs.Table.{slot_object}
 use Rattle.heap_region.specs.Changes.{with_live, with_pending}
 use Rattle.heap_region.specs.Live.{cells_of}
 use Rattle.heap_region.proofs.Updated.{updated_twice, updated_same}

@@ -53,9 +53,9 @@ fn finish_region(regions: &mut Regions, region: u64) -> u64
     ensures unmarked { result ≡ unmarked_in (used_at regions.old.regions region) }
     ensures limit { result ≤ cells_each }
 {
-    let number = region_number(regions, region);
+    let number = regions.region_number(region);
     let mut unmarked = 0;
-    for cell in 0..cell_count(regions, region) {
+    for cell in 0..regions.cell_count(region) {
         let at = ObjRef {
             region: number,
             cell,
@@ -73,8 +73,8 @@ fn unfinish_region(regions: &mut Regions, region: u64)
     requires { IsSome (used_at regions.old.regions region) }
     ensures { regions.new ≡ record regions.old { regions = with_region region unfinished_region regions.old.regions } }
 {
-    let number = region_number(regions, region);
-    for cell in 0..cell_count(regions, region) {
+    let number = regions.region_number(region);
+    for cell in 0..regions.cell_count(region) {
         let at = ObjRef {
             region: number,
             cell,
@@ -109,26 +109,4 @@ fn unfinish_cell(regions: &mut Regions, at: ObjRef)
     let (is_live, _) = regions.bits(at);
     regions.set_mark(at, is_live);
     regions.set_live(at, true);
-}
-
-// The number of a region in use, which is small.
-fn region_number(regions: &Regions, region: u64) -> u16
-    requires { IsSome (used_at regions.now.regions region) }
-    ensures { result ≡ region }
-{
-    let _count = regions.count();
-    region as u16
-}
-
-// How many cells a region in use has.
-fn cell_count(regions: &Regions, region: u64) -> u16
-    requires { IsSome (used_at regions.now.regions region) }
-    ensures value { result ≡ length (cells_of (used_at regions.now.regions region)) }
-    ensures limit { result ≤ cells_each }
-{
-    let _count = regions.count();
-    match regions.cell_size(region) {
-        Some(size) => (1024 / size) as u16,
-        None => 0,
-    }
 }

@@ -7,7 +7,8 @@ use Rattle.std.proofs.lemmas.List.{get_or-set_same, get_or-set_other, get_or-tak
 use Rattle.std.specs.List.{list_any}
 use Rattle.heap_region.specs.Regions.{Object, UsedRegion}
 use Rattle.heap_region.specs.declared.storage.Header.{Header}
-use Rattle.heap_region.specs.Layout.{IsWhole, ObjectFits, words_of, with_cell, changed_at, word_set, cell_freed, filled, Heads, overwritten, is_vacant, header_object, cells_from, walk, IsChain, HeaderFits, IsLocal, IsSound}
+use Rattle.heap_region.specs.Layout.{IsWhole, ObjectFits, words_of, with_cell, changed_at, word_set, filled, Heads, overwritten, is_vacant, header_object, cells_from, walk, IsChain, HeaderFits, IsLocal, IsSound}
+use Rattle.heap_region.specs.Pool.{cell_freed}
 use Rattle.heap_region.proofs.Cells.{length-cells_from, cells_changed, cell_shows, cell_lies, header_within, header_shows, length_of_object}
 use Rattle.heap_region.proofs.Sound.{shown, sound_written, sound_filled, sound_freed, sound_closes, walk_finds, vacant_within, vacant_at, size_positive}
 
@@ -184,6 +185,11 @@ first_few size ws hs link (x ∷ xs) sound ne =
     let v : is_vacant hs x ≡ true = sym (sound.vacant x) ∙ ap (λ b. b || list_any (eqb x) xs) (eq-eqb x x refl) in
     let lt : x < length hs = vacant_within hs x v in
     omega (arith, sound.linked.0, lt, few_cells size (length hs) (size_positive size sound.sized) sound.covers)
+
+-- so a link is at most 256
+pub link_few : (size : ℕ) (ws : List ℕ) (hs : List (Option Header)) (link : ℕ) (free : List ℕ) → IsSound size ws hs link free → link ≤ 256
+link_few size ws hs zero free sound = omega arith
+link_few size ws hs (suc n) free sound = omega (arith, first_few size ws hs (suc n) free sound (λ e. omega arith))
 
 -- a cell of the free list lies within
 pub listed_lies : (size : ℕ) (ws : List ℕ) (hs : List (Option Header)) (link : ℕ) (free : List ℕ) (cell : ℕ) → IsSound size ws hs link free → list_any (eqb cell) free ≡ true → (cell * size + size ≤ length ws) × (4 ≤ size)

@@ -2,7 +2,6 @@ pub mod Limits
 pub mod Regions
 pub mod Pool
 pub mod Legal
-pub mod Opened
 pub mod Layout
 pub mod Table
 pub mod Live

@@ -8,12 +8,12 @@ ghost use Rattle.heap_class.specs.Refusals.{IsAnswered};
 ghost use Rattle.heap_class.specs.declared.ObjRef.{ObjRef};
 ghost use Rattle.heap_class.specs.declared.Refusal.TheVariants.{NoMemory};
 ghost use Rattle.heap_region.specs.Limits.{region_limit};
-ghost use Rattle.heap_region.specs.Regions.{Object, UsedRegion, Region, cell_size_for, object_at, object_of, used_at, id_of, ref_of, with_mark, with_word, live_places};
+ghost use Rattle.heap_region.specs.Regions.{FitsWords, Object, UsedRegion, Region, cell_size_for, object_at, object_of, used_at, id_of, ref_of, with_mark, with_word, live_places};
 ghost use Rattle.heap_region.specs.Pool.{RegionPool, opening_pool, alloc_refusal, is_fresh, free_place, new_place, taken, freed, released, restored, allocated, unallocated, blank_object};
 ghost use Rattle.heap_region.specs.Legal.{IsCellTable, IsRegionPool};
-ghost use Rattle.heap_region.specs.Layout.{IsCellSize, FitsWords};
+ghost use Rattle.heap_region.specs.Layout.{IsCellSize};
 ghost use Rattle.heap_region.specs.Changes.{with_live, with_pending};
-ghost use Rattle.heap_region.specs.Live.{live_in, live_from};
+ghost use Rattle.heap_region.specs.Live.{cells_of, live_in, live_from};
 
 mod lists;
 mod slots;
@@ -59,9 +59,10 @@ impl Model for Regions {
     ghost invariant = { λ h. IsTable h.slots.items h.rooms.items (reverse h.pool.items) (vec_capacity h.pool) };
 }
 
-/// The cell size for this many slots, of at most 1,024: the least that holds them.
+/// The cell size for an object of this many slots: the least of 4, 16, 64, 256 and 1,024 words that holds them.
+/// For more than 1,024 slots, of which `alloc` makes no object, it is 1,024, too.
 #[tactic(auto, unfolding(crate::specs::Regions::cell_size_for))]
-pub fn cell_size(slots: u64) -> u64
+pub fn cell_size_for(slots: u64) -> u64
     ensures { result ≡ cell_size_for slots }
 {
     if slots <= 4 {
@@ -78,7 +79,8 @@ pub fn cell_size(slots: u64) -> u64
 }
 
 impl Regions {
-    /// So many empty regions, 1 to 256. Room for the pool is reserved.
+    /// So many empty regions, 1 to 256. It makes three allocations, one of them the pool's, which has room for all regions.
+    /// Refused NoMemory where one can't be had.
     pub fn new(alloc: Global, count: u64) -> Result<Regions, Refusal>
         requires { (1 ≤ count) × (count ≤ region_limit) }
         ensures opened { IfOk result (λ s. s ≡ opening_pool count) }
@@ -99,8 +101,10 @@ impl Regions {
         self.slots.len() as u64
     }
 
-    /// The allocator from which regions and copies of objects are taken.
-    pub fn allocator(&self) -> Global {
+    /// The allocator from which regions and copies of objects are taken. Every `Global` is the same.
+    pub fn allocator(&self) -> Global
+        ensures { (other : Global) → result ≡ other }
+    {
         self.alloc
     }
 
@@ -115,7 +119,7 @@ impl Regions {
         if len > REGION_WORDS {
             return Err(Refusal::TooLarge);
         }
-        let size = cell_size(len) as usize;
+        let size = cell_size_for(len) as usize;
         if let Some(at) = self.place_for(size) {
             self.take_at(at, kind, len as usize, mark);
             return Ok((at, false));
@@ -154,7 +158,7 @@ impl Regions {
         ensures { result ≡ is_some (object_at self.now.regions at) }
     {
         match self.used(at.region as usize) {
-            Some(storage) => storage.has_object(at.cell as usize),
+            Some(storage) => storage.has_object(at.cell as u64),
             None => false,
         }
     }
@@ -226,6 +230,24 @@ impl Regions {
         }
     }
 
+    /// How many cells a region in use has.
+    pub fn cell_count(&self, region: u64) -> u16
+        requires { IsSome (used_at self.now.regions region) }
+        ensures value { result ≡ length (cells_of (used_at self.now.regions region)) }
+        ensures limit { result ≤ 256 }
+    {
+        self.storage(region as usize).cells() as u16
+    }
+
+    /// The number of a region in use, as the places of its cells have it.
+    pub fn region_number(&self, region: u64) -> u16
+        requires { IsSome (used_at self.now.regions region) }
+        ensures { result ≡ region }
+    {
+        let _storage = self.storage(region as usize);
+        region as u16
+    }
+
     /// Whether a region is yet to be swept; none where it is empty or there is no such region.
     pub fn pending(&self, region: u64) -> Option<bool>
         ensures { result ≡ option_map (λ u. u.pending) (used_at self.now.regions region) }
@@ -244,7 +266,29 @@ impl Regions {
         OBJECT_BASE + 8 * (REGION_WORDS * at.region as u64 + at.cell as u64 * size)
     }
 
-    /// The place of the object that an id names.
+    /// The place of the object that an id names; none where it names no object. It costs a constant.
+    pub fn find(&self, id: u64) -> Option<ObjRef>
+        ensures { MatchOption result (object_of self.now.regions id ≡ None) (λ at. (ref_of self.now.regions id ≡ Some at) × IsSome (object_at self.now.regions at)) }
+    {
+        if id < OBJECT_BASE {
+            return None;
+        }
+        let word = (id - OBJECT_BASE) / 8;
+        let region = word / REGION_WORDS;
+        let storage = self.used(region as usize)?;
+        let size = storage.cell_size() as u64;
+        let at = ObjRef {
+            region: region as u16,
+            cell: (word % REGION_WORDS / size) as u16,
+        };
+        if self.id(at) == id && self.has_object(at) {
+            Some(at)
+        } else {
+            None
+        }
+    }
+
+    /// The place of the object that an id names. Whether it names one `find` tells.
     pub fn place(&self, id: u64) -> ObjRef
         requires { IsSome (object_of self.now.regions id) }
         ensures { ref_of self.now.regions id ≡ Some result }
@@ -358,7 +402,8 @@ impl Regions {
         }
     }
 
-    /// Moves a storage with an object into the region that heads the pool. It takes a `release` back. Takes no memory.
+    /// Moves a storage with an object, of which `Storage::has_object` tells, into the region that heads the pool.
+    /// It takes a `release` back. Takes no memory.
     pub fn restore(&mut self, region: u64, storage: Storage)
         requires head { slice_get self.old.pool 0 ≡ Some region }
         requires inhabited { (cell : ℕ) × (o : Object) × (slice_get storage.cells cell ≡ Some (Some o)) }
@@ -393,12 +438,12 @@ impl Regions {
         requires { (1 ≤ count) × (count ≤ region_limit) }
         ensures { IfOk result (λ s. s ≡ opening_pool count) }
     {
-        let mut slots = Vec::new(alloc);
         let mut rooms = Vec::new(alloc);
         rooms.resize(count, 0)?;
+        let mut slots = Vec::with_capacity(alloc, count)?;
         let mut pool = Vec::with_capacity(alloc, count)?;
         for i in 0..count {
-            slots.push(None)?;
+            slots.push_reserved(None);
             pool.push_reserved(count - 1 - i);
         }
         Ok(Regions {

@@ -1,6 +1,8 @@
 //! A region in use: 1,024 words, cut into cells of one size, with the free cells in a list that lies in them.
 ghost use Rattle.std.specs.Prelude.{◌≡◌, ℕ, ◌+◌, ◌-◌, ◌*◌, ◌/◌, ◌<◌, ◌≤◌, List, [], ◌∷◌, length, ◌↔◌, IsTrue, IfOk, IsSome, IfSome, slice_index, slice_index_or, replicate, take, drop, Some, None, is_some, slice_get, slice_set};
-ghost use Rattle.heap_region.specs.Layout.{next_link, IsCellSize, IsWhole, FitsWords, fresh_table, cell_object, words_at, changed_at, word_set, mark_set, live_set, cell_freed, filled, Heads, new_object, overwritten, header_live};
+ghost use Rattle.heap_region.specs.Regions.{FitsWords, cell_object};
+ghost use Rattle.heap_region.specs.Pool.{blank_object, cell_freed, fresh_region};
+ghost use Rattle.heap_region.specs.Layout.{next_link, IsCellSize, IsWhole, words_at, changed_at, word_set, mark_set, live_set, filled, Heads, overwritten, header_live};
 ghost use Rattle.heap_region.specs.Live.{IsNextLive};
 
 use crate::lists::FreeCells;
@@ -28,12 +30,12 @@ struct Block {
 /// A region in use.
 #[derive(Drop)]
 pub struct Storage {
-    cell_size: usize,
-    pending: bool,
     block: Box<Block>,
+    cell_size: u16,
     // The number of the cell that heads the free list, and one; 0 where there is none.
     // The first word of each free cell has the next such number.
-    head: u64,
+    head: u16,
+    pending: bool,
 }
 
 impl Model for Storage {
@@ -77,11 +79,32 @@ impl Model for ObjectCopy {
 }
 
 impl ObjectCopy {
+    /// What the object is.
+    pub fn kind(&self) -> ObjKind
+        ensures { result ≡ self.now.kind }
+    {
+        self.kind
+    }
+
     /// How many slots the object has.
     pub fn len(&self) -> u64
         ensures { result ≡ length self.now.words }
     {
         self.words.len() as u64
+    }
+
+    /// The words of the object, in slot order.
+    pub fn words(&self) -> &[u64]
+        ensures { result.now ≡ self.now.words }
+    {
+        &self.words
+    }
+
+    /// The two bits of the object, `live` and `mark`.
+    pub fn bits(&self) -> (bool, bool)
+        ensures { (result.0 ≡ self.now.live) × (result.1 ≡ self.now.mark) }
+    {
+        (self.live, self.mark)
     }
 }
 
@@ -186,17 +209,17 @@ impl Storage {
     /// A region with cells of this size, all of them free.
     pub(crate) fn new(alloc: Global, cell_size: usize) -> Result<Storage, AllocError>
         requires { IsCellSize cell_size }
-        ensures { IfOk result (λ s. s ≡ fresh_table cell_size) }
+        ensures { IfOk result (λ s. s ≡ fresh_region cell_size) }
     {
         let count = 1024 / cell_size;
         let mut block = Block::blank(alloc)?;
         add_vacant(&mut block.headers, count);
         link_cells(&mut block.words, cell_size, count);
         Ok(Storage {
-            cell_size,
-            pending: false,
             block,
+            cell_size: cell_size as u16,
             head: 1,
+            pending: false,
         })
     }
 
@@ -213,7 +236,7 @@ impl Storage {
         ensures value { result ≡ self.now.cell_size }
         ensures whole { IsWhole self.now }
     {
-        self.cell_size
+        self.cell_size as usize
     }
 
     /// Whether the region is yet to be swept.
@@ -249,9 +272,9 @@ impl Storage {
         let block = &*self.block;
         FreeCells {
             words: &block.words,
-            cell_size: self.cell_size,
+            cell_size: self.cell_size as usize,
             count: block.headers.len(),
-            link: self.head,
+            link: self.head as u64,
         }
     }
 
@@ -281,11 +304,11 @@ impl Storage {
         (header.live, header.mark)
     }
 
-    /// Whether there is an object in the cell.
-    pub(crate) fn has_object(&self, cell: usize) -> bool
-        ensures { result ≡ is_some (cell_object self.now cell) }
+    /// Whether there is an object in the cell; none is in a cell that the region doesn't have.
+    pub fn has_object(&self, cell: u64) -> bool
+        ensures { result ≡ is_some (slice_index_or self.now.cells cell None) }
     {
-        is_taken(&self.block.headers, cell)
+        is_taken(&self.block.headers, cell as usize)
     }
 
     /// The first cell from this one on that has a live object.
@@ -307,7 +330,7 @@ impl Storage {
         requires { slot < length (words_at self.now cell) }
         ensures { result ≡ slice_index (words_at self.now cell) slot }
     {
-        self.block.words[cell * self.cell_size + slot]
+        self.block.words[cell * self.cell_size as usize + slot]
     }
 
     /// The words of the object in the cell, in slot order.
@@ -317,7 +340,7 @@ impl Storage {
     {
         let block = &*self.block;
         let len = header_at(&block.headers, cell).len;
-        part(&block.words, cell * self.cell_size, len)
+        part(&block.words, cell * self.cell_size as usize, len)
     }
 
     /// Writes a word of the object in the cell.
@@ -326,7 +349,7 @@ impl Storage {
         ensures value { self.new ≡ changed_at self.old cell (word_set slot value) }
         ensures whole { IsWhole self.new }
     {
-        let at = cell * self.cell_size + slot;
+        let at = cell * self.cell_size as usize + slot;
         self.block.words[at] = value;
     }
 
@@ -359,7 +382,8 @@ impl Storage {
     {
         let block = &*self.block;
         let header = header_at(&block.headers, cell);
-        let words = Vec::from_slice(alloc, part(&block.words, cell * self.cell_size, header.len))?;
+        let start = cell * self.cell_size as usize;
+        let words = Vec::from_slice(alloc, part(&block.words, start, header.len))?;
         Ok(ObjectCopy {
             kind: header.kind,
             words,
@@ -373,22 +397,22 @@ impl Storage {
         requires { IsSome (cell_object self.old cell) }
         ensures { self.new ≡ cell_freed self.old cell }
     {
-        let start = cell * self.cell_size;
+        let start = cell * self.cell_size as usize;
         let block = &mut *self.block;
-        block.words[start] = self.head;
+        block.words[start] = self.head as u64;
         set_header(&mut block.headers, cell, None);
-        self.head = cell as u64 + 1;
+        self.head = (cell + 1) as u16;
     }
 
     /// Puts a new object into the cell, which heads the free list.
     pub(crate) fn take(&mut self, cell: usize, kind: ObjKind, len: usize, mark: bool)
         requires head { Heads cell self.old.free }
         requires fits { FitsWords self.old.cell_size len }
-        ensures { self.new ≡ filled self.old cell (new_object kind len mark) }
+        ensures { self.new ≡ filled self.old cell (blank_object kind len mark) }
     {
-        let start = cell * self.cell_size;
+        let start = cell * self.cell_size as usize;
         let block = &mut *self.block;
-        self.head = block.words[start];
+        self.head = block.words[start] as u16;
         clear(&mut block.words, start, len);
         let header = Header {
             kind,
@@ -405,9 +429,9 @@ impl Storage {
         requires fits { FitsWords self.old.cell_size (length object.now.words) }
         ensures { self.new ≡ filled self.old cell object.now }
     {
-        let start = cell * self.cell_size;
+        let start = cell * self.cell_size as usize;
         let block = &mut *self.block;
-        self.head = block.words[start];
+        self.head = block.words[start] as u16;
         overwrite(&mut block.words, start, &object.words);
         let header = Header {
             kind: object.kind,

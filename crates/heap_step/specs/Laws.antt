@@ -1,5 +1,5 @@
 -- What applying and taking back keep.
-use Rattle.std.specs.Prelude.{◌≡◌, ◌⊎◌, ℕ, None, Result, IfOk, OnErr}
+use Rattle.std.specs.Prelude.{◌≡◌, ◌≤◌, ◌⊎◌, ⊤, ℕ, None, Result, IfOk, OnErr}
 use Rattle.heap_class.specs.declared.Refusal.{Refusal}
 use Rattle.heap_class.specs.Refusals.{IsAnswered}
 use Rattle.heap_region.specs.Regions.{object_of}
@@ -11,6 +11,7 @@ use Rattle.heap_step.specs.declared.Answer.{Answer}
 use Rattle.heap_step.specs.declared.Event.{Event}
 use Rattle.heap_step.specs.declared.Event.TheVariants.{Finish, Sweep}
 use Rattle.heap_step.specs.declared.Undo.{Undo}
+use Rattle.heap_step.specs.declared.Undo.TheVariants.{Finish as Log}
 use Rattle.heap_step.specs.Apply.{refusal_of, state_after, answer_of, event_may_grow}
 use Rattle.heap_step.specs.Records.{undo_record, undone}
 
@@ -25,6 +26,10 @@ IsTakenBack e w = IsLegal w → refusal_of e w ≡ None → undone (undo_record 
 -- while a cycle runs, what is marked or sheltered in the first state is so in the second
 abbrev pub StaysFound : HeapState → HeapState → Type 0
 StaysFound w v = w.phase ≡ Marking → v.phase ≡ Marking → (x : ℕ) → (IsMarked w x ⊎ Sheltered w x) → (IsMarked v x ⊎ Sheltered v x)
+
+-- while a cycle runs, all that the registers reach is marked or sheltered
+abbrev pub FindsReached : HeapState → Type 0
+FindsReached w = IsLegal w → w.phase ≡ Marking → (x : ℕ) → Reaches w x → IsMarked w x ⊎ Sheltered w x
 
 -- a sweep leaves each object that the registers reach, its kind and words too
 abbrev pub SweepSpares : ℕ → HeapState → Type 0
@@ -48,3 +53,8 @@ pub record IsApplied (e : Event) (before after : HeapState) (result : Result (An
   pub answer : IfOk result (λ p. p.0 ≡ answer_of e before after)
   pub recorded : IfOk result (λ p. p.1 ≡ undo_record e before)
   pub unchanged : OnErr result (after ≡ before)
+
+-- only a Finish's record weighs more than so many
+abbrev pub IsLight : Undo → ℕ → Type 0
+IsLight (Log log) n = ⊤
+IsLight left n = n ≤ 2048

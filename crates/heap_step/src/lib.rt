@@ -6,17 +6,16 @@ ghost use Rattle.heap_world.specs.State.{HeapState};
 ghost use Rattle.heap_world.specs.Legal.{IsLegal};
 ghost use Rattle.heap_step.specs.declared.Event.{Event};
 ghost use Rattle.heap_step.specs.Apply.{refusal_of, state_after};
-ghost use Rattle.heap_step.specs.Laws.{FinishSpares, IsTakenBack, KeepsLegal, StaysFound, SweepSpares};
+ghost use Rattle.heap_step.specs.Laws.{FindsReached, FinishSpares, IsTakenBack, KeepsLegal, StaysFound, SweepSpares};
 
 mod events;
 pub mod step;
-#[cfg(test)]
-mod tests;
 
 use heap_class::{ClassNo, Fields, Kind, Name, ObjRef};
 use heap_mark::Log;
 use heap_region::Storage;
 use heap_sweep::DeadCells;
+use std::mem::size_of;
 pub use step::{apply, weight};
 
 /// One step that is asked for. Numbers of mutators, registers, classes and slots may be any 64-bit numbers.
@@ -158,14 +157,17 @@ pub enum Undo {
         log: Log,
     },
     Sweep {
-        region: u64,
+        region: u16,
         dead: DeadCells,
     },
     Reclaim {
-        region: u64,
+        region: u16,
         storage: Storage,
     },
 }
+
+// The ring has one for each step that can be taken back.
+const _: () = prove!(size_of::<Undo>() <= 32);
 
 /// The law that each event that a legal heap accepts keeps it legal.
 pub fn keeps_legal()
@@ -180,6 +182,11 @@ pub fn undo_takes_back()
 /// The law that while a cycle runs each accepted event of a legal heap leaves what is marked or sheltered so.
 pub fn stays_found()
     ensures { (e : Event) (w : HeapState) → IsLegal w → refusal_of e w ≡ None → StaysFound w (state_after e w) }
+{}
+
+/// The law that while a cycle runs in a legal heap all that the registers reach is marked or sheltered.
+pub fn finds_reached()
+    ensures { (w : HeapState) → FindsReached w }
 {}
 
 /// The law that a sweep of a legal heap leaves each object that the registers reach.

@@ -7,7 +7,7 @@ ghost use Rattle.heap_world.specs.Legal.{IsLegal};
 ghost use Rattle.heap_step.specs.declared.Event.{Event};
 ghost use Rattle.heap_step.specs.Apply.{refusal_of, state_after, applied, event_may_grow};
 ghost use Rattle.heap_step.specs.Records.{undo_record, weight};
-ghost use Rattle.heap_step.specs.Laws.{IsStep, StaysFound};
+ghost use Rattle.heap_step.specs.Laws.{IsLight, IsStep, StaysFound};
 
 use crate::events::dispatch;
 use crate::{Answer, Event, Undo};
@@ -62,10 +62,11 @@ pub fn undo(world: &mut World, left: Undo)
     }
 }
 
-/// What a record keeps besides its fixed fields.
+/// What a record keeps besides its fixed fields: at most 2,048, or as many entries as its log has for a Finish.
 #[tactic(auto, unfolding(crate::specs::Records::weight))]
 pub fn weight(left: &Undo) -> u64
-    ensures { result ≡ weight left.now }
+    ensures value { result ≡ weight left.now }
+    ensures light { IsLight left.now result }
 {
     match left {
         Undo::Put { .. } | Undo::Store { .. } => 1,

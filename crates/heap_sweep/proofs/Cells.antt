@@ -1,5 +1,5 @@
 -- What walks over the cells of a region meet.
-use Rattle.std.proofs.Common.{◌≡◌, ℕ, zero, suc, ◌+◌, ◌<◌, ◌≤◌, ◌/◌, Bool, true, false, not, ◌||◌, cond, List, [], ◌∷◌, ◌++◌, length, drop, get_or, Option, Some, None, IsSome, inl, inr, refl, sym, ap, ◌∙◌, arith}
+use Rattle.std.proofs.Common.{◌≡◌, ℕ, ◌+◌, ◌<◌, ◌≤◌, ◌/◌, Bool, true, false, not, ◌||◌, cond, List, [], ◌∷◌, ◌++◌, length, drop, get_or, Option, Some, None, IsSome, inl, inr, refl, sym, ap, ◌∙◌, arith}
 use Rattle.std.specs.Prelude.{option_map, Contains}
 use Rattle.std.proofs.Math.Nat.{div-le_of_le-mul}
 use Rattle.std.specs.Option.{option_map_or}
@@ -7,11 +7,10 @@ use Rattle.std.specs.List.{filter_map, cons_option, enumerate_from, list_any, Al
 use Rattle.std.proofs.lemmas.List.{at_drop_more, at_drop_all, append_assoc, length-append}
 use Rattle.heap_class.specs.declared.ObjRef.{ObjRef}
 use Rattle.heap_region.specs.Limits.{cell_sizes}
-use Rattle.heap_region.specs.Regions.{Object, UsedRegion, Region, used_at, object_at}
+use Rattle.heap_region.specs.Regions.{Object, UsedRegion, Region, used_at, object_at, slot_object}
 use Rattle.heap_region.specs.Pool.{RegionPool}
-use Rattle.heap_region.specs.Legal.{IsCellTable, IsRegionPool}
+use Rattle.heap_region.specs.Legal.{IsCellTable}
 use Rattle.heap_region.specs.Live.{cells_of, is_live}
-use Rattle.heap_region.specs.Table.{slot_object}
 use Rattle.heap_region.proofs.Shown.{object_of_used}
 use Rattle.heap_region.proofs.References.{member_cases, member_none}
 use Rattle.heap_sweep.specs.Sweep.{dead_part, dead_cells, has_live, is_emptied, dead_at}
@@ -134,13 +133,6 @@ none_dead_left cells c le = at_drop_all (dead_pairs c) cells c le
 
 -- ---- how many there are
 
--- the number of a region in use is small
-pub number_within : (regions : List Region) (r : ℕ) → IsSome (used_at regions r) → r < length regions
-unfolding used_at
-number_within [] r some = absurd (cc)
-number_within (x ∷ xs) zero some = omega arith
-number_within (x ∷ xs) (suc r) some = let e = number_within xs r some in omega arith
-
 least_of : (xs : List ℕ) (n : ℕ) → AllByRecursion (λ x. 4 ≤ x) xs → Contains xs n → 4 ≤ n
 least_of [] n a c = absurd (member_none n c)
 least_of (x ∷ xs) n a c = elim (member_cases x xs n c) [
@@ -156,15 +148,3 @@ table_few u t =
     let least : 4 ≤ u.cell_size = least_of cell_sizes u.cell_size (omega arith, (omega arith, (omega arith, (omega arith, (omega arith, tt))))) t.size in
     let few : 1024 / u.cell_size ≤ 256 = few_cells u.cell_size least in
     (least, omega (arith, t.cells))
-
--- what divides the words of a region into its cells
-pub cells_counted : (r : ℕ) (s : RegionPool) (size : ℕ) → IsRegionPool s → Some size ≡ option_map (λ u. u.cell_size) (used_at s.regions r) → (0 < size) × (1024 / size ≡ length (cells_at r s)) × (length (cells_at r s) ≤ 256)
-cells_counted r s size legal is = go (used_at s.regions r) refl is
-  where
-    go : (x : Option UsedRegion) → used_at s.regions r ≡ x → Some size ≡ option_map (λ u. u.cell_size) x → (0 < size) × (1024 / size ≡ length (cells_of x)) × (length (cells_of x) ≤ 256)
-    go None used e = cc
-    go (Some u) used e =
-        let t : IsCellTable u = legal.tables r u used in
-        let few = table_few u t in
-        let s : size ≡ u.cell_size = cc in
-        (omega (arith, few.0), ap (λ n. 1024 / n) s ∙ sym t.cells, few.1)

@@ -1,19 +1,15 @@
 //! The sweeper of regions: it takes out the objects of a region that aren't live, and puts them back.
 #![tactic(auto)]
 
-ghost use Rattle.std.specs.Prelude.{◌≡◌, ◌<◌, ◌≤◌, ◌+◌, ℕ, length, sum_by, true, false, not, option_map, IsSome, IfOk, IfErr, OnOk, OnErr, None};
+ghost use Rattle.std.specs.Prelude.{◌≡◌, ◌<◌, ◌≤◌, ◌+◌, ℕ, length, sum_by, true, false, not, IsSome, IfOk, IfErr, OnOk, OnErr, None};
 ghost use Rattle.heap_class.specs.Refusals.{IsAnswered};
 ghost use Rattle.heap_class.specs.declared.Refusal.TheVariants.{NoMemory};
-ghost use Rattle.heap_region.specs.Limits.{region_limit};
 ghost use Rattle.heap_region.specs.Regions.{used_at, object_at, with_region};
 ghost use Rattle.heap_region.specs.Pool.{RegionPool};
 ghost use Rattle.heap_region.specs.Legal.{IsRegionPool};
 ghost use Rattle.heap_region.specs.Live.{is_live};
 ghost use Rattle.heap_sweep.specs.Sweep.{sweep_refusal, copies_dead, swept, reclaimed, reclaimed_dead, reclaimed_emptied, is_emptied, dead_at};
 ghost use Rattle.heap_sweep.specs.Cells.{cells_at, is_dead, cleared, WasCleared};
-
-#[cfg(test)]
-mod tests;
 
 use heap_class::{ObjRef, Refusal};
 use heap_region::{ObjectCopy, Regions, Storage};
@@ -35,7 +31,7 @@ impl Model for DeadCells {
 
     ghost use Rattle.std.specs.Prelude.{◌≤◌, ◌+◌, length, sum_by};
 
-    ghost invariant = { λ d. sum_by (λ c. 1 + length c.1.words) d.cells.items ≤ 262400 };
+    ghost invariant = { λ d. sum_by (λ c. 1 + length c.1.words) d.cells.items ≤ 1280 };
 }
 
 impl DeadCells {
@@ -46,9 +42,10 @@ impl DeadCells {
         self.cells.len() as u64
     }
 
-    /// How many there are, and how many slots they have, together.
+    /// How many there are, and how many slots they have, together: no more than all cells of a region and their words.
     pub fn weight(&self) -> u64
-        ensures { result ≡ sum_by (λ d. 1 + length d.1.words) self.now }
+        ensures value { result ≡ sum_by (λ d. 1 + length d.1.words) self.now }
+        ensures limit { result ≤ 1280 }
     {
         let mut weight = 0;
         for (_, object) in &self.cells {
@@ -63,12 +60,12 @@ impl DeadCells {
 pub enum Reclaimed {
     /// The dead objects of a region that keeps its live ones.
     Swept {
-        region: u64,
+        region: u16,
         dead: DeadCells,
     },
     /// The whole storage of a region of which no object was live, and how many objects it holds.
     Emptied {
-        region: u64,
+        region: u16,
         storage: Storage,
         dead: u64,
     },
@@ -109,11 +106,12 @@ pub fn sweep(regions: &mut Regions, region: u64) -> Result<Reclaimed, Refusal>
     if !regions.pending(region).unwrap_or(false) {
         return Err(Refusal::NothingToSweep { region });
     }
+    let number = regions.region_number(region);
     if !has_live(regions, region) {
         let dead = count_dead(regions, region);
         let storage = regions.release(region);
         return Ok(Reclaimed::Emptied {
-            region,
+            region: number,
             storage,
             dead,
         });
@@ -122,7 +120,10 @@ pub fn sweep(regions: &mut Regions, region: u64) -> Result<Reclaimed, Refusal>
     free_dead(regions, region, &cells);
     regions.set_pending(region, false);
     let dead = DeadCells { cells };
-    Ok(Reclaimed::Swept { region, dead })
+    Ok(Reclaimed::Swept {
+        region: number,
+        dead,
+    })
 }
 
 /// Takes a sweep back: the regions are as it left them, and this is what it took out. Takes no memory.
@@ -132,36 +133,14 @@ pub fn unsweep(regions: &mut Regions, undo: Reclaimed)
 {
     match undo {
         Reclaimed::Swept { region, dead } => {
-            regions.set_pending(region, true);
-            unfree_dead(regions, region, dead.cells);
+            regions.set_pending(region as u64, true);
+            unfree_dead(regions, region as u64, dead.cells);
         }
         Reclaimed::Emptied {
             region,
             storage,
             ..
-        } => regions.restore(region, storage),
-    }
-}
-
-// The number of a region in use, which is small.
-fn region_number(regions: &Regions, region: u64) -> u16
-    requires { IsSome (used_at regions.now.regions region) }
-    ensures value { result ≡ region }
-    ensures whole { IsRegionPool regions.now }
-{
-    let _count = regions.count();
-    region as u16
-}
-
-// How many cells a region in use has.
-fn cell_count(regions: &Regions, region: u64) -> u16
-    requires { IsSome (used_at regions.now.regions region) }
-    ensures { result ≡ length (cells_at region regions.now) }
-{
-    let _count = regions.count();
-    match regions.cell_size(region) {
-        Some(size) => (1024 / size) as u16,
-        None => 0,
+        } => regions.restore(region as u64, storage),
     }
 }
 
@@ -184,8 +163,8 @@ fn has_live(regions: &Regions, region: u64) -> bool
     requires { IsSome (used_at regions.now.regions region) }
     ensures { is_emptied region regions.now ≡ not result }
 {
-    let number = region_number(regions, region);
-    for cell in 0..cell_count(regions, region) {
+    let number = regions.region_number(region);
+    for cell in 0..regions.cell_count(region) {
         if is_live(
             regions,
             ObjRef {
@@ -204,9 +183,9 @@ fn count_dead(regions: &Regions, region: u64) -> u64
     requires { IsSome (used_at regions.now.regions region) }
     ensures { result ≡ length (dead_at region regions.now) }
 {
-    let number = region_number(regions, region);
+    let number = regions.region_number(region);
     let mut dead = 0;
-    for cell in 0..cell_count(regions, region) {
+    for cell in 0..regions.cell_count(region) {
         if is_dead(
             regions,
             ObjRef {
@@ -224,12 +203,14 @@ fn count_dead(regions: &Regions, region: u64) -> u64
 fn copy_dead(regions: &Regions, region: u64) -> Result<Vec<(u64, ObjectCopy)>, Refusal>
     requires { IsSome (used_at regions.now.regions region) }
     ensures copied { IfOk result (λ dead. dead.items ≡ dead_at region regions.now) }
-    ensures light { sum_by (λ d. 1 + length d.1.words) (dead_at region regions.now) ≤ 262400 }
+    ensures light { sum_by (λ d. 1 + length d.1.words) (dead_at region regions.now) ≤ 1280 }
     ensures refused { IfErr result (λ e. (e ≡ NoMemory) × (0 < length (dead_at region regions.now))) }
 {
-    let number = region_number(regions, region);
+    // Its contract says that the regions are whole.
+    let _count = regions.count();
+    let number = regions.region_number(region);
     let mut dead = Vec::new(regions.allocator());
-    for cell in 0..cell_count(regions, region) {
+    for cell in 0..regions.cell_count(region) {
         let at = ObjRef {
             region: number,
             cell,
@@ -249,7 +230,9 @@ fn free_dead(regions: &mut Regions, region: u64, dead: &[(u64, ObjectCopy)])
     requires dead { dead.now ≡ dead_at region regions.old }
     ensures { regions.new ≡ record regions.old { regions = with_region region cleared regions.old.regions } }
 {
-    let number = region_number(regions, region);
+    // Its contract says that the regions are whole.
+    let _count = regions.count();
+    let number = regions.region_number(region);
     for (cell, _) in dead {
         let cell = *cell as u16;
         regions.free(ObjRef {
@@ -264,7 +247,7 @@ fn unfree_dead(regions: &mut Regions, region: u64, mut dead: Vec<(u64, ObjectCop
     requires { (before : RegionPool) × WasCleared region dead.items before regions.old }
     ensures { (before : RegionPool) → WasCleared region dead.items before regions.old → regions.new ≡ before }
 {
-    let number = region_number(regions, region);
+    let number = regions.region_number(region);
     while let Some((cell, object)) = dead.pop() {
         let cell = cell as u16;
         regions.unfree(

@@ -1,29 +1,19 @@
-//! Tests that cross crates, and the plain programs that later bodies are compared with.
+//! The calls of each crate from classes to the machine, and worked examples by the events one by one.
 #![tactic(auto)]
 
 #[cfg(test)]
 mod barrier;
 #[cfg(test)]
-mod machine;
+mod classes;
 #[cfg(test)]
-mod observed;
+mod dump_text;
 #[cfg(test)]
-mod plain;
+mod events;
 #[cfg(test)]
-mod plain_ending;
+mod marker;
 #[cfg(test)]
-mod plain_machine;
+mod sweeper;
 #[cfg(test)]
-mod plain_marking;
+mod trail;
 #[cfg(test)]
-mod plain_regions;
-#[cfg(test)]
-mod plain_steps;
-#[cfg(test)]
-mod readers;
-#[cfg(test)]
-mod regions;
-#[cfg(test)]
-mod reuse;
-#[cfg(test)]
-mod scripts;
+mod world;

@@ -1,18 +1,17 @@
 //! The machine: the current state and the retained past.
 #![tactic(auto)]
 
-ghost use Rattle.std.specs.Prelude.{◌≡◌, ◌⊎◌, ◌<◌, ◌≤◌, ◌+◌, ◌^◌, ℕ, length, None, Some, true, IfOk, IfErr, OnOk, OnErr};
+ghost use Rattle.std.specs.Prelude.{◌≡◌, ◌⊎◌, ◌<◌, ◌≤◌, ◌+◌, ◌^◌, ℕ, length, None, Some, IfOk, IfErr, OnOk, OnErr};
 ghost use Rattle.heap_class.specs.declared.IdSize.TheVariants.{Eight};
 ghost use Rattle.heap_class.specs.declared.Refusal.TheVariants.{NoMemory};
 ghost use Rattle.heap_step.specs.declared.Event.{Event};
 ghost use Rattle.heap_step.specs.declared.Event.TheVariants.{Finish, Sweep};
 ghost use Rattle.heap_step.specs.declared.Answer.{Answer};
-ghost use Rattle.heap_step.specs.Apply.{event_may_grow};
 ghost use Rattle.heap_world.specs.Legal.{IsLegal};
 ghost use Rattle.heap_trail.specs.declared.Action.{Action};
 ghost use Rattle.heap_trail.specs.declared.Action.TheVariants.{Step, Rewind};
 ghost use Rattle.heap_trail.specs.declared.Reply.TheVariants.{Answered, Place, Refused};
-ghost use Rattle.heap_trail.specs.Machine.{Machine, Fine, Refusing, acted, acted_under, may_grow, MayStand, Mark, opening_machine};
+ghost use Rattle.heap_trail.specs.Machine.{Machine, Refusing, acted, acted_under, MayStand, Mark, opening_machine};
 ghost use Rattle.heap_trail.specs.Laws.{FindsSnapshot, IsTrail, LeadsBack, ReachesLive, SparesReached};
 ghost use Rattle.heap_trail.specs.Trail.{retained, rewound};
 ghost use Rattle.heap_trail.specs.Pins.{image_of, StandsIn};
@@ -21,8 +20,6 @@ ghost use Rattle.hprof_text.specs.Image.{IsAt};
 ghost use Rattle.hprof_text.specs.Pieces.{piece_of};
 
 mod shown;
-#[cfg(test)]
-mod tests;
 
 use circular_buffer::HeapCircularBuffer;
 use heap_class::Refusal;

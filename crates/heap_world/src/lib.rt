@@ -1,7 +1,7 @@
 //! The whole state of the heap, its rule, and what each event does to it.
 #![tactic(auto)]
 
-ghost use Rattle.std.specs.Prelude.{◌≡◌, ◌≢◌, ◌⊎◌, ◌+◌, ◌-◌, ◌*◌, ◌<◌, ◌≤◌, ◌↔◌, ◌&&◌, nat_lt, length, reverse, take, replicate, Some, None, true, false, IsTrue, Contains, IsSome, IfSome, IfOk, IfErr, OnOk, OnErr, MatchOption, slice_index, slice_get, slice_set};
+ghost use Rattle.std.specs.Prelude.{◌≡◌, ◌≢◌, ◌⊎◌, ◌+◌, ◌-◌, ◌*◌, ◌<◌, ◌≤◌, ◌↔◌, ◌&&◌, nat_lt, length, reverse, take, replicate, Some, None, true, false, IsTrue, Contains, IsSome, IfSome, IfOk, IfErr, OnOk, OnErr, slice_get, slice_set};
 ghost use Rattle.heap_class.specs.Classes.{class_refusal, instance_class, is_instance_class, slots_of};
 ghost use Rattle.heap_class.specs.Refusals.{IsAnswered};
 ghost use Rattle.heap_class.specs.declared.ObjKind.TheVariants.{Instance};
@@ -17,8 +17,6 @@ mod arrays;
 mod marking;
 mod references;
 mod sweeping;
-#[cfg(test)]
-mod tests;
 
 use heap_class::{ClassNo, Classes, Fields, Kind, Name, ObjKind, ObjRef, Refusal};
 use heap_mark::{Marker, Phase};

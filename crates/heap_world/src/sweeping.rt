@@ -27,7 +27,7 @@ impl World {
     }
 
     /// Takes a sweep back that left objects in its region, with what it removed. Takes no memory.
-    pub fn unsweep(&mut self, region: u64, dead: DeadCells)
+    pub fn unsweep(&mut self, region: u16, dead: DeadCells)
         requires swept { (before : HeapState) × IsLegal before × (sweep_refusal region (pool_of before) ≡ None) × (is_emptied region (pool_of before) ≡ false) × (dead ≡ dead_at region (pool_of before)) × (self.old ≡ after_sweep region before) }
         ensures { self.new ≡ with_pool (unswept region dead (pool_of self.old)) self.old }
     {
@@ -35,12 +35,12 @@ impl World {
     }
 
     /// Takes a sweep back that emptied its region, with the region's storage. Takes no memory.
-    pub fn unreclaim(&mut self, region: u64, storage: Storage)
+    pub fn unreclaim(&mut self, region: u16, storage: Storage)
         requires head { slice_get self.old.pool 0 ≡ Some region }
         requires inhabited { (cell : ℕ) × (o : Object) × (slice_get storage.cells cell ≡ Some (Some o)) }
         requires legal { IsLegal (with_pool (restored region storage (pool_of self.old)) self.old) }
         ensures { self.new ≡ with_pool (restored region storage (pool_of self.old)) self.old }
     {
-        self.regions.restore(region, storage)
+        self.regions.restore(region as u64, storage)
     }
 }

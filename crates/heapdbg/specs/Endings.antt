@@ -34,6 +34,11 @@ abbrev pub failure_of : LineFault → Failure
 failure_of (Bad text) = Line text
 failure_of Memory = Work fault.Memory
 
+-- a fault is the failure of the work
+abbrev pub work_of : Result (Unit {0}) Fault → Result (Unit {0}) Failure
+work_of (Ok done) = Ok done
+work_of (Err f) = Err (Work f)
+
 -- 0 where the work is done, 1 after a fault, and 2 after a bad command line
 abbrev pub status_of : Result (Unit {0}) Failure → ℕ
 status_of (Ok done) = 0

@@ -1,18 +1,29 @@
 -- What a run of the program does between its reader and its writer.
-use Rattle.std.specs.Prelude.{◌≡◌, ℕ, ◌⊎◌, Result, Err}
+use Rattle.std.specs.Prelude.{◌≡◌, ℕ, ◌⊎◌, List, Result, Some, Err}
 use Rattle.dump_pump.specs.Outlets.{Outgoing}
 use Rattle.heap_class.specs.declared.IdSize.TheVariants.{Eight}
 use Rattle.heap_trail.specs.Machine.{Machine, opening_machine}
 use Rattle.session_text.specs.declared.Ended.{Ended}
+use Rattle.session_text.specs.Endings.{Ends}
 use Rattle.session_text.specs.Inlets.{Incoming}
 use Rattle.session_text.specs.Session.{IsSession}
 use Rattle.heapdbg.specs.declared.failure.Fault.{Fault}
 use Rattle.heapdbg.specs.declared.failure.Fault.TheVariants.{Memory}
+use Rattle.heapdbg.specs.declared.failure.Failure.{Failure}
+use Rattle.heapdbg.specs.declared.settings.LineFault.{LineFault}
 use Rattle.heapdbg.specs.declared.settings.Settings.{Settings}
-use Rattle.heapdbg.specs.Endings.{outcome_of}
+use Rattle.heapdbg.specs.CommandLine.{IsRefusalOf, settings_of}
+use Rattle.heapdbg.specs.Endings.{failure_of, outcome_of, work_of}
 
--- a session over a heap with these settings as it begins, or no memory for one, and then nothing is read or written
+-- a session over a heap with these settings as it begins, and how it ended; or no memory for one, and then nothing is read
+-- or written
 abbrev pub IsRun : Settings → Incoming → Incoming → Outgoing → Outgoing → Result (Unit {0}) Fault → Type 0
 IsRun s a b w w' result =
-    ((ended : Ended) × (left : Machine) × IsSession (opening_machine Eight s.regions s.mutators s.keep) s.time a b w w' left ended × (result ≡ outcome_of ended))
+    ((ended : Ended) × (left : Machine) × IsSession (opening_machine Eight s.regions s.mutators s.keep) s.time a b w w' left ended × Ends a b w w' ended × (result ≡ outcome_of ended))
     ⊎ ((result ≡ Err Memory) × (b ≡ a) × (w' ≡ w))
+
+-- the settings that the words ask for, and a run with them; or a refusal of the words, and then nothing is read or written
+abbrev pub IsPerformed : List (List ℕ) → Incoming → Incoming → Outgoing → Outgoing → Result (Unit {0}) Failure → Type 0
+IsPerformed words a b w w' result =
+    ((s : Settings) × (done : Result (Unit {0}) Fault) × (settings_of words ≡ Some s) × IsRun s a b w w' done × (result ≡ work_of done))
+    ⊎ ((line : LineFault) × IsRefusalOf (settings_of words) line × (result ≡ Err (failure_of line)) × (b ≡ a) × (w' ≡ w))

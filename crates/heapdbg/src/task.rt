@@ -1,7 +1,7 @@
 //! The tasks, from the words of the command line on.
 ghost use Rattle.std.specs.Prelude.{◌≡◌, Some, IfOk, IfErr, map, string_bytes};
 ghost use Rattle.heapdbg.specs.CommandLine.{IsRefusalOf, settings_of, texts};
-ghost use Rattle.heapdbg.specs.Runs.{IsRun};
+ghost use Rattle.heapdbg.specs.Runs.{IsRun, IsPerformed};
 ghost use Rattle.heap_world.specs.Limits.{AreSettings};
 
 use crate::command_line::settings;
@@ -16,19 +16,30 @@ use std::io::{Error, ErrorKind};
 use std::rt::Env;
 use std::{env, io};
 
-/// Reads the command line, and does what it asks for.
+/// Reads the command line, and does what it asks for between standard input and standard output.
 pub fn perform<R: AllocGlobal + Env + Input + Print>(rt: &R) -> Result<(), Failure> {
     let words: Vec<String> = match env::args(rt) {
         Ok(words) => words.collect(rt.alloc()).map_err(|_| Fault::Memory)?,
         Err(error) => return Err(unread(rt.alloc(), &error).into()),
     };
-    let asked = asked(rt.alloc(), words.as_slice())?;
+    let mut reader = ReadInlet::new(rt.reader());
+    let mut writer = WriteOutlet::new(io::writer(rt));
+    perform_words(rt.alloc(), words.as_slice(), &mut reader, &mut writer)
+}
+
+/// Does what the words ask for between a reader and a writer. Where they ask for nothing, or there is no memory to read
+/// them, nothing is read or written.
+fn perform_words<I: Inlet, O: Outlet>(
+    alloc: Global,
+    words: &[String],
+    reader: &mut I,
+    writer: &mut O,
+) -> Result<(), Failure>
+    ensures { IsPerformed (map string_bytes words.now) (I.seen reader.old) (I.seen reader.new) (O.seen writer.old) (O.seen writer.new) result }
+{
+    let asked = asked(alloc, words)?;
     match asked.task {
-        Task::Run => {
-            let mut reader = ReadInlet::new(rt.reader());
-            let mut writer = WriteOutlet::new(io::writer(rt));
-            session(rt.alloc(), &asked, &mut reader, &mut writer)?;
-        }
+        Task::Run => session(alloc, &asked, reader, writer)?,
     }
     Ok(())
 }

@@ -22,8 +22,6 @@ mod parts;
 mod pieces;
 mod records;
 mod sizes;
-#[cfg(test)]
-mod tests;
 
 pub use crate::buffer::Buffer;
 pub use crate::list_view::{ListView, ListedObject};

@@ -2,6 +2,7 @@ pub mod Lists
 pub mod Found
 pub mod Written
 pub mod Worded
+pub mod Plain
 pub mod Sizes
 pub mod Numbers
 pub mod Fielded

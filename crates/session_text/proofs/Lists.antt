@@ -27,12 +27,13 @@ put_more before bytes out out' at n le fits was is =
       is ∙ (λ i. was i ++ take n (rest i)) ∙ append_assoc before (take at bytes) (take n (drop at bytes)) ∙ ap (λ l. before ++ l) (sym (take-add at n bytes)),
     )
 
-pub short_at : (before bytes out out' : List ℕ) (at : ℕ) → out ≡ before ++ take at bytes → out' ≡ out → IsCutShort bytes before out'
-short_at before bytes out out' at was is = record {
+pub short_at : (before bytes out out' : List ℕ) (at : ℕ) → at < length bytes → out ≡ before ++ take at bytes → out' ≡ out → IsCutShort bytes before out'
+short_at before bytes out out' at less was is = record {
   part = take at bytes;
   rest = drop at bytes;
   has = is ∙ was;
   lacks = sym (take-append-drop at bytes);
+  some = omega (arith, less, length-drop at bytes);
 }
 
 -- a window whose front moves
@@ -46,11 +47,13 @@ drop_window xs s e n se el le =
 pub refilled : (used : ℕ) (bytes room : List ℕ) (a b : Incoming) (t : Take) → used < length bytes → IsTake room a b t → IsRead (take used bytes) (take (used + count_of t) (put_mid used (length bytes - used) bytes room)) a b t
 refilled used bytes room a b (Take.Got n) lt h =
     let size : length (take used bytes) ≡ used = length-take-le used bytes (omega arith) in
-    let behind = room ++ post_of used (length bytes - used) bytes in (
+    let behind = room ++ post_of used (length bytes - used) bytes in
+    let count : length (take n room) ≡ n = length-take-le n room h.1 in (
       take n room,
+      omega (arith, h.0, count),
       ap (λ k. take (k + n) (take used bytes ++ behind)) (sym size) ∙ take-append-add (take used bytes) behind n ∙ ap (λ l. take used bytes ++ l) (take-append-le n room (post_of used (length bytes - used) bytes) h.1),
       h.2,
-      h.3,
+      h.3 ∙ ap (λ k. a.reads ++ k ∷ []) (sym count),
       h.4,
       h.5,
     )

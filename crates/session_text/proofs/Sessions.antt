@@ -1,11 +1,12 @@
 -- The session of a machine of one's own, from that for any commands.
-use Rattle.std.proofs.Common.{◌≡◌, ℕ, zero, suc, ◌+◌, ◌<◌, ◌≤◌, ◌⊎◌, inl, inr, Bool, true, false, List, [], ◌∷◌, ◌++◌, length, refl, ap, sym, ◌∙◌, subst, arith, append_assoc, Result}
+use Rattle.std.proofs.Common.{◌≡◌, ℕ, zero, suc, ◌+◌, ◌<◌, ◌≤◌, ◌⊎◌, inl, inr, Bool, true, false, List, [], ◌∷◌, ◌++◌, length, refl, ap, sym, ◌∙◌, subst, arith, append_assoc, length-append, Result}
 use Rattle.std.specs.Prelude.{codes, nat_lt, if◌then◌else◌}
 use Rattle.std.specs.Bool.{◌==◌}
 use Rattle.std.specs.List.{slice_split}
 use Rattle.std.proofs.lemmas.List.{append-nil}
 use Rattle.std.proofs.lemmas.List.Splits.{slice_split_at, slice_split_none, length-slice_split}
 use Rattle.std.proofs.lemmas.Bool.Decides.{nat_tests}
+use Rattle.std.specs.Io.KnownBytes.{Keeps}
 use mathlib.Core.List.{IsPrefix}
 use Rattle.dump_pump.specs.Outlets.{Outgoing}
 use Rattle.heap_class.specs.declared.Refusal.{Refusal}
@@ -31,13 +32,15 @@ use Rattle.session_text.specs.declared.commands.Local.{Local}
 use Rattle.session_text.specs.Answers.{Answers, Begins}
 use Rattle.session_text.specs.Dumps.{Dumps, total_line, piece_limit}
 use Rattle.session_text.specs.Grammar.{command_of}
-use Rattle.session_text.specs.Inlets.{Incoming}
+use Rattle.session_text.specs.Inlets.{Incoming, whole}
 use Rattle.session_text.specs.Lines.{NoLf}
 use Rattle.session_text.specs.Local.{LocalActs, LocalGives}
 use Rattle.session_text.specs.Reads.{ActionTakesMemory}
 use Rattle.session_text.specs.Replies.{reply_text, data_lines}
-use Rattle.session_text.specs.Session.{Talk, wrote, mark_of, marks_after, marked, done, after_piece, dumped, after_command, is_end, go_on, FitsCommand, FitLines, MarksFit, at_end, at_long, talked, session_of, Shows, IsSession}
-use Rattle.session_text.specs.Talks.{IsLine, Talks, stream, IsTalk, IsQuit, Closes, Breaks, Serves}
+use Rattle.session_text.specs.Session.{Talk, wrote, mark_of, marks_after, marked, done, after_piece, dumped, after_command, is_end, go_on, FitsCommand, FitLines, MarksFit, at_end, at_long, talked, session_of, Shows, CutsLine, CutsEnd, IsSession}
+use Rattle.session_text.specs.Talks.{IsLine, Talks, stream, IsTalk, IsQuit, Closes, Breaks, Fails, Serves}
+use Rattle.session_text.specs.Writes.{IsCutShort, IsWritten}
+use Rattle.session_text.proofs.Talking.{served_fails}
 
 abbrev is_lf : ℕ → Bool
 is_lf b = b == 10
@@ -281,6 +284,23 @@ fine time [] t e = tt
 fine time (l ∷ []) t e = tt
 fine time (l ∷ m ∷ ms) t e = (fits_fine (command_of l) t e, fine time (m ∷ ms) (after_command time (command_of l) t) (command_fine time (command_of l) t e))
 
+-- ---- a dump leaves the machine
+
+piece_machine : (b : Bool) (t u : Talk) (m : Machine) → t.machine ≡ m → u.machine ≡ m → (if b then t else u).machine ≡ m
+piece_machine true t u m p q = p
+piece_machine false t u m p q = q
+
+after_machine : (more : Talk → ℕ → Talk) → ((t : Talk) (n : ℕ) → (more t n).machine ≡ t.machine) → (so_far : ℕ) (mark : Mark) (p : Piece) (t : Talk) → (after_piece more so_far mark p t).machine ≡ t.machine
+after_machine more ih so_far Fine p t =
+    let n = so_far + length p.bytes in
+    piece_machine p.last (wrote (total_line n) (wrote (data_lines p.bytes) t)) (more (wrote (data_lines p.bytes) t) n) t.machine refl (ih (wrote (data_lines p.bytes) t) n)
+after_machine more ih so_far Refusing p t = refl
+
+dump_machine : (n i time : ℕ) (t : Talk) (so_far : ℕ) → (dumped n i time t so_far).machine ≡ t.machine
+unfolding dumped
+dump_machine zero i time t so_far = refl
+dump_machine (suc n) i time t so_far = after_machine (dumped n (i + 1) time) (λ u k. dump_machine n (i + 1) time u k) so_far (mark_of t.marks) (piece_of t.machine.ids (image_of t.machine.trail.current) time i) (marked t)
+
 -- ---- what was written stays
 
 begins_more : (w s : List ℕ) (z : List ℕ) → IsPrefix (w ++ s) z → IsPrefix w z
@@ -367,14 +387,28 @@ dump_begins (suc n) (suc k) i time c cursor so_far text le at (inr (refusal, giv
   spent = λ w. ap (λ (u : Talk). u.marks) (dump_step n i time c.machine Refusing [] w so_far);
 }
 
-follows_so : (time : ℕ) (k : Command) (c : Local) (tail : List ℕ) (d : Local) (w : List ℕ) (more : Talk → Talk × Ended) → ((t : Talk) → IsPrefix t.written (more t).0.written) → Answers acts gives time k c tail d
-    → (ms : List Mark) × IsPrefix (w ++ tail) (go_on more time k (talk c.machine ms w)).0.written × FitsCommand k (talk c.machine ms w) × ((after_command time k (talk c.machine ms w)).marks ≡ [])
+-- the marks under which a line's answer begins with this text and leaves this machine
+record BeginsSo (time : ℕ) (k : Command) (c : Local) (tail : List ℕ) (d : Local) (w : List ℕ) (more : Talk → Talk × Ended) : Type 0 where
+  found : List Mark
+  so : IsPrefix (w ++ tail) (go_on more time k (talk c.machine found w)).0.written
+  fit : FitsCommand k (talk c.machine found w)
+  spent : (after_command time k (talk c.machine found w)).marks ≡ []
+  here : IsPrefix (w ++ tail) (after_command time k (talk c.machine found w)).written
+  machine : d.machine ≡ (after_command time k (talk c.machine found w)).machine
+
+follows_so : (time : ℕ) (k : Command) (c : Local) (tail : List ℕ) (d : Local) (w : List ℕ) (more : Talk → Talk × Ended) → ((t : Talk) → IsPrefix t.written (more t).0.written) → Answers acts gives time k c tail d → BeginsSo time k c tail d w more
 follows_so time k c tail d w more ih h =
     let f = follows time k c tail d h in
-    (f.found ++ [], subst (λ r. IsPrefix (w ++ tail) r.0.written) (sym (goes_on time k c tail d f [] w more)) (ih (talk d.machine [] (w ++ tail))), f.fit [] w, ap (λ (u : Talk). u.marks) (f.after [] w))
+    record {
+      found = f.found ++ [];
+      so = subst (λ r. IsPrefix (w ++ tail) r.0.written) (sym (goes_on time k c tail d f [] w more)) (ih (talk d.machine [] (w ++ tail)));
+      fit = f.fit [] w;
+      spent = ap (λ (u : Talk). u.marks) (f.after [] w);
+      here = is_all d.machine [] (w ++ tail) (w ++ tail) _ (f.after [] w) refl;
+      machine = sym (ap (λ (u : Talk). u.machine) (f.after [] w));
+    }
 
-begins_so : (time : ℕ) (k : Command) (c : Local) (tail : List ℕ) (d : Local) (w : List ℕ) (more : Talk → Talk × Ended) → ((t : Talk) → IsPrefix t.written (more t).0.written) → Begins acts gives time k c tail d
-    → (ms : List Mark) × IsPrefix (w ++ tail) (go_on more time k (talk c.machine ms w)).0.written × FitsCommand k (talk c.machine ms w) × ((after_command time k (talk c.machine ms w)).marks ≡ [])
+begins_so : (time : ℕ) (k : Command) (c : Local) (tail : List ℕ) (d : Local) (w : List ℕ) (more : Talk → Talk × Ended) → ((t : Talk) → IsPrefix t.written (more t).0.written) → Begins acts gives time k c tail d → BeginsSo time k c tail d w more
 begins_so time Blank c tail d w more ih h = absurd h
 begins_so time Bad c tail d w more ih h = follows_so time Bad c tail d w more ih h
 begins_so time (Ask a) c tail d w more ih h = follows_so time (Ask a) c tail d w more ih h
@@ -382,7 +416,14 @@ begins_so time Dump c tail d w more ih h =
     let f = dump_begins piece_limit h.0 0 time c Start 0 tail h.1 refl h.2 in
     let p = f.so [] w in
     let t = dumped piece_limit 0 time (talk c.machine (f.found ++ []) w) 0 in
-    (f.found ++ [], begins_more (w ++ tail) p.0 _ (subst (λ l. IsPrefix l (more t).0.written) (sym p.1) (ih t)), tt, f.spent w)
+    record {
+      found = f.found ++ [];
+      so = begins_more (w ++ tail) p.0 _ (subst (λ l. IsPrefix l (more t).0.written) (sym p.1) (ih t));
+      fit = tt;
+      spent = f.spent w;
+      here = p;
+      machine = ap (λ (x : Local). x.machine) h.3 ∙ sym (dump_machine piece_limit 0 time (talk c.machine (f.found ++ []) w) 0);
+    }
 begins_so time End c tail d w more ih h = absurd h
 
 -- ---- the whole
@@ -424,35 +465,95 @@ closed_so : (time : ℕ) (a b : Incoming) (c d : Local) (ended : Ended) (bytes r
     → Shows c.machine ((passes time k.lines c text d k.talks).found ++ []) time bytes e (text ++ tail) d.machine ended
 closed_so time a b c d ended bytes rest text tail k closes e f = session_lines time e bytes rest c text d k [] ∙ closes_so time e rest a b ended tail d.machine [] text f closes
 
-broken_tail : (time : ℕ) (a b : Incoming) (rest : List ℕ) (c : Local) (text tail : List ℕ) (d : Local) → Breaks (Begins acts gives time) rest a b c tail d
-    → (e : ReadEnd) × (ms : List Mark) × IsPrefix (text ++ tail) (talked time e (parts rest) (talk c.machine ms text)).0.written × FitLines time (parts rest) (talk c.machine ms text)
-broken_tail time a b rest c text tail d (inl ((l, starts, h), same)) =
+-- all lines are answered, and nothing follows
+session_done : (time : ℕ) (bytes rest : List ℕ) (c : Local) (text : List ℕ) (d : Local) (k : IsTalk (Answers acts gives time) bytes c rest text d) (ms : List Mark)
+    → session_of c.machine ((passes time k.lines c text d k.talks).found ++ ms) time (stream k.lines) Over ≡ (talk d.machine ms text, Eof)
+unfolding session_of
+session_done time bytes rest c text d k ms =
+    let g = passes time k.lines c text d k.talks in
+    ap (λ bs. talked time Over (parts bs) (talk c.machine (g.found ++ ms) [])) (sym (append-nil (stream k.lines))) ∙ g.so Over [] ms []
+
+-- a text, and what was cut short behind it
+cut_behind : (text tail full a b : List ℕ) (h : IsCutShort tail a b) → IsPrefix (text ++ tail) full → IsCutShort full [] (text ++ h.part)
+cut_behind text tail full a b h p = record {
+  part = text ++ h.part;
+  rest = h.rest ++ p.0;
+  has = refl;
+  lacks = sym p.1 ∙ ap (λ l. (text ++ l) ++ p.0) h.lacks ∙ ap (λ l. l ++ p.0) (sym (append_assoc text h.part h.rest)) ∙ append_assoc (text ++ h.part) h.rest p.0;
+  some = omega (arith, h.some, length-append h.rest p.0);
+}
+
+-- the marks and the text of what was cut short behind the last line that was answered
+record CutTail (time : ℕ) (rest : List ℕ) (c : Local) (text : List ℕ) (d : Local) (m w' : Outgoing) : Type 0 where
+  end : ReadEnd
+  found : List Mark
+  tail : List ℕ
+  so : IsPrefix (text ++ tail) (talked time end (parts rest) (talk c.machine found text)).0.written
+  fit : FitLines time (parts rest) (talk c.machine found text)
+  cut : IsWritten tail m w' false
+  stops : CutsLine time rest (talk c.machine found text) (text ++ cut.0.part) d.machine
+      ⊎ ((ended : Ended) × (talked time end (parts rest) (talk c.machine found text) ≡ (talk c.machine [] (text ++ tail), ended)) × (d.machine ≡ c.machine))
+
+broken_tail : (time : ℕ) (a b : Incoming) (rest : List ℕ) (c : Local) (text : List ℕ) (d : Local) (m w' : Outgoing) → Breaks (Begins acts gives time) rest a b c m d w' → CutTail time rest c text d m w'
+broken_tail time a b rest c text d m w' (inl ((l, tail, starts, h, cut), same)) =
     let g = begins_so time (command_of l) c tail d text (talked time Over (parts starts.1)) (λ u. stays time Over (parts starts.1) u) h in
-    let t = talk c.machine g.0 text in (
-      Over,
-      g.0,
-      subst (λ r. IsPrefix (text ++ tail) r.0.written) (sym (ap (λ bs. talked time Over (parts bs) t) starts.2 ∙ line_then time Over l starts.1 t starts.0)) g.1,
-      subst (λ bs. FitLines time (parts bs) t) (sym starts.2) (line_fit time l starts.1 t starts.0 g.2 (fine time (parts starts.1) (after_command time (command_of l) t) g.3)),
+    let t = talk c.machine g.found text in
+    record {
+      end = Over;
+      found = g.found;
+      tail = tail;
+      so = subst (λ r. IsPrefix (text ++ tail) r.0.written) (sym (ap (λ bs. talked time Over (parts bs) t) starts.2 ∙ line_then time Over l starts.1 t starts.0)) g.so;
+      fit = subst (λ bs. FitLines time (parts bs) t) (sym starts.2) (line_fit time l starts.1 t starts.0 g.fit (fine time (parts starts.1) (after_command time (command_of l) t) g.spent));
+      cut = cut;
+      stops = inl (l, starts.1, starts.2, g.machine, cut_behind text tail (after_command time (command_of l) t).written m.out w'.out cut.0 g.here);
+    }
+broken_tail time a b rest c text d m w' (inr (ended, tail, closes, same, cut)) =
+    let shows = closes_so time (end_for ended) rest a b ended tail c.machine [] text (fits ended) closes in
+    record {
+      end = end_for ended;
+      found = [];
+      tail = tail;
+      so = subst (λ r. IsPrefix (text ++ tail) r.0.written) (sym shows) (begins_itself (text ++ tail));
+      fit = fine time (parts rest) (talk c.machine [] text) refl;
+      cut = cut;
+      stops = inr (ended, shows, ap (λ (x : Local). x.machine) same);
+    }
+
+-- where the text of a whole session was cut
+stops_so : (time : ℕ) (bytes rest : List ℕ) (start : Machine) (marks : List Mark) (e : ReadEnd) (t : Talk) (text tail out : List ℕ) (left : Machine) → session_of start marks time bytes e ≡ talked time e (parts rest) t → IsCutShort (text ++ tail) [] out
+    → CutsLine time rest t out left ⊎ ((ended : Ended) × (talked time e (parts rest) t ≡ (talk t.machine [] (text ++ tail), ended)) × (left ≡ t.machine)) → CutsLine time rest t out left ⊎ CutsEnd start marks time bytes e t out left
+stops_so time bytes rest start marks e t text tail out left lines cut (inl h) = inl h
+stops_so time bytes rest start marks e t text tail out left lines cut (inr (ended, shows, same)) = inr (text ++ tail, ended, lines ∙ shows ∙ ap (λ m. (talk m [] (text ++ tail), ended)) (sym same), same, cut)
+
+failed_session : (time : ℕ) (bytes : List ℕ) (a b : Incoming) (c : Local) (w : Outgoing) (d : Local) (w' : Outgoing) → b.taken ≡ a.taken ++ bytes → Keeps (whole a) (whole b) → Fails (Answers acts gives time) (Begins acts gives time) bytes a b c w d w' → IsSession c.machine time a b w w' d.machine WriteFault
+failed_session time bytes a b c w d w' taken keeps (rest, text, between, m, k, written, breaks) =
+    let g = broken_tail time a b rest between text d m w' breaks in
+    let h = g.cut.0 in
+    let marks = (passes time k.lines c text between k.talks).found ++ g.found in
+    let lines = session_lines time g.end bytes rest c text between k g.found in
+    let alone = cut_behind text g.tail (text ++ g.tail) m.out w'.out h (begins_itself (text ++ g.tail)) in
+    let stops = stops_so time bytes rest c.machine marks g.end (talk between.machine g.found text) text g.tail (text ++ h.part) d.machine lines alone g.stops in
+    let cut = cut_behind text g.tail (talked time g.end (parts rest) (talk between.machine g.found text)).0.written m.out w'.out h g.so in (
+      bytes,
+      text ++ h.part,
+      marks,
+      session_fit time bytes rest c text between k g.found g.fit,
+      taken,
+      keeps,
+      h.has ∙ ap (λ l. l ++ h.part) written.0 ∙ append_assoc w.out text h.part,
+      (
+        g.end,
+        subst (λ r. IsCutShort r.0.written [] (text ++ h.part)) (sym lines) cut,
+        (stream k.lines, rest, talk between.machine g.found text, k.are, session_done time bytes rest c text between k g.found, (h.part, refl), stops),
+      ),
     )
-broken_tail time a b rest c text tail d (inr (ended, closes, same)) =
-    (end_for ended, [], subst (λ r. IsPrefix (text ++ tail) r.0.written) (sym (closes_so time (end_for ended) rest a b ended tail c.machine [] text (fits ended) closes)) (begins_itself (text ++ tail)), fine time (parts rest) (talk c.machine [] text) refl)
 
 pub local_session : (time : ℕ) (a b : Incoming) (c : Local) (w : Outgoing) (d : Local) (w' : Outgoing) (ended : Ended) → Serves (Answers acts gives time) (Begins acts gives time) a b c w d w' ended → IsSession c.machine time a b w w' d.machine ended
-local_session time a b c w d w' Quit (bytes, taken, keeps, (rest, text, tail, k, closes, h)) = (bytes, text ++ tail, (passes time k.lines c text d k.talks).found ++ [], all_fit time bytes rest c text d k, taken, h.0, λ e. closed_so time a b c d Quit bytes rest text tail k closes e tt)
-local_session time a b c w d w' Eof (bytes, taken, keeps, (rest, text, tail, k, closes, h)) = (bytes, text ++ tail, (passes time k.lines c text d k.talks).found ++ [], all_fit time bytes rest c text d k, taken, h.0, closed_so time a b c d Eof bytes rest text tail k closes Over refl)
-local_session time a b c w d w' CutLine (bytes, taken, keeps, (rest, text, tail, k, closes, h)) = (bytes, text ++ tail, (passes time k.lines c text d k.talks).found ++ [], all_fit time bytes rest c text d k, taken, h.0, closed_so time a b c d CutLine bytes rest text tail k closes Over refl)
-local_session time a b c w d w' TooLong (bytes, taken, keeps, (rest, text, tail, k, closes, h)) = (bytes, text ++ tail, (passes time k.lines c text d k.talks).found ++ [], all_fit time bytes rest c text d k, taken, h.0, λ e. closed_so time a b c d TooLong bytes rest text tail k closes e tt)
-local_session time a b c w d w' ReadFault (bytes, taken, keeps, (rest, text, tail, k, closes, h)) = (bytes, text ++ tail, (passes time k.lines c text d k.talks).found ++ [], all_fit time bytes rest c text d k, taken, h.0, closed_so time a b c d ReadFault bytes rest text tail k closes Failed refl)
-local_session time a b c w d w' TooManyReads (bytes, taken, keeps, (rest, text, tail, k, closes, h)) = (bytes, text ++ tail, (passes time k.lines c text d k.talks).found ++ [], all_fit time bytes rest c text d k, taken, h.0, closed_so time a b c d TooManyReads bytes rest text tail k closes Spent refl)
-local_session time a b c w d w' WriteFault (bytes, taken, keeps, (rest, text, between, tail, k, breaks, h)) =
-    let g = broken_tail time a b rest between text tail d breaks in
-    let p = begins_more h.0.part h.0.rest _ (subst (λ l. IsPrefix l (talked time g.0 (parts rest) (talk between.machine g.1 text)).0.written) h.0.lacks g.2) in (
-      bytes,
-      h.0.part,
-      (passes time k.lines c text between k.talks).found ++ g.1,
-      session_fit time bytes rest c text between k g.1 g.3,
-      taken,
-      h.0.has,
-      (g.0, subst (λ r. IsPrefix h.0.part r.0.written) (sym (session_lines time g.0 bytes rest c text between k g.1)) p),
-    )
-local_session time a b c w d w' NoRoom (bytes, taken, keeps, h) = (bytes, [], [], fine time (parts bytes) (talk c.machine [] []) refl, taken, ap (λ (x : Outgoing). x.out) h.3 ∙ sym (append-nil w.out), (h.0, refl, ap (λ (x : Local). x.machine) h.2))
+local_session time a b c w d w' Quit (bytes, taken, keeps, (rest, text, tail, k, closes, h)) = (bytes, text ++ tail, (passes time k.lines c text d k.talks).found ++ [], all_fit time bytes rest c text d k, taken, keeps, h.0, λ e. closed_so time a b c d Quit bytes rest text tail k closes e tt)
+local_session time a b c w d w' Eof (bytes, taken, keeps, (rest, text, tail, k, closes, h)) = (bytes, text ++ tail, (passes time k.lines c text d k.talks).found ++ [], all_fit time bytes rest c text d k, taken, keeps, h.0, closed_so time a b c d Eof bytes rest text tail k closes Over refl)
+local_session time a b c w d w' CutLine (bytes, taken, keeps, (rest, text, tail, k, closes, h)) = (bytes, text ++ tail, (passes time k.lines c text d k.talks).found ++ [], all_fit time bytes rest c text d k, taken, keeps, h.0, closed_so time a b c d CutLine bytes rest text tail k closes Over refl)
+local_session time a b c w d w' TooLong (bytes, taken, keeps, (rest, text, tail, k, closes, h)) = (bytes, text ++ tail, (passes time k.lines c text d k.talks).found ++ [], all_fit time bytes rest c text d k, taken, keeps, h.0, λ e. closed_so time a b c d TooLong bytes rest text tail k closes e tt)
+local_session time a b c w d w' ReadFault (bytes, taken, keeps, (rest, text, tail, k, closes, h)) = (bytes, text ++ tail, (passes time k.lines c text d k.talks).found ++ [], all_fit time bytes rest c text d k, taken, keeps, h.0, closed_so time a b c d ReadFault bytes rest text tail k closes Failed refl)
+local_session time a b c w d w' TooManyReads (bytes, taken, keeps, (rest, text, tail, k, closes, h)) = (bytes, text ++ tail, (passes time k.lines c text d k.talks).found ++ [], all_fit time bytes rest c text d k, taken, keeps, h.0, closed_so time a b c d TooManyReads bytes rest text tail k closes Spent refl)
+local_session time a b c w d w' WriteFault (bytes, taken, keeps, h) = failed_session time bytes a b c w d w' taken keeps (served_fails (Answers acts gives time) (Begins acts gives time) bytes a b c w d w' h)
+local_session time a b c w d w' NoRoom (bytes, taken, keeps, h) = (bytes, [], [], fine time (parts bytes) (talk c.machine [] []) refl, taken, keeps, ap (λ (x : Outgoing). x.out) h.3 ∙ sym (append-nil w.out), (h.0, refl, ap (λ (x : Local). x.machine) h.2))

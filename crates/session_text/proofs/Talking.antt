@@ -1,7 +1,9 @@
 -- Lines that are answered, and a session so far.
-use Rattle.std.proofs.Common.{◌≡◌, ℕ, ◌+◌, ◌<◌, ◌≤◌, ◌⊎◌, inl, inr, Bool, true, false, List, [], ◌∷◌, ◌++◌, take, drop, length, Option, Some, None, refl, ap, sym, ◌∙◌, subst, arith, append_assoc}
+use Rattle.std.proofs.Common.{◌≡◌, ℕ, ◌+◌, ◌<◌, ◌≤◌, ◌⊎◌, inl, inr, Bool, true, false, List, [], ◌∷◌, ◌++◌, take, drop, length, length-append, Option, Some, None, refl, ap, sym, ◌∙◌, subst, arith, append_assoc}
 use Rattle.std.proofs.lemmas.List.{append-nil, length-take-le}
+use Rattle.std.proofs.lemmas.List.Elements.{All-nil, All-cons, All-append}
 use Rattle.std.proofs.lemmas.Grind.{flat_map-append}
+use Rattle.std.specs.Prelude.{All}
 use Rattle.std.specs.Io.KnownBytes.{Keeps}
 use Rattle.dump_pump.specs.Outlets.{Outgoing}
 use Rattle.heap_class.specs.declared.Refusal.TheVariants.{NoMemory as NoRoom}
@@ -18,8 +20,8 @@ use Rattle.session_text.specs.Inlets.{Incoming, whole}
 use Rattle.session_text.specs.Lines.{IsLineAt}
 use Rattle.session_text.specs.Reads.{TakesMemory}
 use Rattle.session_text.specs.Replies.{reply_text}
-use Rattle.session_text.specs.Talks.{IsLine, Talks, stream, IsTalk, BeginsWith, IsQuit, IsBrokenOff, IsStep, Closes, Breaks, IsServed, Serves}
-use Rattle.session_text.specs.Writes.{IsWritten}
+use Rattle.session_text.specs.Talks.{IsLine, Talks, stream, IsTalk, BeginsWith, IsQuit, IsBrokenOff, IsStep, Closes, Breaks, Fails, IsLastRead, IsServed, Serves}
+use Rattle.session_text.specs.Writes.{IsCutShort, IsWritten}
 
 -- ---- one text and then another
 
@@ -34,6 +36,7 @@ written_more xs ys a b c false h k = (
     rest = k.0.rest;
     has = k.0.has ∙ ap (λ l. l ++ k.0.part) h.0 ∙ append_assoc a.out xs k.0.part;
     lacks = ap (λ l. xs ++ l) k.0.lacks ∙ sym (append_assoc xs k.0.part k.0.rest);
+    some = k.0.some;
   },
   k.1 ∙ ap (λ n. n + 1) h.1,
 )
@@ -107,8 +110,8 @@ begins_with bytes n most at = (line_is bytes n most at, drop (n + 1) bytes, at.2
 pub line_quits : (bytes s : List ℕ) (n : ℕ) → s ≡ bytes → length bytes ≤ 4097 → IsLineAt n bytes → command_of (take n s) ≡ End → IsQuit bytes
 line_quits bytes s n e most at is = (take n bytes, begins_with bytes n most at, subst (λ l. command_of (take n l) ≡ End) e is)
 
-pub line_broken : {S : Type 0} (begins : Says S) (bytes s : List ℕ) (n : ℕ) (c : S) (tail : List ℕ) (c' : S) → s ≡ bytes → length bytes ≤ 4097 → IsLineAt n bytes → begins (command_of (take n s)) c tail c' → IsBrokenOff begins bytes c tail c'
-line_broken begins bytes s n c tail c' e most at h = (take n bytes, begins_with bytes n most at, subst (λ l. begins (command_of (take n l)) c tail c') e h)
+pub line_broken : {S : Type 0} (begins : Says S) (bytes s : List ℕ) (n : ℕ) (c : S) (tail : List ℕ) (c' : S) (w w' : Outgoing) → s ≡ bytes → length bytes ≤ 4097 → IsLineAt n bytes → begins (command_of (take n s)) c tail c' → IsWritten tail w w' false → IsBrokenOff begins bytes c w c' w'
+line_broken begins bytes s n c tail c' w w' e most at h k = (take n bytes, tail, begins_with bytes n most at, subst (λ l. begins (command_of (take n l)) c tail c') e h, k)
 
 -- ---- sessions
 
@@ -126,11 +129,14 @@ keeps_then (Some a) (Some b) (Some d) h k = k ∙ h
 pub record IsOpen {S : Type 0} (says : Says S) (a : Incoming) (c : S) (w : Outgoing) (b : Incoming) (rest : List ℕ) (c' : S) (w' : Outgoing) (reads : ℕ) : Type 0 where
   pub bytes : List ℕ
   pub text : List ℕ
+  pub earlier : List ℕ
   pub taken : b.taken ≡ a.taken ++ bytes
   pub talk : IsTalk says bytes c rest text c'
   pub written : IsWritten text w w' true
   pub keeps : Keeps (whole a) (whole b)
-  pub reads_are : b.reads ≡ a.reads + reads
+  pub reads_are : b.reads ≡ a.reads ++ earlier
+  pub each : All (λ n. 0 < n) earlier
+  pub count : length earlier ≡ reads
   pub most : reads ≤ 1000000
   pub no_fault : b.failures ≡ a.failures
 
@@ -138,11 +144,14 @@ pub open_none : {S : Type 0} (says : Says S) (a : Incoming) (rest : List ℕ) (c
 open_none says a rest c w is = record {
   bytes = [];
   text = [];
+  earlier = [];
   taken = sym (append-nil a.taken);
   talk = subst (λ r. IsTalk says [] c r [] c) (sym is) (talk_none says [] c);
   written = written_none w;
   keeps = keeps_same (whole a);
-  reads_are = omega arith;
+  reads_are = sym (append-nil a.reads);
+  each = All-nil (λ n. 0 < n);
+  count = refl;
   most = omega arith;
   no_fault = refl;
 }
@@ -153,39 +162,68 @@ pub open_answered : {S : Type 0} (says : Says S) (a : Incoming) (c : S) (w : Out
 open_answered says a c w b rest c1 w1 reads rest' text c2 w2 o t h = record {
   bytes = o.bytes;
   text = o.text ++ text;
+  earlier = o.earlier;
   taken = o.taken;
   talk = talk_then says o.bytes c rest o.text c1 rest' text c2 o.talk t;
   written = written_more o.text text w w1 w2 true o.written h;
   keeps = o.keeps;
   reads_are = o.reads_are;
+  each = o.each;
+  count = o.count;
   most = o.most;
   no_fault = o.no_fault;
 }
 
 -- after a read that gave something
 pub open_read : {S : Type 0} (says : Says S) (a : Incoming) (c : S) (w : Outgoing) (b : Incoming) (rest : List ℕ) (c' : S) (w' : Outgoing) (reads : ℕ) (b' : Incoming) (rest' more : List ℕ)
-    → IsOpen says a c w b rest c' w' reads → reads < 1000000 → rest' ≡ rest ++ more → b'.taken ≡ b.taken ++ more → b'.reads ≡ b.reads + 1 → b'.failures ≡ b.failures → Keeps (whole b) (whole b') → IsOpen says a c w b' rest' c' w' (reads + 1)
-open_read says a c w b rest c' w' reads b' rest' more o less is taken read kept same = record {
+    → IsOpen says a c w b rest c' w' reads → reads < 1000000 → 0 < length more → rest' ≡ rest ++ more → b'.taken ≡ b.taken ++ more → b'.reads ≡ b.reads ++ length more ∷ [] → b'.failures ≡ b.failures → Keeps (whole b) (whole b') → IsOpen says a c w b' rest' c' w' (reads + 1)
+open_read says a c w b rest c' w' reads b' rest' more o less some is taken read kept same = record {
   bytes = o.bytes ++ more;
   text = o.text;
+  earlier = o.earlier ++ length more ∷ [];
   taken = taken ∙ ap (λ l. l ++ more) o.taken ∙ append_assoc a.taken o.bytes more;
   talk = subst (λ r. IsTalk says (o.bytes ++ more) c r o.text c') (sym is) (talk_read says o.bytes c rest o.text c' more o.talk);
   written = o.written;
   keeps = keeps_then (whole a) (whole b) (whole b') o.keeps same;
-  reads_are = omega (arith, read, o.reads_are);
+  reads_are = read ∙ ap (λ l. l ++ length more ∷ []) o.reads_are ∙ append_assoc a.reads o.earlier (length more ∷ []);
+  each = All-append (λ n. 0 < n) o.earlier (length more ∷ []) o.each (All-cons (λ n. 0 < n) (length more) [] some (All-nil (λ n. 0 < n)));
+  count = length-append o.earlier (length more ∷ []) ∙ ap (λ n. n + 1) o.count;
   most = omega (arith, less);
   no_fault = kept ∙ o.no_fault;
 }
+
+-- the read by which these bytes came, or no bytes
+pub last_read : {S : Type 0} (says : Says S) (a : Incoming) (c : S) (w : Outgoing) (b : Incoming) (rest : List ℕ) (c' : S) (w' : Outgoing) (reads : ℕ) (b' : Incoming) (last : List ℕ)
+    → (o : IsOpen says a c w b rest c' w' reads) → IsLine rest → b'.reads ≡ b.reads ++ length last ∷ [] → IsLastRead says o.bytes last a b' c w rest c' w'
+last_read says a c w b rest c' w' reads b' last o line read = record {
+  earlier = o.earlier;
+  text = o.text;
+  reads = read ∙ ap (λ l. l ++ length last ∷ []) o.reads_are ∙ append_assoc a.reads o.earlier (length last ∷ []);
+  each = o.each;
+  talk = o.talk;
+  line = line;
+  written = o.written;
+}
+
+-- how a buffer came to its bytes: nothing was read yet, or by the last read
+abbrev pub Came : {S : Type 0} → Says S → Incoming → S → Outgoing → Incoming → List ℕ → S → Outgoing → ℕ → Type 0
+Came says a c w b buffer c' w' reads =
+    ((buffer ≡ []) × (reads ≡ 0))
+    ⊎ ((before : List ℕ) × (last : List ℕ) × (rest : List ℕ) × (b.taken ≡ a.taken ++ (before ++ last)) × (buffer ≡ rest ++ last) × IsLastRead says before last a b c w rest c' w')
+
+pub came_read : {S : Type 0} (says : Says S) (a : Incoming) (c : S) (w : Outgoing) (b : Incoming) (rest : List ℕ) (c' : S) (w' : Outgoing) (reads : ℕ) (b' : Incoming) (rest' more : List ℕ) (reads' : ℕ)
+    → IsOpen says a c w b rest c' w' reads → IsLine rest → rest' ≡ rest ++ more → b'.taken ≡ b.taken ++ more → b'.reads ≡ b.reads ++ length more ∷ [] → Came says a c w b' rest' c' w' reads'
+came_read says a c w b rest c' w' reads b' rest' more reads' o line is taken read =
+    inr (o.bytes, more, rest, taken ∙ ap (λ l. l ++ more) o.taken ∙ append_assoc a.taken o.bytes more, is, last_read says a c w b rest c' w' reads b' more o line read)
 
 -- the session ends with what an ending prints, unless its write fails
 pub ends_saying : {S : Type 0} (says begins : Says S) (a : Incoming) (c : S) (w : Outgoing) (b : Incoming) (rest : List ℕ) (c' : S) (w1 : Outgoing) (reads : ℕ) (b' : Incoming) (w2 : Outgoing) (ended : Ended) (tail : List ℕ) (r : Bool)
     → (o : IsOpen says a c w b rest c' w1 reads) → b'.taken ≡ b.taken → Keeps (whole b) (whole b') → Closes rest a b' ended tail → IsWritten tail w1 w2 r
     → ((rest : List ℕ) × (text : List ℕ) × (tail : List ℕ) × IsTalk says o.bytes c rest text c' × Closes rest a b' ended tail × IsWritten (text ++ tail) w w2 true → IsServed says begins o.bytes a b' c w c' w2 ended)
-    → Serves says begins a b' c w c' w2 (ended_of ended r)
-ends_saying says begins a c w b rest c' w1 reads b' w2 ended tail true o taken same closes h is =
+    → (IsWritten tail w1 w2 false → Serves says begins a b' c w c' w2 WriteFault) → Serves says begins a b' c w c' w2 (ended_of ended r)
+ends_saying says begins a c w b rest c' w1 reads b' w2 ended tail true o taken same closes h is fault =
     (o.bytes, taken ∙ o.taken, keeps_then (whole a) (whole b) (whole b') o.keeps same, is (rest, o.text, tail, o.talk, closes, written_more o.text tail w w1 w2 true o.written h))
-ends_saying says begins a c w b rest c' w1 reads b' w2 ended tail false o taken same closes h is =
-    (o.bytes, taken ∙ o.taken, keeps_then (whole a) (whole b) (whole b') o.keeps same, (rest, o.text, c', tail, o.talk, inr (ended, closes, refl), written_more o.text tail w w1 w2 false o.written h))
+ends_saying says begins a c w b rest c' w1 reads b' w2 ended tail false o taken same closes h is fault = fault h
 
 -- the session ends, and prints nothing more
 pub ends_plainly : {S : Type 0} (says begins : Says S) (a : Incoming) (c : S) (w : Outgoing) (b : Incoming) (rest : List ℕ) (c' : S) (w1 : Outgoing) (reads : ℕ) (b' : Incoming) (ended : Ended)
@@ -193,26 +231,67 @@ pub ends_plainly : {S : Type 0} (says begins : Says S) (a : Incoming) (c : S) (w
     → ((rest : List ℕ) × (text : List ℕ) × (tail : List ℕ) × IsTalk says o.bytes c rest text c' × Closes rest a b' ended tail × IsWritten (text ++ tail) w w1 true → IsServed says begins o.bytes a b' c w c' w1 ended)
     → Serves says begins a b' c w c' w1 ended
 ends_plainly says begins a c w b rest c' w1 reads b' ended o taken same closes is =
-    ends_saying says begins a c w b rest c' w1 reads b' w1 ended [] true o taken same closes (written_none w1) is
+    (o.bytes, taken ∙ o.taken, keeps_then (whole a) (whole b) (whole b') o.keeps same, is (rest, o.text, [], o.talk, closes, written_more o.text [] w w1 w1 true o.written (written_none w1)))
 
--- a write failed in a line's answer
-pub ends_broken : {S : Type 0} (says begins : Says S) (a : Incoming) (c : S) (w : Outgoing) (b : Incoming) (rest : List ℕ) (c1 : S) (w1 : Outgoing) (reads : ℕ) (left text : List ℕ) (between : S) (tail : List ℕ) (c2 : S) (w2 : Outgoing)
-    → IsOpen says a c w b rest c1 w1 reads → IsTalk says rest c1 left text between → IsBrokenOff begins left between tail c2 → IsWritten (text ++ tail) w1 w2 false → Serves says begins a b c w c2 w2 WriteFault
-ends_broken says begins a c w b rest c1 w1 reads left text between tail c2 w2 o t broken h =
-    let all = written_more o.text (text ++ tail) w w1 w2 false o.written h in (
-      o.bytes,
-      o.taken,
-      o.keeps,
-      (
-        left,
-        o.text ++ text,
-        between,
-        tail,
-        talk_then says o.bytes c rest o.text c1 left text between o.talk t,
-        inl (broken, o.no_fault),
-        subst (λ l. IsWritten l w w2 false) (sym (append_assoc o.text text tail)) all,
-      ),
-    )
+-- ---- failed writes
+
+no_line : (rest l : List ℕ) → length rest ≡ 0 → BeginsWith l rest → ⊥
+no_line rest l none h = omega (arith, none, ap (λ x. length x) h.2, length-append l (10 ∷ h.1))
+
+no_cut : (a b : List ℕ) → IsCutShort [] a b → ⊥
+no_cut a b h = omega (arith, h.some, ap (λ x. length x) h.lacks, length-append h.part h.rest)
+
+-- where nothing was read, no ending's line can fail
+closes_none : (rest tail : List ℕ) (a b : Incoming) (w w' : Outgoing) (ended : Ended) → length rest ≡ 0 → length b.reads ≡ length a.reads → b.failures ≡ a.failures → Closes rest a b ended tail → IsWritten tail w w' false → ⊥
+closes_none rest tail a b w w' Quit none same fine h k = no_line rest h.0.0 none h.0.1
+closes_none rest tail a b w w' Eof none same fine h k = no_cut w.out w'.out (subst (λ l. IsCutShort l w.out w'.out) h.2 k.0)
+closes_none rest tail a b w w' CutLine none same fine h k = omega (arith, none, h.1)
+closes_none rest tail a b w w' TooLong none same fine h k = omega (arith, none, h.1)
+closes_none rest tail a b w w' ReadFault none same fine h k = omega (arith, fine, h.2)
+closes_none rest tail a b w w' TooManyReads none same fine h k = omega (arith, same, h.1)
+closes_none rest tail a b w w' WriteFault none same fine h k = h
+closes_none rest tail a b w w' NoMemory none same fine h k = h
+
+breaks_none : {S : Type 0} (begins : Says S) (rest : List ℕ) (a b : Incoming) (c : S) (w : Outgoing) (c' : S) (w' : Outgoing) → length rest ≡ 0 → length b.reads ≡ length a.reads → b.failures ≡ a.failures → Breaks begins rest a b c w c' w' → ⊥
+breaks_none begins rest a b c w c' w' none same fine (inl (h, k)) = no_line rest h.0 none h.2
+breaks_none begins rest a b c w c' w' none same fine (inr h) = closes_none rest h.1 a b w w' h.0 none same fine h.2 h.4
+
+fails_none : {S : Type 0} (says begins : Says S) (bytes : List ℕ) (a b : Incoming) (c : S) (w : Outgoing) (c' : S) (w' : Outgoing) → bytes ≡ [] → length b.reads ≡ length a.reads → b.failures ≡ a.failures → Fails says begins bytes a b c w c' w' → ⊥
+fails_none says begins bytes a b c w c' w' none same fine f =
+    breaks_none begins f.0 a b f.2 f.3 c' w' (omega (arith, ap (λ x. length x) none, ap (λ x. length x) f.4.are, length-append (stream f.4.lines) f.0)) same fine f.6
+
+-- a write failed in the answers of the buffer's lines, or behind them
+pub ends_failing : {S : Type 0} (says begins : Says S) (a : Incoming) (c : S) (w : Outgoing) (b : Incoming) (buffer : List ℕ) (c1 : S) (w1 : Outgoing) (reads : ℕ) (c2 : S) (w2 : Outgoing)
+    → IsOpen says a c w b buffer c1 w1 reads → Came says a c w b buffer c1 w1 reads → Fails says begins buffer a b c1 w1 c2 w2 → Serves says begins a b c w c2 w2 WriteFault
+ends_failing says begins a c w b buffer c1 w1 reads c2 w2 o (inl (none, zero)) f =
+    absurd (fails_none says begins buffer a b c1 w1 c2 w2 none (omega (arith, zero, o.count, ap (λ x. length x) o.reads_are, length-append a.reads o.earlier)) o.no_fault f)
+ends_failing says begins a c w b buffer c1 w1 reads c2 w2 o (inr (before, last, rest, taken, is, h)) f =
+    (before ++ last, taken, o.keeps, (before, last, rest, c1, w1, refl, h, subst (λ l. Fails says begins l a b c1 w1 c2 w2) is f))
+
+-- an ending's line failed after a read that took nothing
+pub ends_silent : {S : Type 0} (says begins : Says S) (a : Incoming) (c : S) (w : Outgoing) (b : Incoming) (rest : List ℕ) (c' : S) (w1 : Outgoing) (reads : ℕ) (b' : Incoming) (w2 : Outgoing) (ended : Ended) (tail : List ℕ)
+    → IsOpen says a c w b rest c' w1 reads → IsLine rest → b'.taken ≡ b.taken → b'.reads ≡ b.reads ++ 0 ∷ [] → Keeps (whole b) (whole b') → Closes rest a b' ended tail → IsWritten tail w1 w2 false → Serves says begins a b' c w c' w2 WriteFault
+ends_silent says begins a c w b rest c' w1 reads b' w2 ended tail o line taken read same closes h = (
+  o.bytes ++ [],
+  taken ∙ o.taken ∙ ap (λ l. a.taken ++ l) (sym (append-nil o.bytes)),
+  keeps_then (whole a) (whole b) (whole b') o.keeps same,
+  (
+    o.bytes,
+    [],
+    rest,
+    c',
+    w1,
+    refl,
+    last_read says a c w b rest c' w1 reads b' [] o line read,
+    (rest, [], c', w1, subst (λ l. IsTalk says l c' rest [] c') (sym (append-nil rest)) (talk_none says rest c'), written_none w1, inr (ended, tail, closes, refl, h)),
+  ),
+)
+
+-- all the lines from the beginning, and then the write that failed
+pub served_fails : {S : Type 0} (says begins : Says S) (bytes : List ℕ) (a b : Incoming) (c : S) (w : Outgoing) (c' : S) (w' : Outgoing) → IsServed says begins bytes a b c w c' w' WriteFault → Fails says begins bytes a b c w c' w'
+served_fails says begins bytes a b c w c' w' (before, last, rest, c1, w1, is, h, (left, text, between, m, talk, written, breaks)) =
+    let all = talk_then says (before ++ last) c (rest ++ last) h.text c1 left text between (talk_read says before c rest h.text c1 last h.talk) talk in
+    (left, h.text ++ text, between, m, subst (λ l. IsTalk says l c left (h.text ++ text) between) (sym is) all, written_more h.text text w w1 m true h.written written, breaks)
 
 -- ---- what a session says of its ends alone
 
@@ -226,9 +305,14 @@ ends_either a b rest tail TooManyReads h = inl h.3
 ends_either a b rest tail WriteFault h = absurd h
 ends_either a b rest tail NoMemory h = absurd h
 
-breaks_either : {S : Type 0} (begins : Says S) (rest : List ℕ) (a b : Incoming) (c : S) (tail : List ℕ) (c' : S) → Breaks begins rest a b c tail c' → (b.failures ≡ a.failures) ⊎ (b.failures ≡ a.failures + 1)
-breaks_either begins rest a b c tail c' (inl h) = inl h.1
-breaks_either begins rest a b c tail c' (inr h) = ends_either a b rest tail h.0 h.1
+breaks_either : {S : Type 0} (begins : Says S) (rest : List ℕ) (a b : Incoming) (c : S) (w : Outgoing) (c' : S) (w' : Outgoing) → Breaks begins rest a b c w c' w' → (w'.failures ≡ w.failures + 1) × ((b.failures ≡ a.failures) ⊎ (b.failures ≡ a.failures + 1))
+breaks_either begins rest a b c w c' w' (inl (h, k)) = (h.4.1, inl k)
+breaks_either begins rest a b c w c' w' (inr h) = (h.4.1, ends_either a b rest h.1 h.0 h.2)
+
+fails_ends : {S : Type 0} (says begins : Says S) (bytes : List ℕ) (a b : Incoming) (c : S) (w : Outgoing) (c' : S) (w' : Outgoing) → Fails says begins bytes a b c w c' w' → Ends a b w w' WriteFault
+fails_ends says begins bytes a b c w c' w' f =
+    let e = breaks_either begins f.0 a b f.2 f.3 c' w' f.6 in
+    (e.0 ∙ ap (λ n. n + 1) f.5.1, e.1)
 
 pub serves_ends : {S : Type 0} (says begins : Says S) (a b : Incoming) (c : S) (w : Outgoing) (c' : S) (w' : Outgoing) (ended : Ended) → Serves says begins a b c w c' w' ended → Ends a b w w' ended
 serves_ends says begins a b c w c' w' Quit s = let h = s.3 in (h.5.1, h.4.2)
@@ -237,5 +321,5 @@ serves_ends says begins a b c w c' w' CutLine s = let h = s.3 in (h.5.1, (h.4.2,
 serves_ends says begins a b c w c' w' TooLong s = let h = s.3 in (h.5.1, h.4.3)
 serves_ends says begins a b c w c' w' ReadFault s = let h = s.3 in (h.5.1, h.4.2)
 serves_ends says begins a b c w c' w' TooManyReads s = let h = s.3 in (h.5.1, (h.4.1, h.4.3))
-serves_ends says begins a b c w c' w' WriteFault s = let h = s.3 in (h.6.1, breaks_either begins h.0 a b h.2 h.3 c' h.5)
+serves_ends says begins a b c w c' w' WriteFault s = fails_ends says begins s.0 a b c w c' w' (served_fails says begins s.0 a b c w c' w' s.3)
 serves_ends says begins a b c w c' w' NoMemory s = let h = s.3 in (h.1, h.3)

@@ -1,5 +1,5 @@
 -- Texts one after another, by way of a page.
-use Rattle.std.proofs.Common.{◌≡◌, ℕ, ◌+◌, Bool, true, false, List, [], ◌++◌, refl, ap, sym, ◌∙◌, append_assoc}
+use Rattle.std.proofs.Common.{◌≡◌, ℕ, ◌+◌, Bool, true, false, List, [], ◌++◌, length-append, arith, refl, ap, sym, ◌∙◌, append_assoc}
 use Rattle.std.proofs.lemmas.List.{append-nil}
 use Rattle.dump_pump.specs.Outlets.{Outgoing}
 use Rattle.session_text.specs.Writes.{IsWritten, IsAdded}
@@ -11,7 +11,7 @@ added_here text page a page' is = ([], sym (append-nil a.out), sym is, refl)
 -- the page was put out, and is empty
 pub flushed : (page : List ℕ) (a b : Outgoing) (page' : List ℕ) (r : Bool) → IsWritten page a b r → page' ≡ [] → IsAdded [] page a page' b r
 flushed page a b page' true h is = (page, h.0, ap (λ l. page ++ l) (sym is), h.1)
-flushed page a b page' false h is = (record { part = h.0.part; rest = h.0.rest; has = h.0.has; lacks = append-nil page ∙ h.0.lacks }, h.1)
+flushed page a b page' false h is = (record { part = h.0.part; rest = h.0.rest; has = h.0.has; lacks = append-nil page ∙ h.0.lacks; some = h.0.some }, h.1)
 
 -- what comes after a part that was put out
 more_of : (page put page1 xs ys : List ℕ) → page ++ xs ≡ put ++ page1 → page ++ (xs ++ ys) ≡ put ++ (page1 ++ ys)
@@ -31,6 +31,7 @@ added_more xs ys page a page1 b page2 c false h k = (
     rest = k.0.rest;
     has = k.0.has ∙ ap (λ l. l ++ k.0.part) h.1 ∙ append_assoc a.out h.0 k.0.part;
     lacks = more_of page h.0 page1 xs ys h.2 ∙ ap (λ l. h.0 ++ l) k.0.lacks ∙ sym (append_assoc h.0 k.0.part k.0.rest);
+    some = k.0.some;
   },
   k.1 ∙ ap (λ n. n + 1) h.3,
 )
@@ -43,6 +44,7 @@ added_short xs ys page a page1 b page2 h = (
     rest = h.0.rest ++ ys;
     has = h.0.has;
     lacks = sym (append_assoc page xs ys) ∙ ap (λ l. l ++ ys) h.0.lacks ∙ append_assoc h.0.part h.0.rest ys;
+    some = omega (arith, h.0.some, length-append h.0.rest ys);
   },
   h.1,
 )
@@ -50,12 +52,12 @@ added_short xs ys page a page1 b page2 h = (
 -- the text may be told in another way
 pub added_as : (xs ys page : List ℕ) (a : Outgoing) (page' : List ℕ) (b : Outgoing) (r : Bool) → xs ≡ ys → IsAdded xs page a page' b r → IsAdded ys page a page' b r
 added_as xs ys page a page' b true e h = (h.0, h.1, ap (λ l. page ++ l) (sym e) ∙ h.2, h.3)
-added_as xs ys page a page' b false e h = (record { part = h.0.part; rest = h.0.rest; has = h.0.has; lacks = ap (λ l. page ++ l) (sym e) ∙ h.0.lacks }, h.1)
+added_as xs ys page a page' b false e h = (record { part = h.0.part; rest = h.0.rest; has = h.0.has; lacks = ap (λ l. page ++ l) (sym e) ∙ h.0.lacks; some = h.0.some }, h.1)
 
 -- from an empty page to an empty page
 pub written_of : (text page : List ℕ) (a : Outgoing) (page' : List ℕ) (b : Outgoing) (r : Bool) → page ≡ [] → page' ≡ [] → IsAdded text page a page' b r → IsWritten text a b r
 written_of text page a page' b true e f h = (h.1 ∙ ap (λ l. a.out ++ l) (sym (append-nil h.0) ∙ ap (λ l. h.0 ++ l) (sym f) ∙ sym h.2 ∙ ap (λ l. l ++ text) e), h.3)
-written_of text page a page' b false e f h = (record { part = h.0.part; rest = h.0.rest; has = h.0.has; lacks = ap (λ l. l ++ text) (sym e) ∙ h.0.lacks }, h.1)
+written_of text page a page' b false e f h = (record { part = h.0.part; rest = h.0.rest; has = h.0.has; lacks = ap (λ l. l ++ text) (sym e) ∙ h.0.lacks; some = h.0.some }, h.1)
 
 -- a page had room made, and took a text
 pub added_then_here : (text page : List ℕ) (a : Outgoing) (page1 : List ℕ) (b : Outgoing) (page2 : List ℕ) → IsAdded [] page a page1 b true → page2 ≡ page1 ++ text → IsAdded text page a page2 b true

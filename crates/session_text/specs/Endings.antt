@@ -1,5 +1,5 @@
 -- What an ending says of the reader and the writer.
-use Rattle.std.specs.Prelude.{◌≡◌, ℕ, ◌+◌, ◌⊎◌, Bool, true, false, List}
+use Rattle.std.specs.Prelude.{◌≡◌, ℕ, ◌+◌, ◌⊎◌, Bool, true, false, List, length}
 use Rattle.dump_pump.specs.Outlets.{Outgoing}
 use Rattle.session_text.specs.declared.Ended.{Ended}
 use Rattle.session_text.specs.declared.Ended.TheVariants.{Quit, Eof, CutLine, TooLong, ReadFault, TooManyReads, WriteFault, NoMemory}
@@ -27,7 +27,7 @@ ReaderEnds a b Eof = NothingLeft b × (b.failures ≡ a.failures)
 ReaderEnds a b CutLine = NothingLeft b × (b.failures ≡ a.failures)
 ReaderEnds a b TooLong = b.failures ≡ a.failures
 ReaderEnds a b ReadFault = b.failures ≡ a.failures + 1
-ReaderEnds a b TooManyReads = (b.reads ≡ a.reads + 1000000) × (b.failures ≡ a.failures)
+ReaderEnds a b TooManyReads = (length b.reads ≡ length a.reads + 1000000) × (b.failures ≡ a.failures)
 ReaderEnds a b WriteFault = ⊥
 ReaderEnds a b NoMemory = b ≡ a
 

@@ -1,14 +1,14 @@
 -- What a read does.
-use Rattle.std.specs.Prelude.{◌≡◌, ℕ, ◌+◌, ◌<◌, ◌≤◌, List, [], ◌++◌, take, length, Option, option_map, IfSome}
+use Rattle.std.specs.Prelude.{◌≡◌, ℕ, ◌+◌, ◌<◌, ◌≤◌, List, [], ◌∷◌, ◌++◌, take, length, Option, option_map, IfSome}
 use Rattle.std.specs.Io.KnownBytes.{Keeps, Consumes, IsAtEnd}
 use Rattle.session_text.specs.declared.inlet.Take.{Take}
 use Rattle.session_text.specs.declared.inlet.Take.TheVariants.{Got, End, Failed}
 
--- the bytes that were given so far, those left where the inlet tells them, and the reads made and failed
+-- the bytes that were given so far, those left where the inlet tells them, how many each read took, and how many reads failed
 pub record Incoming : Type 0 where
   pub taken : List ℕ
   pub left : Option (List ℕ)
-  pub reads : ℕ
+  pub reads : List ℕ
   pub failures : ℕ
 
 -- all bytes, where they are known
@@ -19,15 +19,15 @@ abbrev pub NothingLeft : Incoming → Type 0
 NothingLeft a = IfSome a.left (λ xs. xs ≡ [])
 
 abbrev pub IsTake : List ℕ → Incoming → Incoming → Take → Type 0
-IsTake room a b (Got n) = (0 < n) × (n ≤ length room) × (b.taken ≡ a.taken ++ take n room) × (b.reads ≡ a.reads + 1) × (b.failures ≡ a.failures) × Keeps (whole a) (whole b)
-IsTake room a b End = NothingLeft b × (b.taken ≡ a.taken) × (b.reads ≡ a.reads + 1) × (b.failures ≡ a.failures) × Keeps (whole a) (whole b)
-IsTake room a b Failed = (b.taken ≡ a.taken) × (b.reads ≡ a.reads + 1) × (b.failures ≡ a.failures + 1) × Keeps (whole a) (whole b)
+IsTake room a b (Got n) = (0 < n) × (n ≤ length room) × (b.taken ≡ a.taken ++ take n room) × (b.reads ≡ a.reads ++ n ∷ []) × (b.failures ≡ a.failures) × Keeps (whole a) (whole b)
+IsTake room a b End = NothingLeft b × (b.taken ≡ a.taken) × (b.reads ≡ a.reads ++ 0 ∷ []) × (b.failures ≡ a.failures) × Keeps (whole a) (whole b)
+IsTake room a b Failed = (b.taken ≡ a.taken) × (b.reads ≡ a.reads ++ 0 ∷ []) × (b.failures ≡ a.failures + 1) × Keeps (whole a) (whole b)
 
 -- what a read does to a buffer's bytes
 abbrev pub IsRead : List ℕ → List ℕ → Incoming → Incoming → Take → Type 0
-IsRead buf buf' a b (Got n) = (more : List ℕ) × (buf' ≡ buf ++ more) × (b.taken ≡ a.taken ++ more) × (b.reads ≡ a.reads + 1) × (b.failures ≡ a.failures) × Keeps (whole a) (whole b)
-IsRead buf buf' a b End = (buf' ≡ buf) × NothingLeft b × (b.taken ≡ a.taken) × (b.reads ≡ a.reads + 1) × (b.failures ≡ a.failures) × Keeps (whole a) (whole b)
-IsRead buf buf' a b Failed = (buf' ≡ buf) × (b.taken ≡ a.taken) × (b.reads ≡ a.reads + 1) × (b.failures ≡ a.failures + 1) × Keeps (whole a) (whole b)
+IsRead buf buf' a b (Got n) = (more : List ℕ) × (0 < length more) × (buf' ≡ buf ++ more) × (b.taken ≡ a.taken ++ more) × (b.reads ≡ a.reads ++ length more ∷ []) × (b.failures ≡ a.failures) × Keeps (whole a) (whole b)
+IsRead buf buf' a b End = (buf' ≡ buf) × NothingLeft b × (b.taken ≡ a.taken) × (b.reads ≡ a.reads ++ 0 ∷ []) × (b.failures ≡ a.failures) × Keeps (whole a) (whole b)
+IsRead buf buf' a b Failed = (buf' ≡ buf) × (b.taken ≡ a.taken) × (b.reads ≡ a.reads ++ 0 ∷ []) × (b.failures ≡ a.failures + 1) × Keeps (whole a) (whole b)
 
 abbrev pub count_of : Take → ℕ
 count_of (Got n) = n

@@ -1,6 +1,7 @@
 -- A whole session over a machine of one's own: bytes in, bytes out.
 use Rattle.std.specs.Prelude.{◌≡◌, ℕ, zero, suc, ◌+◌, ◌⊎◌, Bool, true, false, ◌==◌, nat_lt, List, [], ◌∷◌, ◌++◌, length, codes, if◌then◌else◌}
 use Rattle.std.specs.List.{slice_split}
+use Rattle.std.specs.Io.KnownBytes.{Keeps}
 use mathlib.Core.List.{IsPrefix}
 use Rattle.dump_pump.specs.Outlets.{Outgoing}
 use Rattle.heap_class.specs.declared.Refusal.TheVariants.{NoMemory}
@@ -18,9 +19,10 @@ use Rattle.session_text.specs.declared.command.Command.{Command}
 use Rattle.session_text.specs.declared.command.Command.TheVariants.{Blank, Bad, Ask, Dump, End}
 use Rattle.session_text.specs.Dumps.{total_line, piece_limit}
 use Rattle.session_text.specs.Grammar.{command_of}
-use Rattle.session_text.specs.Inlets.{Incoming}
+use Rattle.session_text.specs.Inlets.{Incoming, whole}
 use Rattle.session_text.specs.Reads.{ActionTakesMemory}
 use Rattle.session_text.specs.Replies.{reply_text, data_lines}
+use Rattle.session_text.specs.Writes.{IsCutShort}
 
 -- a session between two lines: the machine, the marks of what is to come (none: fine), and what was written
 pub record Talk : Type 0 where
@@ -127,6 +129,21 @@ MarksFit m marks time bytes = FitLines time (slice_split (λ b. b == 10) bytes) 
 abbrev pub Shows : Machine → List Mark → ℕ → List ℕ → ReadEnd → List ℕ → Machine → Ended → Type 0
 Shows m marks time bytes e out m' ended = session_of m marks time bytes e ≡ (record { machine = m'; marks = []; written = out }, ended)
 
+-- the next line was acted on, and its answer was cut short
+abbrev pub CutsLine : ℕ → List ℕ → Talk → List ℕ → Machine → Type 0
+CutsLine time rest t out m' =
+    (l : List ℕ) × (more : List ℕ) × (rest ≡ l ++ 10 ∷ more) × (m' ≡ (after_command time (command_of l) t).machine) × IsCutShort (after_command time (command_of l) t).written [] out
+
+-- all lines were answered, and what the ending prints was cut short
+abbrev pub CutsEnd : Machine → List Mark → ℕ → List ℕ → ReadEnd → Talk → List ℕ → Machine → Type 0
+CutsEnd m marks time bytes e t out m' = (whole : List ℕ) × (ended : Ended) × Shows m marks time bytes e whole m' ended × (m' ≡ t.machine) × IsCutShort whole [] out
+
+-- the lines at the front of the bytes left t, their answers are out, and there the text was cut
+abbrev pub StopsAfter : Machine → List Mark → ℕ → List ℕ → ReadEnd → List ℕ → Machine → Type 0
+StopsAfter m marks time bytes e out m' =
+    (lines : List ℕ) × (rest : List ℕ) × (t : Talk) × (bytes ≡ lines ++ rest) × (session_of m marks time lines Over ≡ (t, Eof)) × IsPrefix t.written out
+    × (CutsLine time rest t out m' ⊎ CutsEnd m marks time bytes e t out m')
+
 abbrev pub IsShown : Machine → List Mark → ℕ → List ℕ → List ℕ → Machine → Ended → Type 0
 IsShown m marks time bytes out m' Quit = (e : ReadEnd) → Shows m marks time bytes e out m' Quit
 IsShown m marks time bytes out m' Eof = Shows m marks time bytes Over out m' Eof
@@ -134,9 +151,10 @@ IsShown m marks time bytes out m' CutLine = Shows m marks time bytes Over out m'
 IsShown m marks time bytes out m' TooLong = (e : ReadEnd) → Shows m marks time bytes e out m' TooLong
 IsShown m marks time bytes out m' ReadFault = Shows m marks time bytes Failed out m' ReadFault
 IsShown m marks time bytes out m' TooManyReads = Shows m marks time bytes Spent out m' TooManyReads
-IsShown m marks time bytes out m' WriteFault = (e : ReadEnd) × IsPrefix out (session_of m marks time bytes e).0.written
+IsShown m marks time bytes out m' WriteFault = (e : ReadEnd) × IsCutShort (session_of m marks time bytes e).0.written [] out × StopsAfter m marks time bytes e out m'
 IsShown m marks time bytes out m' NoRoom = (bytes ≡ []) × (out ≡ []) × (m' ≡ m)
 
--- the bytes taken and the bytes put out, for some marks of refused memory that may stand there
+-- the bytes taken (those that the reader tells, where it tells them) and the bytes put out, for some marks of refused memory that
+-- may stand there
 abbrev pub IsSession : Machine → ℕ → Incoming → Incoming → Outgoing → Outgoing → Machine → Ended → Type 0
-IsSession m time a b w w' m' ended = (bytes : List ℕ) × (out : List ℕ) × (marks : List Mark) × MarksFit m marks time bytes × (b.taken ≡ a.taken ++ bytes) × (w'.out ≡ w.out ++ out) × IsShown m marks time bytes out m' ended
+IsSession m time a b w w' m' ended = (bytes : List ℕ) × (out : List ℕ) × (marks : List Mark) × MarksFit m marks time bytes × (b.taken ≡ a.taken ++ bytes) × Keeps (whole a) (whole b) × (w'.out ≡ w.out ++ out) × IsShown m marks time bytes out m' ended

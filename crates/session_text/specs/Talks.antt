@@ -1,5 +1,5 @@
 -- Sessions: the lines that were read, and the texts that were written for them.
-use Rattle.std.specs.Prelude.{◌≡◌, ℕ, ◌+◌, ◌≤◌, ◌<◌, ◌⊎◌, true, false, List, [], ◌∷◌, ◌++◌, length, flat_map, codes}
+use Rattle.std.specs.Prelude.{◌≡◌, ℕ, ◌+◌, ◌≤◌, ◌<◌, ◌⊎◌, true, false, List, [], ◌∷◌, ◌++◌, length, flat_map, codes, All}
 use Rattle.std.specs.Io.KnownBytes.{Keeps}
 use Rattle.dump_pump.specs.Outlets.{Outgoing}
 use Rattle.session_text.specs.declared.Ended.{Ended}
@@ -43,9 +43,9 @@ BeginsWith l bytes = IsLine l × (more : List ℕ) × (bytes ≡ l ++ 10 ∷ mor
 abbrev pub IsQuit : List ℕ → Type 0
 IsQuit rest = (l : List ℕ) × BeginsWith l rest × (command_of l ≡ End)
 
--- a write fails in the answer of the next line
-abbrev pub IsBrokenOff : {S : Type 0} → Says S → List ℕ → S → List ℕ → S → Type 0
-IsBrokenOff begins rest c tail c' = (l : List ℕ) × BeginsWith l rest × begins (command_of l) c tail c'
+-- the next line was acted on, and its answer was cut short
+abbrev pub IsBrokenOff : {S : Type 0} → Says S → List ℕ → S → Outgoing → S → Outgoing → Type 0
+IsBrokenOff begins rest c w c' w' = (l : List ℕ) × (tail : List ℕ) × BeginsWith l rest × begins (command_of l) c tail c' × IsWritten tail w w' false
 
 -- ---- one line, and all whole lines of a buffer
 
@@ -58,8 +58,8 @@ abbrev pub IsAnswered : {S : Type 0} → Says S → Says S → List ℕ → S �
 IsAnswered says begins bytes c w rest c' w' Next = (text : List ℕ) × IsTalk says bytes c rest text c' × NoLf rest × IsWritten text w w' true
 IsAnswered says begins bytes c w rest c' w' Stop = (text : List ℕ) × IsTalk says bytes c rest text c' × IsQuit rest × IsWritten text w w' true
 IsAnswered {S} says begins bytes c w rest c' w' Fault =
-    (left : List ℕ) × (text : List ℕ) × (between : S) × (tail : List ℕ)
-    × IsTalk says bytes c left text between × IsBrokenOff begins left between tail c' × IsWritten (text ++ tail) w w' false
+    (left : List ℕ) × (text : List ℕ) × (between : S) × (m : Outgoing)
+    × IsTalk says bytes c left text between × IsWritten text w m true × IsBrokenOff begins left between m c' w'
 
 -- ---- endings
 
@@ -70,21 +70,40 @@ Closes rest a b Eof tail = (rest ≡ []) × NothingLeft b × (tail ≡ []) × (b
 Closes rest a b CutLine tail = IsLine rest × (0 < length rest) × NothingLeft b × (tail ≡ codes "bad cut\n") × (b.failures ≡ a.failures)
 Closes rest a b TooLong tail = NoLf rest × (length rest ≡ 4097) × (tail ≡ codes "bad long\n") × (b.failures ≡ a.failures)
 Closes rest a b ReadFault tail = IsLine rest × (tail ≡ codes "bad read\n") × (b.failures ≡ a.failures + 1)
-Closes rest a b TooManyReads tail = IsLine rest × (b.reads ≡ a.reads + 1000000) × (tail ≡ codes "bad reads\n") × (b.failures ≡ a.failures)
+Closes rest a b TooManyReads tail = IsLine rest × (length b.reads ≡ length a.reads + 1000000) × (tail ≡ codes "bad reads\n") × (b.failures ≡ a.failures)
 Closes rest a b WriteFault tail = ⊥
 Closes rest a b NoMemory tail = ⊥
 
--- where a write failed: in the answer of a line, or in what an ending prints
-abbrev pub Breaks : {S : Type 0} → Says S → List ℕ → Incoming → Incoming → S → List ℕ → S → Type 0
-Breaks begins rest a b c tail c' = (IsBrokenOff begins rest c tail c' × (b.failures ≡ a.failures)) ⊎ ((ended : Ended) × Closes rest a b ended tail × (c' ≡ c))
+-- a write failed: in the answer of the next line, or in what an ending prints
+abbrev pub Breaks : {S : Type 0} → Says S → List ℕ → Incoming → Incoming → S → Outgoing → S → Outgoing → Type 0
+Breaks begins rest a b c w c' w' =
+    (IsBrokenOff begins rest c w c' w' × (b.failures ≡ a.failures))
+    ⊎ ((ended : Ended) × (tail : List ℕ) × Closes rest a b ended tail × (c' ≡ c) × IsWritten tail w w' false)
+
+-- some whole lines were answered, their texts are out, and then a write failed
+abbrev pub Fails : {S : Type 0} → Says S → Says S → List ℕ → Incoming → Incoming → S → Outgoing → S → Outgoing → Type 0
+Fails {S} says begins bytes a b c w c' w' =
+    (rest : List ℕ) × (text : List ℕ) × (between : S) × (m : Outgoing)
+    × IsTalk says bytes c rest text between × IsWritten text w m true × Breaks begins rest a b between m c' w'
+
+-- the last read took `last`. Each read earlier took some bytes; when the last one was made, all whole lines of the bytes
+-- before were answered, their texts were out, and a line's beginning was left
+pub record IsLastRead {S : Type 0} (says : Says S) (before last : List ℕ) (a b : Incoming) (c : S) (w : Outgoing) (rest : List ℕ) (c' : S) (w' : Outgoing) : Type 0 where
+  pub earlier : List ℕ
+  pub text : List ℕ
+  pub reads : b.reads ≡ a.reads ++ (earlier ++ length last ∷ [])
+  pub each : All (λ n. 0 < n) earlier
+  pub talk : IsTalk says before c rest text c'
+  pub line : IsLine rest
+  pub written : IsWritten text w w' true
 
 -- ---- whole sessions
 
 -- the bytes read, the commands and the writer before and after, and the ending
 abbrev pub IsServed : {S : Type 0} → Says S → Says S → List ℕ → Incoming → Incoming → S → Outgoing → S → Outgoing → Ended → Type 0
 IsServed {S} says begins bytes a b c w c' w' WriteFault =
-    (rest : List ℕ) × (text : List ℕ) × (between : S) × (tail : List ℕ)
-    × IsTalk says bytes c rest text between × Breaks begins rest a b between tail c' × IsWritten (text ++ tail) w w' false
+    (before : List ℕ) × (last : List ℕ) × (rest : List ℕ) × (c1 : S) × (w1 : Outgoing)
+    × (bytes ≡ before ++ last) × IsLastRead says before last a b c w rest c1 w1 × Fails says begins (rest ++ last) a b c1 w1 c' w'
 IsServed says begins bytes a b c w c' w' NoMemory = (bytes ≡ []) × (b ≡ a) × (c' ≡ c) × (w' ≡ w)
 IsServed says begins bytes a b c w c' w' ended =
     (rest : List ℕ) × (text : List ℕ) × (tail : List ℕ)

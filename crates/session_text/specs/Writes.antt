@@ -1,13 +1,14 @@
 -- What was written, whole or cut short by a fault.
-use Rattle.std.specs.Prelude.{◌≡◌, ℕ, ◌+◌, Bool, true, false, List, ◌++◌}
+use Rattle.std.specs.Prelude.{◌≡◌, ℕ, ◌+◌, ◌<◌, Bool, true, false, List, ◌++◌, length}
 use Rattle.dump_pump.specs.Outlets.{Outgoing}
 
--- b is a and a beginning of the bytes
+-- b is a and a beginning of the bytes, of which some are missing
 pub record IsCutShort (bytes a b : List ℕ) : Type 0 where
   pub part : List ℕ
   pub rest : List ℕ
   pub has : b ≡ a ++ part
   pub lacks : bytes ≡ part ++ rest
+  pub some : 0 < length rest
 
 -- the bytes were put out, or a beginning of them where a write failed
 abbrev pub IsWritten : List ℕ → Outgoing → Outgoing → Bool → Type 0

@@ -4,7 +4,7 @@ ghost use Rattle.session_text.specs.Inlets.{IsRead, count_of};
 ghost use Rattle.session_text.specs.Lines.{NoLf, IsLineAt};
 
 use crate::LINE_LIMIT;
-use crate::inlet::{Inlet, Take};
+use crate::inlet::{Inlet, Take, count_of};
 use memchr::memchr;
 use std::alloc::{AllocError, Global};
 use std::marker::Model;
@@ -95,16 +95,6 @@ impl Buffer {
         *start = 0;
         *end = used + count_of(took);
         took
-    }
-}
-
-/// How many bytes a read gave.
-fn count_of(took: Take) -> usize
-    ensures { result ≡ count_of took }
-{
-    match took {
-        Take::Got(n) => n,
-        Take::End | Take::Failed => 0,
     }
 }
 

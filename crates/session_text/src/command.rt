@@ -1,8 +1,8 @@
 //! What a line asks for.
-ghost use Rattle.std.specs.Prelude.{◌≡◌, ◌&&◌, nat_le, MatchResult};
+ghost use Rattle.std.specs.Prelude.{◌≡◌, ◌&&◌, ◌||◌, nat_le, codes, MatchResult};
 ghost use Rattle.std.specs.Str.{bytes_eq};
 ghost use Rattle.std.specs.List.{list_all};
-ghost use Rattle.session_text.specs.Grammar.{words_of, number_or_dash, at_end, one_number, three_numbers, two_numbers, four_numbers, class_line, array_line, new_line, newarray_line, newprim_line, load_line, store_line, put_line, move_line, clear_line, step_line, sweep_line, rewind_line, dump_line, end_line, making_line, access_line, marking_line, session_line, plain_line, line_after, command_of_words, without_cr, command_of_text, command_of};
+ghost use Rattle.session_text.specs.Grammar.{words_of, number_or_dash, at_end, one_number, three_numbers, two_numbers, four_numbers, class_line, array_line, new_line, newarray_line, newprim_line, load_line, store_line, put_line, move_line, clear_line, step_line, sweep_line, rewind_line, dump_line, end_line, making_line, access_line, marking_line, session_line, plain_line, line_after, without_cr, command_of_text, command_of};
 ghost use Rattle.session_text.specs.Reads.{TakesMemory, MayTakeMemory, IsNextNumber, IsNextKind};
 
 use crate::fields::{are_fields, kind_of, read_fields};
@@ -378,16 +378,6 @@ fn line_after(alloc: Global, word: &[u8], words: Words) -> Result<Option<Command
     Ok(plain_line(word, words))
 }
 
-/// The command of some words.
-fn command_of_words(alloc: Global, mut words: Words) -> Result<Command, AllocError>
-    ensures { MatchResult result (λ c. c ≡ command_of_words (words_of words.entry.rest.now)) (λ _. TakesMemory (command_of_words (words_of words.entry.rest.now))) }
-{
-    let Some(word) = words.next() else {
-        return Ok(Command::Blank);
-    };
-    Ok(line_after(alloc, word, words)?.unwrap_or(Command::Bad))
-}
-
 /// Drops a CR at the end.
 fn without_cr(line: &[u8]) -> &[u8]
     ensures { result.now ≡ without_cr line.now }
@@ -406,14 +396,25 @@ fn is_plain(text: &[u8]) -> bool
     text.iter().all(|b| *b >= 0x20 && *b <= 0x7e)
 }
 
+/// Whether lines of this first word hold names. All other lines are made of keywords, numbers and kinds, of which none has a bad
+/// byte, so that they need no look for one.
+fn holds_names(word: &[u8]) -> bool
+    ensures { result ≡ (bytes_eq word.now (codes "class") || bytes_eq word.now (codes "array")) }
+{
+    is_word(word, b"class") || is_word(word, b"array")
+}
+
 fn command_of_text(alloc: Global, text: &[u8]) -> Result<Command, AllocError>
     ensures { MatchResult result (λ c. c ≡ command_of_text text.now) (λ _. TakesMemory (command_of_text text.now)) }
 {
-    if is_plain(text) {
-        command_of_words(alloc, Words::new(text))
-    } else {
-        Ok(Command::Bad)
+    let mut words = Words::new(text);
+    let Some(word) = words.next() else {
+        return Ok(Command::Blank);
+    };
+    if holds_names(word) && !is_plain(text) {
+        return Ok(Command::Bad);
     }
+    Ok(line_after(alloc, word, words)?.unwrap_or(Command::Bad))
 }
 
 /// What a line without its LF asks for. Refused only where it defines a class.

@@ -1,4 +1,6 @@
 //! Where lines come from.
+ghost use Rattle.std.specs.Prelude.{◌≡◌};
+ghost use Rattle.session_text.specs.Inlets.{count_of};
 
 /// What a read gave.
 #[derive(Clone, Copy, PartialEq, Eq, Debug)]
@@ -11,8 +13,18 @@ pub enum Take {
     Failed,
 }
 
-/// What gives bytes. Contracts see it as the bytes that it gave so far, those that are left where it tells them, and
-/// how many reads were made and failed.
+/// How many bytes a read gave.
+pub fn count_of(took: Take) -> usize
+    ensures { result ≡ count_of took }
+{
+    match took {
+        Take::Got(n) => n,
+        Take::End | Take::Failed => 0,
+    }
+}
+
+/// What gives bytes. Contracts see it as the bytes that it gave so far, those that are left where it tells them, how many
+/// each read took, and how many reads failed.
 pub trait Inlet {
     ghost use Rattle.std.specs.Prelude.{◌<◌, length};
     ghost use Rattle.session_text.specs.Inlets.{Incoming, IsTake};

@@ -9,8 +9,6 @@ pub mod buffer;
 pub mod command;
 pub mod commands;
 pub mod dump;
-#[cfg(test)]
-mod faults;
 pub mod fields;
 pub mod inlet;
 pub mod number;
@@ -18,8 +16,6 @@ pub mod page;
 pub mod read_inlet;
 pub mod reply;
 pub mod talk;
-#[cfg(test)]
-mod tests;
 pub mod words;
 pub mod write;
 
@@ -52,9 +48,9 @@ pub enum Ended {
     ReadFault,
     /// After 1,000,000 reads.
     TooManyReads,
-    /// By a write that failed or took nothing. Nothing more was written or read.
+    /// By a write that failed or took nothing. Nothing was read after it.
     WriteFault,
-    /// No memory for a line or a reply. Nothing was read.
+    /// No memory for the session's two buffers, a page and a line. Nothing was read.
     NoMemory,
 }
 

@@ -2,7 +2,7 @@
 ghost use Rattle.std.specs.Prelude.{◌≡◌, ◌<◌, [], length};
 ghost use Rattle.session_text.specs.Inlets.{IsTriedRead};
 
-use crate::inlet::{Inlet, Take};
+use crate::inlet::{Inlet, Take, count_of};
 use dump_pump::ledger::note_bytes;
 use http_server::Log;
 use std::io::{ErrorKind, Read};
@@ -15,7 +15,7 @@ pub const INTERRUPT_LIMIT: u32 = 100;
 pub struct ReadInlet<R: Read> {
     reader: R,
     taken: Log<u8, ()>,
-    asked: Log<(), ()>,
+    asked: Log<usize, ()>,
     failed: Log<(), ()>,
 }
 
@@ -67,14 +67,14 @@ fn read_once<R: Read>(reader: &mut R, room: &mut [u8]) -> Take
 }
 
 impl<R: Read> Inlet for ReadInlet<R> {
-    ghost use Rattle.std.specs.Prelude.{length};
+    ghost use Rattle.std.specs.Prelude.{length, map};
     ghost use Rattle.dump_pump.specs.Outlets.{bytes_of};
 
-    ghost seen = { λ i. record { taken = bytes_of i.taken.items; left = R.remaining i.reader; reads = length i.asked.items; failures = length i.failed.items } };
+    ghost seen = { λ i. record { taken = bytes_of i.taken.items; left = R.remaining i.reader; reads = map (λ e. e.0) i.asked.items; failures = length i.failed.items } };
 
     fn take(&mut self, room: &mut [u8]) -> Take {
         let took = read_once(&mut self.reader, room);
-        self.asked = self.asked.and(&(), &());
+        self.asked = self.asked.and(&count_of(took), &());
         match took {
             Take::Got(n) => note_bytes(&mut self.taken, &room[..n]),
             Take::End => {}

@@ -67,7 +67,8 @@ fn talk<I: Inlet, O: Outlet, C: Commands>(
 }
 
 /// Reads lines, and writes the answers of the commands in order, until an ending. In which chunks bytes come and go doesn't
-/// show. After a write that failed nothing more is read or written, and the commands that were done stay done. `time`, in
+/// show. After a write that failed nothing more is read and no line is acted on: the answers of the lines before are out
+/// whole, and the answer of the line being answered, which was acted on, or what the ending prints is cut short. `time`, in
 /// milliseconds, stands in the header of each dump.
 pub fn serve<I: Inlet, O: Outlet, C: Commands>(
     alloc: Global,
@@ -96,7 +97,9 @@ pub fn serve<I: Inlet, O: Outlet, C: Commands>(
 }
 
 /// A session of a machine of one's own: `serve`, where what is written and the machine afterwards are a function of the
-/// bytes read, of where memory was refused and of how reading ended.
+/// bytes read, of where memory was refused and of how reading ended. After a write that failed a beginning of that is
+/// written, and the machine is that after the lines whose answers are out whole, or after the next one too, where its answer
+/// was cut short. The bytes read are those that the reader tells, where it tells them.
 pub fn serve_local<I: Inlet, O: Outlet>(
     alloc: Global,
     reader: &mut I,

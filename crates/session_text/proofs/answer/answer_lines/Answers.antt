@@ -1,4 +1,4 @@
-use Rattle.std.proofs.Common.{◌∙◌, ◌+◌, ◌++◌, ◌≤◌, ap, subst, true, false, drop, length}
+use Rattle.std.proofs.Common.{◌∙◌, ◌+◌, ◌++◌, ◌≤◌, ap, subst, true, drop, length}
 use Rattle.session_text.specs.Answers.{Answers, Begins}
 use Rattle.session_text.proofs.Talking.{written_more, talk_then, line_answered, line_broken}
 use Rattle.session_text.proofs.answer.answer_lines.Goals as goal
@@ -28,12 +28,12 @@ returns-in-Fault-clause-answered g c =
     let same = c.line_end.ensures.same in
     let begins = Begins g.C.Commands.acts g.C.Commands.gives c.args.time in
     let most = subst (λ l. length l ≤ 4097) same c.as_slice.ensures.most in
-    let w0 = g.O.Outlet.seen c.args.writer.now in (
+    let w = g.O.Outlet.seen c.loop-n.writer in (
       c.loop-n.buffer,
       i.1,
       c.loop-n.commands,
-      e.0,
+      w,
       i.2,
-      line_broken begins c.loop-n.buffer c.as_slice.result.now c.in-Some.n c.loop-n.commands e.0 c.answer_line.new.commands (c.as_slice.ensures.value ∙ same) most c.in-Some.ensures.found e.1,
-      written_more i.1 e.0 w0 (g.O.Outlet.seen c.loop-n.writer) (g.O.Outlet.seen c.answer_line.new.writer) false i.3 e.2,
+      i.3,
+      line_broken begins c.loop-n.buffer c.as_slice.result.now c.in-Some.n c.loop-n.commands e.0 c.answer_line.new.commands w (g.O.Outlet.seen c.answer_line.new.writer) (c.as_slice.ensures.value ∙ same) most c.in-Some.ensures.found e.1 e.2,
     )

@@ -1,13 +1,15 @@
 use Rattle.std.proofs.Common.{◌≡◌, [], ◌-◌}
 use Rattle.session_text.specs.Answers.{Answers}
-use Rattle.session_text.proofs.Talking.{IsOpen}
+use Rattle.session_text.proofs.Talking.{IsOpen, Came}
 use Rattle.session_text.proofs.talk.talk.Given as goal
 
 abbrev pub invariant-loop-buffer : goal.invariant-loop-buffer
 invariant-loop-buffer g l =
     let s = l.initial in
+    let says = Answers g.C.Commands.acts g.C.Commands.gives l.time in
     (l.page ≡ [])
-    × IsOpen (Answers g.C.Commands.acts g.C.Commands.gives l.time) (g.I.Inlet.seen s.reader) s.commands (g.O.Outlet.seen s.writer) (g.I.Inlet.seen l.reader) l.buffer l.commands (g.O.Outlet.seen l.writer) l.reads
+    × IsOpen says (g.I.Inlet.seen s.reader) s.commands (g.O.Outlet.seen s.writer) (g.I.Inlet.seen l.reader) l.buffer l.commands (g.O.Outlet.seen l.writer) l.reads
+    × Came says (g.I.Inlet.seen s.reader) s.commands (g.O.Outlet.seen s.writer) (g.I.Inlet.seen l.reader) l.buffer l.commands (g.O.Outlet.seen l.writer) l.reads
 
 abbrev pub decreases-loop-buffer : goal.decreases-loop-buffer
 decreases-loop-buffer g l = 1000000 - l.reads

@@ -13,4 +13,4 @@ pub returns-in-Failed : goal.returns-in-Failed
 returns-in-Failed g c =
     let i = c.loop-at.invariant in
     let p = c.in-Failed.ensures in
-    (short_at _ c.args.bytes.now _ _ c.loop-at.at i.1 p.0, p.1 ∙ ap (λ n. n + 1) i.2)
+    (short_at _ c.args.bytes.now _ _ c.loop-at.at c.loop-at-test.true i.1 p.0, p.1 ∙ ap (λ n. n + 1) i.2)

@@ -1,0 +1,114 @@
+//! What tests of several crates begin with: heaps, classes and short names of events, and events that are taken in turn.
+#![tactic(auto)]
+
+ghost use Rattle.std.specs.Prelude.{◌≡◌};
+
+use heap_class::{Field, Fields, Kind, Name, ObjRef, Refusal};
+use heap_region::Regions;
+use heap_step::step::undo;
+use heap_step::{Event, apply};
+use heap_trail::Machine;
+use heap_world::{Config, World};
+use std::alloc::{AllocError, Global};
+use std::test::Fail;
+
+/// The ids of the first two objects of a heap, where neither has more than 4 slots.
+pub const FIRST: u64 = 0x1000_0000;
+
+pub const SECOND: u64 = 0x1000_0020;
+
+/// A field by its name and kind.
+fn field(alloc: Global, name: &[u8], kind: Kind) -> Result<Field, AllocError> {
+    let name = Name::new(alloc, name)?;
+    Ok(Field { name, kind })
+}
+
+/// The fields of a node: a reference `next` and a long `v`.
+pub fn node_fields(alloc: Global) -> Result<Fields, AllocError> {
+    let mut fields = Vec::new(alloc);
+    fields.push(field(alloc, b"next", Kind::Object)?)?;
+    fields.push(field(alloc, b"v", Kind::Long)?)?;
+    Ok(Fields::from_vec(fields))
+}
+
+/// The class of nodes.
+pub fn node(alloc: Global) -> Result<Event, AllocError> {
+    Ok(Event::Class {
+        name: Name::new(alloc, b"Node")?,
+        sup: None,
+        fields: node_fields(alloc)?,
+    })
+}
+
+/// The class of points: two ints `x` and `y`.
+pub fn point(alloc: Global) -> Result<Event, AllocError> {
+    let mut fields = Vec::new(alloc);
+    fields.push(field(alloc, b"x", Kind::Int)?)?;
+    fields.push(field(alloc, b"y", Kind::Int)?)?;
+    Ok(Event::Class {
+        name: Name::new(alloc, b"Point")?,
+        sup: None,
+        fields: Fields::from_vec(fields),
+    })
+}
+
+/// An instance of the first class in a register.
+pub fn new(r: u64) -> Event {
+    Event::New { m: 0, r, class: 0 }
+}
+
+/// A store of what a register holds to the first slot of the object that register `target` names.
+pub fn store(target: u64, source: u64) -> Event {
+    Event::Store {
+        m: 0,
+        target,
+        slot: 0,
+        source,
+    }
+}
+
+/// A heap of one region and one mutator.
+pub fn small_world(alloc: Global) -> Result<World, Fail> {
+    let config = Config::new(1, 1, 1).ok_or("settings out of range")?;
+    Ok(World::new(alloc, config)?)
+}
+
+/// Takes the steps, all of which have to be accepted.
+pub fn take(machine: &mut Machine, events: &[Event]) -> Result<(), Fail> {
+    for event in events {
+        machine.step(event)?;
+    }
+    Ok(())
+}
+
+/// Applies the events in turn, all of which have to be accepted.
+pub fn apply_all(world: &mut World, events: &[Event]) -> Result<(), Fail> {
+    for event in events {
+        apply(world, event)?;
+    }
+    Ok(())
+}
+
+/// Applies the events in turn, and takes each back again, the last first.
+pub fn there_and_back(world: &mut World, events: &[Event]) -> Result<(), Refusal>
+    ensures { world.new ≡ world.old }
+{
+    let Some((event, rest)) = events.split_first() else {
+        return Ok(());
+    };
+    // Its contract says that the heap is legal.
+    let _phase = world.phase();
+    let (_, left) = apply(world, event)?;
+    let outcome = there_and_back(world, rest);
+    undo(world, left);
+    outcome
+}
+
+/// The bits `live` and `mark` of the object in a cell; None where there is none.
+pub fn bits(regions: &Regions, at: ObjRef) -> Option<(bool, bool)> {
+    if regions.has_object(at) {
+        Some(regions.bits(at))
+    } else {
+        None
+    }
+}

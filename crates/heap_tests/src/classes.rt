@@ -1,0 +1,141 @@
+//! Classes, their slots and names, and what is refused of them.
+use heap_class::{ClassNo, Classes, Field, Fields, IdSize, Kind, Name, Refusal};
+use std::alloc::{AllocError, Global};
+use std::test::Fail;
+
+// A class Point with the fields x and next, and Sub below it with a field x of its own.
+fn two_classes(alloc: Global) -> Result<Classes, Fail> {
+    let mut classes = Classes::new(alloc);
+    let own = point_fields(alloc)?;
+    let base = define(&mut classes, alloc, b"Point", None, &own)?;
+    let more = one_field(alloc, b"x", Kind::Long)?;
+    define(&mut classes, alloc, b"Sub", Some(base), &more)?;
+    Ok(classes)
+}
+
+fn define(
+    classes: &mut Classes,
+    alloc: Global,
+    name: &[u8],
+    sup: Option<ClassNo>,
+    fields: &Fields,
+) -> Result<ClassNo, Refusal> {
+    let name = Name::new(alloc, name)?;
+    classes.define(&name, sup, fields)
+}
+
+fn point_fields(alloc: Global) -> Result<Fields, AllocError> {
+    let mut own = Vec::new(alloc);
+    own.push(field(alloc, b"x", Kind::Int)?)?;
+    own.push(field(alloc, b"next", Kind::Object)?)?;
+    Ok(Fields::from_vec(own))
+}
+
+fn one_field(alloc: Global, name: &[u8], kind: Kind) -> Result<Fields, AllocError> {
+    let mut own = Vec::new(alloc);
+    own.push(field(alloc, name, kind)?)?;
+    Ok(Fields::from_vec(own))
+}
+
+fn field(alloc: Global, name: &[u8], kind: Kind) -> Result<Field, AllocError> {
+    let name = Name::new(alloc, name)?;
+    Ok(Field { name, kind })
+}
+
+#[test]
+fn kinds_have_their_words(rt: HostRuntime) {
+    assert_eq!(rt; Kind::Object.word().as_bytes(), b"object".as_slice());
+    assert_eq!(rt; Kind::Long.type_code(), 11);
+    assert_eq!(rt; Kind::Object.width(IdSize::Four), 4);
+    assert_eq!(rt; Kind::Boolean.width(IdSize::Eight), 1);
+    assert!(rt; Kind::Char.holds(65535));
+    assert!(rt; !Kind::Char.holds(65536));
+    assert!(rt; Kind::Object.is_reference());
+    assert_eq!(rt; Refusal::FieldLimit.number(), 6);
+    assert_eq!(rt; Refusal::NoPin.name().as_bytes(), b"NoPin".as_slice());
+}
+
+#[test]
+fn slots_are_own_then_inherited(rt: HostRuntime) -> Result<(), Fail> {
+    let classes = two_classes(rt.alloc())?;
+    assert_eq!(rt; classes.len(), 2);
+    assert_eq!(rt;
+        classes.slots(1),
+        [Kind::Long, Kind::Int, Kind::Object].as_slice()
+    );
+    assert_eq!(rt; classes.instance_size(IdSize::Four, 1), 16);
+    assert_eq!(rt; classes.name(1), b"Sub".as_slice());
+    assert_eq!(rt; classes.sup(1), Some(0));
+    Ok(())
+}
+
+#[test]
+fn names_have_ids_by_first_use(rt: HostRuntime) -> Result<(), Fail> {
+    let mut classes = two_classes(rt.alloc())?;
+    assert_eq!(rt; classes.len(), 2);
+    assert_eq!(rt; classes.field_count(0), 2);
+    assert_eq!(rt; classes.field_kind(0, 1), Kind::Object);
+    assert_eq!(rt;
+        (classes.field_name_id(0, 1), classes.class_name_id(1)),
+        (3, 4)
+    );
+    assert_eq!(rt; classes.name_count(), 4);
+    assert_eq!(rt; classes.name_at(3), b"Sub".as_slice());
+    classes.undefine_last();
+    assert_eq!(rt; classes.name_table().len(), 3);
+    Ok(())
+}
+
+#[test]
+fn arrays_are_no_instances(rt: HostRuntime) -> Result<(), Fail> {
+    let mut classes = two_classes(rt.alloc())?;
+    let name = Name::new(rt.alloc(), b"[LPoint;")?;
+    let array = classes.define_array(&name)?;
+    assert!(rt; classes.is_array(array));
+    assert!(rt; classes.is_instance(0));
+    Ok(())
+}
+
+#[test]
+fn a_name_is_copied(rt: HostRuntime) -> Result<(), Fail> {
+    let name = Name::new(rt.alloc(), b"[LPoint;")?;
+    let copy = name.copied(rt.alloc())?;
+    assert!(rt; name == copy);
+    Ok(())
+}
+
+#[test]
+fn classes_are_refused(rt: HostRuntime) -> Result<(), Fail> {
+    let alloc = rt.alloc();
+    let mut classes = two_classes(alloc)?;
+    let fields = point_fields(alloc)?;
+    assert_eq!(rt; fields.as_slice().len(), 2);
+    assert_eq!(rt;
+        define(&mut classes, alloc, b"Other", Some(7), &fields),
+        Err(Refusal::NoClass)
+    );
+    assert_eq!(rt;
+        define(&mut classes, alloc, b"Point", None, &fields),
+        Err(Refusal::DuplicateName)
+    );
+    assert_eq!(rt;
+        define(&mut classes, alloc, b"a b", None, &fields),
+        Err(Refusal::BadName)
+    );
+    Ok(())
+}
+
+#[test]
+fn fields_share_no_name(rt: HostRuntime) -> Result<(), Fail> {
+    let alloc = rt.alloc();
+    let mut own = Vec::new(alloc);
+    own.push(field(alloc, b"x", Kind::Int)?)?;
+    own.push(field(alloc, b"x", Kind::Long)?)?;
+    let twice = Fields::from_vec(own);
+    let mut classes = Classes::new(alloc);
+    assert_eq!(rt;
+        define(&mut classes, alloc, b"Twice", None, &twice),
+        Err(Refusal::DuplicateName)
+    );
+    Ok(())
+}

@@ -1,0 +1,141 @@
+//! A class, an instance of it, and single events that are taken back.
+use heap_class::{Name, ObjRef, Refusal};
+use heap_mark::Phase;
+use heap_scripts::{
+    FIRST, SECOND, apply_all, bits, new, node, point, small_world, store, there_and_back,
+};
+use heap_step::step::undo;
+use heap_step::{Answer, Event, apply, weight};
+use heap_world::World;
+use std::alloc::Global;
+use std::test::Fail;
+
+const PUT: Event = Event::Put {
+    m: 0,
+    target: 0,
+    slot: 1,
+    value: 5,
+};
+
+const READ: Event = Event::Load {
+    m: 0,
+    to: 1,
+    from: 0,
+    slot: 1,
+};
+
+/// A heap with a point in register 0.
+fn with_point(alloc: Global) -> Result<World, Fail> {
+    let mut world = small_world(alloc)?;
+    apply_all(&mut world, &[point(alloc)?, new(0)])?;
+    Ok(world)
+}
+
+/// A heap with a node in register 0, and one that its next alone names.
+fn two_nodes(alloc: Global) -> Result<World, Fail> {
+    let mut world = small_world(alloc)?;
+    apply_all(&mut world, &[node(alloc)?, new(0), new(1), store(0, 1)])?;
+    apply_all(&mut world, &[Event::Clear { m: 0, r: 1 }])?;
+    Ok(world)
+}
+
+/// The bits `live` and `mark` of the second node.
+fn second_bits(world: &World) -> Option<(bool, bool)> {
+    bits(world.regions(), ObjRef { region: 0, cell: 1 })
+}
+
+/// What an event answers.
+fn answer(world: &mut World, event: Event) -> Result<Answer, Refusal> {
+    let (answer, _) = apply(world, &event)?;
+    Ok(answer)
+}
+
+/// Applies an event and takes it back.
+fn undone(world: &mut World, event: Event) -> Result<(), Refusal> {
+    there_and_back(world, &[event])
+}
+
+/// What an event answers that is then taken back, and what its record weighs.
+fn answer_undone(world: &mut World, event: Event) -> Result<(Answer, u64), Refusal> {
+    let _phase = world.phase();
+    let (answer, left) = apply(world, &event)?;
+    let weight = weight(&left);
+    undo(world, left);
+    Ok((answer, weight))
+}
+
+#[test]
+fn point_is_made(rt: HostRuntime) -> Result<(), Fail> {
+    let mut world = small_world(rt.alloc())?;
+    assert_eq!(rt; answer(&mut world, point(rt.alloc())?)?, Answer::Class(0));
+    assert_eq!(rt; answer(&mut world, new(0))?, Answer::Object(FIRST));
+    Ok(())
+}
+
+#[test]
+fn put_is_undone(rt: HostRuntime) -> Result<(), Fail> {
+    let mut world = with_point(rt.alloc())?;
+    assert_eq!(rt; answer_undone(&mut world, PUT)?, (Answer::Done, 1));
+    assert_eq!(rt; answer(&mut world, READ)?, Answer::Value(0));
+    Ok(())
+}
+
+#[test]
+fn snap_is_undone(rt: HostRuntime) -> Result<(), Fail> {
+    let mut world = with_point(rt.alloc())?;
+    answer_undone(&mut world, Event::Snap)?;
+    assert!(rt; world.gray().is_empty());
+    assert_eq!(rt; world.phase(), Phase::Idle);
+    assert_eq!(rt; answer(&mut world, Event::Snap)?, Answer::Pushed(1));
+    Ok(())
+}
+
+#[test]
+fn a_definition_is_taken_back(rt: HostRuntime) -> Result<(), Fail> {
+    let mut world = small_world(rt.alloc())?;
+    let name = Name::new(rt.alloc(), b"[Lq;")?;
+    undone(&mut world, Event::ArrayClass { name })?;
+    assert_eq!(rt; world.classes().len(), 0);
+    Ok(())
+}
+
+#[test]
+fn a_clearing_is_taken_back(rt: HostRuntime) -> Result<(), Fail> {
+    let mut world = with_point(rt.alloc())?;
+    undone(&mut world, Event::Clear { m: 0, r: 0 })?;
+    assert_eq!(rt; world.registers(), [FIRST, 0, 0, 0, 0, 0, 0, 0].as_slice());
+    Ok(())
+}
+
+#[test]
+fn a_marking_is_taken_back(rt: HostRuntime) -> Result<(), Fail> {
+    let mut world = two_nodes(rt.alloc())?;
+    assert_eq!(rt; answer(&mut world, Event::Snap)?, Answer::Pushed(1));
+    undone(&mut world, Event::Mark)?;
+    assert_eq!(rt; world.gray(), [FIRST].as_slice());
+    assert_eq!(rt; second_bits(&world), Some((true, false)));
+    assert_eq!(rt; answer(&mut world, Event::Mark)?, Answer::Pushed(1));
+    assert_eq!(rt; world.gray(), [SECOND].as_slice());
+    assert_eq!(rt; second_bits(&world), Some((true, true)));
+    Ok(())
+}
+
+/// A heap that has logged what a store in a cycle overwrote: the second node.
+fn with_log(alloc: Global) -> Result<World, Fail> {
+    let mut world = two_nodes(alloc)?;
+    apply_all(&mut world, &[Event::Snap, store(0, 2)])?;
+    Ok(world)
+}
+
+#[test]
+fn a_drain_is_taken_back(rt: HostRuntime) -> Result<(), Fail> {
+    let mut world = with_log(rt.alloc())?;
+    undone(&mut world, Event::Drain)?;
+    assert_eq!(rt; world.drained(), 0);
+    assert_eq!(rt; second_bits(&world), Some((true, false)));
+    assert_eq!(rt; answer(&mut world, Event::Drain)?, Answer::Pushed(1));
+    assert_eq!(rt; world.drained(), 1);
+    assert_eq!(rt; second_bits(&world), Some((true, true)));
+    assert_eq!(rt; world.log(), [SECOND].as_slice());
+    Ok(())
+}

@@ -1,0 +1,91 @@
+//! Steps of the machine that are undone, and the dump of its state.
+ghost use Rattle.std.specs.Prelude.{IfOk};
+ghost use Rattle.heap_trail.specs.Pins.{StandsIn};
+
+use heap_class::Refusal;
+use heap_scripts::{SECOND, new, node, take};
+use heap_step::{Answer, Event};
+use heap_trail::{Action, Machine, Reply};
+use heap_world::Config;
+use hprof_text::Cursor;
+use std::alloc::Global;
+use std::test::Fail;
+
+/// A machine of one region that keeps two steps.
+fn keeping_two(alloc: Global) -> Result<Machine, Fail> {
+    let config = Config::new(1, 1, 2).ok_or("settings out of range")?;
+    Ok(Machine::new(alloc, config)?)
+}
+
+/// A machine after a class and an instance of it.
+fn with_node(alloc: Global) -> Result<Machine, Fail> {
+    let mut machine = keeping_two(alloc)?;
+    take(&mut machine, &[node(alloc)?, new(0)])?;
+    Ok(machine)
+}
+
+/// What a machine answers to an action.
+fn replied(machine: &mut Machine, action: Action) -> Reply {
+    machine.act(&action)
+}
+
+/// What a machine answers to a step.
+fn answered(machine: &mut Machine, event: Event) -> Result<Answer, Refusal> {
+    machine.step(&event)
+}
+
+#[test]
+fn steps_are_undone(rt: HostRuntime) -> Result<(), Fail> {
+    let mut machine = with_node(rt.alloc())?;
+    assert_eq!(rt; answered(&mut machine, new(0))?, Answer::Object(SECOND));
+    assert_eq!(rt; (machine.place(), machine.retained()), (3, 2));
+    assert_eq!(rt;
+        machine.rewind(3),
+        Err(Refusal::TooFar {
+            asked: 3,
+            retained: 2
+        })
+    );
+    assert_eq!(rt; machine.rewind(2)?, 1);
+    assert_eq!(rt; machine.place(), 1);
+    assert_eq!(rt; machine.world().registers(), [0; 8].as_slice());
+    Ok(())
+}
+
+#[test]
+fn actions_are_steps_and_rewinds(rt: HostRuntime) -> Result<(), Fail> {
+    let mut machine = with_node(rt.alloc())?;
+    assert_eq!(rt;
+        replied(&mut machine, Action::Step(new(0))),
+        Reply::Answered(Answer::Object(SECOND))
+    );
+    assert_eq!(rt; replied(&mut machine, Action::Rewind(1)), Reply::Place(2));
+    Ok(())
+}
+
+/// Whether the first piece begins as a dump does.
+fn begins(machine: &Machine) -> Result<bool, Refusal> {
+    let (piece, _) = machine.piece(Cursor::Start, 0)?;
+    Ok(piece.bytes.as_slice().starts_with(b"JAVA PROFILE 1.0.2"))
+}
+
+/// Whether a piece is the last, and what comes behind it.
+fn behind(machine: &Machine, cursor: Cursor) -> Result<(bool, Cursor), Refusal>
+    requires { StandsIn machine.now.trail.current cursor }
+    ensures { IfOk result (λ p. StandsIn machine.now.trail.current p.1) }
+{
+    let (piece, next) = machine.piece(cursor, 0)?;
+    Ok((piece.last, next))
+}
+
+#[test]
+fn state_is_dumped(rt: HostRuntime) -> Result<(), Fail> {
+    let machine = with_node(rt.alloc())?;
+    assert!(rt; begins(&machine)?);
+    let (first, object) = behind(&machine, Cursor::Start)?;
+    let (second, roots) = behind(&machine, object)?;
+    let (third, past) = behind(&machine, roots)?;
+    assert_eq!(rt; (first, second, third), (false, false, true));
+    assert_eq!(rt; (roots, past), (Cursor::Roots, Cursor::Past));
+    Ok(())
+}

@@ -1,0 +1,201 @@
+//! Readers and writers that fail.
+use crate::cycles::SWEPT_POINTS;
+use crate::dumps::ONE_POINT;
+use crate::sessions::{Outcome, machine, play};
+use crate::streams::{ByteReader, ByteWriter, Chunks, Spent};
+use session_text::Ended;
+use std::alloc::Global;
+use std::test::Fail;
+
+/// Lines that have one line of answer each, but for a dump at the end.
+const EXAMPLES: [&str; 2] = [ONE_POINT, SWEPT_POINTS];
+
+/// How many lines a text has whole.
+fn lines_in(text: &[u8]) -> usize {
+    text.iter().filter(|b| **b == b'\n').count()
+}
+
+// ---- sessions
+
+/// A session of some bytes, read and written byte by byte, with so many reads and writes.
+fn session<'a>(
+    alloc: Global,
+    bytes: &'a [u8],
+    reads_left: usize,
+    writes_left: usize,
+    spent: Spent,
+) -> Result<Outcome<ByteReader<'a>, ByteWriter>, Fail> {
+    let reader = ByteReader {
+        rest: bytes,
+        reads_left,
+    };
+    let writer = ByteWriter {
+        taken: Vec::new(alloc),
+        writes_left,
+        spent,
+    };
+    play(alloc, machine(alloc, 1, 1, 64)?, reader, writer)
+}
+
+/// The text of some bytes' session that ends at the end of input, without what that ending adds to the replies.
+fn replies(alloc: Global, bytes: &[u8]) -> Result<Vec<u8>, Fail> {
+    let mut text = session(alloc, bytes, usize::MAX, usize::MAX, Spent::Fails)?
+        .writer
+        .taken;
+    if text.ends_with(b"bad cut\n".as_slice()) {
+        text.truncate(text.len() - 8);
+    }
+    Ok(text)
+}
+
+/// What the machine answers to the questions after the lines of a text, read and written at once.
+pub fn state_after(alloc: Global, bytes: &[u8]) -> Result<Vec<u8>, Fail> {
+    let reader = Chunks {
+        rest: bytes,
+        size: bytes.len(),
+    };
+    let outcome = play(alloc, machine(alloc, 1, 1, 64)?, reader, Vec::new(alloc))?;
+    Ok(outcome.state)
+}
+
+// ---- examples
+
+/// An example, and what a sound session of it leaves.
+#[derive(Drop)]
+struct Example<'a> {
+    bytes: &'a [u8],
+    text: Vec<u8>,
+    /// What the machine answers to the questions after no line, after one, and so on to all.
+    states: Vec<Vec<u8>>,
+}
+
+impl<'a> Example<'a> {
+    /// The example of some lines.
+    fn new(alloc: Global, bytes: &'a [u8]) -> Result<Example<'a>, Fail> {
+        let mut states = Vec::new(alloc);
+        states.push(state_after(alloc, b"")?)?;
+        for count in 1..=bytes.len() {
+            if bytes[..count].ends_with(b"\n".as_slice()) {
+                states.push(state_after(alloc, &bytes[..count])?)?;
+            }
+        }
+        Ok(Example {
+            bytes,
+            text: replies(alloc, bytes)?,
+            states,
+        })
+    }
+}
+
+impl Example<'_> {
+    /// Whether the machine of these answers is that after so many lines.
+    fn is_after(&self, lines: usize, state: &[u8]) -> bool {
+        self.states
+            .get(lines)
+            .is_some_and(|after| after.as_slice() == state)
+    }
+
+    /// Whether a reader that fails at the read after so many bytes leaves the replies to the lines before, and
+    /// `bad read`, and the machine that is after those lines.
+    fn fails_after(&self, alloc: Global, count: usize) -> Result<bool, Fail> {
+        let given = &self.bytes[..count.min(self.bytes.len())];
+        let failed = session(alloc, self.bytes, count, usize::MAX, Spent::Fails)?;
+        let text = failed.writer.taken.as_slice();
+        let before = text.strip_suffix(b"bad read\n".as_slice());
+        Ok(
+            failed.ended == Ended::ReadFault
+                && before == Some(replies(alloc, given)?.as_slice())
+                && self.is_after(lines_in(given), failed.state.as_slice()),
+        )
+    }
+
+    /// Whether a reader gave so many lines with a read for each byte, and no read was made after them.
+    fn gave_lines(&self, reader: &ByteReader<'_>, lines: usize) -> bool {
+        match self.bytes.strip_suffix(reader.rest) {
+            Some(given) => {
+                given.ends_with(b"\n".as_slice())
+                    && lines_in(given) == lines
+                    && usize::MAX - reader.reads_left == given.len()
+            }
+            None => false,
+        }
+    }
+
+    /// Whether a writer that takes so many bytes takes a beginning of the text, the machine is that after the lines up
+    /// to the one that was being answered, and nothing after that line was read.
+    fn stops_after(&self, alloc: Global, count: usize, spent: Spent) -> Result<bool, Fail> {
+        let stopped = session(alloc, self.bytes, usize::MAX, count, spent)?;
+        let text = stopped.writer.taken.as_slice();
+        let answering = lines_in(text).saturating_add(1).min(lines_in(self.bytes));
+        Ok(
+            stopped.ended == Ended::WriteFault
+                && text.len() == count
+                && self.text.starts_with(text)
+                && self.is_after(answering, stopped.state.as_slice())
+                && self.gave_lines(&stopped.reader, answering),
+        )
+    }
+}
+
+/// Whether each writer that takes less than an example's text stops so.
+fn stop_at_each_byte(alloc: Global, lines: &str, spent: Spent) -> Result<bool, Fail> {
+    let example = Example::new(alloc, lines.as_bytes())?;
+    for count in 0..example.text.len() {
+        if !example.stops_after(alloc, count, spent)? {
+            return Ok(false);
+        }
+    }
+    Ok(true)
+}
+
+/// Whether each reader that gives an example's beginning, or all of it but the end of input, fails so.
+fn fail_at_each_read(alloc: Global, lines: &str) -> Result<bool, Fail> {
+    let example = Example::new(alloc, lines.as_bytes())?;
+    for count in 0..=lines.len() {
+        if !example.fails_after(alloc, count)? {
+            return Ok(false);
+        }
+    }
+    Ok(true)
+}
+
+#[test]
+fn each_line_but_the_dump_changes_the_state(rt: HostRuntime) -> Result<(), Fail> {
+    let point = Example::new(rt.alloc(), ONE_POINT.as_bytes())?;
+    assert_eq!(rt; point.states.len(), 5);
+    for lines in 0..3 {
+        assert!(rt; !point.is_after(lines, point.states[3].as_slice()));
+    }
+    assert!(rt; point.is_after(4, point.states[3].as_slice()));
+    Ok(())
+}
+
+#[test]
+fn readers_that_fail(rt: HostRuntime) -> Result<(), Fail> {
+    for lines in EXAMPLES {
+        assert!(rt; fail_at_each_read(rt.alloc(), lines)?, "in {lines}");
+    }
+    Ok(())
+}
+
+#[test]
+fn writers_that_fail(rt: HostRuntime) -> Result<(), Fail> {
+    for lines in EXAMPLES {
+        assert!(rt;
+            stop_at_each_byte(rt.alloc(), lines, Spent::Fails)?,
+            "in {lines}"
+        );
+    }
+    Ok(())
+}
+
+#[test]
+fn writers_that_take_nothing(rt: HostRuntime) -> Result<(), Fail> {
+    for lines in EXAMPLES {
+        assert!(rt;
+            stop_at_each_byte(rt.alloc(), lines, Spent::TakesNothing)?,
+            "in {lines}"
+        );
+    }
+    Ok(())
+}

@@ -1,0 +1,23 @@
+//! Tests of whole sessions: worked examples on `serve`, and streams that chop, are interrupted or fail.
+#![tactic(auto)]
+
+#[cfg(test)]
+mod chunks;
+#[cfg(test)]
+mod cycles;
+#[cfg(test)]
+mod dumps;
+#[cfg(test)]
+mod faults;
+#[cfg(test)]
+mod interrupts;
+#[cfg(test)]
+mod lines;
+#[cfg(test)]
+mod mutators;
+#[cfg(test)]
+mod rewinds;
+#[cfg(test)]
+mod sessions;
+#[cfg(test)]
+mod streams;

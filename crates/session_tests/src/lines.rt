@@ -1,0 +1,79 @@
+//! Lines: at their limits, too long, cut, and without end.
+use crate::sessions::{machine, session, talk};
+use crate::streams::LineFeeds;
+use session_text::{Ended, READ_LIMIT};
+use std::alloc::Global;
+use std::test::Fail;
+
+#[test]
+fn lines_and_cut_end(rt: HostRuntime) -> Result<(), Fail> {
+    let (ended, text) = session(rt.alloc(), 1024, 3, "foo\n\nclear 0 9\r\nclear 0")?;
+    assert_eq!(rt; ended, Ended::CutLine);
+    assert_eq!(rt;
+        text.as_slice(),
+        "bad command\nno 7 BadRegister\nbad cut\n".as_bytes()
+    );
+    Ok(())
+}
+
+/// Whether a session of one line ends so, and writes this.
+fn is_answered(alloc: Global, line: &[u8], ended: Ended, reply: &str) -> Result<bool, Fail> {
+    let mut local = machine(alloc, 1, 1, 1)?;
+    let (came, text) = talk(alloc, &mut local, line);
+    Ok(came == ended && text.as_slice() == reply.as_bytes())
+}
+
+#[test]
+fn lines_at_the_limits(rt: HostRuntime) -> Result<(), Fail> {
+    let lines: [(&[u8], &str); 8] = [
+        (b"clear 0 00000000000000000000\n", "ok\n"),
+        (b"clear 0 000000000000000000000\n", "bad command\n"),
+        (b"clear 0 18446744073709551615\n", "no 7 BadRegister\n"),
+        (b"clear 0 18446744073709551616\n", "bad command\n"),
+        (b"put 0 0 0 -1\n", "bad command\n"),
+        (b"clear 0 0\x80\n", "bad command\n"),
+        (b"class A - x:y:int\n", "bad command\n"),
+        (b"class a:b -\n", "no 4 BadName\n"),
+    ];
+    for (line, reply) in lines {
+        assert!(rt;
+            is_answered(rt.alloc(), line, Ended::Eof, reply)?,
+            "at {reply}"
+        );
+    }
+    Ok(())
+}
+
+/// So many letters and a line end.
+fn letters(alloc: Global, count: usize) -> Result<Vec<u8>, Fail> {
+    let mut line = vec![in alloc; b'a'; count]?;
+    line.push(b'\n')?;
+    Ok(line)
+}
+
+#[test]
+fn longest_lines(rt: HostRuntime) -> Result<(), Fail> {
+    let lines = [
+        (4096, Ended::Eof, "bad command\n"),
+        (4097, Ended::TooLong, "bad long\n"),
+    ];
+    for (count, ended, reply) in lines {
+        let line = letters(rt.alloc(), count)?;
+        assert!(rt;
+            is_answered(rt.alloc(), line.as_slice(), ended, reply)?,
+            "at {count}"
+        );
+    }
+    Ok(())
+}
+
+#[test]
+fn a_million_reads(rt: HostRuntime) -> Result<(), Fail> {
+    let alloc = rt.alloc();
+    let mut local = machine(alloc, 1, 1, 8)?;
+    let (ended, text) = talk(alloc, &mut local, LineFeeds);
+    assert_eq!(rt; READ_LIMIT, 1_000_000);
+    assert_eq!(rt; ended, Ended::TooManyReads);
+    assert_eq!(rt; text.as_slice(), b"bad reads\n".as_slice());
+    Ok(())
+}

@@ -8,6 +8,7 @@ use heap_step::{Event, apply};
 use heap_trail::Machine;
 use heap_world::{Config, World};
 use std::alloc::{AllocError, Global};
+use std::process::Abort;
 use std::test::Fail;
 
 /// The objects that the steps make.
@@ -107,9 +108,7 @@ fn barrier_logs_old_values(rt: HostRuntime) -> Result<(), Fail> {
     Ok(())
 }
 
-#[test]
-fn barrier_logs_old_values_rewound(rt: HostRuntime) -> Result<(), Fail> {
-    let mut machine = stored(rt.alloc())?;
+fn barrier_logs_old_values_rewound_in(rt: &impl Abort, machine: &mut Machine) -> Result<(), Fail> {
     assert_eq!(rt; machine.world().log(), [A, A].as_slice());
     assert_eq!(rt; next(machine.world(), 1), Some(B));
     assert_eq!(rt; machine.rewind(1), Ok(8));
@@ -122,4 +121,10 @@ fn barrier_logs_old_values_rewound(rt: HostRuntime) -> Result<(), Fail> {
     assert_eq!(rt; machine.world().log(), [0u64; 0].as_slice());
     assert_eq!(rt; next(machine.world(), 0), Some(0));
     Ok(())
+}
+
+#[test]
+fn barrier_logs_old_values_rewound(rt: HostRuntime) -> Result<(), Fail> {
+    let mut machine = stored(rt.alloc())?;
+    barrier_logs_old_values_rewound_in(&rt, &mut machine)
 }

@@ -1,6 +1,7 @@
 //! Classes, their slots and names, and what is refused of them.
 use heap_class::{ClassNo, Classes, Field, Fields, IdSize, Kind, Name, Refusal};
 use std::alloc::{AllocError, Global};
+use std::process::Abort;
 use std::test::Fail;
 
 // A class Point with the fields x and next, and Sub below it with a field x of its own.
@@ -55,9 +56,7 @@ fn kinds_have_their_words(rt: HostRuntime) {
     assert_eq!(rt; Refusal::NoPin.name().as_bytes(), b"NoPin".as_slice());
 }
 
-#[test]
-fn slots_are_own_then_inherited(rt: HostRuntime) -> Result<(), Fail> {
-    let classes = two_classes(rt.alloc())?;
+fn slots_are_own_then_inherited_in(rt: &impl Abort, classes: &Classes) -> Result<(), Fail> {
     assert_eq!(rt; classes.len(), 2);
     assert_eq!(rt;
         classes.slots(1),
@@ -70,8 +69,12 @@ fn slots_are_own_then_inherited(rt: HostRuntime) -> Result<(), Fail> {
 }
 
 #[test]
-fn names_have_ids_by_first_use(rt: HostRuntime) -> Result<(), Fail> {
-    let mut classes = two_classes(rt.alloc())?;
+fn slots_are_own_then_inherited(rt: HostRuntime) -> Result<(), Fail> {
+    let classes = two_classes(rt.alloc())?;
+    slots_are_own_then_inherited_in(&rt, &classes)
+}
+
+fn names_have_ids_by_first_use_in(rt: &impl Abort, classes: &mut Classes) -> Result<(), Fail> {
     assert_eq!(rt; classes.len(), 2);
     assert_eq!(rt; classes.field_count(0), 2);
     assert_eq!(rt; classes.field_kind(0, 1), Kind::Object);
@@ -84,6 +87,12 @@ fn names_have_ids_by_first_use(rt: HostRuntime) -> Result<(), Fail> {
     classes.undefine_last();
     assert_eq!(rt; classes.name_table().len(), 3);
     Ok(())
+}
+
+#[test]
+fn names_have_ids_by_first_use(rt: HostRuntime) -> Result<(), Fail> {
+    let mut classes = two_classes(rt.alloc())?;
+    names_have_ids_by_first_use_in(&rt, &mut classes)
 }
 
 #[test]

@@ -8,6 +8,7 @@ use heap_step::step::undo;
 use heap_step::{Answer, Event, apply, weight};
 use heap_world::World;
 use std::alloc::Global;
+use std::process::Abort;
 use std::test::Fail;
 
 const PUT: Event = Event::Put {
@@ -64,60 +65,88 @@ fn answer_undone(world: &mut World, event: Event) -> Result<(Answer, u64), Refus
     Ok((answer, weight))
 }
 
+fn point_is_made_in(rt: &impl Abort, alloc: Global, world: &mut World) -> Result<(), Fail> {
+    assert_eq!(rt; answer(world, point(alloc)?)?, Answer::Class(0));
+    assert_eq!(rt; answer(world, new(0))?, Answer::Object(FIRST));
+    Ok(())
+}
+
 #[test]
 fn point_is_made(rt: HostRuntime) -> Result<(), Fail> {
     let mut world = small_world(rt.alloc())?;
-    assert_eq!(rt; answer(&mut world, point(rt.alloc())?)?, Answer::Class(0));
-    assert_eq!(rt; answer(&mut world, new(0))?, Answer::Object(FIRST));
+    point_is_made_in(&rt, rt.alloc(), &mut world)
+}
+
+fn put_is_undone_in(rt: &impl Abort, world: &mut World) -> Result<(), Fail> {
+    assert_eq!(rt; answer_undone(world, PUT)?, (Answer::Done, 1));
+    assert_eq!(rt; answer(world, READ)?, Answer::Value(0));
     Ok(())
 }
 
 #[test]
 fn put_is_undone(rt: HostRuntime) -> Result<(), Fail> {
     let mut world = with_point(rt.alloc())?;
-    assert_eq!(rt; answer_undone(&mut world, PUT)?, (Answer::Done, 1));
-    assert_eq!(rt; answer(&mut world, READ)?, Answer::Value(0));
+    put_is_undone_in(&rt, &mut world)
+}
+
+fn snap_is_undone_in(rt: &impl Abort, world: &mut World) -> Result<(), Fail> {
+    answer_undone(world, Event::Snap)?;
+    assert!(rt; world.gray().is_empty());
+    assert_eq!(rt; world.phase(), Phase::Idle);
+    assert_eq!(rt; answer(world, Event::Snap)?, Answer::Pushed(1));
     Ok(())
 }
 
 #[test]
 fn snap_is_undone(rt: HostRuntime) -> Result<(), Fail> {
     let mut world = with_point(rt.alloc())?;
-    answer_undone(&mut world, Event::Snap)?;
-    assert!(rt; world.gray().is_empty());
-    assert_eq!(rt; world.phase(), Phase::Idle);
-    assert_eq!(rt; answer(&mut world, Event::Snap)?, Answer::Pushed(1));
+    snap_is_undone_in(&rt, &mut world)
+}
+
+fn a_definition_is_taken_back_in(
+    rt: &impl Abort,
+    alloc: Global,
+    world: &mut World,
+) -> Result<(), Fail> {
+    let name = Name::new(alloc, b"[Lq;")?;
+    undone(world, Event::ArrayClass { name })?;
+    assert_eq!(rt; world.classes().len(), 0);
     Ok(())
 }
 
 #[test]
 fn a_definition_is_taken_back(rt: HostRuntime) -> Result<(), Fail> {
     let mut world = small_world(rt.alloc())?;
-    let name = Name::new(rt.alloc(), b"[Lq;")?;
-    undone(&mut world, Event::ArrayClass { name })?;
-    assert_eq!(rt; world.classes().len(), 0);
+    a_definition_is_taken_back_in(&rt, rt.alloc(), &mut world)
+}
+
+fn a_clearing_is_taken_back_in(rt: &impl Abort, world: &mut World) -> Result<(), Fail> {
+    undone(world, Event::Clear { m: 0, r: 0 })?;
+    assert_eq!(rt; world.registers(), [FIRST, 0, 0, 0, 0, 0, 0, 0].as_slice());
     Ok(())
 }
 
 #[test]
 fn a_clearing_is_taken_back(rt: HostRuntime) -> Result<(), Fail> {
     let mut world = with_point(rt.alloc())?;
-    undone(&mut world, Event::Clear { m: 0, r: 0 })?;
-    assert_eq!(rt; world.registers(), [FIRST, 0, 0, 0, 0, 0, 0, 0].as_slice());
+    a_clearing_is_taken_back_in(&rt, &mut world)
+}
+
+fn a_marking_is_taken_back_in(rt: &impl Abort, world: &mut World) -> Result<(), Fail> {
+    assert_eq!(rt; answer(world, Event::Snap)?, Answer::Pushed(1));
+    undone(world, Event::Mark)?;
+    assert_eq!(rt; world.gray(), [FIRST].as_slice());
+    assert_eq!(rt; second_bits(world), Some((true, false)));
+    assert_eq!(rt; answer(world, Event::Mark)?, Answer::Pushed(1));
+    assert_eq!(rt; world.gray(), [SECOND].as_slice());
+    assert_eq!(rt; second_bits(world), Some((true, true)));
     Ok(())
 }
 
 #[test]
 fn a_marking_is_taken_back(rt: HostRuntime) -> Result<(), Fail> {
     let mut world = two_nodes(rt.alloc())?;
-    assert_eq!(rt; answer(&mut world, Event::Snap)?, Answer::Pushed(1));
-    undone(&mut world, Event::Mark)?;
-    assert_eq!(rt; world.gray(), [FIRST].as_slice());
-    assert_eq!(rt; second_bits(&world), Some((true, false)));
-    assert_eq!(rt; answer(&mut world, Event::Mark)?, Answer::Pushed(1));
-    assert_eq!(rt; world.gray(), [SECOND].as_slice());
-    assert_eq!(rt; second_bits(&world), Some((true, true)));
-    Ok(())
+    a_marking_is_taken_back_in(&rt, &mut world)
 }
 
 /// A heap that has logged what a store in a cycle overwrote: the second node.
@@ -127,15 +156,19 @@ fn with_log(alloc: Global) -> Result<World, Fail> {
     Ok(world)
 }
 
+fn a_drain_is_taken_back_in(rt: &impl Abort, world: &mut World) -> Result<(), Fail> {
+    undone(world, Event::Drain)?;
+    assert_eq!(rt; world.drained(), 0);
+    assert_eq!(rt; second_bits(world), Some((true, false)));
+    assert_eq!(rt; answer(world, Event::Drain)?, Answer::Pushed(1));
+    assert_eq!(rt; world.drained(), 1);
+    assert_eq!(rt; second_bits(world), Some((true, true)));
+    assert_eq!(rt; world.log(), [SECOND].as_slice());
+    Ok(())
+}
+
 #[test]
 fn a_drain_is_taken_back(rt: HostRuntime) -> Result<(), Fail> {
     let mut world = with_log(rt.alloc())?;
-    undone(&mut world, Event::Drain)?;
-    assert_eq!(rt; world.drained(), 0);
-    assert_eq!(rt; second_bits(&world), Some((true, false)));
-    assert_eq!(rt; answer(&mut world, Event::Drain)?, Answer::Pushed(1));
-    assert_eq!(rt; world.drained(), 1);
-    assert_eq!(rt; second_bits(&world), Some((true, true)));
-    assert_eq!(rt; world.log(), [SECOND].as_slice());
-    Ok(())
+    a_drain_is_taken_back_in(&rt, &mut world)
 }

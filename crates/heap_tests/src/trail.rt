@@ -9,6 +9,7 @@ use heap_trail::{Action, Machine, Reply};
 use heap_world::Config;
 use hprof_text::Cursor;
 use std::alloc::Global;
+use std::process::Abort;
 use std::test::Fail;
 
 /// A machine of one region that keeps two steps.
@@ -34,10 +35,8 @@ fn answered(machine: &mut Machine, event: Event) -> Result<Answer, Refusal> {
     machine.step(&event)
 }
 
-#[test]
-fn steps_are_undone(rt: HostRuntime) -> Result<(), Fail> {
-    let mut machine = with_node(rt.alloc())?;
-    assert_eq!(rt; answered(&mut machine, new(0))?, Answer::Object(SECOND));
+fn steps_are_undone_in(rt: &impl Abort, machine: &mut Machine) -> Result<(), Fail> {
+    assert_eq!(rt; answered(machine, new(0))?, Answer::Object(SECOND));
     assert_eq!(rt; (machine.place(), machine.retained()), (3, 2));
     assert_eq!(rt;
         machine.rewind(3),
@@ -53,14 +52,24 @@ fn steps_are_undone(rt: HostRuntime) -> Result<(), Fail> {
 }
 
 #[test]
-fn actions_are_steps_and_rewinds(rt: HostRuntime) -> Result<(), Fail> {
+fn steps_are_undone(rt: HostRuntime) -> Result<(), Fail> {
     let mut machine = with_node(rt.alloc())?;
+    steps_are_undone_in(&rt, &mut machine)
+}
+
+fn actions_are_steps_and_rewinds_in(rt: &impl Abort, machine: &mut Machine) -> Result<(), Fail> {
     assert_eq!(rt;
-        replied(&mut machine, Action::Step(new(0))),
+        replied(machine, Action::Step(new(0))),
         Reply::Answered(Answer::Object(SECOND))
     );
-    assert_eq!(rt; replied(&mut machine, Action::Rewind(1)), Reply::Place(2));
+    assert_eq!(rt; replied(machine, Action::Rewind(1)), Reply::Place(2));
     Ok(())
+}
+
+#[test]
+fn actions_are_steps_and_rewinds(rt: HostRuntime) -> Result<(), Fail> {
+    let mut machine = with_node(rt.alloc())?;
+    actions_are_steps_and_rewinds_in(&rt, &mut machine)
 }
 
 /// Whether the first piece begins as a dump does.
@@ -78,14 +87,18 @@ fn behind(machine: &Machine, cursor: Cursor) -> Result<(bool, Cursor), Refusal>
     Ok((piece.last, next))
 }
 
-#[test]
-fn state_is_dumped(rt: HostRuntime) -> Result<(), Fail> {
-    let machine = with_node(rt.alloc())?;
-    assert!(rt; begins(&machine)?);
-    let (first, object) = behind(&machine, Cursor::Start)?;
-    let (second, roots) = behind(&machine, object)?;
-    let (third, past) = behind(&machine, roots)?;
+fn state_is_dumped_in(rt: &impl Abort, machine: &Machine) -> Result<(), Fail> {
+    assert!(rt; begins(machine)?);
+    let (first, object) = behind(machine, Cursor::Start)?;
+    let (second, roots) = behind(machine, object)?;
+    let (third, past) = behind(machine, roots)?;
     assert_eq!(rt; (first, second, third), (false, false, true));
     assert_eq!(rt; (roots, past), (Cursor::Roots, Cursor::Past));
     Ok(())
+}
+
+#[test]
+fn state_is_dumped(rt: HostRuntime) -> Result<(), Fail> {
+    let machine = with_node(rt.alloc())?;
+    state_is_dumped_in(&rt, &machine)
 }

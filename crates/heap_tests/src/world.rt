@@ -4,6 +4,7 @@ use heap_mark::Phase;
 use heap_scripts::{FIRST, node_fields, small_world};
 use heap_world::{Config, Created, Loaded, Overwritten, Replaced, World};
 use std::alloc::Global;
+use std::process::Abort;
 use std::test::Fail;
 
 /// Where the first object is.
@@ -46,13 +47,17 @@ fn is_empty(world: &World) -> bool {
         && world.drained() == 0
 }
 
+fn a_heap_opens_empty_in(rt: &impl Abort, world: &World) -> Result<(), Fail> {
+    assert_eq!(rt; world.phase(), Phase::Idle);
+    assert_eq!(rt; world.regions().count(), 1);
+    assert!(rt; is_empty(world));
+    Ok(())
+}
+
 #[test]
 fn a_heap_opens_empty(rt: HostRuntime) -> Result<(), Fail> {
     let world = small_world(rt.alloc())?;
-    assert_eq!(rt; world.phase(), Phase::Idle);
-    assert_eq!(rt; world.regions().count(), 1);
-    assert!(rt; is_empty(&world));
-    Ok(())
+    a_heap_opens_empty_in(&rt, &world)
 }
 
 #[test]
@@ -65,10 +70,8 @@ fn settings_have_limits(rt: HostRuntime) -> Result<(), Fail> {
     Ok(())
 }
 
-#[test]
-fn an_instance_is_made(rt: HostRuntime) -> Result<(), Fail> {
-    let mut world = small_world(rt.alloc())?;
-    assert_eq!(rt; define_node(rt.alloc(), &mut world)?, 0);
+fn an_instance_is_made_in(rt: &impl Abort, alloc: Global, world: &mut World) -> Result<(), Fail> {
+    assert_eq!(rt; define_node(alloc, world)?, 0);
     let made = Created {
         id: FIRST,
         at: PLACE,
@@ -82,8 +85,12 @@ fn an_instance_is_made(rt: HostRuntime) -> Result<(), Fail> {
 }
 
 #[test]
-fn values_are_written_and_read(rt: HostRuntime) -> Result<(), Fail> {
-    let mut world = with_longs(rt.alloc())?;
+fn an_instance_is_made(rt: HostRuntime) -> Result<(), Fail> {
+    let mut world = small_world(rt.alloc())?;
+    an_instance_is_made_in(&rt, rt.alloc(), &mut world)
+}
+
+fn values_are_written_and_read_in(rt: &impl Abort, world: &mut World) -> Result<(), Fail> {
     assert_eq!(rt; world.put(0, 0, 1, 5)?, Overwritten { at: PLACE, old: 0 });
     let value = Loaded {
         word: 5,
@@ -96,8 +103,12 @@ fn values_are_written_and_read(rt: HostRuntime) -> Result<(), Fail> {
 }
 
 #[test]
-fn references_are_written_and_read(rt: HostRuntime) -> Result<(), Fail> {
-    let mut world = with_references(rt.alloc())?;
+fn values_are_written_and_read(rt: HostRuntime) -> Result<(), Fail> {
+    let mut world = with_longs(rt.alloc())?;
+    values_are_written_and_read_in(&rt, &mut world)
+}
+
+fn references_are_written_and_read_in(rt: &impl Abort, world: &mut World) -> Result<(), Fail> {
     let stored = Replaced {
         at: PLACE,
         old: 0,
@@ -114,16 +125,28 @@ fn references_are_written_and_read(rt: HostRuntime) -> Result<(), Fail> {
 }
 
 #[test]
-fn an_array_class_is_defined(rt: HostRuntime) -> Result<(), Fail> {
-    let mut world = small_world(rt.alloc())?;
-    assert_eq!(rt; define_array(rt.alloc(), &mut world)?, 0);
+fn references_are_written_and_read(rt: HostRuntime) -> Result<(), Fail> {
+    let mut world = with_references(rt.alloc())?;
+    references_are_written_and_read_in(&rt, &mut world)
+}
+
+fn an_array_class_is_defined_in(
+    rt: &impl Abort,
+    alloc: Global,
+    world: &mut World,
+) -> Result<(), Fail> {
+    assert_eq!(rt; define_array(alloc, world)?, 0);
     assert_eq!(rt; world.new_array(0, 0, 0, 2)?.id, FIRST);
     Ok(())
 }
 
 #[test]
-fn one_region_holds_1024_words(rt: HostRuntime) -> Result<(), Fail> {
+fn an_array_class_is_defined(rt: HostRuntime) -> Result<(), Fail> {
     let mut world = small_world(rt.alloc())?;
+    an_array_class_is_defined_in(&rt, rt.alloc(), &mut world)
+}
+
+fn one_region_holds_1024_words_in(rt: &impl Abort, world: &mut World) -> Result<(), Fail> {
     assert_eq!(rt; world.new_prim(0, 0, Kind::Long, 1024)?.id, FIRST);
     assert_eq!(rt;
         world.new_prim(0, 1, Kind::Long, 1025),
@@ -137,12 +160,22 @@ fn one_region_holds_1024_words(rt: HostRuntime) -> Result<(), Fail> {
 }
 
 #[test]
-fn registers_are_copied_and_cleared(rt: HostRuntime) -> Result<(), Fail> {
-    let mut world = with_longs(rt.alloc())?;
+fn one_region_holds_1024_words(rt: HostRuntime) -> Result<(), Fail> {
+    let mut world = small_world(rt.alloc())?;
+    one_region_holds_1024_words_in(&rt, &mut world)
+}
+
+fn registers_are_copied_and_cleared_in(rt: &impl Abort, world: &mut World) -> Result<(), Fail> {
     assert_eq!(rt; world.move_register(0, 7, 0, 0)?, 0);
     assert_eq!(rt; world.clear_register(0, 0)?, FIRST);
     assert_eq!(rt; world.registers(), [0, 0, 0, 0, 0, 0, 0, FIRST].as_slice());
     Ok(())
+}
+
+#[test]
+fn registers_are_copied_and_cleared(rt: HostRuntime) -> Result<(), Fail> {
+    let mut world = with_longs(rt.alloc())?;
+    registers_are_copied_and_cleared_in(&rt, &mut world)
 }
 
 /// How many objects the end of a cycle condemns.
@@ -157,12 +190,19 @@ fn swept(world: &mut World) -> Result<(u64, bool), Refusal> {
     Ok((reclaimed.dead(), reclaimed.emptied()))
 }
 
+fn a_region_without_live_objects_is_reclaimed_in(
+    rt: &impl Abort,
+    world: &mut World,
+) -> Result<(), Fail> {
+    world.clear_register(0, 0)?;
+    assert_eq!(rt; world.snap()?, 0);
+    assert_eq!(rt; condemned(world)?, 1);
+    assert_eq!(rt; swept(world)?, (1, true));
+    Ok(())
+}
+
 #[test]
 fn a_region_without_live_objects_is_reclaimed(rt: HostRuntime) -> Result<(), Fail> {
     let mut world = with_longs(rt.alloc())?;
-    world.clear_register(0, 0)?;
-    assert_eq!(rt; world.snap()?, 0);
-    assert_eq!(rt; condemned(&mut world)?, 1);
-    assert_eq!(rt; swept(&mut world)?, (1, true));
-    Ok(())
+    a_region_without_live_objects_is_reclaimed_in(&rt, &mut world)
 }

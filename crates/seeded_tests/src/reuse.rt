@@ -9,6 +9,7 @@ use heap_step::Event;
 use heap_trail::Machine;
 use heap_world::{Config, World};
 use std::alloc::{AllocError, Global};
+use std::process::Abort;
 use std::test::Fail;
 
 /// An array of longs in a register of mutator 0.
@@ -125,13 +126,31 @@ fn reused(alloc: Global, config: Config) -> Result<Machine, Fail> {
     Ok(machine)
 }
 
+fn sweep_and_reuse_rewound_in(
+    rt: &impl Abort,
+    alloc: Global,
+    machine: &mut Machine,
+) -> Result<(), Fail> {
+    assert_eq!(rt; machine.place(), 10);
+    assert_eq!(rt; machine.rewind(3), Ok(7));
+    assert!(rt; is_after_the_cycle(alloc, machine.world())?);
+    Ok(())
+}
+
 #[test]
 fn sweep_and_reuse_rewound(rt: HostRuntime) -> Result<(), Fail> {
     let config = Config::new(2, 2, 1024).ok_or("settings out of range")?;
     let mut machine = reused(rt.alloc(), config)?;
-    assert_eq!(rt; machine.place(), 10);
-    assert_eq!(rt; machine.rewind(3), Ok(7));
-    assert!(rt; is_after_the_cycle(rt.alloc(), machine.world())?);
+    sweep_and_reuse_rewound_in(&rt, rt.alloc(), &mut machine)
+}
+
+fn sweep_and_reuse_undone_in(
+    rt: &impl Abort,
+    alloc: Global,
+    world: &mut World,
+) -> Result<(), Fail> {
+    there_and_back(world, &reuse())?;
+    assert!(rt; is_after_the_cycle(alloc, world)?);
     Ok(())
 }
 
@@ -139,7 +158,5 @@ fn sweep_and_reuse_rewound(rt: HostRuntime) -> Result<(), Fail> {
 fn sweep_and_reuse_undone(rt: HostRuntime) -> Result<(), Fail> {
     let config = Config::new(2, 2, 1024).ok_or("settings out of range")?;
     let mut world = cycled(rt.alloc(), config)?;
-    there_and_back(&mut world, &reuse())?;
-    assert!(rt; is_after_the_cycle(rt.alloc(), &world)?);
-    Ok(())
+    sweep_and_reuse_undone_in(&rt, rt.alloc(), &mut world)
 }

@@ -44,6 +44,63 @@ fn lines_at_the_limits(rt: HostRuntime) -> Result<(), Fail> {
     Ok(())
 }
 
+#[test]
+fn names_and_fields(rt: HostRuntime) -> Result<(), Fail> {
+    let lines: [(&[u8], &str); 17] = [
+        (b"class A\x01 -\n", "bad command\n"),
+        (b"class A - x\x7f:int\n", "bad command\n"),
+        (b"class A - x:int\xff\n", "bad command\n"),
+        (b"array A\t\n", "bad command\n"),
+        (b"array\n", "bad command\n"),
+        (b"array A B\n", "bad command\n"),
+        (b"class A\n", "bad command\n"),
+        (b"class A -x\n", "bad command\n"),
+        (b"class A - x\n", "bad command\n"),
+        (b"class A - x:\n", "bad command\n"),
+        (b"class A - x: int\n", "bad command\n"),
+        (b"class A 99 x:foo\n", "bad command\n"),
+        (b"class A 99 x:int\n", "no 2 NoClass\n"),
+        (b"class A - :int\n", "no 4 BadName\n"),
+        (b"array a:b\n", "no 4 BadName\n"),
+        (b"array A\r\n", "ok class 0\n"),
+        (b"  class  A  -  x:int  y:object \n", "ok class 0\n"),
+    ];
+    for (line, reply) in lines {
+        assert!(rt;
+            is_answered(rt.alloc(), line, Ended::Eof, reply)?,
+            "at {reply}"
+        );
+    }
+    Ok(())
+}
+
+/// A class whose super isn't there, with so many fields of no name.
+fn shortest_fields(alloc: Global, count: usize) -> Result<Vec<u8>, Fail> {
+    let mut line = Vec::new(alloc);
+    line.extend_from_slice(b"class A 9")?;
+    for _ in 0..count {
+        line.extend_from_slice(b" :int")?;
+    }
+    line.push(b'\n')?;
+    Ok(line)
+}
+
+#[test]
+fn most_fields(rt: HostRuntime) -> Result<(), Fail> {
+    let lines = [
+        (817, Ended::Eof, "no 2 NoClass\n"),
+        (818, Ended::TooLong, "bad long\n"),
+    ];
+    for (count, ended, reply) in lines {
+        let line = shortest_fields(rt.alloc(), count)?;
+        assert!(rt;
+            is_answered(rt.alloc(), line.as_slice(), ended, reply)?,
+            "at {count}"
+        );
+    }
+    Ok(())
+}
+
 /// So many letters and a line end.
 fn letters(alloc: Global, count: usize) -> Result<Vec<u8>, Fail> {
     let mut line = vec![in alloc; b'a'; count]?;

@@ -1,8 +1,10 @@
 pub mod Lists
 pub mod Found
 pub mod Written
+pub mod Firsts
 pub mod Worded
 pub mod Plain
+pub mod Named
 pub mod Sizes
 pub mod Numbers
 pub mod Fielded

@@ -1,25 +1,23 @@
--- Bytes outside 0x20 to 0x7e, in lines whose words can't hold any.
-use Rattle.std.proofs.Common.{◌≡◌, ◌∙◌, ap, ap₂, refl, sym, subst, ℕ, Bool, true, false, cond, ◌&&◌, ◌||◌, List, [], ◌∷◌, length, Option, Some, None, nat_lt, nat_le, ◌==◌, codes, bytes_eq, filter, find, true≢false, lt-ltb, leb-true, le-leb, eqb-true, arith}
+-- Bytes outside 0x20 to 0x7e, which no word of a line holds that is read.
+use Rattle.std.proofs.Common.{◌≡◌, ◌∙◌, ap, refl, sym, subst, ℕ, ◌≤◌, Bool, true, false, cond, ◌&&◌, List, [], ◌∷◌, length, Option, Some, None, nat_lt, nat_le, ◌==◌, codes, bytes_eq, filter, find, true≢false, lt-ltb, leb-true, le-leb, eqb-true, arith}
 use Rattle.std.specs.Prelude.{option_map, option_and_then, unwrap_or}
 use Rattle.std.specs.Char.{is_ascii_digit}
 use Rattle.std.specs.List.{list_all, slice_split, onto_first}
 use Rattle.std.proofs.lemmas.Bool.{and_parts, and_from}
 use Rattle.std.proofs.lemmas.Slice.Eq.{bytes_eq-Decides}
 use Rattle.heap_class.specs.declared.Kind.{Kind}
+use Rattle.heap_class.specs.declared.Field.{Field}
 use Rattle.heap_class.specs.declared.Kind.TheVariants.{Boolean, Char, Float, Double, Byte, Short, Int, Long}
 use Rattle.heap_class.specs.Kinds.{kind_word}
-use Rattle.heap_step.specs.declared.Event.TheVariants.{NewPrim, Snap, Mark, Drain, Finish}
+use Rattle.heap_step.specs.declared.Event.TheVariants.{Class, ArrayClass, NewPrim, Snap, Mark, Drain, Finish}
 use Rattle.heap_trail.specs.declared.Action.TheVariants.{Step}
 use Rattle.session_text.specs.declared.command.Command.{Command}
 use Rattle.session_text.specs.declared.command.Command.TheVariants.{Blank, Bad, Ask, Dump, End}
-use Rattle.session_text.specs.Grammar.{words_of, with_digit, value_from, number, all_kinds, kind_of, next_number, next_kind, at_end, one_number, two_numbers, three_numbers, four_numbers, newprim_line, dump_line, making_line, access_line, marking_line, session_line, or_else, class_line, array_line, plain_line, line_after, command_of_words, command_of_text}
-use Rattle.session_text.specs.Reads.{TakesMemory, MayTakeMemory}
+use Rattle.session_text.specs.Grammar.{words_of, is_plain, with_digit, value_from, number, number_or_dash, all_kinds, kind_of, field_of, fields_of, next_number, next_kind, at_end, one_number, two_numbers, three_numbers, four_numbers, newprim_line, dump_line, making_line, access_line, marking_line, session_line, class_line, array_line, line_after, command_of_words, command_of_text}
+use Rattle.session_text.specs.Reads.{TakesMemory, MayTakeMemory, plain_field, plain_fields, next_number_or_dash, plain_class, plain_array, read_line}
 
-abbrev is_plain_byte : ℕ → Bool
+abbrev pub is_plain_byte : ℕ → Bool
 is_plain_byte b = nat_le 0x20 b && nat_le b 0x7e
-
-abbrev is_plain : List ℕ → Bool
-is_plain t = list_all is_plain_byte t
 
 abbrev are_plain : List (List ℕ) → Bool
 are_plain ws = list_all is_plain ws
@@ -110,9 +108,25 @@ found : (f : Kind → Bool) (ks : List Kind) (k : Kind) → find f ks ≡ Some k
 found f [] k e = cc
 found f (first ∷ ks) k e = found_or f first k (find f ks) (f first) refl (found f ks k) e
 
-kind_plain : (w : List ℕ) (k : Kind) → kind_of w ≡ Some k → is_plain w ≡ true
+pub kind_plain : (w : List ℕ) (k : Kind) → kind_of w ≡ Some k → is_plain w ≡ true
 unfolding kind_of
 kind_plain w k e = ap is_plain (sym ((bytes_eq-Decides (kind_word k) w).0 (found (λ j. bytes_eq (kind_word j) w) all_kinds k e))) ∙ kind_plain_word k
+
+kind_long_word : (k : Kind) → 3 ≤ length (kind_word k)
+kind_long_word Kind.Object = omega arith
+kind_long_word Boolean = omega arith
+kind_long_word Char = omega arith
+kind_long_word Float = omega arith
+kind_long_word Double = omega arith
+kind_long_word Byte = omega arith
+kind_long_word Short = omega arith
+kind_long_word Int = omega arith
+kind_long_word Long = omega arith
+
+-- a kind's word has 3 bytes or more
+pub kind_long : (w : List ℕ) (k : Kind) → kind_of w ≡ Some k → 3 ≤ length w
+unfolding kind_of
+kind_long w k e = subst (λ l. 3 ≤ length l) ((bytes_eq-Decides (kind_word k) w).0 (found (λ j. bytes_eq (kind_word j) w) all_kinds k e)) (kind_long_word k)
 
 -- ---- lines whose words are all plain
 
@@ -185,38 +199,9 @@ key_plain : {A : Type 0} (w key : List ℕ) (ws : List (List ℕ)) (here other :
 key_plain w key ws here other true e key_is h k c is = and_from _ _ (keyword_plain w key e ∙ key_is) (h c is)
 key_plain w key ws here other false e key_is h k c is = k c is
 
-or_plain : (ws : List (List ℕ)) (o other : Option Command) → OnlyPlain ws o → OnlyPlain ws other → OnlyPlain ws (or_else o other)
-or_plain ws None other h k c e = k c e
-or_plain ws (Some x) other h k c e = h x refl
-
 dump_plain : (ws : List (List ℕ)) → OnlyPlain ws (dump_line ws)
 dump_plain [] c e = cc
 dump_plain (w ∷ ws) c e = key_plain w (codes "-") ws (at_end Dump ws) None _ refl refl (end_plain Dump ws) (λ d is. cc) c e
-
-making_plain : (w : List ℕ) (ws : List (List ℕ)) → OnlyPlain (w ∷ ws) (making_line w ws)
-unfolding making_line
-making_plain w ws =
-    key_plain w (codes "new") ws _ _ _ refl refl (made_plain ws _ (three_numbers ws) (three_plain ws))
-    (key_plain w (codes "newarray") ws _ _ _ refl refl (made_plain ws _ (four_numbers ws) (four_plain ws))
-    (key_plain w (codes "newprim") ws _ None _ refl refl (newprim_plain ws) (λ c e. cc)))
-
-access_plain : (w : List ℕ) (ws : List (List ℕ)) → OnlyPlain (w ∷ ws) (access_line w ws)
-unfolding access_line
-access_plain w ws =
-    key_plain w (codes "load") ws _ _ _ refl refl (made_plain ws _ (four_numbers ws) (four_plain ws))
-    (key_plain w (codes "store") ws _ _ _ refl refl (made_plain ws _ (four_numbers ws) (four_plain ws))
-    (key_plain w (codes "put") ws _ _ _ refl refl (made_plain ws _ (four_numbers ws) (four_plain ws))
-    (key_plain w (codes "move") ws _ _ _ refl refl (made_plain ws _ (four_numbers ws) (four_plain ws))
-    (key_plain w (codes "clear") ws _ None _ refl refl (made_plain ws _ (two_numbers ws) (two_plain ws)) (λ c e. cc)))))
-
-marking_plain : (w : List ℕ) (ws : List (List ℕ)) → OnlyPlain (w ∷ ws) (marking_line w ws)
-unfolding marking_line
-marking_plain w ws =
-    key_plain w (codes "snap") ws _ _ _ refl refl (end_plain (Ask (Step Snap)) ws)
-    (key_plain w (codes "mark") ws _ _ _ refl refl (end_plain (Ask (Step Mark)) ws)
-    (key_plain w (codes "drain") ws _ _ _ refl refl (end_plain (Ask (Step Drain)) ws)
-    (key_plain w (codes "finish") ws _ _ _ refl refl (end_plain (Ask (Step Finish)) ws)
-    (key_plain w (codes "sweep") ws _ None _ refl refl (made_plain ws _ (one_number ws) (one_plain ws)) (λ c e. cc)))))
 
 session_plain : (w : List ℕ) (ws : List (List ℕ)) → OnlyPlain (w ∷ ws) (session_line w ws)
 unfolding session_line
@@ -225,33 +210,126 @@ session_plain w ws =
     (key_plain w (codes "dump") ws _ _ _ refl refl (dump_plain ws)
     (key_plain w (codes "end") ws _ None _ refl refl (end_plain End ws) (λ c e. cc)))
 
-plain_only : (w : List ℕ) (ws : List (List ℕ)) → OnlyPlain (w ∷ ws) (plain_line w ws)
-plain_only w ws =
-    or_plain (w ∷ ws) (making_line w ws) _ (making_plain w ws)
-    (or_plain (w ∷ ws) (access_line w ws) _ (access_plain w ws)
-    (or_plain (w ∷ ws) (marking_line w ws) (session_line w ws) (marking_plain w ws) (session_plain w ws)))
+marking_plain : (w : List ℕ) (ws : List (List ℕ)) → OnlyPlain (w ∷ ws) (marking_line w ws)
+unfolding marking_line
+marking_plain w ws =
+    key_plain w (codes "snap") ws _ _ _ refl refl (end_plain (Ask (Step Snap)) ws)
+    (key_plain w (codes "mark") ws _ _ _ refl refl (end_plain (Ask (Step Mark)) ws)
+    (key_plain w (codes "drain") ws _ _ _ refl refl (end_plain (Ask (Step Drain)) ws)
+    (key_plain w (codes "finish") ws _ _ _ refl refl (end_plain (Ask (Step Finish)) ws)
+    (key_plain w (codes "sweep") ws _ _ _ refl refl (made_plain ws _ (one_number ws) (one_plain ws)) (session_plain w ws)))))
+
+access_plain : (w : List ℕ) (ws : List (List ℕ)) → OnlyPlain (w ∷ ws) (access_line w ws)
+unfolding access_line
+access_plain w ws =
+    key_plain w (codes "load") ws _ _ _ refl refl (made_plain ws _ (four_numbers ws) (four_plain ws))
+    (key_plain w (codes "store") ws _ _ _ refl refl (made_plain ws _ (four_numbers ws) (four_plain ws))
+    (key_plain w (codes "put") ws _ _ _ refl refl (made_plain ws _ (four_numbers ws) (four_plain ws))
+    (key_plain w (codes "move") ws _ _ _ refl refl (made_plain ws _ (four_numbers ws) (four_plain ws))
+    (key_plain w (codes "clear") ws _ _ _ refl refl (made_plain ws _ (two_numbers ws) (two_plain ws)) (marking_plain w ws)))))
+
+making_plain : (w : List ℕ) (ws : List (List ℕ)) → OnlyPlain (w ∷ ws) (making_line w ws)
+unfolding making_line
+making_plain w ws =
+    key_plain w (codes "new") ws _ _ _ refl refl (made_plain ws _ (three_numbers ws) (three_plain ws))
+    (key_plain w (codes "newarray") ws _ _ _ refl refl (made_plain ws _ (four_numbers ws) (four_plain ws))
+    (key_plain w (codes "newprim") ws _ _ _ refl refl (newprim_plain ws) (access_plain w ws)))
+
+-- ---- lines with names
+
+pub none_if : {A : Type 0} (v : Bool) → cond {A = Option A} v None None ≡ None
+none_if true = refl
+none_if false = refl
+
+-- what comes only of plain words
+guarded : {A : Type 0} (o : Option A) (v : Bool) → ((x : A) → o ≡ Some x → v ≡ true) → o ≡ cond v o None
+guarded o true h = refl
+guarded None false h = refl
+guarded (Some x) false h = absurd (true≢false (sym (h x refl)))
+
+then_if : {A B : Type 0} (f : A → Option B) (v : Bool) (x : A) → option_and_then f (cond v (Some x) None) ≡ cond v (f x) None
+then_if f true x = refl
+then_if f false x = refl
+
+pub map_if : {A B : Type 0} (f : A → B) (v : Bool) (o : Option A) → option_map f (cond v o None) ≡ cond v (option_map f o) None
+map_if f true o = refl
+map_if f false o = refl
+
+pub both_if : {A : Type 0} (u v : Bool) (o : Option A) → cond u (cond v o None) None ≡ cond (u && v) o None
+both_if true v o = refl
+both_if false v o = refl
+
+abbrev more_fields : Option (List Field) → Field → Option (List Field)
+more_fields rest f = option_map (λ fs. f ∷ fs) rest
+
+fields_if : (u v : Bool) (o : Option Field) (rest : Option (List Field)) → option_and_then (more_fields (cond v rest None)) (cond u o None) ≡ cond (u && v) (option_and_then (more_fields rest) o) None
+fields_if true v None rest = sym (none_if v)
+fields_if true v (Some f) rest = map_if (λ fs. f ∷ fs) v rest
+fields_if false v o rest = refl
+
+fields_plain : (ws : List (List ℕ)) → plain_fields ws ≡ cond (are_plain ws) (fields_of ws) None
+fields_plain [] = refl
+fields_plain (w ∷ ws) = ap (λ rest. option_and_then (more_fields rest) (plain_field w)) (fields_plain ws) ∙ fields_if (is_plain w) (are_plain ws) (field_of w) (fields_of ws)
+
+dash_some : (w : List ℕ) (v : Bool) (s : Option ℕ) → bytes_eq w (codes "-") ≡ v → cond v (Some None) (option_map Some (number w)) ≡ Some s → is_plain w ≡ true
+dash_some w true s e h = keyword_plain w (codes "-") e
+dash_some w false s e h = made w (number w) s (number_plain w) h
+  where
+    made : (w : List ℕ) (o : Option ℕ) (s : Option ℕ) → ((n : ℕ) → o ≡ Some n → is_plain w ≡ true) → option_map Some o ≡ Some s → is_plain w ≡ true
+    made w None s h e = cc
+    made w (Some n) s h e = h n refl
+
+dash_plain : (w : List ℕ) (s : Option ℕ) → number_or_dash w ≡ Some s → is_plain w ≡ true
+dash_plain w s e = dash_some w (bytes_eq w (codes "-")) s refl e
+
+-- a class of this name and super
+abbrev class_with : List ℕ → Option ℕ → Option (List Field) → Option Command
+class_with name sup fields = option_map (λ fs. Ask (Step (Class name sup fs))) fields
+
+super_if : (name : List ℕ) (o : Option (Option ℕ)) (ws : List (List ℕ)) → option_and_then (λ (s : Option ℕ × List (List ℕ)). class_with name s.0 (plain_fields s.1)) (option_map (λ n. (n, ws)) o) ≡ cond (are_plain ws) (option_and_then (λ s. class_with name s (fields_of ws)) o) None
+super_if name None ws = sym (none_if (are_plain ws))
+super_if name (Some s) ws = ap (class_with name s) (fields_plain ws) ∙ map_if (λ fs. Ask (Step (Class name s fs))) (are_plain ws) (fields_of ws)
+
+super_plain : (name : List ℕ) (o : Option (Option ℕ)) (ws : List (List ℕ)) (v : Bool) → ((s : Option ℕ) → o ≡ Some s → v ≡ true) → option_and_then (λ (s : Option ℕ × List (List ℕ)). class_with name s.0 (plain_fields s.1)) (option_map (λ n. (n, ws)) o) ≡ cond (v && are_plain ws) (option_and_then (λ s. class_with name s (fields_of ws)) o) None
+super_plain name o ws true h = super_if name o ws
+super_plain name None ws false h = refl
+super_plain name (Some s) ws false h = absurd (true≢false (sym (h s refl)))
+
+abbrev class_after : List ℕ → List (List ℕ) → Option Command
+class_after name ws = option_and_then (λ (s : Option ℕ × List (List ℕ)). class_with name s.0 (plain_fields s.1)) (next_number_or_dash ws)
+
+class_plain : (ws : List (List ℕ)) → plain_class ws ≡ cond (are_plain ws) (class_line ws) None
+class_plain [] = refl
+class_plain (name ∷ []) = then_if (λ n. class_after n.0 n.1) (is_plain name) (name, []) ∙ none_if (is_plain name) ∙ sym (none_if (is_plain name && true))
+class_plain (name ∷ sup ∷ ws) =
+    then_if (λ n. class_after n.0 n.1) (is_plain name) (name, sup ∷ ws)
+    ∙ ap (λ o. cond (is_plain name) o None) (super_plain name (number_or_dash sup) ws (is_plain sup) (dash_plain sup))
+    ∙ both_if (is_plain name) (is_plain sup && are_plain ws) (class_line (name ∷ sup ∷ ws))
+
+abbrev array_with : List ℕ → List (List ℕ) → Option Command
+array_with name ws = at_end (Ask (Step (ArrayClass name))) ws
+
+array_end : (name : List ℕ) (v : Bool) (ws : List (List ℕ)) → cond v (array_with name ws) None ≡ cond (v && are_plain ws) (array_with name ws) None
+array_end name true [] = refl
+array_end name false [] = refl
+array_end name v (w ∷ ws) = none_if v ∙ sym (none_if (v && are_plain (w ∷ ws)))
+
+array_plain : (ws : List (List ℕ)) → plain_array ws ≡ cond (are_plain ws) (array_line ws) None
+array_plain [] = refl
+array_plain (name ∷ ws) = then_if (λ n. array_with n.0 n.1) (is_plain name) (name, ws) ∙ array_end name (is_plain name) ws
 
 -- ---- what a text asks for, by its words
 
-abbrev names : List ℕ → Bool
-names w = bytes_eq w (codes "class") || bytes_eq w (codes "array")
+read_if : (w : List ℕ) (ws : List (List ℕ)) (c a : Bool) → bytes_eq w (codes "class") ≡ c → bytes_eq w (codes "array") ≡ a
+    → cond c (plain_class ws) (cond a (plain_array ws) (making_line w ws)) ≡ cond (are_plain (w ∷ ws)) (cond c (class_line ws) (cond a (array_line ws) (making_line w ws))) None
+read_if w ws true a e h = class_plain ws ∙ ap (λ v. cond (v && are_plain ws) (class_line ws) None) (sym (keyword_plain w (codes "class") e))
+read_if w ws false true e h = array_plain ws ∙ ap (λ v. cond (v && are_plain ws) (array_line ws) None) (sym (keyword_plain w (codes "array") h))
+read_if w ws false false e h = guarded (making_line w ws) (are_plain (w ∷ ws)) (making_plain w ws)
 
-other_line : (w : List ℕ) (ws : List (List ℕ)) (c a : Bool) → bytes_eq w (codes "class") ≡ c → bytes_eq w (codes "array") ≡ a → (c || a) ≡ false → line_after w ws ≡ plain_line w ws
-unfolding line_after
-other_line w ws true a e f h = cc
-other_line w ws false true e f h = cc
-other_line w ws false false e f h = ap₂ (λ x y. cond x (class_line ws) (cond y (array_line ws) (plain_line w ws))) e f
-
-guarded : (o : Option Command) (v : Bool) → ((c : Command) → o ≡ Some c → v ≡ true) → unwrap_or o Bad ≡ cond v (unwrap_or o Bad) Bad
-guarded o true h = refl
-guarded None false h = refl
-guarded (Some c) false h = absurd (true≢false (sym (h c refl)))
-
--- the plain lines need no look at the text for bad bytes
-unnamed_line : (w : List ℕ) (ws : List (List ℕ)) → names w ≡ false → unwrap_or (line_after w ws) Bad ≡ cond (are_plain (w ∷ ws)) (unwrap_or (line_after w ws) Bad) Bad
-unnamed_line w ws e =
-    let same = other_line w ws _ _ refl refl e in
-    guarded (line_after w ws) (are_plain (w ∷ ws)) (λ c is. plain_only w ws c (sym same ∙ is))
+-- a line is read where its words are plain
+read_plain : (w : List ℕ) (ws : List (List ℕ)) → read_line w ws ≡ cond (are_plain (w ∷ ws)) (line_after w ws) None
+unfolding read_line line_after
+read_plain w ws = read_if w ws _ _ refl refl
 
 text_of_words : (t : List ℕ) (ws : List (List ℕ)) → words_of t ≡ ws → command_of_text t ≡ cond (are_plain ws) (command_of_words ws) Bad
 text_of_words t ws e = ap (λ v. cond v (command_of_words (words_of t)) Bad) (words_plain t) ∙ ap (λ l. cond (are_plain l) (command_of_words l) Bad) e
@@ -259,14 +337,12 @@ text_of_words t ws e = ap (λ v. cond v (command_of_words (words_of t)) Bad) (wo
 pub text_blank : (t : List ℕ) → words_of t ≡ [] → Blank ≡ command_of_text t
 text_blank t e = sym (text_of_words t [] e)
 
-pub text_bad : (t : List ℕ) → is_plain t ≡ false → Bad ≡ command_of_text t
-text_bad t e = sym (ap (λ v. cond v (command_of_words (words_of t)) Bad) e)
+or_bad : (v : Bool) (o : Option Command) → unwrap_or (cond v o None) Bad ≡ cond v (unwrap_or o Bad) Bad
+or_bad true o = refl
+or_bad false o = refl
 
-pub text_named : (t w : List ℕ) (ws : List (List ℕ)) → words_of t ≡ w ∷ ws → is_plain t ≡ true → unwrap_or (line_after w ws) Bad ≡ command_of_text t
-text_named t w ws e h = sym (ap (λ v. cond v (command_of_words (words_of t)) Bad) h ∙ ap command_of_words e)
-
-pub text_unnamed : (t w : List ℕ) (ws : List (List ℕ)) → words_of t ≡ w ∷ ws → names w ≡ false → unwrap_or (line_after w ws) Bad ≡ command_of_text t
-text_unnamed t w ws e h = unnamed_line w ws h ∙ sym (text_of_words t (w ∷ ws) e)
+pub text_read : (t w : List ℕ) (ws : List (List ℕ)) → words_of t ≡ w ∷ ws → unwrap_or (read_line w ws) Bad ≡ command_of_text t
+text_read t w ws e = ap (λ o. unwrap_or o Bad) (read_plain w ws) ∙ or_bad (are_plain (w ∷ ws)) (line_after w ws) ∙ sym (text_of_words t (w ∷ ws) e)
 
 may_take : (o : Option Command) → MayTakeMemory o → TakesMemory (unwrap_or o Bad)
 may_take None h = h

@@ -9,6 +9,7 @@ use Rattle.std.proofs.lemmas.List.Sums.{passes_at_first, fails_before_first, pre
 use Rattle.std.proofs.lemmas.Bool.{cases_lt}
 use Rattle.std.proofs.lemmas.Bool.Decides.{nat_tests}
 use Rattle.session_text.specs.Grammar.{words_of}
+use Rattle.session_text.specs.Reads.{word_size, first_word}
 
 abbrev is_space : ℕ → Bool
 is_space b = b == 32
@@ -41,11 +42,11 @@ words_nil : words_of [] ≡ []
 unfolding words_of
 words_nil = refl
 
-none_position : (k m : ℕ) (b : Bool) → nat_lt k m ≡ b → None ≡ cond b (Some k) None → m ≤ k
+pub none_position : (k m : ℕ) (b : Bool) → nat_lt k m ≡ b → None ≡ cond b (Some k) None → m ≤ k
 none_position k m true e h = cc
 none_position k m false e h = grind (arith, nat_tests)
 
-some_position : (k m n : ℕ) (b : Bool) → nat_lt k m ≡ b → Some n ≡ cond b (Some k) None → (k < m) × (n ≡ k)
+pub some_position : (k m n : ℕ) (b : Bool) → nat_lt k m ≡ b → Some n ≡ cond b (Some k) None → (k < m) × (n ≡ k)
 some_position k m n true e h = let lt : k < m = grind (arith, nat_tests) in (lt, cc)
 some_position k m n false e h = cc
 
@@ -68,20 +69,18 @@ positive : (t : List ℕ) (e : ℕ) → e ≡ position_or_len is_space t → 0 <
 positive [] e is some = absurd (omega (arith, is, some))
 positive (x ∷ xs) e is some = omega arith
 
-first_cut : (t : List ℕ) (e : ℕ) → e ≡ position_or_len is_space t → 0 < e → (e < length t) ⊎ (length t ≤ e) → words_of t ≡ take e t ∷ words_of (drop e t)
+first_cut : (t : List ℕ) (e : ℕ) → e ≡ position_or_len is_space t → 0 < e → (e < length t) ⊎ (length t ≤ e) → words_of t ≡ take e t ∷ words_of (drop (e + 1) t)
 unfolding words_of
 first_cut t e is some (inl lt) =
     let lt' : position_or_len is_space t < length t = subst (λ k. k < length t) is lt in
     let split : slice_split is_space t ≡ take e t ∷ slice_split is_space (drop (e + 1) t) = slice_split_first is_space t 0 lt' ∙ ap (λ k. take k t ∷ slice_split is_space (drop (k + 1) t)) (sym is) in
     let size : 0 < length (take e t) = omega (arith, length-take-le e t (omega (arith, lt))) in
-    let at : (get_or t e 0 == 32) ≡ true = ap (λ k. get_or t k 0 == 32) is ∙ passes_at_first is_space t 0 lt' in
-    let later : drop e t ≡ get_or t e 0 ∷ drop (e + 1) t = rw (add-one, drop-cons t e 0) in
-    ap (λ ws. filter some_byte ws) split ∙ keep_first (take e t) (slice_split is_space (drop (e + 1) t)) size ∙ ap (λ ws. take e t ∷ ws) (sym (ap words_of later ∙ words_space (get_or t e 0) (drop (e + 1) t) at))
+    ap (λ ws. filter some_byte ws) split ∙ keep_first (take e t) (slice_split is_space (drop (e + 1) t)) size
 first_cut t e is some (inr le) =
     let all : take e t ≡ t = take_all e t le in
     let none = none_all t (subst (λ k. length t ≤ k) is le) in
     let size : 0 < length t = positive t e is some in
-    ap (λ ws. filter some_byte ws) (slice_split_none is_space t none) ∙ keep_first t [] size ∙ ap (λ l. l ∷ []) (sym all) ∙ ap (λ ws. take e t ∷ ws) (sym (ap words_of (drop_all e t le) ∙ words_nil))
+    ap (λ ws. filter some_byte ws) (slice_split_none is_space t none) ∙ keep_first t [] size ∙ ap (λ l. l ∷ []) (sym all) ∙ ap (λ ws. take e t ∷ ws) (sym (ap words_of (drop_all (e + 1) t (omega (arith, le))) ∙ words_nil))
 
 first_other : (x : ℕ) (xs : List ℕ) (v : Bool) → is_space x ≡ v → not v ≡ true → 0 < position_or_len is_space (x ∷ xs)
 first_other x xs true e h = cc
@@ -91,21 +90,20 @@ end_of : (k m : ℕ) (b : Bool) → nat_lt k m ≡ b → k ≤ m → unwrap_or (
 end_of k m true e le = refl
 end_of k m false e le = grind (arith, nat_tests)
 
--- the first space, or the end
-pub space_or_end : (xs : List ℕ) (r : Option ℕ) → r ≡ position is_space xs → unwrap_or r (length xs) ≡ position_or_len is_space xs
-space_or_end xs r e = ap (λ o. unwrap_or o (length xs)) e ∙ end_of (position_or_len is_space xs) (length xs) _ refl (prefix_len-le-length _ xs)
+-- the first such byte, or the end
+pub first_or_end : (p : ℕ → Bool) (xs : List ℕ) (r : Option ℕ) → r ≡ position p xs → unwrap_or r (length xs) ≡ position_or_len p xs
+first_or_end p xs r e = ap (λ o. unwrap_or o (length xs)) e ∙ end_of (position_or_len p xs) (length xs) _ refl (prefix_len-le-length _ xs)
 
 -- the first word and what follows it
-pub next_word : (xs t : List ℕ) (n e : ℕ) → Some n ≡ position is_other xs → t ≡ take (length xs - n) (drop n xs) → e ≡ position_or_len is_space t → words_of xs ≡ take e t ∷ words_of (take (length t - e) (drop e t))
-next_word xs t n e h is end =
+pub front_word : (xs t : List ℕ) (n : ℕ) → Some n ≡ position is_other xs → t ≡ take (length xs - n) (drop n xs) → words_of xs ≡ first_word t ∷ words_of (drop (word_size t + 1) t)
+front_word xs t n h is =
     let p = some_position (position_or_len is_other xs) (length xs) n _ refl h in
     let same : t ≡ drop n xs = is ∙ take_all (length xs - n) (drop n xs) (omega (arith, length-drop n xs)) in
     let lt : n < length xs = omega (arith, p.0, p.1) in
     let at : is_other (get_or xs n 0) ≡ true = ap (λ k. is_other (get_or xs k 0)) p.1 ∙ passes_at_first is_other xs 0 p.0 in
     let begins : t ≡ get_or xs n 0 ∷ drop (n + 1) xs = same ∙ (rw (add-one, drop-cons xs n 0)) in
-    let some : 0 < e = subst (λ k. 0 < k) (sym (end ∙ ap (position_or_len is_space) begins)) (first_other (get_or xs n 0) (drop (n + 1) xs) _ refl at) in
-    let rest : take (length t - e) (drop e t) ≡ drop e t = take_all (length t - e) (drop e t) (omega (arith, length-drop e t)) in
-    words_spaces xs ∙ ap (λ k. words_of (drop k xs)) (sym p.1) ∙ ap words_of (sym same) ∙ first_cut t e end some (cases_lt e (length t)) ∙ ap (λ l. take e t ∷ words_of l) (sym rest)
+    let some : 0 < word_size t = subst (λ k. 0 < k) (sym (ap word_size begins)) (first_other (get_or xs n 0) (drop (n + 1) xs) _ refl at) in
+    words_spaces xs ∙ ap (λ k. words_of (drop k xs)) (sym p.1) ∙ ap words_of (sym same) ∙ first_cut t (word_size t) refl some (cases_lt (word_size t) (length t))
 
-pub space_within : (xs : List ℕ) → position_or_len is_space xs ≤ length xs
-space_within xs = prefix_len-le-length _ xs
+pub end_within : (p : ℕ → Bool) (xs : List ℕ) → position_or_len p xs ≤ length xs
+end_within p xs = prefix_len-le-length _ xs

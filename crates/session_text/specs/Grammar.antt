@@ -1,5 +1,5 @@
 -- The lines of a session.
-use Rattle.std.specs.Prelude.{ℕ, ◌+◌, ◌*◌, ◌-◌, ◌^◌, ◌&&◌, ◌==◌, nat_lt, nat_le, List, [], ◌∷◌, length, take, drop, slice_index, filter, find, codes, Option, Some, None, unwrap_or, option_map, option_and_then, if◌then◌else◌}
+use Rattle.std.specs.Prelude.{ℕ, Bool, ◌+◌, ◌*◌, ◌-◌, ◌^◌, ◌&&◌, ◌==◌, nat_lt, nat_le, List, [], ◌∷◌, length, take, drop, slice_index, filter, find, codes, Option, Some, None, unwrap_or, option_map, option_and_then, if◌then◌else◌}
 use Rattle.std.specs.Char.{is_ascii_digit}
 use Rattle.std.specs.List.{list_all, position, slice_split}
 use Rattle.std.specs.Str.{bytes_eq}
@@ -147,35 +147,7 @@ dump_line (w ∷ ws) = if bytes_eq w (codes "-") then at_end Dump ws else None
 abbrev pub end_line : List (List ℕ) → Option Command
 end_line ws = at_end End ws
 
--- ---- the lines
-
--- those that make an object
-unfoldable pub making_line : List ℕ → List (List ℕ) → Option Command
-making_line w ws =
-    if bytes_eq w (codes "new") then new_line ws
-    else if bytes_eq w (codes "newarray") then newarray_line ws
-    else if bytes_eq w (codes "newprim") then newprim_line ws
-    else None
-
--- those that read or write a slot or a register
-unfoldable pub access_line : List ℕ → List (List ℕ) → Option Command
-access_line w ws =
-    if bytes_eq w (codes "load") then load_line ws
-    else if bytes_eq w (codes "store") then store_line ws
-    else if bytes_eq w (codes "put") then put_line ws
-    else if bytes_eq w (codes "move") then move_line ws
-    else if bytes_eq w (codes "clear") then clear_line ws
-    else None
-
--- those that mark or sweep
-unfoldable pub marking_line : List ℕ → List (List ℕ) → Option Command
-marking_line w ws =
-    if bytes_eq w (codes "snap") then step_line Snap ws
-    else if bytes_eq w (codes "mark") then step_line Mark ws
-    else if bytes_eq w (codes "drain") then step_line Drain ws
-    else if bytes_eq w (codes "finish") then step_line Finish ws
-    else if bytes_eq w (codes "sweep") then sweep_line ws
-    else None
+-- ---- the lines that take no memory for their reading, in four parts, each of which goes on with the one above it
 
 -- those that ask the machine or the session for something
 unfoldable pub session_line : List ℕ → List (List ℕ) → Option Command
@@ -185,20 +157,39 @@ session_line w ws =
     else if bytes_eq w (codes "end") then end_line ws
     else None
 
--- a command, or else another one
-abbrev pub or_else : Option Command → Option Command → Option Command
-or_else None other = other
-or_else (Some c) other = Some c
+-- those that mark or sweep, and the above
+unfoldable pub marking_line : List ℕ → List (List ℕ) → Option Command
+marking_line w ws =
+    if bytes_eq w (codes "snap") then step_line Snap ws
+    else if bytes_eq w (codes "mark") then step_line Mark ws
+    else if bytes_eq w (codes "drain") then step_line Drain ws
+    else if bytes_eq w (codes "finish") then step_line Finish ws
+    else if bytes_eq w (codes "sweep") then sweep_line ws
+    else session_line w ws
 
--- a line that takes no memory for its reading
-abbrev pub plain_line : List ℕ → List (List ℕ) → Option Command
-plain_line w ws = or_else (making_line w ws) (or_else (access_line w ws) (or_else (marking_line w ws) (session_line w ws)))
+-- those that read or write a slot or a register, and all the above
+unfoldable pub access_line : List ℕ → List (List ℕ) → Option Command
+access_line w ws =
+    if bytes_eq w (codes "load") then load_line ws
+    else if bytes_eq w (codes "store") then store_line ws
+    else if bytes_eq w (codes "put") then put_line ws
+    else if bytes_eq w (codes "move") then move_line ws
+    else if bytes_eq w (codes "clear") then clear_line ws
+    else marking_line w ws
+
+-- those that make an object, and all the above
+unfoldable pub making_line : List ℕ → List (List ℕ) → Option Command
+making_line w ws =
+    if bytes_eq w (codes "new") then new_line ws
+    else if bytes_eq w (codes "newarray") then newarray_line ws
+    else if bytes_eq w (codes "newprim") then newprim_line ws
+    else access_line w ws
 
 unfoldable pub line_after : List ℕ → List (List ℕ) → Option Command
 line_after w ws =
     if bytes_eq w (codes "class") then class_line ws
     else if bytes_eq w (codes "array") then array_line ws
-    else plain_line w ws
+    else making_line w ws
 
 -- the command of these words
 abbrev pub command_of_words : List (List ℕ) → Command
@@ -209,9 +200,12 @@ command_of_words (w ∷ ws) = unwrap_or (line_after w ws) Bad
 abbrev pub without_cr : List ℕ → List ℕ
 without_cr l = if slice_index l (length l - 1) == 13 then take (length l - 1) l else l
 
--- a byte outside 0x20 to 0x7e makes a line bad
+-- no byte outside 0x20 to 0x7e
+abbrev pub is_plain : List ℕ → Bool
+is_plain t = list_all (λ b. nat_le 0x20 b && nat_le b 0x7e) t
+
 abbrev pub command_of_text : List ℕ → Command
-command_of_text t = if list_all (λ b. nat_le 0x20 b && nat_le b 0x7e) t then command_of_words (words_of t) else Bad
+command_of_text t = if is_plain t then command_of_words (words_of t) else Bad
 
 -- what a line without its LF asks for
 unfoldable pub command_of : List ℕ → Command

@@ -1,11 +1,14 @@
--- Which lines take memory for their reading.
-use Rattle.std.specs.Prelude.{◌≡◌, ℕ, List, Option, Some, None}
-use Rattle.heap_class.specs.declared.Kind.{Kind}
+-- How lines are read, and which take memory for it.
+use Rattle.std.specs.Prelude.{◌≡◌, ℕ, ◌+◌, ◌-◌, ◌≤◌, All, length, ◌==◌, nat_le, List, [], ◌∷◌, take, drop, codes, Option, Some, None, option_map, option_and_then, if◌then◌else◌}
+use Rattle.std.specs.List.{position_or_len}
+use Rattle.std.specs.Str.{bytes_eq}
+use Rattle.heap_class.specs.declared.Field.{Field}
 use Rattle.heap_step.specs.declared.Event.{Event}
 use Rattle.heap_step.specs.declared.Event.TheVariants.{Class, ArrayClass, New, NewArray, NewPrim, Load, Store, Put, Move, Clear, Snap, Mark, Drain, Finish, Sweep}
 use Rattle.heap_trail.specs.declared.Action.{Action}
 use Rattle.heap_trail.specs.declared.Action.TheVariants.{Step, Rewind}
-use Rattle.session_text.specs.Grammar.{next_number, next_kind}
+use Rattle.session_text.specs.Grammar.{words_of, is_plain, value_from, number_or_dash, field_of, at_end, making_line}
+use Rattle.session_text.specs.declared.marks.FieldMark.{FieldMark}
 use Rattle.session_text.specs.declared.command.Command.{Command}
 use Rattle.session_text.specs.declared.command.Command.TheVariants.{Blank, Bad, Ask, Dump, End}
 
@@ -42,12 +45,76 @@ abbrev pub MayTakeMemory : Option Command → Type 0
 MayTakeMemory None = ⊥
 MayTakeMemory (Some k) = TakesMemory k
 
--- the number that the first word is, and the words that are left then
-abbrev pub IsNextNumber : List (List ℕ) → List (List ℕ) → Option ℕ → Type 0
-IsNextNumber ws left None = next_number ws ≡ None
-IsNextNumber ws left (Some n) = next_number ws ≡ Some (n, left)
+-- ---- the first word of a text that begins with one
 
--- the kind that the first word names, and the words that are left then
-abbrev pub IsNextKind : List (List ℕ) → List (List ℕ) → Option Kind → Type 0
-IsNextKind ws left None = next_kind ws ≡ None
-IsNextKind ws left (Some k) = next_kind ws ≡ Some (k, left)
+abbrev pub word_size : List ℕ → ℕ
+word_size t = position_or_len (λ b. b == 32) t
+
+abbrev pub first_word : List ℕ → List ℕ
+first_word t = take (word_size t) t
+
+-- what was read of the first word, with its size
+abbrev pub with_size : {A : Type 0} → List ℕ → Option A → Option (A × ℕ)
+with_size t o = option_map (λ x. (x, word_size t)) o
+
+-- what is left begins with a word, which is the first one, and goes on behind the space that ends it
+abbrev pub IsFront : List (List ℕ) → List ℕ → List ℕ → Type 0
+IsFront ws left t = (t ≡ left) × (ws ≡ first_word t ∷ words_of (drop (word_size t + 1) t))
+
+-- what is left of a text
+abbrev pub IsRestOf : List ℕ → List ℕ → Type 0
+IsRestOf text rest = (length rest ≤ length text) × (rest ≡ drop (length text - length rest) text)
+
+-- the value of up to 20 digits
+abbrev pub digits_at : List ℕ → Option (ℕ × ℕ)
+digits_at t = with_size t (if nat_le (word_size t) 20 then value_from 0 (first_word t) else None)
+
+-- ---- words without a bad byte
+
+abbrev pub name_at : List ℕ → Option ℕ
+name_at t = if is_plain (first_word t) then Some (word_size t) else None
+
+abbrev pub plain_field : List ℕ → Option Field
+plain_field w = if is_plain w then field_of w else None
+
+abbrev pub plain_fields : List (List ℕ) → Option (List Field)
+plain_fields [] = Some []
+plain_fields (w ∷ ws) = option_and_then (λ f. option_map (λ fs. f ∷ fs) (plain_fields ws)) (plain_field w)
+
+-- a field that stands in this text
+abbrev pub field_of_mark : List ℕ → FieldMark → Field
+field_of_mark text m = record { name = take m.size (drop m.start text); kind = m.kind }
+
+abbrev pub AreWithin : List ℕ → List FieldMark → Type 0
+AreWithin text marks = All (λ m. m.start + m.size ≤ length text) marks
+
+-- the name that the first word is, and the other words
+abbrev pub next_name : List (List ℕ) → Option (List ℕ × List (List ℕ))
+next_name [] = None
+next_name (w ∷ ws) = if is_plain w then Some (w, ws) else None
+
+abbrev pub next_number_or_dash : List (List ℕ) → Option (Option ℕ × List (List ℕ))
+next_number_or_dash [] = None
+next_number_or_dash (w ∷ ws) = option_map (λ n. (n, ws)) (number_or_dash w)
+
+-- `class NAME SUPER FIELD ..` and `array NAME` without a bad byte
+abbrev pub plain_class : List (List ℕ) → Option Command
+plain_class ws =
+    option_and_then (λ name. option_and_then (λ sup. option_map (λ fs. Ask (Step (Class name.0 sup.0 fs))) (plain_fields sup.1)) (next_number_or_dash name.1)) (next_name ws)
+
+abbrev pub plain_array : List (List ℕ) → Option Command
+plain_array ws = option_and_then (λ name. at_end (Ask (Step (ArrayClass name.0))) name.1) (next_name ws)
+
+-- a line without a bad byte
+unfoldable pub read_line : List ℕ → List (List ℕ) → Option Command
+read_line w ws =
+    if bytes_eq w (codes "class") then plain_class ws
+    else if bytes_eq w (codes "array") then plain_array ws
+    else making_line w ws
+
+-- ---- the words after the first
+
+-- what was read of the first word, or nothing, and the words that are left then
+abbrev pub IsNext : {A : Type 0} → Option (A × List (List ℕ)) → List (List ℕ) → Option A → Type 0
+IsNext o left None = o ≡ None
+IsNext o left (Some x) = o ≡ Some (x, left)

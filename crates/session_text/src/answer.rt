@@ -1,5 +1,5 @@
 //! Lines and their answers.
-ghost use Rattle.std.specs.Prelude.{◌≡◌, []};
+ghost use Rattle.std.specs.Prelude.{◌≡◌, ◌≤◌, length, []};
 ghost use Rattle.session_text.specs.Answers.{Answers, Begins};
 ghost use Rattle.session_text.specs.Endings.{step_of};
 ghost use Rattle.session_text.specs.Grammar.{command_of};
@@ -9,6 +9,7 @@ use crate::buffer::Buffer;
 use crate::command::{Command, command_of};
 use crate::commands::Commands;
 use crate::dump::write_dump;
+use crate::marks::FieldMarks;
 use crate::page::Page;
 use crate::write::{write_all, write_reply};
 use dump_pump::Outlet;
@@ -33,17 +34,19 @@ fn next_unless(written: bool) -> Step
 /// Answers one line.
 fn answer_line<O: Outlet, C: Commands>(
     alloc: Global,
+    marks: &mut FieldMarks,
     line: &[u8],
     time: u64,
     page: &mut Page,
     writer: &mut O,
     commands: &mut C,
 ) -> Step
-    requires { page.old ≡ [] }
+    requires page { page.old ≡ [] }
+    requires line { length line.now ≤ 4096 }
     ensures empty { page.new ≡ [] }
     ensures step { IsStep (Answers C.acts C.gives time) (Begins C.acts C.gives time) (command_of line.now) commands.old (O.seen writer.old) commands.new (O.seen writer.new) result }
 {
-    match command_of(alloc, line) {
+    match command_of(alloc, marks, line) {
         Err(_) => next_unless(write_reply(page, writer, Reply::Refused(Refusal::NoMemory))),
         Ok(Command::Blank) => Step::Next,
         Ok(Command::Bad) => next_unless(write_all(writer, b"bad command\n")),
@@ -59,6 +62,7 @@ fn answer_line<O: Outlet, C: Commands>(
 /// Answers all whole lines of a buffer.
 pub fn answer_lines<O: Outlet, C: Commands>(
     alloc: Global,
+    marks: &mut FieldMarks,
     time: u64,
     buffer: &mut Buffer,
     page: &mut Page,
@@ -70,7 +74,15 @@ pub fn answer_lines<O: Outlet, C: Commands>(
     ensures answered { IsAnswered (Answers C.acts C.gives time) (Begins C.acts C.gives time) buffer.old commands.old (O.seen writer.old) buffer.new commands.new (O.seen writer.new) result }
 {
     while let Some(n) = buffer.line_end() {
-        match answer_line(alloc, &buffer.as_slice()[..n], time, page, writer, commands) {
+        match answer_line(
+            alloc,
+            marks,
+            &buffer.as_slice()[..n],
+            time,
+            page,
+            writer,
+            commands,
+        ) {
             Step::Next => {}
             Step::Quit => return Step::Quit,
             Step::Fault => return Step::Fault,

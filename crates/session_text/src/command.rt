@@ -1,14 +1,14 @@
 //! What a line asks for.
-ghost use Rattle.std.specs.Prelude.{◌≡◌, ◌&&◌, ◌||◌, nat_le, codes, MatchResult};
+ghost use Rattle.std.specs.Prelude.{◌≡◌, ◌≤◌, length, option_map, MatchResult};
 ghost use Rattle.std.specs.Str.{bytes_eq};
-ghost use Rattle.std.specs.List.{list_all};
-ghost use Rattle.session_text.specs.Grammar.{words_of, number_or_dash, at_end, one_number, three_numbers, two_numbers, four_numbers, class_line, array_line, new_line, newarray_line, newprim_line, load_line, store_line, put_line, move_line, clear_line, step_line, sweep_line, rewind_line, dump_line, end_line, making_line, access_line, marking_line, session_line, plain_line, line_after, without_cr, command_of_text, command_of};
-ghost use Rattle.session_text.specs.Reads.{TakesMemory, MayTakeMemory, IsNextNumber, IsNextKind};
+ghost use Rattle.session_text.specs.Grammar.{words_of, next_number, next_kind, at_end, one_number, three_numbers, two_numbers, four_numbers, new_line, newarray_line, newprim_line, load_line, store_line, put_line, move_line, clear_line, step_line, sweep_line, rewind_line, dump_line, end_line, making_line, access_line, marking_line, session_line, without_cr, command_of_text, command_of};
+ghost use Rattle.session_text.specs.Reads.{TakesMemory, MayTakeMemory, IsNext, next_number_or_dash, next_name, plain_class, plain_array, read_line};
 
-use crate::fields::{are_fields, kind_of, read_fields};
-use crate::number::number;
+use crate::fields::{copied_all, kind_at, name_at, read_fields};
+use crate::marks::FieldMarks;
+use crate::number::{number_at, number_or_dash_at};
 use crate::words::Words;
-use heap_class::{ClassNo, Kind, Name};
+use heap_class::{Kind, Name};
 use heap_step::Event;
 use heap_trail::Action;
 use std::alloc::{AllocError, Global};
@@ -35,35 +35,50 @@ fn is_word(word: &[u8], name: &[u8]) -> bool
     word == name
 }
 
-/// A number, or None for `-`.
-fn number_or_dash(word: &[u8]) -> Option<Option<ClassNo>>
-    ensures { result ≡ number_or_dash word.now }
-{
-    if is_word(word, b"-") {
-        return Some(None);
-    }
-    Some(Some(number(word)?))
-}
-
 /// The number that the next word is.
 fn next_number(words: &mut Words) -> Option<u64>
-    ensures { IsNextNumber (words_of words.old.rest.now) (words_of words.new.rest.now) result }
+    ensures { IsNext (next_number (words_of words.old.rest.now)) (words_of words.new.rest.now) result }
 {
-    number(words.next()?)
+    let (value, size) = number_at(words.front()?)?;
+    words.pass(size);
+    Some(value)
+}
+
+/// The number that the next word is, or None where it is `-`.
+fn next_number_or_dash(words: &mut Words) -> Option<Option<u64>>
+    ensures next { IsNext (next_number_or_dash (words_of words.old.rest.now)) (words_of words.new.rest.now) result }
+    ensures shorter { length words.new.rest.now ≤ length words.old.rest.now }
+{
+    let (value, size) = number_or_dash_at(words.front()?)?;
+    words.pass(size);
+    Some(value)
 }
 
 /// The kind that the next word names.
 fn next_kind(words: &mut Words) -> Option<Kind>
-    ensures { IsNextKind (words_of words.old.rest.now) (words_of words.new.rest.now) result }
+    ensures { IsNext (next_kind (words_of words.old.rest.now)) (words_of words.new.rest.now) result }
 {
-    kind_of(words.next()?)
+    let (kind, size) = kind_at(words.front()?)?;
+    words.pass(size);
+    Some(kind)
+}
+
+/// The next word, where none of its bytes is bad.
+fn next_name<'a>(words: &mut Words<'a>) -> Option<&'a [u8]>
+    ensures next { IsNext (next_name (words_of words.old.rest.now)) (words_of words.new.rest.now) (option_map (λ w. w.now) result) }
+    ensures shorter { length words.new.rest.now ≤ length words.old.rest.now }
+{
+    let text = words.front()?;
+    let size = name_at(text)?;
+    words.pass(size);
+    Some(&text[..size])
 }
 
 /// A value, where no word is left.
 fn at_end<T: Drop>(value: T, mut words: Words) -> Option<T>
     ensures { result ≡ at_end value (words_of words.entry.rest.now) }
 {
-    if words.next().is_some() {
+    if words.front().is_some() {
         return None;
     }
     Some(value)
@@ -108,34 +123,37 @@ fn four_numbers(mut words: Words) -> Option<(u64, u64, u64, u64)>
 }
 
 /// `class NAME SUPER FIELD ..`. No memory is taken where it isn't one.
-fn class_line(alloc: Global, mut words: Words) -> Result<Option<Command>, AllocError>
-    ensures { MatchResult result (λ c. c ≡ class_line (words_of words.entry.rest.now)) (λ _. MayTakeMemory (class_line (words_of words.entry.rest.now))) }
+fn class_line(
+    alloc: Global,
+    marks: &mut FieldMarks,
+    mut words: Words,
+) -> Result<Option<Command>, AllocError>
+    requires { length words.rest.now ≤ 4096 }
+    ensures { MatchResult result (λ c. c ≡ plain_class (words_of words.entry.rest.now)) (λ _. MayTakeMemory (plain_class (words_of words.entry.rest.now))) }
 {
-    let Some(name) = words.next() else {
+    let Some(name) = next_name(&mut words) else {
         return Ok(None);
     };
-    let Some(sup) = words.next() else {
+    let Some(sup) = next_number_or_dash(&mut words) else {
         return Ok(None);
     };
-    let Some(sup) = number_or_dash(sup) else {
-        return Ok(None);
-    };
-    if !are_fields(words) {
+    let text = words.rest();
+    if !read_fields(words, marks) {
         return Ok(None);
     }
     let name = Name::new(alloc, name)?;
-    let fields = read_fields(alloc, words)?;
+    let fields = copied_all(alloc, text, marks.as_slice())?;
     Ok(Some(Command::Ask(Action::Step(Event::Class { name, sup, fields }))))
 }
 
 /// `array NAME`. No memory is taken where it isn't one.
 fn array_line(alloc: Global, mut words: Words) -> Result<Option<Command>, AllocError>
-    ensures { MatchResult result (λ c. c ≡ array_line (words_of words.entry.rest.now)) (λ _. MayTakeMemory (array_line (words_of words.entry.rest.now))) }
+    ensures { MatchResult result (λ c. c ≡ plain_array (words_of words.entry.rest.now)) (λ _. MayTakeMemory (plain_array (words_of words.entry.rest.now))) }
 {
-    let Some(name) = words.next() else {
+    let Some(name) = next_name(&mut words) else {
         return Ok(None);
     };
-    if words.next().is_some() {
+    if words.front().is_some() {
         return Ok(None);
     }
     let name = Name::new(alloc, name)?;
@@ -254,7 +272,7 @@ fn rewind_line(words: Words) -> Option<Command>
 fn dump_line(mut words: Words) -> Option<Command>
     ensures { result ≡ dump_line (words_of words.entry.rest.now) }
 {
-    let word = words.next()?;
+    let word = words.next_word()?;
     if !is_word(word, b"-") {
         return None;
     }
@@ -268,7 +286,7 @@ fn end_line(words: Words) -> Option<Command>
     at_end(Command::End, words)
 }
 
-/// The command of a first word that makes an object, and of the words after it.
+/// The command of a first word that makes an object, or of one of `access_line`, and of the words after it.
 #[tactic(auto, unfolding(crate::specs::Grammar::making_line))]
 fn making_line(word: &[u8], words: Words) -> Option<Command>
     ensures { result ≡ making_line word.now (words_of words.entry.rest.now) }
@@ -282,10 +300,10 @@ fn making_line(word: &[u8], words: Words) -> Option<Command>
     if is_word(word, b"newprim") {
         return newprim_line(words);
     }
-    None
+    access_line(word, words)
 }
 
-/// The command of a first word that reads or writes a slot or a register, and of the words after it.
+/// The command of a first word that reads or writes a slot or a register, or of one of `marking_line`, and of the words after it.
 #[tactic(auto, unfolding(crate::specs::Grammar::access_line))]
 fn access_line(word: &[u8], words: Words) -> Option<Command>
     ensures { result ≡ access_line word.now (words_of words.entry.rest.now) }
@@ -305,10 +323,10 @@ fn access_line(word: &[u8], words: Words) -> Option<Command>
     if is_word(word, b"clear") {
         return clear_line(words);
     }
-    None
+    marking_line(word, words)
 }
 
-/// The command of a first word that marks or sweeps, and of the words after it.
+/// The command of a first word that marks or sweeps, or of one of `session_line`, and of the words after it.
 #[tactic(auto, unfolding(crate::specs::Grammar::marking_line))]
 fn marking_line(word: &[u8], words: Words) -> Option<Command>
     ensures { result ≡ marking_line word.now (words_of words.entry.rest.now) }
@@ -328,7 +346,7 @@ fn marking_line(word: &[u8], words: Words) -> Option<Command>
     if is_word(word, b"sweep") {
         return sweep_line(words);
     }
-    None
+    session_line(word, words)
 }
 
 /// The command of a first word that asks the machine or the session for something, and of the words after it.
@@ -348,34 +366,24 @@ fn session_line(word: &[u8], words: Words) -> Option<Command>
     None
 }
 
-/// The command of a first word whose line takes no memory for its reading, and of the words after it.
-fn plain_line(word: &[u8], words: Words) -> Option<Command>
-    ensures { result ≡ plain_line word.now (words_of words.entry.rest.now) }
-{
-    if let Some(command) = making_line(word, words) {
-        return Some(command);
-    }
-    if let Some(command) = access_line(word, words) {
-        return Some(command);
-    }
-    if let Some(command) = marking_line(word, words) {
-        return Some(command);
-    }
-    session_line(word, words)
-}
-
 /// The command of a first word and those after it.
-#[tactic(auto, unfolding(crate::specs::Grammar::line_after))]
-fn line_after(alloc: Global, word: &[u8], words: Words) -> Result<Option<Command>, AllocError>
-    ensures { MatchResult result (λ c. c ≡ line_after word.now (words_of words.entry.rest.now)) (λ _. MayTakeMemory (line_after word.now (words_of words.entry.rest.now))) }
+#[tactic(auto, unfolding(crate::specs::Reads::read_line))]
+fn line_after(
+    alloc: Global,
+    marks: &mut FieldMarks,
+    word: &[u8],
+    words: Words,
+) -> Result<Option<Command>, AllocError>
+    requires { length words.rest.now ≤ 4096 }
+    ensures { MatchResult result (λ c. c ≡ read_line word.now (words_of words.entry.rest.now)) (λ _. MayTakeMemory (read_line word.now (words_of words.entry.rest.now))) }
 {
     if is_word(word, b"class") {
-        return class_line(alloc, words);
+        return class_line(alloc, marks, words);
     }
     if is_word(word, b"array") {
         return array_line(alloc, words);
     }
-    Ok(plain_line(word, words))
+    Ok(making_line(word, words))
 }
 
 /// Drops a CR at the end.
@@ -390,37 +398,27 @@ fn without_cr(line: &[u8]) -> &[u8]
     }
 }
 
-fn is_plain(text: &[u8]) -> bool
-    ensures { result ≡ list_all (λ b. nat_le 0x20 b && nat_le b 0x7e) text.now }
-{
-    text.iter().all(|b| *b >= 0x20 && *b <= 0x7e)
-}
-
-/// Whether lines of this first word hold names. All other lines are made of keywords, numbers and kinds, of which none has a bad
-/// byte, so that they need no look for one.
-fn holds_names(word: &[u8]) -> bool
-    ensures { result ≡ (bytes_eq word.now (codes "class") || bytes_eq word.now (codes "array")) }
-{
-    is_word(word, b"class") || is_word(word, b"array")
-}
-
-fn command_of_text(alloc: Global, text: &[u8]) -> Result<Command, AllocError>
+fn command_of_text(
+    alloc: Global,
+    marks: &mut FieldMarks,
+    text: &[u8],
+) -> Result<Command, AllocError>
+    requires { length text.now ≤ 4096 }
     ensures { MatchResult result (λ c. c ≡ command_of_text text.now) (λ _. TakesMemory (command_of_text text.now)) }
 {
     let mut words = Words::new(text);
-    let Some(word) = words.next() else {
+    let Some(word) = words.next_word() else {
         return Ok(Command::Blank);
     };
-    if holds_names(word) && !is_plain(text) {
-        return Ok(Command::Bad);
-    }
-    Ok(line_after(alloc, word, words)?.unwrap_or(Command::Bad))
+    Ok(line_after(alloc, marks, word, words)?.unwrap_or(Command::Bad))
 }
 
-/// What a line without its LF asks for. Refused only where it defines a class.
+/// What a line asks for, its LF left off. It has at most 4,096 bytes, since `marks` has room for no more fields than those make:
+/// what is in it is dropped. Refused only where the line defines a class.
 #[tactic(auto, unfolding(crate::specs::Grammar::command_of))]
-pub fn command_of(alloc: Global, line: &[u8]) -> Result<Command, AllocError>
+pub fn command_of(alloc: Global, marks: &mut FieldMarks, line: &[u8]) -> Result<Command, AllocError>
+    requires { length line.now ≤ 4096 }
     ensures { MatchResult result (λ c. c ≡ command_of line.now) (λ _. TakesMemory (command_of line.now)) }
 {
-    command_of_text(alloc, without_cr(line))
+    command_of_text(alloc, marks, without_cr(line))
 }

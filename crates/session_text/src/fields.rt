@@ -1,9 +1,12 @@
-//! Fields, as a line names them.
-ghost use Rattle.std.specs.Prelude.{◌≡◌, ◌==◌, ◌<◌, Some, IsSome, IfOk, IfSome, is_some, option_map, length};
-ghost use Rattle.std.specs.List.{position};
-ghost use Rattle.session_text.specs.Grammar.{words_of, kind_of, field_of, fields_of};
+//! Names and fields, as a line gives them.
+ghost use Rattle.std.specs.Prelude.{◌≡◌, ◌==◌, ◌+◌, ◌<◌, ◌≤◌, ◌||◌, not, Some, None, take, IfOk, IfSome, MatchBool, option_map, map, length};
+ghost use Rattle.std.specs.Char.{is_ascii_graphic};
+ghost use Rattle.std.specs.List.{position, position_or_len};
+ghost use Rattle.session_text.specs.Grammar.{words_of, kind_of};
+ghost use Rattle.session_text.specs.Reads.{first_word, with_size, name_at, plain_field, plain_fields, field_of_mark, AreWithin};
 
-use crate::words::Words;
+use crate::marks::{FieldMark, FieldMarks};
+use crate::words::{SPACE, Words, word_size};
 use heap_class::{Field, Fields, Kind, Name};
 use std::alloc::{AllocError, Global};
 
@@ -21,9 +24,17 @@ const KINDS: [Kind; 9] = [
     Kind::Long,
 ];
 
+/// How many bytes a field's name has, the field's kind, and how many bytes the whole word has.
+#[derive(Clone, Copy)]
+pub struct FieldSize {
+    pub name: usize,
+    pub kind: Kind,
+    pub whole: usize,
+}
+
 /// The kind of this name.
 #[tactic(auto, unfolding(crate::specs::Grammar::kind_of))]
-pub fn kind_of(word: &[u8]) -> Option<Kind>
+fn kind_of(word: &[u8]) -> Option<Kind>
     ensures { result ≡ kind_of word.now }
 {
     for kind in KINDS {
@@ -34,56 +45,113 @@ pub fn kind_of(word: &[u8]) -> Option<Kind>
     None
 }
 
-/// Where the first colon stands.
-fn first_colon(word: &[u8]) -> Option<usize>
-    ensures value { result ≡ position (λ b. b == 58) word.now }
-    ensures within { IfSome result (λ n. n < length word.now) }
+/// The kind that the text's first word names, and the bytes of that word.
+pub fn kind_at(text: &[u8]) -> Option<(Kind, usize)>
+    ensures value { result ≡ with_size text.now (kind_of (first_word text.now)) }
+    ensures within { IfSome result (λ r. r.1 ≤ length text.now) }
+    ensures long { IfSome result (λ r. 3 ≤ r.1) }
 {
-    word.iter().position(|b| *b == COLON)
+    let size = word_size(text);
+    let kind = kind_of(&text[..size])?;
+    Some((kind, size))
 }
 
-/// The name and the kind of a field NAME:KIND with one colon: no kind's word has one.
-fn field_of(word: &[u8]) -> Option<(&[u8], Kind)>
-    ensures { field_of word.now ≡ option_map (λ f. record { name = f.0.now; kind = f.1 }) result }
+/// Where the first byte stands that no word of a good line has.
+fn first_bad(text: &[u8]) -> Option<usize>
+    ensures { result ≡ position (λ b. not (is_ascii_graphic b)) text.now }
 {
-    let colon = first_colon(word)?;
-    let kind = kind_of(&word[colon + 1..])?;
-    Some((&word[..colon], kind))
+    text.iter().position(|b| !b.is_ascii_graphic())
 }
 
-/// Whether each word is a field.
-#[tactic(auto, using(crate::proofs::Fielded::fields_step, crate::proofs::Fielded::fields_stop))]
-pub fn are_fields(words: Words) -> bool
-    ensures { result ≡ is_some (fields_of (words_of words.entry.rest.now)) }
+/// Where the good bytes end that the text begins with.
+fn name_end(text: &[u8]) -> usize
+    ensures value { result ≡ position_or_len (λ b. not (is_ascii_graphic b)) text.now }
+    ensures within { result ≤ length text.now }
 {
-    for word in words {
-        if field_of(word).is_none() {
+    first_bad(text).unwrap_or(text.len())
+}
+
+/// The bytes of the text's first word. None where one of them is bad.
+pub fn name_at(text: &[u8]) -> Option<usize>
+    ensures value { result ≡ name_at text.now }
+    ensures within { IfSome result (λ n. n ≤ length text.now) }
+{
+    let size = name_end(text);
+    if size < text.len() && text[size] != SPACE {
+        return None;
+    }
+    Some(size)
+}
+
+/// Where the first byte stands that no field's name has.
+fn colon_or_end(text: &[u8]) -> Option<usize>
+    ensures value { result ≡ position (λ b. b == 58 || not (is_ascii_graphic b)) text.now }
+    ensures within { IfSome result (λ n. n < length text.now) }
+{
+    text.iter()
+        .position(|b| *b == COLON || !b.is_ascii_graphic())
+}
+
+/// The field NAME:KIND that the text's first word is. None where one of its bytes is bad. The name ends at the first colon: no
+/// kind's word has one.
+pub fn field_at(text: &[u8]) -> Option<FieldSize>
+    ensures value { option_map (λ f. (record { name = take f.name text.now; kind = f.kind }, f.whole)) result ≡ with_size text.now (plain_field (first_word text.now)) }
+    ensures within { IfSome result (λ f. f.whole ≤ length text.now) }
+    ensures long { IfSome result (λ f. f.name + 4 ≤ f.whole) }
+{
+    let colon = colon_or_end(text)?;
+    if text[colon] != COLON {
+        return None;
+    }
+    let (kind, size) = kind_at(&text[colon + 1..])?;
+    Some(FieldSize {
+        name: colon,
+        kind,
+        whole: colon + 1 + size,
+    })
+}
+
+/// Reads all words that are left as fields, which stand in what isn't read yet. False where one of them is none.
+pub fn read_fields(mut words: Words, marks: &mut FieldMarks) -> bool
+    requires { length words.rest.now ≤ 4096 }
+    ensures { MatchBool result ((plain_fields (words_of words.entry.rest.now) ≡ Some (map (field_of_mark words.entry.rest.now) marks.new)) × AreWithin words.entry.rest.now marks.new) (plain_fields (words_of words.entry.rest.now) ≡ None) }
+{
+    marks.clear();
+    let size = words.rest().len();
+    while let Some(rest) = words.front() {
+        let Some(field) = field_at(rest) else {
             return false;
-        }
+        };
+        marks.push(FieldMark {
+            start: size - rest.len(),
+            size: field.name,
+            kind: field.kind,
+        });
+        words.pass(field.whole);
     }
     true
 }
 
-fn copied(alloc: Global, name: &[u8], kind: Kind) -> Result<Field, AllocError>
-    ensures { IfOk result (λ f. f ≡ record { name = name.now; kind = kind }) }
+/// A copy of a field of this text.
+fn copied(alloc: Global, text: &[u8], mark: &FieldMark) -> Result<Field, AllocError>
+    requires { mark.now.start + mark.now.size ≤ length text.now }
+    ensures { IfOk result (λ f. f ≡ field_of_mark text.now mark.now) }
 {
+    let name = &text[mark.start..mark.start + mark.size];
     Ok(Field {
         name: Name::new(alloc, name)?,
-        kind,
+        kind: mark.kind,
     })
 }
 
-/// The fields that the words are, each of which is one.
-#[tactic(auto, using(crate::proofs::Fielded::fields_more, crate::proofs::Fielded::fields_stop, crate::proofs::Fielded::fields_step))]
-pub fn read_fields(alloc: Global, words: Words) -> Result<Fields, AllocError>
-    requires { IsSome (fields_of (words_of words.rest.now)) }
-    ensures { IfOk result (λ fs. fields_of (words_of words.entry.rest.now) ≡ Some fs) }
+/// Copies of the fields of this text.
+pub fn copied_all(alloc: Global, text: &[u8], marks: &[FieldMark]) -> Result<Fields, AllocError>
+    requires { AreWithin text.now marks.now }
+    ensures { IfOk result (λ fs. fs ≡ map (field_of_mark text.now) marks.now) }
 {
-    let mut fields = Vec::new(alloc);
-    for word in words {
-        if let Some((name, kind)) = field_of(word) {
-            fields.push(copied(alloc, name, kind)?)?;
-        }
+    let mut copies = Vec::with_capacity(alloc, marks.len())?;
+    for mark in marks {
+        copies.push(copied(alloc, text, mark)?)?;
     }
-    Ok(Fields::from_vec(fields))
+    Ok(Fields::from_vec(copies))
 }

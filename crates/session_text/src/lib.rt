@@ -11,6 +11,7 @@ pub mod commands;
 pub mod dump;
 pub mod fields;
 pub mod inlet;
+pub mod marks;
 pub mod number;
 pub mod page;
 pub mod read_inlet;
@@ -50,7 +51,7 @@ pub enum Ended {
     TooManyReads,
     /// By a write that failed or took nothing. Nothing was read after it.
     WriteFault,
-    /// No memory for the session's two buffers, a page and a line. Nothing was read.
+    /// No memory for the session's page, its line or the line's fields. Nothing was read.
     NoMemory,
 }
 

@@ -9,6 +9,7 @@ use crate::answer::{Step, answer_lines};
 use crate::buffer::Buffer;
 use crate::commands::{Commands, Local};
 use crate::inlet::{Inlet, Take};
+use crate::marks::FieldMarks;
 use crate::page::Page;
 use crate::write::write_all;
 use crate::{Ended, LINE_LIMIT, READ_LIMIT};
@@ -28,6 +29,7 @@ fn end_with<O: Outlet>(writer: &mut O, ended: Ended, line: &[u8]) -> Ended
 
 fn talk<I: Inlet, O: Outlet, C: Commands>(
     alloc: Global,
+    marks: &mut FieldMarks,
     time: u64,
     buffer: &mut Buffer,
     page: &mut Page,
@@ -41,7 +43,7 @@ fn talk<I: Inlet, O: Outlet, C: Commands>(
 {
     let mut reads: u64 = 0;
     loop {
-        match answer_lines(alloc, time, buffer, page, writer, commands) {
+        match answer_lines(alloc, marks, time, buffer, page, writer, commands) {
             Step::Next => {}
             Step::Quit => return Ended::Quit,
             Step::Fault => return Ended::WriteFault,
@@ -80,10 +82,11 @@ pub fn serve<I: Inlet, O: Outlet, C: Commands>(
     ensures ends { Ends (I.seen reader.old) (I.seen reader.new) (O.seen writer.old) (O.seen writer.new) result }
     ensures text { Serves (Answers C.acts C.gives time) (Begins C.acts C.gives time) (I.seen reader.old) (I.seen reader.new) commands.old (O.seen writer.old) commands.new (O.seen writer.new) result }
 {
-    match (Buffer::new(alloc), Page::new(alloc)) {
-        (Ok(mut buffer), Ok(mut page)) => {
+    match (Buffer::new(alloc), Page::new(alloc), FieldMarks::new(alloc)) {
+        (Ok(mut buffer), Ok(mut page), Ok(mut marks)) => {
             talk(
                 alloc,
+                &mut marks,
                 time,
                 &mut buffer,
                 &mut page,

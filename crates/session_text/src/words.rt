@@ -1,24 +1,17 @@
 //! The words of a line.
-ghost use Rattle.std.specs.Prelude.{◌≡◌, ◌<◌, ◌≤◌, ◌==◌, not, length, IfSome};
-ghost use Rattle.std.specs.List.{position, position_or_len};
-ghost use Rattle.std.specs.Iterator.{YieldsFirstRef, item_count};
+ghost use Rattle.std.specs.Prelude.{◌≡◌, ◌+◌, ◌<◌, ◌≤◌, ◌==◌, not, [], ◌∷◌, length, drop, IfSome, MatchOption};
+ghost use Rattle.std.specs.List.{position};
 ghost use Rattle.session_text.specs.Grammar.{words_of};
+ghost use Rattle.session_text.specs.Reads.{word_size, IsFront, IsRestOf};
 
-const SPACE: u8 = b' ';
+/// What stands between words.
+pub const SPACE: u8 = b' ';
 
-/// The words of a text: its longest runs of bytes other than space.
-#[derive(Clone, Copy)]
+/// What isn't read yet of a text's words, which are its longest runs of bytes other than space. It goes on only and has no copy:
+/// what was passed can't be read again.
+#[derive(Drop)]
 pub struct Words<'a> {
     rest: &'a [u8],
-}
-
-impl<'a> Words<'a> {
-    /// All words of a text.
-    pub fn new(text: &'a [u8]) -> Words<'a>
-        ensures { result.rest.now ≡ text.now }
-    {
-        Words { rest: text }
-    }
 }
 
 /// Where the first word begins.
@@ -36,26 +29,57 @@ fn first_space(text: &[u8]) -> Option<usize>
     text.iter().position(|b| *b == SPACE)
 }
 
-/// Where a word ends that begins here.
-fn word_end(text: &[u8]) -> usize
-    ensures value { result ≡ position_or_len (λ b. b == 32) text.now }
+/// The bytes of the word that the text begins with.
+pub fn word_size(text: &[u8]) -> usize
+    ensures value { result ≡ word_size text.now }
     ensures within { result ≤ length text.now }
 {
     first_space(text).unwrap_or(text.len())
 }
 
-impl<'a> Iterator for Words<'a> {
-    type Item = &'a [u8];
+impl<'a> Words<'a> {
+    /// All words of a text.
+    pub fn new(text: &'a [u8]) -> Words<'a>
+        ensures { result.rest.now ≡ text.now }
+    {
+        Words { rest: text }
+    }
 
-    ghost next_gives = { YieldsFirstRef (λ s. words_of s.rest.now) };
+    /// What isn't read yet.
+    pub fn rest(&self) -> &'a [u8]
+        ensures { result.now ≡ self.now.rest.now }
+    {
+        self.rest
+    }
 
-    ghost remaining = { item_count (λ s. words_of s.rest.now) };
-
-    fn next(&mut self) -> Option<&'a [u8]> {
+    /// What isn't read yet, from its first word on, if it has one. Only spaces are passed.
+    pub fn front(&mut self) -> Option<&'a [u8]>
+        ensures front { MatchOption result (words_of self.old.rest.now ≡ []) (λ t. IsFront (words_of self.old.rest.now) self.new.rest.now t.now) }
+        ensures rest { IsRestOf self.old.rest.now self.new.rest.now }
+    {
         let start = word_start(self.rest)?;
-        let text = &self.rest[start..];
-        let end = word_end(text);
-        self.rest = &text[end..];
-        Some(&text[..end])
+        self.rest = &self.rest[start..];
+        Some(self.rest)
+    }
+
+    /// Passes so many bytes and the one behind them, if there is one. After a word that one is a space.
+    pub fn pass(&mut self, size: usize)
+        requires { size ≤ length self.old.rest.now }
+        ensures next { self.new.rest.now ≡ drop (size + 1) self.old.rest.now }
+        ensures rest { IsRestOf self.old.rest.now self.new.rest.now }
+        ensures shorter { length self.new.rest.now + size ≤ length self.old.rest.now }
+    {
+        self.rest = self.rest.get(size + 1..).unwrap_or(&[]);
+    }
+
+    /// The next word.
+    pub fn next_word(&mut self) -> Option<&'a [u8]>
+        ensures next { MatchOption result (words_of self.old.rest.now ≡ []) (λ w. words_of self.old.rest.now ≡ w.now ∷ words_of self.new.rest.now) }
+        ensures shorter { length self.new.rest.now ≤ length self.old.rest.now }
+    {
+        let text = self.front()?;
+        let size = word_size(text);
+        self.pass(size);
+        Some(&text[..size])
     }
 }

@@ -1,11 +1,15 @@
-use Rattle.std.proofs.Common.{◌≡◌, ◌++◌, is_some, true}
+use Rattle.std.proofs.Common.{◌≡◌, ◌+◌, ◌*◌, ◌≤◌, ◌++◌, length, map}
 use Rattle.std.specs.Prelude.{option_map}
-use Rattle.session_text.specs.Grammar.{words_of, fields_of}
+use Rattle.session_text.specs.Grammar.{words_of}
+use Rattle.session_text.specs.Reads.{plain_fields, field_of_mark, AreWithin, IsRestOf}
 use Rattle.session_text.proofs.fields.read_fields.Given as goal
 
-abbrev pub invariant-loop-word : goal.invariant-loop-word
-invariant-loop-word l =
-    (goal.iterator-loop-word).can_next l.word-iterator ×
-    (goal.iterator-loop-word).is_finite l.word-iterator ×
-    (is_some (fields_of (words_of l.word-iterator.rest.now)) ≡ true) ×
-    (fields_of (words_of l.fn.words.rest.now) ≡ option_map (λ fs. l.fields.items ++ fs) (fields_of (words_of l.word-iterator.rest.now)))
+abbrev pub invariant-loop-rest : goal.invariant-loop-rest
+invariant-loop-rest l =
+    IsRestOf l.fn.words.rest.now l.words.rest.now
+    × (4 * length l.marks + length l.words.rest.now ≤ 4096)
+    × AreWithin l.fn.words.rest.now l.marks
+    × (plain_fields (words_of l.fn.words.rest.now) ≡ option_map (λ fs. map (field_of_mark l.fn.words.rest.now) l.marks ++ fs) (plain_fields (words_of l.words.rest.now)))
+
+abbrev pub decreases-loop-rest : goal.decreases-loop-rest
+decreases-loop-rest l = length l.words.rest.now

@@ -5,6 +5,8 @@ KIND `first` mixes `new`, `put` and `rewind` over one class of two fields.
 KIND `pairs` makes an object in a region that has room, and takes it back, again and again.
 KIND `last` does the same after it filled every region but the last with objects of that size.
 KIND `puts` writes the two fields of one object.
+KIND `fields` asks again and again for a class of 583 fields in a shuffled order, which is refused as too many; `fields_nowhere`
+asks for the same below a class that isn't there, so that the line is read and no name compared.
 KIND `mixed` makes an object or an array now and then, and else stores, loads, puts, moves and clears.
 KIND `mixed_full` is the same after 248 regions were filled by an array each.
 KIND `marking` fills every region but the last with one list, and then begins a cycle and, again and again, cuts the list
@@ -12,6 +14,7 @@ behind the marker, so that the barrier logs an unmarked object, drains, marks an
 KIND `cycles` fills every region but the last with nodes of two lists in turn, drops one of them, runs a whole cycle with a
 store, sweeps every region, which copies half of its objects, and makes the dropped list again, and so on."""
 import random
+import string
 import sys
 
 
@@ -134,8 +137,28 @@ def puts(count, rng):
         yield f"put 0 0 {rng.randrange(2)} {rng.randrange(1 << 32)}"
 
 
+def class_of_fields(sup, rng):
+    """A line for a class with as many fields of two letters as fit into 4,096 bytes."""
+    names = [first + second for first in string.ascii_lowercase for second in string.ascii_lowercase][:583]
+    rng.shuffle(names)
+    return " ".join(["class", "A", sup] + [f"{name}:int" for name in names])
+
+
+def fields(count, rng):
+    line = class_of_fields("-", rng)
+    for _ in range(count):
+        yield line
+
+
+def fields_nowhere(count, rng):
+    line = class_of_fields("9", rng)
+    for _ in range(count):
+        yield line
+
+
 def main():
-    kinds = {each.__name__: each for each in (first, pairs, last, mixed, mixed_full, marking, cycles, puts)}
+    each_kind = (first, pairs, last, mixed, mixed_full, marking, cycles, puts, fields, fields_nowhere)
+    kinds = {kind.__name__: kind for kind in each_kind}
     kind, count = sys.argv[1], int(sys.argv[2])
     rng = random.Random(int(sys.argv[3]) if len(sys.argv) > 3 else 1)
     print("\n".join(kinds[kind](count, rng)))

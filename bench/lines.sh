@@ -41,3 +41,5 @@ measure mixed_full 1000000 256
 measure marking 1000000 256
 measure cycles 1000000 256
 measure puts 1000000 16
+measure fields 10000 16
+measure fields_nowhere 10000 16

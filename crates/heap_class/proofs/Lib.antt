@@ -2,8 +2,10 @@ pub mod Refused
 pub mod Lists
 pub mod Slots
 pub mod FirstUses
+pub mod Distinct
 pub mod Tables
 pub mod Readers
 pub mod Places
+pub mod Named
 pub mod Accepted
 pub mod Defined

@@ -1,12 +1,12 @@
 -- What an entry says of the class that it stands for.
-use Rattle.std.proofs.Common.{◌≡◌, ℕ, zero, suc, ◌+◌, ◌<◌, ◌≤◌, Bool, true, false, not, List, [], ◌∷◌, ◌++◌, length, map, get_or, refl, sym, ap, subst, ◌∙◌, arith, length-append, Option, Some, None, zero-add}
+use Rattle.std.proofs.Common.{◌≡◌, ℕ, zero, suc, ◌+◌, ◌<◌, ◌≤◌, true, false, not, List, [], ◌∷◌, ◌++◌, length, map, get_or, refl, sym, ap, subst, ◌∙◌, arith, length-append, Option, Some, None, zero-add}
 use Rattle.std.specs.Prelude.{slice_get, unwrap_or, IfSome}
 use Rattle.std.specs.List.{IsDistinct, position_or_len}
 use Rattle.std.specs.Str.{bytes_eq}
 use Rattle.std.specs.Option.{option_map_or, option_map}
 use Rattle.std.proofs.lemmas.Bool.{not-false}
 use Rattle.std.proofs.lemmas.List.{length-map}
-use Rattle.std.proofs.lemmas.Option.{slice_get-map, slice_get_read, slice_get_past, get_or_from_slice_get}
+use Rattle.std.proofs.lemmas.Option.{slice_get-map, slice_get_read, slice_get_past}
 use Rattle.heap_class.specs.declared.Entry.{Entry}
 use Rattle.heap_class.specs.declared.OwnField.{OwnField}
 use Rattle.heap_class.specs.Classes.{Class, name_table, name_id, name_of, fields_of, sup_of, slots_of, slot_table_after, is_instance_class, is_array_class, class_refusal, IsClassTable}
@@ -100,12 +100,6 @@ module _ (names : List (List ℕ)) (es : List Entry) (t : IsTable names es) (v :
 
     pub roomy_at : IsRoomy e
     roomy_at = subst IsRoomy (sym is) (t.roomy k e (omega (arith, as_many)))
-
-    -- whether its name is another
-    pub named_at : (n x y : List ℕ) (r : Bool) → r ≡ bytes_eq x y → x ≡ get_or names e.name [] → y ≡ n → bytes_eq (get_or v k (class_of names e)).name n ≡ r
-    named_at n x y r said left right =
-        (λ i. bytes_eq (get_or_from_slice_get v k (class_of names e) (class_of names e) class_at i).name (sym right i))
-        ∙ (λ i. bytes_eq (sym left i) y) ∙ sym said
 
     -- an own field
     pub field_there : (i : ℕ) → i < length (fields_of v k) → i < length e.fields.items

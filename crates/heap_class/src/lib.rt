@@ -1,7 +1,7 @@
 //! Kinds, classes and their slots, names, references to objects, and refusals.
 #![tactic(auto)]
 
-ghost use Rattle.std.specs.Prelude.{◌≡◌, ◌≢◌, ◌<◌, ◌≤◌, ◌+◌, ◌-◌, [], ◌∷◌, ◌++◌, ℕ, List, length, take, Some, None, IfOk, IfErr, IfSome, MatchResult, OnErr, OnOk, slice_get, slice_index, codes, true, nat_lt, Bool, not, ◌||◌, map, IsTrue};
+ghost use Rattle.std.specs.Prelude.{◌≡◌, ◌≢◌, ◌<◌, ◌≤◌, ◌==◌, ◌+◌, ◌-◌, [], ◌∷◌, ◌++◌, ℕ, List, length, take, Some, None, IfOk, IfErr, IfSome, MatchResult, OnErr, OnOk, slice_get, slice_index, codes, true, nat_lt, Bool, not, ◌||◌, map, IsTrue};
 ghost use Rattle.std.specs.Option.{option_map_or};
 ghost use Rattle.std.specs.List.{list_any};
 ghost use Rattle.std.specs.Str.{bytes_eq};
@@ -459,6 +459,13 @@ struct Entry {
     names_before: usize,
 }
 
+// Whether one of the classes has its name at the place.
+fn has_name_at(entries: &[Entry], place: usize) -> bool
+    ensures { result ≡ list_any (λ e. e.name == place) entries.now }
+{
+    entries.iter().any(|entry| entry.name == place)
+}
+
 /// The classes of a heap, in order of definition. Contracts see the list.
 #[derive(Drop)]
 pub struct Classes {
@@ -516,12 +523,10 @@ impl Classes {
     fn has_class(&self, name: &Name) -> bool
         ensures { result ≡ list_any (λ d. bytes_eq d.name name.now) self.now }
     {
-        for entry in &self.entries {
-            if name_in(&self.names, entry.name) == name.as_bytes() {
-                return true;
-            }
+        match self.names.get_index_of(name) {
+            Some(place) => has_name_at(self.entries.as_slice(), place),
+            None => false,
         }
-        false
     }
 
     // Whether a class has the name, or two of the fields share one.

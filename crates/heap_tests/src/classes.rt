@@ -148,3 +148,45 @@ fn fields_share_no_name(rt: HostRuntime) -> Result<(), Fail> {
     );
     Ok(())
 }
+
+const LETTERS: [u8; 26] = *b"abcdefghijklmnopqrstuvwxyz";
+
+// So many fields, each of another name of three letters, but that the last is named as the one at a place.
+fn many_fields(alloc: Global, count: usize, again: Option<usize>) -> Result<Fields, AllocError> {
+    let mut own = Vec::new(alloc);
+    for place in 0..count {
+        let named = match again {
+            Some(earlier) if place + 1 == count => earlier,
+            _ => place,
+        };
+        let name = [
+            LETTERS[named / 676 % 26],
+            LETTERS[named / 26 % 26],
+            LETTERS[named % 26],
+        ];
+        own.push(field(alloc, name.as_slice(), Kind::Int)?)?;
+    }
+    Ok(Fields::from_vec(own))
+}
+
+#[test]
+fn duplicate_told_among_a_thousand_fields(rt: HostRuntime) -> Result<(), Fail> {
+    let alloc = rt.alloc();
+    let asked = [
+        (64, Some(0), Refusal::DuplicateName),
+        (65, None, Refusal::FieldLimit),
+        (1024, None, Refusal::FieldLimit),
+        (1024, Some(0), Refusal::DuplicateName),
+        (1025, None, Refusal::FieldLimit),
+        (1025, Some(512), Refusal::DuplicateName),
+    ];
+    for (count, again, refusal) in asked {
+        let fields = many_fields(alloc, count, again)?;
+        let mut classes = Classes::new(alloc);
+        assert_eq!(rt;
+            define(&mut classes, alloc, b"Many", None, &fields),
+            Err(refusal)
+        );
+    }
+    Ok(())
+}

@@ -1,5 +1,5 @@
 -- The parts of a text as they are written.
-use Rattle.std.proofs.Common.{◌≡◌, ℕ, List, [], ◌∷◌, ◌++◌, map, refl, sym, ap, ap₂, ◌∙◌, append_assoc}
+use Rattle.std.proofs.Common.{◌≡◌, ℕ, List, [], ◌∷◌, ◌++◌, map, refl, ap, ap₂, ◌∙◌}
 use Rattle.std.specs.Prelude.{flat_map, filter, not, ◌==◌}
 use Rattle.std.specs.List.{concat, enumerate_from}
 use Rattle.std.proofs.lemmas.List.Folds.{concat-append}

@@ -1,12 +1,10 @@
 -- How long the parts of a text are.
-use Rattle.std.proofs.Common.{◌≡◌, ℕ, suc, ◌+◌, ◌*◌, ◌≤◌, List, [], ◌∷◌, ◌++◌, length, map, replicate, refl, sym, ap, ap₂, ◌∙◌, arith, length-append}
-use Rattle.std.specs.Prelude.{flat_map, sum_by, filter, not, ◌==◌, zip, All, count_by}
+use Rattle.std.proofs.Common.{◌≡◌, ℕ, suc, ◌+◌, ◌*◌, List, [], ◌∷◌, ◌++◌, length, refl, sym, ap, ap₂, ◌∙◌, arith, length-append}
+use Rattle.std.specs.Prelude.{flat_map, sum_by, filter, not, ◌==◌, zip, All}
 use Rattle.std.specs.Option.{option_map_or}
-use Rattle.std.specs.List.{concat, enumerate_from}
-use Rattle.std.proofs.lemmas.List.{length-replicate}
+use Rattle.std.specs.List.{enumerate_from}
 use Rattle.std.proofs.lemmas.List.FromFn.{length-enumerate_from}
 use Rattle.std.proofs.lemmas.List.Sums.{sum_by-cons, length-filter}
-use Rattle.byteorder.specs.Endian.{big_bytes}
 use Rattle.byteorder.specs.Numbers.{length-bytes_high_first}
 use Rattle.heap_class.specs.declared.IdSize.{IdSize}
 use Rattle.heap_class.specs.declared.Kind.{Kind}
@@ -18,7 +16,7 @@ use Rattle.heap_class.specs.Classes.{Class, slots_of, name_table, name_id, insta
 use Rattle.hprof_text.specs.Image.{Image, DumpedObject, IsKnown, IsDumpable}
 use Rattle.hprof_text.specs.Sizes.{names_size, opening_size, class_size, classes_size, dump_size, object_size, objects_size, roots_size, body_size, utf8_size}
 use Rattle.hprof_text.specs.Records.{opening_of, class_records_of}
-use Rattle.hprof_text.specs.Text.{id, u1, u4, record_of, header, utf8, load_class, trace, field_entry, class_dump, root_sticky_class, root_unknown, value_bytes, dump_of, object_dump, class_id, opening_records, class_records, object_records, register_roots, sub_records, heap_dump_body, dump_text}
+use Rattle.hprof_text.specs.Text.{id, u1, u4, record_of, header, utf8, load_class, trace, field_entry, class_dump, root_sticky_class, root_unknown, value_bytes, dump_of, object_dump, class_id, opening_records, heap_dump_body, dump_text}
 use Rattle.hprof_text.proofs.Joins.{body_parts_of}
 
 -- a record is 9 bytes longer than its body

@@ -1,6 +1,6 @@
 -- What a view tells of the object at a place.
-use Rattle.std.proofs.Common.{◌≡◌, ◌≤◌, ◌<◌, ℕ, ◌+◌, List, [], ◌∷◌, ◌++◌, length, get_or, refl, sym, ap, ap₂, ◌∙◌, subst, arith}
-use Rattle.std.specs.Prelude.{slice_get, Option, Some, None, IfSome, Contains, All, flat_map, filter, not, ◌==◌}
+use Rattle.std.proofs.Common.{◌≡◌, ◌≤◌, ◌<◌, ℕ, List, ◌++◌, length, get_or, sym, ap, ap₂, ◌∙◌, subst, arith}
+use Rattle.std.specs.Prelude.{slice_get, Option, Some, IfSome, Contains, flat_map, filter, not, ◌==◌}
 use Rattle.std.specs.List.{concat}
 use Rattle.std.proofs.lemmas.Option.{slice_get_within, slice_get-get_or, get_or_from_slice_get}
 use Rattle.heap_class.specs.declared.IdSize.{IdSize}
@@ -16,7 +16,7 @@ use Rattle.hprof_text.specs.Text.{dump_of, object_dump, root_unknown, register_r
 use Rattle.hprof_text.proofs.Joins.{roots_joined}
 use Rattle.hprof_text.proofs.Lengths.{body_length}
 use Rattle.hprof_text.proofs.Numbered.{first_piece_is}
-use Rattle.hprof_text.proofs.Loops.{some_item, item_got}
+use Rattle.hprof_text.proofs.Loops.{some_item}
 
 pub is_there : {X : Type 0} (xs : List X) (i : ℕ) (x : X) → slice_get xs i ≡ Some x → Contains xs x
 is_there xs i x e = (i, slice_get_within xs i x e, get_or_from_slice_get xs i x x e)

@@ -1,17 +1,14 @@
 -- Each record as it is written: its head, then its parts.
-use Rattle.std.proofs.Common.{◌≡◌, ℕ, zero, suc, ◌+◌, ◌*◌, ◌/◌, ◌%◌, ◌^◌, List, [], ◌∷◌, ◌++◌, length, refl, sym, ap, ap₂, ◌∙◌, arith, length-append, append_assoc}
-use Rattle.std.specs.Prelude.{flat_map, zip, codes}
+use Rattle.std.proofs.Common.{◌≡◌, ℕ, zero, suc, ◌+◌, ◌*◌, List, [], ◌∷◌, ◌++◌, length, refl, sym, ap, ap₂, ◌∙◌, arith, length-append, append_assoc}
+use Rattle.std.specs.Prelude.{flat_map, zip}
 use Rattle.std.specs.Option.{option_map_or}
-use Rattle.std.proofs.lemmas.List.{append-nil}
-use Rattle.byteorder.specs.Endian.{big_bytes}
 use Rattle.heap_class.specs.declared.IdSize.{IdSize}
 use Rattle.heap_class.specs.declared.Kind.{Kind}
-use Rattle.heap_class.specs.declared.ObjKind.{ObjKind}
-use Rattle.heap_class.specs.declared.ObjKind.TheVariants.{Instance, Array, Prim}
-use Rattle.heap_class.specs.Kinds.{id_bytes, width_of, type_code}
+use Rattle.heap_class.specs.declared.ObjKind.TheVariants.{Instance, Prim}
+use Rattle.heap_class.specs.Kinds.{id_bytes}
 use Rattle.heap_class.specs.Classes.{Class, slots_of, sup_of, fields_of, name_of, name_id, instance_size}
-use Rattle.hprof_text.specs.Records.{class_at, record_head, class_ids, class_counts, sticky_root}
-use Rattle.hprof_text.specs.Text.{u1, u2, u4, id, class_id, record_of, header, utf8, load_class, trace, field_entry, class_dump, root_sticky_class, root_unknown, value_bytes, dump_of}
+use Rattle.hprof_text.specs.Records.{class_at, record_head, class_ids, class_counts}
+use Rattle.hprof_text.specs.Text.{u1, u2, u4, id, class_id, record_of, load_class, field_entry, class_dump, value_bytes, dump_of}
 use Rattle.hprof_text.proofs.Lengths.{id_length, values_length}
 
 -- the bodies of two records

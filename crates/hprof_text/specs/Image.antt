@@ -3,7 +3,6 @@ use Rattle.std.specs.Prelude.{◌≡◌, ℕ, ◌+◌, ◌<◌, ◌≤◌, List,
 use Rattle.heap_class.specs.declared.ObjKind.{ObjKind}
 use Rattle.heap_class.specs.declared.ObjKind.TheVariants.{Instance, Array, Prim}
 use Rattle.heap_class.specs.declared.ObjRef.{ObjRef}
-use Rattle.heap_class.specs.declared.IdSize.{IdSize}
 use Rattle.heap_class.specs.Classes.{Class, IsClassTable, slots_of}
 use Rattle.heap_class.specs.Limits.{class_limit, array_limit}
 use Rattle.hprof_text.specs.declared.Cursor.{Cursor}

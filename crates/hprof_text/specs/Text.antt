@@ -1,8 +1,7 @@
 -- The text of a dump: HPROF, JAVA PROFILE 1.0.2, with identifiers of either size.
 use Rattle.std.specs.Prelude.{ℕ, ◌+◌, ◌*◌, ◌/◌, ◌%◌, ◌^◌, not, ◌==◌, List, ◌++◌, length, map, filter, flat_map, zip, codes}
 use Rattle.std.specs.Option.{option_map_or}
-use Rattle.std.specs.List.{concat, enumerate_from, position_or_len}
-use Rattle.std.specs.Str.{bytes_eq}
+use Rattle.std.specs.List.{concat, enumerate_from}
 use Rattle.byteorder.specs.Endian.{big_bytes}
 use Rattle.heap_class.specs.declared.IdSize.{IdSize}
 use Rattle.heap_class.specs.declared.Kind.{Kind}

@@ -101,6 +101,71 @@ fn most_fields(rt: HostRuntime) -> Result<(), Fail> {
     Ok(())
 }
 
+const LETTERS: [u8; 26] = *b"abcdefghijklmnopqrstuvwxyz";
+
+/// A class with so many fields, each of another name of two letters, but that the one at `later` is named as that at
+/// `earlier`.
+fn class_of_fields(
+    alloc: Global,
+    count: usize,
+    earlier: usize,
+    later: usize,
+) -> Result<Vec<u8>, Fail> {
+    let mut line = Vec::new(alloc);
+    line.extend_from_slice(b"class A -")?;
+    for place in 0..count {
+        let named = if place == later { earlier } else { place };
+        line.push(b' ')?;
+        line.push(LETTERS[named / 26 % 26])?;
+        line.push(LETTERS[named % 26])?;
+        line.extend_from_slice(b":int")?;
+    }
+    line.push(b'\n')?;
+    Ok(line)
+}
+
+#[test]
+fn duplicate_told_before_too_many_fields(rt: HostRuntime) -> Result<(), Fail> {
+    let lines = [
+        (16, 0, 0, "ok class 0\n"),
+        (16, 0, 15, "no 5 DuplicateName\n"),
+        (17, 0, 0, "ok class 0\n"),
+        (17, 0, 16, "no 5 DuplicateName\n"),
+        (64, 0, 0, "ok class 0\n"),
+        (64, 62, 63, "no 5 DuplicateName\n"),
+        (65, 0, 0, "no 6 FieldLimit\n"),
+        (65, 0, 1, "no 5 DuplicateName\n"),
+        (583, 0, 0, "no 6 FieldLimit\n"),
+        (583, 0, 582, "no 5 DuplicateName\n"),
+        (583, 291, 292, "no 5 DuplicateName\n"),
+        (583, 581, 582, "no 5 DuplicateName\n"),
+    ];
+    for (count, earlier, later, reply) in lines {
+        let line = class_of_fields(rt.alloc(), count, earlier, later)?;
+        assert!(rt;
+            is_answered(rt.alloc(), line.as_slice(), Ended::Eof, reply)?,
+            "at {count}, {earlier}, {later}"
+        );
+    }
+    Ok(())
+}
+
+#[test]
+fn class_named_as_a_field(rt: HostRuntime) -> Result<(), Fail> {
+    let (ended, text) = session(
+        rt.alloc(),
+        1024,
+        1,
+        "class A - x:int\nclass x -\narray x\nclass A -\nrewind 1\narray x\n",
+    )?;
+    assert_eq!(rt; ended, Ended::Eof);
+    assert_eq!(rt;
+        text.as_slice(),
+        "ok class 0\nok class 1\nno 5 DuplicateName\nno 5 DuplicateName\nok place 1\nok class 1\n".as_bytes()
+    );
+    Ok(())
+}
+
 /// So many letters and a line end.
 fn letters(alloc: Global, count: usize) -> Result<Vec<u8>, Fail> {
     let mut line = vec![in alloc; b'a'; count]?;

@@ -1,4 +1,4 @@
-use Rattle.std.proofs.Common.{◌≡◌, ◌+◌, ◌∙◌, ap₂, sym, arith}
+use Rattle.std.proofs.Common.{◌+◌, ◌∙◌, ap₂, sym, arith}
 use Rattle.hprof_text.specs.Sizes.{opening_size}
 use Rattle.hprof_text.proofs.Lengths.{text_length, body_length}
 use Rattle.hprof_text.proofs.text_len.Goals as goal

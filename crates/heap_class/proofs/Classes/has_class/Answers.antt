@@ -1,32 +1,29 @@
-use Rattle.std.proofs.Common.{◌<◌, ◌∙◌, sym, ap, arith, length, get_or, true, false}
+use Rattle.std.proofs.Common.{[], ◌==◌, sym, ap, subst, ◌∙◌}
+use Rattle.std.specs.List.{IsDistinct, list_any}
 use Rattle.std.specs.Str.{bytes_eq}
-use Rattle.std.proofs.lemmas.Bool.{or_from}
-use Rattle.std.proofs.lemmas.List.Folds.{list_any_at, list_any_more}
+use Rattle.std.proofs.lemmas.List.Quantifiers.{position-Some}
+use Rattle.heap_class.specs.declared.Entry.{Entry}
 use Rattle.heap_class.specs.Classes.{Class}
-use Rattle.heap_class.specs.Entries.{class_of}
-use Rattle.heap_class.proofs.Readers.{as_many, within_at, named_at}
+use Rattle.heap_class.proofs.FirstUses.{bytes_same, table_distinct}
+use Rattle.heap_class.proofs.Named.{named_nowhere, named_at_place}
+use Rattle.heap_class.proofs.Tables.{all_within, table_names}
 use Rattle.heap_class.proofs.Classes.has_class.Goals as goal
 
-pub name_in-requires : goal.name_in-requires
-name_in-requires c =
-    let n = as_many _ _ c.self.invariant _ c.self.view_is in
-    let lt : c.loop-entry.entry-index < length c.args.self.now = omega (arith, n, ap length c.deref-entry-items.ensures.value, c.loop-entry-test.true) in
-    let is = c.entry-item.is ∙ ap (λ l. get_or l c.loop-entry.entry-index c.entry-item.result) c.deref-entry-items.ensures.value in
-    (within_at _ _ c.self.invariant _ c.self.view_is c.loop-entry.entry-index c.entry-item.result lt is).own
+pub returns-in-Some : goal.returns-in-Some
+returns-in-Some c =
+    let names = c.self.inside.names.keys in
+    let es = c.self.inside.entries.items in
+    let n = c.args.name.now in
+    let at = position-Some (bytes_eq n) names c.in-Some.place [] (sym c.in-Some.ensures.index) in
+    let distinct = subst (IsDistinct bytes_eq) (table_names names es c.self.invariant) (table_distinct _) in
+    c.has_name_at.ensures
+    ∙ ap (list_any (λ (e : Entry). e.name == c.in-Some.place)) c.as_slice.ensures.value
+    ∙ sym (named_at_place names n c.in-Some.place distinct at.0 (sym (bytes_same n _ at.1)) es (λ k d l. (all_within names es c.self.invariant.placed k d l).own))
+    ∙ ap (list_any (λ (d : Class). bytes_eq d.name n)) c.self.view_is
 
-pub returns-then-eq : goal.returns-then-eq
-returns-then-eq c =
-    let n = as_many _ _ c.self.invariant _ c.self.view_is in
-    let lt : c.loop-entry.entry-index < length c.args.self.now = omega (arith, n, ap length c.deref-entry-items.ensures.value, c.loop-entry-test.true) in
-    let is = c.entry-item.is ∙ ap (λ l. get_or l c.loop-entry.entry-index c.entry-item.result) c.deref-entry-items.ensures.value in
-    sym (list_any_at (λ (d : Class). bytes_eq d.name c.args.name.now) c.args.self.now c.loop-entry.entry-index (class_of c.self.inside.names.keys c.entry-item.result) lt
-    (named_at _ _ c.self.invariant _ c.self.view_is c.loop-entry.entry-index c.entry-item.result lt is c.args.name.now _ _ true c.if-eq.ensures c.name_in.ensures c.as_bytes.ensures))
-
-pub loop-entry-preserved : goal.loop-entry-preserved
-loop-entry-preserved c =
-    let n = as_many _ _ c.self.invariant _ c.self.view_is in
-    let lt : c.loop-entry.entry-index < length c.args.self.now = omega (arith, n, ap length c.deref-entry-items.ensures.value, c.loop-entry-test.true) in
-    let is = c.entry-item.is ∙ ap (λ l. get_or l c.loop-entry.entry-index c.entry-item.result) c.deref-entry-items.ensures.value in
-    list_any_more (λ (d : Class). bytes_eq d.name c.args.name.now) c.args.self.now c.loop-entry.entry-index (class_of c.self.inside.names.keys c.entry-item.result) lt
-    ∙ or_from _ _ c.loop-entry.invariant
-    (named_at _ _ c.self.invariant _ c.self.view_is c.loop-entry.entry-index c.entry-item.result lt is c.args.name.now _ _ false c.if-eq.ensures c.name_in.ensures c.as_bytes.ensures)
+pub returns-in-None : goal.returns-in-None
+returns-in-None c =
+    let names = c.self.inside.names.keys in
+    let es = c.self.inside.entries.items in
+    let n = c.args.name.now in
+    sym (ap (list_any (λ (d : Class). bytes_eq d.name n)) (sym c.self.view_is) ∙ named_nowhere names n es (sym c.in-None.ensures.found) (λ k d l. (all_within names es c.self.invariant.placed k d l).own))

@@ -1,4 +1,4 @@
-use Rattle.std.proofs.Common.{◌≡◌, refl, ◌∙◌, ap, subst}
+use Rattle.std.proofs.Common.{refl, subst}
 use Rattle.std.specs.Prelude.{List, All}
 use Rattle.std.proofs.lemmas.List.Elements.{All-more}
 use Rattle.std.proofs.lemmas.List.{take_all}

@@ -1,6 +1,6 @@
 use Rattle.std.proofs.Common.{◌++◌, ◌∙◌, ap}
 use Rattle.std.specs.Prelude.{flat_map, zip}
-use Rattle.hprof_text.specs.Text.{u1, u4, id, class_id, value_bytes}
+use Rattle.hprof_text.specs.Text.{u1, u4, id, value_bytes}
 use Rattle.hprof_text.proofs.Appended.{appended_6}
 use Rattle.hprof_text.proofs.Written.{instance_parts}
 use Rattle.hprof_text.proofs.buffer.Buffer.instance_dump.Goals as goal

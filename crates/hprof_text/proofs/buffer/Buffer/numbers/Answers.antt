@@ -1,4 +1,4 @@
-use Rattle.std.proofs.Common.{get_or, refl, arith}
+use Rattle.std.proofs.Common.{get_or, arith}
 use Rattle.byteorder.specs.Endian.{big_bytes}
 use Rattle.hprof_text.proofs.Loops.{so_far_room, item_at}
 use Rattle.hprof_text.proofs.buffer.Buffer.numbers.Goals as goal

@@ -1,4 +1,4 @@
-use Rattle.std.proofs.Common.{◌≡◌, ◌<◌, ◌+◌, ◌++◌, ℕ, length, get_or, ◌∙◌, ap, sym, arith}
+use Rattle.std.proofs.Common.{◌≡◌, ◌<◌, ◌++◌, length, get_or, ◌∙◌, ap, sym, arith}
 use Rattle.std.proofs.lemmas.List.{append-nil}
 use Rattle.hprof_text.proofs.Loops.{so_far_room, so_far_more, so_far_all, item_at, root_or_nothing, filtered, root_is, nothing_is}
 use Rattle.hprof_text.proofs.buffer.Buffer.register_roots.Goals.{then-register-ne0, else-register-ne0}

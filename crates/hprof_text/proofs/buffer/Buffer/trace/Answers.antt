@@ -1,4 +1,3 @@
-use Rattle.std.proofs.Common.{◌++◌}
 use Rattle.hprof_text.specs.Records.{record_head}
 use Rattle.hprof_text.specs.Text.{u4, trace, record_of}
 use Rattle.hprof_text.proofs.Appended.{appended_4}

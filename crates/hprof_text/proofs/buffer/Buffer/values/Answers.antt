@@ -1,10 +1,9 @@
-use Rattle.std.proofs.Common.{◌≡◌, ◌<◌, ◌≤◌, ◌+◌, ◌++◌, ℕ, length, get_or, ◌∙◌, ap, sym, subst, arith}
+use Rattle.std.proofs.Common.{◌≡◌, ◌<◌, ◌++◌, ℕ, length, get_or, ◌∙◌, ap, arith}
 use Rattle.std.specs.Prelude.{zip}
 use Rattle.std.proofs.lemmas.Slice.Zip.{length-zip}
 use Rattle.byteorder.specs.Endian.{big_bytes}
 use Rattle.heap_class.specs.declared.Kind.{Kind}
 use Rattle.hprof_text.specs.Text.{value_bytes}
-use Rattle.hprof_text.specs.Buffered.{HasRoom}
 use Rattle.hprof_text.proofs.Loops.{so_far_room, so_far_more, so_far_all, item_at, item_zipped}
 use Rattle.hprof_text.proofs.buffer.Buffer.values.Goals as goal
 

@@ -1,15 +1,32 @@
-# `make run` proves, builds and runs the worked example; `make test` is the whole gate, before which
-# the tests of the regions are run with each of the first six allocations refused.
-.PHONY: run test bench
+# The commands of this repository. README says what each is for.
+.PHONY: run build prove test edits bench
+
+# How many crates `make prove` checks side by side. Each takes up to 6 GB of memory.
+JOBS ?= 3
 
 run:
-	cd crates/heapdbg && rt run -- run < stdin
+	@echo "The example runs as it stands, with nothing proved: make test proves it."
+	cd crates/heapdbg && rt try -- run < stdin
 
+# Leaves the proved program in bin/.
+build: prove
+	cd crates/heapdbg && rt run -- run < /dev/null
+	install -D crates/heapdbg/out/heapdbg bin/heapdbg
+
+prove:
+	rt all check --jobs $(JOBS)
+
+# The gate. What stands after `rt ci` prints nothing where all is well, and looks at the programs that it left.
 test:
 	cmp examples/point.session crates/heapdbg/stdin
-	for n in 1 2 3 4 5 6; do (cd crates/heap_region && rt try --test --fail-alloc $$n) || exit 1; done
+	python3 checks/edits.py fit
+	seq 6 | xargs -P $(JOBS) -I N sh -c 'cd crates/heap_region && rt try --test --fail-alloc N'
 	rt ci
+	@python3 checks/program.py crates/heapdbg/out/heapdbg crates/heapdbg/out/heapdbg.by-rattle
 
-bench:
-	cd crates/heapdbg && rt run -- run < stdin > /dev/null
+# Tries the edits that are not in the gate: of all crates, or of those that CRATE names.
+edits:
+	python3 checks/edits.py try $(CRATE)
+
+bench: build
 	bash bench/lines.sh

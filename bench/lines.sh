@@ -2,7 +2,7 @@
 # Times generated sessions through the built program: user time, system time and peak memory of each.
 set -euo pipefail
 cd "$(dirname "$0")/.."
-program=crates/heapdbg/out/heapdbg
+program=bin/heapdbg
 work=$(mktemp -d)
 trap 'rm -rf "$work"' EXIT
 measure() {

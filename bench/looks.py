@@ -1,7 +1,7 @@
 #!/usr/bin/env python3
 """Counts how often the built program loads each byte of lines that it reads: `looks.py [PROGRAM]`.
 
-PROGRAM is `crates/heapdbg/out/heapdbg` where it isn't given. Each session of a fixed list runs under valgrind's lackey, which
+PROGRAM is `bin/heapdbg` where it isn't given. Each session of a fixed list runs under valgrind's lackey, which
 tells each load, each store and each system call. A `read` of standard input tells where its bytes lie; from then on each load
 that covers one of them is a look at that byte. Standard input is a socket that keeps messages apart, so that each message
 comes in a read of its own. The sessions are made so that the program never has to move the rest of a line to the front: of a
@@ -240,7 +240,7 @@ def print_table(title, heads, rows):
 
 
 def main():
-    program = os.path.join(os.path.dirname(os.path.abspath(__file__)), "..", "crates/heapdbg/out/heapdbg")
+    program = os.path.join(os.path.dirname(os.path.abspath(__file__)), "..", "bin/heapdbg")
     program = sys.argv[1] if len(sys.argv) > 1 else os.path.normpath(program)
     sizes, parts = [], []
     for session in plain_sessions() + named_sessions():

@@ -23,6 +23,23 @@ RUN_ABOUT = b"Reads commands from standard input and writes replies to standard 
 MEBIBYTE = 1 << 20
 
 
+def data_lines(piece):
+    """Returns the data lines of a piece of a dump."""
+    return b"".join(b"data %s\n" % piece[at : at + 64].hex().encode() for at in range(0, len(piece), 64))
+
+
+def dump_of_longs(count):
+    """Returns the replies to a new array of so many longs, all 0, and to the dump of the heap that has just that."""
+    array = bytes.fromhex("23 0000000010000000 00000001") + count.to_bytes(4, "big") + b"\x0b" + bytes(8 * count)
+    root = bytes.fromhex("ff 0000000010000000")
+    start = b"JAVA PROFILE 1.0.2\0" + bytes.fromhex("00000008 00000000 00000000")
+    start += bytes.fromhex("05 00000000 0000000c 00000001 00000000 00000000 0c 00000000")
+    start += (len(array) + len(root)).to_bytes(4, "big")
+    total = len(start) + len(array) + len(root)
+    pieces = data_lines(start) + data_lines(array) + data_lines(root)
+    return b"ok object 0x10000000\n%sok dump %d\n" % (pieces, total)
+
+
 def run(program, words, given=b"", **how):
     """Returns status, standard output and standard error of the program. A run has 20 seconds."""
     if "stdin" not in how:
@@ -46,6 +63,10 @@ def sessions(program):
     """Yields sessions as (name, what happened, what must happen)."""
     yield "the example", run(program, ["run"], EXAMPLE), (0, EXAMPLE_REPLIES, b"")
     yield "no input", run(program, ["run"]), (0, b"", b"")
+    many = 100_001
+    yield "a million bytes", run(program, ["run"], b"clear 0 0\n" * many), (0, b"ok\n" * many, b"")
+    dumped = run(program, ["run"], b"newprim 0 0 long 1024\ndump -\n")
+    yield "a dump of several pages", dumped, (0, dump_of_longs(1024), b"")
     yield "nothing after end", run(program, ["run"], b"clear 0 0\nend\nclear"), (0, b"ok\n", b"")
     yield "a cut line", run(program, ["run"], b"clear 0 0\nclear 0"), (1, b"ok\nbad cut\n", b"heapdbg: cut\n")
     yield "a line of 4,096 bytes", run(program, ["run"], b"a" * 4096 + b"\n"), (0, b"bad command\n", b"")

@@ -10,4 +10,5 @@ pub mod Kept
 pub mod Applied
 pub mod Places
 pub mod Fits
+pub mod Ids
 pub mod Steps

@@ -1,12 +1,12 @@
 -- What applying and taking back keep.
-use Rattle.std.specs.Prelude.{◌≡◌, ◌≤◌, ◌⊎◌, ⊤, ℕ, None, Result, IfOk, OnErr}
+use Rattle.std.specs.Prelude.{◌≡◌, ◌<◌, ◌≤◌, ◌^◌, ◌⊎◌, ⊤, ℕ, None, Result, Contains, IfOk, OnErr}
 use Rattle.heap_class.specs.declared.Refusal.{Refusal}
 use Rattle.heap_class.specs.Refusals.{IsAnswered}
 use Rattle.heap_region.specs.Regions.{object_of}
 use Rattle.heap_mark.specs.declared.Phase.TheVariants.{Marking}
 use Rattle.heap_world.specs.State.{HeapState}
 use Rattle.heap_world.specs.Legal.{IsLegal, IsLive, IsMarked, Sheltered}
-use Rattle.heap_world.specs.Reach.{Reaches}
+use Rattle.heap_world.specs.Reach.{IsObject, Names, Reaches}
 use Rattle.heap_step.specs.declared.Answer.{Answer}
 use Rattle.heap_step.specs.declared.Event.{Event}
 use Rattle.heap_step.specs.declared.Event.TheVariants.{Finish, Sweep}
@@ -38,6 +38,14 @@ SweepSpares region w = IsLegal w → refusal_of (Sweep region) w ≡ None → (x
 -- after a finish all that the registers reach is live
 abbrev pub FinishSpares : HeapState → Type 0
 FinishSpares w = IsLegal w → refusal_of Finish w ≡ None → let v = state_after Finish w in (x : ℕ) → Reaches v x → IsLive v x
+
+-- the ids of objects are below 2^32, and so is each word that names an object or nothing
+pub record IdsFit (w : HeapState) : Type 0 where
+  pub objects : (x : ℕ) → IsObject w x → x < 2 ^ 32
+  pub registers : (x : ℕ) → Contains w.registers x → x < 2 ^ 32
+  pub slots : (x y : ℕ) → IsLive w x → Names w x y → y < 2 ^ 32
+  pub gray : (x : ℕ) → Contains w.gray x → x < 2 ^ 32
+  pub log : (x : ℕ) → Contains w.log x → x < 2 ^ 32
 
 -- the event, accepted in the legal state `before`, gave the state `after` and left the record
 pub record IsStep (e : Event) (before after : HeapState) (left : Undo) : Type 0 where

@@ -6,7 +6,7 @@ ghost use Rattle.heap_world.specs.State.{HeapState};
 ghost use Rattle.heap_world.specs.Legal.{IsLegal};
 ghost use Rattle.heap_step.specs.declared.Event.{Event};
 ghost use Rattle.heap_step.specs.Apply.{refusal_of, state_after};
-ghost use Rattle.heap_step.specs.Laws.{FindsReached, FinishSpares, IsTakenBack, KeepsLegal, StaysFound, SweepSpares};
+ghost use Rattle.heap_step.specs.Laws.{FindsReached, FinishSpares, IdsFit, IsTakenBack, KeepsLegal, StaysFound, SweepSpares};
 
 mod events;
 pub mod step;
@@ -197,4 +197,9 @@ pub fn sweep_spares()
 /// The law that after a finish of a legal heap all that the registers reach is live.
 pub fn finish_spares()
     ensures { (w : HeapState) → FinishSpares w }
+{}
+
+/// The law that in a legal heap each object's id is below 2^32, and so are registers, references, gray and log entries.
+pub fn ids_fit()
+    ensures { (w : HeapState) → IsLegal w → IdsFit w }
 {}

@@ -8,3 +8,4 @@ pub mod Acting
 pub mod Counted
 pub mod Dumped
 pub mod Back
+pub mod Computed

@@ -4,4 +4,5 @@ pub mod Pins
 pub mod Machine
 pub mod Laws
 pub mod Records
+pub mod Examples
 pub mod Opened

@@ -19,9 +19,11 @@ ghost use Rattle.heap_region.specs.Regions.{live_places};
 ghost use Rattle.hprof_text.specs.Image.{IsAt};
 ghost use Rattle.hprof_text.specs.Pieces.{piece_of};
 
+mod examples;
 mod shown;
 
 use circular_buffer::HeapCircularBuffer;
+pub use examples::worked_examples;
 use heap_class::Refusal;
 use heap_step::step::undo;
 use heap_step::{Answer, Event, Undo, apply, undo_takes_back};

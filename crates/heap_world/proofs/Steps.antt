@@ -114,15 +114,29 @@ before_is : (w v : HeapState) → w ≡ v → (p : IsSnapped v) → with_marking
 unfolding after_snap
 before_is w v same p = ap (with_marking (marking_of p.0)) (same ∙ p.3)
 
+-- wherever a snap led from s to w, s is what it came from
+abbrev pub IsUnsnapped : HeapState → MarkerState → RegionPool → Type 0
+IsUnsnapped w k s = (before : MarkState) (roots : List ℕ) → IsUnmarked before → marking_of w ≡ snapped roots before → at_work s.regions k ≡ before
+
+unsnapped_is : (w v : HeapState) (room : ℕ) (k : MarkerState) (s : RegionPool) → w ≡ v → (p : IsSnapped v) → k ≡ after_work (unsnapped (marking_of w)) (marker_of w room)
+    → s ≡ record (pool_of w) { regions = (unsnapped (marking_of w)).regions } → IsUnsnapped w k s → unsnapped (marking_of w) ≡ marking_of p.0
+unsnapped_is w v room k s same p e f back = sym (λ i. at_work (f i).regions (e i)) ∙ back (marking_of p.0) p.0.registers (before_snap v p) (after_that w v same p)
+
 pub unsnap_held : (w v : HeapState) (room : ℕ) (k : MarkerState) (s : RegionPool) → IsHeld w room → w ≡ v → IsSnapped v → k ≡ after_work (unsnapped (marking_of w)) (marker_of w room)
-    → s ≡ record (pool_of w) { regions = (unsnapped (marking_of w)).regions } → ((before : MarkState) (roots : List ℕ) → IsUnmarked before → marking_of w ≡ snapped roots before → at_work s.regions k ≡ before) → IsHeld (with_marker k (with_pool s w)) k.room
+    → s ≡ record (pool_of w) { regions = (unsnapped (marking_of w)).regions } → IsUnsnapped w k s → IsHeld (with_marker k (with_pool s w)) k.room
 unsnap_held w v room k s h same p e f back = work_held w room (unsnapped (marking_of w)) k s h
     (subst IsLegal (sym (ap (λ (t : MarkState). with_marking t w) undone ∙ before_is w v same p)) p.1)
     (ap (λ (t : MarkState). length t.regions) undone ∙ sym (length_snapped p.0.registers (marking_of p.0)) ∙ sym (ap (λ (t : MarkState). length t.regions) (after_that w v same p)))
     e f
   where
     undone : unsnapped (marking_of w) ≡ marking_of p.0
-    undone = sym (λ i. at_work (f i).regions (e i)) ∙ back (marking_of p.0) p.0.registers (before_snap v p) (after_that w v same p)
+    undone = unsnapped_is w v room k s same p e f back
+
+-- a snap that is taken back gives the heap before it
+pub unsnap_back : (w v : HeapState) (room : ℕ) (k : MarkerState) (s : RegionPool) → w ≡ v → k ≡ after_work (unsnapped (marking_of w)) (marker_of w room)
+    → s ≡ record (pool_of w) { regions = (unsnapped (marking_of w)).regions } → IsUnsnapped w k s → (p : IsSnapped v) → with_marker k (with_pool s w) ≡ p.0
+unsnap_back w v room k s same e f back p =
+    worked w room (unsnapped (marking_of w)) k s e f ∙ ap (λ (t : MarkState). with_marking t w) (unsnapped_is w v room k s same p e f back) ∙ before_is w v same p
 
 -- ---- mark
 

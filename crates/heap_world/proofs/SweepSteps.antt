@@ -94,6 +94,10 @@ unsweep_made w v r dead s same p back =
     ap (λ (t : RegionPool). with_pool t w) (put_back w v r dead s same p back ∙ sym (unswept_is v r dead p) ∙ ap (unswept r dead) (sym (after_that w v r dead same p)))
     ∙ ap (λ (u : HeapState). with_pool (unswept r dead (pool_of u)) u) same
 
+-- a sweep that is taken back gives the heap before it
+pub unsweep_back : (w v : HeapState) (r : ℕ) (dead : List (ℕ × Object)) (s : RegionPool) → w ≡ v → IsPutBack (pool_of w) s dead r → (p : IsSweptHeap r dead v) → with_pool s w ≡ p.0
+unsweep_back w v r dead s same back p = ap (λ (t : RegionPool). with_pool t w) (put_back w v r dead s same p back) ∙ before_is w v r dead same p
+
 -- ---- a sweep that left none is taken back
 
 pub unreclaim_held : (w v : HeapState) (room r : ℕ) (u : UsedRegion) (s : RegionPool) → IsHeld w room → w ≡ v → IsLegal (with_pool (restored r u (pool_of v)) v) → s ≡ restored r u (pool_of w) → IsHeld (with_pool s w) room

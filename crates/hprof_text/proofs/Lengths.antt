@@ -122,17 +122,21 @@ roots_length ids registers =
 
 -- ---- what stands before the heap dump
 
+pub utf8_length : (ids : IdSize) (k : ℕ) (name : List ℕ) → length (utf8 ids (k, name)) ≡ 9 + id_bytes ids + length name
+unfolding utf8
+utf8_length ids k name =
+    let r : length (record_of 0x01 (id ids k ++ name)) ≡ 9 + length (id ids k ++ name) = length-record_of 0x01 (id ids k ++ name) in
+    omega (arith, r, length-append (id ids k) name, id_length ids k)
+
 names_length : (ids : IdSize) (n : ℕ) (names : List (List ℕ)) → length (flat_map (utf8 ids) (enumerate_from n names)) ≡ names_size ids names
-unfolding utf8 names_size
+unfolding names_size
 names_length ids n [] = refl
 names_length ids n (m ∷ ms) =
-    let r : length (record_of 0x01 (id ids n ++ m)) ≡ 9 + length (id ids n ++ m) = length-record_of 0x01 (id ids n ++ m) in
-    let e : length (record_of 0x01 (id ids n ++ m)) ≡ 9 + id_bytes ids + length m = omega (arith, r, length-append (id ids n) m, id_length ids n) in
     length-append (utf8 ids (n, m)) (flat_map (utf8 ids) (enumerate_from (n + 1) ms))
-    ∙ ap₂ (λ a b. a + b) e (names_length ids (n + 1) ms)
+    ∙ ap₂ (λ a b. a + b) (utf8_length ids n m) (names_length ids (n + 1) ms)
     ∙ sym (sum_by-cons (utf8_size ids) m ms)
 
-load_length : (ids : IdSize) (classes : List Class) (c : ℕ × Class) → length (load_class ids classes c) ≡ 17 + 2 * id_bytes ids
+pub load_length : (ids : IdSize) (classes : List Class) (c : ℕ × Class) → length (load_class ids classes c) ≡ 17 + 2 * id_bytes ids
 unfolding load_class
 load_length ids classes c =
     let i : length (id ids (class_id c.0)) ≡ id_bytes ids = id_length ids (class_id c.0) in
@@ -143,7 +147,7 @@ header_length : (ids : IdSize) (time : ℕ) → length (header ids time) ≡ 31
 unfolding header
 header_length ids time = refl
 
-trace_length : length trace ≡ 21
+pub trace_length : length trace ≡ 21
 unfolding trace record_of
 trace_length = refl
 

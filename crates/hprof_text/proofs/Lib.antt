@@ -3,6 +3,8 @@ pub mod Joins
 pub mod Appended
 pub mod Bounds
 pub mod Lengths
+pub mod Tables
+pub mod Fits
 pub mod Loops
 pub mod Written
 pub mod Numbered

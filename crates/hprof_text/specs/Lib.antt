@@ -3,6 +3,7 @@ pub mod Text
 pub mod Pieces
 pub mod Sizes
 pub mod Records
+pub mod Fits
 pub mod Laws
 pub mod Opened
 pub mod Buffered

@@ -6,7 +6,7 @@ ghost use Rattle.heap_class.specs.declared.ObjRef.{ObjRef};
 ghost use Rattle.heap_class.specs.declared.Refusal.TheVariants.{NoMemory};
 ghost use Rattle.heap_class.specs.declared.IdSize.{IdSize};
 ghost use Rattle.hprof_text.specs.Image.{Image, IsDumpable, IsAt};
-ghost use Rattle.hprof_text.specs.Laws.{PiecesJoin};
+ghost use Rattle.hprof_text.specs.Laws.{PiecesJoin, NumbersFit};
 ghost use Rattle.hprof_text.specs.Text.{dump_text, heap_dump_body};
 ghost use Rattle.hprof_text.specs.Pieces.{piece_of};
 
@@ -174,4 +174,10 @@ pub fn piece_from<V: View>(
 /// The law that the pieces of each dump, joined, are its text.
 pub fn pieces_join()
     ensures { (ids : IdSize) (image : Image) (time : ℕ) → PiecesJoin ids image time }
+{}
+
+/// The law that each number of a dump fits in the bytes that it has there: lengths, counts, serials, the ids of classes
+/// and names, type codes and the time.
+pub fn numbers_fit()
+    ensures { (ids : IdSize) (image : Image) (time : ℕ) → NumbersFit ids image time }
 {}

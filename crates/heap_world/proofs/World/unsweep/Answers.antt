@@ -1,4 +1,4 @@
-use Rattle.heap_world.proofs.SweepSteps.{swept_by, unsweep_held, unsweep_made}
+use Rattle.heap_world.proofs.SweepSteps.{swept_by, unsweep_held, unsweep_made, unsweep_back}
 use Rattle.heap_world.proofs.World.unsweep.Goals as goal
 
 pub unsweep-requires : goal.unsweep-requires
@@ -7,5 +7,8 @@ unsweep-requires c = record { swept = swept_by _ _ c.args.region c.args.dead c.s
 pub invariant_of-self : goal.invariant_of-self
 invariant_of-self c = unsweep_held _ _ _ c.args.region c.args.dead _ c.self.invariant c.self.view_is c.requires.swept c.unsweep.ensures.back
 
-pub returns : goal.returns
-returns c = unsweep_made _ _ c.args.region c.args.dead _ c.self.view_is c.requires.swept c.unsweep.ensures.back
+pub returns-clause-unswept : goal.returns-clause-unswept
+returns-clause-unswept c = unsweep_made _ _ c.args.region c.args.dead _ c.self.view_is c.requires.swept c.unsweep.ensures.back
+
+pub returns-clause-back : goal.returns-clause-back
+returns-clause-back c = λ before legal accepted left dead from. unsweep_back _ _ c.args.region c.args.dead _ c.self.view_is c.unsweep.ensures.back (before, legal, accepted, left, dead, from)

@@ -1,0 +1,117 @@
+-- What a table of classes has at most.
+use Rattle.std.proofs.Common.{◌≡◌, ℕ, zero, suc, ◌+◌, ◌*◌, ◌<◌, ◌≤◌, Bool, true, false, not, ◌&&◌, List, [], ◌∷◌, ◌++◌, length, refl, sym, subst, arith, length-append, Option, Some, None}
+use Rattle.std.specs.Prelude.{slice_get, unwrap_or, nat_lt, nat_le, flat_map, All}
+use Rattle.std.specs.Option.{option_map_or}
+use Rattle.std.specs.List.{list_all}
+use Rattle.std.specs.Str.{bytes_eq}
+use Rattle.std.proofs.lemmas.Bool.{and_parts, not-false, leb-true}
+use Rattle.std.proofs.lemmas.List.{length-map}
+use Rattle.std.proofs.lemmas.List.Elements.{All-nil, All-cons, All-head, All-tail, All-append, All-filter}
+use Rattle.std.proofs.lemmas.List.Sums.{length-filter, count_by-le-length}
+use Rattle.heap_class.specs.declared.Kind.{Kind}
+use Rattle.heap_class.specs.declared.Field.{Field}
+use Rattle.heap_class.specs.Limits.{name_limit, slot_limit}
+use Rattle.heap_class.specs.Classes.{Class, first_uses, name_table, names_in, is_name, is_instance_class, slots_under, slot_table_after, slots_of, class_refusal, IsClassTable}
+use Rattle.heap_class.proofs.Refused.{none_holds}
+use Rattle.heap_class.proofs.Slots.{table_more, instance_within}
+use Rattle.heap_class.proofs.Defined.{super_stands, slots_fit}
+
+-- ---- slots
+
+-- each of the lists has few items
+abbrev AreFew : List (List Kind) → Type 0
+AreFew xss = (k : ℕ) → length (unwrap_or (slice_get xss k) []) ≤ slot_limit
+
+few_more : (xss : List (List Kind)) (xs : List Kind) → AreFew xss → length xs ≤ slot_limit → AreFew (xss ++ xs ∷ [])
+few_more [] xs h e zero = e
+few_more [] xs h e (suc k) = omega arith
+few_more (ys ∷ yss) xs h e zero = h 0
+few_more (ys ∷ yss) xs h e (suc k) = few_more yss xs (λ j. h (suc j)) e k
+
+table_few : (before cs : List Class) → AreFew (slot_table_after [] before) → IsClassTable before cs → AreFew (slot_table_after (slot_table_after [] before) cs)
+unfolding slot_table_after class_refusal
+table_few before [] h t = h
+table_few before (c ∷ cs) h t =
+    let e : nat_lt slot_limit (length (slots_under (slot_table_after [] before) c)) ≡ false = (none_holds _ t.0).1.1.1.1.0 in
+    let n : length (slots_under (slot_table_after [] before) c) ≤ slot_limit = grind (arith, e) in
+    let more : AreFew (slot_table_after [] before ++ slots_under (slot_table_after [] before) c ∷ []) = few_more (slot_table_after [] before) (slots_under (slot_table_after [] before) c) h n in
+    subst (λ l. AreFew (slot_table_after l cs)) (table_more [] before c) (table_few (before ++ c ∷ []) cs (subst AreFew (sym (table_more [] before c)) more) t.2)
+
+-- no class of a table has more slots than there may be
+pub slots_few : (classes : List Class) → IsClassTable [] classes → (k : ℕ) → length (slots_of classes k) ≤ slot_limit
+unfolding slots_of slot_table_after
+slots_few classes t = table_few [] classes (λ k. omega arith) t
+
+-- ---- each class
+
+abbrev pub IsShort : List ℕ → Type 0
+IsShort n = length n ≤ name_limit
+
+names_short : (ns : List (List ℕ)) → list_all is_name ns ≡ true → All IsShort ns
+unfolding is_name
+names_short [] h = All-nil IsShort
+names_short (n ∷ ns) h =
+    let p = and_parts (is_name n) (list_all is_name ns) h in
+    let q = and_parts (nat_le 1 (length n) && nat_le (length n) name_limit) _ p.0 in
+    let r = and_parts (nat_le 1 (length n)) (nat_le (length n) name_limit) q.0 in
+    All-cons IsShort n ns (leb-true (length n) name_limit r.1) (names_short ns p.1)
+
+-- short names, few fields, and a super that is one of n classes
+pub record IsSmall (n : ℕ) (c : Class) : Type 0 where
+  pub names : All IsShort (names_in c)
+  pub fields : length c.fields ≤ slot_limit
+  pub sup : (s : ℕ) → c.sup ≡ Some s → s < n
+
+super_within : (before : List Class) (sup : Option ℕ) → option_map_or (is_instance_class before) sup true ≡ true → (s : ℕ) → sup ≡ Some s → s < length before
+super_within before sup h s e = instance_within before s (subst (λ o. option_map_or (is_instance_class before) o true ≡ true) e h)
+
+class_small : (before : List Class) (c : Class) (n : ℕ) → length before ≤ n → class_refusal before c ≡ None → IsSmall n c
+unfolding class_refusal
+class_small before c n l h =
+    let f = slots_fit before c _ h refl in
+    record {
+      names = names_short (names_in c) (not-false (list_all is_name (names_in c)) (none_holds _ h).1.1.0);
+      fields = omega (arith, f);
+      sup = λ s e. let w : s < length before = super_within before c.sup (super_stands before c h) s e in omega (arith, w, l);
+    }
+
+all_small : (before cs : List Class) (n : ℕ) → length before + length cs ≤ n → IsClassTable before cs → All (IsSmall n) cs
+all_small before [] n l t = All-nil (IsSmall n)
+all_small before (c ∷ cs) n l t = All-cons (IsSmall n) c cs (class_small before c n (omega (arith, l)) t.0) (all_small (before ++ c ∷ []) cs n (omega (arith, l, length-append before (c ∷ []))) t.2)
+
+-- each class of a table is small
+pub classes_small : (classes : List Class) → IsClassTable [] classes → All (IsSmall (length classes)) classes
+classes_small classes t = all_small [] classes (length classes) (omega arith) t
+
+-- ---- names
+
+firsts_fewer : (xs : List (List ℕ)) → length (first_uses xs) ≤ length xs
+unfolding first_uses
+firsts_fewer [] = omega arith
+firsts_fewer (x ∷ xs) =
+    let p : List ℕ → Bool = λ y. not (bytes_eq x y) in
+    omega (arith, length-filter p (first_uses xs), count_by-le-length p (first_uses xs), firsts_fewer xs)
+
+firsts_all : (P : List ℕ → Type 0) (xs : List (List ℕ)) → All P xs → All P (first_uses xs)
+unfolding first_uses
+firsts_all P [] h = h
+firsts_all P (x ∷ xs) h = All-cons P x _ (All-head P x xs h) (All-filter (λ y. not (bytes_eq x y)) P (first_uses xs) (firsts_all P xs (All-tail P x xs h)))
+
+all_names : (n : ℕ) (cs : List Class) → All (IsSmall n) cs → All IsShort (flat_map names_in cs) × (length (flat_map names_in cs) ≤ 65 * length cs)
+unfolding names_in
+all_names n [] h = (All-nil IsShort, omega arith)
+all_names n (c ∷ cs) h =
+    let own : IsSmall n c = All-head (IsSmall n) c cs h in
+    let rest = all_names n cs (All-tail (IsSmall n) c cs h) in (
+      All-append IsShort (names_in c) (flat_map names_in cs) own.names rest.0,
+      omega (arith, rest.1, own.fields, length-append (names_in c) (flat_map names_in cs), length-map c.fields (λ (f : Field). f.name)),
+    )
+
+-- names are short, and there are at most 65 for each class
+pub table_short : (classes : List Class) → IsClassTable [] classes → All IsShort (name_table classes)
+unfolding name_table
+table_short classes t = firsts_all IsShort (flat_map names_in classes) (all_names (length classes) classes (classes_small classes t)).0
+
+pub table_names_few : (classes : List Class) → IsClassTable [] classes → length (name_table classes) ≤ 65 * length classes
+unfolding name_table
+table_names_few classes t = omega (arith, firsts_fewer (flat_map names_in classes), (all_names (length classes) classes (classes_small classes t)).1)

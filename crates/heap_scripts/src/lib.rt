@@ -1,9 +1,9 @@
 //! What tests of several crates begin with: heaps, classes and short names of events, and events that are taken in turn.
 #![tactic(auto)]
 
-ghost use Rattle.std.specs.Prelude.{◌≡◌};
+ghost use Rattle.std.specs.Prelude.{◌≡◌, OnOk};
 
-use heap_class::{Field, Fields, Kind, Name, ObjRef, Refusal};
+use heap_class::{Field, Fields, Kind, Name, ObjRef};
 use heap_region::Regions;
 use heap_step::step::undo;
 use heap_step::{Event, apply};
@@ -89,9 +89,15 @@ pub fn apply_all(world: &mut World, events: &[Event]) -> Result<(), Fail> {
     Ok(())
 }
 
-/// Applies the events in turn, and takes each back again, the last first.
-pub fn there_and_back(world: &mut World, events: &[Event]) -> Result<(), Refusal>
-    ensures { world.new ≡ world.old }
+/// Applies the events in turn and takes each back, the last first. Adds what `look` sees after each of these steps.
+pub fn there_and_back<S: Drop, L: Fn(&World) -> Result<S, Fail>>(
+    world: &mut World,
+    events: &[Event],
+    look: &L,
+    seen: &mut Vec<S>,
+) -> Result<(), Fail>
+    requires { L.IsAlwaysCallable look.now }
+    ensures { OnOk result (world.new ≡ world.old) }
 {
     let Some((event, rest)) = events.split_first() else {
         return Ok(());
@@ -99,9 +105,11 @@ pub fn there_and_back(world: &mut World, events: &[Event]) -> Result<(), Refusal
     // Its contract says that the heap is legal.
     let _phase = world.phase();
     let (_, left) = apply(world, event)?;
-    let outcome = there_and_back(world, rest);
+    seen.push(look(world)?)?;
+    there_and_back(world, rest, look, seen)?;
     undo(world, left);
-    outcome
+    seen.push(look(world)?)?;
+    Ok(())
 }
 
 /// The bits `live` and `mark` of the object in a cell; None where there is none.

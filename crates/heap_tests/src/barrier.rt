@@ -1,10 +1,7 @@
 //! What the barrier logs, step by step and back.
-ghost use Rattle.std.specs.Prelude.{◌≡◌};
-
-use heap_class::{ObjRef, Refusal};
-use heap_scripts::{FIRST, SECOND, new, node, store};
-use heap_step::step::undo;
-use heap_step::{Event, apply};
+use heap_class::ObjRef;
+use heap_scripts::{FIRST, SECOND, new, node, store, take, there_and_back};
+use heap_step::Event;
 use heap_trail::Machine;
 use heap_world::{Config, World};
 use std::alloc::{AllocError, Global};
@@ -16,34 +13,43 @@ const A: u64 = FIRST;
 
 const B: u64 = SECOND;
 
-/// The log, and what the slot `next` of a and of b holds; None before the object is made.
-#[derive(Clone, Copy)]
-struct Seen<'a> {
-    log: &'a [u64],
+/// The nine steps.
+fn steps(alloc: Global) -> Result<[Event; 9], AllocError> {
+    Ok([
+        node(alloc)?,
+        new(0),
+        Event::Snap,
+        // The old words are null, null and a; then, to the new object, null and a.
+        store(0, 1),
+        store(0, 0),
+        store(0, 0),
+        new(1),
+        store(1, 0),
+        store(1, 1),
+    ])
+}
+
+/// What is to be seen before the steps, and after each: the log, and what the slot `next` of a and of b holds; None before
+/// the object is made.
+const SIGHTS: [(&[u64], Option<u64>, Option<u64>); 10] = [
+    (&[], None, None),
+    (&[], None, None),
+    (&[], Some(0), None),
+    (&[], Some(0), None),
+    (&[], Some(0), None),
+    (&[], Some(A), None),
+    (&[A], Some(A), None),
+    (&[A], Some(A), Some(0)),
+    (&[A], Some(A), Some(A)),
+    (&[A, A], Some(A), Some(B)),
+];
+
+/// What was seen of a heap.
+#[derive(Drop)]
+struct Sight {
+    log: Vec<u64>,
     a: Option<u64>,
     b: Option<u64>,
-}
-
-impl<'a> Seen<'a> {
-    fn new(log: &'a [u64], a: Option<u64>, b: Option<u64>) -> Seen<'a> {
-        Seen { log, a, b }
-    }
-}
-
-/// The nine steps, each with what is to be seen after it.
-fn steps(alloc: Global) -> Result<[(Event, Seen<'static>); 9], AllocError> {
-    Ok([
-        (node(alloc)?, Seen::new(&[], None, None)),
-        (new(0), Seen::new(&[], Some(0), None)),
-        (Event::Snap, Seen::new(&[], Some(0), None)),
-        // The old words are null, null and a; then, to the new object, null and a.
-        (store(0, 1), Seen::new(&[], Some(0), None)),
-        (store(0, 0), Seen::new(&[], Some(A), None)),
-        (store(0, 0), Seen::new(&[A], Some(A), None)),
-        (new(1), Seen::new(&[A], Some(A), Some(0))),
-        (store(1, 0), Seen::new(&[A], Some(A), Some(A))),
-        (store(1, 1), Seen::new(&[A, A], Some(A), Some(B))),
-    ])
 }
 
 /// What the slot `next` of the object in a cell of the first region holds.
@@ -55,56 +61,51 @@ fn next(world: &World, cell: u16) -> Option<u64> {
     world.regions().words(at).first().copied()
 }
 
-/// Whether the heap's readers show this.
-fn shows(world: &World, seen: &Seen) -> bool {
-    world.log() == seen.log && next(world, 0) == seen.a && next(world, 1) == seen.b
+/// What the heap's readers show.
+fn shown(alloc: Global, world: &World) -> Result<Sight, Fail> {
+    let mut log = Vec::new(alloc);
+    log.extend_from_slice(world.log())?;
+    Ok(Sight {
+        log,
+        a: next(world, 0),
+        b: next(world, 1),
+    })
 }
 
-/// Applies the steps in turn, and takes each back again, the last first. Answers whether what is seen is right before each
-/// step, after it, and once it is taken back.
-fn seen_there_and_back(
-    world: &mut World,
-    before: &Seen,
-    steps: &[(Event, Seen)],
-) -> Result<bool, Refusal>
-    ensures { world.new ≡ world.old }
-{
-    if !shows(world, before) {
-        return Ok(false);
-    }
-    let Some(((event, after), rest)) = steps.split_first() else {
-        return Ok(true);
-    };
-    // Its contract says that the heap is legal.
-    let _phase = world.phase();
-    let (_, left) = apply(world, event)?;
-    let outcome = seen_there_and_back(world, after, rest);
-    undo(world, left);
-    Ok(outcome? && shows(world, before))
+/// Whether this was seen after each step, and after each was taken back.
+fn are_there_and_back(seen: &[Sight]) -> bool {
+    let expected = SIGHTS[1..].iter().chain(SIGHTS[..9].iter().rev());
+    seen.len() == 18
+        && seen.iter().zip(expected).all(|(sight, (log, a, b))| sight.log.as_slice() == *log
+            && (sight.a, sight.b) == (*a, *b))
 }
 
 /// A machine after the nine steps.
 fn stored(alloc: Global) -> Result<Machine, Fail> {
     let config = Config::new(16, 2, 1024).ok_or("settings out of range")?;
     let mut machine = Machine::new(alloc, config)?;
-    for (event, _) in &steps(alloc)? {
-        machine.step(event)?;
-    }
+    take(&mut machine, &steps(alloc)?)?;
     Ok(machine)
 }
 
-/// Whether an empty heap shows what it should, step by step and back.
-fn is_seen(alloc: Global, world: &mut World) -> Result<bool, Fail> {
-    let steps = steps(alloc)?;
-    let nothing = Seen::new(&[], None, None);
-    Ok(seen_there_and_back(world, &nothing, &steps)?)
+/// What is seen of a heap on the way there and back.
+fn seen(alloc: Global, world: &mut World) -> Result<Vec<Sight>, Fail> {
+    let mut seen = Vec::new(alloc);
+    there_and_back(
+        world,
+        &steps(alloc)?,
+        &|world| shown(alloc, world),
+        &mut seen,
+    )?;
+    Ok(seen)
 }
 
 #[test]
 fn barrier_logs_old_values(rt: HostRuntime) -> Result<(), Fail> {
     let config = Config::new(16, 2, 1024).ok_or("settings out of range")?;
     let mut world = World::new(rt.alloc(), config)?;
-    assert!(rt; is_seen(rt.alloc(), &mut world)?);
+    let seen = seen(rt.alloc(), &mut world)?;
+    assert!(rt; are_there_and_back(seen.as_slice()));
     Ok(())
 }
 

@@ -101,7 +101,9 @@ fn arrays_are_no_instances(rt: HostRuntime) -> Result<(), Fail> {
     let name = Name::new(rt.alloc(), b"[LPoint;")?;
     let array = classes.define_array(&name)?;
     assert!(rt; classes.is_array(array));
+    assert!(rt; !classes.is_instance(array));
     assert!(rt; classes.is_instance(0));
+    assert!(rt; !classes.is_array(0));
     Ok(())
 }
 

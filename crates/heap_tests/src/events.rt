@@ -1,11 +1,13 @@
 //! A class, an instance of it, and single events that are taken back.
+ghost use Rattle.std.specs.Prelude.{IfOk};
+ghost use Rattle.heap_step.specs.declared.Event.{Event};
+ghost use Rattle.heap_step.specs.Laws.{IsStep};
+
 use heap_class::{Name, ObjRef, Refusal};
 use heap_mark::Phase;
-use heap_scripts::{
-    FIRST, SECOND, apply_all, bits, new, node, point, small_world, store, there_and_back,
-};
+use heap_scripts::{FIRST, SECOND, apply_all, bits, new, node, point, small_world, store};
 use heap_step::step::undo;
-use heap_step::{Answer, Event, apply, weight};
+use heap_step::{Answer, Event, Undo, apply, weight};
 use heap_world::World;
 use std::alloc::Global;
 use std::process::Abort;
@@ -51,9 +53,13 @@ fn answer(world: &mut World, event: Event) -> Result<Answer, Refusal> {
     Ok(answer)
 }
 
-/// Applies an event and takes it back.
-fn undone(world: &mut World, event: Event) -> Result<(), Refusal> {
-    there_and_back(world, &[event])
+/// Applies an event, and returns the record that takes it back.
+fn taken(world: &mut World, event: Event) -> Result<Undo, Refusal>
+    ensures { IfOk result (λ left. (e : Event) × IsStep e world.old world.new left) }
+{
+    let _phase = world.phase();
+    let (_, left) = apply(world, &event)?;
+    Ok(left)
 }
 
 /// What an event answers that is then taken back, and what its record weighs.
@@ -109,7 +115,9 @@ fn a_definition_is_taken_back_in(
     world: &mut World,
 ) -> Result<(), Fail> {
     let name = Name::new(alloc, b"[Lq;")?;
-    undone(world, Event::ArrayClass { name })?;
+    let left = taken(world, Event::ArrayClass { name })?;
+    assert_eq!(rt; world.classes().len(), 1);
+    undo(world, left);
     assert_eq!(rt; world.classes().len(), 0);
     Ok(())
 }
@@ -121,7 +129,9 @@ fn a_definition_is_taken_back(rt: HostRuntime) -> Result<(), Fail> {
 }
 
 fn a_clearing_is_taken_back_in(rt: &impl Abort, world: &mut World) -> Result<(), Fail> {
-    undone(world, Event::Clear { m: 0, r: 0 })?;
+    let left = taken(world, Event::Clear { m: 0, r: 0 })?;
+    assert_eq!(rt; world.registers(), [0; 8].as_slice());
+    undo(world, left);
     assert_eq!(rt; world.registers(), [FIRST, 0, 0, 0, 0, 0, 0, 0].as_slice());
     Ok(())
 }
@@ -134,12 +144,13 @@ fn a_clearing_is_taken_back(rt: HostRuntime) -> Result<(), Fail> {
 
 fn a_marking_is_taken_back_in(rt: &impl Abort, world: &mut World) -> Result<(), Fail> {
     assert_eq!(rt; answer(world, Event::Snap)?, Answer::Pushed(1));
-    undone(world, Event::Mark)?;
+    let left = taken(world, Event::Mark)?;
+    assert_eq!(rt; world.gray(), [SECOND].as_slice());
+    assert_eq!(rt; second_bits(world), Some((true, true)));
+    undo(world, left);
     assert_eq!(rt; world.gray(), [FIRST].as_slice());
     assert_eq!(rt; second_bits(world), Some((true, false)));
     assert_eq!(rt; answer(world, Event::Mark)?, Answer::Pushed(1));
-    assert_eq!(rt; world.gray(), [SECOND].as_slice());
-    assert_eq!(rt; second_bits(world), Some((true, true)));
     Ok(())
 }
 
@@ -157,13 +168,14 @@ fn with_log(alloc: Global) -> Result<World, Fail> {
 }
 
 fn a_drain_is_taken_back_in(rt: &impl Abort, world: &mut World) -> Result<(), Fail> {
-    undone(world, Event::Drain)?;
-    assert_eq!(rt; world.drained(), 0);
-    assert_eq!(rt; second_bits(world), Some((true, false)));
-    assert_eq!(rt; answer(world, Event::Drain)?, Answer::Pushed(1));
+    let left = taken(world, Event::Drain)?;
     assert_eq!(rt; world.drained(), 1);
     assert_eq!(rt; second_bits(world), Some((true, true)));
     assert_eq!(rt; world.log(), [SECOND].as_slice());
+    undo(world, left);
+    assert_eq!(rt; world.drained(), 0);
+    assert_eq!(rt; second_bits(world), Some((true, false)));
+    assert_eq!(rt; answer(world, Event::Drain)?, Answer::Pushed(1));
     Ok(())
 }
 

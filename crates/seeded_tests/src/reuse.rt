@@ -70,6 +70,21 @@ fn pending_region(
     Ok(Some(region))
 }
 
+/// A region with an array of 17 longs in its first cell, made while a cycle runs.
+fn region_of_longs(alloc: Global) -> Result<PlainRegion, AllocError> {
+    let mut region = PlainRegion::fresh(alloc, 64)?;
+    region.free.pop();
+    if let Some(cell) = region.cells.get_mut(0) {
+        *cell = Some(PlainObject {
+            kind: ObjKind::Prim(Kind::Long),
+            words: vec![in alloc; 0; 17]?,
+            live: true,
+            mark: true,
+        });
+    }
+    Ok(region)
+}
+
 /// The class of nodes.
 fn node_class(alloc: Global) -> Result<PlainClass, AllocError> {
     let mut fields = Vec::new(alloc);
@@ -144,19 +159,58 @@ fn sweep_and_reuse_rewound(rt: HostRuntime) -> Result<(), Fail> {
     sweep_and_reuse_rewound_in(&rt, rt.alloc(), &mut machine)
 }
 
-fn sweep_and_reuse_undone_in(
-    rt: &impl Abort,
-    alloc: Global,
-    world: &mut World,
-) -> Result<(), Fail> {
-    there_and_back(world, &reuse())?;
-    assert!(rt; is_after_the_cycle(alloc, world)?);
-    Ok(())
+/// The heap after the steps: as the next cycle's beginning leaves it, then as the sweep does, then as the array does.
+fn after_each(alloc: Global) -> Result<[PlainHeap; 3], AllocError> {
+    let mut snapped = after_the_cycle(alloc)?;
+    snapped.marking = true;
+    snapped.gray.push(0x1000_2000)?;
+    if let Some(object) = snapped.object_mut(0x1000_2000) {
+        object.mark = true;
+    }
+    let mut swept = snapped.copied(alloc)?;
+    swept.release(0)?;
+    let mut made = swept.copied(alloc)?;
+    made.pool.clear();
+    if let Some(slot) = made.regions.get_mut(0) {
+        *slot = Some(region_of_longs(alloc)?);
+    }
+    if let Some(register) = made.registers.get_mut(0) {
+        *register = 0x1000_0000;
+    }
+    Ok([snapped, swept, made])
+}
+
+/// What is to be seen after each step, and after each is taken back.
+fn expected(alloc: Global) -> Result<Vec<PlainHeap>, AllocError> {
+    let [snapped, swept, made] = after_each(alloc)?;
+    let (snapped_again, swept_again) = (snapped.copied(alloc)?, swept.copied(alloc)?);
+    let mut heaps = Vec::new(alloc);
+    heaps.push(snapped)?;
+    heaps.push(swept)?;
+    heaps.push(made)?;
+    heaps.push(swept_again)?;
+    heaps.push(snapped_again)?;
+    heaps.push(after_the_cycle(alloc)?)?;
+    Ok(heaps)
+}
+
+/// What is seen of a heap at the cycle's end after each step, and after each is taken back.
+fn seen(alloc: Global, world: &mut World) -> Result<Vec<PlainHeap>, Fail> {
+    let mut seen = Vec::new(alloc);
+    there_and_back(
+        world,
+        &reuse(),
+        &|world| Ok(observed(alloc, world)?),
+        &mut seen,
+    )?;
+    Ok(seen)
 }
 
 #[test]
 fn sweep_and_reuse_undone(rt: HostRuntime) -> Result<(), Fail> {
     let config = Config::new(2, 2, 1024).ok_or("settings out of range")?;
     let mut world = cycled(rt.alloc(), config)?;
-    sweep_and_reuse_undone_in(&rt, rt.alloc(), &mut world)
+    let seen = seen(rt.alloc(), &mut world)?;
+    assert!(rt; seen == expected(rt.alloc())?);
+    Ok(())
 }

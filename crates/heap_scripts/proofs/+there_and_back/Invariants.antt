@@ -3,4 +3,4 @@ use Rattle.heap_scripts.proofs.+there_and_back.Given as goal
 
 -- the events that are left
 abbrev pub decreases-there_and_back : goal.decreases-there_and_back
-decreases-there_and_back l = length l.events.now
+decreases-there_and_back g l = length l.events.now

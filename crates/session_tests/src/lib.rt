@@ -12,6 +12,8 @@ mod faults;
 #[cfg(test)]
 mod interrupts;
 #[cfg(test)]
+mod large;
+#[cfg(test)]
 mod lines;
 #[cfg(test)]
 mod mutators;

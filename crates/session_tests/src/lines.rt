@@ -1,7 +1,6 @@
 //! Lines: at their limits, too long, cut, and without end.
 use crate::sessions::{machine, session, talk};
-use crate::streams::LineFeeds;
-use session_text::{Ended, READ_LIMIT};
+use session_text::Ended;
 use std::alloc::Global;
 use std::test::Fail;
 
@@ -186,16 +185,5 @@ fn longest_lines(rt: HostRuntime) -> Result<(), Fail> {
             "at {count}"
         );
     }
-    Ok(())
-}
-
-#[test]
-fn a_million_reads(rt: HostRuntime) -> Result<(), Fail> {
-    let alloc = rt.alloc();
-    let mut local = machine(alloc, 1, 1, 8)?;
-    let (ended, text) = talk(alloc, &mut local, LineFeeds);
-    assert_eq!(rt; READ_LIMIT, 1_000_000);
-    assert_eq!(rt; ended, Ended::TooManyReads);
-    assert_eq!(rt; text.as_slice(), b"bad reads\n".as_slice());
     Ok(())
 }

@@ -21,19 +21,60 @@ impl Read for Chunks<'_> {
     }
 }
 
-/// Gives one LF a read, without end.
+/// Gives the bytes of a line one a read, again and again, and counts the reads.
 #[derive(Drop)]
-pub struct LineFeeds;
+pub struct Repeated<'a> {
+    pub line: &'a [u8],
+    pub at: usize,
+    pub reads: u64,
+}
 
-impl Read for LineFeeds {
-    fn read(&mut self, room: &mut [u8]) -> io::Result<usize> {
-        match room.first_mut() {
-            Some(place) => {
-                *place = b'\n';
-                Ok(1)
-            }
-            None => Ok(0),
+impl Repeated<'_> {
+    /// Creates a reader that has given nothing yet.
+    pub fn new(line: &[u8]) -> Repeated<'_> {
+        Repeated {
+            line,
+            at: 0,
+            reads: 0,
         }
+    }
+}
+
+impl Read for Repeated<'_> {
+    fn read(&mut self, room: &mut [u8]) -> io::Result<usize> {
+        self.reads = self.reads.saturating_add(1);
+        let (Some(byte), Some(place)) = (self.line.get(self.at), room.first_mut()) else {
+            return Ok(0);
+        };
+        *place = *byte;
+        self.at += 1;
+        if self.at == self.line.len() {
+            self.at = 0;
+        }
+        Ok(1)
+    }
+}
+
+// ---- sound writers
+
+/// Takes at most so many bytes a write.
+#[derive(Drop)]
+pub struct Sips {
+    pub taken: Vec<u8>,
+    pub most: usize,
+}
+
+impl Write for Sips {
+    fn write(&mut self, given: &[u8]) -> io::Result<usize> {
+        let size = given.len().min(self.most);
+        if self.taken.extend_from_slice(&given[..size]).is_err() {
+            return Err(ErrorKind::OutOfMemory.into());
+        }
+        Ok(size)
+    }
+
+    fn flush(&mut self) -> io::Result<()> {
+        Ok(())
     }
 }
 

@@ -1,0 +1,120 @@
+//! Sessions at size: a million reads, a million bytes, and a dump of several pages.
+use crate::dumps::{DUMP_OF_ONE_POINT, ONE_POINT};
+use crate::sessions::{machine, play};
+use crate::streams::{Chunks, Repeated, Sips};
+use dump_pump::WriteOutlet;
+use session_text::{Ended, READ_LIMIT, ReadInlet, serve_local};
+use std::alloc::Global;
+use std::test::Fail;
+
+/// How many reads a session over one line makes that comes again and again, byte by byte, and what it writes until it ends
+/// for too many of them.
+fn read_too_often(alloc: Global, line: &[u8]) -> Result<(u64, Vec<u8>), Fail> {
+    let local = machine(alloc, 1, 1, 8)?;
+    let outcome = play(alloc, local, Repeated::new(line), Vec::new(alloc))?;
+    if outcome.ended != Ended::TooManyReads {
+        return Err("the session did not end for too many reads".into());
+    }
+    Ok((outcome.reader.reads, outcome.writer))
+}
+
+#[test]
+fn a_million_reads(rt: HostRuntime) -> Result<(), Fail> {
+    let (reads, text) = read_too_often(rt.alloc(), b"\n")?;
+    assert_eq!(rt; READ_LIMIT, 1_000_000);
+    assert_eq!(rt; reads, 1_000_000);
+    assert_eq!(rt; text.as_slice(), b"bad reads\n".as_slice());
+    Ok(())
+}
+
+/// Returns whether a text is one line so many times, and then an ending.
+fn is_repeated(text: &[u8], line: &[u8], times: usize, ending: &[u8]) -> bool {
+    let mut rest = text;
+    for _ in 0..times {
+        match rest.strip_prefix(line) {
+            Some(behind) => rest = behind,
+            None => return false,
+        }
+    }
+    rest == ending
+}
+
+#[test]
+fn a_million_bytes(rt: HostRuntime) -> Result<(), Fail> {
+    let (reads, text) = read_too_often(rt.alloc(), b"mark\n")?;
+    assert_eq!(rt; reads, 1_000_000);
+    assert!(rt;
+        is_repeated(
+            text.as_slice(),
+            b"no 15 NotMarking\n",
+            200_000,
+            b"bad reads\n"
+        )
+    );
+    Ok(())
+}
+
+/// Appends a text so many times.
+fn add_times(text: &mut Vec<u8>, part: &[u8], times: usize) -> Result<(), Fail> {
+    for _ in 0..times {
+        text.extend_from_slice(part)?;
+    }
+    Ok(())
+}
+
+/// The replies to a new array of 1,024 longs and to a dump: the opening records, the array's record, 8,192 of its 8,210 bytes
+/// zeros, and its root.
+fn dump_of_longs(alloc: Global) -> Result<Vec<u8>, Fail> {
+    let mut text = Vec::new(alloc);
+    text.extend_from_slice(b"ok object 0x10000000\ndata 4a4156412050524f46494c4520312e302e3200")?;
+    text.extend_from_slice(b"000000080000000000000000")?;
+    text.extend_from_slice(b"05000000000000000c000000010000000000000000")?;
+    text.extend_from_slice(b"0c000000000000201b\n")?;
+    text.extend_from_slice(b"data 2300000000100000000000000100000400")?;
+    text.extend_from_slice(b"0b")?;
+    for _ in 0..128 {
+        add_times(&mut text, b"00", 46)?;
+        text.extend_from_slice(b"\ndata ")?;
+        add_times(&mut text, b"00", 18)?;
+    }
+    text.extend_from_slice(b"\ndata ff0000000010000000\nok dump 8280\n")?;
+    Ok(text)
+}
+
+#[test]
+fn a_dump_of_several_pages(rt: HostRuntime) -> Result<(), Fail> {
+    let alloc = rt.alloc();
+    let wanted = dump_of_longs(alloc)?;
+    for most in [1, 7, 4096, usize::MAX] {
+        let reader = Chunks {
+            rest: b"newprim 0 0 long 1024\ndump -\n",
+            size: 4096,
+        };
+        let writer = Sips {
+            taken: Vec::new(alloc),
+            most,
+        };
+        let outcome = play(alloc, machine(alloc, 16, 2, 1024)?, reader, writer)?;
+        assert_eq!(rt; outcome.ended, Ended::Eof);
+        assert!(rt;
+            outcome.writer.taken.as_slice() == wanted.as_slice(),
+            "at {most}"
+        );
+    }
+    Ok(())
+}
+
+#[test]
+fn dump_of_one_point_by_a_machine_of_its_own(rt: HostRuntime) -> Result<(), Fail> {
+    let alloc = rt.alloc();
+    let mut local = machine(alloc, 16, 2, 1024)?;
+    let mut reader = ReadInlet::new(ONE_POINT.as_bytes());
+    let mut writer = WriteOutlet::new(Vec::new(alloc));
+    let ended = serve_local(alloc, &mut reader, &mut writer, &mut local, 0);
+    assert_eq!(rt; ended, Ended::Eof);
+    assert_eq!(rt;
+        writer.into_writer().as_slice(),
+        DUMP_OF_ONE_POINT.as_bytes()
+    );
+    Ok(())
+}

@@ -1,6 +1,5 @@
 -- What a put does.
 use Rattle.std.specs.Prelude.{◌≡◌, ℕ, ◌+◌, ◌<◌, ◌≤◌, List, ◌++◌, map, take, length, Option, Some, None}
-use Rattle.std.specs.Coded.{Unit-prop, Coded-set, coded_list, coded_ℕ}
 use Rattle.std.specs.Io.KnownBytes.{Appends, Keeps}
 use Rattle.dump_pump.specs.declared.Put.{Put}
 use Rattle.dump_pump.specs.declared.Put.TheVariants.{Took, Failed}
@@ -8,6 +7,13 @@ use Rattle.dump_pump.specs.declared.Put.TheVariants.{Took, Failed}
 -- the bytes that were put out so far, and how many puts failed
 pub record Outgoing : Type 0 where
   pub out : List ℕ
+  pub failures : ℕ
+
+-- an outlet's writer, what that told it held when the outlet was made, the bytes put out since, and how many puts failed
+pub record Writing (W : Type 0) : Type 0 where
+  pub writer : W
+  pub held : Option (List ℕ)
+  pub put : List ℕ
   pub failures : ℕ
 
 -- the bytes of a ledger
@@ -28,9 +34,3 @@ IsPut given a b Failed = (b.out ≡ a.out) × (b.failures ≡ a.failures + 1)
 abbrev pub IsTriedWrite : Option (List ℕ) → Option (List ℕ) → Option ℕ → List ℕ → Type 0
 IsTriedWrite old new (Some n) given = (0 < n) × (n ≤ length given) × Appends old new (take n given)
 IsTriedWrite old new None given = Keeps old new
-
--- there is one proof at most that bytes were appended
-pub Appends-prop : (old new : Option (List ℕ)) (bytes : List ℕ) → IsProp (Appends old new bytes)
-Appends-prop None new bytes = Unit-prop
-Appends-prop (Some xs) None bytes = Prim.hlevel
-Appends-prop (Some xs) (Some ys) bytes = Coded-set (coded_list coded_ℕ) ys (xs ++ bytes)

@@ -1,33 +1,45 @@
 //! Outlets over writers.
 ghost use Rattle.std.specs.Prelude.{◌≡◌, ◌<◌, [], length};
 ghost use Rattle.std.specs.Io.KnownBytes.{Appends};
-ghost use Rattle.dump_pump.specs.Outlets.{bytes_of, IsTriedWrite, Appends-prop};
+ghost use Rattle.dump_pump.specs.Outlets.{IsTriedWrite};
 
 use crate::ledger::note_bytes;
 use crate::{Outlet, Put};
 use http_server::Log;
 use std::io::{ErrorKind, Write};
+use std::marker::Model;
 use std::snapshot::Snapshot;
 
 /// How often an interrupted write is made again.
 pub const INTERRUPT_LIMIT: u32 = 100;
 
-/// An outlet of a writer. A write that takes nothing is a failure, and so is one that stays interrupted. Where the writer
-/// told what it held when the outlet was made, it holds that and then all that was put out.
+/// An outlet of a writer. A write that takes nothing is a failure, and so is one that stays interrupted. Contracts see the
+/// writer, what it told that it held when the outlet was made, the bytes put out since, and the number of puts that failed.
+/// Where the writer told what it held, it holds that and then all that was put out.
 #[derive(Drop)]
 pub struct WriteOutlet<W: Write> {
     writer: W,
     start: Snapshot<W>,
     written: Log<u8, ()>,
     failed: Log<(), ()>,
-    ghost held: { Appends (W.contents start.value) (W.contents writer) (bytes_of written.items) } by { Appends-prop (W.contents start.value) (W.contents writer) (bytes_of written.items) },
+}
+
+impl<W: Write> Model for WriteOutlet<W> {
+    ghost use Rattle.std.specs.Prelude.{length};
+    ghost use Rattle.std.specs.Io.KnownBytes.{Appends};
+    ghost use Rattle.dump_pump.specs.Outlets.{Writing, bytes_of};
+
+    ghost Value = { Writing W };
+
+    ghost view = { λ o. record { writer = o.writer; held = W.contents o.start.value; put = bytes_of o.written.items; failures = length o.failed.items } };
+
+    ghost invariant = { λ o. Appends (W.contents o.start.value) (W.contents o.writer) (bytes_of o.written.items) };
 }
 
 impl<W: Write> WriteOutlet<W> {
-    /// An outlet that has put out nothing yet.
+    /// Returns an outlet that has put out nothing yet.
     pub fn new(writer: W) -> WriteOutlet<W>
-        ensures given { (result.writer ≡ writer) × (result.start.value ≡ writer) }
-        ensures nothing { (result.written.items ≡ []) × (result.failed.items ≡ []) }
+        ensures { result ≡ record { writer = writer; held = W.contents writer; put = []; failures = 0 } }
     {
         WriteOutlet {
             start: Snapshot::of(&writer),
@@ -37,10 +49,10 @@ impl<W: Write> WriteOutlet<W> {
         }
     }
 
-    /// The writer. Where it told what it held when the outlet was made, it holds that and then all that was put out.
+    /// Returns the writer. Where it told what it held when the outlet was made, it holds that and then all that was put out.
     pub fn into_writer(self) -> W
         ensures writer { result ≡ self.writer }
-        ensures held { Appends (W.contents self.start.value) (W.contents result) (bytes_of self.written.items) }
+        ensures held { Appends self.held (W.contents result) self.put }
     {
         let WriteOutlet {
             writer,
@@ -72,10 +84,9 @@ fn write_once<W: Write>(writer: &mut W, given: &[u8]) -> Option<usize>
 }
 
 impl<W: Write> Outlet for WriteOutlet<W> {
-    ghost use Rattle.std.specs.Prelude.{length};
-    ghost use Rattle.dump_pump.specs.Outlets.{bytes_of, out_of};
+    ghost use Rattle.dump_pump.specs.Outlets.{out_of};
 
-    ghost seen = { λ o. record { out = out_of (W.contents o.start.value) (bytes_of o.written.items); failures = length o.failed.items } };
+    ghost seen = { λ o. record { out = out_of o.held o.put; failures = o.failures } };
 
     fn put(&mut self, given: &[u8]) -> Put {
         match write_once(&mut self.writer, given) {

@@ -1,5 +1,5 @@
 -- Bytes outside 0x20 to 0x7e, which no word of a line holds that is read.
-use Rattle.std.proofs.Common.{◌≡◌, ◌∙◌, ap, refl, sym, subst, ℕ, ◌≤◌, Bool, true, false, cond, ◌&&◌, List, [], ◌∷◌, length, Option, Some, None, nat_lt, nat_le, ◌==◌, codes, bytes_eq, filter, find, true≢false, lt-ltb, leb-true, le-leb, eqb-true, arith}
+use Rattle.std.proofs.Common.{◌≡◌, ◌∙◌, ap, refl, sym, subst, ℕ, ◌≤◌, Bool, true, false, cond, ◌&&◌, List, [], ◌∷◌, ◌++◌, length, Option, Some, None, nat_lt, nat_le, ◌==◌, codes, bytes_eq, filter, find, true≢false, lt-ltb, leb-true, le-leb, eqb-true, arith}
 use Rattle.std.specs.Prelude.{option_map, option_and_then, unwrap_or}
 use Rattle.std.specs.Char.{is_ascii_digit}
 use Rattle.std.specs.List.{list_all, slice_split, onto_first}
@@ -13,8 +13,8 @@ use Rattle.heap_step.specs.declared.Event.TheVariants.{Class, ArrayClass, NewPri
 use Rattle.heap_trail.specs.declared.Action.TheVariants.{Step}
 use Rattle.session_text.specs.declared.command.Command.{Command}
 use Rattle.session_text.specs.declared.command.Command.TheVariants.{Blank, Bad, Ask, Dump, End}
-use Rattle.session_text.specs.Grammar.{words_of, is_plain, with_digit, value_from, number, number_or_dash, all_kinds, kind_of, field_of, fields_of, next_number, next_kind, at_end, one_number, two_numbers, three_numbers, four_numbers, newprim_line, dump_line, making_line, access_line, marking_line, session_line, class_line, array_line, line_after, command_of_words, command_of_text}
-use Rattle.session_text.specs.Reads.{TakesMemory, MayTakeMemory, plain_field, plain_fields, next_number_or_dash, plain_class, plain_array, read_line}
+use Rattle.session_text.specs.Grammar.{words_of, is_plain, value_of, number, number_or_dash, all_kinds, kind_of, field_of, fields_of, next_number, next_kind, at_end, one_number, two_numbers, three_numbers, four_numbers, newprim_line, dump_line, Rule, class_rules, making_rules, access_rules, marking_rules, session_rules, all_rules, by_rule, class_line, array_line, command_of_words, command_of_text}
+use Rattle.session_text.specs.Reads.{TakesMemory, MayTakeMemory, plain_field, plain_fields, next_number_or_dash, plain_class, plain_array, plain_class_rules, plain_rules}
 
 abbrev pub is_plain_byte : ℕ → Bool
 is_plain_byte b = nat_le 0x20 b && nat_le b 0x7e
@@ -67,27 +67,17 @@ digit_plain b e =
     let high = leb-true b 57 both.1 in
     and_from _ _ (le-leb 32 b (omega (arith, low))) (le-leb b 126 (omega (arith, high)))
 
-digit_some : (b m : ℕ) (v : Bool) (o : Option ℕ) → is_ascii_digit b ≡ v → cond v o None ≡ Some m → is_plain_byte b ≡ true
-digit_some b m true o e h = digit_plain b e
-digit_some b m false o e h = cc
+digits_plain : (w : List ℕ) → list_all is_ascii_digit w ≡ true → is_plain w ≡ true
+digits_plain [] e = refl
+digits_plain (b ∷ w) e = let both = and_parts _ _ e in and_from _ _ (digit_plain b both.0) (digits_plain w both.1)
 
-first_some : (f : ℕ → Option ℕ) (o : Option ℕ) (m : ℕ) → option_and_then f o ≡ Some m → (n : ℕ) × (o ≡ Some n) × (f n ≡ Some m)
-first_some f None m e = cc
-first_some f (Some n) m e = (n, refl, e)
-
-value_plain : (n : ℕ) (w : List ℕ) (m : ℕ) → value_from n w ≡ Some m → is_plain w ≡ true
-value_plain n [] m e = refl
-value_plain n (b ∷ w) m e =
-    let first = first_some (λ k. value_from k w) (with_digit n b) m e in
-    and_from _ _ (digit_some b first.0 _ _ refl first.1) (value_plain first.0 w m first.2)
-
-cond_some : (v : Bool) (o : Option ℕ) (m : ℕ) → cond v o None ≡ Some m → o ≡ Some m
-cond_some true o m e = e
-cond_some false o m e = cc
+if_some : {A : Type 0} (v : Bool) (o : Option A) (x : A) → cond v o None ≡ Some x → (v ≡ true) × (o ≡ Some x)
+if_some true o x e = (refl, e)
+if_some false o x e = cc
 
 number_plain : (w : List ℕ) (n : ℕ) → number w ≡ Some n → is_plain w ≡ true
 unfolding number
-number_plain w n e = value_plain 0 w n (cond_some _ (value_from 0 w) n e)
+number_plain w n e = digits_plain w (and_parts _ _ (if_some _ _ n (if_some _ (value_of w) n e).1).0).0
 
 kind_plain_word : (k : Kind) → is_plain (kind_word k) ≡ true
 kind_plain_word Kind.Object = refl
@@ -203,15 +193,15 @@ dump_plain : (ws : List (List ℕ)) → OnlyPlain ws (dump_line ws)
 dump_plain [] c e = cc
 dump_plain (w ∷ ws) c e = key_plain w (codes "-") ws (at_end Dump ws) None _ refl refl (end_plain Dump ws) (λ d is. cc) c e
 
-session_plain : (w : List ℕ) (ws : List (List ℕ)) → OnlyPlain (w ∷ ws) (session_line w ws)
-unfolding session_line
+session_plain : (w : List ℕ) (ws : List (List ℕ)) → OnlyPlain (w ∷ ws) (by_rule session_rules w ws)
+unfolding by_rule session_rules
 session_plain w ws =
     key_plain w (codes "rewind") ws _ _ _ refl refl (made_plain ws _ (one_number ws) (one_plain ws))
     (key_plain w (codes "dump") ws _ _ _ refl refl (dump_plain ws)
     (key_plain w (codes "end") ws _ None _ refl refl (end_plain End ws) (λ c e. cc)))
 
-marking_plain : (w : List ℕ) (ws : List (List ℕ)) → OnlyPlain (w ∷ ws) (marking_line w ws)
-unfolding marking_line
+marking_plain : (w : List ℕ) (ws : List (List ℕ)) → OnlyPlain (w ∷ ws) (by_rule (marking_rules ++ session_rules) w ws)
+unfolding by_rule marking_rules
 marking_plain w ws =
     key_plain w (codes "snap") ws _ _ _ refl refl (end_plain (Ask (Step Snap)) ws)
     (key_plain w (codes "mark") ws _ _ _ refl refl (end_plain (Ask (Step Mark)) ws)
@@ -219,8 +209,8 @@ marking_plain w ws =
     (key_plain w (codes "finish") ws _ _ _ refl refl (end_plain (Ask (Step Finish)) ws)
     (key_plain w (codes "sweep") ws _ _ _ refl refl (made_plain ws _ (one_number ws) (one_plain ws)) (session_plain w ws)))))
 
-access_plain : (w : List ℕ) (ws : List (List ℕ)) → OnlyPlain (w ∷ ws) (access_line w ws)
-unfolding access_line
+access_plain : (w : List ℕ) (ws : List (List ℕ)) → OnlyPlain (w ∷ ws) (by_rule (access_rules ++ (marking_rules ++ session_rules)) w ws)
+unfolding by_rule access_rules
 access_plain w ws =
     key_plain w (codes "load") ws _ _ _ refl refl (made_plain ws _ (four_numbers ws) (four_plain ws))
     (key_plain w (codes "store") ws _ _ _ refl refl (made_plain ws _ (four_numbers ws) (four_plain ws))
@@ -228,8 +218,8 @@ access_plain w ws =
     (key_plain w (codes "move") ws _ _ _ refl refl (made_plain ws _ (four_numbers ws) (four_plain ws))
     (key_plain w (codes "clear") ws _ _ _ refl refl (made_plain ws _ (two_numbers ws) (two_plain ws)) (marking_plain w ws)))))
 
-making_plain : (w : List ℕ) (ws : List (List ℕ)) → OnlyPlain (w ∷ ws) (making_line w ws)
-unfolding making_line
+making_plain : (w : List ℕ) (ws : List (List ℕ)) → OnlyPlain (w ∷ ws) (by_rule (making_rules ++ (access_rules ++ (marking_rules ++ session_rules))) w ws)
+unfolding by_rule making_rules
 making_plain w ws =
     key_plain w (codes "new") ws _ _ _ refl refl (made_plain ws _ (three_numbers ws) (three_plain ws))
     (key_plain w (codes "newarray") ws _ _ _ refl refl (made_plain ws _ (four_numbers ws) (four_plain ws))
@@ -320,15 +310,18 @@ array_plain (name ∷ ws) = then_if (λ n. array_with n.0 n.1) (is_plain name) (
 
 -- ---- what a text asks for, by its words
 
+abbrev other_rules : List Rule
+other_rules = making_rules ++ (access_rules ++ (marking_rules ++ session_rules))
+
 read_if : (w : List ℕ) (ws : List (List ℕ)) (c a : Bool) → bytes_eq w (codes "class") ≡ c → bytes_eq w (codes "array") ≡ a
-    → cond c (plain_class ws) (cond a (plain_array ws) (making_line w ws)) ≡ cond (are_plain (w ∷ ws)) (cond c (class_line ws) (cond a (array_line ws) (making_line w ws))) None
+    → cond c (plain_class ws) (cond a (plain_array ws) (by_rule other_rules w ws)) ≡ cond (are_plain (w ∷ ws)) (cond c (class_line ws) (cond a (array_line ws) (by_rule other_rules w ws))) None
 read_if w ws true a e h = class_plain ws ∙ ap (λ v. cond (v && are_plain ws) (class_line ws) None) (sym (keyword_plain w (codes "class") e))
 read_if w ws false true e h = array_plain ws ∙ ap (λ v. cond (v && are_plain ws) (array_line ws) None) (sym (keyword_plain w (codes "array") h))
-read_if w ws false false e h = guarded (making_line w ws) (are_plain (w ∷ ws)) (making_plain w ws)
+read_if w ws false false e h = guarded (by_rule other_rules w ws) (are_plain (w ∷ ws)) (making_plain w ws)
 
 -- a line is read where its words are plain
-read_plain : (w : List ℕ) (ws : List (List ℕ)) → read_line w ws ≡ cond (are_plain (w ∷ ws)) (line_after w ws) None
-unfolding read_line line_after
+read_plain : (w : List ℕ) (ws : List (List ℕ)) → by_rule plain_rules w ws ≡ cond (are_plain (w ∷ ws)) (by_rule all_rules w ws) None
+unfolding by_rule class_rules plain_class_rules
 read_plain w ws = read_if w ws _ _ refl refl
 
 text_of_words : (t : List ℕ) (ws : List (List ℕ)) → words_of t ≡ ws → command_of_text t ≡ cond (are_plain ws) (command_of_words ws) Bad
@@ -341,8 +334,8 @@ or_bad : (v : Bool) (o : Option Command) → unwrap_or (cond v o None) Bad ≡ c
 or_bad true o = refl
 or_bad false o = refl
 
-pub text_read : (t w : List ℕ) (ws : List (List ℕ)) → words_of t ≡ w ∷ ws → unwrap_or (read_line w ws) Bad ≡ command_of_text t
-text_read t w ws e = ap (λ o. unwrap_or o Bad) (read_plain w ws) ∙ or_bad (are_plain (w ∷ ws)) (line_after w ws) ∙ sym (text_of_words t (w ∷ ws) e)
+pub text_read : (t w : List ℕ) (ws : List (List ℕ)) → words_of t ≡ w ∷ ws → unwrap_or (by_rule plain_rules w ws) Bad ≡ command_of_text t
+text_read t w ws e = ap (λ o. unwrap_or o Bad) (read_plain w ws) ∙ or_bad (are_plain (w ∷ ws)) (by_rule all_rules w ws) ∙ sym (text_of_words t (w ∷ ws) e)
 
 may_take : (o : Option Command) → MayTakeMemory o → TakesMemory (unwrap_or o Bad)
 may_take None h = h

@@ -1,8 +1,9 @@
 -- The lines of a session.
-use Rattle.std.specs.Prelude.{ℕ, Bool, ◌+◌, ◌*◌, ◌-◌, ◌^◌, ◌&&◌, ◌==◌, nat_lt, nat_le, List, [], ◌∷◌, length, take, drop, slice_index, filter, find, codes, Option, Some, None, unwrap_or, option_map, option_and_then, if◌then◌else◌}
+use Rattle.std.specs.Prelude.{ℕ, Bool, ◌+◌, ◌-◌, ◌^◌, ◌&&◌, ◌==◌, nat_lt, nat_le, List, [], ◌∷◌, ◌++◌, length, take, drop, slice_index, filter, find, codes, Option, Some, None, unwrap_or, option_map, option_and_then, if◌then◌else◌}
 use Rattle.std.specs.Char.{is_ascii_digit}
 use Rattle.std.specs.List.{list_all, position, slice_split}
 use Rattle.std.specs.Str.{bytes_eq}
+use Rattle.std.specs.Str.Parse.{digits_value}
 use Rattle.heap_class.specs.declared.Kind.{Kind}
 use Rattle.heap_class.specs.declared.Kind.TheVariants.{Boolean, Char, Float, Double, Byte, Short, Int, Long}
 use Rattle.heap_class.specs.declared.Field.{Field}
@@ -19,18 +20,13 @@ use Rattle.session_text.specs.declared.command.Command.TheVariants.{Blank, Bad, 
 unfoldable pub words_of : List ℕ → List (List ℕ)
 words_of line = filter (λ w. nat_lt 0 (length w)) (slice_split (λ b. b == 32) line)
 
--- a number with a digit more, where it stays below 2 ^ 64
-abbrev pub with_digit : ℕ → ℕ → Option ℕ
-with_digit n b = if is_ascii_digit b then (if nat_lt (n * 10 + (b - 48)) (2 ^ 64) then Some (n * 10 + (b - 48)) else None) else None
-
--- a number with these digits more
-abbrev pub value_from : ℕ → List ℕ → Option ℕ
-value_from n [] = Some n
-value_from n (b ∷ bs) = option_and_then (λ m. value_from m bs) (with_digit n b)
+-- the value of decimal digits, where it is below 2 ^ 64
+abbrev pub value_of : List ℕ → Option ℕ
+value_of ds = if list_all is_ascii_digit ds && nat_lt (digits_value 10 ds) (2 ^ 64) then Some (digits_value 10 ds) else None
 
 -- 1 to 20 decimal digits with a value below 2 ^ 64
 unfoldable pub number : List ℕ → Option ℕ
-number w = if nat_lt 0 (length w) && nat_le (length w) 20 then value_from 0 w else None
+number w = if nat_lt 0 (length w) && nat_le (length w) 20 then value_of w else None
 
 -- a number, or None for `-`
 abbrev pub number_or_dash : List ℕ → Option (Option ℕ)
@@ -147,54 +143,57 @@ dump_line (w ∷ ws) = if bytes_eq w (codes "-") then at_end Dump ws else None
 abbrev pub end_line : List (List ℕ) → Option Command
 end_line ws = at_end End ws
 
--- ---- the lines that take no memory for their reading, in four parts, each of which goes on with the one above it
+-- ---- the table of lines
 
--- those that ask the machine or the session for something
-unfoldable pub session_line : List ℕ → List (List ℕ) → Option Command
-session_line w ws =
-    if bytes_eq w (codes "rewind") then rewind_line ws
-    else if bytes_eq w (codes "dump") then dump_line ws
-    else if bytes_eq w (codes "end") then end_line ws
-    else None
+-- a keyword, and what the words after it ask for
+abbrev pub Rule : Type 0
+Rule = List ℕ × (List (List ℕ) → Option Command)
 
--- those that mark or sweep, and the above
-unfoldable pub marking_line : List ℕ → List (List ℕ) → Option Command
-marking_line w ws =
-    if bytes_eq w (codes "snap") then step_line Snap ws
-    else if bytes_eq w (codes "mark") then step_line Mark ws
-    else if bytes_eq w (codes "drain") then step_line Drain ws
-    else if bytes_eq w (codes "finish") then step_line Finish ws
-    else if bytes_eq w (codes "sweep") then sweep_line ws
-    else session_line w ws
+-- lines that define a class
+unfoldable pub class_rules : List Rule
+class_rules = (codes "class", class_line) ∷ (codes "array", array_line) ∷ []
 
--- those that read or write a slot or a register, and all the above
-unfoldable pub access_line : List ℕ → List (List ℕ) → Option Command
-access_line w ws =
-    if bytes_eq w (codes "load") then load_line ws
-    else if bytes_eq w (codes "store") then store_line ws
-    else if bytes_eq w (codes "put") then put_line ws
-    else if bytes_eq w (codes "move") then move_line ws
-    else if bytes_eq w (codes "clear") then clear_line ws
-    else marking_line w ws
+-- lines that make an object
+unfoldable pub making_rules : List Rule
+making_rules = (codes "new", new_line) ∷ (codes "newarray", newarray_line) ∷ (codes "newprim", newprim_line) ∷ []
 
--- those that make an object, and all the above
-unfoldable pub making_line : List ℕ → List (List ℕ) → Option Command
-making_line w ws =
-    if bytes_eq w (codes "new") then new_line ws
-    else if bytes_eq w (codes "newarray") then newarray_line ws
-    else if bytes_eq w (codes "newprim") then newprim_line ws
-    else access_line w ws
+-- lines that read or write a slot or a register
+unfoldable pub access_rules : List Rule
+access_rules =
+    (codes "load", load_line)
+    ∷ (codes "store", store_line)
+    ∷ (codes "put", put_line)
+    ∷ (codes "move", move_line)
+    ∷ (codes "clear", clear_line)
+    ∷ []
 
-unfoldable pub line_after : List ℕ → List (List ℕ) → Option Command
-line_after w ws =
-    if bytes_eq w (codes "class") then class_line ws
-    else if bytes_eq w (codes "array") then array_line ws
-    else making_line w ws
+-- lines that mark or sweep
+unfoldable pub marking_rules : List Rule
+marking_rules =
+    (codes "snap", step_line Snap)
+    ∷ (codes "mark", step_line Mark)
+    ∷ (codes "drain", step_line Drain)
+    ∷ (codes "finish", step_line Finish)
+    ∷ (codes "sweep", sweep_line)
+    ∷ []
+
+-- lines that ask the machine or the session for something
+unfoldable pub session_rules : List Rule
+session_rules = (codes "rewind", rewind_line) ∷ (codes "dump", dump_line) ∷ (codes "end", end_line) ∷ []
+
+-- all lines
+abbrev pub all_rules : List Rule
+all_rules = class_rules ++ (making_rules ++ (access_rules ++ (marking_rules ++ session_rules)))
+
+-- what a line asks for, by the rule of its first word
+unfoldable pub by_rule : List Rule → List ℕ → List (List ℕ) → Option Command
+by_rule [] w ws = None
+by_rule (rule ∷ rules) w ws = if bytes_eq w rule.0 then rule.1 ws else by_rule rules w ws
 
 -- the command of these words
 abbrev pub command_of_words : List (List ℕ) → Command
 command_of_words [] = Blank
-command_of_words (w ∷ ws) = unwrap_or (line_after w ws) Bad
+command_of_words (w ∷ ws) = unwrap_or (by_rule all_rules w ws) Bad
 
 -- one CR at the end is dropped
 abbrev pub without_cr : List ℕ → List ℕ

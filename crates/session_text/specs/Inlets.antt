@@ -11,6 +11,13 @@ pub record Incoming : Type 0 where
   pub reads : List ℕ
   pub failures : ℕ
 
+-- an inlet's reader, the bytes that it gave since the inlet was made, how many each read took, and how many reads failed
+pub record Reading (R : Type 0) : Type 0 where
+  pub reader : R
+  pub taken : List ℕ
+  pub reads : List ℕ
+  pub failures : ℕ
+
 -- all bytes, where they are known
 abbrev pub whole : Incoming → Option (List ℕ)
 whole a = option_map (λ xs. a.taken ++ xs) a.left

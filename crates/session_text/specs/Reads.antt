@@ -1,5 +1,6 @@
 -- How lines are read, and which take memory for it.
-use Rattle.std.specs.Prelude.{◌≡◌, ℕ, ◌+◌, ◌-◌, ◌≤◌, All, length, ◌==◌, nat_le, List, [], ◌∷◌, take, drop, codes, Option, Some, None, option_map, option_and_then, if◌then◌else◌}
+use Rattle.std.specs.Prelude.{◌≡◌, ℕ, ◌+◌, ◌-◌, ◌*◌, ◌^◌, ◌≤◌, All, length, ◌==◌, nat_lt, nat_le, List, [], ◌∷◌, ◌++◌, take, drop, codes, Option, Some, None, option_map, option_and_then, if◌then◌else◌}
+use Rattle.std.specs.Char.{is_ascii_digit}
 use Rattle.std.specs.List.{position_or_len}
 use Rattle.std.specs.Str.{bytes_eq}
 use Rattle.heap_class.specs.declared.Field.{Field}
@@ -7,7 +8,7 @@ use Rattle.heap_step.specs.declared.Event.{Event}
 use Rattle.heap_step.specs.declared.Event.TheVariants.{Class, ArrayClass, New, NewArray, NewPrim, Load, Store, Put, Move, Clear, Snap, Mark, Drain, Finish, Sweep}
 use Rattle.heap_trail.specs.declared.Action.{Action}
 use Rattle.heap_trail.specs.declared.Action.TheVariants.{Step, Rewind}
-use Rattle.session_text.specs.Grammar.{words_of, is_plain, value_from, number_or_dash, field_of, at_end, making_line}
+use Rattle.session_text.specs.Grammar.{words_of, is_plain, Rule, value_of, number_or_dash, field_of, at_end, making_rules, access_rules, marking_rules, session_rules}
 use Rattle.session_text.specs.declared.marks.FieldMark.{FieldMark}
 use Rattle.session_text.specs.declared.command.Command.{Command}
 use Rattle.session_text.specs.declared.command.Command.TheVariants.{Blank, Bad, Ask, Dump, End}
@@ -65,9 +66,13 @@ IsFront ws left t = (t ≡ left) × (ws ≡ first_word t ∷ words_of (drop (wor
 abbrev pub IsRestOf : List ℕ → List ℕ → Type 0
 IsRestOf text rest = (length rest ≤ length text) × (rest ≡ drop (length text - length rest) text)
 
+-- a number with a digit more, where it stays below 2 ^ 64
+abbrev pub with_digit : ℕ → ℕ → Option ℕ
+with_digit n b = if is_ascii_digit b then (if nat_lt (n * 10 + (b - 48)) (2 ^ 64) then Some (n * 10 + (b - 48)) else None) else None
+
 -- the value of up to 20 digits
 abbrev pub digits_at : List ℕ → Option (ℕ × ℕ)
-digits_at t = with_size t (if nat_le (word_size t) 20 then value_from 0 (first_word t) else None)
+digits_at t = with_size t (if nat_le (word_size t) 20 then value_of (first_word t) else None)
 
 -- ---- words without a bad byte
 
@@ -105,12 +110,12 @@ plain_class ws =
 abbrev pub plain_array : List (List ℕ) → Option Command
 plain_array ws = option_and_then (λ name. at_end (Ask (Step (ArrayClass name.0))) name.1) (next_name ws)
 
--- a line without a bad byte
-unfoldable pub read_line : List ℕ → List (List ℕ) → Option Command
-read_line w ws =
-    if bytes_eq w (codes "class") then plain_class ws
-    else if bytes_eq w (codes "array") then plain_array ws
-    else making_line w ws
+-- the table of lines without a bad byte: only names can have one
+unfoldable pub plain_class_rules : List Rule
+plain_class_rules = (codes "class", plain_class) ∷ (codes "array", plain_array) ∷ []
+
+abbrev pub plain_rules : List Rule
+plain_rules = plain_class_rules ++ (making_rules ++ (access_rules ++ (marking_rules ++ session_rules)))
 
 -- ---- the words after the first
 

@@ -1,8 +1,8 @@
 //! What a line asks for.
-ghost use Rattle.std.specs.Prelude.{◌≡◌, ◌≤◌, length, option_map, MatchResult};
+ghost use Rattle.std.specs.Prelude.{◌≡◌, ◌≤◌, ◌++◌, length, option_map, MatchResult};
 ghost use Rattle.std.specs.Str.{bytes_eq};
-ghost use Rattle.session_text.specs.Grammar.{words_of, next_number, next_kind, at_end, one_number, three_numbers, two_numbers, four_numbers, new_line, newarray_line, newprim_line, load_line, store_line, put_line, move_line, clear_line, step_line, sweep_line, rewind_line, dump_line, end_line, making_line, access_line, marking_line, session_line, without_cr, command_of_text, command_of};
-ghost use Rattle.session_text.specs.Reads.{TakesMemory, MayTakeMemory, IsNext, next_number_or_dash, next_name, plain_class, plain_array, read_line};
+ghost use Rattle.session_text.specs.Grammar.{words_of, next_number, next_kind, at_end, one_number, three_numbers, two_numbers, four_numbers, new_line, newarray_line, newprim_line, load_line, store_line, put_line, move_line, clear_line, step_line, sweep_line, rewind_line, dump_line, end_line, making_rules, access_rules, marking_rules, session_rules, by_rule, without_cr, command_of_text, command_of};
+ghost use Rattle.session_text.specs.Reads.{TakesMemory, MayTakeMemory, IsNext, next_number_or_dash, next_name, plain_class, plain_array, plain_rules};
 
 use crate::fields::{copied_all, kind_at, name_at, read_fields};
 use crate::marks::FieldMarks;
@@ -37,7 +37,7 @@ fn is_word(word: &[u8], name: &[u8]) -> bool
 
 /// The number that the next word is.
 fn next_number(words: &mut Words) -> Option<u64>
-    ensures { IsNext (next_number (words_of words.old.rest.now)) (words_of words.new.rest.now) result }
+    ensures { IsNext (next_number (words_of words.old)) (words_of words.new) result }
 {
     let (value, size) = number_at(words.front()?)?;
     words.pass(size);
@@ -46,8 +46,8 @@ fn next_number(words: &mut Words) -> Option<u64>
 
 /// The number that the next word is, or None where it is `-`.
 fn next_number_or_dash(words: &mut Words) -> Option<Option<u64>>
-    ensures next { IsNext (next_number_or_dash (words_of words.old.rest.now)) (words_of words.new.rest.now) result }
-    ensures shorter { length words.new.rest.now ≤ length words.old.rest.now }
+    ensures next { IsNext (next_number_or_dash (words_of words.old)) (words_of words.new) result }
+    ensures shorter { length words.new ≤ length words.old }
 {
     let (value, size) = number_or_dash_at(words.front()?)?;
     words.pass(size);
@@ -56,7 +56,7 @@ fn next_number_or_dash(words: &mut Words) -> Option<Option<u64>>
 
 /// The kind that the next word names.
 fn next_kind(words: &mut Words) -> Option<Kind>
-    ensures { IsNext (next_kind (words_of words.old.rest.now)) (words_of words.new.rest.now) result }
+    ensures { IsNext (next_kind (words_of words.old)) (words_of words.new) result }
 {
     let (kind, size) = kind_at(words.front()?)?;
     words.pass(size);
@@ -65,8 +65,8 @@ fn next_kind(words: &mut Words) -> Option<Kind>
 
 /// The next word, where none of its bytes is bad.
 fn next_name<'a>(words: &mut Words<'a>) -> Option<&'a [u8]>
-    ensures next { IsNext (next_name (words_of words.old.rest.now)) (words_of words.new.rest.now) (option_map (λ w. w.now) result) }
-    ensures shorter { length words.new.rest.now ≤ length words.old.rest.now }
+    ensures next { IsNext (next_name (words_of words.old)) (words_of words.new) (option_map (λ w. w.now) result) }
+    ensures shorter { length words.new ≤ length words.old }
 {
     let text = words.front()?;
     let size = name_at(text)?;
@@ -76,7 +76,7 @@ fn next_name<'a>(words: &mut Words<'a>) -> Option<&'a [u8]>
 
 /// A value, where no word is left.
 fn at_end<T: Drop>(value: T, mut words: Words) -> Option<T>
-    ensures { result ≡ at_end value (words_of words.entry.rest.now) }
+    ensures { result ≡ at_end value (words_of words.entry) }
 {
     if words.front().is_some() {
         return None;
@@ -86,7 +86,7 @@ fn at_end<T: Drop>(value: T, mut words: Words) -> Option<T>
 
 /// The words' one number.
 fn one_number(mut words: Words) -> Option<u64>
-    ensures { result ≡ one_number (words_of words.entry.rest.now) }
+    ensures { result ≡ one_number (words_of words.entry) }
 {
     let a = next_number(&mut words)?;
     at_end(a, words)
@@ -94,7 +94,7 @@ fn one_number(mut words: Words) -> Option<u64>
 
 /// The words' two numbers.
 fn two_numbers(mut words: Words) -> Option<(u64, u64)>
-    ensures { result ≡ two_numbers (words_of words.entry.rest.now) }
+    ensures { result ≡ two_numbers (words_of words.entry) }
 {
     let a = next_number(&mut words)?;
     let b = next_number(&mut words)?;
@@ -103,7 +103,7 @@ fn two_numbers(mut words: Words) -> Option<(u64, u64)>
 
 /// The words' three numbers.
 fn three_numbers(mut words: Words) -> Option<(u64, u64, u64)>
-    ensures { result ≡ three_numbers (words_of words.entry.rest.now) }
+    ensures { result ≡ three_numbers (words_of words.entry) }
 {
     let a = next_number(&mut words)?;
     let b = next_number(&mut words)?;
@@ -113,7 +113,7 @@ fn three_numbers(mut words: Words) -> Option<(u64, u64, u64)>
 
 /// The words' four numbers.
 fn four_numbers(mut words: Words) -> Option<(u64, u64, u64, u64)>
-    ensures { result ≡ four_numbers (words_of words.entry.rest.now) }
+    ensures { result ≡ four_numbers (words_of words.entry) }
 {
     let a = next_number(&mut words)?;
     let b = next_number(&mut words)?;
@@ -128,8 +128,8 @@ fn class_line(
     marks: &mut FieldMarks,
     mut words: Words,
 ) -> Result<Option<Command>, AllocError>
-    requires { length words.rest.now ≤ 4096 }
-    ensures { MatchResult result (λ c. c ≡ plain_class (words_of words.entry.rest.now)) (λ _. MayTakeMemory (plain_class (words_of words.entry.rest.now))) }
+    requires { length words ≤ 4096 }
+    ensures { MatchResult result (λ c. c ≡ plain_class (words_of words.entry)) (λ _. MayTakeMemory (plain_class (words_of words.entry))) }
 {
     let Some(name) = next_name(&mut words) else {
         return Ok(None);
@@ -148,7 +148,7 @@ fn class_line(
 
 /// `array NAME`. No memory is taken where it isn't one.
 fn array_line(alloc: Global, mut words: Words) -> Result<Option<Command>, AllocError>
-    ensures { MatchResult result (λ c. c ≡ plain_array (words_of words.entry.rest.now)) (λ _. MayTakeMemory (plain_array (words_of words.entry.rest.now))) }
+    ensures { MatchResult result (λ c. c ≡ plain_array (words_of words.entry)) (λ _. MayTakeMemory (plain_array (words_of words.entry))) }
 {
     let Some(name) = next_name(&mut words) else {
         return Ok(None);
@@ -162,7 +162,7 @@ fn array_line(alloc: Global, mut words: Words) -> Result<Option<Command>, AllocE
 
 /// `new M R CLASS`.
 fn new_line(words: Words) -> Option<Command>
-    ensures { result ≡ new_line (words_of words.entry.rest.now) }
+    ensures { result ≡ new_line (words_of words.entry) }
 {
     let (m, r, class) = three_numbers(words)?;
     Some(Command::Ask(Action::Step(Event::New { m, r, class })))
@@ -170,7 +170,7 @@ fn new_line(words: Words) -> Option<Command>
 
 /// `newarray M R CLASS LEN`.
 fn newarray_line(words: Words) -> Option<Command>
-    ensures { result ≡ newarray_line (words_of words.entry.rest.now) }
+    ensures { result ≡ newarray_line (words_of words.entry) }
 {
     let (m, r, class, len) = four_numbers(words)?;
     Some(Command::Ask(Action::Step(Event::NewArray { m, r, class, len })))
@@ -178,7 +178,7 @@ fn newarray_line(words: Words) -> Option<Command>
 
 /// `newprim M R KIND LEN`.
 fn newprim_line(mut words: Words) -> Option<Command>
-    ensures { result ≡ newprim_line (words_of words.entry.rest.now) }
+    ensures { result ≡ newprim_line (words_of words.entry) }
 {
     let m = next_number(&mut words)?;
     let r = next_number(&mut words)?;
@@ -192,7 +192,7 @@ fn newprim_line(mut words: Words) -> Option<Command>
 
 /// `load M TO FROM SLOT`.
 fn load_line(words: Words) -> Option<Command>
-    ensures { result ≡ load_line (words_of words.entry.rest.now) }
+    ensures { result ≡ load_line (words_of words.entry) }
 {
     let (m, to, from, slot) = four_numbers(words)?;
     Some(Command::Ask(Action::Step(Event::Load { m, to, from, slot })))
@@ -200,7 +200,7 @@ fn load_line(words: Words) -> Option<Command>
 
 /// `store M TARGET SLOT SOURCE`.
 fn store_line(words: Words) -> Option<Command>
-    ensures { result ≡ store_line (words_of words.entry.rest.now) }
+    ensures { result ≡ store_line (words_of words.entry) }
 {
     let (m, target, slot, source) = four_numbers(words)?;
     Some(Command::Ask(Action::Step(Event::Store {
@@ -213,7 +213,7 @@ fn store_line(words: Words) -> Option<Command>
 
 /// `put M TARGET SLOT VALUE`.
 fn put_line(words: Words) -> Option<Command>
-    ensures { result ≡ put_line (words_of words.entry.rest.now) }
+    ensures { result ≡ put_line (words_of words.entry) }
 {
     let (m, target, slot, value) = four_numbers(words)?;
     Some(Command::Ask(Action::Step(Event::Put {
@@ -226,7 +226,7 @@ fn put_line(words: Words) -> Option<Command>
 
 /// `move M TO FROM_M FROM`.
 fn move_line(words: Words) -> Option<Command>
-    ensures { result ≡ move_line (words_of words.entry.rest.now) }
+    ensures { result ≡ move_line (words_of words.entry) }
 {
     let (m, to, from_m, from) = four_numbers(words)?;
     Some(Command::Ask(Action::Step(Event::Move {
@@ -239,7 +239,7 @@ fn move_line(words: Words) -> Option<Command>
 
 /// `clear M R`.
 fn clear_line(words: Words) -> Option<Command>
-    ensures { result ≡ clear_line (words_of words.entry.rest.now) }
+    ensures { result ≡ clear_line (words_of words.entry) }
 {
     let (m, r) = two_numbers(words)?;
     Some(Command::Ask(Action::Step(Event::Clear { m, r })))
@@ -247,14 +247,14 @@ fn clear_line(words: Words) -> Option<Command>
 
 /// A step that takes no words.
 fn step_line(event: Event, words: Words) -> Option<Command>
-    ensures { result ≡ step_line event (words_of words.entry.rest.now) }
+    ensures { result ≡ step_line event (words_of words.entry) }
 {
     at_end(Command::Ask(Action::Step(event)), words)
 }
 
 /// `sweep REGION`.
 fn sweep_line(words: Words) -> Option<Command>
-    ensures { result ≡ sweep_line (words_of words.entry.rest.now) }
+    ensures { result ≡ sweep_line (words_of words.entry) }
 {
     let region = one_number(words)?;
     Some(Command::Ask(Action::Step(Event::Sweep { region })))
@@ -262,7 +262,7 @@ fn sweep_line(words: Words) -> Option<Command>
 
 /// `rewind N`.
 fn rewind_line(words: Words) -> Option<Command>
-    ensures { result ≡ rewind_line (words_of words.entry.rest.now) }
+    ensures { result ≡ rewind_line (words_of words.entry) }
 {
     let n = one_number(words)?;
     Some(Command::Ask(Action::Rewind(n)))
@@ -270,7 +270,7 @@ fn rewind_line(words: Words) -> Option<Command>
 
 /// `dump -`.
 fn dump_line(mut words: Words) -> Option<Command>
-    ensures { result ≡ dump_line (words_of words.entry.rest.now) }
+    ensures { result ≡ dump_line (words_of words.entry) }
 {
     let word = words.next_word()?;
     if !is_word(word, b"-") {
@@ -281,15 +281,15 @@ fn dump_line(mut words: Words) -> Option<Command>
 
 /// `end`.
 fn end_line(words: Words) -> Option<Command>
-    ensures { result ≡ end_line (words_of words.entry.rest.now) }
+    ensures { result ≡ end_line (words_of words.entry) }
 {
     at_end(Command::End, words)
 }
 
 /// The command of a first word that makes an object, or of one of `access_line`, and of the words after it.
-#[tactic(auto, unfolding(crate::specs::Grammar::making_line))]
+#[tactic(auto, unfolding(crate::specs::Grammar::by_rule, crate::specs::Grammar::making_rules))]
 fn making_line(word: &[u8], words: Words) -> Option<Command>
-    ensures { result ≡ making_line word.now (words_of words.entry.rest.now) }
+    ensures { result ≡ by_rule (making_rules ++ (access_rules ++ (marking_rules ++ session_rules))) word.now (words_of words.entry) }
 {
     if is_word(word, b"new") {
         return new_line(words);
@@ -304,9 +304,9 @@ fn making_line(word: &[u8], words: Words) -> Option<Command>
 }
 
 /// The command of a first word that reads or writes a slot or a register, or of one of `marking_line`, and of the words after it.
-#[tactic(auto, unfolding(crate::specs::Grammar::access_line))]
+#[tactic(auto, unfolding(crate::specs::Grammar::by_rule, crate::specs::Grammar::access_rules))]
 fn access_line(word: &[u8], words: Words) -> Option<Command>
-    ensures { result ≡ access_line word.now (words_of words.entry.rest.now) }
+    ensures { result ≡ by_rule (access_rules ++ (marking_rules ++ session_rules)) word.now (words_of words.entry) }
 {
     if is_word(word, b"load") {
         return load_line(words);
@@ -327,9 +327,9 @@ fn access_line(word: &[u8], words: Words) -> Option<Command>
 }
 
 /// The command of a first word that marks or sweeps, or of one of `session_line`, and of the words after it.
-#[tactic(auto, unfolding(crate::specs::Grammar::marking_line))]
+#[tactic(auto, unfolding(crate::specs::Grammar::by_rule, crate::specs::Grammar::marking_rules))]
 fn marking_line(word: &[u8], words: Words) -> Option<Command>
-    ensures { result ≡ marking_line word.now (words_of words.entry.rest.now) }
+    ensures { result ≡ by_rule (marking_rules ++ session_rules) word.now (words_of words.entry) }
 {
     if is_word(word, b"snap") {
         return step_line(Event::Snap, words);
@@ -350,9 +350,9 @@ fn marking_line(word: &[u8], words: Words) -> Option<Command>
 }
 
 /// The command of a first word that asks the machine or the session for something, and of the words after it.
-#[tactic(auto, unfolding(crate::specs::Grammar::session_line))]
+#[tactic(auto, unfolding(crate::specs::Grammar::by_rule, crate::specs::Grammar::session_rules))]
 fn session_line(word: &[u8], words: Words) -> Option<Command>
-    ensures { result ≡ session_line word.now (words_of words.entry.rest.now) }
+    ensures { result ≡ by_rule session_rules word.now (words_of words.entry) }
 {
     if is_word(word, b"rewind") {
         return rewind_line(words);
@@ -367,15 +367,15 @@ fn session_line(word: &[u8], words: Words) -> Option<Command>
 }
 
 /// The command of a first word and those after it.
-#[tactic(auto, unfolding(crate::specs::Reads::read_line))]
+#[tactic(auto, unfolding(crate::specs::Grammar::by_rule, crate::specs::Reads::plain_class_rules))]
 fn line_after(
     alloc: Global,
     marks: &mut FieldMarks,
     word: &[u8],
     words: Words,
 ) -> Result<Option<Command>, AllocError>
-    requires { length words.rest.now ≤ 4096 }
-    ensures { MatchResult result (λ c. c ≡ read_line word.now (words_of words.entry.rest.now)) (λ _. MayTakeMemory (read_line word.now (words_of words.entry.rest.now))) }
+    requires { length words ≤ 4096 }
+    ensures { MatchResult result (λ c. c ≡ by_rule plain_rules word.now (words_of words.entry)) (λ _. MayTakeMemory (by_rule plain_rules word.now (words_of words.entry))) }
 {
     if is_word(word, b"class") {
         return class_line(alloc, marks, words);

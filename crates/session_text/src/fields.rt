@@ -113,8 +113,8 @@ pub fn field_at(text: &[u8]) -> Option<FieldSize>
 
 /// Reads all words that are left as fields, which stand in what isn't read yet. False where one of them is none.
 pub fn read_fields(mut words: Words, marks: &mut FieldMarks) -> bool
-    requires { length words.rest.now ≤ 4096 }
-    ensures { MatchBool result ((plain_fields (words_of words.entry.rest.now) ≡ Some (map (field_of_mark words.entry.rest.now) marks.new)) × AreWithin words.entry.rest.now marks.new) (plain_fields (words_of words.entry.rest.now) ≡ None) }
+    requires { length words ≤ 4096 }
+    ensures { MatchBool result ((plain_fields (words_of words.entry) ≡ Some (map (field_of_mark words.entry) marks.new)) × AreWithin words.entry marks.new) (plain_fields (words_of words.entry) ≡ None) }
 {
     marks.clear();
     let size = words.rest().len();

@@ -4,21 +4,21 @@
 ghost use Rattle.std.specs.Prelude.{◌≡◌};
 ghost use Rattle.session_text.specs.Limits.{is_whole};
 
-pub mod answer;
-pub mod buffer;
-pub mod command;
+mod answer;
+mod buffer;
+mod command;
 pub mod commands;
-pub mod dump;
-pub mod fields;
+mod dump;
+mod fields;
 pub mod inlet;
-pub mod marks;
-pub mod number;
-pub mod page;
+mod marks;
+mod number;
+mod page;
 pub mod read_inlet;
-pub mod reply;
-pub mod talk;
-pub mod words;
-pub mod write;
+mod reply;
+mod talk;
+mod words;
+mod write;
 
 pub use commands::{Commands, Local};
 pub use inlet::{Inlet, Take};

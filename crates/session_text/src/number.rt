@@ -1,8 +1,8 @@
 //! Numbers in decimal.
 ghost use Rattle.std.specs.Prelude.{◌≡◌, ◌≤◌, length, codes, IfSome};
 ghost use Rattle.std.specs.Str.{bytes_eq};
-ghost use Rattle.session_text.specs.Grammar.{number, number_or_dash, with_digit};
-ghost use Rattle.session_text.specs.Reads.{first_word, with_size, digits_at};
+ghost use Rattle.session_text.specs.Grammar.{number, number_or_dash};
+ghost use Rattle.session_text.specs.Reads.{first_word, with_digit, with_size, digits_at};
 
 use crate::words::SPACE;
 

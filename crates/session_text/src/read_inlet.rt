@@ -6,11 +6,13 @@ use crate::inlet::{Inlet, Take, count_of};
 use dump_pump::ledger::note_bytes;
 use http_server::Log;
 use std::io::{ErrorKind, Read};
+use std::marker::Model;
 
 /// How often an interrupted read is made again.
 pub const INTERRUPT_LIMIT: u32 = 100;
 
-/// An inlet of a reader. A read that stays interrupted is a failure.
+/// An inlet of a reader. A read that stays interrupted is a failure. Contracts see the reader, the bytes that it gave since the
+/// inlet was made, how many each read took, and the number of reads that failed.
 #[derive(Drop)]
 pub struct ReadInlet<R: Read> {
     reader: R,
@@ -19,11 +21,20 @@ pub struct ReadInlet<R: Read> {
     failed: Log<(), ()>,
 }
 
+impl<R: Read> Model for ReadInlet<R> {
+    ghost use Rattle.std.specs.Prelude.{length, map};
+    ghost use Rattle.dump_pump.specs.Outlets.{bytes_of};
+    ghost use Rattle.session_text.specs.Inlets.{Reading};
+
+    ghost Value = { Reading R };
+
+    ghost view = { λ i. record { reader = i.reader; taken = bytes_of i.taken.items; reads = map (λ e. e.0) i.asked.items; failures = length i.failed.items } };
+}
+
 impl<R: Read> ReadInlet<R> {
-    /// An inlet that has given nothing yet.
+    /// Returns an inlet that has given nothing yet.
     pub fn new(reader: R) -> ReadInlet<R>
-        ensures given { result.reader ≡ reader }
-        ensures nothing { (result.taken.items ≡ []) × (result.asked.items ≡ []) × (result.failed.items ≡ []) }
+        ensures { result ≡ record { reader = reader; taken = []; reads = []; failures = 0 } }
     {
         ReadInlet {
             reader,
@@ -33,7 +44,7 @@ impl<R: Read> ReadInlet<R> {
         }
     }
 
-    /// The reader.
+    /// Returns the reader.
     pub fn into_reader(self) -> R
         ensures { result ≡ self.reader }
     {
@@ -67,10 +78,7 @@ fn read_once<R: Read>(reader: &mut R, room: &mut [u8]) -> Take
 }
 
 impl<R: Read> Inlet for ReadInlet<R> {
-    ghost use Rattle.std.specs.Prelude.{length, map};
-    ghost use Rattle.dump_pump.specs.Outlets.{bytes_of};
-
-    ghost seen = { λ i. record { taken = bytes_of i.taken.items; left = R.remaining i.reader; reads = map (λ e. e.0) i.asked.items; failures = length i.failed.items } };
+    ghost seen = { λ i. record { taken = i.taken; left = R.remaining i.reader; reads = i.reads; failures = i.failures } };
 
     fn take(&mut self, room: &mut [u8]) -> Take {
         let took = read_once(&mut self.reader, room);

@@ -4,11 +4,13 @@ ghost use Rattle.std.specs.List.{position};
 ghost use Rattle.session_text.specs.Grammar.{words_of};
 ghost use Rattle.session_text.specs.Reads.{word_size, IsFront, IsRestOf};
 
+use std::marker::Model;
+
 /// What stands between words.
 pub const SPACE: u8 = b' ';
 
 /// What isn't read yet of a text's words, which are its longest runs of bytes other than space. It goes on only and has no copy:
-/// what was passed can't be read again.
+/// what was passed can't be read again. Contracts see the text that is left.
 #[derive(Drop)]
 pub struct Words<'a> {
     rest: &'a [u8],
@@ -37,25 +39,33 @@ pub fn word_size(text: &[u8]) -> usize
     first_space(text).unwrap_or(text.len())
 }
 
+impl<'a> Model for Words<'a> {
+    ghost use Rattle.std.specs.Prelude.{List, ℕ};
+
+    ghost Value = { List ℕ };
+
+    ghost view = { λ w. w.rest.now };
+}
+
 impl<'a> Words<'a> {
     /// All words of a text.
     pub fn new(text: &'a [u8]) -> Words<'a>
-        ensures { result.rest.now ≡ text.now }
+        ensures { result ≡ text.now }
     {
         Words { rest: text }
     }
 
     /// What isn't read yet.
     pub fn rest(&self) -> &'a [u8]
-        ensures { result.now ≡ self.now.rest.now }
+        ensures { result.now ≡ self.now }
     {
         self.rest
     }
 
     /// What isn't read yet, from its first word on, if it has one. Only spaces are passed.
     pub fn front(&mut self) -> Option<&'a [u8]>
-        ensures front { MatchOption result (words_of self.old.rest.now ≡ []) (λ t. IsFront (words_of self.old.rest.now) self.new.rest.now t.now) }
-        ensures rest { IsRestOf self.old.rest.now self.new.rest.now }
+        ensures front { MatchOption result (words_of self.old ≡ []) (λ t. IsFront (words_of self.old) self.new t.now) }
+        ensures rest { IsRestOf self.old self.new }
     {
         let start = word_start(self.rest)?;
         self.rest = &self.rest[start..];
@@ -64,18 +74,18 @@ impl<'a> Words<'a> {
 
     /// Passes so many bytes and the one behind them, if there is one. After a word that one is a space.
     pub fn pass(&mut self, size: usize)
-        requires { size ≤ length self.old.rest.now }
-        ensures next { self.new.rest.now ≡ drop (size + 1) self.old.rest.now }
-        ensures rest { IsRestOf self.old.rest.now self.new.rest.now }
-        ensures shorter { length self.new.rest.now + size ≤ length self.old.rest.now }
+        requires { size ≤ length self.old }
+        ensures next { self.new ≡ drop (size + 1) self.old }
+        ensures rest { IsRestOf self.old self.new }
+        ensures shorter { length self.new + size ≤ length self.old }
     {
         self.rest = self.rest.get(size + 1..).unwrap_or(&[]);
     }
 
     /// The next word.
     pub fn next_word(&mut self) -> Option<&'a [u8]>
-        ensures next { MatchOption result (words_of self.old.rest.now ≡ []) (λ w. words_of self.old.rest.now ≡ w.now ∷ words_of self.new.rest.now) }
-        ensures shorter { length self.new.rest.now ≤ length self.old.rest.now }
+        ensures next { MatchOption result (words_of self.old ≡ []) (λ w. words_of self.old ≡ w.now ∷ words_of self.new) }
+        ensures shorter { length self.new ≤ length self.old }
     {
         let text = self.front()?;
         let size = word_size(text);

@@ -10,11 +10,11 @@ returns-in_default c = text_blank c.args.text.now (ap words_of (sym c.new-words.
 
 pub returns-in_err-line_after : goal.returns-in_err-line_after
 returns-in_err-line_after c =
-    let same = text_read c.args.text.now c.in-Some.word.now (words_of c.next_word.new.self.rest.now) (ap words_of (sym c.new-words.ensures) ∙ c.in-Some.ensures.next) in
+    let same = text_read c.args.text.now c.in-Some.word.now (words_of c.next_word.new.self) (ap words_of (sym c.new-words.ensures) ∙ c.in-Some.ensures.next) in
     let p = err_from_is_err_and c.from_residual.result c.from_residual.ensures.1 in
     rw p.1 (text_takes c.args.text.now _ same c.in_err-line_after.ensures)
 
 pub returns : goal.returns
 returns c =
-    let same = text_read c.args.text.now c.in-Some.word.now (words_of c.next_word.new.self.rest.now) (ap words_of (sym c.new-words.ensures) ∙ c.in-Some.ensures.next) in
+    let same = text_read c.args.text.now c.in-Some.word.now (words_of c.next_word.new.self) (ap words_of (sym c.new-words.ensures) ∙ c.in-Some.ensures.next) in
     c.unwrap_or.ensures ∙ ap (λ o. unwrap_or o Bad) c.in_ok-line_after.ensures ∙ same

@@ -6,10 +6,10 @@ use Rattle.session_text.proofs.fields.read_fields.Given as goal
 
 abbrev pub invariant-loop-rest : goal.invariant-loop-rest
 invariant-loop-rest l =
-    IsRestOf l.fn.words.rest.now l.words.rest.now
-    × (4 * length l.marks + length l.words.rest.now ≤ 4096)
-    × AreWithin l.fn.words.rest.now l.marks
-    × (plain_fields (words_of l.fn.words.rest.now) ≡ option_map (λ fs. map (field_of_mark l.fn.words.rest.now) l.marks ++ fs) (plain_fields (words_of l.words.rest.now)))
+    IsRestOf l.fn.words l.words
+    × (4 * length l.marks + length l.words ≤ 4096)
+    × AreWithin l.fn.words l.marks
+    × (plain_fields (words_of l.fn.words) ≡ option_map (λ fs. map (field_of_mark l.fn.words) l.marks ++ fs) (plain_fields (words_of l.words)))
 
 abbrev pub decreases-loop-rest : goal.decreases-loop-rest
-decreases-loop-rest l = length l.words.rest.now
+decreases-loop-rest l = length l.words

@@ -9,3 +9,4 @@ pub mod Counted
 pub mod Dumped
 pub mod Back
 pub mod Computed
+pub mod Whole

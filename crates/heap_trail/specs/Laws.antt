@@ -1,5 +1,6 @@
 -- What holds of a trail.
-use Rattle.std.specs.Prelude.{◌≡◌, ℕ, ◌≤◌, true, not, List, [], ◌∷◌, length, find, Some, None}
+use Rattle.std.specs.Prelude.{◌≡◌, ℕ, ◌<◌, ◌≤◌, ◌^◌, true, not, List, [], ◌∷◌, length, find, Some, None}
+use Rattle.heap_class.specs.declared.IdSize.{IdSize}
 use Rattle.heap_region.specs.Regions.{Object, object_of}
 use Rattle.heap_mark.specs.Marking.{is_marking}
 use Rattle.heap_world.specs.State.{HeapState}
@@ -8,9 +9,11 @@ use Rattle.heap_world.specs.Legal.{IsLegal, IsLive, NamesOne}
 use Rattle.heap_step.specs.declared.Event.{Event}
 use Rattle.heap_step.specs.Apply.{refusal_of, state_after}
 use Rattle.heap_step.specs.declared.Answer.{Answer}
+use Rattle.hprof_text.specs.Fits.{HoldsWhole, ShowsWhole}
 use Rattle.heap_trail.specs.declared.Action.TheVariants.{Step, Rewind}
 use Rattle.heap_trail.specs.declared.Reply.TheVariants.{Answered, Place}
 use Rattle.heap_trail.specs.Machine.{Machine, acted}
+use Rattle.heap_trail.specs.Pins.{image_of}
 use Rattle.heap_trail.specs.Trail.{Trail, retained}
 
 -- each state is legal, and came by an accepted event from the one after it in the list
@@ -39,3 +42,7 @@ ReachesLive v = (x : ℕ) → Reaches v x → IsLive v x
 -- what the registers reached in the newest of these states in which no cycle ran is in v, with its kind and as many words, and live
 abbrev pub FindsSnapshot : List HeapState → HeapState → Type 0
 FindsSnapshot past v = (w : HeapState) → find (λ u. not (is_marking u.phase)) past ≡ Some w → (x : ℕ) (o : Object) → Reaches w x → object_of w.regions x ≡ Some o → NamesOne v (λ p. (p.kind ≡ o.kind) × (length p.words ≡ length o.words) × (p.live ≡ true)) x
+
+-- each number in the dump of a legal heap is below what the bytes that it has there hold: ids and words too
+abbrev pub DumpIsWhole : IdSize → HeapState → ℕ → Type 0
+DumpIsWhole ids w time = IsLegal w → time < 2 ^ 64 → HoldsWhole ids (image_of w) time × ShowsWhole ids (image_of w)

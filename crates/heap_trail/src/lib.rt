@@ -2,17 +2,19 @@
 #![tactic(auto)]
 
 ghost use Rattle.std.specs.Prelude.{◌≡◌, ◌⊎◌, ◌<◌, ◌≤◌, ◌+◌, ◌^◌, ℕ, length, None, Some, IfOk, IfErr, OnOk, OnErr};
+ghost use Rattle.heap_class.specs.declared.IdSize.{IdSize};
 ghost use Rattle.heap_class.specs.declared.IdSize.TheVariants.{Eight};
 ghost use Rattle.heap_class.specs.declared.Refusal.TheVariants.{NoMemory};
 ghost use Rattle.heap_step.specs.declared.Event.{Event};
 ghost use Rattle.heap_step.specs.declared.Event.TheVariants.{Finish, Sweep};
 ghost use Rattle.heap_step.specs.declared.Answer.{Answer};
+ghost use Rattle.heap_world.specs.State.{HeapState};
 ghost use Rattle.heap_world.specs.Legal.{IsLegal};
 ghost use Rattle.heap_trail.specs.declared.Action.{Action};
 ghost use Rattle.heap_trail.specs.declared.Action.TheVariants.{Step, Rewind};
 ghost use Rattle.heap_trail.specs.declared.Reply.TheVariants.{Answered, Place, Refused};
 ghost use Rattle.heap_trail.specs.Machine.{Machine, Refusing, acted, acted_under, MayStand, Mark, opening_machine};
-ghost use Rattle.heap_trail.specs.Laws.{FindsSnapshot, IsTrail, LeadsBack, ReachesLive, SparesReached};
+ghost use Rattle.heap_trail.specs.Laws.{DumpIsWhole, FindsSnapshot, IsTrail, LeadsBack, ReachesLive, SparesReached};
 ghost use Rattle.heap_trail.specs.Trail.{retained, rewound};
 ghost use Rattle.heap_trail.specs.Pins.{image_of, StandsIn};
 ghost use Rattle.heap_region.specs.Regions.{live_places};
@@ -214,4 +216,9 @@ impl Machine {
 /// The law that a step that is answered and a rewind of one after it lead back to the state and the place before.
 pub fn step_leads_back()
     ensures { (m : Machine) (e : Event) (n : Machine) (a : Answer) → LeadsBack m e n a }
+{}
+
+/// The law that nothing in the dump of a legal heap is cut off, whatever the size of identifiers.
+pub fn dump_is_whole()
+    ensures { (ids : IdSize) (w : HeapState) (time : ℕ) → DumpIsWhole ids w time }
 {}

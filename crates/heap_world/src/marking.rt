@@ -26,7 +26,8 @@ impl World {
     pub fn unsnap(&mut self)
         requires snapped { (before : HeapState) × IsLegal before × (snap_refusal (marking_of before) ≡ None) × (self.old ≡ after_snap before) }
         ensures unsnapped { self.new ≡ with_marking (unsnapped (marking_of self.old)) self.old }
-        ensures back { (before : HeapState) → IsLegal before → snap_refusal (marking_of before) ≡ None → self.old ≡ after_snap before → self.new ≡ before }
+        ensures back { (before : HeapState) → IsLegal before → snap_refusal (marking_of before) ≡ None → self.old ≡ after_snap before
+            → self.new ≡ before }
     {
         self.marker.unsnap(&mut self.regions)
     }

@@ -30,7 +30,9 @@ impl World {
     pub fn unsweep(&mut self, region: u16, dead: DeadCells)
         requires swept { (before : HeapState) × IsLegal before × (sweep_refusal region (pool_of before) ≡ None) × (is_emptied region (pool_of before) ≡ false) × (dead ≡ dead_at region (pool_of before)) × (self.old ≡ after_sweep region before) }
         ensures unswept { self.new ≡ with_pool (unswept region dead (pool_of self.old)) self.old }
-        ensures back { (before : HeapState) → IsLegal before → sweep_refusal region (pool_of before) ≡ None → is_emptied region (pool_of before) ≡ false → dead ≡ dead_at region (pool_of before) → self.old ≡ after_sweep region before → self.new ≡ before }
+        ensures back { (before : HeapState) → IsLegal before → sweep_refusal region (pool_of before) ≡ None
+            → is_emptied region (pool_of before) ≡ false → dead ≡ dead_at region (pool_of before)
+            → self.old ≡ after_sweep region before → self.new ≡ before }
     {
         heap_sweep::unsweep(&mut self.regions, Reclaimed::Swept { region, dead })
     }

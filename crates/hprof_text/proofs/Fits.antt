@@ -27,7 +27,7 @@ use Rattle.hprof_text.proofs.Tables.{IsShort, IsSmall, slots_few, classes_small,
 
 -- ---- single numbers
 
-fits_id : (ids : IdSize) (n : ℕ) → n < 2 ^ 32 → FitsId ids n
+pub fits_id : (ids : IdSize) (n : ℕ) → n < 2 ^ 32 → FitsId ids n
 fits_id Four n h = h
 fits_id Eight n h = omega (arith, h)
 

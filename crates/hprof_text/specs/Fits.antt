@@ -4,10 +4,11 @@ use Rattle.std.specs.Option.{option_map_or}
 use Rattle.std.specs.List.{enumerate_from}
 use Rattle.heap_class.specs.declared.IdSize.{IdSize}
 use Rattle.heap_class.specs.declared.Field.{Field}
+use Rattle.heap_class.specs.declared.Kind.{Kind}
 use Rattle.heap_class.specs.declared.ObjKind.{ObjKind}
 use Rattle.heap_class.specs.declared.ObjKind.TheVariants.{Instance, Array, Prim}
-use Rattle.heap_class.specs.Kinds.{id_bytes, type_code}
-use Rattle.heap_class.specs.Classes.{Class, slots_of, name_table, name_id, instance_size}
+use Rattle.heap_class.specs.Kinds.{id_bytes, width_of, type_code}
+use Rattle.heap_class.specs.Classes.{Class, slots_of, slot_kinds_of, name_table, name_id, instance_size}
 use Rattle.hprof_text.specs.Image.{Image}
 use Rattle.hprof_text.specs.Text.{class_id, utf8, load_class, trace, value_bytes, heap_dump_body}
 
@@ -29,16 +30,21 @@ abbrev pub Utf8Fits : IdSize → ℕ × List ℕ → Type 0
 Utf8Fits ids n = FitsBytes 4 (length (utf8 ids n)) × FitsId ids n.0
 
 abbrev pub LoadClassFits : IdSize → List Class → ℕ × Class → Type 0
-LoadClassFits ids classes c = FitsBytes 4 (length (load_class ids classes c)) × FitsBytes 4 (c.0 + 1) × FitsId ids (class_id c.0) × FitsId ids (name_id classes c.1.name)
+LoadClassFits ids classes c =
+    FitsBytes 4 (length (load_class ids classes c)) × FitsBytes 4 (c.0 + 1) × FitsId ids (class_id c.0)
+    × FitsId ids (name_id classes c.1.name)
 
 abbrev pub FieldFits : IdSize → List Class → Field → Type 0
 FieldFits ids classes f = FitsId ids (name_id classes f.name) × FitsBytes 1 (type_code f.kind)
 
 abbrev pub ClassDumpFits : IdSize → List Class → ℕ × Class → Type 0
-ClassDumpFits ids classes c = FitsId ids (class_id c.0) × FitsId ids (option_map_or class_id c.1.sup 0) × FitsBytes 4 (instance_size ids classes c.0) × FitsBytes 2 (length c.1.fields) × All (FieldFits ids classes) c.1.fields
+ClassDumpFits ids classes c =
+    FitsId ids (class_id c.0) × FitsId ids (option_map_or class_id c.1.sup 0) × FitsBytes 4 (instance_size ids classes c.0)
+    × FitsBytes 2 (length c.1.fields) × All (FieldFits ids classes) c.1.fields
 
 abbrev pub DumpFits : IdSize → List Class → ObjKind → List ℕ → Type 0
-DumpFits ids classes (Instance k) words = FitsId ids (class_id k) × FitsBytes 4 (length (flat_map (value_bytes ids) (zip (slots_of classes k) words)))
+DumpFits ids classes (Instance k) words =
+    FitsId ids (class_id k) × FitsBytes 4 (length (flat_map (value_bytes ids) (zip (slots_of classes k) words)))
 DumpFits ids classes (Array k) words = FitsBytes 4 (length words) × FitsId ids (class_id k)
 DumpFits ids classes (Prim kind) words = FitsBytes 4 (length words) × FitsBytes 1 (type_code kind)
 
@@ -52,3 +58,14 @@ pub record HoldsWhole (ids : IdSize) (image : Image) (time : ℕ) : Type 0 where
   pub heap_dump : FitsBytes 4 (length (heap_dump_body ids image))
   pub classes : All (ClassDumpFits ids image.classes) (enumerate_from 0 image.classes)
   pub objects : All (λ o. DumpFits ids image.classes o.kind o.words) image.objects
+
+-- ---- what no limit of a dump bounds: the ids of objects, and words
+
+-- the words of slots of these kinds
+abbrev pub WordsFit : IdSize → List Kind → List ℕ → Type 0
+WordsFit ids kinds words = All (λ p. FitsBytes (width_of ids p.0) p.1) (zip kinds words)
+
+pub record ShowsWhole (ids : IdSize) (image : Image) : Type 0 where
+  pub objects : All (λ o. FitsId ids o.id) image.objects
+  pub words : All (λ o. WordsFit ids (slot_kinds_of image.classes o.kind (length o.words)) o.words) image.objects
+  pub registers : All (FitsId ids) image.registers

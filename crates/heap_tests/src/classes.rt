@@ -192,3 +192,93 @@ fn duplicate_told_among_a_thousand_fields(rt: HostRuntime) -> Result<(), Fail> {
     }
     Ok(())
 }
+
+// The class names and the fields' of 18 classes of 64 fields each: slot 0 is the class's own.
+fn nth_name(class: u8, slot: u8) -> [u8; 4] {
+    let place = 65 * class as usize + slot as usize;
+    [
+        if slot == 0 { b'C' } else { b'f' },
+        LETTERS[place / 676 % 26],
+        LETTERS[place / 26 % 26],
+        LETTERS[place % 26],
+    ]
+}
+
+// The 64 fields of one of the 18 classes.
+fn wide_fields(alloc: Global, class: u8) -> Result<Fields, AllocError> {
+    let mut own = Vec::new(alloc);
+    for slot in 1..65 {
+        own.push(field(alloc, &nth_name(class, slot), Kind::Long)?)?;
+    }
+    Ok(Fields::from_vec(own))
+}
+
+fn wide_classes(alloc: Global) -> Result<Classes, Fail> {
+    let mut classes = Classes::new(alloc);
+    for class in 0..18 {
+        let own = wide_fields(alloc, class)?;
+        define(&mut classes, alloc, &nth_name(class, 0), None, &own)?;
+    }
+    Ok(classes)
+}
+
+// The names of all classes and fields, in order of first use.
+fn wide_names(alloc: Global) -> Result<Vec<[u8; 4]>, AllocError> {
+    let mut names = Vec::new(alloc);
+    for class in 0..18 {
+        for slot in 0..65 {
+            names.push(nth_name(class, slot))?;
+        }
+    }
+    Ok(names)
+}
+
+// The ids of the names of a class and of its own fields.
+fn name_ids(alloc: Global, classes: &Classes, class: ClassNo) -> Result<Vec<u64>, AllocError> {
+    let mut ids = Vec::new(alloc);
+    if class < classes.len() {
+        ids.push(classes.class_name_id(class))?;
+        for slot in 0..classes.field_count(class) {
+            ids.push(classes.field_name_id(class, slot))?;
+        }
+    }
+    Ok(ids)
+}
+
+// The ids of the names of all classes and fields.
+fn all_name_ids(alloc: Global, classes: &Classes) -> Result<Vec<u64>, AllocError> {
+    let mut ids = Vec::new(alloc);
+    for class in 0..classes.len() {
+        let more = name_ids(alloc, classes, class)?;
+        ids.extend_from_slice(more.as_slice())?;
+    }
+    Ok(ids)
+}
+
+// The names, as their table tells them.
+fn has_names(classes: &Classes, names: &[[u8; 4]]) -> bool {
+    let table = classes.name_table();
+    table.len() == names.len()
+        && table
+            .iter()
+            .zip(names)
+            .all(|(name, expected)| name.as_bytes() == expected.as_slice())
+}
+
+fn a_thousand_names_are_kept_in(
+    rt: &impl Abort,
+    alloc: Global,
+    classes: &Classes,
+) -> Result<(), Fail> {
+    assert_eq!(rt; classes.name_count(), 1170);
+    assert!(rt; has_names(classes, wide_names(alloc)?.as_slice()));
+    let ids: Vec<u64> = (1..1171).collect(alloc)?;
+    assert!(rt; all_name_ids(alloc, classes)? == ids);
+    Ok(())
+}
+
+#[test]
+fn a_thousand_names_are_kept(rt: HostRuntime) -> Result<(), Fail> {
+    let classes = wide_classes(rt.alloc())?;
+    a_thousand_names_are_kept_in(&rt, rt.alloc(), &classes)
+}

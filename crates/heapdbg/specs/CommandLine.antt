@@ -1,6 +1,6 @@
 -- The command line: which settings a list of words asks for.
 use Rattle.std.specs.Prelude.{◌≡◌, ◌==◌, ◌&&◌, ℕ, List, Option, Some, None, Bool, ⊤, true, false, codes}
-use Rattle.std.specs.Prelude.{length, map, nat_le, nat_lt, option_and_then, if◌then◌else◌}
+use Rattle.std.specs.Prelude.{[], length, map, nat_le, nat_lt, option_and_then, string_bytes, if◌then◌else◌}
 use Rattle.std.specs.List.{list_all, list_any}
 use Rattle.std.specs.Option.{option_map_or}
 use Rattle.clap.specs.Lexer.{long_of}
@@ -10,6 +10,7 @@ use Rattle.std.specs.Str.{bytes_eq}
 use Rattle.std.specs.Str.Parse.{digits_value}
 use Rattle.clap.specs.Words.{App, Row, Rule, Text, fault_of, first_of, new_app, new_rule, subcommand_of, with_rule, with_subcommand}
 use Rattle.clap.specs.declared.builder.ArgAction.TheVariants.{Set}
+use Rattle.heapdbg.specs.declared.command_line.TheConstants.{OUT_OF_RANGE}
 use Rattle.heapdbg.specs.declared.settings.Task.{Task}
 use Rattle.heapdbg.specs.declared.settings.Task.TheVariants.{Run}
 use Rattle.heapdbg.specs.declared.settings.Settings.{Settings}
@@ -99,7 +100,13 @@ pub record HasDefaults (words : List Text) (s : Settings) : Type 0 where
   pub keep : is_given (codes "keep") words ≡ false → s.keep ≡ 1024
   pub time : is_given (codes "time") words ≡ false → s.time ≡ 0
 
--- what a refusal says of the settings that the words ask for
-abbrev pub IsRefusalOf : Option Settings → LineFault → Type 0
-IsRefusalOf asked (Bad text) = asked ≡ None
-IsRefusalOf asked Memory = ⊤
+-- the fault has this text, or memory ran out
+abbrev pub IsBadWith : Text → LineFault → Type 0
+IsBadWith text (Bad shown) = string_bytes shown ≡ text
+IsBadWith text Memory = ⊤
+
+-- what a refusal says of the words: they ask for no settings, and where the parser finds no fault in them the text is that of
+-- a value out of its range
+abbrev pub IsRefusalOf : List Text → LineFault → Type 0
+IsRefusalOf words (Bad text) = (settings_of words ≡ None) × (fault_of heapdbg_line words ≡ [] → string_bytes text ≡ OUT_OF_RANGE.now)
+IsRefusalOf words Memory = ⊤

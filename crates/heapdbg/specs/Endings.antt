@@ -1,5 +1,5 @@
 -- How the program ends: its exit status, and the word on standard error.
-use Rattle.std.specs.Prelude.{ℕ, List, Result, Ok, Err, codes}
+use Rattle.std.specs.Prelude.{ℕ, List, Result, Ok, Err, ◌++◌, codes, string_bytes}
 use Rattle.session_text.specs.declared.Ended.{Ended}
 use Rattle.session_text.specs.declared.Ended.TheVariants.{Quit, Eof, CutLine, TooLong, ReadFault, TooManyReads, WriteFault, NoMemory}
 use Rattle.heapdbg.specs.declared.failure.Fault.{Fault}
@@ -28,6 +28,11 @@ word_of fault.Read = codes "read"
 word_of fault.Reads = codes "reads"
 word_of fault.Write = codes "write"
 word_of fault.Memory = codes "memory"
+
+-- what standard error gets: the text of a bad command line, or a line with the word of the fault
+abbrev pub message_of : Failure → List ℕ
+message_of (Line text) = string_bytes text
+message_of (Work f) = codes "heapdbg: " ++ (word_of f ++ codes "\n")
 
 -- a bad command line is shown its text, and want of memory is a fault like any other
 abbrev pub failure_of : LineFault → Failure

@@ -26,4 +26,4 @@ IsRun s a b w w' result =
 abbrev pub IsPerformed : List (List ℕ) → Incoming → Incoming → Outgoing → Outgoing → Result (Unit {0}) Failure → Type 0
 IsPerformed words a b w w' result =
     ((s : Settings) × (done : Result (Unit {0}) Fault) × (settings_of words ≡ Some s) × IsRun s a b w w' done × (result ≡ work_of done))
-    ⊎ ((line : LineFault) × IsRefusalOf (settings_of words) line × (result ≡ Err (failure_of line)) × (b ≡ a) × (w' ≡ w))
+    ⊎ ((line : LineFault) × IsRefusalOf words line × (result ≡ Err (failure_of line)) × (b ≡ a) × (w' ≡ w))

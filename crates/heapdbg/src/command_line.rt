@@ -7,7 +7,7 @@ ghost use Rattle.clap.specs.Words.{FailsBy, app_of, fault_of, found_of, kind_of,
 ghost use Rattle.clap.specs.declared.builder.Command.TheViews.{out-Command};
 ghost use Rattle.clap.specs.Words.{rule_of, subcommand_of, subcommand_rows_of};
 ghost use Rattle.heap_world.specs.Limits.{AreSettings};
-ghost use Rattle.heapdbg.specs.CommandLine.{HasDefaults, IsRefusalOf, heapdbg_line, number_in, run_line, settings_in};
+ghost use Rattle.heapdbg.specs.CommandLine.{HasDefaults, IsBadWith, IsRefusalOf, heapdbg_line, number_in, run_line, settings_in};
 ghost use Rattle.heapdbg.specs.CommandLine.{settings_of, settings_under, task_named, texts, value_of};
 ghost use Rattle.heapdbg.specs.CommandLine.{value_option};
 
@@ -20,7 +20,7 @@ use std::alloc::{AllocError, Global};
 /// no command line of this program or ask for help, and Memory only where memory ran out.
 pub fn settings(alloc: Global, words: &[&str]) -> Result<Settings, LineFault>
     ensures ok { IfOk result (λ s. settings_of (texts words.now) ≡ Some s) }
-    ensures refused { IfErr result (IsRefusalOf (settings_of (texts words.now))) }
+    ensures refused { IfErr result (IsRefusalOf (texts words.now)) }
     ensures limits { IfOk result (λ s. AreSettings s.regions s.mutators s.keep) }
     ensures defaults { IfOk result (HasDefaults (texts words.now)) }
 {
@@ -172,7 +172,7 @@ fn is_digits(text: &str) -> bool
     text.bytes().all(|byte| byte.is_ascii_digit())
 }
 
-/// The refusal that an error of clap stands for, with clap's text.
+/// The refusal that an error of clap stands for, with clap's text; no contract tells that text.
 fn refusal(alloc: Global, error: &Error) -> LineFault
     ensures { kind_of error.now ≡ ErrorKind.OutOfMemory → result ≡ LineFault.Memory }
 {
@@ -185,8 +185,10 @@ fn refusal(alloc: Global, error: &Error) -> LineFault
     }
 }
 
-/// A refusal with this text.
-fn bad(alloc: Global, text: &str) -> LineFault {
+/// A refusal with this text, or Memory where there is none for it.
+pub fn bad(alloc: Global, text: &str) -> LineFault
+    ensures { IsBadWith text.now result }
+{
     match String::from_str(alloc, text) {
         Ok(text) => LineFault::Bad(text),
         Err(_) => LineFault::Memory,

@@ -1,11 +1,12 @@
 //! How the program ends.
 ghost use Rattle.std.specs.Prelude.{◌≡◌};
+ghost use Rattle.std.specs.Process.{exit_status};
 ghost use Rattle.heapdbg.specs.Endings.{outcome_of, status_of, word_of};
 
 use crate::settings::LineFault;
 use session_text::Ended;
-use std::fmt;
-use thiserror::Error;
+use std::process::ExitCode;
+use std::{error, fmt};
 
 /// Why the work is not done.
 #[derive(Clone, Copy, Debug, PartialEq, Eq)]
@@ -25,13 +26,11 @@ pub enum Fault {
 }
 
 /// Why the program failed. Its `Display` is what standard error gets.
-#[derive(Debug, Drop, Error)]
+#[derive(Debug, Drop)]
 pub enum Failure {
     /// The command line is bad. It holds a text for the user.
-    #[error("{0}")]
     Line(String),
     /// The work is not done.
-    #[error("heapdbg: {0}\n")]
     Work(Fault),
 }
 
@@ -61,6 +60,22 @@ impl fmt::Display for Fault {
         f.write_str(self.word())
     }
 }
+
+impl fmt::Display for Failure {
+    ghost use Rattle.std.specs.Prelude.{Some};
+    ghost use Rattle.heapdbg.specs.Endings.{message_of};
+
+    ghost output = { λ failure. Some (message_of failure) };
+
+    fn fmt<W: fmt::Write>(&self, f: &mut fmt::Formatter<W>) -> fmt::Result {
+        match self {
+            Failure::Line(text) => f.write_str(text.as_str()),
+            Failure::Work(fault) => writeln!(f, "heapdbg: {fault}"),
+        }
+    }
+}
+
+impl error::Error for Failure {}
 
 impl From<LineFault> for Failure {
     ghost use Rattle.std.specs.Prelude.{◌≡◌};
@@ -103,7 +118,7 @@ pub fn outcome(ended: Ended) -> Result<(), Fault>
 }
 
 /// The exit status: 0 where the work is done, 1 after a fault, 2 after a bad command line.
-pub fn status(done: &Result<(), Failure>) -> u8
+fn status(done: &Result<(), Failure>) -> u8
     ensures { result ≡ status_of done.now }
 {
     match done {
@@ -111,4 +126,14 @@ pub fn status(done: &Result<(), Failure>) -> u8
         Err(Failure::Work(_)) => 1,
         Err(Failure::Line(_)) => 2,
     }
+}
+
+/// Writes a failure to standard error, and returns the exit code.
+pub fn report<R: Eprint>(rt: &R, done: &Result<(), Failure>) -> ExitCode
+    ensures { exit_status result ≡ status_of done.now }
+{
+    if let Err(failure) = done {
+        let _ = eprint!(rt; "{failure}");
+    }
+    ExitCode::from(status(done))
 }

@@ -12,9 +12,5 @@ mod tests;
 use std::process::ExitCode;
 
 fn main(rt: HostRuntime) -> ExitCode {
-    let done = task::perform(&rt);
-    if let Err(failure) = &done {
-        let _ = eprint!(rt; "{failure}");
-    }
-    ExitCode::from(failure::status(&done))
+    failure::report(&rt, &task::perform(&rt))
 }

@@ -1,10 +1,11 @@
 //! The tasks, from the words of the command line on.
 ghost use Rattle.std.specs.Prelude.{◌≡◌, Some, IfOk, IfErr, map, string_bytes};
-ghost use Rattle.heapdbg.specs.CommandLine.{IsRefusalOf, settings_of, texts};
+ghost use Rattle.std.specs.IoError.{error_kind};
+ghost use Rattle.heapdbg.specs.CommandLine.{IsBadWith, IsRefusalOf, settings_of, texts};
 ghost use Rattle.heapdbg.specs.Runs.{IsRun, IsPerformed};
 ghost use Rattle.heap_world.specs.Limits.{AreSettings};
 
-use crate::command_line::settings;
+use crate::command_line::{bad, settings};
 use crate::failure::{Failure, Fault, outcome};
 use crate::settings::{LineFault, Settings, Task};
 use dump_pump::{Outlet, WriteOutlet};
@@ -44,21 +45,23 @@ fn perform_words<I: Inlet, O: Outlet>(
     Ok(())
 }
 
+const NOT_UTF8: &str = "error: a word of the command line is not UTF-8\n";
+
 /// The fault of a command line that can't be read.
-fn unread(alloc: Global, error: &Error) -> LineFault {
+pub fn unread(alloc: Global, error: &Error) -> LineFault
+    ensures memory { error_kind error.now ≡ ErrorKind.OutOfMemory → result ≡ LineFault.Memory }
+    ensures text { IsBadWith NOT_UTF8.now result }
+{
     if error.kind() == ErrorKind::OutOfMemory {
         return LineFault::Memory;
     }
-    match String::from_str(alloc, "error: a word of the command line is not UTF-8\n") {
-        Ok(text) => LineFault::Bad(text),
-        Err(_) => LineFault::Memory,
-    }
+    bad(alloc, NOT_UTF8)
 }
 
 /// The settings that the words ask for.
 fn asked(alloc: Global, words: &[String]) -> Result<Settings, LineFault>
     ensures ok { IfOk result (λ s. settings_of (map string_bytes words.now) ≡ Some s) }
-    ensures refused { IfErr result (IsRefusalOf (settings_of (map string_bytes words.now))) }
+    ensures refused { IfErr result (IsRefusalOf (map string_bytes words.now)) }
     ensures limits { IfOk result (λ s. AreSettings s.regions s.mutators s.keep) }
 {
     match borrowed(alloc, words) {

@@ -1,7 +1,11 @@
 use crate::command_line::settings;
-use crate::failure::{Failure, outcome, status};
+use crate::failure::{Failure, outcome, report};
 use crate::settings::{LineFault, Settings, Task};
+use crate::task::unread;
 use session_text::Ended;
+use std::alloc::Global;
+use std::io::{Error, ErrorKind};
+use std::process::ExitCode;
 use std::test::Fail;
 
 const DEFAULTS: Settings = Settings {
@@ -61,6 +65,78 @@ fn refuses_bad_lines(rt: HostRuntime) -> Result<(), Fail> {
     Ok(())
 }
 
+/// The text of a refused line, whose words are parted by single spaces.
+fn text_of(alloc: Global, line: &str) -> Result<String, Fail> {
+    let words: Vec<&str> = line.split_whitespace().collect(alloc)?;
+    match settings(alloc, words.as_slice()) {
+        Err(LineFault::Bad(text)) => Ok(text),
+        _ => Err("the line is not refused".into()),
+    }
+}
+
+#[test]
+fn tells_the_ranges(rt: HostRuntime) -> Result<(), Fail> {
+    let lines = [
+        "heapdbg run --regions 0",
+        "heapdbg run --regions 257",
+        "heapdbg run --mutators 17",
+        "heapdbg run --keep 65537",
+        "heapdbg run --time 18446744073709551616",
+        "heapdbg run --keep +4",
+    ];
+    for line in lines {
+        assert_eq!(rt;
+            text_of(rt.alloc(), line)?.as_str(),
+            "error: a value is in digits alone: --regions 1 to 256, --mutators 1 to 16, --keep 1 to 65536, --time below 2^64\n\nFor more information, try 'heapdbg run --help'.\n",
+            "at {line}"
+        );
+    }
+    Ok(())
+}
+
+#[test]
+fn tells_what_is_wrong(rt: HostRuntime) -> Result<(), Fail> {
+    let lines = [
+        (
+            "heapdbg",
+            "error: 'heapdbg' requires a subcommand but one was not provided\n  [subcommands: run, help]\n\nUsage: heapdbg <COMMAND>\n\nFor more information, try '--help'.\n",
+        ),
+        (
+            "heapdbg go",
+            "error: unrecognized subcommand 'go'\n\nUsage: heapdbg <COMMAND>\n\nFor more information, try '--help'.\n",
+        ),
+        (
+            "heapdbg run four",
+            "error: unexpected argument 'four' found\n\nUsage: heapdbg run [OPTIONS]\n\nFor more information, try '--help'.\n",
+        ),
+        (
+            "heapdbg run --regions",
+            "error: a value is required for '--regions <N>' but none was supplied\n\nFor more information, try '--help'.\n",
+        ),
+        (
+            "heapdbg run --keep 4 --keep=4",
+            "error: the argument '--keep <N>' cannot be used multiple times\n\nUsage: heapdbg run [OPTIONS]\n\nFor more information, try '--help'.\n",
+        ),
+        (
+            "heapdbg run --help",
+            "Reads commands from standard input and writes replies to standard output\n\nUsage: heapdbg run [OPTIONS]\n\nOptions:\n      --regions <N>   Regions of the heap, 1 to 256 [default: 16]\n      --mutators <N>  Mutators of the heap, 1 to 16 [default: 2]\n      --keep <N>      Steps that can be undone, 1 to 65536 [default: 1024]\n      --time <N>      Milliseconds since 1970 in the header of a dump [default: 0]\n  -h, --help          Print help\n",
+        ),
+    ];
+    for (line, text) in lines {
+        assert_eq!(rt; text_of(rt.alloc(), line)?.as_str(), text, "at {line}");
+    }
+    Ok(())
+}
+
+#[test]
+fn tells_words_that_are_not_text(rt: HostRuntime) {
+    let error = Error::new(ErrorKind::InvalidData, "not text");
+    let fault = unread(rt.alloc(), &error);
+    assert!(rt;
+        matches!(fault, LineFault::Bad(text) if text.as_str() == "error: a word of the command line is not UTF-8\n")
+    );
+}
+
 #[test]
 fn names_each_fault(rt: HostRuntime) -> Result<(), Fail> {
     let faults = [
@@ -74,10 +150,10 @@ fn names_each_fault(rt: HostRuntime) -> Result<(), Fail> {
     for (ended, text) in faults {
         let failure: Failure = outcome(ended).expect_err(&rt, "a fault").into();
         assert_eq!(rt; failure.to_string(rt.alloc())?.as_str(), text);
-        assert_eq!(rt; status(&Err(failure)), 1);
+        assert!(rt; report(&rt, &Err(failure)) == ExitCode::from(1));
     }
-    assert_eq!(rt; status(&Ok(outcome(Ended::Eof)?)), 0);
+    assert!(rt; report(&rt, &Ok(outcome(Ended::Eof)?)) == ExitCode::SUCCESS);
     let bad: Failure = LineFault::Memory.into();
-    assert_eq!(rt; status(&Err(bad)), 1);
+    assert!(rt; report(&rt, &Err(bad)) == ExitCode::from(1));
     Ok(())
 }

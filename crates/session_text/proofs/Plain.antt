@@ -193,37 +193,52 @@ dump_plain : (ws : List (List ℕ)) → OnlyPlain ws (dump_line ws)
 dump_plain [] c e = cc
 dump_plain (w ∷ ws) c e = key_plain w (codes "-") ws (at_end Dump ws) None _ refl refl (end_plain Dump ws) (λ d is. cc) c e
 
+then_cond : {A B : Type 0} (f : A → Option B) (v : Bool) (x : A) (o : Option A) → option_and_then f (cond v (Some x) o) ≡ cond v (f x) (option_and_then f o)
+then_cond f true x o = refl
+then_cond f false x o = refl
+
+rule_first : (w : List ℕ) (ws : List (List ℕ)) (rule : Rule) (rules : List Rule) → by_rule (rule ∷ rules) w ws ≡ cond (bytes_eq w rule.0) (rule.1 ws) (by_rule rules w ws)
+unfolding by_rule
+rule_first w ws rule rules = then_cond (λ (r : Rule). r.1 ws) (bytes_eq w rule.0) rule (find (λ r. bytes_eq w r.0) rules)
+
+rule_plain : (w : List ℕ) (ws : List (List ℕ)) (rule : Rule) (rules : List Rule) → is_plain rule.0 ≡ true → OnlyPlain ws (rule.1 ws) → OnlyPlain (w ∷ ws) (by_rule rules w ws) → OnlyPlain (w ∷ ws) (by_rule (rule ∷ rules) w ws)
+rule_plain w ws rule rules key h others c is = key_plain w rule.0 ws (rule.1 ws) (by_rule rules w ws) (bytes_eq w rule.0) refl key h others c (sym (rule_first w ws rule rules) ∙ is)
+
+no_rule : (w : List ℕ) (ws : List (List ℕ)) → OnlyPlain (w ∷ ws) (by_rule [] w ws)
+unfolding by_rule
+no_rule w ws c e = cc
+
 session_plain : (w : List ℕ) (ws : List (List ℕ)) → OnlyPlain (w ∷ ws) (by_rule session_rules w ws)
-unfolding by_rule session_rules
+unfolding session_rules
 session_plain w ws =
-    key_plain w (codes "rewind") ws _ _ _ refl refl (made_plain ws _ (one_number ws) (one_plain ws))
-    (key_plain w (codes "dump") ws _ _ _ refl refl (dump_plain ws)
-    (key_plain w (codes "end") ws _ None _ refl refl (end_plain End ws) (λ c e. cc)))
+    rule_plain w ws _ _ refl (made_plain ws _ (one_number ws) (one_plain ws))
+    (rule_plain w ws _ _ refl (dump_plain ws)
+    (rule_plain w ws _ _ refl (end_plain End ws) (no_rule w ws)))
 
 marking_plain : (w : List ℕ) (ws : List (List ℕ)) → OnlyPlain (w ∷ ws) (by_rule (marking_rules ++ session_rules) w ws)
-unfolding by_rule marking_rules
+unfolding marking_rules
 marking_plain w ws =
-    key_plain w (codes "snap") ws _ _ _ refl refl (end_plain (Ask (Step Snap)) ws)
-    (key_plain w (codes "mark") ws _ _ _ refl refl (end_plain (Ask (Step Mark)) ws)
-    (key_plain w (codes "drain") ws _ _ _ refl refl (end_plain (Ask (Step Drain)) ws)
-    (key_plain w (codes "finish") ws _ _ _ refl refl (end_plain (Ask (Step Finish)) ws)
-    (key_plain w (codes "sweep") ws _ _ _ refl refl (made_plain ws _ (one_number ws) (one_plain ws)) (session_plain w ws)))))
+    rule_plain w ws _ _ refl (end_plain (Ask (Step Snap)) ws)
+    (rule_plain w ws _ _ refl (end_plain (Ask (Step Mark)) ws)
+    (rule_plain w ws _ _ refl (end_plain (Ask (Step Drain)) ws)
+    (rule_plain w ws _ _ refl (end_plain (Ask (Step Finish)) ws)
+    (rule_plain w ws _ _ refl (made_plain ws _ (one_number ws) (one_plain ws)) (session_plain w ws)))))
 
 access_plain : (w : List ℕ) (ws : List (List ℕ)) → OnlyPlain (w ∷ ws) (by_rule (access_rules ++ (marking_rules ++ session_rules)) w ws)
-unfolding by_rule access_rules
+unfolding access_rules
 access_plain w ws =
-    key_plain w (codes "load") ws _ _ _ refl refl (made_plain ws _ (four_numbers ws) (four_plain ws))
-    (key_plain w (codes "store") ws _ _ _ refl refl (made_plain ws _ (four_numbers ws) (four_plain ws))
-    (key_plain w (codes "put") ws _ _ _ refl refl (made_plain ws _ (four_numbers ws) (four_plain ws))
-    (key_plain w (codes "move") ws _ _ _ refl refl (made_plain ws _ (four_numbers ws) (four_plain ws))
-    (key_plain w (codes "clear") ws _ _ _ refl refl (made_plain ws _ (two_numbers ws) (two_plain ws)) (marking_plain w ws)))))
+    rule_plain w ws _ _ refl (made_plain ws _ (four_numbers ws) (four_plain ws))
+    (rule_plain w ws _ _ refl (made_plain ws _ (four_numbers ws) (four_plain ws))
+    (rule_plain w ws _ _ refl (made_plain ws _ (four_numbers ws) (four_plain ws))
+    (rule_plain w ws _ _ refl (made_plain ws _ (four_numbers ws) (four_plain ws))
+    (rule_plain w ws _ _ refl (made_plain ws _ (two_numbers ws) (two_plain ws)) (marking_plain w ws)))))
 
 making_plain : (w : List ℕ) (ws : List (List ℕ)) → OnlyPlain (w ∷ ws) (by_rule (making_rules ++ (access_rules ++ (marking_rules ++ session_rules))) w ws)
-unfolding by_rule making_rules
+unfolding making_rules
 making_plain w ws =
-    key_plain w (codes "new") ws _ _ _ refl refl (made_plain ws _ (three_numbers ws) (three_plain ws))
-    (key_plain w (codes "newarray") ws _ _ _ refl refl (made_plain ws _ (four_numbers ws) (four_plain ws))
-    (key_plain w (codes "newprim") ws _ _ _ refl refl (newprim_plain ws) (access_plain w ws)))
+    rule_plain w ws _ _ refl (made_plain ws _ (three_numbers ws) (three_plain ws))
+    (rule_plain w ws _ _ refl (made_plain ws _ (four_numbers ws) (four_plain ws))
+    (rule_plain w ws _ _ refl (newprim_plain ws) (access_plain w ws)))
 
 -- ---- lines with names
 
@@ -313,6 +328,9 @@ array_plain (name ∷ ws) = then_if (λ n. array_with n.0 n.1) (is_plain name) (
 abbrev other_rules : List Rule
 other_rules = making_rules ++ (access_rules ++ (marking_rules ++ session_rules))
 
+two_rules : (w : List ℕ) (ws : List (List ℕ)) (x y : Rule) (rules : List Rule) → by_rule (x ∷ y ∷ rules) w ws ≡ cond (bytes_eq w x.0) (x.1 ws) (cond (bytes_eq w y.0) (y.1 ws) (by_rule rules w ws))
+two_rules w ws x y rules = rule_first w ws x (y ∷ rules) ∙ ap (λ o. cond (bytes_eq w x.0) (x.1 ws) o) (rule_first w ws y rules)
+
 read_if : (w : List ℕ) (ws : List (List ℕ)) (c a : Bool) → bytes_eq w (codes "class") ≡ c → bytes_eq w (codes "array") ≡ a
     → cond c (plain_class ws) (cond a (plain_array ws) (by_rule other_rules w ws)) ≡ cond (are_plain (w ∷ ws)) (cond c (class_line ws) (cond a (array_line ws) (by_rule other_rules w ws))) None
 read_if w ws true a e h = class_plain ws ∙ ap (λ v. cond (v && are_plain ws) (class_line ws) None) (sym (keyword_plain w (codes "class") e))
@@ -321,8 +339,11 @@ read_if w ws false false e h = guarded (by_rule other_rules w ws) (are_plain (w 
 
 -- a line is read where its words are plain
 read_plain : (w : List ℕ) (ws : List (List ℕ)) → by_rule plain_rules w ws ≡ cond (are_plain (w ∷ ws)) (by_rule all_rules w ws) None
-unfolding by_rule class_rules plain_class_rules
-read_plain w ws = read_if w ws _ _ refl refl
+unfolding class_rules plain_class_rules
+read_plain w ws =
+    two_rules w ws (codes "class", plain_class) (codes "array", plain_array) other_rules
+    ∙ read_if w ws _ _ refl refl
+    ∙ ap (λ o. cond (are_plain (w ∷ ws)) o None) (sym (two_rules w ws (codes "class", class_line) (codes "array", array_line) other_rules))
 
 text_of_words : (t : List ℕ) (ws : List (List ℕ)) → words_of t ≡ ws → command_of_text t ≡ cond (are_plain ws) (command_of_words ws) Bad
 text_of_words t ws e = ap (λ v. cond v (command_of_words (words_of t)) Bad) (words_plain t) ∙ ap (λ l. cond (are_plain l) (command_of_words l) Bad) e

@@ -187,8 +187,7 @@ all_rules = class_rules ++ (making_rules ++ (access_rules ++ (marking_rules ++ s
 
 -- what a line asks for, by the rule of its first word
 unfoldable pub by_rule : List Rule → List ℕ → List (List ℕ) → Option Command
-by_rule [] w ws = None
-by_rule (rule ∷ rules) w ws = if bytes_eq w rule.0 then rule.1 ws else by_rule rules w ws
+by_rule rules w ws = option_and_then (λ rule. rule.1 ws) (find (λ rule. bytes_eq w rule.0) rules)
 
 -- the command of these words
 abbrev pub command_of_words : List (List ℕ) → Command

@@ -8,7 +8,7 @@ import re
 import sys
 
 TESTS = ("heap_scripts", "heap_tests", "seeded_tests", "session_tests")
-MAKES = re.compile(r"\b(NoMemory|Memory)\b|\(AllocError\)")
+MAKES = re.compile(r"\b(NoMemory|Memory)\b|\(AllocError\)|\bAllocError\.|\bAllocFailed \{")
 PLACES = pathlib.Path(__file__).with_suffix(".txt")
 
 
@@ -60,7 +60,7 @@ def main():
     files = sorted(pathlib.Path("crates").glob("*/src/**/*.rt"))
     files = [file for file in files if file.parts[1] not in TESTS and file.name != "tests.rt"]
     found = [place for file in files for place in places(file)]
-    listed = [line for line in PLACES.read_text().splitlines() if line]
+    listed = [line for line in PLACES.read_text().splitlines() if line and line[0] != "#"]
     new, gone = [p for p in found if p not in listed], [p for p in listed if p not in found]
     for place in new:
         print("not listed:", place)

@@ -1,12 +1,14 @@
 //! How the program ends.
-ghost use Rattle.std.specs.Prelude.{◌≡◌};
+ghost use Rattle.std.specs.Prelude.{◌≡◌, OnOk};
+ghost use Rattle.std.specs.Io.KnownBytes.{Appends};
 ghost use Rattle.std.specs.Process.{exit_status};
-ghost use Rattle.heapdbg.specs.Endings.{outcome_of, status_of, word_of};
+ghost use Rattle.heapdbg.specs.Endings.{message_of, outcome_of, status_of, word_of};
 
 use crate::settings::LineFault;
 use session_text::Ended;
+use std::io::Write;
 use std::process::ExitCode;
-use std::{error, fmt};
+use std::{error, fmt, io};
 
 /// Why the work is not done.
 #[derive(Clone, Copy, Debug, PartialEq, Eq)]
@@ -128,12 +130,19 @@ fn status(done: &Result<(), Failure>) -> u8
     }
 }
 
-/// Writes a failure to standard error, and returns the exit code.
-pub fn report<R: Eprint>(rt: &R, done: &Result<(), Failure>) -> ExitCode
+/// Writes what standard error gets of a failure.
+fn tell<W: Write>(stderr: &mut W, failure: &Failure) -> io::Result<()>
+    ensures { OnOk result (Appends (W.contents stderr.old) (W.contents stderr.new) (message_of failure.now)) }
+{
+    write!(stderr, "{failure}")
+}
+
+/// Tells standard error of a failure, if there is one and a write can be had, and returns the exit code.
+pub fn report<W: Write>(stderr: &mut W, done: &Result<(), Failure>) -> ExitCode
     ensures { exit_status result ≡ status_of done.now }
 {
     if let Err(failure) = done {
-        let _ = eprint!(rt; "{failure}");
+        let _ = tell(stderr, failure);
     }
     ExitCode::from(status(done))
 }

@@ -12,5 +12,5 @@ mod tests;
 use std::process::ExitCode;
 
 fn main(rt: HostRuntime) -> ExitCode {
-    failure::report(&rt, &task::perform(&rt))
+    failure::report(&mut rt.stderr(), &task::perform(&rt))
 }

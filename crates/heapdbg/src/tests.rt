@@ -149,11 +149,15 @@ fn names_each_fault(rt: HostRuntime) -> Result<(), Fail> {
     ];
     for (ended, text) in faults {
         let failure: Failure = outcome(ended).expect_err(&rt, "a fault").into();
-        assert_eq!(rt; failure.to_string(rt.alloc())?.as_str(), text);
-        assert!(rt; report(&rt, &Err(failure)) == ExitCode::from(1));
+        let mut told = Vec::new(rt.alloc());
+        assert!(rt; report(&mut told, &Err(failure)) == ExitCode::from(1));
+        assert_eq!(rt; told.as_slice(), text.as_bytes());
     }
-    assert!(rt; report(&rt, &Ok(outcome(Ended::Eof)?)) == ExitCode::SUCCESS);
-    let bad: Failure = LineFault::Memory.into();
-    assert!(rt; report(&rt, &Err(bad)) == ExitCode::from(1));
+    let mut told = Vec::new(rt.alloc());
+    assert!(rt; report(&mut told, &Ok(outcome(Ended::Eof)?)) == ExitCode::SUCCESS);
+    assert!(rt; told.is_empty());
+    let text = String::from_str(rt.alloc(), "error: no\n")?;
+    assert!(rt; report(&mut told, &Err(LineFault::Bad(text).into())) == ExitCode::from(2));
+    assert_eq!(rt; told.as_slice(), b"error: no\n".as_slice());
     Ok(())
 }

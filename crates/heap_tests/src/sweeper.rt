@@ -101,14 +101,19 @@ fn nothing_to_sweep(rt: HostRuntime) -> Result<(), Fail> {
     Ok(())
 }
 
+/// Writes the first word of an object that has one.
+fn write_number(regions: &mut Regions, at: ObjRef, number: u64) {
+    if regions.has_object(at) && regions.len(at) > 0 {
+        regions.set_word(at, 0, number);
+    }
+}
+
 /// Makes an array of two ints, the first of which is the number.
 fn make_numbered(regions: &mut Regions, number: u64, live: bool) -> Result<(), Refusal> {
     let (at, _) = regions.alloc(ObjKind::Prim(Kind::Int), 2, false)?;
+    write_number(regions, at, number);
     if regions.has_object(at) {
         regions.set_live(at, live);
-        if regions.len(at) == 2 {
-            regions.set_word(at, 0, number);
-        }
     }
     Ok(())
 }

@@ -16,7 +16,7 @@ use Rattle.heap_class.specs.declared.Entry.{Entry}
 use Rattle.heap_class.specs.declared.Refusal.TheVariants.{NoClass, ClassLimit, BadName, DuplicateName, FieldLimit}
 use Rattle.heap_class.specs.Refusals.{NoneHolds}
 use Rattle.heap_class.specs.Classes.{Class, first_uses, name_table, names_in, is_name, is_instance_class, all_distinct, slots_under, slot_table_after, class_refusal, IsClassTable}
-use Rattle.heap_class.specs.Entries.{field_of, class_of, IsWithin, IsPlaced, IsRoomy, IsTable}
+use Rattle.heap_class.specs.Entries.{field_of, class_of, IsWithin, IsPlaced, IsRoomy, AreSizes, IsTable}
 use Rattle.heap_class.proofs.Refused.{none_holds}
 use Rattle.heap_class.proofs.Slots.{table_more, table_length, classes_more}
 use Rattle.heap_class.proofs.FirstUses.{names_more, inserted_prefix, inserted_longer, inserted_length, inserted_all}
@@ -158,6 +158,7 @@ module _ (names : List (List ℕ)) (es : List Entry) (e : Entry) (t : IsTable na
     classes = less;
     slots = less_slots;
     roomy = all_of_front IsRoomy es e t.roomy;
+    sized = all_of_front (λ (d : Entry). AreSizes d.slots.items d.sizes) es e t.sized;
     short = All-take (λ (n : List ℕ). length n ≤ name_limit) e.names_before names t.short;
     few = omega (arith, t.few, length-append es (e ∷ []));
   }
@@ -176,7 +177,8 @@ module _ (names : List (List ℕ)) (es : List Entry) (t : IsTable names es) (c :
     (is : class_of (insert_all bytes_eq names (names_in c)) e ≡ c)
     (within : IsWithin (length (insert_all bytes_eq names (names_in c))) e)
     (marked : e.names_before ≡ length names)
-    (slotted : e.slots.items ≡ slots_under (slot_table_after [] (map (class_of names) es)) c) where
+    (slotted : e.slots.items ≡ slots_under (slot_table_after [] (map (class_of names) es)) c)
+    (sized : AreSizes e.slots.items e.sizes) where
   tests : NoneHolds
       ((not (option_map_or (is_instance_class (map (class_of names) es)) c.sup true), NoClass)
       ∷ (nat_le class_limit (length (map (class_of names) es)), ClassLimit)
@@ -229,6 +231,7 @@ module _ (names : List (List ℕ)) (es : List Entry) (t : IsTable names es) (c :
         ∙ sym (table_more [] (map (class_of names) es) c)
         ∙ ap (slot_table_after []) (sym pushed_classes);
     roomy = All-push IsRoomy es e t.roomy roomy_entry;
+    sized = All-push (λ (d : Entry). AreSizes d.slots.items d.sizes) es e t.sized sized;
     short = inserted_all (λ (n : List ℕ). length n ≤ name_limit) names (names_in c) t.short (all_named (names_in c) (not-false (list_all is_name (names_in c)) tests.1.1.0));
     few = omega (arith, leb-false class_limit (length (map (class_of names) es)) tests.1.0, length-map es (class_of names), length-append es (e ∷ []));
   }
@@ -242,6 +245,7 @@ empty_table names es n e = subst (λ (ns : List (List ℕ)). IsTable ns es) (sym
   classes = tt;
   slots = refl;
   roomy = All-nil IsRoomy;
+  sized = All-nil (λ (d : Entry). AreSizes d.slots.items d.sizes);
   short = All-nil (λ (m : List ℕ). length m ≤ name_limit);
   few = omega arith;
 })

@@ -23,7 +23,7 @@ use Rattle.heap_class.proofs.FirstUses.{names_more, inserted_prefix, inserted_lo
 
 -- ---- lists
 
-all_reversed : {X : Type 0} (P : X → Type 0) (xs : List X) → All P (reverse xs) → All P xs
+pub all_reversed : {X : Type 0} (P : X → Type 0) (xs : List X) → All P (reverse xs) → All P xs
 all_reversed P xs h k d lt =
     let n : length (reverse xs) ≡ length xs = length-reverse xs in
     subst P (sym (get_or-reverse (reverse xs) k d (omega arith)) ∙ ap (λ l. get_or l k d) (reverse-reverse xs))
@@ -71,13 +71,13 @@ module _ (names : List (List ℕ)) (n : ℕ) where
   classes_stay [] h = refl
   classes_stay (e ∷ es) h = λ i. class_stays e (All-head (IsWithin (length (take n names))) e es h) i ∷ classes_stay es (All-tail (IsWithin (length (take n names))) e es h) i
 
-within_more : (m n : ℕ) → m ≤ n → (e : Entry) → IsWithin m e → IsWithin n e
+pub within_more : (m n : ℕ) → m ≤ n → (e : Entry) → IsWithin m e → IsWithin n e
 within_more m n le e w = record {
   own = omega (arith, w.own);
   each = All-weaker (λ (f : OwnField). f.name < m) (λ (f : OwnField). f.name < n) (λ f lt. omega arith) e.fields.items w.each;
 }
 
-placed_within : (names : List (List ℕ)) (es : List Entry) → IsPlaced names es → All (IsWithin (length names)) es
+pub placed_within : (names : List (List ℕ)) (es : List Entry) → IsPlaced names es → All (IsWithin (length names)) es
 placed_within names [] h = All-nil (IsWithin (length names))
 placed_within names (e ∷ es) h =
     All-cons (IsWithin (length names)) e es h.0
@@ -89,7 +89,7 @@ placed_within names (e ∷ es) h =
 pub all_within : (names : List (List ℕ)) (es : List Entry) → IsPlaced names (reverse es) → All (IsWithin (length names)) es
 all_within names es h = all_reversed (IsWithin (length names)) es (placed_within names (reverse es) h)
 
-names_of_placed : (names : List (List ℕ)) (es : List Entry) → IsPlaced names es → name_table (map (class_of names) (reverse es)) ≡ names
+pub names_of_placed : (names : List (List ℕ)) (es : List Entry) → IsPlaced names es → name_table (map (class_of names) (reverse es)) ≡ names
 unfolding name_table first_uses
 names_of_placed names [] h = sym h
 names_of_placed names (e ∷ es) h =

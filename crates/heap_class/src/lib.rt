@@ -13,8 +13,10 @@ ghost use Rattle.heap_class.specs.declared.Refusal.TheVariants.{NoMemory};
 ghost use Rattle.heap_class.specs.Classes.{IsClassTable, all_distinct, class_refusal, instance_class, array_class, is_instance_class, is_array_class, slots_of, instance_size, name_of, fields_of, sup_of, name_id, name_table};
 ghost use Rattle.heap_class.specs.Table.{refusal_number, refusal_name};
 
+mod first_classes;
 mod names;
 
+pub use first_classes::FirstClasses;
 use indexmap::IndexSet;
 use names::{are_distinct, are_valid_names, name_in, place_names, slots_over, total_width};
 use std::alloc::{AllocError, AllocFailed, Global};
@@ -752,6 +754,18 @@ impl Classes {
         ensures limit { result ≤ 16640 }
     {
         self.names.len() as u64
+    }
+
+    // How many distinct names the first classes have.
+    pub(crate) fn name_count_of_first(&self, count: u64) -> u64
+        requires { count ≤ length self.now }
+        ensures value { result ≡ length (name_table (take count self.now)) }
+        ensures limit { result ≤ 16640 }
+    {
+        match self.entries.as_slice().get(count as usize) {
+            Some(entry) => entry.names_before as u64,
+            None => self.name_count(),
+        }
     }
 
     /// The name that has the id `index + 1`: names have ids in order of first use.

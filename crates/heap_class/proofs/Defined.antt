@@ -9,7 +9,7 @@ use Rattle.heap_class.specs.declared.Kind.{Kind}
 use Rattle.heap_class.specs.declared.Field.{Field}
 use Rattle.heap_class.specs.declared.Entry.{Entry}
 use Rattle.heap_class.specs.Classes.{Class, names_in, is_instance_class, slots_of, slots_under, slot_table_after, class_refusal}
-use Rattle.heap_class.specs.Entries.{class_of, IsWithin, AreNamed, IsTable}
+use Rattle.heap_class.specs.Entries.{class_of, IsWithin, AreNamed, AreSizes, IsTable}
 use Rattle.heap_class.proofs.Refused.{none_holds}
 use Rattle.heap_class.proofs.Tables.{pushed_table, pushed_classes}
 use Rattle.heap_class.proofs.Accepted.{slots_are, slot_count}
@@ -34,7 +34,8 @@ module _ (names : List (List ℕ)) (es : List Entry) (t : IsTable names es) (v :
     (sup_is : e.sup ≡ c.sup) (kind_is : e.is_array ≡ c.is_array)
     (marked : e.names_before ≡ length names)
     (slotted : e.slots.items ≡ map (λ (f : Field). f.kind) c.fields ++ above)
-    (above_is : above ≡ option_map_or (slots_of v) c.sup []) where
+    (above_is : above ≡ option_map_or (slots_of v) c.sup [])
+    (sized : AreSizes e.slots.items e.sizes) where
   entry_is : class_of names' e ≡ c
   entry_is = λ i. record { name = named.name_is i; sup = sup_is i; fields = named.fields_are i; is_array = kind_is i }
 
@@ -56,10 +57,10 @@ module _ (names : List (List ℕ)) (es : List Entry) (t : IsTable names es) (v :
   pub defined_table : IsTable names' es'
   defined_table =
       subst (IsTable names') (sym entries_are)
-      (subst (λ (l : List (List ℕ)). IsTable l (es ++ e ∷ [])) (sym names_are) (pushed_table names es t c e not_refused bare is_then within_then marked slots_stand))
+      (subst (λ (l : List (List ℕ)). IsTable l (es ++ e ∷ [])) (sym names_are) (pushed_table names es t c e not_refused bare is_then within_then marked slots_stand sized))
 
   pub defined_view : map (class_of names') es' ≡ v ++ c ∷ []
   defined_view =
       (λ i. map (class_of (names_are i)) (entries_are i))
-      ∙ pushed_classes names es t c e not_refused bare is_then within_then marked slots_stand
+      ∙ pushed_classes names es t c e not_refused bare is_then within_then marked slots_stand sized
       ∙ ap (λ l. l ++ c ∷ []) view_is

@@ -100,13 +100,17 @@ table_inserted : (cs : List Class) → name_table cs ≡ insert_all bytes_eq [] 
 unfolding name_table
 table_inserted cs = sym (inserted [] (flat_map names_in cs) ∙ filter_all (first_uses (flat_map names_in cs)))
 
--- the names with those of one more class
+-- the names with those of further classes
+pub names_append : (cs ds : List Class) → name_table (cs ++ ds) ≡ insert_all bytes_eq (name_table cs) (flat_map names_in ds)
+names_append cs ds =
+    table_inserted (cs ++ ds)
+    ∙ ap (insert_all bytes_eq []) (flat_map-append names_in cs ds)
+    ∙ fold-append (insert_key bytes_eq) [] (flat_map names_in cs) (flat_map names_in ds)
+    ∙ ap (λ t. insert_all bytes_eq t (flat_map names_in ds)) (sym (table_inserted cs))
+
+-- and with those of one
 pub names_more : (cs : List Class) (c : Class) → name_table (cs ++ c ∷ []) ≡ insert_all bytes_eq (name_table cs) (names_in c)
-names_more cs c =
-    table_inserted (cs ++ c ∷ [])
-    ∙ ap (insert_all bytes_eq []) (flat_map-append names_in cs (c ∷ []) ∙ ap (λ l. flat_map names_in cs ++ l) (append-nil (names_in c)))
-    ∙ fold-append (insert_key bytes_eq) [] (flat_map names_in cs) (names_in c)
-    ∙ ap (λ t. insert_all bytes_eq t (names_in c)) (sym (table_inserted cs))
+names_more cs c = names_append cs (c ∷ []) ∙ ap (insert_all bytes_eq (name_table cs)) (append-nil (names_in c))
 
 -- ---- what stays and what is new
 

@@ -9,3 +9,5 @@ pub mod Places
 pub mod Named
 pub mod Accepted
 pub mod Defined
+pub mod Front
+pub mod Counted

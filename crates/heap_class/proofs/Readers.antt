@@ -1,16 +1,18 @@
 -- What an entry says of the class that it stands for.
 use Rattle.std.proofs.Common.{◌≡◌, ℕ, zero, suc, ◌+◌, ◌<◌, ◌≤◌, true, false, not, List, [], ◌∷◌, ◌++◌, length, map, get_or, refl, sym, ap, subst, ◌∙◌, arith, length-append, Option, Some, None, zero-add}
 use Rattle.std.specs.Prelude.{slice_get, unwrap_or, IfSome}
-use Rattle.std.specs.List.{IsDistinct, position_or_len}
+use Rattle.std.specs.List.{IsDistinct, position_or_len, sum_by}
 use Rattle.std.specs.Str.{bytes_eq}
 use Rattle.std.specs.Option.{option_map_or, option_map}
 use Rattle.std.proofs.lemmas.Bool.{not-false}
 use Rattle.std.proofs.lemmas.List.{length-map}
 use Rattle.std.proofs.lemmas.Option.{slice_get-map, slice_get_read, slice_get_past}
 use Rattle.heap_class.specs.declared.Entry.{Entry}
+use Rattle.heap_class.specs.declared.IdSize.{IdSize}
+use Rattle.heap_class.specs.Kinds.{width_of}
 use Rattle.heap_class.specs.declared.OwnField.{OwnField}
-use Rattle.heap_class.specs.Classes.{Class, name_table, name_id, name_of, fields_of, sup_of, slots_of, slot_table_after, is_instance_class, is_array_class, class_refusal, IsClassTable}
-use Rattle.heap_class.specs.Entries.{field_of, class_of, IsWithin, IsRoomy, IsTable}
+use Rattle.heap_class.specs.Classes.{Class, name_table, name_id, name_of, fields_of, sup_of, slots_of, instance_size, slot_table_after, is_instance_class, is_array_class, class_refusal, IsClassTable}
+use Rattle.heap_class.specs.Entries.{field_of, class_of, IsWithin, IsRoomy, AreSizes, IsTable}
 use Rattle.heap_class.proofs.Refused.{none_holds}
 use Rattle.heap_class.proofs.Slots.{instance_within}
 use Rattle.heap_class.proofs.FirstUses.{table_distinct, position_is}
@@ -94,6 +96,13 @@ module _ (names : List (List ℕ)) (es : List Entry) (t : IsTable names es) (v :
         ap (λ l. unwrap_or (slice_get (slot_table_after [] l) k) []) (sym view_is)
         ∙ ap (λ l. unwrap_or (slice_get l k) []) (sym t.slots)
         ∙ ap (λ o. unwrap_or o []) (slice_get-map (λ (d : Entry). d.slots.items) es k ∙ ap (option_map (λ (d : Entry). d.slots.items)) (slice_get_read es (length es) k e refl (omega (arith, as_many)) is))
+
+    pub size_at : (ids : IdSize) → instance_size ids v k ≡ sum_by (width_of ids) e.slots.items
+    unfolding instance_size
+    size_at ids = ap (sum_by (width_of ids)) slots_at
+
+    pub sized_at : AreSizes e.slots.items e.sizes
+    sized_at = subst (λ (d : Entry). AreSizes d.slots.items d.sizes) (sym is) (t.sized k e (omega (arith, as_many)))
 
     pub within_at : IsWithin (length names) e
     within_at = subst (IsWithin (length names)) (sym is) (all_within names es t.placed k e (omega (arith, as_many)))

@@ -16,14 +16,14 @@ use Rattle.heap_class.specs.declared.Entry.{Entry}
 use Rattle.heap_class.specs.declared.Refusal.TheVariants.{NoClass, ClassLimit, BadName, DuplicateName, FieldLimit}
 use Rattle.heap_class.specs.Refusals.{NoneHolds}
 use Rattle.heap_class.specs.Classes.{Class, first_uses, name_table, names_in, is_name, is_instance_class, all_distinct, slots_under, slot_table_after, class_refusal, IsClassTable}
-use Rattle.heap_class.specs.Entries.{field_of, class_of, IsWithin, IsPlaced, IsRoomy, IsTable}
+use Rattle.heap_class.specs.Entries.{field_of, class_of, IsWithin, IsPlaced, IsRoomy, AreSizes, IsTable}
 use Rattle.heap_class.proofs.Refused.{none_holds}
 use Rattle.heap_class.proofs.Slots.{table_more, table_length, classes_more}
 use Rattle.heap_class.proofs.FirstUses.{names_more, inserted_prefix, inserted_longer, inserted_length, inserted_all}
 
 -- ---- lists
 
-all_reversed : {X : Type 0} (P : X → Type 0) (xs : List X) → All P (reverse xs) → All P xs
+pub all_reversed : {X : Type 0} (P : X → Type 0) (xs : List X) → All P (reverse xs) → All P xs
 all_reversed P xs h k d lt =
     let n : length (reverse xs) ≡ length xs = length-reverse xs in
     subst P (sym (get_or-reverse (reverse xs) k d (omega arith)) ∙ ap (λ l. get_or l k d) (reverse-reverse xs))
@@ -71,13 +71,13 @@ module _ (names : List (List ℕ)) (n : ℕ) where
   classes_stay [] h = refl
   classes_stay (e ∷ es) h = λ i. class_stays e (All-head (IsWithin (length (take n names))) e es h) i ∷ classes_stay es (All-tail (IsWithin (length (take n names))) e es h) i
 
-within_more : (m n : ℕ) → m ≤ n → (e : Entry) → IsWithin m e → IsWithin n e
+pub within_more : (m n : ℕ) → m ≤ n → (e : Entry) → IsWithin m e → IsWithin n e
 within_more m n le e w = record {
   own = omega (arith, w.own);
   each = All-weaker (λ (f : OwnField). f.name < m) (λ (f : OwnField). f.name < n) (λ f lt. omega arith) e.fields.items w.each;
 }
 
-placed_within : (names : List (List ℕ)) (es : List Entry) → IsPlaced names es → All (IsWithin (length names)) es
+pub placed_within : (names : List (List ℕ)) (es : List Entry) → IsPlaced names es → All (IsWithin (length names)) es
 placed_within names [] h = All-nil (IsWithin (length names))
 placed_within names (e ∷ es) h =
     All-cons (IsWithin (length names)) e es h.0
@@ -89,7 +89,7 @@ placed_within names (e ∷ es) h =
 pub all_within : (names : List (List ℕ)) (es : List Entry) → IsPlaced names (reverse es) → All (IsWithin (length names)) es
 all_within names es h = all_reversed (IsWithin (length names)) es (placed_within names (reverse es) h)
 
-names_of_placed : (names : List (List ℕ)) (es : List Entry) → IsPlaced names es → name_table (map (class_of names) (reverse es)) ≡ names
+pub names_of_placed : (names : List (List ℕ)) (es : List Entry) → IsPlaced names es → name_table (map (class_of names) (reverse es)) ≡ names
 unfolding name_table first_uses
 names_of_placed names [] h = sym h
 names_of_placed names (e ∷ es) h =
@@ -158,6 +158,7 @@ module _ (names : List (List ℕ)) (es : List Entry) (e : Entry) (t : IsTable na
     classes = less;
     slots = less_slots;
     roomy = all_of_front IsRoomy es e t.roomy;
+    sized = all_of_front (λ (d : Entry). AreSizes d.slots.items d.sizes) es e t.sized;
     short = All-take (λ (n : List ℕ). length n ≤ name_limit) e.names_before names t.short;
     few = omega (arith, t.few, length-append es (e ∷ []));
   }
@@ -176,7 +177,8 @@ module _ (names : List (List ℕ)) (es : List Entry) (t : IsTable names es) (c :
     (is : class_of (insert_all bytes_eq names (names_in c)) e ≡ c)
     (within : IsWithin (length (insert_all bytes_eq names (names_in c))) e)
     (marked : e.names_before ≡ length names)
-    (slotted : e.slots.items ≡ slots_under (slot_table_after [] (map (class_of names) es)) c) where
+    (slotted : e.slots.items ≡ slots_under (slot_table_after [] (map (class_of names) es)) c)
+    (sized : AreSizes e.slots.items e.sizes) where
   tests : NoneHolds
       ((not (option_map_or (is_instance_class (map (class_of names) es)) c.sup true), NoClass)
       ∷ (nat_le class_limit (length (map (class_of names) es)), ClassLimit)
@@ -229,6 +231,7 @@ module _ (names : List (List ℕ)) (es : List Entry) (t : IsTable names es) (c :
         ∙ sym (table_more [] (map (class_of names) es) c)
         ∙ ap (slot_table_after []) (sym pushed_classes);
     roomy = All-push IsRoomy es e t.roomy roomy_entry;
+    sized = All-push (λ (d : Entry). AreSizes d.slots.items d.sizes) es e t.sized sized;
     short = inserted_all (λ (n : List ℕ). length n ≤ name_limit) names (names_in c) t.short (all_named (names_in c) (not-false (list_all is_name (names_in c)) tests.1.1.0));
     few = omega (arith, leb-false class_limit (length (map (class_of names) es)) tests.1.0, length-map es (class_of names), length-append es (e ∷ []));
   }
@@ -242,6 +245,7 @@ empty_table names es n e = subst (λ (ns : List (List ℕ)). IsTable ns es) (sym
   classes = tt;
   slots = refl;
   roomy = All-nil IsRoomy;
+  sized = All-nil (λ (d : Entry). AreSizes d.slots.items d.sizes);
   short = All-nil (λ (m : List ℕ). length m ≤ name_limit);
   few = omega arith;
 })

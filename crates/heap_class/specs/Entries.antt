@@ -1,11 +1,15 @@
 -- How the classes are kept: their distinct names in order of first use, and entries that say names by their places.
 use Rattle.std.specs.Prelude.{◌≡◌, ℕ, ◌<◌, ◌≤◌, List, [], ◌∷◌, map, length, take, reverse, slice_index_or}
-use Rattle.std.specs.List.{All}
+use Rattle.std.specs.List.{All, sum_by}
 use Rattle.std.specs.Str.{bytes_eq}
 use Rattle.indexmap.specs.IndexSet.{insert_all}
 use Rattle.heap_class.specs.declared.Field.{Field}
 use Rattle.heap_class.specs.declared.OwnField.{OwnField}
 use Rattle.heap_class.specs.declared.Entry.{Entry}
+use Rattle.heap_class.specs.declared.IdSize.TheVariants.{Four, Eight}
+use Rattle.heap_class.specs.declared.Kind.{Kind}
+use Rattle.heap_class.specs.declared.Sizes.{Sizes}
+use Rattle.heap_class.specs.Kinds.{width_of}
 use Rattle.heap_class.specs.Classes.{Class, names_in, slot_table_after, IsClassTable}
 use Rattle.heap_class.specs.Limits.{class_limit, slot_limit, name_limit}
 
@@ -45,11 +49,17 @@ pub record IsRoomy (e : Entry) : Type 0 where
   pub few_fields : length e.fields.items ≤ slot_limit
   pub few_slots : length e.slots.items ≤ slot_limit
 
+-- the widths of the slots together, by the size of identifiers
+pub record AreSizes (slots : List Kind) (sizes : Sizes) : Type 0 where
+  pub of_four : sizes.of_four ≡ sum_by (width_of Four) slots
+  pub of_eight : sizes.of_eight ≡ sum_by (width_of Eight) slots
+
 -- what is true of the names and the entries
 pub record IsTable (names : List (List ℕ)) (entries : List Entry) : Type 0 where
   pub placed : IsPlaced names (reverse entries)
   pub classes : IsClassTable [] (map (class_of names) entries)
   pub slots : map (λ (e : Entry). e.slots.items) entries ≡ slot_table_after [] (map (class_of names) entries)
   pub roomy : All IsRoomy entries
+  pub sized : All (λ (e : Entry). AreSizes e.slots.items e.sizes) entries
   pub short : All (λ (n : List ℕ). length n ≤ name_limit) names
   pub few : length entries ≤ class_limit

@@ -7,13 +7,16 @@ ghost use Rattle.std.specs.List.{list_any};
 ghost use Rattle.std.specs.Str.{bytes_eq};
 ghost use Rattle.heap_class.specs.Kinds.{id_bytes, width_of, type_code, kind_word, value_limit, is_reference};
 ghost use Rattle.heap_class.specs.Refusals.{IsAnswered};
+ghost use Rattle.heap_class.specs.Entries.{AreSizes};
 ghost use Rattle.heap_class.specs.Limits.{class_limit, name_limit, slot_limit};
 ghost use Rattle.heap_class.specs.declared.Refusal.TheVariants.{NoMemory};
 ghost use Rattle.heap_class.specs.Classes.{IsClassTable, all_distinct, class_refusal, instance_class, array_class, is_instance_class, is_array_class, slots_of, instance_size, name_of, fields_of, sup_of, name_id, name_table};
 ghost use Rattle.heap_class.specs.Table.{refusal_number, refusal_name};
 
+mod first_classes;
 mod names;
 
+pub use first_classes::FirstClasses;
 use indexmap::IndexSet;
 use names::{are_distinct, are_valid_names, name_in, place_names, slots_over, total_width};
 use std::alloc::{AllocError, AllocFailed, Global};
@@ -446,6 +449,26 @@ struct OwnField {
     kind: Kind,
 }
 
+// The bytes of a class's instances, for identifiers of four bytes and of eight.
+#[derive(Clone, Copy)]
+struct Sizes {
+    of_four: u16,
+    of_eight: u16,
+}
+
+impl Sizes {
+    // The sizes of instances with these slots.
+    fn of(slots: &[Kind]) -> Sizes
+        requires { length slots.now ≤ slot_limit }
+        ensures { AreSizes slots.now result }
+    {
+        Sizes {
+            of_four: total_width(IdSize::Four, slots) as u16,
+            of_eight: total_width(IdSize::Eight, slots) as u16,
+        }
+    }
+}
+
 // A class, its names as places among the names.
 #[derive(Drop)]
 struct Entry {
@@ -455,6 +478,7 @@ struct Entry {
     is_array: bool,
     // its own fields' kinds, then its super's slots
     slots: Vec<Kind>,
+    sizes: Sizes,
     // how many names there were before the class
     names_before: usize,
 }
@@ -588,6 +612,7 @@ impl Classes {
             return Err(refusal);
         }
         let slots = slots_over(self.alloc, fields, self.slots_above(sup))?;
+        let sizes = Sizes::of(slots.as_slice());
         self.entries.reserve(1)?;
         let number = self.entries.len() as u64;
         let names_before = self.names.len();
@@ -598,6 +623,7 @@ impl Classes {
             fields,
             is_array,
             slots,
+            sizes,
             names_before,
         });
         Ok(number)
@@ -672,7 +698,11 @@ impl Classes {
         requires { class < length self.now }
         ensures { result ≡ instance_size ids self.now class }
     {
-        total_width(ids, self.slots(class))
+        let sizes = self.entries[class as usize].sizes;
+        match ids {
+            IdSize::Four => sizes.of_four as u64,
+            IdSize::Eight => sizes.of_eight as u64,
+        }
     }
 
     /// The name of a class, of 1 to 64 bytes.
@@ -724,6 +754,18 @@ impl Classes {
         ensures limit { result ≤ 16640 }
     {
         self.names.len() as u64
+    }
+
+    // How many distinct names the first classes have.
+    pub(crate) fn name_count_of_first(&self, count: u64) -> u64
+        requires { count ≤ length self.now }
+        ensures value { result ≡ length (name_table (take count self.now)) }
+        ensures limit { result ≤ 16640 }
+    {
+        match self.entries.as_slice().get(count as usize) {
+            Some(entry) => entry.names_before as u64,
+            None => self.name_count(),
+        }
     }
 
     /// The name that has the id `index + 1`: names have ids in order of first use.

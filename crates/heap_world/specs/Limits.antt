@@ -1,5 +1,6 @@
 -- What a heap is made with.
 use Rattle.std.specs.Prelude.{ℕ, ◌≤◌}
+use Rattle.heap_class.specs.declared.IdSize.{IdSize}
 use Rattle.heap_region.specs.Limits.{region_limit}
 
 -- mutators of a heap
@@ -20,8 +21,9 @@ pub record AreSettings (regions mutators keep : ℕ) : Type 0 where
   pub mutators_within : (1 ≤ mutators) × (mutators ≤ mutator_limit)
   pub keep_within : (1 ≤ keep) × (keep ≤ keep_limit)
 
--- what a heap is made with
+-- what a heap is made with, and the size of the ids in its dumps
 pub record Settings : Type 0 where
   pub regions : ℕ
   pub mutators : ℕ
   pub keep : ℕ
+  pub ids : IdSize

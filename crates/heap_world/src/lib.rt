@@ -4,6 +4,7 @@
 ghost use Rattle.std.specs.Prelude.{◌≡◌, ◌≢◌, ◌⊎◌, ◌+◌, ◌-◌, ◌*◌, ◌<◌, ◌≤◌, ◌↔◌, ◌&&◌, nat_lt, length, reverse, take, replicate, Some, None, true, false, IsTrue, Contains, IsSome, IfSome, IfOk, IfErr, OnOk, OnErr, slice_get, slice_set};
 ghost use Rattle.heap_class.specs.Classes.{class_refusal, instance_class, is_instance_class, slots_of};
 ghost use Rattle.heap_class.specs.Refusals.{IsAnswered};
+ghost use Rattle.heap_class.specs.declared.IdSize.TheVariants.{Eight};
 ghost use Rattle.heap_class.specs.declared.ObjKind.TheVariants.{Instance};
 ghost use Rattle.heap_class.specs.declared.Refusal.TheVariants.{NoMemory, NullRegister, BadSlot, HeapFull};
 ghost use Rattle.heap_region.specs.Regions.{object_at, ref_of, slot_kinds, with_word};
@@ -18,7 +19,7 @@ mod marking;
 mod references;
 mod sweeping;
 
-use heap_class::{ClassNo, Classes, Fields, Kind, Name, ObjKind, ObjRef, Refusal};
+use heap_class::{ClassNo, Classes, Fields, IdSize, Kind, Name, ObjKind, ObjRef, Refusal};
 use heap_mark::{Marker, Phase};
 use heap_region::Regions;
 use std::alloc::Global;
@@ -42,12 +43,14 @@ pub const KEEP_LIMIT: u64 = 65536;
 // Cells of a region at most.
 const CELLS_EACH: u64 = 256;
 
-/// What a heap is made with: 1 to 256 regions, 1 to 16 mutators, and 1 to 65,536 steps that can be undone.
+/// What a heap is made with: 1 to 256 regions, 1 to 16 mutators, 1 to 65,536 steps that can be undone, and the size of
+/// the ids in its dumps.
 #[derive(Clone, Copy)]
 pub struct Config {
     regions: u64,
     mutators: u64,
     keep: u64,
+    ids: IdSize,
 }
 
 impl Model for Config {
@@ -55,17 +58,17 @@ impl Model for Config {
 
     ghost Value = { Settings };
 
-    ghost view = { λ c. record { regions = c.regions; mutators = c.mutators; keep = c.keep } };
+    ghost view = { λ c. record { regions = c.regions; mutators = c.mutators; keep = c.keep; ids = c.ids } };
 
-    ghost inverse = { λ c. record { regions = c.regions; mutators = c.mutators; keep = c.keep } };
+    ghost inverse = { λ c. record { regions = c.regions; mutators = c.mutators; keep = c.keep; ids = c.ids } };
 
     ghost invariant = { λ c. AreSettings c.regions c.mutators c.keep };
 }
 
 impl Config {
-    /// These settings; None where one is outside its limits.
+    /// These settings, with ids of 8 bytes; None where one is outside its limits.
     pub fn new(regions: u64, mutators: u64, keep: u64) -> Option<Config>
-        ensures given { IfSome result (λ c. c ≡ record { regions = regions; mutators = mutators; keep = keep }) }
+        ensures given { IfSome result (λ c. c ≡ record { regions = regions; mutators = mutators; keep = keep; ids = Eight }) }
         ensures within { IsSome result ↔ AreSettings regions mutators keep }
     {
         let sized = 1 <= regions
@@ -79,7 +82,15 @@ impl Config {
             regions,
             mutators,
             keep,
+            ids: IdSize::Eight,
         })
+    }
+
+    /// The same settings with ids of that size.
+    pub fn with_ids(self, ids: IdSize) -> Config
+        ensures { result ≡ record self { ids = ids } }
+    {
+        Config { ids, ..self }
     }
 
     /// The number of regions, 1 to 256.
@@ -103,6 +114,13 @@ impl Config {
         ensures limits { AreSettings self.now.regions self.now.mutators self.now.keep }
     {
         self.keep
+    }
+
+    /// The size of the ids in dumps.
+    pub fn ids(&self) -> IdSize
+        ensures { result ≡ self.now.ids }
+    {
+        self.ids
     }
 }
 

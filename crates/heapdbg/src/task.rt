@@ -48,7 +48,7 @@ fn perform_words<I: Inlet, O: Outlet>(
 const NOT_UTF8: &str = "error: a word of the command line is not UTF-8\n";
 
 /// The fault of a command line that can't be read.
-pub fn unread(alloc: Global, error: &Error) -> LineFault
+fn unread(alloc: Global, error: &Error) -> LineFault
     ensures memory { error_kind error.now ≡ ErrorKind.OutOfMemory → result ≡ LineFault.Memory }
     ensures text { IsBadWith NOT_UTF8.now result }
 {

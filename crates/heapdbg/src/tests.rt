@@ -1,10 +1,8 @@
 use crate::command_line::settings;
 use crate::failure::{Failure, outcome, report};
 use crate::settings::{LineFault, Settings, Task};
-use crate::task::unread;
 use session_text::Ended;
 use std::alloc::Global;
-use std::io::{Error, ErrorKind};
 use std::process::ExitCode;
 use std::test::Fail;
 
@@ -126,15 +124,6 @@ fn tells_what_is_wrong(rt: HostRuntime) -> Result<(), Fail> {
         assert_eq!(rt; text_of(rt.alloc(), line)?.as_str(), text, "at {line}");
     }
     Ok(())
-}
-
-#[test]
-fn tells_words_that_are_not_text(rt: HostRuntime) {
-    let error = Error::new(ErrorKind::InvalidData, "not text");
-    let fault = unread(rt.alloc(), &error);
-    assert!(rt;
-        matches!(fault, LineFault::Bad(text) if text.as_str() == "error: a word of the command line is not UTF-8\n")
-    );
 }
 
 #[test]

@@ -3,6 +3,7 @@ use Rattle.std.proofs.Common.{◌≡◌, ℕ, zero, suc, ◌+◌, ◌-◌, ◌<�
 use Rattle.std.specs.Prelude.{nat_lt, slice_get}
 use Rattle.circular_buffer.specs.Buffer.{Buffer, buffer}
 use Rattle.heap_class.specs.Refusals.{first_refusal}
+use Rattle.heap_class.specs.declared.IdSize.{IdSize}
 use Rattle.heap_class.specs.declared.Refusal.TheVariants.{TooFar}
 use Rattle.heap_world.specs.State.{HeapState}
 use Rattle.heap_world.specs.Legal.{IsLegal}
@@ -57,17 +58,17 @@ kept_after_undo w v left ring place keep k first leads = go ring.items first k.r
           counted = omega (arith, k.counted);
         }
 
-pub undone_once : (w v : HeapState) (left : Undo) (ring : Buffer Undo) (place keep : ℕ) → IsKept w ring place keep → slice_get ring.items 0 ≡ Some left → LeadsTo v w left
-    → machine_of v (popped ring) (place - 1) keep ≡ record (machine_of w ring place keep) { trail = rewound 1 (machine_of w ring place keep).trail }
+pub undone_once : (ids : IdSize) (w v : HeapState) (left : Undo) (ring : Buffer Undo) (place keep : ℕ) → IsKept w ring place keep → slice_get ring.items 0 ≡ Some left → LeadsTo v w left
+    → machine_of ids v (popped ring) (place - 1) keep ≡ record (machine_of ids w ring place keep) { trail = rewound 1 (machine_of ids w ring place keep).trail }
 unfolding rewound state_ago
-undone_once w v left ring place keep k first leads = go ring.items first k.recorded
+undone_once ids w v left ring place keep k first leads = go ring.items first k.recorded
   where
     go : (items : List Undo) → slice_get items 0 ≡ Some left → AreRecorded w items
-        → machine_of v (buffer (drop 1 items) ring.capacity) (place - 1) keep ≡ record (machine_of w (buffer items ring.capacity) place keep) { trail = rewound 1 (machine_of w (buffer items ring.capacity) place keep).trail }
+        → machine_of ids v (buffer (drop 1 items) ring.capacity) (place - 1) keep ≡ record (machine_of ids w (buffer items ring.capacity) place keep) { trail = rewound 1 (machine_of ids w (buffer items ring.capacity) place keep).trail }
     go [] h told = cc
     go (r ∷ rs) h told =
         let e : r ≡ left = cc in
-        ap (λ u. machine_of u (buffer rs ring.capacity) (place - 1) keep) (is_undone v w left r rs e told leads)
+        ap (λ u. machine_of ids u (buffer rs ring.capacity) (place - 1) keep) (is_undone v w left r rs e told leads)
 
 -- ---- several
 

@@ -1,5 +1,6 @@
 -- Pins, and what a dump shows of a state.
 use Rattle.std.specs.Prelude.{ℕ, List, map}
+use Rattle.heap_class.specs.declared.IdSize.{IdSize}
 use Rattle.heap_region.specs.Regions.{live_objects, live_places, id_of}
 use Rattle.heap_world.specs.State.{HeapState}
 use Rattle.hprof_text.specs.declared.Cursor.{Cursor}
@@ -11,6 +12,11 @@ dumped_objects w = map (λ p. record { id = id_of w.regions p.0; kind = p.1.kind
 
 unfoldable pub image_of : HeapState → Image
 image_of w = record { classes = w.classes; registers = w.registers; objects = dumped_objects w }
+
+-- a state that is dumped, and the size of ids in the dump
+pub record Shown : Type 0 where
+  pub state : HeapState
+  pub ids : IdSize
 
 -- the cursor stands at a piece of the state's dump, or past all
 abbrev pub StandsIn : HeapState → Cursor → Type 0

@@ -8,7 +8,7 @@ use Rattle.heap_step.specs.declared.Event.{Event}
 use Rattle.heap_step.specs.declared.Undo.{Undo}
 use Rattle.heap_step.specs.Records.{undone}
 use Rattle.heap_step.specs.Laws.{IsStep}
-use Rattle.heap_class.specs.declared.IdSize.TheVariants.{Eight}
+use Rattle.heap_class.specs.declared.IdSize.{IdSize}
 use Rattle.heap_trail.specs.Limits.{last_place}
 use Rattle.heap_trail.specs.Machine.{Machine}
 use Rattle.heap_trail.specs.Pins.{no_pins}
@@ -33,6 +33,6 @@ pub record IsKept (w : HeapState) (ring : Buffer Undo) (place keep : ℕ) : Type
   pub placed : length ring.items ≤ place
   pub counted : place ≤ last_place
 
--- the machine that has this state, ring, place and number of records to keep
-abbrev pub machine_of : HeapState → Buffer Undo → ℕ → ℕ → Machine
-machine_of w ring place keep = record { keep = keep; ids = Eight; trail = record { place = place; current = w; past = past_of w ring.items }; pins = no_pins }
+-- the machine that has this size of ids, state, ring, place and number of records to keep
+abbrev pub machine_of : IdSize → HeapState → Buffer Undo → ℕ → ℕ → Machine
+machine_of ids w ring place keep = record { keep = keep; ids = ids; trail = record { place = place; current = w; past = past_of w ring.items }; pins = no_pins }

@@ -3,7 +3,6 @@
 
 ghost use Rattle.std.specs.Prelude.{◌≡◌, ◌⊎◌, ◌<◌, ◌≤◌, ◌+◌, ◌^◌, ℕ, length, None, Some, IfOk, IfErr, OnOk, OnErr};
 ghost use Rattle.heap_class.specs.declared.IdSize.{IdSize};
-ghost use Rattle.heap_class.specs.declared.IdSize.TheVariants.{Eight};
 ghost use Rattle.heap_class.specs.declared.Refusal.TheVariants.{NoMemory};
 ghost use Rattle.heap_step.specs.declared.Event.{Event};
 ghost use Rattle.heap_step.specs.declared.Event.TheVariants.{Finish, Sweep};
@@ -26,7 +25,7 @@ mod shown;
 
 use circular_buffer::HeapCircularBuffer;
 pub use examples::worked_examples;
-use heap_class::Refusal;
+use heap_class::{IdSize, Refusal};
 use heap_step::step::undo;
 use heap_step::{Answer, Event, Undo, apply, undo_takes_back};
 use heap_world::{Config, World};
@@ -58,8 +57,8 @@ pub enum Reply {
     Refused(Refusal),
 }
 
-/// The current state, the records of the last `keep` steps, newest first, and the place. Contracts see the states
-/// themselves.
+/// The current state, the records of the last `keep` steps, newest first, the place, and the size of ids in dumps.
+/// Contracts see the states themselves.
 #[derive(Drop)]
 pub struct Machine {
     alloc: Global,
@@ -67,6 +66,7 @@ pub struct Machine {
     records: HeapCircularBuffer<Undo>,
     place: u64,
     keep: u64,
+    ids: IdSize,
 }
 
 impl Model for Machine {
@@ -75,7 +75,7 @@ impl Model for Machine {
 
     ghost Value = { Machine };
 
-    ghost view = { λ m. machine_of m.world m.records m.place m.keep };
+    ghost view = { λ m. machine_of m.ids m.world m.records m.place m.keep };
 
     ghost invariant = { λ m. IsKept m.world m.records m.place m.keep };
 }
@@ -83,10 +83,11 @@ impl Model for Machine {
 impl Machine {
     /// A machine at place 0. Its ring has room for all records that it keeps. Refused NoMemory.
     pub fn new(alloc: Global, config: Config) -> Result<Machine, Refusal>
-        ensures opened { IfOk result (λ m. m ≡ opening_machine Eight config.regions config.mutators config.keep) }
+        ensures opened { IfOk result (λ m. m ≡ opening_machine config.ids config.regions config.mutators config.keep) }
         ensures refused { IfErr result (λ e. e ≡ NoMemory) }
     {
         let keep = config.keep();
+        let ids = config.ids();
         let world = World::new(alloc, config)?;
         match HeapCircularBuffer::with_capacity(alloc, keep as usize) {
             Ok(records) => {
@@ -98,6 +99,7 @@ impl Machine {
                     records,
                     place: 0,
                     keep,
+                    ids,
                 })
             }
             Err(_) => Err(Refusal::NoMemory),
@@ -209,7 +211,12 @@ impl Machine {
         ensures small { IfOk result (λ p. length p.0.bytes ≤ 2 ^ 24) }
         ensures refused { IfErr result (λ e. e ≡ NoMemory) }
     {
-        piece_from(self.alloc, &WorldView::new(&self.world), cursor, time)
+        piece_from(
+            self.alloc,
+            &WorldView::new(&self.world, self.ids),
+            cursor,
+            time,
+        )
     }
 }
 

@@ -1,46 +1,46 @@
 //! What a dump shows of a state.
 ghost use Rattle.std.specs.Prelude.{◌≡◌};
-ghost use Rattle.heap_world.specs.State.{HeapState};
+ghost use Rattle.heap_trail.specs.Pins.{Shown};
 
 use heap_class::{Classes, IdSize, ObjKind, ObjRef};
 use heap_world::World;
 use hprof_text::View;
 use std::marker::Model;
 
-/// A state as a dump shows it: its classes, its registers and its live objects, by region and cell. Contracts see the
-/// state.
+/// A state as a dump shows it: its classes, its registers and its live objects, by region and cell, with ids of one
+/// size. Contracts see the state and that size.
 #[derive(Drop)]
 pub struct WorldView<'a> {
     world: &'a World,
+    ids: IdSize,
 }
 
 impl<'a> Model for WorldView<'a> {
-    ghost use Rattle.heap_world.specs.State.{HeapState};
+    ghost use Rattle.heap_trail.specs.Pins.{Shown};
 
-    ghost Value = { HeapState };
+    ghost Value = { Shown };
 
-    ghost view = { λ v. v.world.now };
+    ghost view = { λ v. record { state = v.world.now; ids = v.ids } };
 }
 
 impl<'a> WorldView<'a> {
-    /// The state as a dump shows it.
-    pub fn new(world: &'a World) -> WorldView<'a>
-        ensures { result ≡ world.now }
+    /// The state as a dump with ids of that size shows it.
+    pub fn new(world: &'a World, ids: IdSize) -> WorldView<'a>
+        ensures { result ≡ record { state = world.now; ids = ids } }
     {
-        WorldView { world }
+        WorldView { world, ids }
     }
 }
 
 impl<'a> View for WorldView<'a> {
-    ghost use Rattle.heap_class.specs.declared.IdSize.TheVariants.{Eight};
     ghost use Rattle.heap_region.specs.Regions.{live_places};
     ghost use Rattle.heap_trail.specs.Pins.{image_of};
 
-    ghost image = { image_of };
+    ghost image = { λ v. image_of v.state };
 
-    ghost ids = { λ _. Eight };
+    ghost ids = { λ v. v.ids };
 
-    ghost places = { λ w. live_places w.regions };
+    ghost places = { λ v. live_places v.state.regions };
 
     fn classes(&self) -> &Classes {
         // Its contract says that the heap is legal, and so within a dump's limits.
@@ -49,7 +49,7 @@ impl<'a> View for WorldView<'a> {
     }
 
     fn id_size(&self) -> IdSize {
-        IdSize::Eight
+        self.ids
     }
 
     fn registers(&self) -> &[u64] {

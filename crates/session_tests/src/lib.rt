@@ -10,6 +10,8 @@ mod dumps;
 #[cfg(test)]
 mod faults;
 #[cfg(test)]
+mod four_bytes;
+#[cfg(test)]
 mod interrupts;
 #[cfg(test)]
 mod large;

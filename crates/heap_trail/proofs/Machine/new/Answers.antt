@@ -11,4 +11,5 @@ returns-in-Ok c =
     let w : c.in_ok-world.world ≡ opening_state c.args.config.regions c.args.config.mutators = c.in_ok-world.ensures.opened in
     let r : c.in-Ok.records ≡ buffer [] c.keep-keep.result = c.in-Ok.ensures in
     let k : c.keep-keep.result ≡ c.args.config.keep = c.keep-keep.ensures.value in
-    record { opened = λ i. machine_of (w i) (r i) 0 (k i); refused = tt }
+    let d : c.ids-ids.result ≡ c.args.config.ids = c.ids-ids.ensures in
+    record { opened = λ i. machine_of (d i) (w i) (r i) 0 (k i); refused = tt }

@@ -17,15 +17,15 @@ use Rattle.heap_trail.proofs.Machine.step.Goals as goal
 pub returns-then-self-ge-LAST_PLACE-clause-refused : goal.returns-then-self-ge-LAST_PLACE-clause-refused
 returns-then-self-ge-LAST_PLACE-clause-refused c =
     inl (subst (λ (m : Machine). acted m (Step c.args.event.now) ≡ (m, Refused ChronicleFull)) c.self.view_is
-    (step_full c.args.event.now c.self.inside.world c.self.inside.records c.self.inside.place c.self.inside.keep c.if-self-ge-LAST_PLACE.true))
+    (step_full c.self.inside.ids c.args.event.now c.self.inside.world c.self.inside.records c.self.inside.place c.self.inside.keep c.if-self-ge-LAST_PLACE.true))
 
 pub returns-in_err-answer-clause-refused : goal.returns-in_err-answer-clause-refused
 returns-in_err-answer-clause-refused c =
     let p = err_from_is_err_and c.from_residual.result c.from_residual.ensures.1 in
     let under : c.self.inside.place < last_place = c.if-self-ge-LAST_PLACE.false in
     rw (p.1, p.2)
-    (subst (λ (m : Machine). (acted m (Step c.args.event.now) ≡ (machine_of c.apply.new.world c.self.inside.records c.self.inside.place c.self.inside.keep, Refused c.in_err-answer.field-0.0)) ⊎ (MayStand m (Step c.args.event.now, Refusing) × (c.in_err-answer.field-0.0 ≡ NoMemory))) c.self.view_is
-    (step_err c.args.event.now c.self.inside.world c.apply.new.world c.self.inside.records c.self.inside.place c.self.inside.keep c.in_err-answer.field-0.0 under c.in_err-answer.ensures.unchanged c.in_err-answer.ensures.refused))
+    (subst (λ (m : Machine). (acted m (Step c.args.event.now) ≡ (machine_of c.self.inside.ids c.apply.new.world c.self.inside.records c.self.inside.place c.self.inside.keep, Refused c.in_err-answer.field-0.0)) ⊎ (MayStand m (Step c.args.event.now, Refusing) × (c.in_err-answer.field-0.0 ≡ NoMemory))) c.self.view_is
+    (step_err c.self.inside.ids c.args.event.now c.self.inside.world c.apply.new.world c.self.inside.records c.self.inside.place c.self.inside.keep c.in_err-answer.field-0.0 under c.in_err-answer.ensures.unchanged c.in_err-answer.ensures.refused))
 
 pub invariant_of-self-2 : goal.invariant_of-self-2
 invariant_of-self-2 c =
@@ -48,11 +48,11 @@ returns-clause-done c =
       after = c.in_ok-answer.ensures.legal;
       law = c.undo_takes_back.ensures c.args.event.now c.self.inside.world;
     } in
-    let t : acted (machine_of c.self.inside.world c.self.inside.records c.self.inside.place c.self.inside.keep) (Step c.args.event.now)
-    ≡ (machine_of c.apply.new.world (pushed c.in_ok-answer.left c.self.inside.records) (c.self.inside.place + 1) c.self.inside.keep, Answered c.in_ok-answer.answer) =
-    step_done c.args.event.now c.self.inside.world c.apply.new.world c.in_ok-answer.left c.self.inside.records c.self.inside.place c.self.inside.keep c.in_ok-answer.answer c.self.invariant a c.if-self-ge-LAST_PLACE.false c.in_ok-answer.ensures.done in
+    let t : acted (machine_of c.self.inside.ids c.self.inside.world c.self.inside.records c.self.inside.place c.self.inside.keep) (Step c.args.event.now)
+    ≡ (machine_of c.self.inside.ids c.apply.new.world (pushed c.in_ok-answer.left c.self.inside.records) (c.self.inside.place + 1) c.self.inside.keep, Answered c.in_ok-answer.answer) =
+    step_done c.self.inside.ids c.args.event.now c.self.inside.world c.apply.new.world c.in_ok-answer.left c.self.inside.records c.self.inside.place c.self.inside.keep c.in_ok-answer.answer c.self.invariant a c.if-self-ge-LAST_PLACE.false c.in_ok-answer.ensures.done in
     ap (λ (m : Machine). acted m (Step c.args.event.now)) (sym c.self.view_is) ∙ t
-    ∙ ap (λ (r : Buffer Undo). (machine_of c.apply.new.world r (c.self.inside.place + 1) c.self.inside.keep, Answered c.in_ok-answer.answer)) (sym c.push_front.ensures.items)
+    ∙ ap (λ (r : Buffer Undo). (machine_of c.self.inside.ids c.apply.new.world r (c.self.inside.place + 1) c.self.inside.keep, Answered c.in_ok-answer.answer)) (sym c.push_front.ensures.items)
 
 pub returns-clause-spares : goal.returns-clause-spares
 returns-clause-spares c =

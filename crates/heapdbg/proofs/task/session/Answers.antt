@@ -7,7 +7,7 @@ use Rattle.heapdbg.proofs.task.session.Goals as goal
 pub returns-in-Ok : goal.returns-in-Ok
 returns-in-Ok g c =
     let opened : c.in-Ok.machine ≡ opening_machine Eight c.args.settings.now.regions c.args.settings.now.mutators c.args.settings.now.keep =
-    c.in-Ok.ensures.opened ∙ ap (λ s. opening_machine Eight s.regions s.mutators s.keep) c.config.ensures in
+    c.in-Ok.ensures.opened ∙ ap (λ s. opening_machine s.ids s.regions s.mutators s.keep) c.config.ensures in
     inl (
       c.serve_local.result,
       c.serve_local.new.local.machine,

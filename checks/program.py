@@ -41,11 +41,11 @@ def dump_of_longs(count):
 
 
 def run(program, words, given=b"", **how):
-    """Returns status, standard output and standard error of the program. A run has 20 seconds."""
+    """Returns status, standard output and standard error of the program, which is told its name. A run has 20 seconds."""
     if "stdin" not in how:
         how["input"] = given
     how.setdefault("stdout", subprocess.PIPE)
-    ran = subprocess.run([program, *words], stderr=subprocess.PIPE, timeout=20, **how)
+    ran = subprocess.run(["heapdbg", *words], executable=program, stderr=subprocess.PIPE, timeout=20, **how)
     return ran.returncode, ran.stdout or b"", ran.stderr
 
 

@@ -1,12 +1,12 @@
 -- The numbers of a text fit in their bytes.
-use Rattle.std.proofs.Common.{◌≡◌, ℕ, ◌+◌, ◌^◌, ◌<◌, ◌≤◌, not, List, [], ◌∷◌, length, arith, Option, Some, None, refl}
-use Rattle.std.specs.Prelude.{◌==◌, count_by, All}
+use Rattle.std.proofs.Common.{◌≡◌, ℕ, ◌+◌, ◌^◌, ◌<◌, ◌≤◌, not, Bool, true, false, List, [], ◌∷◌, ◌++◌, length, map, replicate, arith, Option, Some, None, refl, sym, ap, ◌∙◌, subst}
+use Rattle.std.specs.Prelude.{◌==◌, count_by, nat_le, All}
 use Rattle.std.specs.Option.{option_map_or}
 use Rattle.std.specs.List.{enumerate_from}
 use Rattle.std.specs.Str.{bytes_eq}
 use Rattle.std.proofs.lemmas.Nat.{mul-le}
-use Rattle.std.proofs.lemmas.List.Elements.{All-nil, All-cons, All-head, All-tail, All-weaker}
-use Rattle.std.proofs.lemmas.List.Sums.{sum_by-le, count_by-le-length, prefix_len-le-length}
+use Rattle.std.proofs.lemmas.List.Elements.{All-nil, All-cons, All-head, All-tail, All-weaker, All-append, All-map, All-replicate}
+use Rattle.std.proofs.lemmas.List.Sums.{prefix_len-le-length}
 use Rattle.heap_class.specs.declared.IdSize.{IdSize}
 use Rattle.heap_class.specs.declared.IdSize.TheVariants.{Four, Eight}
 use Rattle.heap_class.specs.declared.Kind.{Kind}
@@ -18,11 +18,13 @@ use Rattle.heap_class.specs.Limits.{array_limit}
 use Rattle.heap_class.specs.Kinds.{id_bytes, width_of, type_code}
 use Rattle.heap_class.specs.Classes.{Class, slots_of, name_table, name_id, instance_size, IsClassTable}
 use Rattle.hprof_text.specs.Image.{Image, DumpedObject, IsKnown, IsDumpable}
-use Rattle.hprof_text.specs.Text.{class_id}
-use Rattle.hprof_text.specs.Sizes.{class_size, classes_size, dump_size, object_size, objects_size, roots_size, body_size}
+use Rattle.hprof_text.specs.Text.{class_id, sub_records}
+use Rattle.hprof_text.specs.Segments.{segment_limit, size_of, segments_of, sizes_at, segment_sizes}
+use Rattle.hprof_text.specs.Sizes.{class_size, root_size, dump_size, object_size, sub_sizes}
 use Rattle.hprof_text.specs.Fits.{FitsBytes, FitsId, Utf8Fits, LoadClassFits, FieldFits, ClassDumpFits, DumpFits, HoldsWhole}
 use Rattle.hprof_text.proofs.Bounds.{width_small, instance_small, class_size_small, id_small}
-use Rattle.hprof_text.proofs.Lengths.{utf8_length, load_length, trace_length, values_length, body_length}
+use Rattle.hprof_text.proofs.Lengths.{utf8_length, load_length, trace_length, values_length, sub_lengths}
+use Rattle.hprof_text.proofs.SegmentSizes.{are_sizes}
 use Rattle.hprof_text.proofs.Tables.{IsShort, IsSmall, slots_few, classes_small, table_short, table_names_few}
 
 -- ---- single numbers
@@ -42,7 +44,7 @@ code_small Short = omega arith
 code_small Int = omega arith
 code_small Long = omega arith
 
--- ---- the body of the heap dump
+-- ---- the segments
 
 dump_size_small : (ids : IdSize) (classes : List Class) → IsClassTable [] classes → (kind : ObjKind) (n : ℕ) → IsKnown classes kind n → n ≤ array_limit → dump_size ids classes kind n ≤ 8217
 unfolding dump_size
@@ -53,16 +55,53 @@ dump_size_small ids classes t (Prim kind) n h l = omega (arith, id_small ids, mu
 objects_small : (ids : IdSize) (image : Image) → IsDumpable image → All (λ (o : DumpedObject). object_size ids image.classes o ≤ 8217) image.objects
 objects_small ids image d k o h = dump_size_small ids image.classes d.classes _ _ (d.known k o h) (d.small k o h)
 
-body_small : (ids : IdSize) (image : Image) → IsDumpable image → body_size ids image < 2 ^ 32
-unfolding body_size classes_size objects_size roots_size
-body_small ids image d =
+-- sub-records, and segments, of at most so many bytes
+abbrev IsShortBody : ℕ → Type 0
+IsShortBody n = n ≤ 8217
+
+subs_short : (ids : IdSize) (image : Image) → IsDumpable image → All IsShortBody (sub_sizes ids image)
+unfolding sub_sizes
+subs_short ids image d =
     let cs = classes_small image.classes d.classes in
-    let c = sum_by-le (class_size ids) 647 image.classes (All-weaker (IsSmall (length image.classes)) (λ c. class_size ids c ≤ 647) (λ c s. class_size_small ids (length c.fields) s.fields) image.classes cs) in
-    let o = sum_by-le (object_size ids image.classes) 8217 image.objects (objects_small ids image d) in
-    let s = mul-le (1 + id_bytes ids) (length image.classes) 9 256 (omega (arith, id_small ids)) d.few_classes in
-    let n : count_by (λ (x : ℕ). not (x == 0)) image.registers ≤ 128 = omega (arith, count_by-le-length (λ (x : ℕ). not (x == 0)) image.registers, d.few_registers) in
-    let r = mul-le (1 + id_bytes ids) (count_by (λ (x : ℕ). not (x == 0)) image.registers) 9 128 (omega (arith, id_small ids)) n in
-    omega (arith, c, o, s, r, d.few_classes, d.few_objects)
+    let r : root_size ids ≤ 8217 = omega (arith, id_small ids) in
+    let a = map (class_size ids) image.classes in
+    let b = replicate (length image.classes) (root_size ids) in
+    let c = map (object_size ids image.classes) image.objects in
+    let e = replicate (count_by (λ (x : ℕ). not (x == 0)) image.registers) (root_size ids) in
+    All-append IsShortBody (a ++ b ++ c) e
+    (All-append IsShortBody (a ++ b) c
+    (All-append IsShortBody a b
+    (All-map IsShortBody (class_size ids) image.classes (All-weaker (IsSmall (length image.classes)) (λ c. class_size ids c ≤ 8217) (λ c s. omega (arith, class_size_small ids (length c.fields) s.fields)) image.classes cs))
+    (All-replicate IsShortBody (length image.classes) (root_size ids) r))
+    (All-map IsShortBody (object_size ids image.classes) image.objects (objects_small ids image d)))
+    (All-replicate IsShortBody (count_by (λ (x : ℕ). not (x == 0)) image.registers) (root_size ids) r)
+
+sizes_short : (size : ℕ) (ns : List ℕ) → size ≤ 8217 → All IsShortBody ns → All IsShortBody (sizes_at segment_limit size ns)
+unfolding sizes_at
+sizes_short size [] h a = All-cons IsShortBody size [] h (All-nil IsShortBody)
+sizes_short size (n ∷ ns) h a = go (nat_le (size + n) segment_limit) refl (λ l. sizes_short (size + n) ns l (All-tail IsShortBody n ns a)) (sizes_short n ns (All-head IsShortBody n ns a) (All-tail IsShortBody n ns a))
+  where
+    go : (b : Bool) → nat_le (size + n) segment_limit ≡ b → (size + n ≤ 8217 → All IsShortBody (sizes_at segment_limit (size + n) ns)) → All IsShortBody (sizes_at segment_limit n ns)
+        → All IsShortBody (elim b [ true ↦ sizes_at segment_limit (size + n) ns | false ↦ size ∷ sizes_at segment_limit n ns ])
+    go true e fits over = fits (let l : size + n ≤ 4096 = grind (arith, e) in omega (arith, l))
+    go false e fits over = All-cons IsShortBody size (sizes_at segment_limit n ns) h over
+
+all_short : (ns : List ℕ) → All IsShortBody ns → All IsShortBody (segment_sizes segment_limit ns)
+unfolding segment_sizes
+all_short [] a = All-nil IsShortBody
+all_short (n ∷ ns) a = sizes_short n ns (All-head IsShortBody n ns a) (All-tail IsShortBody n ns a)
+
+segments_fit : (ids : IdSize) (image : Image) → IsDumpable image → All (λ s. FitsBytes 4 (size_of s)) (segments_of segment_limit (sub_records ids image))
+segments_fit ids image d =
+    let e = are_sizes segment_limit (sub_records ids image) ∙ ap (segment_sizes segment_limit) (sub_lengths ids image d) in
+    let a : All IsShortBody (map size_of (segments_of segment_limit (sub_records ids image))) = subst (All IsShortBody) (sym e) (all_short (sub_sizes ids image) (subs_short ids image d)) in
+    unmapped (segments_of segment_limit (sub_records ids image)) a
+  where
+    unmapped : (ss : List (List (List ℕ))) → All IsShortBody (map size_of ss) → All (λ s. FitsBytes 4 (size_of s)) ss
+    unmapped [] a = All-nil (λ s. FitsBytes 4 (size_of s))
+    unmapped (s ∷ ss) a =
+        let h : size_of s ≤ 8217 = All-head IsShortBody (size_of s) (map size_of ss) a in
+        All-cons (λ s. FitsBytes 4 (size_of s)) s ss (omega (arith, h)) (unmapped ss (All-tail IsShortBody (size_of s) (map size_of ss) a))
 
 -- ---- items of a list, each with its number
 
@@ -127,7 +166,7 @@ module _ (ids : IdSize) (image : Image) (d : IsDumpable image) where
     names = names_fit;
     loaded = loaded_fit;
     trace = omega (arith, trace_length);
-    heap_dump = omega (arith, body_length ids image d, body_small ids image d);
+    segments = segments_fit ids image d;
     classes = dumps_fit;
     objects = λ k o l. dump_fits _ _ (d.known k o l) (d.small k o l);
   }

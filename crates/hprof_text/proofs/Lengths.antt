@@ -1,8 +1,9 @@
 -- How long the parts of a text are.
-use Rattle.std.proofs.Common.{◌≡◌, ℕ, suc, ◌+◌, ◌*◌, List, [], ◌∷◌, ◌++◌, length, refl, sym, ap, ap₂, ◌∙◌, arith, length-append}
+use Rattle.std.proofs.Common.{◌≡◌, ℕ, suc, ◌+◌, ◌*◌, List, [], ◌∷◌, ◌++◌, length, map, replicate, refl, sym, ap, ap₂, ◌∙◌, arith, length-append}
 use Rattle.std.specs.Prelude.{flat_map, sum_by, filter, not, ◌==◌, zip, All}
 use Rattle.std.specs.Option.{option_map_or}
-use Rattle.std.specs.List.{enumerate_from}
+use Rattle.std.specs.List.{concat, enumerate_from}
+use Rattle.std.proofs.lemmas.List.{map-append}
 use Rattle.std.proofs.lemmas.List.FromFn.{length-enumerate_from}
 use Rattle.std.proofs.lemmas.List.Sums.{sum_by-cons, length-filter}
 use Rattle.byteorder.specs.Numbers.{length-bytes_high_first}
@@ -14,10 +15,11 @@ use Rattle.heap_class.specs.declared.ObjKind.TheVariants.{Instance, Array, Prim}
 use Rattle.heap_class.specs.Kinds.{id_bytes, width_of, type_code}
 use Rattle.heap_class.specs.Classes.{Class, slots_of, name_table, name_id, instance_size}
 use Rattle.hprof_text.specs.Image.{Image, DumpedObject, IsKnown, IsDumpable}
-use Rattle.hprof_text.specs.Sizes.{names_size, opening_size, class_size, classes_size, dump_size, object_size, objects_size, roots_size, body_size, utf8_size}
-use Rattle.hprof_text.specs.Records.{opening_of, class_records_of}
-use Rattle.hprof_text.specs.Text.{id, u1, u4, record_of, header, utf8, load_class, trace, field_entry, class_dump, root_sticky_class, root_unknown, value_bytes, dump_of, object_dump, class_id, opening_records, heap_dump_body, dump_text}
-use Rattle.hprof_text.proofs.Joins.{body_parts_of}
+use Rattle.hprof_text.specs.Sizes.{names_size, opening_size, class_size, root_size, dump_size, object_size, utf8_size, sub_sizes, records_size, text_size}
+use Rattle.hprof_text.specs.Records.{opening_of}
+use Rattle.hprof_text.specs.Segments.{segment_limit, size_of, segments_of, segment_sizes, segment_records, end_record, dump_text}
+use Rattle.hprof_text.specs.Text.{id, u1, u4, record_of, header, utf8, load_class, trace, field_entry, class_dump, root_sticky_class, root_unknown, value_bytes, dump_of, object_dump, class_id, opening_records, class_records, object_records, register_roots, sub_records}
+use Rattle.hprof_text.proofs.SegmentSizes.{are_sizes}
 
 -- a record is 9 bytes longer than its body
 pub length-record_of : (tag : ℕ) (body : List ℕ) → length (record_of tag body) ≡ 9 + length body
@@ -41,7 +43,7 @@ length-field : (ids : IdSize) (classes : List Class) (f : Field) → length (fie
 unfolding field_entry
 length-field ids classes f = omega (arith, length-append (id ids (name_id classes f.name)) (u1 (type_code f.kind)), id_length ids (name_id classes f.name))
 
-class_dump_length : (ids : IdSize) (classes : List Class) (c : ℕ × Class) → length (class_dump ids classes c) ≡ 15 + 7 * id_bytes ids + (1 + id_bytes ids) * length c.1.fields
+pub class_dump_length : (ids : IdSize) (classes : List Class) (c : ℕ × Class) → length (class_dump ids classes c) ≡ 15 + 7 * id_bytes ids + (1 + id_bytes ids) * length c.1.fields
 unfolding class_dump
 class_dump_length ids classes c =
     let f : length (flat_map (field_entry ids classes) c.1.fields) ≡ (1 + id_bytes ids) * length c.1.fields = length-flat (field_entry ids classes) (1 + id_bytes ids) (length-field ids classes) c.1.fields in
@@ -81,46 +83,49 @@ dump_length ids classes x (Prim kind) words h =
 
 -- ---- the sub-records
 
-pub class_dumps_length : (ids : IdSize) (classes : List Class) (n : ℕ) (cs : List Class) → length (flat_map (class_dump ids classes) (enumerate_from n cs)) ≡ sum_by (class_size ids) cs
-class_dumps_length ids classes n [] = refl
-class_dumps_length ids classes n (c ∷ cs) =
-    length-append (class_dump ids classes (n, c)) (flat_map (class_dump ids classes) (enumerate_from (n + 1) cs))
-    ∙ ap₂ (λ a b. a + b) (class_dump_length ids classes (n, c)) (class_dumps_length ids classes (n + 1) cs)
-    ∙ sym (sum_by-cons (class_size ids) c cs)
+class_lengths : (ids : IdSize) (classes : List Class) (n : ℕ) (cs : List Class) → map length (map (class_dump ids classes) (enumerate_from n cs)) ≡ map (class_size ids) cs
+class_lengths ids classes n [] = refl
+class_lengths ids classes n (c ∷ cs) = ap₂ (λ a b. a ∷ b) (class_dump_length ids classes (n, c)) (class_lengths ids classes (n + 1) cs)
 
-root_length : (ids : IdSize) (x : ℕ) → length (root_unknown ids x) ≡ 1 + id_bytes ids
+pub root_length : (ids : IdSize) (x : ℕ) → length (root_unknown ids x) ≡ root_size ids
 unfolding root_unknown
 root_length ids x = omega (arith, length-append (u1 0xff) (id ids x), id_length ids x)
 
-sticky_length : (ids : IdSize) (c : ℕ × Class) → length (root_sticky_class ids c) ≡ 1 + id_bytes ids
+pub sticky_length : (ids : IdSize) (c : ℕ × Class) → length (root_sticky_class ids c) ≡ root_size ids
 unfolding root_sticky_class
 sticky_length ids c = omega (arith, length-append (u1 0x05) (id ids (class_id c.0)), id_length ids (class_id c.0))
 
-pub class_records_length : (ids : IdSize) (classes : List Class) → length (class_records_of ids classes) ≡ classes_size ids classes
-unfolding classes_size
-class_records_length ids classes =
-    length-append (flat_map (class_dump ids classes) (enumerate_from 0 classes)) (flat_map (root_sticky_class ids) (enumerate_from 0 classes))
-    ∙ ap₂ (λ a b. a + b) (class_dumps_length ids classes 0 classes)
-    (length-flat (root_sticky_class ids) (1 + id_bytes ids) (sticky_length ids) (enumerate_from 0 classes) ∙ ap (λ n. (1 + id_bytes ids) * n) (length-enumerate_from 0 classes))
+-- items of one length each
+lengths_alike : {A : Type 0} (f : A → List ℕ) (n : ℕ) → ((x : A) → length (f x) ≡ n) → (xs : List A) → map length (map f xs) ≡ replicate (length xs) n
+lengths_alike f n h [] = refl
+lengths_alike f n h (x ∷ xs) = ap₂ (λ a b. a ∷ b) (h x) (lengths_alike f n h xs)
 
 abbrev IsKnownObject : List Class → DumpedObject → Type 0
 IsKnownObject classes o = IsKnown classes o.kind (length o.words)
 
-pub objects_length : (ids : IdSize) (classes : List Class) (os : List DumpedObject) → All (IsKnownObject classes) os → length (flat_map (object_dump ids classes) os) ≡ objects_size ids classes os
-unfolding object_dump objects_size
-objects_length ids classes [] h = refl
-objects_length ids classes (o ∷ os) h =
-    length-append (object_dump ids classes o) (flat_map (object_dump ids classes) os)
-    ∙ ap₂ (λ a b. a + b) (dump_length ids classes o.id o.kind o.words (h 0 o (omega arith))) (objects_length ids classes os (λ k d e. h (suc k) d (omega (arith, e))))
-    ∙ sym (sum_by-cons (object_size ids classes) o os)
+object_lengths : (ids : IdSize) (classes : List Class) (os : List DumpedObject) → All (IsKnownObject classes) os → map length (map (object_dump ids classes) os) ≡ map (object_size ids classes) os
+unfolding object_dump
+object_lengths ids classes [] h = refl
+object_lengths ids classes (o ∷ os) h = ap₂ (λ a b. a ∷ b) (dump_length ids classes o.id o.kind o.words (h 0 o (omega arith))) (object_lengths ids classes os (λ k d e. h (suc k) d (omega (arith, e))))
 
-pub roots_length : (ids : IdSize) (registers : List ℕ) → length (flat_map (root_unknown ids) (filter (λ x. not (x == 0)) registers)) ≡ roots_size ids registers
-unfolding roots_size
-roots_length ids registers =
-    length-flat (root_unknown ids) (1 + id_bytes ids) (root_length ids) (filter (λ x. not (x == 0)) registers)
-    ∙ ap (λ n. (1 + id_bytes ids) * n) (length-filter (λ x. not (x == 0)) registers)
+pub sub_lengths : (ids : IdSize) (image : Image) → IsDumpable image → map length (sub_records ids image) ≡ sub_sizes ids image
+unfolding sub_records class_records object_records register_roots sub_sizes
+sub_lengths ids image d =
+    let cs : List Class = image.classes in
+    let a : List (List ℕ) = map (class_dump ids cs) (enumerate_from 0 cs) in
+    let b : List (List ℕ) = map (root_sticky_class ids) (enumerate_from 0 cs) in
+    let c : List (List ℕ) = map (object_dump ids cs) image.objects in
+    let e : List (List ℕ) = map (root_unknown ids) (filter (λ x. not (x == 0)) image.registers) in
+    let s : ℕ = root_size ids in
+    map-append length (a ++ b ++ c) e
+    ∙ ap₂ (λ l m. l ++ m)
+    (map-append length (a ++ b) c
+    ∙ ap₂ (λ l m. l ++ m)
+    (map-append length a b ∙ ap₂ (λ l m. l ++ m) (class_lengths ids cs 0 cs) (lengths_alike (root_sticky_class ids) s (sticky_length ids) (enumerate_from 0 cs) ∙ ap (λ n. replicate n s) (length-enumerate_from 0 cs)))
+    (object_lengths ids cs image.objects d.known))
+    (lengths_alike (root_unknown ids) s (root_length ids) (filter (λ x. not (x == 0)) image.registers) ∙ ap (λ n. replicate n s) (length-filter (λ x. not (x == 0)) image.registers))
 
--- ---- what stands before the heap dump
+-- ---- what stands before the segments
 
 pub utf8_length : (ids : IdSize) (k : ℕ) (name : List ℕ) → length (utf8 ids (k, name)) ≡ 9 + id_bytes ids + length name
 unfolding utf8
@@ -162,21 +167,20 @@ opening_length ids cs time =
 
 -- ---- the whole text
 
-pub body_length : (ids : IdSize) (image : Image) → IsDumpable image → length (heap_dump_body ids image) ≡ body_size ids image
-unfolding body_size
-body_length ids image d =
-    let a : List ℕ = class_records_of ids image.classes in
-    let b : List ℕ = flat_map (object_dump ids image.classes) image.objects in
-    let c : List ℕ = flat_map (root_unknown ids) (filter (λ x. not (x == 0)) image.registers) in
-    ap length (body_parts_of ids image) ∙ length-append (a ++ b) c
-    ∙ ap₂ (λ m n. m + n)
-    (length-append a b ∙ ap₂ (λ m n. m + n) (class_records_length ids image.classes) (objects_length ids image.classes image.objects d.known))
-    (roots_length ids image.registers)
+records_length : (segments : List (List (List ℕ))) → length (concat (map (λ s. record_of 0x1c (concat s)) segments)) ≡ sum_by (λ n. 9 + n) (map size_of segments)
+records_length [] = refl
+records_length (s ∷ ss) =
+    length-append (record_of 0x1c (concat s)) (concat (map (λ s. record_of 0x1c (concat s)) ss))
+    ∙ ap₂ (λ a b. a + b) (length-record_of 0x1c (concat s)) (records_length ss)
+    ∙ sym (sum_by-cons (λ n. 9 + n) (size_of s) (map size_of ss))
 
-pub text_length : (ids : IdSize) (image : Image) (time : ℕ) → IsDumpable image → length (dump_text ids image time) ≡ opening_size ids image.classes + 9 + body_size ids image
-unfolding dump_text opening_records
+pub text_length : (ids : IdSize) (image : Image) (time : ℕ) → IsDumpable image → length (dump_text ids image time) ≡ text_size ids image
+unfolding dump_text opening_records segment_records end_record text_size records_size
 text_length ids image time d =
+    let subs : List (List ℕ) = sub_records ids image in
     let o : length (opening_of ids image.classes time) ≡ opening_size ids image.classes = opening_length ids image.classes time in
-    let r : length (record_of 0x0c (heap_dump_body ids image)) ≡ 9 + length (heap_dump_body ids image) = length-record_of 0x0c (heap_dump_body ids image) in
-    let b : length (heap_dump_body ids image) ≡ body_size ids image = body_length ids image d in
-    length-append (opening_of ids image.classes time) (record_of 0x0c (heap_dump_body ids image)) ∙ omega (arith, o, r, b)
+    let e : length (record_of 0x2c []) ≡ 9 = length-record_of 0x2c [] in
+    let b : length (concat (map (λ s. record_of 0x1c (concat s)) (segments_of segment_limit subs))) ≡ sum_by (λ n. 9 + n) (segment_sizes segment_limit (sub_sizes ids image))
+    = records_length (segments_of segment_limit subs) ∙ ap (sum_by (λ n. 9 + n)) (are_sizes segment_limit subs ∙ ap (segment_sizes segment_limit) (sub_lengths ids image d)) in
+    length-append (opening_of ids image.classes time ++ concat (map (λ s. record_of 0x1c (concat s)) (segments_of segment_limit subs))) (record_of 0x2c [])
+    ∙ ap₂ (λ x y. x + y) (length-append (opening_of ids image.classes time) (concat (map (λ s. record_of 0x1c (concat s)) (segments_of segment_limit subs))) ∙ ap₂ (λ x y. x + y) o b) e

@@ -1,5 +1,9 @@
 pub mod Joined
-pub mod Joins
+pub mod Cut
+pub mod SegmentSizes
+pub mod Filled
+pub mod Offered
+pub mod Measured
 pub mod Appended
 pub mod Bounds
 pub mod Lengths

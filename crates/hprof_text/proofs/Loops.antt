@@ -1,21 +1,21 @@
 -- A loop that appends what each item of a list gives.
-use Rattle.std.proofs.Common.{◌≡◌, ◌≢◌, ℕ, zero, suc, ◌+◌, ◌<◌, ◌≤◌, List, [], ◌∷◌, ◌++◌, length, take, get_or, refl, sym, ap, ap₂, ◌∙◌, subst, arith, append_assoc, length-append, Bool, true, false, cond, inl, inr}
-use Rattle.std.proofs.lemmas.Bool.Decides.{eqb_tells}
-use Rattle.std.specs.Prelude.{flat_map, filter, not, ◌==◌, zip, Option, Some, slice_get, IfSome, sum_by}
+use Rattle.std.proofs.Common.{◌≡◌, ℕ, zero, suc, ◌+◌, ◌<◌, ◌≤◌, List, [], ◌∷◌, ◌++◌, length, take, get_or, map, refl, sym, ap, ap₂, ◌∙◌, subst, arith, append_assoc, length-append}
+use Rattle.std.specs.Prelude.{flat_map, zip, Option, Some, slice_get, IfSome, sum_by}
 use Rattle.std.specs.List.{enumerate_from}
-use Rattle.std.proofs.lemmas.List.{append-nil, take_more, get_or_default, take_all}
+use Rattle.std.specs.Option.{option_map}
+use Rattle.std.proofs.lemmas.List.{append-nil, take_more, get_or_default, take_all, length-map}
 use Rattle.std.proofs.lemmas.List.Sums.{sum_by_more}
 use Rattle.std.proofs.lemmas.List.Concat.{flat_map-append}
 use Rattle.std.proofs.lemmas.List.Folds.{length-flat_map-take}
-use Rattle.std.proofs.lemmas.List.FromFn.{get_or-enumerate_from}
+use Rattle.std.proofs.lemmas.List.FromFn.{get_or-enumerate_from, length-enumerate_from}
 use Rattle.std.proofs.lemmas.Slice.Zip.{get_or-zip}
-use Rattle.std.proofs.lemmas.Option.{get_or_from_slice_get}
+use Rattle.std.proofs.lemmas.Option.{get_or_from_slice_get, slice_get-map, slice_get-get_or}
 use Rattle.heap_class.specs.declared.IdSize.{IdSize}
 use Rattle.heap_class.specs.declared.Kind.{Kind}
 use Rattle.heap_class.specs.declared.Field.{Field}
-use Rattle.heap_class.specs.Classes.{Class, name_id}
-use Rattle.hprof_text.specs.Records.{field_bytes}
-use Rattle.hprof_text.specs.Text.{field_entry, root_unknown}
+use Rattle.heap_class.specs.Classes.{Class, name_id, array_class}
+use Rattle.hprof_text.specs.Records.{field_bytes, class_at}
+use Rattle.hprof_text.specs.Text.{field_entry}
 
 -- so far each item of the first i has been appended
 abbrev pub IsSoFar : {X : Type 0} → (X → List ℕ) → List X → ℕ → List ℕ → List ℕ → Type 0
@@ -79,21 +79,14 @@ field_is ids classes fs i n kind f e a b =
     let Q : Option Field → Type 0 = λ o. IfSome o (λ f. kind ≡ f.kind) in
     ap₂ (λ m k. field_bytes ids m k) (subst P e a) (subst Q e b)
 
--- ---- the roots of the registers that aren't null
+-- ---- a sub-record of each class
 
-abbrev pub root_or_nothing : IdSize → ℕ → List ℕ
-root_or_nothing ids x = cond (not (x == 0)) (root_unknown ids x) []
+pub class_item : (f : ℕ × Class → List ℕ) (classes : List Class) (k : ℕ) → k < length classes → slice_get (map f (enumerate_from 0 classes)) k ≡ Some (f (k, class_at classes k))
+class_item f classes k h =
+    let g : k < length (enumerate_from 0 classes) = omega (arith, length-enumerate_from 0 classes, h) in
+    let d : ℕ × Class = (k, class_at classes k) in
+    slice_get-map f (enumerate_from 0 classes) k
+    ∙ ap (option_map f) (slice_get-get_or (enumerate_from 0 classes) k d g ∙ ap Some (sym (item_numbered 0 k classes k (class_at classes k) (omega arith) h (item_at classes k (array_class []) h))))
 
-pub filtered : (ids : IdSize) (xs : List ℕ) → flat_map (root_unknown ids) (filter (λ x. not (x == 0)) xs) ≡ flat_map (root_or_nothing ids) xs
-filtered ids [] = refl
-filtered ids (x ∷ xs) = go (not (x == 0)) (filtered ids xs)
-  where
-    go : (b : Bool) → flat_map (root_unknown ids) (filter (λ x. not (x == 0)) xs) ≡ flat_map (root_or_nothing ids) xs → flat_map (root_unknown ids) (cond b (x ∷ filter (λ x. not (x == 0)) xs) (filter (λ x. not (x == 0)) xs)) ≡ cond b (root_unknown ids x) [] ++ flat_map (root_or_nothing ids) xs
-    go true h = ap (λ l. root_unknown ids x ++ l) h
-    go false h = h
-
-pub root_is : (ids : IdSize) (x : ℕ) → x ≢ 0 → root_or_nothing ids x ≡ root_unknown ids x
-root_is ids x h = elim (eqb_tells x 0) [ inl p ↦ absurd (h p.1) | inr p ↦ ap (λ b. cond (not b) (root_unknown ids x) []) p.0 ]
-
-pub nothing_is : (ids : IdSize) (x : ℕ) → x ≡ 0 → root_or_nothing ids x ≡ []
-nothing_is ids x h = elim (eqb_tells x 0) [ inl p ↦ ap (λ b. cond (not b) (root_unknown ids x) []) p.0 | inr p ↦ absurd (p.1 h) ]
+pub length_items : (f : ℕ × Class → List ℕ) (classes : List Class) → length (map f (enumerate_from 0 classes)) ≡ length classes
+length_items f classes = length-map (enumerate_from 0 classes) f ∙ length-enumerate_from 0 classes

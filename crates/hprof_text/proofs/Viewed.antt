@@ -1,21 +1,16 @@
 -- What a view tells of the object at a place.
-use Rattle.std.proofs.Common.{◌≡◌, ◌≤◌, ◌<◌, ℕ, List, ◌++◌, length, get_or, sym, ap, ap₂, ◌∙◌, subst, arith}
-use Rattle.std.specs.Prelude.{slice_get, Option, Some, IfSome, Contains, flat_map, filter, not, ◌==◌}
-use Rattle.std.specs.List.{concat}
-use Rattle.std.proofs.lemmas.Option.{slice_get_within, slice_get-get_or, get_or_from_slice_get}
+use Rattle.std.proofs.Common.{◌≡◌, ◌≤◌, ◌<◌, ℕ, ◌+◌, List, length, get_or, sym, ap, ap₂, ◌∙◌, subst, arith, inl, inr}
+use Rattle.std.specs.Option.{option_map}
+use Rattle.std.proofs.lemmas.List.{length-map}
+use Rattle.std.specs.Prelude.{slice_get, Option, Some, None, IfSome, Contains}
+use Rattle.std.proofs.lemmas.Option.{slice_get_within, slice_get_cases, slice_get-map, slice_get-get_or, get_or_from_slice_get}
 use Rattle.heap_class.specs.declared.IdSize.{IdSize}
 use Rattle.heap_class.specs.Classes.{Class}
 use Rattle.heap_class.specs.declared.ObjKind.{ObjKind}
 use Rattle.heap_class.specs.declared.ObjRef.{ObjRef}
 use Rattle.heap_class.specs.Limits.{array_limit}
 use Rattle.hprof_text.specs.Image.{Image, DumpedObject, IsKnown, IsDumpable}
-use Rattle.hprof_text.specs.Pieces.{first_piece}
-use Rattle.hprof_text.specs.Records.{opening_of, record_head, class_records_of}
-use Rattle.hprof_text.specs.Sizes.{body_size}
-use Rattle.hprof_text.specs.Text.{dump_of, object_dump, root_unknown, register_roots}
-use Rattle.hprof_text.proofs.Joins.{roots_joined}
-use Rattle.hprof_text.proofs.Lengths.{body_length}
-use Rattle.hprof_text.proofs.Numbered.{first_piece_is}
+use Rattle.hprof_text.specs.Text.{dump_of, object_dump, object_records}
 use Rattle.hprof_text.proofs.Loops.{some_item}
 
 pub is_there : {X : Type 0} (xs : List X) (i : ℕ) (x : X) → slice_get xs i ≡ Some x → Contains xs x
@@ -60,8 +55,28 @@ object_bytes_are ids image j o s cs x kind words e a b i k w =
     let X : Option DumpedObject → Type 0 = λ y. IfSome y (λ o. x ≡ o.id) in
     ap₂ (λ t ds. dump_of t ds x kind words) a b ∙ ap₂ (λ y m. dump_of ids image.classes y m words) (subst X e i) k ∙ ap (dump_of ids image.classes o.id o.kind) w
 
-pub opening_is : (ids : IdSize) (image : Image) (time n : ℕ) (s : IdSize) (cs : List Class) → IsDumpable image → s ≡ ids → cs ≡ image.classes → n ≡ body_size ids image → opening_of s cs time ++ record_head 0x0c n ++ class_records_of s cs ≡ first_piece ids image time
-opening_is ids image time n s cs d a b e = ap₂ (λ t ds. opening_of t ds time ++ record_head 0x0c n ++ class_records_of t ds) a b ∙ first_piece_is ids image time n (e ∙ sym (body_length ids image d))
+-- the next place is within the places or just past them
+pub within : (places : List ObjRef) (j : ℕ) (at : ObjRef) → slice_get places j ≡ Some at → j + 1 ≤ length places
+within places j at e = omega (arith, slice_get_within places j at e)
 
-pub roots_are : (ids : IdSize) (image : Image) (s : IdSize) (rs : List ℕ) → s ≡ ids → rs ≡ image.registers → flat_map (root_unknown s) (filter (λ x. not (x == 0)) rs) ≡ concat (register_roots ids image)
-roots_are ids image s rs a b = ap₂ (λ t xs. flat_map (root_unknown t) (filter (λ x. not (x == 0)) xs)) a b ∙ sym (roots_joined ids image)
+-- with no object here there are no more
+pub none_left : (places : List ObjRef) (j : ℕ) → None ≡ slice_get places j → length places ≤ j
+none_left places j e = elim (slice_get_cases places j).1 [ inl p ↦ absurd (none_some p.0 (e ∙ p.2)) | inr p ↦ p.0 ]
+  where
+    none_some : (x : ObjRef) → ◌≡◌ {A = Option ObjRef} None (Some x) → ⊥
+    none_some x e = cc
+
+-- the record of the object at place i, by what a view tells of it
+pub object_record : (ids : IdSize) (image : Image) (places : List ObjRef) (i : ℕ) (at : ObjRef) (s : IdSize) (cs : List Class) (x : ℕ) (kind : ObjKind) (words : List ℕ) → IsDumpable image → length places ≡ length image.objects → slice_get places i ≡ Some at
+    → s ≡ ids → cs ≡ image.classes → IfSome (slice_get image.objects i) (λ o. x ≡ o.id) → IfSome (slice_get image.objects i) (λ o. kind ≡ o.kind) → IfSome (slice_get image.objects i) (λ o. words ≡ o.words)
+    → slice_get (object_records ids image) i ≡ Some (dump_of s cs x kind words)
+unfolding object_records
+object_record ids image places i at s cs x kind words d n e a b f g h =
+    let o = here image places i at kind words d n e g h in
+    slice_get-map (object_dump ids image.classes) image.objects i
+    ∙ ap (option_map (object_dump ids image.classes)) o.there
+    ∙ ap Some (sym (object_bytes_are ids image i o.object s cs x kind words o.there a b f o.same_kind o.same_words))
+
+pub count_records : (ids : IdSize) (image : Image) → length (object_records ids image) ≡ length image.objects
+unfolding object_records
+count_records ids image = length-map image.objects (object_dump ids image.classes)

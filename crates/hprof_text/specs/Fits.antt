@@ -10,7 +10,8 @@ use Rattle.heap_class.specs.declared.ObjKind.TheVariants.{Instance, Array, Prim}
 use Rattle.heap_class.specs.Kinds.{id_bytes, width_of, type_code}
 use Rattle.heap_class.specs.Classes.{Class, slots_of, slot_kinds_of, name_table, name_id, instance_size}
 use Rattle.hprof_text.specs.Image.{Image}
-use Rattle.hprof_text.specs.Text.{class_id, utf8, load_class, trace, value_bytes, heap_dump_body}
+use Rattle.hprof_text.specs.Text.{class_id, utf8, load_class, trace, value_bytes, sub_records}
+use Rattle.hprof_text.specs.Segments.{segment_limit, size_of, segments_of}
 
 -- so many bytes hold the number
 abbrev pub FitsBytes : ℕ → ℕ → Type 0
@@ -55,7 +56,7 @@ pub record HoldsWhole (ids : IdSize) (image : Image) (time : ℕ) : Type 0 where
   pub names : All (Utf8Fits ids) (enumerate_from 1 (name_table image.classes))
   pub loaded : All (LoadClassFits ids image.classes) (enumerate_from 0 image.classes)
   pub trace : FitsBytes 4 (length trace)
-  pub heap_dump : FitsBytes 4 (length (heap_dump_body ids image))
+  pub segments : All (λ s. FitsBytes 4 (size_of s)) (segments_of segment_limit (sub_records ids image))
   pub classes : All (ClassDumpFits ids image.classes) (enumerate_from 0 image.classes)
   pub objects : All (λ o. DumpFits ids image.classes o.kind o.words) image.objects
 

@@ -1,12 +1,9 @@
 -- What a dump shows of a heap.
-use Rattle.std.specs.Prelude.{◌≡◌, ℕ, ◌+◌, ◌<◌, ◌≤◌, List, [], length, slice_get, Some, All}
+use Rattle.std.specs.Prelude.{◌≡◌, ℕ, ◌<◌, ◌≤◌, List, [], length, All}
 use Rattle.heap_class.specs.declared.ObjKind.{ObjKind}
 use Rattle.heap_class.specs.declared.ObjKind.TheVariants.{Instance, Array, Prim}
-use Rattle.heap_class.specs.declared.ObjRef.{ObjRef}
 use Rattle.heap_class.specs.Classes.{Class, IsClassTable, slots_of}
 use Rattle.heap_class.specs.Limits.{class_limit, array_limit}
-use Rattle.hprof_text.specs.declared.Cursor.{Cursor}
-use Rattle.hprof_text.specs.declared.Cursor.TheVariants.{Start, Object, Roots, Past}
 
 -- an object of a dump: its id, its kind and its slots' words
 pub record DumpedObject : Type 0 where
@@ -41,10 +38,3 @@ pub record IsDumpable (image : Image) : Type 0 where
   pub few_objects : length image.objects ≤ object_limit
   pub known : All (λ o. IsKnown image.classes o.kind (length o.words)) image.objects
   pub small : All (λ o. length o.words ≤ array_limit) image.objects
-
--- the cursor stands at piece i, where the objects stand in these places
-abbrev pub IsAt : List ObjRef → Cursor → ℕ → Type 0
-IsAt places Start i = i ≡ 0
-IsAt places (Object at) i = (j : ℕ) × (i ≡ j + 1) × (slice_get places j ≡ Some at)
-IsAt places Roots i = i ≡ length places + 1
-IsAt places Past i = length places + 2 ≤ i

@@ -1,6 +1,6 @@
 pub mod Image
 pub mod Text
-pub mod Pieces
+pub mod Segments
 pub mod Sizes
 pub mod Records
 pub mod Fits
@@ -8,4 +8,6 @@ pub mod Laws
 pub mod Opened
 pub mod Buffered
 pub mod Cursors
+pub mod Filled
+pub mod Measured
 pub mod Listed

@@ -5,7 +5,7 @@ use Rattle.heap_class.specs.declared.IdSize.{IdSize}
 use Rattle.heap_class.specs.declared.Kind.{Kind}
 use Rattle.heap_class.specs.Kinds.{type_code}
 use Rattle.heap_class.specs.Classes.{Class, array_class, name_table}
-use Rattle.hprof_text.specs.Text.{u1, u2, u4, id, class_id, header, utf8, load_class, trace, class_dump, root_sticky_class}
+use Rattle.hprof_text.specs.Text.{u1, u2, u4, id, class_id, header, utf8, load_class, trace}
 
 -- class k, where it is there
 abbrev pub class_at : List Class → ℕ → Class
@@ -31,10 +31,6 @@ class_counts size fields = u4 size ++ u2 0 ++ u2 0 ++ u2 fields
 abbrev pub sticky_root : IdSize → ℕ → List ℕ
 sticky_root ids k = u1 0x05 ++ id ids (class_id k)
 
--- what stands before the heap dump, by the classes alone
+-- what stands before the segments, by the classes alone
 abbrev pub opening_of : IdSize → List Class → ℕ → List ℕ
 opening_of ids classes time = header ids time ++ flat_map (utf8 ids) (enumerate_from 1 (name_table classes)) ++ flat_map (load_class ids classes) (enumerate_from 0 classes) ++ trace
-
--- the sub-records of the classes and their roots, joined
-abbrev pub class_records_of : IdSize → List Class → List ℕ
-class_records_of ids classes = flat_map (class_dump ids classes) (enumerate_from 0 classes) ++ flat_map (root_sticky_class ids) (enumerate_from 0 classes)

@@ -1,11 +1,12 @@
 -- How many bytes the parts of a dump have.
-use Rattle.std.specs.Prelude.{ℕ, ◌+◌, ◌*◌, not, ◌==◌, List, length, count_by, sum_by}
+use Rattle.std.specs.Prelude.{ℕ, zero, suc, ◌+◌, ◌*◌, not, ◌==◌, List, ◌++◌, length, map, replicate, count_by, sum_by}
 use Rattle.heap_class.specs.declared.IdSize.{IdSize}
 use Rattle.heap_class.specs.declared.ObjKind.{ObjKind}
 use Rattle.heap_class.specs.declared.ObjKind.TheVariants.{Instance, Array, Prim}
 use Rattle.heap_class.specs.Kinds.{id_bytes, width_of}
 use Rattle.heap_class.specs.Classes.{Class, name_table, instance_size}
 use Rattle.hprof_text.specs.Image.{Image, DumpedObject}
+use Rattle.hprof_text.specs.Segments.{segment_limit, sizes_at, segment_sizes}
 
 abbrev pub utf8_size : IdSize → List ℕ → ℕ
 utf8_size ids n = 9 + id_bytes ids + length n
@@ -14,16 +15,16 @@ utf8_size ids n = 9 + id_bytes ids + length n
 unfoldable pub names_size : IdSize → List (List ℕ) → ℕ
 names_size ids names = sum_by (utf8_size ids) names
 
--- what stands before the heap dump
+-- what stands before the segments
 unfoldable pub opening_size : IdSize → List Class → ℕ
 opening_size ids classes = 52 + names_size ids (name_table classes) + (17 + 2 * id_bytes ids) * length classes
 
 abbrev pub class_size : IdSize → Class → ℕ
 class_size ids c = 15 + 7 * id_bytes ids + (1 + id_bytes ids) * length c.fields
 
--- the sub-records of the classes, and of their roots
-unfoldable pub classes_size : IdSize → List Class → ℕ
-classes_size ids classes = sum_by (class_size ids) classes + (1 + id_bytes ids) * length classes
+-- a root, of a class or of a register that isn't null
+abbrev pub root_size : IdSize → ℕ
+root_size ids = 1 + id_bytes ids
 
 -- the sub-record of an object of this kind with n words
 unfoldable pub dump_size : IdSize → List Class → ObjKind → ℕ → ℕ
@@ -34,14 +35,29 @@ dump_size ids classes (Prim kind) n = 10 + id_bytes ids + width_of ids kind * n
 abbrev pub object_size : IdSize → List Class → DumpedObject → ℕ
 object_size ids classes o = dump_size ids classes o.kind (length o.words)
 
--- those of the objects
-unfoldable pub objects_size : IdSize → List Class → List DumpedObject → ℕ
-objects_size ids classes objects = sum_by (object_size ids classes) objects
+-- the sub-records, in order
+unfoldable pub sub_sizes : IdSize → Image → List ℕ
+sub_sizes ids image =
+    map (class_size ids) image.classes
+    ++ replicate (length image.classes) (root_size ids)
+    ++ map (object_size ids image.classes) image.objects
+    ++ replicate (count_by (λ x. not (x == 0)) image.registers) (root_size ids)
 
--- the roots of the registers that aren't null
-unfoldable pub roots_size : IdSize → List ℕ → ℕ
-roots_size ids registers = (1 + id_bytes ids) * count_by (λ x. not (x == 0)) registers
+-- ---- the segments' records
 
--- the heap dump's body
-unfoldable pub body_size : IdSize → Image → ℕ
-body_size ids image = classes_size ids image.classes + objects_size ids image.classes image.objects + roots_size ids image.registers
+-- those of segments whose sub-records have these sizes
+unfoldable pub records_size : List ℕ → ℕ
+records_size sizes = sum_by (λ n. 9 + n) (segment_sizes segment_limit sizes)
+
+-- the same where the first segment has so many bytes already
+unfoldable pub records_size_at : ℕ → List ℕ → ℕ
+records_size_at body sizes = sum_by (λ n. 9 + n) (sizes_at segment_limit body sizes)
+
+-- the same of a segment that is open, or of none
+abbrev pub records_size_after : ℕ → List ℕ → ℕ
+records_size_after zero sizes = records_size sizes
+records_size_after (suc n) sizes = records_size_at (suc n) sizes
+
+-- the whole text
+unfoldable pub text_size : IdSize → Image → ℕ
+text_size ids image = opening_size ids image.classes + records_size (sub_sizes ids image) + 9

@@ -1,7 +1,7 @@
--- The text of a dump: HPROF, JAVA PROFILE 1.0.2, with identifiers of either size.
+-- The records of a dump: HPROF, JAVA PROFILE 1.0.2, with identifiers of either size.
 use Rattle.std.specs.Prelude.{ℕ, ◌+◌, ◌*◌, ◌/◌, ◌%◌, ◌^◌, not, ◌==◌, List, ◌++◌, length, map, filter, flat_map, zip, codes}
 use Rattle.std.specs.Option.{option_map_or}
-use Rattle.std.specs.List.{concat, enumerate_from}
+use Rattle.std.specs.List.{enumerate_from}
 use Rattle.byteorder.specs.Endian.{big_bytes}
 use Rattle.heap_class.specs.declared.IdSize.{IdSize}
 use Rattle.heap_class.specs.declared.Kind.{Kind}
@@ -81,9 +81,9 @@ dump_of ids classes x (Prim kind) words = u1 0x23 ++ id ids x ++ u4 1 ++ u4 (len
 unfoldable pub object_dump : IdSize → List Class → DumpedObject → List ℕ
 object_dump ids classes o = dump_of ids classes o.id o.kind o.words
 
--- ---- the text
+-- ---- the parts of the text
 
--- what stands before the heap dump
+-- what stands before the segments
 unfoldable pub opening_records : IdSize → Image → ℕ → List ℕ
 opening_records ids image time = header ids time ++ flat_map (utf8 ids) (enumerate_from 1 (name_table image.classes)) ++ flat_map (load_class ids image.classes) (enumerate_from 0 image.classes) ++ trace
 
@@ -99,13 +99,6 @@ object_records ids image = map (object_dump ids image.classes) image.objects
 unfoldable pub register_roots : IdSize → Image → List (List ℕ)
 register_roots ids image = map (root_unknown ids) (filter (λ x. not (x == 0)) image.registers)
 
--- all sub-records of the heap dump, in order
+-- all sub-records, in order
 unfoldable pub sub_records : IdSize → Image → List (List ℕ)
 sub_records ids image = class_records ids image ++ object_records ids image ++ register_roots ids image
-
-unfoldable pub heap_dump_body : IdSize → Image → List ℕ
-heap_dump_body ids image = concat (sub_records ids image)
-
--- the whole text
-unfoldable pub dump_text : IdSize → Image → ℕ → List ℕ
-dump_text ids image time = opening_records ids image time ++ record_of 0x0c (heap_dump_body ids image)

@@ -1,5 +1,6 @@
 //! Bytes as they are written, into room that was reserved before.
-ghost use Rattle.std.specs.Prelude.{◌≡◌, ◌≤◌, ◌++◌, length, [], IfOk};
+ghost use Rattle.std.specs.Prelude.{◌≡◌, ◌≤◌, ◌++◌, length, drop, [], IfOk};
+ghost use Rattle.hprof_text.specs.Records.{record_head};
 ghost use Rattle.hprof_text.specs.Buffered.{HasRoom};
 ghost use Rattle.hprof_text.specs.Text.{u1, u2, u4, id};
 ghost use Rattle.byteorder.specs.Endian.{big_bytes};
@@ -29,6 +30,17 @@ impl Model for Buffer {
     ghost invariant = { λ b. b.limit ≤ vec_capacity b.bytes };
 }
 
+// Writes a record's head over the first nine bytes.
+fn write_head(bytes: &mut [u8], tag: u8, size: u32)
+    requires { 9 ≤ length bytes.old }
+    ensures { bytes.new ≡ record_head tag size ++ drop 9 bytes.old }
+{
+    let mut head = [0; 9];
+    head[0] = tag;
+    BigEndian::write_u32(&mut head[5..], size);
+    bytes[..9].copy_from_slice(&head);
+}
+
 impl Buffer {
     /// An empty buffer with room for `limit` bytes, which are reserved at once.
     pub fn new(alloc: Global, limit: usize) -> Result<Buffer, AllocError>
@@ -46,7 +58,24 @@ impl Buffer {
         bytes
     }
 
+    /// How many bytes have been written.
+    pub fn len(&self) -> usize
+        ensures { result ≡ length self.now.written }
+    {
+        self.bytes.len()
+    }
+
+    /// Writes the head of a record whose body has `size` bytes over the first nine.
+    pub fn set_head(&mut self, tag: u8, size: u32)
+        requires { 9 ≤ length self.old.written }
+        ensures written { self.new.written ≡ record_head tag size ++ drop 9 self.old.written }
+        ensures limit { self.new.limit ≡ self.old.limit }
+    {
+        write_head(&mut self.bytes, tag, size);
+    }
+
     /// Appends bytes. Takes no memory.
+    #[inline(always)]
     pub fn bytes(&mut self, bytes: &[u8])
         requires { HasRoom self.old bytes.now }
         ensures written { self.new.written ≡ self.old.written ++ bytes.now }
@@ -58,6 +87,7 @@ impl Buffer {
     }
 
     /// Appends the low `width` bytes of a number, 1 to 8, the highest first.
+    #[inline(always)]
     pub fn number(&mut self, width: usize, value: u64)
         requires width { width ≤ 8 }
         requires room { HasRoom self.old (big_bytes width value) }
@@ -66,37 +96,51 @@ impl Buffer {
     {
         let mut bytes = [0; 8];
         BigEndian::write_u64(&mut bytes, value);
-        self.bytes(&bytes[8 - width..]);
+        match width {
+            8 => self.bytes(&bytes),
+            4 => self.bytes(&bytes[4..]),
+            2 => self.bytes(&bytes[6..]),
+            1 => self.bytes(&bytes[7..]),
+            _ => self.bytes(&bytes[8 - width..]),
+        }
     }
 
     /// Appends a number of 1 byte.
+    #[inline(always)]
     pub fn u1(&mut self, value: u8)
         requires { HasRoom self.old (u1 value) }
         ensures written { self.new.written ≡ self.old.written ++ u1 value }
         ensures limit { self.new.limit ≡ self.old.limit }
     {
-        self.number(1, u64::from(value));
+        self.bytes(&[value]);
     }
 
     /// Appends a number of 2 bytes.
+    #[inline(always)]
     pub fn u2(&mut self, value: u16)
         requires { HasRoom self.old (u2 value) }
         ensures written { self.new.written ≡ self.old.written ++ u2 value }
         ensures limit { self.new.limit ≡ self.old.limit }
     {
-        self.number(2, u64::from(value));
+        let mut bytes = [0; 2];
+        BigEndian::write_u16(&mut bytes, value);
+        self.bytes(&bytes);
     }
 
     /// Appends a number of 4 bytes.
+    #[inline(always)]
     pub fn u4(&mut self, value: u32)
         requires { HasRoom self.old (u4 value) }
         ensures written { self.new.written ≡ self.old.written ++ u4 value }
         ensures limit { self.new.limit ≡ self.old.limit }
     {
-        self.number(4, u64::from(value));
+        let mut bytes = [0; 4];
+        BigEndian::write_u32(&mut bytes, value);
+        self.bytes(&bytes);
     }
 
     /// Appends an identifier, of which the low bytes are written.
+    #[inline(always)]
     pub fn id(&mut self, ids: IdSize, value: u64)
         requires { HasRoom self.old (id ids value) }
         ensures written { self.new.written ≡ self.old.written ++ id ids value }

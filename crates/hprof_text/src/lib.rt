@@ -1,26 +1,29 @@
 //! The text of a dump, whole and in pieces: HPROF, JAVA PROFILE 1.0.2 (the format comment of OpenJDK's heapDumper.cpp).
 #![tactic(auto)]
 
-ghost use Rattle.std.specs.Prelude.{◌≡◌, ◌+◌, ◌<◌, ◌≤◌, ◌^◌, ℕ, List, length, Some, IfSome, IfOk, IfErr, Contains, slice_get};
+ghost use Rattle.std.specs.Prelude.{◌≡◌, ◌+◌, ◌≤◌, ◌^◌, ℕ, List, length, IfOk, IfErr};
 ghost use Rattle.heap_class.specs.declared.ObjRef.{ObjRef};
 ghost use Rattle.heap_class.specs.declared.Refusal.TheVariants.{NoMemory};
 ghost use Rattle.heap_class.specs.declared.IdSize.{IdSize};
-ghost use Rattle.hprof_text.specs.Image.{Image, IsDumpable, IsAt};
-ghost use Rattle.hprof_text.specs.Laws.{PiecesJoin, NumbersFit};
-ghost use Rattle.hprof_text.specs.Text.{dump_text, heap_dump_body};
-ghost use Rattle.hprof_text.specs.Pieces.{piece_of};
+ghost use Rattle.hprof_text.specs.Image.{Image, IsDumpable};
+ghost use Rattle.hprof_text.specs.Cursors.{IsAt};
+ghost use Rattle.hprof_text.specs.Laws.{PiecesJoin, IsCut, NumbersFit};
+ghost use Rattle.hprof_text.specs.Segments.{dump_text, piece_of};
 
-use crate::pieces::{body_size, cursor_at, object_from, past_from, roots_from, start_from};
-use crate::sizes::opening_size;
-use heap_class::{Classes, IdSize, ObjKind, ObjRef, Refusal};
+use crate::measure::Measure;
+use crate::pieces::{past_from, segment_from, start_from};
+use crate::sizes::{not_null, opening_size, root_size};
+use heap_class::{ClassNo, FirstClasses, IdSize, ObjKind, ObjRef, Refusal};
 use std::alloc::Global;
 use std::marker::Model;
 
 mod buffer;
 mod list_view;
+mod measure;
 mod parts;
 mod pieces;
 mod records;
+mod segment;
 mod sizes;
 
 pub use crate::buffer::Buffer;
@@ -71,12 +74,16 @@ pub struct Piece {
     pub last: bool,
 }
 
-/// Where a dump stands: before its first piece, before an object's, before the roots, or past all.
+/// Where a dump stands: before its first piece, before the sub-record that begins the next segment (of a class, a
+/// class's root, an object, a register's root), before the end, or past all.
 #[derive(Clone, Copy, PartialEq, Eq, Debug)]
 pub enum Cursor {
     Start,
+    ClassDump(ClassNo),
+    ClassRoot(ClassNo),
     Object(ObjRef),
-    Roots,
+    RegisterRoot(u64),
+    End,
     Past,
 }
 
@@ -94,8 +101,8 @@ pub trait View {
     ghost places: { Self → List ObjRef };
 
     /// The classes. They, the registers and the objects are within a dump's limits.
-    fn classes(&self) -> &Classes
-        ensures value { result.now ≡ (image self.now).classes }
+    fn classes(&self) -> FirstClasses<'_>
+        ensures value { result ≡ (image self.now).classes }
         ensures limits { IsDumpable (image self.now) }
         ensures placed { length (places self.now) ≡ length (image self.now).objects };
 
@@ -131,49 +138,67 @@ pub trait View {
         ensures { (i : ℕ) → slice_get (places self.now) i ≡ Some at → IfSome (slice_get (image self.now).objects i) (λ o. result.now ≡ o.words) };
 }
 
-/// How many bytes the dump of a view has, whatever its time.
+/// Tells how many bytes the dump of a view has, whatever its time.
 pub fn text_len<V: View>(view: &V) -> u64
-    ensures value { (time : ℕ) → result ≡ length (dump_text (V.ids view.now) (V.image view.now) time) }
-    ensures whole { length (heap_dump_body (V.ids view.now) (V.image view.now)) < 2 ^ 32 }
+    ensures { (time : ℕ) → result ≡ length (dump_text (V.ids view.now) (V.image view.now) time) }
 {
-    opening_size(view.id_size(), view.classes()) + 9 + body_size(view)
+    let ids = view.id_size();
+    let classes = view.classes();
+    let mut measure = Measure::new();
+    measure.add_classes(ids, &classes);
+    measure.add_each(classes.len(), root_size(ids));
+    measure.add_objects(view);
+    measure.add_each(not_null(view.registers()), root_size(ids));
+    opening_size(ids, &classes) + measure.total() + 9
 }
 
-/// Piece `index` of a view's dump, from 0; past the last it is empty.
+/// Gives piece `index` of a view's dump, from 0; past the last it is empty. Fails with NoMemory.
 pub fn piece_of<V: View>(alloc: Global, view: &V, index: u64, time: u64) -> Result<Piece, Refusal>
     ensures piece { IfOk result (λ p. p ≡ piece_of (V.ids view.now) (V.image view.now) time index) }
     ensures refused { IfErr result (λ e. e ≡ NoMemory) }
 {
-    match piece_from(alloc, view, cursor_at(view, index), time) {
-        Ok((piece, _)) => Ok(piece),
-        Err(refusal) => Err(refusal),
+    let mut cursor = Cursor::Start;
+    for _passed in 0..index {
+        if cursor == Cursor::Past {
+            break;
+        }
+        let (_piece, next) = piece_from(alloc, view, cursor, time)?;
+        cursor = next;
     }
+    let (piece, _next) = piece_from(alloc, view, cursor, time)?;
+    Ok(piece)
 }
 
-/// The piece at the cursor, and the cursor of the piece after it.
+/// Gives the piece at the cursor, and the cursor of the piece after it. Reads each object of the piece once. Fails with
+/// NoMemory.
 pub fn piece_from<V: View>(
     alloc: Global,
     view: &V,
     cursor: Cursor,
     time: u64,
 ) -> Result<(Piece, Cursor), Refusal>
-    requires { (i : ℕ) × IsAt (V.places view.now) cursor i }
-    ensures piece { IfOk result (λ p. (i : ℕ) → IsAt (V.places view.now) cursor i → p.0 ≡ piece_of (V.ids view.now) (V.image view.now) time i) }
-    ensures next { IfOk result (λ p. (i : ℕ) → IsAt (V.places view.now) cursor i → IsAt (V.places view.now) p.1 (i + 1)) }
+    requires { (i : ℕ) × IsAt (V.ids view.now) (V.image view.now) (V.places view.now) cursor i }
+    ensures piece { IfOk result (λ p. (i : ℕ) → IsAt (V.ids view.now) (V.image view.now) (V.places view.now) cursor i → p.0 ≡ piece_of (V.ids view.now) (V.image view.now) time i) }
+    ensures next { IfOk result (λ p. (i : ℕ) → IsAt (V.ids view.now) (V.image view.now) (V.places view.now) cursor i → IsAt (V.ids view.now) (V.image view.now) (V.places view.now) p.1 (i + 1)) }
     ensures small { IfOk result (λ p. length p.0.bytes ≤ 2 ^ 24) }
     ensures refused { IfErr result (λ e. e ≡ NoMemory) }
 {
     match cursor {
         Cursor::Start => start_from(alloc, view, time),
-        Cursor::Object(at) => object_from(alloc, view, at),
-        Cursor::Roots => roots_from(alloc, view),
         Cursor::Past => Ok(past_from(alloc, view)),
+        _ => segment_from(alloc, view, cursor),
     }
 }
 
 /// The law that the pieces of each dump, joined, are its text.
 pub fn pieces_join()
     ensures { (ids : IdSize) (image : Image) (time : ℕ) → PiecesJoin ids image time }
+{}
+
+/// The law that the sub-records are cut into segments in order: none is empty, none has a body of more than so many bytes
+/// unless it is a single sub-record, and none could take the next sub-record.
+pub fn segments_are_cut()
+    ensures { (limit : ℕ) (subs : List (List ℕ)) → IsCut limit subs }
 {}
 
 /// The law that each number of a dump fits in the bytes that it has there: lengths, counts, serials, the ids of classes

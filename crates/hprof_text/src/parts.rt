@@ -1,20 +1,20 @@
 //! The parts of a dump: each writes the records of one list, in order.
-ghost use Rattle.std.specs.Prelude.{◌≡◌, ◌≢◌, ◌<◌, ◌≤◌, ◌++◌, length, map, filter, flat_map, zip, not, ◌==◌};
-ghost use Rattle.std.specs.List.{enumerate_from, concat};
+ghost use Rattle.std.specs.Prelude.{◌≡◌, ◌≢◌, ◌<◌, ◌≤◌, ◌++◌, length, flat_map, zip};
+ghost use Rattle.std.specs.List.{enumerate_from};
 ghost use Rattle.byteorder.specs.Endian.{big_bytes};
 ghost use Rattle.heap_class.specs.Classes.{fields_of, name_table};
 ghost use Rattle.heap_class.specs.Limits.{class_limit, array_limit};
 ghost use Rattle.hprof_text.specs.Buffered.{HasRoom};
 ghost use Rattle.hprof_text.specs.Image.{IsKnown};
-ghost use Rattle.hprof_text.specs.Records.{opening_of, class_records_of};
-ghost use Rattle.hprof_text.specs.Text.{id, field_entry, utf8, load_class, class_dump, root_sticky_class, root_unknown, value_bytes, dump_of};
+ghost use Rattle.hprof_text.specs.Records.{opening_of};
+ghost use Rattle.hprof_text.specs.Text.{id, field_entry, utf8, load_class, value_bytes, dump_of};
 
 use crate::buffer::Buffer;
-use heap_class::{ClassNo, Classes, IdSize, Kind, ObjKind};
+use heap_class::{ClassNo, FirstClasses, IdSize, Kind, ObjKind};
 
 impl Buffer {
     /// Appends the own fields of a class, in order.
-    pub fn fields(&mut self, ids: IdSize, classes: &Classes, class: ClassNo)
+    pub fn fields(&mut self, ids: IdSize, classes: &FirstClasses<'_>, class: ClassNo)
         requires room { HasRoom self.old (flat_map (field_entry ids classes.now) (fields_of classes.now class)) }
         requires known { class < length classes.now }
         ensures written { self.new.written ≡ self.old.written ++ flat_map (field_entry ids classes.now) (fields_of classes.now class) }
@@ -54,7 +54,7 @@ impl Buffer {
     }
 
     /// Appends a UTF8 record for each distinct name, in order of first use.
-    pub fn names(&mut self, ids: IdSize, classes: &Classes)
+    pub fn names(&mut self, ids: IdSize, classes: &FirstClasses<'_>)
         requires { HasRoom self.old (flat_map (utf8 ids) (enumerate_from 1 (name_table classes.now))) }
         ensures written { self.new.written ≡ self.old.written ++ flat_map (utf8 ids) (enumerate_from 1 (name_table classes.now)) }
         ensures limit { self.new.limit ≡ self.old.limit }
@@ -65,7 +65,7 @@ impl Buffer {
     }
 
     /// Appends a LOAD CLASS record for each class, in order.
-    pub fn load_classes(&mut self, ids: IdSize, classes: &Classes)
+    pub fn load_classes(&mut self, ids: IdSize, classes: &FirstClasses<'_>)
         requires { HasRoom self.old (flat_map (load_class ids classes.now) (enumerate_from 0 classes.now)) }
         ensures written { self.new.written ≡ self.old.written ++ flat_map (load_class ids classes.now) (enumerate_from 0 classes.now) }
         ensures limit { self.new.limit ≡ self.old.limit }
@@ -75,43 +75,8 @@ impl Buffer {
         }
     }
 
-    /// Appends a CLASS DUMP for each class, in order.
-    pub fn class_dumps(&mut self, ids: IdSize, classes: &Classes)
-        requires { HasRoom self.old (flat_map (class_dump ids classes.now) (enumerate_from 0 classes.now)) }
-        ensures written { self.new.written ≡ self.old.written ++ flat_map (class_dump ids classes.now) (enumerate_from 0 classes.now) }
-        ensures limit { self.new.limit ≡ self.old.limit }
-    {
-        for class in 0..classes.len() {
-            self.class_dump(ids, classes, class);
-        }
-    }
-
-    /// Appends a root for each class, in order.
-    pub fn class_roots(&mut self, ids: IdSize, classes: &Classes)
-        requires { HasRoom self.old (flat_map (root_sticky_class ids) (enumerate_from 0 classes.now)) }
-        ensures written { self.new.written ≡ self.old.written ++ flat_map (root_sticky_class ids) (enumerate_from 0 classes.now) }
-        ensures limit { self.new.limit ≡ self.old.limit }
-    {
-        for class in 0..classes.len() {
-            self.root_sticky_class(ids, class);
-        }
-    }
-
-    /// Appends a root for each register that isn't null.
-    pub fn register_roots(&mut self, ids: IdSize, registers: &[u64])
-        requires { HasRoom self.old (flat_map (root_unknown ids) (filter (λ x. not (x == 0)) registers.now)) }
-        ensures written { self.new.written ≡ self.old.written ++ flat_map (root_unknown ids) (filter (λ x. not (x == 0)) registers.now) }
-        ensures limit { self.new.limit ≡ self.old.limit }
-    {
-        for register in registers {
-            if *register != 0 {
-                self.root_unknown(ids, *register);
-            }
-        }
-    }
-
     /// Appends what stands before the heap dump: header, names, classes, and the empty trace.
-    pub fn opening_records(&mut self, ids: IdSize, classes: &Classes, time: u64)
+    pub fn opening_records(&mut self, ids: IdSize, classes: &FirstClasses<'_>, time: u64)
         requires { HasRoom self.old (opening_of ids classes.now time) }
         ensures written { self.new.written ≡ self.old.written ++ opening_of ids classes.now time }
         ensures limit { self.new.limit ≡ self.old.limit }
@@ -122,22 +87,12 @@ impl Buffer {
         self.trace();
     }
 
-    /// Appends the sub-records of the classes, then their roots.
-    pub fn class_records(&mut self, ids: IdSize, classes: &Classes)
-        requires { HasRoom self.old (class_records_of ids classes.now) }
-        ensures written { self.new.written ≡ self.old.written ++ class_records_of ids classes.now }
-        ensures limit { self.new.limit ≡ self.old.limit }
-    {
-        self.class_dumps(ids, classes);
-        self.class_roots(ids, classes);
-    }
-
     /// Appends the sub-record of an object.
     #[tactic(auto, unfolding(crate::specs::Text::dump_of))]
     pub fn object_dump(
         &mut self,
         ids: IdSize,
-        classes: &Classes,
+        classes: &FirstClasses<'_>,
         object: u64,
         kind: ObjKind,
         words: &[u64],

@@ -1,199 +1,213 @@
-//! The pieces of a dump: each is measured, then reserved, then written.
-ghost use Rattle.std.specs.Prelude.{◌≡◌, ◌+◌, ◌<◌, ◌≤◌, ◌++◌, ◌^◌, ℕ, length, slice_get, Some, Contains, IfOk, IfErr, [], flat_map, filter, not, ◌==◌};
-ghost use Rattle.heap_class.specs.Limits.{class_limit, array_limit};
+//! The pieces of a dump: the opening records, the segments, and the end.
+ghost use Rattle.std.specs.Prelude.{◌≡◌, ◌+◌, ◌≤◌, ◌^◌, ℕ, List, length, map, slice_get, IfOk, IfErr};
+ghost use Rattle.std.specs.List.{enumerate_from};
 ghost use Rattle.heap_class.specs.declared.Refusal.TheVariants.{NoMemory};
-ghost use Rattle.hprof_text.specs.Image.{IsAt, IsKnown, register_limit};
-ghost use Rattle.hprof_text.specs.Cursors.{cursor_to};
-ghost use Rattle.hprof_text.specs.Pieces.{piece_of};
-ghost use Rattle.hprof_text.specs.Records.{opening_of, record_head, class_records_of};
-ghost use Rattle.hprof_text.specs.Sizes.{objects_size, body_size};
-ghost use Rattle.hprof_text.specs.Text.{dump_of, root_unknown, heap_dump_body};
+ghost use Rattle.hprof_text.specs.declared.Cursor.TheVariants.{Past};
+ghost use Rattle.hprof_text.specs.Records.{opening_of};
+ghost use Rattle.hprof_text.specs.Cursors.{IsAt, IsBefore, from_class, from_root, from_object, from_register};
+ghost use Rattle.hprof_text.specs.Filled.{IsFilledFrom, IsFilledTo, IsFilledBefore, IsFilledRoots, IsRest};
+ghost use Rattle.hprof_text.specs.Segments.{piece_of};
+ghost use Rattle.hprof_text.specs.Text.{class_dump, root_sticky_class, object_records};
 
 use crate::buffer::Buffer;
-use crate::sizes::{classes_size, dump_size, opening_size, roots_size};
+use crate::segment::Segment;
+use crate::sizes::opening_size;
 use crate::{Bytes, Cursor, Piece, View};
-use heap_class::{Classes, IdSize, ObjKind, ObjRef, Refusal};
+use heap_class::{ClassNo, FirstClasses, IdSize, ObjRef, Refusal};
 use std::alloc::Global;
 
-/// The bytes of the sub-records of a view's objects.
-pub fn objects_size<V: View>(view: &V) -> u64
-    ensures value { result ≡ objects_size (V.ids view.now) (V.image view.now).classes (V.image view.now).objects }
-    ensures limit { result ≤ 538509312 }
-{
-    let classes = view.classes();
-    let ids = view.id_size();
-    let mut size = 0;
-    let mut passed = 0u64;
-    let mut here = view.first();
-    while let Some(at) = here {
-        size += dump_size(ids, classes, view.kind(at), view.words(at).len() as u64);
-        passed += 1;
-        here = view.next(at);
+/// The tag of a HEAP DUMP SEGMENT record.
+const HEAP_DUMP_SEGMENT: u8 = 0x1c;
+
+/// The tag of the HEAP DUMP END record.
+const HEAP_DUMP_END: u8 = 0x2c;
+
+impl Segment {
+    // Offers the sub-records of the classes from number `from` on. Gives the first that wasn't taken.
+    fn fill_class_dumps(
+        &mut self,
+        ids: IdSize,
+        classes: &FirstClasses<'_>,
+        from: ClassNo,
+    ) -> Option<ClassNo>
+        ensures { IsFilledFrom (map (class_dump ids classes.now) (enumerate_from 0 classes.now)) from result self.old self.new }
+    {
+        for class in from..classes.len() {
+            if !self.offer_class_dump(ids, classes, class) {
+                return Some(class);
+            }
+        }
+        None
     }
-    size
+
+    // Offers the roots of the classes from number `from` on. Gives the first whose root wasn't taken.
+    fn fill_class_roots(
+        &mut self,
+        ids: IdSize,
+        classes: &FirstClasses<'_>,
+        from: ClassNo,
+    ) -> Option<ClassNo>
+        ensures { IsFilledFrom (map (root_sticky_class ids) (enumerate_from 0 classes.now)) from result self.old self.new }
+    {
+        for class in from..classes.len() {
+            if !self.offer_class_root(ids, class) {
+                return Some(class);
+            }
+        }
+        None
+    }
+
+    // Offers the sub-records of a view's objects from the one here on. Gives the first that wasn't taken.
+    fn fill_objects<V: View>(&mut self, view: &V, from: Option<ObjRef>) -> Option<ObjRef>
+        requires { (n : ℕ) × (from ≡ slice_get (V.places view.now) n) × (n ≤ length (V.places view.now)) }
+        ensures { (n : ℕ) → from ≡ slice_get (V.places view.now) n → n ≤ length (V.places view.now) → IsFilledBefore (V.places view.now) (object_records (V.ids view.now) (V.image view.now)) n result self.old self.new }
+    {
+        let classes = view.classes();
+        let ids = view.id_size();
+        let mut passed = 0u64;
+        let mut here = from;
+        while let Some(at) = here {
+            if !self.offer_object(ids, &classes, view.id(at), view.kind(at), view.words(at)) {
+                return here;
+            }
+            passed += 1;
+            here = view.next(at);
+        }
+        None
+    }
+
+    // Offers the roots of the registers from number `from` on that aren't null. Gives the first whose root wasn't taken.
+    fn fill_register_roots(&mut self, ids: IdSize, registers: &[u64], from: u64) -> Option<u64>
+        ensures { IsFilledRoots ids registers.now from result self.old self.new }
+    {
+        for index in from as usize..registers.len() {
+            let register = registers[index];
+            if register != 0 && !self.offer_register_root(ids, register) {
+                return Some(index as u64);
+            }
+        }
+        None
+    }
+
+    // Fills the segment from a register's root on. Gives the cursor at what is left.
+    fn fill_from_register<V: View>(&mut self, view: &V, from: u64) -> Cursor
+        ensures { IsFilledTo (V.ids view.now) (V.image view.now) (V.places view.now) (from_register (V.ids view.now) (V.image view.now).registers from) result self.old self.new }
+    {
+        match self.fill_register_roots(view.id_size(), view.registers(), from) {
+            Some(register) => Cursor::RegisterRoot(register),
+            None => Cursor::End,
+        }
+    }
+
+    // Fills the segment from an object on, or from the first register's root.
+    fn fill_from_object<V: View>(&mut self, view: &V, from: Option<ObjRef>) -> Cursor
+        requires { (n : ℕ) × (from ≡ slice_get (V.places view.now) n) × (n ≤ length (V.places view.now)) }
+        ensures { (n : ℕ) → from ≡ slice_get (V.places view.now) n → n ≤ length (V.places view.now) → IsFilledTo (V.ids view.now) (V.image view.now) (V.places view.now) (from_object (V.ids view.now) (V.image view.now) n) result self.old self.new }
+    {
+        match self.fill_objects(view, from) {
+            Some(at) => Cursor::Object(at),
+            None => self.fill_from_register(view, 0),
+        }
+    }
+
+    // Fills the segment from a class's root on.
+    fn fill_from_root<V: View>(&mut self, view: &V, from: ClassNo) -> Cursor
+        ensures { IsFilledTo (V.ids view.now) (V.image view.now) (V.places view.now) (from_root (V.ids view.now) (V.image view.now) from) result self.old self.new }
+    {
+        match self.fill_class_roots(view.id_size(), &view.classes(), from) {
+            Some(class) => Cursor::ClassRoot(class),
+            None => self.fill_from_object(view, view.first()),
+        }
+    }
+
+    // Fills the segment from a class on.
+    fn fill_from_class<V: View>(&mut self, view: &V, from: ClassNo) -> Cursor
+        ensures { IsFilledTo (V.ids view.now) (V.image view.now) (V.places view.now) (from_class (V.ids view.now) (V.image view.now) from) result self.old self.new }
+    {
+        match self.fill_class_dumps(view.id_size(), &view.classes(), from) {
+            Some(class) => Cursor::ClassDump(class),
+            None => self.fill_from_root(view, 0),
+        }
+    }
+
+    // Fills the segment from the cursor on.
+    fn fill<V: View>(&mut self, view: &V, cursor: Cursor) -> Cursor
+        requires { (rest : List (List ℕ)) × IsRest (V.ids view.now) (V.image view.now) (V.places view.now) cursor rest }
+        ensures { (rest : List (List ℕ)) → IsRest (V.ids view.now) (V.image view.now) (V.places view.now) cursor rest → IsFilledTo (V.ids view.now) (V.image view.now) (V.places view.now) rest result self.old self.new }
+    {
+        match cursor {
+            Cursor::ClassDump(class) => self.fill_from_class(view, class),
+            Cursor::ClassRoot(class) => self.fill_from_root(view, class),
+            Cursor::Object(at) => self.fill_from_object(view, Some(at)),
+            Cursor::RegisterRoot(register) => self.fill_from_register(view, register),
+            Cursor::End => Cursor::End,
+            Cursor::Start => Cursor::Start,
+            Cursor::Past => Cursor::Past,
+        }
+    }
 }
 
-/// The bytes of the body of a view's heap dump.
-pub fn body_size<V: View>(view: &V) -> u64
-    ensures value { result ≡ body_size (V.ids view.now) (V.image view.now) }
-    ensures limit { result < 2 ^ 32 }
-{
-    let ids = view.id_size();
-    let classes = view.classes();
-    classes_size(ids, classes) + objects_size(view) + roots_size(ids, view.registers())
-}
-
-// A buffer with room for so many bytes.
-fn reserved(alloc: Global, size: u64) -> Result<Buffer, Refusal>
-    ensures room { IfOk result (λ b. (b.written ≡ []) × (b.limit ≡ size)) }
+// The first piece.
+#[tactic(auto, using(crate::proofs::Lengths::opening_length))]
+fn opening_bytes(
+    alloc: Global,
+    ids: IdSize,
+    classes: &FirstClasses<'_>,
+    time: u64,
+) -> Result<Bytes, Refusal>
+    ensures bytes { IfOk result (λ b. b ≡ opening_of ids classes.now time) }
+    ensures small { IfOk result (λ b. length b ≤ 2 ^ 24) }
     ensures refused { IfErr result (λ e. e ≡ NoMemory) }
 {
-    match Buffer::new(alloc, size as usize) {
-        Ok(buffer) => Ok(buffer),
+    match Buffer::new(alloc, opening_size(ids, classes) as usize) {
+        Ok(mut buffer) => {
+            buffer.opening_records(ids, classes, time);
+            Ok(Bytes::from_vec(buffer.into_vec()))
+        }
         Err(_) => Err(Refusal::NoMemory),
     }
 }
 
-// What has been written.
-fn finished(buffer: Buffer) -> Bytes
-    ensures { result ≡ buffer.written }
-{
-    Bytes::from_vec(buffer.into_vec())
-}
-
-// The first piece, by the length of the heap dump's body.
-#[tactic(auto, using(crate::proofs::Lengths::opening_length, crate::proofs::Lengths::class_records_length))]
-fn opening_bytes(
-    alloc: Global,
-    ids: IdSize,
-    classes: &Classes,
-    body: u32,
-    time: u64,
-) -> Result<Bytes, Refusal>
-    ensures bytes { IfOk result (λ b. b ≡ opening_of ids classes.now time ++ record_head 0x0c body ++ class_records_of ids classes.now) }
-    ensures small { IfOk result (λ b. length b ≤ 2 ^ 24) }
-    ensures refused { IfErr result (λ e. e ≡ NoMemory) }
-{
-    let size = opening_size(ids, classes) + 9 + classes_size(ids, classes);
-    let mut buffer = reserved(alloc, size)?;
-    buffer.opening_records(ids, classes, time);
-    buffer.heap_dump_head(body);
-    buffer.class_records(ids, classes);
-    Ok(finished(buffer))
-}
-
-// The piece of an object.
-#[tactic(auto, using(crate::proofs::Lengths::dump_length))]
-fn object_bytes(
-    alloc: Global,
-    ids: IdSize,
-    classes: &Classes,
-    object: u64,
-    kind: ObjKind,
-    words: &[u64],
-) -> Result<Bytes, Refusal>
-    requires known { IsKnown classes.now kind (length words.now) }
-    requires small { length words.now ≤ array_limit }
-    ensures bytes { IfOk result (λ b. b ≡ dump_of ids classes.now object kind words.now) }
-    ensures small { IfOk result (λ b. length b ≤ 2 ^ 24) }
-    ensures refused { IfErr result (λ e. e ≡ NoMemory) }
-{
-    let size = dump_size(ids, classes, kind, words.len() as u64);
-    let mut buffer = reserved(alloc, size)?;
-    buffer.object_dump(ids, classes, object, kind, words);
-    Ok(finished(buffer))
-}
-
-// The piece of the roots.
-#[tactic(auto, using(crate::proofs::Lengths::roots_length))]
-fn roots_bytes(alloc: Global, ids: IdSize, registers: &[u64]) -> Result<Bytes, Refusal>
-    requires { length registers.now ≤ register_limit }
-    ensures bytes { IfOk result (λ b. b ≡ flat_map (root_unknown ids) (filter (λ x. not (x == 0)) registers.now)) }
-    ensures small { IfOk result (λ b. length b ≤ 2 ^ 24) }
-    ensures refused { IfErr result (λ e. e ≡ NoMemory) }
-{
-    let mut buffer = reserved(alloc, roots_size(ids, registers))?;
-    buffer.register_roots(ids, registers);
-    Ok(finished(buffer))
-}
-
-// The cursor at an object, or at the roots where there is none.
-fn cursor_to(place: Option<ObjRef>) -> Cursor
-    ensures { result ≡ cursor_to place }
-{
-    match place {
-        Some(at) => Cursor::Object(at),
-        None => Cursor::Roots,
-    }
-}
-
-/// The cursor at piece `index`.
-pub fn cursor_at<V: View>(view: &V, index: u64) -> Cursor
-    ensures { IsAt (V.places view.now) result index }
-{
-    if index == 0 {
-        return Cursor::Start;
-    }
-    let mut here = view.first();
-    for _passed in 1..index {
-        match here {
-            Some(at) => here = view.next(at),
-            None => return Cursor::Past,
-        }
-    }
-    cursor_to(here)
-}
-
-/// The first piece, and the cursor after it.
+/// Gives the first piece, and the cursor after it. Fails with NoMemory.
 pub fn start_from<V: View>(alloc: Global, view: &V, time: u64) -> Result<(Piece, Cursor), Refusal>
     ensures piece { IfOk result (λ p. p.0 ≡ piece_of (V.ids view.now) (V.image view.now) time 0) }
-    ensures next { IfOk result (λ p. IsAt (V.places view.now) p.1 1) }
+    ensures next { IfOk result (λ p. IsAt (V.ids view.now) (V.image view.now) (V.places view.now) p.1 1) }
     ensures small { IfOk result (λ p. length p.0.bytes ≤ 2 ^ 24) }
     ensures refused { IfErr result (λ e. e ≡ NoMemory) }
 {
-    let body = body_size(view) as u32;
-    let bytes = opening_bytes(alloc, view.id_size(), view.classes(), body, time)?;
-    Ok((Piece { bytes, last: false }, cursor_to(view.first())))
+    let bytes = opening_bytes(alloc, view.id_size(), &view.classes(), time)?;
+    Ok((Piece { bytes, last: false }, Cursor::ClassDump(0)))
 }
 
-/// The piece of an object, and the cursor after it.
-pub fn object_from<V: View>(alloc: Global, view: &V, at: ObjRef) -> Result<(Piece, Cursor), Refusal>
-    requires { Contains (V.places view.now) at }
-    ensures piece { IfOk result (λ p. (time j : ℕ) → slice_get (V.places view.now) j ≡ Some at → p.0 ≡ piece_of (V.ids view.now) (V.image view.now) time (j + 1)) }
-    ensures next { IfOk result (λ p. (j : ℕ) → slice_get (V.places view.now) j ≡ Some at → IsAt (V.places view.now) p.1 (j + 2)) }
+/// Gives the piece of the segment at the cursor, or of the end where no sub-record is left, and the cursor after it. Fails
+/// with NoMemory.
+pub fn segment_from<V: View>(
+    alloc: Global,
+    view: &V,
+    cursor: Cursor,
+) -> Result<(Piece, Cursor), Refusal>
+    requires { (rest : List (List ℕ)) × IsRest (V.ids view.now) (V.image view.now) (V.places view.now) cursor rest }
+    ensures piece { IfOk result (λ p. (time i : ℕ) (rest : List (List ℕ)) → IsRest (V.ids view.now) (V.image view.now) (V.places view.now) cursor rest → IsBefore (V.ids view.now) (V.image view.now) rest i → p.0 ≡ piece_of (V.ids view.now) (V.image view.now) time i) }
+    ensures next { IfOk result (λ p. (i : ℕ) (rest : List (List ℕ)) → IsRest (V.ids view.now) (V.image view.now) (V.places view.now) cursor rest → IsBefore (V.ids view.now) (V.image view.now) rest i → IsAt (V.ids view.now) (V.image view.now) (V.places view.now) p.1 (i + 1)) }
     ensures small { IfOk result (λ p. length p.0.bytes ≤ 2 ^ 24) }
     ensures refused { IfErr result (λ e. e ≡ NoMemory) }
 {
-    let bytes = object_bytes(
-        alloc,
-        view.id_size(),
-        view.classes(),
-        view.id(at),
-        view.kind(at),
-        view.words(at),
-    )?;
-    Ok((Piece { bytes, last: false }, cursor_to(view.next(at))))
+    let mut segment = Segment::new(alloc)?;
+    let next = segment.fill(view, cursor);
+    if segment.len() == 0 {
+        let bytes = segment.into_record(HEAP_DUMP_END);
+        return Ok((Piece { bytes, last: true }, Cursor::Past));
+    }
+    let bytes = segment.into_record(HEAP_DUMP_SEGMENT);
+    Ok((Piece { bytes, last: false }, next))
 }
 
-/// The last piece, and the cursor after it.
-pub fn roots_from<V: View>(alloc: Global, view: &V) -> Result<(Piece, Cursor), Refusal>
-    ensures piece { IfOk result (λ p. (time : ℕ) → p.0 ≡ piece_of (V.ids view.now) (V.image view.now) time (length (V.places view.now) + 1)) }
-    ensures next { IfOk result (λ p. IsAt (V.places view.now) p.1 (length (V.places view.now) + 2)) }
-    ensures small { IfOk result (λ p. length p.0.bytes ≤ 2 ^ 24) }
-    ensures refused { IfErr result (λ e. e ≡ NoMemory) }
-{
-    let _classes = view.classes();
-    let bytes = roots_bytes(alloc, view.id_size(), view.registers())?;
-    Ok((Piece { bytes, last: true }, Cursor::Past))
-}
-
-/// The empty piece past the last.
+/// Gives the empty piece past the last.
 pub fn past_from<V: View>(alloc: Global, view: &V) -> (Piece, Cursor)
-    ensures piece { (time i : ℕ) → length (V.places view.now) + 2 ≤ i → result.0 ≡ piece_of (V.ids view.now) (V.image view.now) time i }
-    ensures next { (i : ℕ) → length (V.places view.now) + 2 ≤ i → IsAt (V.places view.now) result.1 (i + 1) }
+    ensures piece { (time i : ℕ) → IsAt (V.ids view.now) (V.image view.now) (V.places view.now) Past i → result.0 ≡ piece_of (V.ids view.now) (V.image view.now) time i }
+    ensures next { result.1 ≡ Past }
     ensures small { length result.0.bytes ≡ 0 }
 {
-    let _classes = view.classes();
     let piece = Piece {
         bytes: Bytes::from_vec(Vec::new(alloc)),
         last: true,

@@ -11,7 +11,7 @@ ghost use Rattle.hprof_text.specs.Text.{class_id, header, utf8, load_class, trac
 
 use crate::buffer::Buffer;
 use crate::sizes::instance_size;
-use heap_class::{ClassNo, Classes, IdSize, Kind};
+use heap_class::{ClassNo, FirstClasses, IdSize, Kind};
 
 /// The id of a class.
 pub fn class_id(class: ClassNo) -> u64
@@ -22,7 +22,7 @@ pub fn class_id(class: ClassNo) -> u64
 }
 
 /// The id of a class's super, or 0.
-pub fn super_id(classes: &Classes, class: ClassNo) -> u64
+pub fn super_id(classes: &FirstClasses<'_>, class: ClassNo) -> u64
     requires known { class < length classes.now }
     requires few { length classes.now ≤ class_limit }
     ensures { result ≡ option_map_or class_id (sup_of classes.now class) 0 }
@@ -73,7 +73,7 @@ impl Buffer {
 
     /// Appends a LOAD CLASS record. The serial of class k is k + 1.
     #[tactic(auto, using(crate::proofs::Written::load_body, crate::proofs::Written::name_at), unfolding(crate::specs::Text::load_class, crate::specs::Text::record_of))]
-    pub fn load_class(&mut self, ids: IdSize, classes: &Classes, class: ClassNo)
+    pub fn load_class(&mut self, ids: IdSize, classes: &FirstClasses<'_>, class: ClassNo)
         requires room { HasRoom self.old (load_class ids classes.now (class, class_at classes.now class)) }
         requires known { class < length classes.now }
         requires few { length classes.now ≤ class_limit }
@@ -98,15 +98,6 @@ impl Buffer {
         self.u4(1);
         self.u4(0);
         self.u4(0);
-    }
-
-    /// Appends the head of the HEAP DUMP record whose body has `length` bytes.
-    pub fn heap_dump_head(&mut self, length: u32)
-        requires { HasRoom self.old (record_head 0x0c length) }
-        ensures written { self.new.written ≡ self.old.written ++ record_head 0x0c length }
-        ensures limit { self.new.limit ≡ self.old.limit }
-    {
-        self.record_head(0x0c, length);
     }
 
     // The ids of a CLASS DUMP: the class's, its super's, and five that are null.
@@ -151,7 +142,7 @@ impl Buffer {
 
     /// Appends a CLASS DUMP: super, size of instances and own fields. There is no loader, signer, protection
     /// domain, constant or static field.
-    pub fn class_dump(&mut self, ids: IdSize, classes: &Classes, class: ClassNo)
+    pub fn class_dump(&mut self, ids: IdSize, classes: &FirstClasses<'_>, class: ClassNo)
         requires room { HasRoom self.old (class_dump ids classes.now (class, class_at classes.now class)) }
         requires known { class < length classes.now }
         requires few { length classes.now ≤ class_limit }
@@ -193,7 +184,7 @@ impl Buffer {
     pub fn instance_dump(
         &mut self,
         ids: IdSize,
-        classes: &Classes,
+        classes: &FirstClasses<'_>,
         object: u64,
         class: ClassNo,
         words: &[u64],

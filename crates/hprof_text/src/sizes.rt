@@ -1,16 +1,17 @@
 //! How many bytes the parts of a dump have. Each is known from the classes and the number of words, before
 //! a byte is written.
-ghost use Rattle.std.specs.Prelude.{◌≡◌, ◌<◌, ◌≤◌, length};
+ghost use Rattle.std.specs.Prelude.{◌≡◌, ◌<◌, ◌≤◌, ◌==◌, not, count_by, length};
 ghost use Rattle.heap_class.specs.Classes.{instance_size, name_table};
 ghost use Rattle.heap_class.specs.Limits.{array_limit};
 ghost use Rattle.hprof_text.specs.Image.{IsKnown, register_limit};
-ghost use Rattle.hprof_text.specs.Sizes.{names_size, opening_size, classes_size, dump_size, roots_size};
+ghost use Rattle.hprof_text.specs.Records.{class_at};
+ghost use Rattle.hprof_text.specs.Sizes.{names_size, opening_size, class_size, dump_size, root_size};
 
-use heap_class::{ClassNo, Classes, IdSize, ObjKind};
+use heap_class::{ClassNo, FirstClasses, IdSize, ObjKind};
 
 /// The bytes of a class's instances: at most 64 slots of 8 bytes.
 #[tactic(auto, using(crate::proofs::Bounds::instance_small))]
-pub fn instance_size(ids: IdSize, classes: &Classes, class: ClassNo) -> u32
+pub fn instance_size(ids: IdSize, classes: &FirstClasses<'_>, class: ClassNo) -> u32
     requires { class < length classes.now }
     ensures value { result ≡ instance_size ids classes.now class }
     ensures limit { result ≤ 512 }
@@ -20,7 +21,7 @@ pub fn instance_size(ids: IdSize, classes: &Classes, class: ClassNo) -> u32
 }
 
 /// The bytes of the UTF8 records.
-pub fn names_size(ids: IdSize, classes: &Classes) -> u64
+pub fn names_size(ids: IdSize, classes: &FirstClasses<'_>) -> u64
     ensures value { result ≡ names_size ids (name_table classes.now) }
     ensures limit { result ≤ 1347840 }
 {
@@ -33,32 +34,38 @@ pub fn names_size(ids: IdSize, classes: &Classes) -> u64
 
 /// The bytes of what stands before the heap dump.
 #[tactic(auto, unfolding(crate::specs::Sizes::opening_size))]
-pub fn opening_size(ids: IdSize, classes: &Classes) -> u64
+pub fn opening_size(ids: IdSize, classes: &FirstClasses<'_>) -> u64
     ensures value { result ≡ opening_size ids classes.now }
     ensures limit { result ≤ 1356340 }
 {
     52 + names_size(ids, classes) + (17 + 2 * ids.bytes()) * classes.len()
 }
 
-/// The bytes of the sub-records of the classes and their roots.
-pub fn classes_size(ids: IdSize, classes: &Classes) -> u64
-    ensures value { result ≡ classes_size ids classes.now }
-    ensures limit { result ≤ 167936 }
+/// The bytes of a class's sub-record.
+pub fn class_size(ids: IdSize, classes: &FirstClasses<'_>, class: ClassNo) -> u64
+    requires { class < length classes.now }
+    ensures value { result ≡ class_size ids (class_at classes.now class) }
+    ensures limit { result ≤ 647 }
+    ensures some { 0 < result }
 {
-    let count = classes.len();
-    let mut size = 0;
-    for class in 0..count {
-        size += 15 + 7 * ids.bytes() + (1 + ids.bytes()) * classes.field_count(class);
-    }
-    size + (1 + ids.bytes()) * count
+    15 + 7 * ids.bytes() + (1 + ids.bytes()) * classes.field_count(class)
+}
+
+/// The bytes of a root: of a class, or of a register that isn't null.
+pub fn root_size(ids: IdSize) -> u64
+    ensures value { result ≡ root_size ids }
+    ensures limit { result ≤ 9 }
+{
+    1 + ids.bytes()
 }
 
 /// The bytes of the sub-record of an object with so many words.
 #[tactic(auto, using(crate::proofs::Bounds::width_small), unfolding(crate::specs::Sizes::dump_size))]
-pub fn dump_size(ids: IdSize, classes: &Classes, kind: ObjKind, words: u64) -> u64
+pub fn dump_size(ids: IdSize, classes: &FirstClasses<'_>, kind: ObjKind, words: u64) -> u64
     requires known { IsKnown classes.now kind words }
     requires small { words ≤ array_limit }
     ensures value { result ≡ dump_size ids classes.now kind words }
+    ensures some { 0 < result }
     ensures limit { result ≤ 8217 }
 {
     match kind {
@@ -70,12 +77,11 @@ pub fn dump_size(ids: IdSize, classes: &Classes, kind: ObjKind, words: u64) -> u
     }
 }
 
-/// The bytes of the roots of the registers that aren't null.
-#[tactic(auto, unfolding(crate::specs::Sizes::roots_size))]
-pub fn roots_size(ids: IdSize, registers: &[u64]) -> u64
+/// Counts the registers that aren't null.
+pub fn not_null(registers: &[u64]) -> u64
     requires { length registers.now ≤ register_limit }
-    ensures value { result ≡ roots_size ids registers.now }
-    ensures limit { result ≤ 1152 }
+    ensures value { result ≡ count_by (λ x. not (x == 0)) registers.now }
+    ensures limit { result ≤ register_limit }
 {
-    (1 + ids.bytes()) * registers.iter().filter(|x| **x != 0).count() as u64
+    registers.iter().filter(|x| **x != 0).count() as u64
 }

@@ -1,15 +1,14 @@
-use Rattle.std.proofs.Common.{false, ◌∙◌, ap}
-use Rattle.hprof_text.proofs.Numbered.{piece_with, piece_first, first_at}
-use Rattle.hprof_text.proofs.Viewed.{opening_is}
+use Rattle.std.proofs.Common.{◌∙◌, ap₂}
+use Rattle.hprof_text.specs.Records.{opening_of}
+use Rattle.hprof_text.specs.Text.{opening_records}
+use Rattle.hprof_text.proofs.Numbered.{piece_first, first_at}
 use Rattle.hprof_text.proofs.pieces.start_from.Goals as goal
 
 pub returns-clause-piece : goal.returns-clause-piece
+unfolding opening_records
 returns-clause-piece g c =
     let v = c.args.view.now in
-    let ids = g.V.View.ids v in
-    let image = g.V.View.image v in
-    ap (λ b. piece_with b false) (c.in_ok-bytes.ensures.bytes ∙ opening_is ids image c.args.time c.body_size-body.result c.id_size.result c.classes.result.now c.classes.ensures.limits c.id_size.ensures c.classes.ensures.value c.body_size-body.ensures.value)
-    ∙ piece_first ids image c.args.time
+    piece_first (g.V.View.ids v) (g.V.View.image v) c.args.time c.in_ok-bytes.bytes (c.in_ok-bytes.ensures.bytes ∙ ap₂ (λ s cs. opening_of s cs c.args.time) c.id_size.ensures c.classes.ensures.value)
 
 pub returns-clause-next : goal.returns-clause-next
-returns-clause-next g c = first_at (g.V.View.places c.args.view.now) c.first.result c.cursor_to.result c.first.ensures c.cursor_to.ensures
+returns-clause-next g c = let v = c.args.view.now in first_at (g.V.View.ids v) (g.V.View.image v) (g.V.View.places v)

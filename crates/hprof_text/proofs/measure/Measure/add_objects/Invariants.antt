@@ -1,0 +1,16 @@
+use Rattle.std.proofs.Common.{◌≡◌, ◌≤◌, ◌-◌, ◌+◌, ◌*◌, length, map, take}
+use Rattle.std.specs.Prelude.{slice_get}
+use Rattle.hprof_text.specs.Measured.{IsMeasured}
+use Rattle.hprof_text.specs.Sizes.{object_size}
+use Rattle.hprof_text.proofs.measure.Measure.add_objects.Given as goal
+
+abbrev pub invariant-loop-here : goal.invariant-loop-here
+invariant-loop-here g l = record {
+  here : l.here ≡ slice_get (g.V.View.places l.view) l.passed;
+  added : IsMeasured (map (object_size (g.V.View.ids l.view) (g.V.View.image l.view).classes) (take l.passed (g.V.View.image l.view).objects)) l.initial.self l.self;
+  limit : l.self.closed + l.self.body ≤ l.initial.self.closed + l.initial.self.body + l.passed * 8226;
+  passed : l.passed ≤ length (g.V.View.places l.view);
+}
+
+abbrev pub decreases-loop-here : goal.decreases-loop-here
+decreases-loop-here g l = length (g.V.View.places l.view) - l.passed

@@ -1,0 +1,15 @@
+-- What has been added up.
+use Rattle.std.specs.Prelude.{◌≡◌, ℕ, ◌+◌, List, [], ◌++◌}
+use Rattle.hprof_text.specs.declared.measure.Measure.{Measure}
+use Rattle.hprof_text.specs.Sizes.{records_size_after}
+
+-- the bytes of all segments where sub-records of these sizes follow
+abbrev pub total_with : Measure → List ℕ → ℕ
+total_with m more = m.closed + records_size_after m.body more
+
+abbrev pub total : Measure → ℕ
+total m = total_with m []
+
+-- sub-records of these sizes were added
+abbrev pub IsMeasured : List ℕ → Measure → Measure → Type 0
+IsMeasured sizes old new = (more : List ℕ) → total_with new more ≡ total_with old (sizes ++ more)

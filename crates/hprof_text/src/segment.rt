@@ -1,0 +1,145 @@
+//! A segment as it is filled: each sub-record is offered to it, and is written if there is room.
+ghost use Rattle.std.specs.Prelude.{◌≡◌, ◌<◌, ◌≤◌, [], length, IfOk, IfErr};
+ghost use Rattle.heap_class.specs.Limits.{class_limit, array_limit};
+ghost use Rattle.heap_class.specs.declared.Refusal.TheVariants.{NoMemory};
+ghost use Rattle.hprof_text.specs.Filled.{takes, IsOffered};
+ghost use Rattle.hprof_text.specs.Image.{IsKnown};
+ghost use Rattle.hprof_text.specs.Records.{class_at};
+ghost use Rattle.hprof_text.specs.Text.{record_of, class_dump, root_sticky_class, root_unknown, dump_of};
+
+use crate::Bytes;
+use crate::buffer::Buffer;
+use crate::sizes::{class_size, dump_size, root_size};
+use heap_class::{ClassNo, FirstClasses, IdSize, ObjKind, Refusal};
+use std::alloc::Global;
+use std::marker::Model;
+
+/// The most bytes of a segment's body, unless it is a single sub-record.
+const SEGMENT_LIMIT: u64 = 4096;
+
+/// The bytes of a record's head.
+const HEAD: usize = 9;
+
+/// The most bytes of a sub-record: an array of 1,024 elements of 8 bytes.
+const LONGEST: usize = 8217;
+
+/// A segment that is being filled. Contracts see its body.
+#[derive(Drop)]
+pub struct Segment {
+    buffer: Buffer,
+}
+
+impl Model for Segment {
+    ghost use Rattle.std.specs.Prelude.{◌≡◌, ◌≤◌, ◌+◌, ℕ, List, length, drop};
+
+    ghost Value = { List ℕ };
+
+    ghost view = { λ s. drop 9 s.buffer.written };
+
+    ghost invariant = { λ s. (9 ≤ length s.buffer.written) × (length s.buffer.written ≤ 9 + 8217) × (s.buffer.limit ≡ 9 + 8217) };
+}
+
+impl Segment {
+    /// Reserves room for the longest segment. Fails with NoMemory if there is none.
+    pub fn new(alloc: Global) -> Result<Segment, Refusal>
+        ensures empty { IfOk result (λ s. s ≡ []) }
+        ensures refused { IfErr result (λ e. e ≡ NoMemory) }
+    {
+        match Buffer::new(alloc, HEAD + LONGEST) {
+            Ok(mut buffer) => {
+                buffer.record_head(0, 0);
+                Ok(Segment { buffer })
+            }
+            Err(_) => Err(Refusal::NoMemory),
+        }
+    }
+
+    /// The bytes of the body.
+    pub fn len(&self) -> u64
+        ensures value { result ≡ length self.now }
+        ensures limit { result ≤ 8217 }
+    {
+        (self.buffer.len() - HEAD) as u64
+    }
+
+    // Whether the body takes a sub-record of `size` bytes.
+    fn takes(&self, size: u64) -> bool
+        requires { size ≤ 8217 }
+        ensures { result ≡ takes self.now size }
+    {
+        let length = self.len();
+        length == 0 || length + size <= SEGMENT_LIMIT
+    }
+
+    /// Offers the sub-record of a class, and tells whether it was taken.
+    pub fn offer_class_dump(
+        &mut self,
+        ids: IdSize,
+        classes: &FirstClasses<'_>,
+        class: ClassNo,
+    ) -> bool
+        requires { class < length classes.now }
+        ensures { IsOffered (class_dump ids classes.now (class, class_at classes.now class)) self.old self.new result }
+    {
+        let _count = classes.len();
+        let taken = self.takes(class_size(ids, classes, class));
+        if taken {
+            self.buffer.class_dump(ids, classes, class);
+        }
+        taken
+    }
+
+    /// Offers the root of a class, and tells whether it was taken.
+    pub fn offer_class_root(&mut self, ids: IdSize, class: ClassNo) -> bool
+        requires { class < class_limit }
+        ensures { IsOffered (root_sticky_class ids (class, class_at [] class)) self.old self.new result }
+    {
+        let taken = self.takes(root_size(ids));
+        if taken {
+            self.buffer.root_sticky_class(ids, class);
+        }
+        taken
+    }
+
+    /// Offers the sub-record of an object, and tells whether it was taken.
+    pub fn offer_object(
+        &mut self,
+        ids: IdSize,
+        classes: &FirstClasses<'_>,
+        object: u64,
+        kind: ObjKind,
+        words: &[u64],
+    ) -> bool
+        requires known { IsKnown classes.now kind (length words.now) }
+        requires small { length words.now ≤ array_limit }
+        ensures { IsOffered (dump_of ids classes.now object kind words.now) self.old self.new result }
+    {
+        let taken = self.takes(dump_size(ids, classes, kind, words.len() as u64));
+        if taken {
+            self.buffer.object_dump(ids, classes, object, kind, words);
+        }
+        taken
+    }
+
+    /// Offers the root of a register that isn't null, and tells whether it was taken.
+    pub fn offer_register_root(&mut self, ids: IdSize, register: u64) -> bool
+        ensures { IsOffered (root_unknown ids register) self.old self.new result }
+    {
+        let taken = self.takes(root_size(ids));
+        if taken {
+            self.buffer.root_unknown(ids, register);
+        }
+        taken
+    }
+
+    /// Gives the record with this tag that has the body. Takes no memory.
+    pub fn into_record(self, tag: u8) -> Bytes
+        ensures value { result ≡ record_of tag self }
+        ensures limit { length result ≤ 8226 }
+    {
+        let length = self.len() as u32;
+        let Segment { mut buffer } = self;
+        buffer.set_head(tag, length);
+        Bytes::from_vec(buffer.into_vec())
+    }
+}

@@ -13,7 +13,7 @@ use Rattle.heap_trail.specs.declared.Reply.{Reply}
 use Rattle.heap_trail.specs.declared.Reply.TheVariants.{Answered, Place, Refused}
 use Rattle.heap_trail.specs.Limits.{last_place}
 use Rattle.heap_trail.specs.Trail.{Trail, opening_trail, stepped, rewind_refusal, rewound}
-use Rattle.heap_trail.specs.Pins.{Pins, no_pins}
+use Rattle.heap_trail.specs.Pins.{Pins, no_pins, Shown}
 
 -- how many steps can be undone at most and the size of ids in dumps, both fixed for a machine; the trail and the pins
 pub record Machine : Type 0 where
@@ -21,6 +21,10 @@ pub record Machine : Type 0 where
   pub ids : IdSize
   pub trail : Trail
   pub pins : Pins
+
+-- what a dump of the current state shows
+abbrev pub shown : Machine → Shown
+shown m = record { state = m.trail.current; ids = m.ids }
 
 unfoldable pub opening_machine : IdSize → ℕ → ℕ → ℕ → Machine
 opening_machine ids regions mutators keep = record { keep = keep; ids = ids; trail = opening_trail (opening_state regions mutators); pins = no_pins }

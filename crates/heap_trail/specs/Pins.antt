@@ -4,7 +4,8 @@ use Rattle.heap_class.specs.declared.IdSize.{IdSize}
 use Rattle.heap_region.specs.Regions.{live_objects, live_places, id_of}
 use Rattle.heap_world.specs.State.{HeapState}
 use Rattle.hprof_text.specs.declared.Cursor.{Cursor}
-use Rattle.hprof_text.specs.Image.{Image, DumpedObject, IsAt}
+use Rattle.hprof_text.specs.Cursors.{IsAt}
+use Rattle.hprof_text.specs.Image.{Image, DumpedObject}
 
 -- the live objects, by region and cell
 unfoldable pub dumped_objects : HeapState → List DumpedObject
@@ -18,9 +19,13 @@ pub record Shown : Type 0 where
   pub state : HeapState
   pub ids : IdSize
 
--- the cursor stands at a piece of the state's dump, or past all
-abbrev pub StandsIn : HeapState → Cursor → Type 0
-StandsIn w cursor = (i : ℕ) × IsAt (live_places w.regions) cursor i
+-- the cursor stands at piece i of the dump
+abbrev pub StandsAt : Shown → Cursor → ℕ → Type 0
+StandsAt v cursor i = IsAt v.ids (image_of v.state) (live_places v.state.regions) cursor i
+
+-- at a piece of the dump, or past all
+abbrev pub StandsIn : Shown → Cursor → Type 0
+StandsIn v cursor = (i : ℕ) × StandsAt v cursor i
 
 -- the number that the next pin gets; no pin is open yet
 pub record Pins : Type 0 where

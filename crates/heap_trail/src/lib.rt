@@ -12,13 +12,11 @@ ghost use Rattle.heap_world.specs.Legal.{IsLegal};
 ghost use Rattle.heap_trail.specs.declared.Action.{Action};
 ghost use Rattle.heap_trail.specs.declared.Action.TheVariants.{Step, Rewind};
 ghost use Rattle.heap_trail.specs.declared.Reply.TheVariants.{Answered, Place, Refused};
-ghost use Rattle.heap_trail.specs.Machine.{Machine, Refusing, acted, acted_under, MayStand, Mark, opening_machine};
+ghost use Rattle.heap_trail.specs.Machine.{Machine, Refusing, acted, acted_under, MayStand, Mark, opening_machine, shown};
 ghost use Rattle.heap_trail.specs.Laws.{DumpIsWhole, FindsSnapshot, IsTrail, LeadsBack, ReachesLive, SparesReached};
 ghost use Rattle.heap_trail.specs.Trail.{retained, rewound};
-ghost use Rattle.heap_trail.specs.Pins.{image_of, StandsIn};
-ghost use Rattle.heap_region.specs.Regions.{live_places};
-ghost use Rattle.hprof_text.specs.Image.{IsAt};
-ghost use Rattle.hprof_text.specs.Pieces.{piece_of};
+ghost use Rattle.heap_trail.specs.Pins.{image_of, StandsAt, StandsIn};
+ghost use Rattle.hprof_text.specs.Segments.{piece_of};
 
 mod examples;
 mod shown;
@@ -204,10 +202,10 @@ impl Machine {
 
     /// The piece of the current state's dump at the cursor, and the cursor after it. Refused NoMemory.
     pub fn piece(&self, cursor: Cursor, time: u64) -> Result<(Piece, Cursor), Refusal>
-        requires { StandsIn self.now.trail.current cursor }
-        ensures piece { IfOk result (λ p. (i : ℕ) → IsAt (live_places self.now.trail.current.regions) cursor i → p.0 ≡ piece_of self.now.ids (image_of self.now.trail.current) time i) }
-        ensures next { IfOk result (λ p. (i : ℕ) → IsAt (live_places self.now.trail.current.regions) cursor i → IsAt (live_places self.now.trail.current.regions) p.1 (i + 1)) }
-        ensures stands { IfOk result (λ p. StandsIn self.now.trail.current p.1) }
+        requires { StandsIn (shown self.now) cursor }
+        ensures piece { IfOk result (λ p. (i : ℕ) → StandsAt (shown self.now) cursor i → p.0 ≡ piece_of self.now.ids (image_of self.now.trail.current) time i) }
+        ensures next { IfOk result (λ p. (i : ℕ) → StandsAt (shown self.now) cursor i → StandsAt (shown self.now) p.1 (i + 1)) }
+        ensures stands { IfOk result (λ p. StandsIn (shown self.now) p.1) }
         ensures small { IfOk result (λ p. length p.0.bytes ≤ 2 ^ 24) }
         ensures refused { IfErr result (λ e. e ≡ NoMemory) }
     {

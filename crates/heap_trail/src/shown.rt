@@ -2,7 +2,7 @@
 ghost use Rattle.std.specs.Prelude.{◌≡◌};
 ghost use Rattle.heap_trail.specs.Pins.{Shown};
 
-use heap_class::{Classes, IdSize, ObjKind, ObjRef};
+use heap_class::{FirstClasses, IdSize, ObjKind, ObjRef};
 use heap_world::World;
 use hprof_text::View;
 use std::marker::Model;
@@ -42,10 +42,10 @@ impl<'a> View for WorldView<'a> {
 
     ghost places = { λ v. live_places v.state.regions };
 
-    fn classes(&self) -> &Classes {
+    fn classes(&self) -> FirstClasses<'_> {
         // Its contract says that the heap is legal, and so within a dump's limits.
         self.world.phase();
-        self.world.classes()
+        self.world.classes().all()
     }
 
     fn id_size(&self) -> IdSize {

@@ -11,17 +11,15 @@ use mathlib.Core.List.{IsPrefix}
 use Rattle.dump_pump.specs.Outlets.{Outgoing}
 use Rattle.heap_class.specs.declared.Refusal.{Refusal}
 use Rattle.heap_class.specs.declared.Refusal.TheVariants.{NoMemory}
-use Rattle.heap_region.specs.Regions.{live_places}
 use Rattle.heap_trail.specs.declared.Action.{Action}
 use Rattle.heap_trail.specs.declared.Reply.{Reply}
 use Rattle.heap_trail.specs.declared.Reply.TheVariants.{Refused}
-use Rattle.heap_trail.specs.Machine.{Machine, Mark, Fine, Refusing, MayStand, acted_under}
-use Rattle.heap_trail.specs.Pins.{image_of}
+use Rattle.heap_trail.specs.Machine.{Machine, Mark, Fine, Refusing, MayStand, acted_under, shown}
+use Rattle.heap_trail.specs.Pins.{image_of, StandsAt}
 use Rattle.hprof_text.specs.declared.Cursor.{Cursor}
 use Rattle.hprof_text.specs.declared.Cursor.TheVariants.{Start}
 use Rattle.hprof_text.specs.declared.Piece.{Piece}
-use Rattle.hprof_text.specs.Image.{IsAt}
-use Rattle.hprof_text.specs.Pieces.{piece_of}
+use Rattle.hprof_text.specs.Segments.{piece_of}
 use Rattle.session_text.specs.declared.Ended.{Ended}
 use Rattle.session_text.specs.declared.Ended.TheVariants.{Quit, Eof, CutLine, TooLong, ReadFault, TooManyReads, WriteFault, NoMemory as NoRoom}
 use Rattle.session_text.specs.declared.ReadEnd.{ReadEnd}
@@ -59,7 +57,7 @@ abbrev gives : Local → Cursor → ℕ → Result (Piece × Cursor) Refusal →
 gives c cursor time r = LocalGives c.machine cursor time r
 
 abbrev is_at : Machine → Cursor → ℕ → Type 0
-is_at m cursor i = IsAt (live_places m.trail.current.regions) cursor i
+is_at m cursor i = StandsAt (shown m) cursor i
 
 -- ---- dumps
 

@@ -24,7 +24,7 @@ Dumps gives c time (suc n) cursor so_far text =
 
 -- the most pieces of a dump
 abbrev pub piece_limit : ℕ
-piece_limit = 65538
+piece_limit = 66178
 
 -- a dump was written, or a beginning of one up to some piece
 abbrev pub WritesDump : {S : Type 0} → (S → Cursor → ℕ → Result (Piece × Cursor) Refusal → Type 0) → S → ℕ → Outgoing → Outgoing → Bool → Type 0

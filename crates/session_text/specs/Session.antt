@@ -10,7 +10,7 @@ use Rattle.heap_trail.specs.declared.Reply.TheVariants.{Refused}
 use Rattle.heap_trail.specs.Machine.{Machine, Mark, Fine, Refusing, MayStand, acted_under}
 use Rattle.heap_trail.specs.Pins.{image_of}
 use Rattle.hprof_text.specs.declared.Piece.{Piece}
-use Rattle.hprof_text.specs.Pieces.{piece_of}
+use Rattle.hprof_text.specs.Segments.{piece_of}
 use Rattle.session_text.specs.declared.Ended.{Ended}
 use Rattle.session_text.specs.declared.Ended.TheVariants.{Quit, Eof, CutLine, TooLong, ReadFault, TooManyReads, WriteFault, NoMemory as NoRoom}
 use Rattle.session_text.specs.declared.ReadEnd.{ReadEnd}

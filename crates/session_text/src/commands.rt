@@ -43,12 +43,13 @@ pub struct Local {
 
 impl Commands for Local {
     ghost use Rattle.std.specs.Prelude.{◌≡◌, refl};
+    ghost use Rattle.heap_trail.specs.Machine.{shown};
     ghost use Rattle.heap_trail.specs.Pins.{StandsIn};
     ghost use Rattle.session_text.specs.Local.{LocalActs, LocalGives};
 
     ghost acts = { λ c a r d. LocalActs c.machine a r d.machine };
 
-    ghost stands = { λ c cursor. StandsIn c.machine.trail.current cursor };
+    ghost stands = { λ c cursor. StandsIn (shown c.machine) cursor };
 
     ghost gives = { λ c cursor time r. LocalGives c.machine cursor time r };
 

@@ -32,7 +32,7 @@ pub const LINE_LIMIT: usize = 4096;
 pub const READ_LIMIT: u64 = 1_000_000;
 
 /// The most pieces of a dump.
-pub const PIECE_LIMIT: u32 = 65_538;
+pub const PIECE_LIMIT: u32 = 66_178;
 
 /// How a session ended.
 #[derive(Clone, Copy, PartialEq, Eq, Debug)]

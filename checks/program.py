@@ -28,16 +28,21 @@ def data_lines(piece):
     return b"".join(b"data %s\n" % piece[at : at + 64].hex().encode() for at in range(0, len(piece), 64))
 
 
+def record(tag, body):
+    """Returns a record of a dump, at time 0."""
+    return bytes([tag]) + bytes(4) + len(body).to_bytes(4, "big") + body
+
+
 def dump_of_longs(count):
-    """Returns the replies to a new array of so many longs, all 0, and to the dump of the heap that has just that."""
+    """Returns the replies to a new array of so many longs, all 0, and to the dump of the heap that has just that. The array
+    is so long that its root stands in a segment of its own."""
     array = bytes.fromhex("23 0000000010000000 00000001") + count.to_bytes(4, "big") + b"\x0b" + bytes(8 * count)
     root = bytes.fromhex("ff 0000000010000000")
-    start = b"JAVA PROFILE 1.0.2\0" + bytes.fromhex("00000008 00000000 00000000")
-    start += bytes.fromhex("05 00000000 0000000c 00000001 00000000 00000000 0c 00000000")
-    start += (len(array) + len(root)).to_bytes(4, "big")
-    total = len(start) + len(array) + len(root)
-    pieces = data_lines(start) + data_lines(array) + data_lines(root)
-    return b"ok object 0x10000000\n%sok dump %d\n" % (pieces, total)
+    opening = b"JAVA PROFILE 1.0.2\0" + bytes.fromhex("00000008 00000000 00000000")
+    opening += record(0x05, bytes.fromhex("00000001 00000000 00000000"))
+    pieces = [opening, record(0x1C, array), record(0x1C, root), record(0x2C, b"")]
+    lines = b"".join(data_lines(piece) for piece in pieces)
+    return b"ok object 0x10000000\n%sok dump %d\n" % (lines, sum(map(len, pieces)))
 
 
 def run(program, words, given=b"", **how):

@@ -80,8 +80,8 @@ fn begins(machine: &Machine) -> Result<bool, Refusal> {
 
 /// Whether a piece is the last, and what comes behind it.
 fn behind(machine: &Machine, cursor: Cursor) -> Result<(bool, Cursor), Refusal>
-    requires { StandsIn machine.now.trail.current cursor }
-    ensures { IfOk result (λ p. StandsIn machine.now.trail.current p.1) }
+    requires { StandsIn (shown machine.now) cursor }
+    ensures { IfOk result (λ p. StandsIn (shown machine.now) p.1) }
 {
     let (piece, next) = machine.piece(cursor, 0)?;
     Ok((piece.last, next))
@@ -89,11 +89,14 @@ fn behind(machine: &Machine, cursor: Cursor) -> Result<(bool, Cursor), Refusal>
 
 fn state_is_dumped_in(rt: &impl Abort, machine: &Machine) -> Result<(), Fail> {
     assert!(rt; begins(machine)?);
-    let (first, object) = behind(machine, Cursor::Start)?;
-    let (second, roots) = behind(machine, object)?;
-    let (third, past) = behind(machine, roots)?;
+    let (first, segment) = behind(machine, Cursor::Start)?;
+    let (second, end) = behind(machine, segment)?;
+    let (third, past) = behind(machine, end)?;
     assert_eq!(rt; (first, second, third), (false, false, true));
-    assert_eq!(rt; (roots, past), (Cursor::Roots, Cursor::Past));
+    assert_eq!(rt;
+        (segment, end, past),
+        (Cursor::ClassDump(0), Cursor::End, Cursor::Past)
+    );
     Ok(())
 }
 

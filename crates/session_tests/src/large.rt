@@ -1,5 +1,6 @@
 //! Sessions at size: a million reads, a million bytes, and a dump of several pages.
 use crate::dumps::{DUMP_OF_ONE_POINT, ONE_POINT};
+use crate::segments::dump_of_longs;
 use crate::sessions::{machine, play};
 use crate::streams::{Chunks, Repeated, Sips};
 use dump_pump::WriteOutlet;
@@ -52,33 +53,6 @@ fn a_million_bytes(rt: HostRuntime) -> Result<(), Fail> {
         )
     );
     Ok(())
-}
-
-/// Appends a text so many times.
-fn add_times(text: &mut Vec<u8>, part: &[u8], times: usize) -> Result<(), Fail> {
-    for _ in 0..times {
-        text.extend_from_slice(part)?;
-    }
-    Ok(())
-}
-
-/// The replies to a new array of 1,024 longs and to a dump: the opening records, the array's record, 8,192 of its 8,210 bytes
-/// zeros, and its root.
-fn dump_of_longs(alloc: Global) -> Result<Vec<u8>, Fail> {
-    let mut text = Vec::new(alloc);
-    text.extend_from_slice(b"ok object 0x10000000\ndata 4a4156412050524f46494c4520312e302e3200")?;
-    text.extend_from_slice(b"000000080000000000000000")?;
-    text.extend_from_slice(b"05000000000000000c000000010000000000000000")?;
-    text.extend_from_slice(b"0c000000000000201b\n")?;
-    text.extend_from_slice(b"data 2300000000100000000000000100000400")?;
-    text.extend_from_slice(b"0b")?;
-    for _ in 0..128 {
-        add_times(&mut text, b"00", 46)?;
-        text.extend_from_slice(b"\ndata ")?;
-        add_times(&mut text, b"00", 18)?;
-    }
-    text.extend_from_slice(b"\ndata ff0000000010000000\nok dump 8280\n")?;
-    Ok(text)
 }
 
 #[test]

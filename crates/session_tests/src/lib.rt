@@ -8,6 +8,8 @@ mod cycles;
 #[cfg(test)]
 mod dumps;
 #[cfg(test)]
+mod expected;
+#[cfg(test)]
 mod faults;
 #[cfg(test)]
 mod four_bytes;
@@ -21,6 +23,8 @@ mod lines;
 mod mutators;
 #[cfg(test)]
 mod rewinds;
+#[cfg(test)]
+mod segments;
 #[cfg(test)]
 mod sessions;
 #[cfg(test)]

@@ -45,7 +45,8 @@ const FOUR_BYTE_OWN_THEN_SUPER: &str = "\
     0001000000020820001000080000000100100000000000000000000000000000000000000000000000000003000000000001\
     0000000409050010000005001000082110000000000000010010000800000003010209ff10000000";
 
-const BOOLEANS: &str = "1c000000000000001e230000000010000000000000010000000304000100ff0000000010000000";
+const BOOLEANS: &str =
+    "1c000000000000001e230000000010000000000000010000000304000100ff0000000010000000";
 
 const FOUR_BYTE_BOOLEANS: &str = "1c00000000000000162310000000000000010000000304000100ff10000000";
 
@@ -185,8 +186,7 @@ fn has_segment(alloc: Global, view: &ListView, size: u64, segment: &str) -> Resu
 // Whether a dump of nothing has these opening records, the end, and nothing more.
 fn has_nothing(alloc: Global, ids: IdSize, opening: &str) -> Result<bool, Fail> {
     let classes = Classes::new(alloc);
-    let view =
-        ListView::new(ids, classes, Vec::new(alloc), Vec::new(alloc)).ok_or("no view")?;
+    let view = ListView::new(ids, classes, Vec::new(alloc), Vec::new(alloc)).ok_or("no view")?;
     let pieces = [(opening, false), (END, true), ("", true)];
     Ok(text_len(&view) == 61 && has_pieces(alloc, &view, &pieces)?)
 }

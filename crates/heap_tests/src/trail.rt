@@ -1,5 +1,6 @@
 //! Steps of the machine that are undone, and the dump of its state.
 ghost use Rattle.std.specs.Prelude.{IfOk};
+ghost use Rattle.heap_trail.specs.Machine.{shown};
 ghost use Rattle.heap_trail.specs.Pins.{StandsIn};
 
 use heap_class::Refusal;

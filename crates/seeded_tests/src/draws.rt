@@ -49,7 +49,7 @@ fn mostly_small(random: &mut Pcg32, limit: u32) -> u64
 }
 
 /// One of the kinds.
-fn any_kind(random: &mut Pcg32) -> Kind {
+pub fn any_kind(random: &mut Pcg32) -> Kind {
     KINDS
         .get(below(random, 9) as usize)
         .copied()
@@ -66,7 +66,7 @@ fn any_name(alloc: Global, random: &mut Pcg32) -> Result<Name, AllocError> {
 }
 
 /// Up to so many fields.
-fn any_fields(alloc: Global, random: &mut Pcg32, most: u32) -> Result<Fields, AllocError>
+pub fn any_fields(alloc: Global, random: &mut Pcg32, most: u32) -> Result<Fields, AllocError>
     requires { 0 < most }
 {
     let mut fields = Vec::new(alloc);
@@ -93,7 +93,7 @@ fn any_class(alloc: Global, random: &mut Pcg32) -> Result<Event, AllocError> {
 }
 
 /// A length, most often a small one, at times one that is too large.
-fn any_length(random: &mut Pcg32) -> u64 {
+pub fn any_length(random: &mut Pcg32) -> u64 {
     match below(random, 8) {
         0 => below(random, 1026),
         1 => below(random, 300),

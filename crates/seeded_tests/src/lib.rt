@@ -4,6 +4,12 @@
 #[cfg(test)]
 mod draws;
 #[cfg(test)]
+mod dump_reader;
+#[cfg(test)]
+mod dumped;
+#[cfg(test)]
+mod dumps;
+#[cfg(test)]
 mod machine;
 #[cfg(test)]
 mod observed;

@@ -126,7 +126,8 @@ ok dump 307\n\
 
 #[test]
 fn four_byte_dump_of_inherited_fields(rt: HostRuntime) -> Result<(), Fail> {
-    let lines = "class A - a:byte\nclass B 0 b:short\nnew 0 0 1\nput 0 0 0 258\nput 0 0 1 9\ndump -\n";
+    let lines =
+        "class A - a:byte\nclass B 0 b:short\nnew 0 0 1\nput 0 0 0 258\nput 0 0 1 9\ndump -\n";
     answers_in_four_bytes(rt.alloc(), lines, DUMP_OF_INHERITED_FIELDS)
 }
 

@@ -24,7 +24,9 @@ const OPENING: &[u8] =
 
 /// The id of the first object of a region.
 fn first_in(region: usize) -> u64 {
-    (region as u64).wrapping_mul(0x2000).wrapping_add(0x1000_0000)
+    (region as u64)
+        .wrapping_mul(0x2000)
+        .wrapping_add(0x1000_0000)
 }
 
 /// Appends the digits of arrays of bytes of these lengths, which begin the regions from one on.
@@ -62,7 +64,14 @@ pub fn dump_of_longs(alloc: Global) -> Result<Vec<u8>, Fail> {
     let (mut text, mut array, mut root) = (Vec::new(alloc), Vec::new(alloc), Vec::new(alloc));
     add_replies(alloc, &mut text, 1)?;
     add_piece(&mut text, OPENING)?;
-    add_zeros(alloc, &mut array, first_in(0), b"0b", b"0000000000000000", 1024)?;
+    add_zeros(
+        alloc,
+        &mut array,
+        first_in(0),
+        b"0b",
+        b"0000000000000000",
+        1024,
+    )?;
     add_segment(alloc, &mut text, array.as_slice())?;
     add_roots(alloc, &mut root, 1)?;
     add_segment(alloc, &mut text, root.as_slice())?;
@@ -102,7 +111,8 @@ fn segment_of_one_large_array(rt: HostRuntime) -> Result<(), Fail> {
 
 #[test]
 fn segment_exactly_full(rt: HostRuntime) -> Result<(), Fail> {
-    let lines = b"newprim 0 0 byte 1006\nnewprim 0 1 byte 1006\nnewprim 0 2 byte 1006\nnewprim 0 3 byte 1006\ndump -\n";
+    let lines =
+        b"newprim 0 0 byte 1006\nnewprim 0 1 byte 1006\nnewprim 0 2 byte 1006\nnewprim 0 3 byte 1006\ndump -\n";
     let replies = dump_of_byte_arrays(rt.alloc(), &[1006; 4], &[], b"ok dump 4211\n")?;
     assert!(rt; is_answered(rt.alloc(), IdSize::Eight, lines, replies.as_slice())?);
     Ok(())
@@ -110,7 +120,8 @@ fn segment_exactly_full(rt: HostRuntime) -> Result<(), Fail> {
 
 #[test]
 fn segment_one_byte_more(rt: HostRuntime) -> Result<(), Fail> {
-    let lines = b"newprim 0 0 byte 1006\nnewprim 0 1 byte 1006\nnewprim 0 2 byte 1006\nnewprim 0 3 byte 1007\ndump -\n";
+    let lines =
+        b"newprim 0 0 byte 1006\nnewprim 0 1 byte 1006\nnewprim 0 2 byte 1006\nnewprim 0 3 byte 1007\ndump -\n";
     let replies = dump_of_byte_arrays(rt.alloc(), &[1006; 3], &[1007], b"ok dump 4212\n")?;
     assert!(rt; is_answered(rt.alloc(), IdSize::Eight, lines, replies.as_slice())?);
     Ok(())
@@ -202,7 +213,9 @@ const POINTS: Points<'static> = Points {
     opening: b"4a4156412050524f46494c4520312e302e320000000008000000000000000001000000000000000d0000000000000001506f696e7401000000000000000900000000000000027801000000000000000900000000000000037902000000000000001800000001000000000010000000000001000000000000000105000000000000000c000000010000000000000000",
     class: b"200000000000100000000000010000000000000000000000000000000000000000000000000000000000000000000000000000000000000000000000000000000800000000000200000000000000020a00000000000000030a050000000000100000",
     values: b"000000010000000000100000000000080000000000000000",
-    counts: &[121, 124, 124, 124, 124, 124, 124, 124, 124, 124, 124, 124, 124, 124, 124, 124, 19],
+    counts: &[
+        121, 124, 124, 124, 124, 124, 124, 124, 124, 124, 124, 124, 124, 124, 124, 124, 19,
+    ],
     total: b"ok dump 66412\n",
 };
 
@@ -211,7 +224,9 @@ const FOUR_BYTE_POINTS: Points<'static> = Points {
     opening: b"4a4156412050524f46494c4520312e302e320000000004000000000000000001000000000000000900000001506f696e74010000000000000005000000027801000000000000000500000003790200000000000000100000000100100000000000010000000105000000000000000c000000010000000000000000",
     class: b"20001000000000000100000000000000000000000000000000000000000000000000000008000000000002000000020a000000030a0500100000",
     values: b"0000000100100000000000080000000000000000",
-    counts: &[161, 163, 163, 163, 163, 163, 163, 163, 163, 163, 163, 163, 46],
+    counts: &[
+        161, 163, 163, 163, 163, 163, 163, 163, 163, 163, 163, 163, 46,
+    ],
     total: b"ok dump 50312\n",
 };
 

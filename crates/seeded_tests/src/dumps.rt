@@ -1,0 +1,232 @@
+//! Dumps of seeded heaps, read by a reader of the format, beside the plain heap.
+ghost use Rattle.std.specs.Prelude.{◌<◌, IfOk, IfSome};
+ghost use Rattle.heap_trail.specs.Machine.{shown};
+ghost use Rattle.heap_trail.specs.Pins.{StandsIn};
+
+use crate::draws::{any_event, any_fields, any_kind, any_length, below};
+use crate::dump_reader::{ReadSegment, dump_from};
+use crate::dumped::{are_cut, tells};
+use crate::plain::PlainHeap;
+use heap_class::{IdSize, Name};
+use heap_step::Event;
+use heap_trail::Machine;
+use heap_world::Config;
+use hprof_text::Cursor;
+use rand_pcg::Pcg32;
+use std::alloc::{AllocError, Global};
+use std::test::Fail;
+
+/// The time of each dump.
+const TIME: u64 = 0x0102_0304_0506_0708;
+
+// ---- heaps by lot
+
+/// Two machines, whose dumps have ids of eight and of four bytes, and the plain heap beside them.
+#[derive(Drop)]
+struct Heaps {
+    eight: Machine,
+    four: Machine,
+    plain: PlainHeap,
+}
+
+/// A machine of six regions and all mutators.
+fn machine(alloc: Global, ids: IdSize) -> Result<Machine, Fail> {
+    let config = Config::new(6, 16, 1).ok_or("settings out of range")?;
+    Ok(Machine::new(alloc, config.with_ids(ids))?)
+}
+
+/// A class with a name of its own and any fields, over a class or over none; now and then one of arrays.
+fn numbered_class(alloc: Global, random: &mut Pcg32, number: u64) -> Result<Event, AllocError>
+    requires { number < 100 }
+{
+    let digits = [b'c', b'0' + (number / 10) as u8, b'0' + (number % 10) as u8];
+    let name = Name::new(alloc, digits.as_slice())?;
+    let sup = match below(random, 3) {
+        0 => Some(below(random, 100)),
+        _ => None,
+    };
+    match below(random, 4) {
+        0 => Ok(Event::ArrayClass { name }),
+        _ => Ok(Event::Class {
+            name,
+            sup,
+            fields: any_fields(alloc, random, 6)?,
+        }),
+    }
+}
+
+/// A new object in a register.
+fn any_object(random: &mut Pcg32, m: u64, r: u64) -> Event {
+    let class = below(random, 12);
+    match below(random, 16) {
+        0 => Event::NewPrim {
+            m,
+            r,
+            kind: any_kind(random),
+            len: any_length(random),
+        },
+        1 | 2 => Event::NewArray {
+            m,
+            r,
+            class,
+            len: any_length(random),
+        },
+        _ => Event::New { m, r, class },
+    }
+}
+
+impl Heaps {
+    /// Heaps at place 0.
+    fn new(alloc: Global) -> Result<Heaps, Fail> {
+        let eight = machine(alloc, IdSize::Eight)?;
+        let four = machine(alloc, IdSize::Four)?;
+        let plain = PlainHeap::new(alloc, 6, 16)?;
+        Ok(Heaps { eight, four, plain })
+    }
+
+    /// Fails unless all take a step alike.
+    fn step(&mut self, alloc: Global, event: &Event) -> Result<(), Fail> {
+        let expected = self.plain.apply(alloc, event)?;
+        if self.eight.step(event) == expected && self.four.step(event) == expected {
+            return Ok(());
+        }
+        Err("a step isn't taken alike".into())
+    }
+
+    /// Defines up to 100 classes.
+    fn define(&mut self, alloc: Global, random: &mut Pcg32) -> Result<(), Fail> {
+        for number in 0..below(random, 100) {
+            let event = numbered_class(alloc, random, number)?;
+            self.step(alloc, &event)?;
+        }
+        Ok(())
+    }
+
+    /// Makes a new object in each register of so many mutators.
+    fn fill(&mut self, alloc: Global, random: &mut Pcg32, mutators: u64) -> Result<(), Fail> {
+        for register in 0..mutators.saturating_mul(8) {
+            let event = any_object(random, register / 8, register % 8);
+            self.step(alloc, &event)?;
+        }
+        Ok(())
+    }
+
+    /// Takes so many seeded steps.
+    fn play(&mut self, alloc: Global, random: &mut Pcg32, steps: u64) -> Result<(), Fail> {
+        for _ in 0..steps {
+            let event = any_event(alloc, random, &self.plain)?;
+            self.step(alloc, &event)?;
+        }
+        Ok(())
+    }
+}
+
+// ---- dumps
+
+/// The text of a dump, and how many bytes each of its pieces has.
+#[derive(Drop)]
+struct Text {
+    bytes: Vec<u8>,
+    sizes: Vec<usize>,
+}
+
+/// Adds the piece at a cursor. Gives the next cursor; None behind the last piece.
+fn add_piece(text: &mut Text, machine: &Machine, cursor: Cursor) -> Result<Option<Cursor>, Fail>
+    requires { StandsIn (shown machine.now) cursor }
+    ensures { IfOk result (λ r. IfSome r (λ next. StandsIn (shown machine.now) next)) }
+{
+    let (piece, next) = machine.piece(cursor, TIME)?;
+    let bytes = piece.bytes.as_slice();
+    text.bytes.extend_from_slice(bytes)?;
+    text.sizes.push(bytes.len())?;
+    if piece.last { Ok(None) } else { Ok(Some(next)) }
+}
+
+/// The dump of a machine.
+fn text_of(alloc: Global, machine: &Machine) -> Result<Text, Fail> {
+    let mut text = Text {
+        bytes: Vec::new(alloc),
+        sizes: Vec::new(alloc),
+    };
+    let mut cursor = Cursor::Start;
+    for _ in 0..10_000 {
+        match add_piece(&mut text, machine, cursor)? {
+            Some(next) => cursor = next,
+            None => return Ok(text),
+        }
+    }
+    Err("no piece is the last".into())
+}
+
+/// Whether the pieces are the opening records, the segments one by one, and the end.
+fn are_pieces(sizes: &[usize], segments: &[ReadSegment]) -> bool {
+    for (index, segment) in segments.iter().enumerate() {
+        if sizes.get(index.wrapping_add(1)) != Some(&segment.body.wrapping_add(9)) {
+            return false;
+        }
+    }
+    sizes.len() == segments.len().wrapping_add(2) && sizes.last() == Some(&9)
+}
+
+/// Fails unless the dump of a machine with ids of so many bytes tells the plain heap. Adds the tags with which its segments
+/// begin, but for the first.
+fn read_back(
+    alloc: Global,
+    machine: &Machine,
+    ids: usize,
+    heap: &PlainHeap,
+    tags: &mut Vec<u64>,
+) -> Result<(), Fail> {
+    let text = text_of(alloc, machine)?;
+    let dump = dump_from(alloc, text.bytes.as_slice()).ok_or("it is no dump")?;
+    if dump.ids != ids || dump.time != TIME || !tells(alloc, &dump, heap)? {
+        return Err("it tells another heap".into());
+    }
+    let segments = dump.segments.as_slice();
+    if !are_cut(segments) || !are_pieces(text.sizes.as_slice(), segments) {
+        return Err("the segments are cut otherwise".into());
+    }
+    for segment in segments.iter().skip(1) {
+        tags.push(segment.tag)?;
+    }
+    Ok(())
+}
+
+impl Heaps {
+    /// Fails unless the dumps of both machines tell the plain heap.
+    fn read_back(&self, alloc: Global, tags: &mut Vec<u64>) -> Result<(), Fail> {
+        read_back(alloc, &self.eight, 8, &self.plain, tags)?;
+        read_back(alloc, &self.four, 4, &self.plain, tags)
+    }
+}
+
+/// Reads back the dumps of a seeded heap: after its classes, with all registers full, and after seeded steps.
+fn played(alloc: Global, seed: u64, tags: &mut Vec<u64>) -> Result<(), Fail> {
+    let mut random = Pcg32::new(seed, 2);
+    let mut heaps = Heaps::new(alloc)?;
+    heaps.define(alloc, &mut random)?;
+    heaps.read_back(alloc, tags)?;
+    for _ in 0..4 {
+        heaps.fill(alloc, &mut random, 16)?;
+        heaps.read_back(alloc, tags)?;
+        heaps.play(alloc, &mut random, 100)?;
+        heaps.read_back(alloc, tags)?;
+    }
+    Ok(())
+}
+
+/// The first sub-record with which no segment but a first one began, in the dumps of so many seeded heaps.
+fn lacking(alloc: Global, seeds: u64) -> Result<Option<u64>, Fail> {
+    let mut tags = Vec::new(alloc);
+    for seed in 0..seeds {
+        played(alloc, seed, &mut tags)?;
+    }
+    let wanted = [0x20, 0x05, 0x21, 0x22, 0x23, 0xff];
+    Ok(wanted.into_iter().find(|tag| !tags.contains(tag)))
+}
+
+#[test]
+fn dumps_are_read_back(rt: HostRuntime) -> Result<(), Fail> {
+    assert_eq!(rt; lacking(rt.alloc(), 12)?, None);
+    Ok(())
+}

@@ -13,7 +13,7 @@ TOP = pathlib.Path(__file__).resolve().parent.parent
 EXAMPLE = (TOP / "examples/point.session").read_bytes()
 EXAMPLE_REPLIES = (TOP / "crates/heapdbg/stdout").read_bytes()
 OUT_OF_RANGE = b"""error: a value is in digits alone: --regions 1 to 256, --mutators 1 to 16, \
---keep 1 to 65536, --time below 2^64
+--keep 1 to 65536, --time below 2^64, --ids 4 or 8
 
 For more information, try 'heapdbg run --help'.
 """
@@ -33,14 +33,16 @@ def record(tag, body):
     return bytes([tag]) + bytes(4) + len(body).to_bytes(4, "big") + body
 
 
-def dump_of_longs(count):
-    """Returns the replies to a new array of so many longs, all 0, and to the dump of the heap that has just that. The array
-    is so long that its root stands in a segment of its own."""
-    array = bytes.fromhex("23 0000000010000000 00000001") + count.to_bytes(4, "big") + b"\x0b" + bytes(8 * count)
-    root = bytes.fromhex("ff 0000000010000000")
-    opening = b"JAVA PROFILE 1.0.2\0" + bytes.fromhex("00000008 00000000 00000000")
+def dump_of_longs(count, size=8):
+    """Returns the replies to a new array of so many longs, all 0, and to the dump of that heap with ids of `size` bytes.
+    The array and its root stand in one segment if they have at most 4,096 bytes, and else in one each."""
+    object_id = 0x10000000.to_bytes(size, "big")
+    array = b"\x23" + object_id + bytes.fromhex("00000001") + count.to_bytes(4, "big") + b"\x0b" + bytes(8 * count)
+    root = b"\xff" + object_id
+    opening = b"JAVA PROFILE 1.0.2\0" + size.to_bytes(4, "big") + bytes.fromhex("00000000 00000000")
     opening += record(0x05, bytes.fromhex("00000001 00000000 00000000"))
-    pieces = [opening, record(0x1C, array), record(0x1C, root), record(0x2C, b"")]
+    bodies = [array + root] if len(array + root) <= 4096 else [array, root]
+    pieces = [opening, *(record(0x1C, body) for body in bodies), record(0x2C, b"")]
     lines = b"".join(data_lines(piece) for piece in pieces)
     return b"ok object 0x10000000\n%sok dump %d\n" % (lines, sum(map(len, pieces)))
 
@@ -72,6 +74,9 @@ def sessions(program):
     yield "a million bytes", run(program, ["run"], b"clear 0 0\n" * many), (0, b"ok\n" * many, b"")
     dumped = run(program, ["run"], b"newprim 0 0 long 1024\ndump -\n")
     yield "a dump of several pages", dumped, (0, dump_of_longs(1024), b"")
+    for words, size in ((["--ids", "4"], 4), (["--ids=4"], 4), (["--ids", "8"], 8)):
+        ran = run(program, ["run", *words], b"newprim 0 0 long 1\ndump -\n")
+        yield " ".join(words), ran, (0, dump_of_longs(1, size), b"")
     yield "nothing after end", run(program, ["run"], b"clear 0 0\nend\nclear"), (0, b"ok\n", b"")
     yield "a cut line", run(program, ["run"], b"clear 0 0\nclear 0"), (1, b"ok\nbad cut\n", b"heapdbg: cut\n")
     yield "a line of 4,096 bytes", run(program, ["run"], b"a" * 4096 + b"\n"), (0, b"bad command\n", b"")
@@ -95,7 +100,8 @@ def faults(program):
 
 def bad_lines(program):
     """Yields bad command lines as (name, what happened, what must happen). Only the first line of a text of clap's is looked at."""
-    for words in (["--regions", "0"], ["--regions=257"], ["--mutators", "17"], ["--keep", "0"], ["--time", "1x"]):
+    values = (["--regions", "0"], ["--regions=257"], ["--mutators", "17"], ["--keep", "0"], ["--time", "1x"], ["--ids", "5"])
+    for words in values:
         yield " ".join(words), run(program, ["run", *words], EXAMPLE), (2, b"", OUT_OF_RANGE)
     for words in (["\udcff"], ["run", "--regions", "\udcff"]):
         yield "a word that is not UTF-8", run(program, words, EXAMPLE), (2, b"", NOT_UTF8)

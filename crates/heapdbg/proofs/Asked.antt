@@ -9,8 +9,10 @@ use Rattle.std.proofs.lemmas.Bool.{leb-true, ltb-true}
 use Rattle.clap.specs.Simple.{Shape, argument_words, built, entered, label_of, names_of, rows_at}
 use Rattle.clap.specs.Walk.{answers_to, stop_after}
 use Rattle.clap.specs.Words.{Row, Text, first_of, subcommand_of}
+use Rattle.heap_class.specs.declared.IdSize.{IdSize}
+use Rattle.heap_class.specs.declared.IdSize.TheVariants.{Eight}
 use Rattle.heap_world.specs.Limits.{AreSettings}
-use Rattle.heapdbg.specs.CommandLine.{HasDefaults, heapdbg_line, is_given, number_in, number_or, settings_in, settings_under, settings_with, task_named, value_of}
+use Rattle.heapdbg.specs.CommandLine.{HasDefaults, heapdbg_line, id_size_in, id_size_of, is_given, number_in, number_or, settings_in, settings_under, settings_with, task_named, value_of}
 use Rattle.heapdbg.specs.declared.settings.Settings.{Settings}
 use Rattle.heapdbg.specs.declared.settings.Task.{Task}
 use Rattle.heapdbg.proofs.Words.{IsPlainRules, IsTailFree, both_true, found_passes, is_plain_rule, no_value, right_false, tail_free}
@@ -62,14 +64,16 @@ pub record AreRead (rows : List Row) (s : Settings) : Type 0 where
   pub mutators : value_of (codes "mutators") 2 1 16 rows ≡ Some s.mutators
   pub keep : value_of (codes "keep") 1024 1 65536 rows ≡ Some s.keep
   pub time : value_of (codes "time") 0 0 18446744073709551615 rows ≡ Some s.time
+  pub ids : id_size_in rows ≡ Some s.ids
 
-all_there : (task : Task) (r m k t : Option ℕ) (s : Settings) → settings_with task r m k t ≡ Some s
-    → (r ≡ Some s.regions) × (m ≡ Some s.mutators) × (k ≡ Some s.keep) × (t ≡ Some s.time)
-all_there task None m k t s e = cc
-all_there task (Some r) None k t s e = cc
-all_there task (Some r) (Some m) None t s e = cc
-all_there task (Some r) (Some m) (Some k) None s e = cc
-all_there task (Some r) (Some m) (Some k) (Some t) s e = (cc, cc, cc, cc)
+all_there : (task : Task) (r m k t : Option ℕ) (i : Option IdSize) (s : Settings) → settings_with task r m k t i ≡ Some s
+    → (r ≡ Some s.regions) × (m ≡ Some s.mutators) × (k ≡ Some s.keep) × (t ≡ Some s.time) × (i ≡ Some s.ids)
+all_there task None m k t i s e = cc
+all_there task (Some r) None k t i s e = cc
+all_there task (Some r) (Some m) None t i s e = cc
+all_there task (Some r) (Some m) (Some k) None i s e = cc
+all_there task (Some r) (Some m) (Some k) (Some t) None s e = cc
+all_there task (Some r) (Some m) (Some k) (Some t) (Some i) s e = (cc, cc, cc, cc, cc)
 
 pub record AreAsked (o : Option (Text × List Row)) (s : Settings) : Type 0 where
   pub found : Text × List Row
@@ -85,12 +89,12 @@ are_asked (Some f) s e = go (task_named f.0) refl e
     go None h found = cc
     go (Some task) h found =
         let there = all_there task (value_of (codes "regions") 16 1 256 f.1) (value_of (codes "mutators") 2 1 16 f.1)
-        (value_of (codes "keep") 1024 1 65536 f.1) (value_of (codes "time") 0 0 18446744073709551615 f.1) s found in
+        (value_of (codes "keep") 1024 1 65536 f.1) (value_of (codes "time") 0 0 18446744073709551615 f.1) (id_size_in f.1) s found in
         record {
           found = f;
           is = refl;
           named = rw h refl;
-          read = record { regions = there.0; mutators = there.1; keep = there.2; time = there.3 };
+          read = record { regions = there.0; mutators = there.1; keep = there.2; time = there.3; ids = there.4 };
         }
 
 pub limits_of : (o : Option (Text × List Row)) (s : Settings) → option_and_then settings_under o ≡ Some s → AreSettings s.regions s.mutators s.keep
@@ -155,6 +159,21 @@ keep_free = refl
 time_free : list_all (is_free_command (codes "time")) (built heapdbg_line).subs ≡ true
 time_free = refl
 
+ids_free : list_all (is_free_command (codes "ids")) (built heapdbg_line).subs ≡ true
+ids_free = refl
+
+-- identifiers of which no word tells the size have 8 bytes
+default_size : (words : List Text) (f : Text × List Row) (x : IdSize) → subcommand_of heapdbg_line words ≡ Some f → is_some (task_named f.0) ≡ true
+    → id_size_in f.1 ≡ Some x → is_given (codes "ids") words ≡ false → x ≡ Eight
+default_size words f x is named read other = go (value_of (codes "ids") 8 4 8 f.1) refl read
+  where
+    go : (o : Option ℕ) → value_of (codes "ids") 8 4 8 f.1 ≡ o → option_and_then id_size_of o ≡ Some x → x ≡ Eight
+    go None e sized = cc
+    go (Some bytes) e sized =
+        let eight : bytes ≡ 8 = default_of (codes "ids") 8 4 8 words f bytes ids_free is named e other in
+        let same : Some Eight ≡ Some x = subst (λ n. id_size_of n ≡ Some x) eight sized in
+        cc
+
 pub defaults_of : (words : List Text) (s : Settings) → option_and_then settings_under (subcommand_of heapdbg_line words) ≡ Some s → HasDefaults words s
 defaults_of words s e =
     let asked = are_asked (subcommand_of heapdbg_line words) s e in
@@ -163,4 +182,5 @@ defaults_of words s e =
       mutators = default_of (codes "mutators") 2 1 16 words asked.found s.mutators mutators_free asked.is asked.named asked.read.mutators;
       keep = default_of (codes "keep") 1024 1 65536 words asked.found s.keep keep_free asked.is asked.named asked.read.keep;
       time = default_of (codes "time") 0 0 18446744073709551615 words asked.found s.time time_free asked.is asked.named asked.read.time;
+      ids = default_size words asked.found s.ids asked.is asked.named asked.read.ids;
     }

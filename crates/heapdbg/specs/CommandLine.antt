@@ -10,6 +10,8 @@ use Rattle.std.specs.Str.{bytes_eq}
 use Rattle.std.specs.Str.Parse.{digits_value}
 use Rattle.clap.specs.Words.{App, Row, Rule, Text, fault_of, first_of, new_app, new_rule, subcommand_of, with_rule, with_subcommand}
 use Rattle.clap.specs.declared.builder.ArgAction.TheVariants.{Set}
+use Rattle.heap_class.specs.declared.IdSize.{IdSize}
+use Rattle.heap_class.specs.declared.IdSize.TheVariants.{Four, Eight}
 use Rattle.heapdbg.specs.declared.command_line.TheConstants.{OUT_OF_RANGE}
 use Rattle.heapdbg.specs.declared.settings.Task.{Task}
 use Rattle.heapdbg.specs.declared.settings.Task.TheVariants.{Run}
@@ -25,14 +27,16 @@ texts = map (λ word. word.now)
 abbrev pub value_option : Text → Rule
 value_option name = record (new_rule name) { long = Some name; action = Some Set; value_names = 1 }
 
--- the command `run` with its four options
-abbrev pub run_line : App
-run_line =
+-- the command `run` with the options of the heap and its history
+abbrev pub heap_line : App
+heap_line =
     with_rule
-    (with_rule
     (with_rule (with_rule (new_app (codes "run")) (value_option (codes "regions"))) (value_option (codes "mutators")))
-    (value_option (codes "keep")))
-    (value_option (codes "time"))
+    (value_option (codes "keep"))
+
+-- the command `run` with its five options
+abbrev pub run_line : App
+run_line = with_rule (with_rule heap_line (value_option (codes "time"))) (value_option (codes "ids"))
 
 -- the program's name, and a command that has to follow
 abbrev pub heapdbg_line : App
@@ -55,22 +59,32 @@ number_or default least most (Some text) = number_in least most text
 abbrev pub value_of : Text → ℕ → ℕ → ℕ → List Row → Option ℕ
 value_of name default least most rows = number_or default least most (first_of name rows)
 
+-- the size of an identifier of so many bytes
+abbrev pub id_size_of : ℕ → Option IdSize
+id_size_of bytes = if bytes == 4 then Some Four else (if bytes == 8 then Some Eight else None)
+
+-- the size of identifiers that the option is given, and its default where it is not given
+abbrev pub id_size_in : List Row → Option IdSize
+id_size_in rows = option_and_then id_size_of (value_of (codes "ids") 8 4 8 rows)
+
 -- the settings, where each option has a value in its range
-abbrev pub settings_with : Task → Option ℕ → Option ℕ → Option ℕ → Option ℕ → Option Settings
-settings_with task (Some regions) (Some mutators) (Some keep) (Some time) = Some (record {
+abbrev pub settings_with : Task → Option ℕ → Option ℕ → Option ℕ → Option ℕ → Option IdSize → Option Settings
+settings_with task (Some regions) (Some mutators) (Some keep) (Some time) (Some ids) = Some (record {
   task = task;
   regions = regions;
   mutators = mutators;
   keep = keep;
   time = time;
+  ids = ids;
 })
-settings_with task _ _ _ _ = None
+settings_with task _ _ _ _ _ = None
 
 abbrev pub settings_in : Task → List Row → Option Settings
 settings_in task rows = settings_with task (value_of (codes "regions") 16 1 256 rows)
     (value_of (codes "mutators") 2 1 16 rows)
     (value_of (codes "keep") 1024 1 65536 rows)
     (value_of (codes "time") 0 0 18446744073709551615 rows)
+    (id_size_in rows)
 
 -- the task of a command's name
 abbrev pub task_named : Text → Option Task
@@ -99,6 +113,7 @@ pub record HasDefaults (words : List Text) (s : Settings) : Type 0 where
   pub mutators : is_given (codes "mutators") words ≡ false → s.mutators ≡ 2
   pub keep : is_given (codes "keep") words ≡ false → s.keep ≡ 1024
   pub time : is_given (codes "time") words ≡ false → s.time ≡ 0
+  pub ids : is_given (codes "ids") words ≡ false → s.ids ≡ Eight
 
 -- the fault has this text, or memory ran out
 abbrev pub IsBadWith : Text → LineFault → Type 0

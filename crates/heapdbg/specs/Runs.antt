@@ -1,7 +1,6 @@
 -- What a run of the program does between its reader and its writer.
 use Rattle.std.specs.Prelude.{◌≡◌, ℕ, ◌⊎◌, List, Result, Some, Err}
 use Rattle.dump_pump.specs.Outlets.{Outgoing}
-use Rattle.heap_class.specs.declared.IdSize.TheVariants.{Eight}
 use Rattle.heap_trail.specs.Machine.{Machine, opening_machine}
 use Rattle.session_text.specs.declared.Ended.{Ended}
 use Rattle.session_text.specs.Endings.{Ends}
@@ -19,7 +18,7 @@ use Rattle.heapdbg.specs.Endings.{failure_of, outcome_of, work_of}
 -- or written
 abbrev pub IsRun : Settings → Incoming → Incoming → Outgoing → Outgoing → Result (Unit {0}) Fault → Type 0
 IsRun s a b w w' result =
-    ((ended : Ended) × (left : Machine) × IsSession (opening_machine Eight s.regions s.mutators s.keep) s.time a b w w' left ended × Ends a b w w' ended × (result ≡ outcome_of ended))
+    ((ended : Ended) × (left : Machine) × IsSession (opening_machine s.ids s.regions s.mutators s.keep) s.time a b w w' left ended × Ends a b w w' ended × (result ≡ outcome_of ended))
     ⊎ ((result ≡ Err Memory) × (b ≡ a) × (w' ≡ w))
 
 -- the settings that the words ask for, and a run with them; or a refusal of the words, and then nothing is read or written

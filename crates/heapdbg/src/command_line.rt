@@ -7,13 +7,14 @@ ghost use Rattle.clap.specs.Words.{FailsBy, app_of, fault_of, found_of, kind_of,
 ghost use Rattle.clap.specs.declared.builder.Command.TheViews.{out-Command};
 ghost use Rattle.clap.specs.Words.{rule_of, subcommand_of, subcommand_rows_of};
 ghost use Rattle.heap_world.specs.Limits.{AreSettings};
-ghost use Rattle.heapdbg.specs.CommandLine.{HasDefaults, IsBadWith, IsRefusalOf, heapdbg_line, number_in, run_line, settings_in};
+ghost use Rattle.heapdbg.specs.CommandLine.{HasDefaults, IsBadWith, IsRefusalOf, heap_line, heapdbg_line, number_in, run_line, settings_in};
 ghost use Rattle.heapdbg.specs.CommandLine.{settings_of, settings_under, task_named, texts, value_of};
-ghost use Rattle.heapdbg.specs.CommandLine.{value_option};
+ghost use Rattle.heapdbg.specs.CommandLine.{id_size_of, value_option};
 
 use crate::settings::{LineFault, Settings, Task};
 use clap::error::ErrorKind;
 use clap::{Arg, ArgAction, ArgMatches, Command, Error};
+use heap_class::IdSize;
 use std::alloc::{AllocError, Global};
 
 /// The settings that the words ask for, the first of which is the program's name. Bad where they are
@@ -36,7 +37,7 @@ pub fn settings(alloc: Global, words: &[&str]) -> Result<Settings, LineFault>
 
 const OUT_OF_RANGE: &str =
     "error: a value is in digits alone: --regions 1 to 256, --mutators 1 to 16, \
-    --keep 1 to 65536, --time below 2^64\n\nFor more information, try 'heapdbg run --help'.\n";
+    --keep 1 to 65536, --time below 2^64, --ids 4 or 8\n\nFor more information, try 'heapdbg run --help'.\n";
 
 /// What clap makes of the words.
 fn parsed<'a>(alloc: Global, words: &'a [&'a str]) -> Result<ArgMatches<'a>, Error>
@@ -57,9 +58,27 @@ fn parser<'a>(alloc: Global) -> Result<Command<'a>, AllocError>
         .subcommand(run)
 }
 
-/// The command `run`, with an option for each setting.
+/// Creates the parser of the command `run`, with an option for each setting.
 fn run_parser<'a>(alloc: Global) -> Result<Command<'a>, AllocError>
     ensures app { IfOk result (λ c. app_of c ≡ run_line) }
+    ensures local { IfOk result (λ c. (out-Command c).has_globals ≡ false) }
+{
+    let time = value_arg(
+        alloc,
+        "time",
+        "Milliseconds since 1970 in the header of a dump [default: 0]",
+    );
+    let ids = value_arg(
+        alloc,
+        "ids",
+        "Bytes of an identifier in a dump, 4 or 8 [default: 8]",
+    );
+    heap_parser(alloc)?.arg(time)?.arg(ids)
+}
+
+/// Creates the parser of the command `run` with the options that say how large the heap and its history are.
+fn heap_parser<'a>(alloc: Global) -> Result<Command<'a>, AllocError>
+    ensures app { IfOk result (λ c. app_of c ≡ heap_line) }
     ensures local { IfOk result (λ c. (out-Command c).has_globals ≡ false) }
 {
     let regions = value_arg(
@@ -77,17 +96,11 @@ fn run_parser<'a>(alloc: Global) -> Result<Command<'a>, AllocError>
         "keep",
         "Steps that can be undone, 1 to 65536 [default: 1024]",
     );
-    let time = value_arg(
-        alloc,
-        "time",
-        "Milliseconds since 1970 in the header of a dump [default: 0]",
-    );
     Command::new(alloc, "run")
         .about("Reads commands from standard input and writes replies to standard output")
         .arg(regions)?
         .arg(mutators)?
-        .arg(keep)?
-        .arg(time)
+        .arg(keep)
 }
 
 /// The option `--NAME N`.
@@ -126,13 +139,27 @@ fn settings_from(task: Task, options: &ArgMatches<'_>) -> Option<Settings>
     let mutators = option_value(options, "mutators", 2, 1, 16)?;
     let keep = option_value(options, "keep", 1024, 1, 65536)?;
     let time = option_value(options, "time", 0, 0, u64::MAX)?;
+    let bytes = option_value(options, "ids", 8, 4, 8)?;
+    let ids = id_size(bytes)?;
     Some(Settings {
         task,
         regions,
         mutators,
         keep,
         time,
+        ids,
     })
+}
+
+/// Returns the size of an identifier of so many bytes, or None if they are neither 4 nor 8.
+fn id_size(bytes: u64) -> Option<IdSize>
+    ensures { result ≡ id_size_of bytes }
+{
+    match bytes {
+        4 => Some(IdSize::Four),
+        8 => Some(IdSize::Eight),
+        _ => None,
+    }
 }
 
 /// The value of an option from `least` to `most`, and `default` where the option isn't given.

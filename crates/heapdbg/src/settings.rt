@@ -1,5 +1,6 @@
 //! What a command line asks for.
 
+use heap_class::IdSize;
 use std::fmt;
 use thiserror::Error;
 
@@ -23,6 +24,8 @@ pub struct Settings {
     pub keep: u64,
     /// The time in the header of a dump, in milliseconds since 1970.
     pub time: u64,
+    /// The size of an identifier in a dump.
+    pub ids: IdSize,
 }
 
 /// Why a command line gives no settings.

@@ -3,7 +3,6 @@ ghost use Rattle.std.specs.Prelude.{◌≡◌, Some, IfOk, IfErr, map, string_by
 ghost use Rattle.std.specs.IoError.{error_kind};
 ghost use Rattle.heapdbg.specs.CommandLine.{IsBadWith, IsRefusalOf, settings_of, texts};
 ghost use Rattle.heapdbg.specs.Runs.{IsRun, IsPerformed};
-ghost use Rattle.heap_class.specs.declared.IdSize.TheVariants.{Eight};
 ghost use Rattle.heap_world.specs.Limits.{AreSettings};
 
 use crate::command_line::{bad, settings};
@@ -85,10 +84,10 @@ fn borrowed<'a>(alloc: Global, words: &'a [String]) -> Result<Vec<&'a str>, Allo
 /// The heap that the settings ask for.
 fn config(settings: &Settings) -> Config
     requires { AreSettings settings.now.regions settings.now.mutators settings.now.keep }
-    ensures { result ≡ record { regions = settings.now.regions; mutators = settings.now.mutators; keep = settings.now.keep; ids = Eight } }
+    ensures { result ≡ record { regions = settings.now.regions; mutators = settings.now.mutators; keep = settings.now.keep; ids = settings.now.ids } }
 {
     match Config::new(settings.regions, settings.mutators, settings.keep) {
-        Some(config) => config,
+        Some(config) => config.with_ids(settings.ids),
         None => unreachable!(),
     }
 }

@@ -1,6 +1,7 @@
 use crate::command_line::settings;
 use crate::failure::{Failure, outcome, report};
 use crate::settings::{LineFault, Settings, Task};
+use heap_class::IdSize;
 use session_text::Ended;
 use std::alloc::Global;
 use std::process::ExitCode;
@@ -12,6 +13,7 @@ const DEFAULTS: Settings = Settings {
     mutators: 2,
     keep: 1024,
     time: 0,
+    ids: IdSize::Eight,
 };
 
 #[test]
@@ -29,6 +31,21 @@ fn reads_options_in_both_spellings(rt: HostRuntime) -> Result<(), Fail> {
     let given = settings(rt.alloc(), words.as_slice())?;
     assert_eq!(rt; (given.regions, given.mutators), (256, 2));
     assert_eq!(rt; (given.keep, given.time), (7, u64::MAX));
+    Ok(())
+}
+
+#[test]
+fn reads_the_size_of_ids(rt: HostRuntime) -> Result<(), Fail> {
+    let lines = [
+        ("heapdbg run --ids 4", IdSize::Four),
+        ("heapdbg run --ids=8", IdSize::Eight),
+        ("heapdbg run --keep 4 --ids=04", IdSize::Four),
+    ];
+    for (line, ids) in lines {
+        let words: Vec<&str> = line.split_whitespace().collect(rt.alloc())?;
+        let given = settings(rt.alloc(), words.as_slice())?;
+        assert_eq!(rt; given.ids, ids, "at {line}");
+    }
     Ok(())
 }
 
@@ -54,6 +71,14 @@ fn refuses_bad_lines(rt: HostRuntime) -> Result<(), Fail> {
         "heapdbg run --keep 0",
         "heapdbg run --keep 65537",
         "heapdbg run --time 18446744073709551616",
+        "heapdbg run --ids 0",
+        "heapdbg run --ids 3",
+        "heapdbg run --ids 5",
+        "heapdbg run --ids 7",
+        "heapdbg run --ids 9",
+        "heapdbg run --ids eight",
+        "heapdbg run --ids",
+        "heapdbg run --ids 4 --ids 4",
     ];
     for line in lines {
         let words: Vec<&str> = line.split_whitespace().collect(rt.alloc())?;
@@ -81,11 +106,12 @@ fn tells_the_ranges(rt: HostRuntime) -> Result<(), Fail> {
         "heapdbg run --keep 65537",
         "heapdbg run --time 18446744073709551616",
         "heapdbg run --keep +4",
+        "heapdbg run --ids 6",
     ];
     for line in lines {
         assert_eq!(rt;
             text_of(rt.alloc(), line)?.as_str(),
-            "error: a value is in digits alone: --regions 1 to 256, --mutators 1 to 16, --keep 1 to 65536, --time below 2^64\n\nFor more information, try 'heapdbg run --help'.\n",
+            "error: a value is in digits alone: --regions 1 to 256, --mutators 1 to 16, --keep 1 to 65536, --time below 2^64, --ids 4 or 8\n\nFor more information, try 'heapdbg run --help'.\n",
             "at {line}"
         );
     }
@@ -117,7 +143,7 @@ fn tells_what_is_wrong(rt: HostRuntime) -> Result<(), Fail> {
         ),
         (
             "heapdbg run --help",
-            "Reads commands from standard input and writes replies to standard output\n\nUsage: heapdbg run [OPTIONS]\n\nOptions:\n      --regions <N>   Regions of the heap, 1 to 256 [default: 16]\n      --mutators <N>  Mutators of the heap, 1 to 16 [default: 2]\n      --keep <N>      Steps that can be undone, 1 to 65536 [default: 1024]\n      --time <N>      Milliseconds since 1970 in the header of a dump [default: 0]\n  -h, --help          Print help\n",
+            "Reads commands from standard input and writes replies to standard output\n\nUsage: heapdbg run [OPTIONS]\n\nOptions:\n      --regions <N>   Regions of the heap, 1 to 256 [default: 16]\n      --mutators <N>  Mutators of the heap, 1 to 16 [default: 2]\n      --keep <N>      Steps that can be undone, 1 to 65536 [default: 1024]\n      --time <N>      Milliseconds since 1970 in the header of a dump [default: 0]\n      --ids <N>       Bytes of an identifier in a dump, 4 or 8 [default: 8]\n  -h, --help          Print help\n",
         ),
     ];
     for (line, text) in lines {

@@ -199,12 +199,12 @@ fn nothing_in_it(rt: HostRuntime) -> Result<(), Fail> {
 }
 
 // Whether a dump of one point has so many bytes, these opening records, this segment, the end, and nothing more.
-fn has_a_point(
+fn has_a_point<'a>(
     alloc: Global,
     ids: IdSize,
     size: u64,
-    opening: &str,
-    segment: &str,
+    opening: &'a str,
+    segment: &'a str,
 ) -> Result<bool, Fail> {
     let kind = ObjKind::Instance(0);
     let view = view_of(alloc, ids, point_class(alloc)?, kind, &[7, 0])?;

@@ -70,35 +70,35 @@ onward_piece gives c time number cursor total text p next total' o given last e 
     subst (λ k. Dumps gives c time k Start 0 ((text ++ data_lines p.bytes) ++ more)) count (subst (λ l. Dumps gives c time (number + suc n) Start 0 l) (sym (append_assoc text (data_lines p.bytes) more)) made)
 
 -- at most so many pieces, of which one more comes
-room_for : (number : ℕ) → number < 65538 → number + suc (65537 - number) ≡ 65538
+room_for : (number : ℕ) → number < 66178 → number + suc (66177 - number) ≡ 66178
 room_for number h = omega (arith, h)
 
 pub dump_last : {S : Type 0} (gives : S → Cursor → ℕ → Result (Piece × Cursor) Refusal → Type 0) (c : S) (time number : ℕ) (cursor : Cursor) (total : ℕ) (text : List ℕ) (p : Piece) (next : Cursor) (total' : ℕ)
-    → Onward gives c time number cursor total text → number < 65538 → gives c cursor time (Ok (p, next)) → p.last ≡ true → total' ≡ total + length p.bytes → Dumps gives c time 65538 Start 0 ((text ++ data_lines p.bytes) ++ total_line total')
+    → Onward gives c time number cursor total text → number < 66178 → gives c cursor time (Ok (p, next)) → p.last ≡ true → total' ≡ total + length p.bytes → Dumps gives c time 66178 Start 0 ((text ++ data_lines p.bytes) ++ total_line total')
 dump_last gives c time number cursor total text p next total' o less given last e =
-    let made = o (suc (65537 - number)) (data_lines p.bytes ++ total_line total') (inl (p, next, total_line total', given, refl, inl (last, ap total_line e))) in
+    let made = o (suc (66177 - number)) (data_lines p.bytes ++ total_line total') (inl (p, next, total_line total', given, refl, inl (last, ap total_line e))) in
     subst (λ k. Dumps gives c time k Start 0 ((text ++ data_lines p.bytes) ++ total_line total')) (room_for number less)
-    (subst (λ l. Dumps gives c time (number + suc (65537 - number)) Start 0 l) (sym (append_assoc text (data_lines p.bytes) (total_line total'))) made)
+    (subst (λ l. Dumps gives c time (number + suc (66177 - number)) Start 0 l) (sym (append_assoc text (data_lines p.bytes) (total_line total'))) made)
 
 pub dump_refused : {S : Type 0} (gives : S → Cursor → ℕ → Result (Piece × Cursor) Refusal → Type 0) (c : S) (time number : ℕ) (cursor : Cursor) (total : ℕ) (text : List ℕ) (refusal : Refusal)
-    → Onward gives c time number cursor total text → number < 65538 → gives c cursor time (Err refusal) → Dumps gives c time 65538 Start 0 (text ++ reply_text (Refused refusal))
+    → Onward gives c time number cursor total text → number < 66178 → gives c cursor time (Err refusal) → Dumps gives c time 66178 Start 0 (text ++ reply_text (Refused refusal))
 dump_refused gives c time number cursor total text refusal o less given =
-    subst (λ k. Dumps gives c time k Start 0 (text ++ reply_text (Refused refusal))) (room_for number less) (o (suc (65537 - number)) (reply_text (Refused refusal)) (inr (refusal, given, refl)))
+    subst (λ k. Dumps gives c time k Start 0 (text ++ reply_text (Refused refusal))) (room_for number less) (o (suc (66177 - number)) (reply_text (Refused refusal)) (inr (refusal, given, refl)))
 
 pub dump_over : {S : Type 0} (gives : S → Cursor → ℕ → Result (Piece × Cursor) Refusal → Type 0) (c : S) (time number : ℕ) (cursor : Cursor) (total : ℕ) (text : List ℕ)
-    → Onward gives c time number cursor total text → number ≡ 65538 → Dumps gives c time 65538 Start 0 text
+    → Onward gives c time number cursor total text → number ≡ 66178 → Dumps gives c time 66178 Start 0 text
 dump_over gives c time number cursor total text o e =
-    let count : number + 0 ≡ 65538 = omega (arith, e) in
+    let count : number + 0 ≡ 66178 = omega (arith, e) in
     subst (λ k. Dumps gives c time k Start 0 text) count (subst (λ l. Dumps gives c time (number + 0) Start 0 l) (append-nil text) (o 0 [] refl))
 
 -- a whole dump
 pub writes_whole : {S : Type 0} (gives : S → Cursor → ℕ → Result (Piece × Cursor) Refusal → Type 0) (c : S) (time : ℕ) (text page : List ℕ) (a : Outgoing) (page' : List ℕ) (b : Outgoing) (r : Bool)
-    → Dumps gives c time 65538 Start 0 text → page ≡ [] → page' ≡ [] → IsAdded text page a page' b r → WritesDump gives c time a b r
+    → Dumps gives c time 66178 Start 0 text → page ≡ [] → page' ≡ [] → IsAdded text page a page' b r → WritesDump gives c time a b r
 writes_whole gives c time text page a page' b true d e f h = (text, d, written_of text page a page' b true e f h)
-writes_whole gives c time text page a page' b false d e f h = (65538, text, omega arith, d, written_of text page a [] b false e refl h)
+writes_whole gives c time text page a page' b false d e f h = (66178, text, omega arith, d, written_of text page a [] b false e refl h)
 
 cut_in : {S : Type 0} (gives : S → Cursor → ℕ → Result (Piece × Cursor) Refusal → Type 0) (c : S) (time number : ℕ) (cursor : Cursor) (total : ℕ) (text : List ℕ) (p : Piece) (next : Cursor) (page : List ℕ) (a : Outgoing) (page' : List ℕ) (b : Outgoing) (last : Bool)
-    → Onward gives c time number cursor total text → number < 65538 → gives c cursor time (Ok (p, next)) → p.last ≡ last → page ≡ [] → IsAdded (text ++ data_lines p.bytes) page a page' b false → WritesDump gives c time a b false
+    → Onward gives c time number cursor total text → number < 66178 → gives c cursor time (Ok (p, next)) → p.last ≡ last → page ≡ [] → IsAdded (text ++ data_lines p.bytes) page a page' b false → WritesDump gives c time a b false
 cut_in gives c time number cursor total text p next page a page' b true o less given last e h =
     writes_whole gives c time ((text ++ data_lines p.bytes) ++ total_line (total + length p.bytes)) page a [] b false (dump_last gives c time number cursor total text p next (total + length p.bytes) o less given last refl) e refl
     (added_short (text ++ data_lines p.bytes) (total_line (total + length p.bytes)) page a page' b [] h)
@@ -108,5 +108,5 @@ cut_in gives c time number cursor total text p next page a page' b false o less 
 
 -- a write failed in a piece's data lines
 pub writes_cut : {S : Type 0} (gives : S → Cursor → ℕ → Result (Piece × Cursor) Refusal → Type 0) (c : S) (time number : ℕ) (cursor : Cursor) (total : ℕ) (text : List ℕ) (p : Piece) (next : Cursor) (page : List ℕ) (a : Outgoing) (page' : List ℕ) (b : Outgoing)
-    → Onward gives c time number cursor total text → number < 65538 → gives c cursor time (Ok (p, next)) → page ≡ [] → IsAdded (text ++ data_lines p.bytes) page a page' b false → WritesDump gives c time a b false
+    → Onward gives c time number cursor total text → number < 66178 → gives c cursor time (Ok (p, next)) → page ≡ [] → IsAdded (text ++ data_lines p.bytes) page a page' b false → WritesDump gives c time a b false
 writes_cut gives c time number cursor total text p next page a page' b o less given e h = cut_in gives c time number cursor total text p next page a page' b p.last o less given refl e h

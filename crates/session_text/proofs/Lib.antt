@@ -11,3 +11,4 @@ pub mod Fielded
 pub mod Talking
 pub mod Sessions
 pub mod Dumping
+pub mod Hexadecimal

@@ -8,6 +8,7 @@ mod answer;
 mod buffer;
 mod command;
 pub mod commands;
+mod digits;
 mod dump;
 mod fields;
 pub mod inlet;

@@ -3,6 +3,7 @@ ghost use Rattle.std.specs.Prelude.{◌≡◌, ◌+◌, ◌*◌, ◌≤◌, ◌+
 ghost use Rattle.hex.specs.Hex.{encode_lower};
 ghost use Rattle.session_text.specs.Replies.{and_number};
 
+use crate::digits::write_digits;
 use std::alloc::{AllocError, Global};
 use std::marker::Model;
 
@@ -94,6 +95,5 @@ fn place_hex(bytes: &mut [u8], at: usize, given: &[u8])
     requires { at + 2 * length given.now ≤ length bytes.old }
     ensures { take (at + 2 * length given.now) bytes.new ≡ take at bytes.old ++ encode_lower given.now }
 {
-    let written = hex::encode_to_slice(given, &mut bytes[at..at + 2 * given.len()]);
-    prove!(written.is_ok());
+    write_digits(&mut bytes[at..at + 2 * given.len()], given);
 }

@@ -1,4 +1,4 @@
-use Rattle.std.proofs.Common.{◌≡◌, Ok, Err, Result}
+use Rattle.std.proofs.Common.{Ok, Err, Result}
 use Rattle.std.specs.Prelude.{IfOk}
 use Rattle.session_text.proofs.commands.LocalCommands.piece.Goals as goal
 

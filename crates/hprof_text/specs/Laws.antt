@@ -1,5 +1,5 @@
 -- What holds of every text.
-use Rattle.std.specs.Prelude.{◌≡◌, ℕ, ◌^◌, ◌<◌, List}
+use Rattle.std.specs.Prelude.{◌≡◌, ℕ, ◌^◌, ◌<◌, ◌≤◌, List, length}
 use Rattle.std.specs.List.{concat}
 use Rattle.heap_class.specs.declared.IdSize.{IdSize}
 use Rattle.hprof_text.specs.Image.{Image, IsDumpable}
@@ -17,3 +17,8 @@ IsCut limit subs = AreSegments limit subs (segments_of limit subs)
 -- within the limits of a dump, each number of the text is below what the bytes that it has there hold
 abbrev pub NumbersFit : IdSize → Image → ℕ → Type 0
 NumbersFit ids image time = IsDumpable image → time < 2 ^ 64 → HoldsWhole ids image time
+
+-- the pieces of a dump are few: one for each of 65,536 objects, 256 classes, their roots and 128 registers at most, the
+-- opening records and the end
+abbrev pub PiecesFew : IdSize → Image → ℕ → Type 0
+PiecesFew ids image time = IsDumpable image → length (pieces_of ids image time) ≤ 66178

@@ -7,7 +7,7 @@ ghost use Rattle.heap_class.specs.declared.Refusal.TheVariants.{NoMemory};
 ghost use Rattle.heap_class.specs.declared.IdSize.{IdSize};
 ghost use Rattle.hprof_text.specs.Image.{Image, IsDumpable};
 ghost use Rattle.hprof_text.specs.Cursors.{IsAt};
-ghost use Rattle.hprof_text.specs.Laws.{PiecesJoin, IsCut, PiecesFew, NumbersFit};
+ghost use Rattle.hprof_text.specs.Laws.{EqualIds, IsCut, NumbersFit, PiecesFew, PiecesJoin};
 ghost use Rattle.hprof_text.specs.Segments.{dump_text, piece_of};
 
 use crate::measure::Measure;
@@ -210,4 +210,9 @@ pub fn pieces_few()
 /// and names, type codes and the time.
 pub fn numbers_fit()
     ensures { (ids : IdSize) (image : Image) (time : ℕ) → NumbersFit ids image time }
+{}
+
+/// The law that two identifiers that fit and have equal bytes are equal.
+pub fn equal_ids()
+    ensures { (ids : IdSize) (a b : ℕ) → EqualIds ids a b }
 {}

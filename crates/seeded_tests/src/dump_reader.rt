@@ -255,6 +255,14 @@ impl<'a> Dump<'a> {
         None
     }
 
+    /// Reads a whole dump.
+    fn read(&mut self, alloc: Global, text: &'a [u8]) -> Option<()> {
+        let mut input = Input { rest: text, ids: 0 };
+        self.read_header(&mut input)?;
+        input.ids = self.ids;
+        self.read_records(alloc, &mut input)
+    }
+
     // ---- sub-records
 
     /// Reads a sub-record.
@@ -347,9 +355,6 @@ fn object_from<'a>(tag: u64, input: &mut Input<'a>) -> Option<ReadObject<'a>> {
 /// Reads a dump.
 pub fn dump_from(alloc: Global, text: &[u8]) -> Option<Dump<'_>> {
     let mut dump = Dump::new(alloc);
-    let mut input = Input { rest: text, ids: 0 };
-    dump.read_header(&mut input)?;
-    input.ids = dump.ids;
-    dump.read_records(alloc, &mut input)?;
+    dump.read(alloc, text)?;
     Some(dump)
 }

@@ -4,7 +4,7 @@ ghost use Rattle.heap_trail.specs.Machine.{shown};
 ghost use Rattle.heap_trail.specs.Pins.{StandsIn};
 
 use crate::draws::{any_event, any_fields, any_kind, any_length, below};
-use crate::dump_reader::{ReadSegment, dump_from};
+use crate::dump_reader::{Dump, ReadSegment, dump_from};
 use crate::dumped::{are_cut, tells};
 use crate::plain::PlainHeap;
 use heap_class::{IdSize, Name};
@@ -168,8 +168,47 @@ fn are_pieces(sizes: &[usize], segments: &[ReadSegment]) -> bool {
     sizes.len() == segments.len().wrapping_add(2) && sizes.last() == Some(&9)
 }
 
-/// Fails unless the dump of a machine with ids of so many bytes tells the plain heap. Adds the tags with which its segments
-/// begin, but for the first.
+/// Fails unless a dump with ids of so many bytes, in pieces of these sizes, tells the plain heap.
+fn is_told(
+    alloc: Global,
+    dump: &Dump<'_>,
+    sizes: &[usize],
+    ids: usize,
+    heap: &PlainHeap,
+) -> Result<(), Fail> {
+    if dump.ids != ids || dump.time != TIME || !tells(alloc, dump, heap)? {
+        return Err("it tells another heap".into());
+    }
+    let segments = dump.segments.as_slice();
+    if !are_cut(segments) || !are_pieces(sizes, segments) {
+        return Err("the segments are cut otherwise".into());
+    }
+    Ok(())
+}
+
+/// Adds the tags with which segments begin, but for the first.
+fn add_tags(tags: &mut Vec<u64>, segments: &[ReadSegment]) -> Result<(), AllocError> {
+    for segment in segments.iter().skip(1) {
+        tags.push(segment.tag)?;
+    }
+    Ok(())
+}
+
+/// Fails unless the text of a dump with ids of so many bytes tells the plain heap.
+fn is_read_back(
+    alloc: Global,
+    text: &Text,
+    ids: usize,
+    heap: &PlainHeap,
+    tags: &mut Vec<u64>,
+) -> Result<(), Fail> {
+    let dump = dump_from(alloc, text.bytes.as_slice()).ok_or("it is no dump")?;
+    is_told(alloc, &dump, text.sizes.as_slice(), ids, heap)?;
+    add_tags(tags, dump.segments.as_slice())?;
+    Ok(())
+}
+
+/// Fails unless the dump of a machine with ids of so many bytes tells the plain heap.
 fn read_back(
     alloc: Global,
     machine: &Machine,
@@ -178,18 +217,7 @@ fn read_back(
     tags: &mut Vec<u64>,
 ) -> Result<(), Fail> {
     let text = text_of(alloc, machine)?;
-    let dump = dump_from(alloc, text.bytes.as_slice()).ok_or("it is no dump")?;
-    if dump.ids != ids || dump.time != TIME || !tells(alloc, &dump, heap)? {
-        return Err("it tells another heap".into());
-    }
-    let segments = dump.segments.as_slice();
-    if !are_cut(segments) || !are_pieces(text.sizes.as_slice(), segments) {
-        return Err("the segments are cut otherwise".into());
-    }
-    for segment in segments.iter().skip(1) {
-        tags.push(segment.tag)?;
-    }
-    Ok(())
+    is_read_back(alloc, &text, ids, heap, tags)
 }
 
 impl Heaps {
@@ -198,21 +226,36 @@ impl Heaps {
         read_back(alloc, &self.eight, 8, &self.plain, tags)?;
         read_back(alloc, &self.four, 4, &self.plain, tags)
     }
+
+    /// Fills the registers and takes seeded steps, and reads back the dumps after each.
+    fn go_on(
+        &mut self,
+        alloc: Global,
+        random: &mut Pcg32,
+        tags: &mut Vec<u64>,
+    ) -> Result<(), Fail> {
+        self.fill(alloc, random, 16)?;
+        self.read_back(alloc, tags)?;
+        self.play(alloc, random, 100)?;
+        self.read_back(alloc, tags)
+    }
+
+    /// Defines classes and goes on four times.
+    fn run(&mut self, alloc: Global, random: &mut Pcg32, tags: &mut Vec<u64>) -> Result<(), Fail> {
+        self.define(alloc, random)?;
+        self.read_back(alloc, tags)?;
+        for _ in 0..4 {
+            self.go_on(alloc, random, tags)?;
+        }
+        Ok(())
+    }
 }
 
 /// Reads back the dumps of a seeded heap: after its classes, with all registers full, and after seeded steps.
 fn played(alloc: Global, seed: u64, tags: &mut Vec<u64>) -> Result<(), Fail> {
     let mut random = Pcg32::new(seed, 2);
     let mut heaps = Heaps::new(alloc)?;
-    heaps.define(alloc, &mut random)?;
-    heaps.read_back(alloc, tags)?;
-    for _ in 0..4 {
-        heaps.fill(alloc, &mut random, 16)?;
-        heaps.read_back(alloc, tags)?;
-        heaps.play(alloc, &mut random, 100)?;
-        heaps.read_back(alloc, tags)?;
-    }
-    Ok(())
+    heaps.run(alloc, &mut random, tags)
 }
 
 /// The first sub-record with which no segment but a first one began, in the dumps of so many seeded heaps.

@@ -1,5 +1,5 @@
 //! Dumps byte for byte, by hand from the format.
-use heap_class::{Classes, Field, Fields, IdSize, Kind, Name, ObjKind};
+use heap_class::{ClassNo, Classes, Field, Fields, IdSize, Kind, Name, ObjKind};
 use hprof_text::{ListView, ListedObject, piece_of, text_len};
 use std::alloc::Global;
 use std::test::Fail;
@@ -44,23 +44,57 @@ fn fields(alloc: Global, first: Field, second: Option<Field>) -> Result<Fields, 
     Ok(Fields::from_vec(fields))
 }
 
-// A class of points.
-fn point_class(alloc: Global) -> Result<Classes, Fail> {
+// Defines a class with these fields.
+fn define(
+    alloc: Global,
+    classes: &mut Classes,
+    name: &[u8],
+    sup: Option<ClassNo>,
+    own: &Fields,
+) -> Result<ClassNo, Fail> {
+    let name = Name::new(alloc, name)?;
+    Ok(classes.define(&name, sup, own)?)
+}
+
+// Defines the class of points.
+fn define_point(alloc: Global, classes: &mut Classes) -> Result<ClassNo, Fail> {
     let x = field(alloc, b"x", Kind::Int)?;
     let y = field(alloc, b"y", Kind::Int)?;
-    let fields = fields(alloc, x, Some(y))?;
+    let own = fields(alloc, x, Some(y))?;
+    define(alloc, classes, b"Point", None, &own)
+}
+
+// A class of points.
+fn point_class(alloc: Global) -> Result<Classes, Fail> {
     let mut classes = Classes::new(alloc);
-    let _ = classes.define(&Name::new(alloc, b"Point")?, None, &fields)?;
+    define_point(alloc, &mut classes)?;
     Ok(classes)
+}
+
+// Defines a class with one field.
+fn define_one(
+    alloc: Global,
+    classes: &mut Classes,
+    name: &[u8],
+    sup: Option<ClassNo>,
+    own: Field,
+) -> Result<ClassNo, Fail> {
+    let own = fields(alloc, own, None)?;
+    define(alloc, classes, name, sup, &own)
+}
+
+// Defines a class with a field of a byte, and one below it with a field of two.
+fn define_two(alloc: Global, classes: &mut Classes) -> Result<ClassNo, Fail> {
+    let low = field(alloc, b"low", Kind::Byte)?;
+    let base = define_one(alloc, classes, b"Base", None, low)?;
+    let high = field(alloc, b"high", Kind::Short)?;
+    define_one(alloc, classes, b"Wide", Some(base), high)
 }
 
 // A class with a field of a byte, and one below it with a field of two.
 fn two_classes(alloc: Global) -> Result<Classes, Fail> {
-    let low = fields(alloc, field(alloc, b"low", Kind::Byte)?, None)?;
-    let high = fields(alloc, field(alloc, b"high", Kind::Short)?, None)?;
     let mut classes = Classes::new(alloc);
-    let base = classes.define(&Name::new(alloc, b"Base")?, None, &low)?;
-    let _ = classes.define(&Name::new(alloc, b"Wide")?, Some(base), &high)?;
+    define_two(alloc, &mut classes)?;
     Ok(classes)
 }
 

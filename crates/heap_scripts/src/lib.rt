@@ -89,6 +89,39 @@ pub fn apply_all(world: &mut World, events: &[Event]) -> Result<(), Fail> {
     Ok(())
 }
 
+/// Returns settings that are in range.
+pub fn settings(regions: u64, mutators: u64, keep: u64) -> Result<Config, Fail> {
+    Ok(Config::new(regions, mutators, keep).ok_or("settings out of range")?)
+}
+
+/// Defines the class of nodes, and applies events.
+fn begin(alloc: Global, world: &mut World, events: &[Event]) -> Result<(), Fail> {
+    let class = node(alloc)?;
+    apply_all(world, &[class])?;
+    apply_all(world, events)
+}
+
+/// Creates a heap, defines the class of nodes, and applies events.
+pub fn heap_after(alloc: Global, config: Config, events: &[Event]) -> Result<World, Fail> {
+    let mut world = World::new(alloc, config)?;
+    begin(alloc, &mut world, events)?;
+    Ok(world)
+}
+
+/// Takes the class of nodes as a step, and then events.
+fn begin_machine(alloc: Global, machine: &mut Machine, events: &[Event]) -> Result<(), Fail> {
+    let class = node(alloc)?;
+    take(machine, &[class])?;
+    take(machine, events)
+}
+
+/// Creates a machine that takes the class of nodes as its first step, and then events.
+pub fn machine_after(alloc: Global, config: Config, events: &[Event]) -> Result<Machine, Fail> {
+    let mut machine = Machine::new(alloc, config)?;
+    begin_machine(alloc, &mut machine, events)?;
+    Ok(machine)
+}
+
 /// Applies the events in turn and takes each back, the last first. Adds what `look` sees after each of these steps.
 pub fn there_and_back<S: Drop, L: Fn(&World) -> Result<S, Fail>>(
     world: &mut World,

@@ -1,22 +1,18 @@
 //! What the barrier logs, step by step and back.
 use heap_class::ObjRef;
-use heap_scripts::{FIRST, SECOND, new, node, store, take, there_and_back};
+use heap_scripts::{
+    FIRST, SECOND, heap_after, machine_after, new, settings, store, there_and_back,
+};
 use heap_step::Event;
 use heap_trail::Machine;
-use heap_world::{Config, World};
+use heap_world::World;
 use std::alloc::{AllocError, Global};
 use std::process::Abort;
 use std::test::Fail;
 
-/// The objects that the steps make.
-const A: u64 = FIRST;
-
-const B: u64 = SECOND;
-
-/// The nine steps.
-fn steps(alloc: Global) -> Result<[Event; 9], AllocError> {
-    Ok([
-        node(alloc)?,
+/// Returns the eight steps after the class. They make the objects a and b.
+fn steps() -> [Event; 8] {
+    [
         new(0),
         Event::Snap,
         // The old words are null, null and a; then, to the new object, null and a.
@@ -26,33 +22,42 @@ fn steps(alloc: Global) -> Result<[Event; 9], AllocError> {
         new(1),
         store(1, 0),
         store(1, 1),
-    ])
+    ]
 }
 
-/// What is to be seen before the steps, and after each: the log, and what the slot `next` of a and of b holds; None before
-/// the object is made.
-const SIGHTS: [(&[u64], Option<u64>, Option<u64>); 10] = [
-    (&[], None, None),
-    (&[], None, None),
-    (&[], Some(0), None),
-    (&[], Some(0), None),
-    (&[], Some(0), None),
-    (&[], Some(A), None),
-    (&[A], Some(A), None),
-    (&[A], Some(A), Some(0)),
-    (&[A], Some(A), Some(A)),
-    (&[A, A], Some(A), Some(B)),
-];
+/// What is to be seen after each step, and then after each is taken back: how long the log is, its first two entries, and what
+/// the slot `next` of a and of b holds.
+const THERE_AND_BACK: &str = "\
+0 - - 0 -\n\
+0 - - 0 -\n\
+0 - - 0 -\n\
+0 - - a -\n\
+1 a - a -\n\
+1 a - a 0\n\
+1 a - a a\n\
+2 a a a b\n\
+1 a - a a\n\
+1 a - a 0\n\
+1 a - a -\n\
+0 - - a -\n\
+0 - - 0 -\n\
+0 - - 0 -\n\
+0 - - 0 -\n\
+0 - - - -\n\
+";
 
-/// What was seen of a heap.
-#[derive(Drop)]
-struct Sight {
-    log: Vec<u64>,
-    a: Option<u64>,
-    b: Option<u64>,
+/// Returns the name of an object by its id.
+fn name(id: Option<u64>) -> &'static str {
+    match id {
+        None => "-",
+        Some(0) => "0",
+        Some(FIRST) => "a",
+        Some(SECOND) => "b",
+        Some(_) => "?",
+    }
 }
 
-/// What the slot `next` of the object in a cell of the first region holds.
+/// Returns what the slot `next` of the object in a cell of the first region holds.
 fn next(world: &World, cell: u16) -> Option<u64> {
     let at = ObjRef { region: 0, cell };
     if !world.regions().has_object(at) {
@@ -61,71 +66,72 @@ fn next(world: &World, cell: u16) -> Option<u64> {
     world.regions().words(at).first().copied()
 }
 
-/// What the heap's readers show.
-fn shown(alloc: Global, world: &World) -> Result<Sight, Fail> {
-    let mut log = Vec::new(alloc);
-    log.extend_from_slice(world.log())?;
-    Ok(Sight {
-        log,
-        a: next(world, 0),
-        b: next(world, 1),
-    })
+/// Returns what the heap's readers show.
+fn shown(alloc: Global, world: &World) -> Result<String, AllocError> {
+    let log = world.log();
+    let (first, second) = (name(log.first().copied()), name(log.get(1).copied()));
+    let (a, b) = (name(next(world, 0)), name(next(world, 1)));
+    format!(in alloc; "{} {first} {second} {a} {b}\n", log.len())
 }
 
-/// Whether this was seen after each step, and after each was taken back.
-fn are_there_and_back(seen: &[Sight]) -> bool {
-    let expected = SIGHTS[1..].iter().chain(SIGHTS[..9].iter().rev());
-    seen.len() == 18
-        && seen.iter().zip(expected).all(|(sight, (log, a, b))| sight.log.as_slice() == *log
-            && (sight.a, sight.b) == (*a, *b))
+/// Returns the sights as one text.
+fn joined(alloc: Global, sights: &[String]) -> Result<String, AllocError> {
+    let mut text = String::new(alloc);
+    for sight in sights {
+        text.push_str(sight.as_str())?;
+    }
+    Ok(text)
 }
 
-/// A machine after the nine steps.
-fn stored(alloc: Global) -> Result<Machine, Fail> {
-    let config = Config::new(16, 2, 1024).ok_or("settings out of range")?;
-    let mut machine = Machine::new(alloc, config)?;
-    take(&mut machine, &steps(alloc)?)?;
-    Ok(machine)
-}
-
-/// What is seen of a heap on the way there and back.
-fn seen(alloc: Global, world: &mut World) -> Result<Vec<Sight>, Fail> {
+/// Returns what is seen of a heap on the way there and back.
+fn walked(alloc: Global, world: &mut World) -> Result<String, Fail> {
     let mut seen = Vec::new(alloc);
     there_and_back(
         world,
-        &steps(alloc)?,
-        &|world| shown(alloc, world),
+        &steps(),
+        &|world| Ok(shown(alloc, world)?),
         &mut seen,
     )?;
-    Ok(seen)
+    Ok(joined(alloc, seen.as_slice())?)
+}
+
+/// Returns the same of a new heap.
+fn seen(alloc: Global) -> Result<String, Fail> {
+    let mut world = heap_after(alloc, settings(16, 2, 1024)?, &[])?;
+    walked(alloc, &mut world)
 }
 
 #[test]
 fn barrier_logs_old_values(rt: HostRuntime) -> Result<(), Fail> {
-    let config = Config::new(16, 2, 1024).ok_or("settings out of range")?;
-    let mut world = World::new(rt.alloc(), config)?;
-    let seen = seen(rt.alloc(), &mut world)?;
-    assert!(rt; are_there_and_back(seen.as_slice()));
+    assert_eq!(rt; seen(rt.alloc())?.as_str(), THERE_AND_BACK);
     Ok(())
 }
 
-fn barrier_logs_old_values_rewound_in(rt: &impl Abort, machine: &mut Machine) -> Result<(), Fail> {
-    assert_eq!(rt; machine.world().log(), [A, A].as_slice());
-    assert_eq!(rt; next(machine.world(), 1), Some(B));
-    assert_eq!(rt; machine.rewind(1), Ok(8));
-    assert_eq!(rt; machine.world().log(), [A].as_slice());
-    assert_eq!(rt; next(machine.world(), 1), Some(A));
-    assert_eq!(rt; machine.rewind(3), Ok(5));
-    assert_eq!(rt; machine.world().log(), [0u64; 0].as_slice());
-    assert_eq!(rt; next(machine.world(), 0), Some(A));
-    assert_eq!(rt; machine.rewind(2), Ok(3));
-    assert_eq!(rt; machine.world().log(), [0u64; 0].as_slice());
-    assert_eq!(rt; next(machine.world(), 0), Some(0));
+/// Returns whether a rewind of so many steps leads to a place where this is seen.
+fn leads_to(
+    alloc: Global,
+    machine: &mut Machine,
+    steps: u64,
+    place: u64,
+    sight: &str,
+) -> Result<bool, AllocError> {
+    Ok(machine.rewind(steps) == Ok(place) && shown(alloc, machine.world())?.as_str() == sight)
+}
+
+fn barrier_logs_old_values_rewound_in(
+    rt: &impl Abort,
+    alloc: Global,
+    machine: &mut Machine,
+) -> Result<(), Fail> {
+    assert!(rt; leads_to(alloc, machine, 0, 9, "2 a a a b\n")?);
+    assert!(rt; leads_to(alloc, machine, 1, 8, "1 a - a a\n")?);
+    assert!(rt; leads_to(alloc, machine, 3, 5, "0 - - a -\n")?);
+    assert!(rt; leads_to(alloc, machine, 2, 3, "0 - - 0 -\n")?);
     Ok(())
 }
 
 #[test]
 fn barrier_logs_old_values_rewound(rt: HostRuntime) -> Result<(), Fail> {
-    let mut machine = stored(rt.alloc())?;
-    barrier_logs_old_values_rewound_in(&rt, &mut machine)
+    let mut machine = machine_after(rt.alloc(), settings(16, 2, 1024)?, &steps())?;
+    barrier_logs_old_values_rewound_in(&rt, rt.alloc(), &mut machine)
 }

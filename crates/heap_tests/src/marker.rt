@@ -4,6 +4,7 @@ use heap_mark::{Marker, Phase};
 use heap_region::Regions;
 use heap_scripts::bits;
 use std::alloc::Global;
+use std::process::Abort;
 use std::test::Fail;
 
 /// Makes an array without elements.
@@ -19,27 +20,67 @@ fn marking(alloc: Global, regions: &mut Regions) -> Result<Marker, Refusal> {
     Ok(marker)
 }
 
+/// What is seen of the regions and the marker: the bits of two objects, whether their region waits, and the phase.
+type Sight = (
+    Option<(bool, bool)>,
+    Option<(bool, bool)>,
+    Option<bool>,
+    Phase,
+);
+
+fn seen(regions: &Regions, marker: &Marker, kept: ObjRef, lost: ObjRef) -> Sight {
+    (
+        bits(regions, kept),
+        bits(regions, lost),
+        regions.pending(0),
+        marker.phase(),
+    )
+}
+
+/// Returns how many objects a finish condemns, and what is seen after it and once it is taken back.
+fn finished(
+    regions: &mut Regions,
+    marker: &mut Marker,
+    kept: ObjRef,
+    lost: ObjRef,
+) -> Result<(u64, Sight, Sight), Refusal> {
+    let finished = marker.finish(regions)?;
+    let then = seen(regions, marker, kept, lost);
+    marker.unfinish(regions, finished.log);
+    Ok((finished.condemned, then, seen(regions, marker, kept, lost)))
+}
+
+fn a_finish_condemns_what_is_unmarked_and_is_taken_back_in(
+    rt: &impl Abort,
+    alloc: Global,
+    regions: &mut Regions,
+) -> Result<(), Fail> {
+    let kept = made(regions, true)?;
+    let lost = made(regions, false)?;
+    let mut marker = marking(alloc, regions)?;
+    let (condemned, then, back) = finished(regions, &mut marker, kept, lost)?;
+    assert!(rt;
+        condemned == 1
+            && then
+                == (
+                    Some((true, false)),
+                    Some((false, false)),
+                    Some(true),
+                    Phase::Idle
+                )
+            && back
+                == (
+                    Some((true, true)),
+                    Some((true, false)),
+                    Some(false),
+                    Phase::Marking
+                )
+    );
+    Ok(())
+}
+
 #[test]
 fn a_finish_condemns_what_is_unmarked_and_is_taken_back(rt: HostRuntime) -> Result<(), Fail> {
     let mut regions = Regions::new(rt.alloc(), 1)?;
-    let kept = made(&mut regions, true)?;
-    let lost = made(&mut regions, false)?;
-    let mut marker = marking(rt.alloc(), &mut regions)?;
-    let finished = marker.finish(&mut regions)?;
-    assert_eq!(rt; (finished.condemned, marker.phase()), (1, Phase::Idle));
-    assert_eq!(rt;
-        (bits(&regions, kept), bits(&regions, lost)),
-        (Some((true, false)), Some((false, false)))
-    );
-    assert_eq!(rt; regions.pending(0), Some(true));
-    marker.unfinish(&mut regions, finished.log);
-    assert_eq!(rt;
-        (bits(&regions, kept), bits(&regions, lost)),
-        (Some((true, true)), Some((true, false)))
-    );
-    assert_eq!(rt;
-        (regions.pending(0), marker.phase()),
-        (Some(false), Phase::Marking)
-    );
-    Ok(())
+    a_finish_condemns_what_is_unmarked_and_is_taken_back_in(&rt, rt.alloc(), &mut regions)
 }

@@ -4,26 +4,17 @@ ghost use Rattle.heap_trail.specs.Machine.{shown};
 ghost use Rattle.heap_trail.specs.Pins.{StandsIn};
 
 use heap_class::Refusal;
-use heap_scripts::{FIRST, SECOND, new, node, store, take};
+use heap_scripts::{SECOND, machine_after, new, settings};
 use heap_step::{Answer, Event};
 use heap_trail::{Action, Machine, Reply};
-use heap_world::Config;
 use hprof_text::Cursor;
 use std::alloc::{AllocError, Global};
 use std::process::Abort;
 use std::test::Fail;
 
-/// A machine of one region that keeps two steps.
-fn keeping_two(alloc: Global) -> Result<Machine, Fail> {
-    let config = Config::new(1, 1, 2).ok_or("settings out of range")?;
-    Ok(Machine::new(alloc, config)?)
-}
-
-/// A machine after a class and an instance of it.
+/// Creates a machine that keeps two steps, after a class and an instance of it.
 fn with_node(alloc: Global) -> Result<Machine, Fail> {
-    let mut machine = keeping_two(alloc)?;
-    take(&mut machine, &[node(alloc)?, new(0)])?;
-    Ok(machine)
+    machine_after(alloc, settings(1, 1, 2)?, &[new(0)])
 }
 
 /// What a machine answers to an action.
@@ -36,9 +27,13 @@ fn answered(machine: &mut Machine, event: Event) -> Result<Answer, Refusal> {
     machine.step(&event)
 }
 
-fn steps_are_undone_in(rt: &impl Abort, machine: &mut Machine) -> Result<(), Fail> {
+fn a_step_is_kept_in(rt: &impl Abort, machine: &mut Machine) -> Result<(), Fail> {
     assert_eq!(rt; answered(machine, new(0))?, Answer::Object(SECOND));
     assert_eq!(rt; (machine.place(), machine.retained()), (3, 2));
+    Ok(())
+}
+
+fn too_many_steps_are_refused_in(rt: &impl Abort, machine: &mut Machine) {
     assert_eq!(rt;
         machine.rewind(3),
         Err(Refusal::TooFar {
@@ -46,9 +41,18 @@ fn steps_are_undone_in(rt: &impl Abort, machine: &mut Machine) -> Result<(), Fai
             retained: 2
         })
     );
-    assert_eq!(rt; machine.rewind(2)?, 1);
+}
+
+fn kept_steps_are_undone_in(rt: &impl Abort, machine: &mut Machine) {
+    assert_eq!(rt; machine.rewind(2), Ok(1));
     assert_eq!(rt; machine.place(), 1);
     assert_eq!(rt; machine.world().registers(), [0; 8].as_slice());
+}
+
+fn steps_are_undone_in(rt: &impl Abort, machine: &mut Machine) -> Result<(), Fail> {
+    a_step_is_kept_in(rt, machine)?;
+    too_many_steps_are_refused_in(rt, machine);
+    kept_steps_are_undone_in(rt, machine);
     Ok(())
 }
 
@@ -105,74 +109,4 @@ fn state_is_dumped_in(rt: &impl Abort, machine: &Machine) -> Result<(), Fail> {
 fn state_is_dumped(rt: HostRuntime) -> Result<(), Fail> {
     let machine = with_node(rt.alloc())?;
     state_is_dumped_in(&rt, &machine)
-}
-
-/// How many stores the log of a cycle takes.
-const LOGGED: u64 = 1100;
-
-/// The stores of two nodes in turn to the slot `next` of the first, which holds the first before them.
-fn stores(alloc: Global) -> Result<Vec<Event>, AllocError> {
-    let mut events = Vec::new(alloc);
-    for place in 0..LOGGED {
-        events.push(store(0, (place + 1) % 2))?;
-    }
-    Ok(events)
-}
-
-/// What they overwrite: the two nodes in turn.
-fn overwritten(alloc: Global) -> Result<Vec<u64>, AllocError> {
-    let mut ids = Vec::new(alloc);
-    for place in 0..LOGGED {
-        ids.push(if place % 2 == 0 { FIRST } else { SECOND })?;
-    }
-    Ok(ids)
-}
-
-/// A machine that has logged so many references in a cycle.
-fn with_long_log(alloc: Global) -> Result<Machine, Fail> {
-    let config = Config::new(1, 1, 4096).ok_or("settings out of range")?;
-    let mut machine = Machine::new(alloc, config)?;
-    take(
-        &mut machine,
-        &[node(alloc)?, new(0), new(1), store(0, 0), Event::Snap],
-    )?;
-    take(&mut machine, stores(alloc)?.as_slice())?;
-    Ok(machine)
-}
-
-/// Drains the whole log.
-fn drain_all(machine: &mut Machine) -> Result<(), Fail> {
-    for _ in 0..LOGGED {
-        machine.step(&Event::Drain)?;
-    }
-    Ok(())
-}
-
-fn a_long_log_is_rewound_in(
-    rt: &impl Abort,
-    alloc: Global,
-    machine: &mut Machine,
-) -> Result<(), Fail> {
-    let ids = overwritten(alloc)?;
-    assert!(rt; machine.world().log() == ids.as_slice());
-    drain_all(machine)?;
-    assert_eq!(rt; machine.world().drained(), LOGGED);
-    assert_eq!(rt;
-        answered(machine, Event::Drain),
-        Err(Refusal::NothingToDrain)
-    );
-    assert_eq!(rt; machine.rewind(LOGGED), Ok(5 + LOGGED));
-    assert_eq!(rt; machine.world().drained(), 0);
-    assert!(rt; machine.world().log() == ids.as_slice());
-    assert_eq!(rt; machine.rewind(LOGGED - 1), Ok(6));
-    assert_eq!(rt; machine.world().log(), [FIRST].as_slice());
-    assert_eq!(rt; machine.rewind(1), Ok(5));
-    assert!(rt; machine.world().log().is_empty());
-    Ok(())
-}
-
-#[test]
-fn a_long_log_is_rewound(rt: HostRuntime) -> Result<(), Fail> {
-    let mut machine = with_long_log(rt.alloc())?;
-    a_long_log_is_rewound_in(&rt, rt.alloc(), &mut machine)
 }

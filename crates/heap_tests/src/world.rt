@@ -1,191 +1,152 @@
-//! The calls of a heap, each where it succeeds, and the refusals of a full one.
-use heap_class::{ClassNo, Kind, Name, ObjRef, Refusal};
+//! The calls of a heap, each where it succeeds.
+use heap_class::{ClassNo, Kind, Name, ObjRef};
 use heap_mark::Phase;
-use heap_scripts::{FIRST, node_fields, small_world};
+use heap_scripts::{FIRST, SECOND, node_fields, small_world};
 use heap_world::{Config, Created, Loaded, Overwritten, Replaced, World};
 use std::alloc::Global;
 use std::process::Abort;
 use std::test::Fail;
 
-/// Where the first object is.
-const PLACE: ObjRef = ObjRef { region: 0, cell: 0 };
+/// The id of the third object.
+const THIRD: u64 = 0x1000_0040;
 
-/// A class of nodes.
+/// Returns the place of an object of the first region.
+fn at(cell: u16) -> ObjRef {
+    ObjRef { region: 0, cell }
+}
+
+/// Defines a class of nodes.
 fn define_node(alloc: Global, world: &mut World) -> Result<ClassNo, Fail> {
     let name = Name::new(alloc, b"Node")?;
     let fields = node_fields(alloc)?;
     Ok(world.define_class(&name, None, &fields)?)
 }
 
-/// A class of arrays.
+/// Defines a class of arrays.
 fn define_array(alloc: Global, world: &mut World) -> Result<ClassNo, Fail> {
     let name = Name::new(alloc, b"[Lq;")?;
     Ok(world.define_array_class(&name)?)
 }
 
-/// A heap with an array of two longs in register 0.
-fn with_longs(alloc: Global) -> Result<World, Fail> {
-    let mut world = small_world(alloc)?;
-    world.new_prim(0, 0, Kind::Long, 2)?;
-    Ok(world)
-}
-
-/// A heap with an array of two references in register 0.
-fn with_references(alloc: Global) -> Result<World, Fail> {
-    let mut world = small_world(alloc)?;
-    define_array(alloc, &mut world)?;
-    world.new_array(0, 0, 0, 2)?;
-    Ok(world)
-}
-
-/// Whether a heap has no class, no object and no cycle.
+/// Returns whether a heap of one region has no class, no object and no cycle.
 fn is_empty(world: &World) -> bool {
     world.classes().len() == 0
+        && world.regions().count() == 1
         && world.registers() == [0; 8].as_slice()
+        && is_idle(world)
+}
+
+/// Returns whether no cycle runs.
+fn is_idle(world: &World) -> bool {
+    world.phase() == Phase::Idle
         && world.gray().is_empty()
         && world.log().is_empty()
         && world.drained() == 0
 }
 
-fn a_heap_opens_empty_in(rt: &impl Abort, world: &World) -> Result<(), Fail> {
-    assert_eq!(rt; world.phase(), Phase::Idle);
-    assert_eq!(rt; world.regions().count(), 1);
-    assert!(rt; is_empty(world));
-    Ok(())
-}
-
-#[test]
-fn a_heap_opens_empty(rt: HostRuntime) -> Result<(), Fail> {
-    let world = small_world(rt.alloc())?;
-    a_heap_opens_empty_in(&rt, &world)
-}
-
-#[test]
-fn settings_have_limits(rt: HostRuntime) -> Result<(), Fail> {
-    let config = Config::new(256, 16, 65536).ok_or("settings out of range")?;
-    assert_eq!(rt; config.regions(), 256);
-    assert_eq!(rt; config.mutators(), 16);
-    assert_eq!(rt; config.keep(), 65536);
-    assert!(rt; Config::new(257, 16, 65536).is_none());
-    Ok(())
-}
-
-fn an_instance_is_made_in(rt: &impl Abort, alloc: Global, world: &mut World) -> Result<(), Fail> {
+fn classes_are_defined(rt: &impl Abort, alloc: Global, world: &mut World) -> Result<(), Fail> {
     assert_eq!(rt; define_node(alloc, world)?, 0);
-    let made = Created {
+    assert_eq!(rt; define_array(alloc, world)?, 1);
+    Ok(())
+}
+
+/// Makes a node in register 3, longs in register 0 and an array in register 4.
+fn objects_are_made(rt: &impl Abort, world: &mut World) -> Result<(), Fail> {
+    let node = Created {
         id: FIRST,
-        at: PLACE,
+        at: at(0),
         fresh: true,
         old: 0,
     };
-    assert_eq!(rt; world.new_instance(0, 3, 0)?, made);
-    assert!(rt; world.has_register(0, 3));
-    assert_eq!(rt; world.register(0, 3), FIRST);
+    assert_eq!(rt; world.new_instance(0, 3, 0)?, node);
+    assert_eq!(rt; world.new_prim(0, 0, Kind::Long, 2)?.id, SECOND);
+    assert_eq!(rt; world.new_array(0, 4, 1, 2)?.id, THIRD);
     Ok(())
 }
 
-#[test]
-fn an_instance_is_made(rt: HostRuntime) -> Result<(), Fail> {
-    let mut world = small_world(rt.alloc())?;
-    an_instance_is_made_in(&rt, rt.alloc(), &mut world)
-}
-
-fn values_are_written_and_read_in(rt: &impl Abort, world: &mut World) -> Result<(), Fail> {
-    assert_eq!(rt; world.put(0, 0, 1, 5)?, Overwritten { at: PLACE, old: 0 });
+/// Writes the longs, and reads them to no register.
+fn values_are_written_and_read(rt: &impl Abort, world: &mut World) -> Result<(), Fail> {
+    assert_eq!(rt; world.put(0, 0, 1, 5)?, Overwritten { at: at(1), old: 0 });
     let value = Loaded {
         word: 5,
         reference: false,
         old: 0,
     };
     assert_eq!(rt; world.load(0, 1, 0, 1)?, value);
-    assert_eq!(rt; world.registers(), [FIRST, 0, 0, 0, 0, 0, 0, 0].as_slice());
     Ok(())
 }
 
-#[test]
-fn values_are_written_and_read(rt: HostRuntime) -> Result<(), Fail> {
-    let mut world = with_longs(rt.alloc())?;
-    values_are_written_and_read_in(&rt, &mut world)
-}
-
-fn references_are_written_and_read_in(rt: &impl Abort, world: &mut World) -> Result<(), Fail> {
+/// Writes the node to the array, and reads it to register 5.
+fn references_are_written_and_read(rt: &impl Abort, world: &mut World) -> Result<(), Fail> {
     let stored = Replaced {
-        at: PLACE,
+        at: at(2),
         old: 0,
         logged: false,
     };
-    assert_eq!(rt; world.store(0, 0, 1, 0)?, stored);
+    assert_eq!(rt; world.store(0, 4, 1, 3)?, stored);
     let reference = Loaded {
         word: FIRST,
         reference: true,
         old: 0,
     };
-    assert_eq!(rt; world.load(0, 1, 0, 1)?, reference);
+    assert_eq!(rt; world.load(0, 5, 4, 1)?, reference);
     Ok(())
 }
 
-#[test]
-fn references_are_written_and_read(rt: HostRuntime) -> Result<(), Fail> {
-    let mut world = with_references(rt.alloc())?;
-    references_are_written_and_read_in(&rt, &mut world)
+/// Copies the longs to register 7, and makes register 0 null.
+fn registers_are_copied_and_cleared(rt: &impl Abort, world: &mut World) -> Result<(), Fail> {
+    assert_eq!(rt; world.move_register(0, 7, 0, 0)?, 0);
+    assert_eq!(rt; world.clear_register(0, 0)?, SECOND);
+    assert!(rt; world.has_register(0, 3));
+    assert_eq!(rt; world.register(0, 3), FIRST);
+    assert_eq!(rt;
+        world.registers(),
+        [0, 0, 0, FIRST, THIRD, FIRST, 0, SECOND].as_slice()
+    );
+    Ok(())
 }
 
-fn an_array_class_is_defined_in(
+fn a_heap_opens_empty_and_its_calls_succeed_in(
     rt: &impl Abort,
     alloc: Global,
     world: &mut World,
 ) -> Result<(), Fail> {
-    assert_eq!(rt; define_array(alloc, world)?, 0);
-    assert_eq!(rt; world.new_array(0, 0, 0, 2)?.id, FIRST);
-    Ok(())
+    assert!(rt; is_empty(world));
+    classes_are_defined(rt, alloc, world)?;
+    objects_are_made(rt, world)?;
+    values_are_written_and_read(rt, world)?;
+    references_are_written_and_read(rt, world)?;
+    registers_are_copied_and_cleared(rt, world)
 }
 
 #[test]
-fn an_array_class_is_defined(rt: HostRuntime) -> Result<(), Fail> {
+fn a_heap_opens_empty_and_its_calls_succeed(rt: HostRuntime) -> Result<(), Fail> {
     let mut world = small_world(rt.alloc())?;
-    an_array_class_is_defined_in(&rt, rt.alloc(), &mut world)
-}
-
-fn one_region_holds_1024_words_in(rt: &impl Abort, world: &mut World) -> Result<(), Fail> {
-    assert_eq!(rt; world.new_prim(0, 0, Kind::Long, 1024)?.id, FIRST);
-    assert_eq!(rt;
-        world.new_prim(0, 1, Kind::Long, 1025),
-        Err(Refusal::TooLarge)
-    );
-    assert_eq!(rt;
-        world.new_prim(0, 1, Kind::Long, 1024),
-        Err(Refusal::HeapFull)
-    );
-    Ok(())
+    a_heap_opens_empty_and_its_calls_succeed_in(&rt, rt.alloc(), &mut world)
 }
 
 #[test]
-fn one_region_holds_1024_words(rt: HostRuntime) -> Result<(), Fail> {
-    let mut world = small_world(rt.alloc())?;
-    one_region_holds_1024_words_in(&rt, &mut world)
-}
-
-fn registers_are_copied_and_cleared_in(rt: &impl Abort, world: &mut World) -> Result<(), Fail> {
-    assert_eq!(rt; world.move_register(0, 7, 0, 0)?, 0);
-    assert_eq!(rt; world.clear_register(0, 0)?, FIRST);
-    assert_eq!(rt; world.registers(), [0, 0, 0, 0, 0, 0, 0, FIRST].as_slice());
+fn settings_have_limits(rt: HostRuntime) -> Result<(), Fail> {
+    let config = Config::new(256, 16, 65536).ok_or("settings out of range")?;
+    assert_eq!(rt;
+        (config.regions(), config.mutators(), config.keep()),
+        (256, 16, 65536)
+    );
+    assert!(rt; Config::new(257, 16, 65536).is_none());
     Ok(())
 }
 
-#[test]
-fn registers_are_copied_and_cleared(rt: HostRuntime) -> Result<(), Fail> {
-    let mut world = with_longs(rt.alloc())?;
-    registers_are_copied_and_cleared_in(&rt, &mut world)
-}
-
-/// How many objects the end of a cycle condemns.
-fn condemned(world: &mut World) -> Result<u64, Refusal> {
+/// Makes an array of two longs, loses it, and ends a cycle. Returns how many objects that condemns.
+fn condemned(world: &mut World) -> Result<u64, Fail> {
+    world.new_prim(0, 0, Kind::Long, 2)?;
+    world.clear_register(0, 0)?;
+    world.snap()?;
     let finished = world.finish()?;
     Ok(finished.condemned)
 }
 
-/// How many objects a sweep takes out of the first region, and whether it leaves none.
-fn swept(world: &mut World) -> Result<(u64, bool), Refusal> {
+/// Returns how many objects a sweep takes out of the first region, and whether it leaves none.
+fn swept(world: &mut World) -> Result<(u64, bool), Fail> {
     let reclaimed = world.sweep(0)?;
     Ok((reclaimed.dead(), reclaimed.emptied()))
 }
@@ -194,8 +155,6 @@ fn a_region_without_live_objects_is_reclaimed_in(
     rt: &impl Abort,
     world: &mut World,
 ) -> Result<(), Fail> {
-    world.clear_register(0, 0)?;
-    assert_eq!(rt; world.snap()?, 0);
     assert_eq!(rt; condemned(world)?, 1);
     assert_eq!(rt; swept(world)?, (1, true));
     Ok(())
@@ -203,6 +162,6 @@ fn a_region_without_live_objects_is_reclaimed_in(
 
 #[test]
 fn a_region_without_live_objects_is_reclaimed(rt: HostRuntime) -> Result<(), Fail> {
-    let mut world = with_longs(rt.alloc())?;
+    let mut world = small_world(rt.alloc())?;
     a_region_without_live_objects_is_reclaimed_in(&rt, &mut world)
 }

@@ -5,7 +5,7 @@ use crate::mutators::REFUSED_LINES;
 use crate::sessions::{Outcome, machine, play};
 use crate::streams::{ByteWriter, Chunks, Spent};
 use session_text::Ended;
-use std::alloc::Global;
+use std::alloc::{AllocError, Global};
 use std::test::Fail;
 
 /// A session read in chunks of a size and written byte by byte.
@@ -24,6 +24,22 @@ fn in_chunks<'a>(
     play(alloc, machine(alloc, regions, 2, 64)?, reader, writer)
 }
 
+/// Returns how a session ends that is read and written byte by byte, and what it writes.
+fn answered_in_chunks(alloc: Global, text: &[u8]) -> Result<(Ended, Vec<u8>), Fail> {
+    let outcome = in_chunks(alloc, 1, text, 1)?;
+    Ok((outcome.ended, outcome.writer.taken))
+}
+
+/// Returns whether two sessions end alike, wrote the same and leave the same machine.
+fn are_alike(
+    chopped: &Outcome<Chunks<'_>, ByteWriter>,
+    whole: &Outcome<Chunks<'_>, Vec<u8>>,
+) -> bool {
+    chopped.ended == whole.ended
+        && chopped.writer.taken.as_slice() == whole.writer.as_slice()
+        && chopped.state.as_slice() == whole.state.as_slice()
+}
+
 /// Whether a session read byte by byte, or in chunks that cut lines, ends as one read and written at once, writes the
 /// same and leaves the same machine.
 fn is_the_same_in_chunks(alloc: Global, regions: u64, text: &[u8]) -> Result<bool, Fail> {
@@ -35,10 +51,7 @@ fn is_the_same_in_chunks(alloc: Global, regions: u64, text: &[u8]) -> Result<boo
     let whole = play(alloc, local, reader, Vec::new(alloc))?;
     for size in [1, 2, 7, 64] {
         let chopped = in_chunks(alloc, regions, text, size)?;
-        if chopped.ended != whole.ended
-            || chopped.writer.taken.as_slice() != whole.writer.as_slice()
-            || chopped.state.as_slice() != whole.state.as_slice()
-        {
+        if !are_alike(&chopped, &whole) {
             return Ok(false);
         }
     }
@@ -47,12 +60,8 @@ fn is_the_same_in_chunks(alloc: Global, regions: u64, text: &[u8]) -> Result<boo
 
 #[test]
 fn bytes_come_and_go_one_by_one(rt: HostRuntime) -> Result<(), Fail> {
-    let outcome = in_chunks(rt.alloc(), 1, ONE_POINT.as_bytes(), 1)?;
-    assert_eq!(rt; outcome.ended, Ended::Eof);
-    assert_eq!(rt;
-        outcome.writer.taken.as_slice(),
-        DUMP_OF_ONE_POINT.as_bytes()
-    );
+    let (ended, text) = answered_in_chunks(rt.alloc(), ONE_POINT.as_bytes())?;
+    assert!(rt; ended == Ended::Eof && text.as_slice() == DUMP_OF_ONE_POINT.as_bytes());
     Ok(())
 }
 
@@ -77,22 +86,23 @@ fn one_byte_a_read_or_all_at_once(rt: HostRuntime) -> Result<(), Fail> {
 }
 
 /// So many lines `snap`, one line of so many letters, and a line `mark`.
-fn long_text(alloc: Global, lines: usize, letters: usize) -> Result<Vec<u8>, Fail> {
-    let mut text = Vec::new(alloc);
-    for _ in 0..lines {
-        text.extend_from_slice(b"snap\n")?;
-    }
-    text.extend_from_slice(vec![in alloc; b'a'; letters]?.as_slice())?;
-    text.extend_from_slice(b"\nmark\n")?;
-    Ok(text)
+fn long_text(alloc: Global, lines: usize, letters: usize) -> Result<String, AllocError> {
+    let snaps = "snap\n".repeat(alloc, lines)?;
+    let word = "a".repeat(alloc, letters)?;
+    format!(in alloc; "{snaps}{word}\nmark\n")
+}
+
+/// Returns whether a session of such a text is the same in chunks.
+fn is_the_same_at(alloc: Global, lines: usize, letters: usize) -> Result<bool, Fail> {
+    let text = long_text(alloc, lines, letters)?;
+    is_the_same_in_chunks(alloc, 1, text.as_str().as_bytes())
 }
 
 #[test]
 fn long_sessions_in_chunks(rt: HostRuntime) -> Result<(), Fail> {
     for (lines, letters) in [(0, 4096), (0, 4097), (819, 4096), (2000, 4097)] {
-        let text = long_text(rt.alloc(), lines, letters)?;
         assert!(rt;
-            is_the_same_in_chunks(rt.alloc(), 1, text.as_slice())?,
+            is_the_same_at(rt.alloc(), lines, letters)?,
             "at {lines} lines, {letters} letters"
         );
     }

@@ -30,27 +30,34 @@ fn session(
     play(alloc, machine(alloc, 1, 1, 64)?, reader, writer)
 }
 
-/// Whether it ended so, wrote this, and left a machine that answers so.
+/// Returns whether a session with such interruptions ends so, writes this, and leaves a machine that answers so. Gives how
+/// often its reader and its writer were then interrupted since they last did something, too.
 fn ends_so(
-    outcome: &Outcome<Interrupted<Chunks<'static>>, Interrupted<Vec<u8>>>,
+    alloc: Global,
+    (before_reads, before_writes): (u32, u32),
     ended: Ended,
     text: &str,
     state: &[u8],
-) -> bool {
-    outcome.ended == ended
+) -> Result<(bool, u32, u32), Fail> {
+    let outcome = session(alloc, before_reads, before_writes)?;
+    let as_told = outcome.ended == ended
         && outcome.writer.stream.as_slice() == text.as_bytes()
-        && outcome.state.as_slice() == state
+        && outcome.state.as_slice() == state;
+    Ok((as_told, outcome.reader.done, outcome.writer.done))
 }
 
 #[test]
 fn interruptions_do_not_show(rt: HostRuntime) -> Result<(), Fail> {
     let after = state_after(rt.alloc(), ONE_POINT.as_bytes())?;
-    for (before_reads, before_writes) in [(0, 0), (1, 0), (0, 1), (3, 5), (99, 99)] {
-        let outcome = session(rt.alloc(), before_reads, before_writes)?;
-        assert!(rt;
-            ends_so(&outcome, Ended::Eof, DUMP_OF_ONE_POINT, after.as_slice()),
-            "at {before_reads}"
-        );
+    for times in [(0, 0), (1, 0), (0, 1), (3, 5), (99, 99)] {
+        let (as_told, _, _) = ends_so(
+            rt.alloc(),
+            times,
+            Ended::Eof,
+            DUMP_OF_ONE_POINT,
+            after.as_slice(),
+        )?;
+        assert!(rt; as_told, "at {}, {}", times.0, times.1);
     }
     Ok(())
 }
@@ -60,9 +67,14 @@ fn a_hundred_interrupted_reads(rt: HostRuntime) -> Result<(), Fail> {
     assert_eq!(rt; read_inlet::INTERRUPT_LIMIT, 100);
     let before = state_after(rt.alloc(), b"")?;
     for times in [100, 101, u32::MAX] {
-        let outcome = session(rt.alloc(), times, 0)?;
-        assert!(rt; ends_so(&outcome, Ended::ReadFault, "bad read\n", before.as_slice()));
-        assert_eq!(rt; outcome.reader.done, 100);
+        let (as_told, reads, _) = ends_so(
+            rt.alloc(),
+            (times, 0),
+            Ended::ReadFault,
+            "bad read\n",
+            before.as_slice(),
+        )?;
+        assert!(rt; as_told && reads == 100, "at {times}");
     }
     Ok(())
 }
@@ -72,9 +84,14 @@ fn a_hundred_interrupted_writes(rt: HostRuntime) -> Result<(), Fail> {
     assert_eq!(rt; write_outlet::INTERRUPT_LIMIT, 100);
     let after_one = state_after(rt.alloc(), b"class Point - x:int y:int\n")?;
     for times in [100, 101, u32::MAX] {
-        let outcome = session(rt.alloc(), 0, times)?;
-        assert!(rt; ends_so(&outcome, Ended::WriteFault, "", after_one.as_slice()));
-        assert_eq!(rt; outcome.writer.done, 100);
+        let (as_told, _, writes) = ends_so(
+            rt.alloc(),
+            (0, times),
+            Ended::WriteFault,
+            "",
+            after_one.as_slice(),
+        )?;
+        assert!(rt; as_told && writes == 100, "at {times}");
     }
     Ok(())
 }

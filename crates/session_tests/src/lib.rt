@@ -14,6 +14,8 @@ mod faults;
 #[cfg(test)]
 mod four_bytes;
 #[cfg(test)]
+mod growth;
+#[cfg(test)]
 mod interrupts;
 #[cfg(test)]
 mod large;
@@ -22,7 +24,11 @@ mod lines;
 #[cfg(test)]
 mod mutators;
 #[cfg(test)]
+mod names;
+#[cfg(test)]
 mod rewinds;
+#[cfg(test)]
+mod scripts;
 #[cfg(test)]
 mod segments;
 #[cfg(test)]

@@ -22,55 +22,57 @@ fn is_answered(alloc: Global, line: &[u8], ended: Ended, reply: &str) -> Result<
     Ok(came == ended && text.as_slice() == reply.as_bytes())
 }
 
-#[test]
-fn lines_at_the_limits(rt: HostRuntime) -> Result<(), Fail> {
-    let lines: [(&[u8], &str); 8] = [
-        (b"clear 0 00000000000000000000\n", "ok\n"),
-        (b"clear 0 000000000000000000000\n", "bad command\n"),
-        (b"clear 0 18446744073709551615\n", "no 7 BadRegister\n"),
-        (b"clear 0 18446744073709551616\n", "bad command\n"),
-        (b"put 0 0 0 -1\n", "bad command\n"),
-        (b"clear 0 0\x80\n", "bad command\n"),
-        (b"class A - x:y:int\n", "bad command\n"),
-        (b"class a:b -\n", "no 4 BadName\n"),
-    ];
+/// Lines and the reply to each of them alone.
+const LIMITS: [(&[u8], &str); 8] = [
+    (b"clear 0 00000000000000000000\n", "ok\n"),
+    (b"clear 0 000000000000000000000\n", "bad command\n"),
+    (b"clear 0 18446744073709551615\n", "no 7 BadRegister\n"),
+    (b"clear 0 18446744073709551616\n", "bad command\n"),
+    (b"put 0 0 0 -1\n", "bad command\n"),
+    (b"clear 0 0\x80\n", "bad command\n"),
+    (b"class A - x:y:int\n", "bad command\n"),
+    (b"class a:b -\n", "no 4 BadName\n"),
+];
+
+/// Fails unless each line alone is answered so.
+fn are_answered(alloc: Global, lines: &[(&[u8], &str)]) -> Result<(), Fail> {
     for (line, reply) in lines {
-        assert!(rt;
-            is_answered(rt.alloc(), line, Ended::Eof, reply)?,
-            "at {reply}"
-        );
+        if !is_answered(alloc, line, Ended::Eof, reply)? {
+            return Err(format!(in alloc; "not answered {reply}")?.into());
+        }
     }
     Ok(())
 }
 
 #[test]
+fn lines_at_the_limits(rt: HostRuntime) -> Result<(), Fail> {
+    are_answered(rt.alloc(), &LIMITS)
+}
+
+/// Lines that define classes, and the reply to each of them alone.
+const DEFINITIONS: [(&[u8], &str); 17] = [
+    (b"class A\x01 -\n", "bad command\n"),
+    (b"class A - x\x7f:int\n", "bad command\n"),
+    (b"class A - x:int\xff\n", "bad command\n"),
+    (b"array A\t\n", "bad command\n"),
+    (b"array\n", "bad command\n"),
+    (b"array A B\n", "bad command\n"),
+    (b"class A\n", "bad command\n"),
+    (b"class A -x\n", "bad command\n"),
+    (b"class A - x\n", "bad command\n"),
+    (b"class A - x:\n", "bad command\n"),
+    (b"class A - x: int\n", "bad command\n"),
+    (b"class A 99 x:foo\n", "bad command\n"),
+    (b"class A 99 x:int\n", "no 2 NoClass\n"),
+    (b"class A - :int\n", "no 4 BadName\n"),
+    (b"array a:b\n", "no 4 BadName\n"),
+    (b"array A\r\n", "ok class 0\n"),
+    (b"  class  A  -  x:int  y:object \n", "ok class 0\n"),
+];
+
+#[test]
 fn names_and_fields(rt: HostRuntime) -> Result<(), Fail> {
-    let lines: [(&[u8], &str); 17] = [
-        (b"class A\x01 -\n", "bad command\n"),
-        (b"class A - x\x7f:int\n", "bad command\n"),
-        (b"class A - x:int\xff\n", "bad command\n"),
-        (b"array A\t\n", "bad command\n"),
-        (b"array\n", "bad command\n"),
-        (b"array A B\n", "bad command\n"),
-        (b"class A\n", "bad command\n"),
-        (b"class A -x\n", "bad command\n"),
-        (b"class A - x\n", "bad command\n"),
-        (b"class A - x:\n", "bad command\n"),
-        (b"class A - x: int\n", "bad command\n"),
-        (b"class A 99 x:foo\n", "bad command\n"),
-        (b"class A 99 x:int\n", "no 2 NoClass\n"),
-        (b"class A - :int\n", "no 4 BadName\n"),
-        (b"array a:b\n", "no 4 BadName\n"),
-        (b"array A\r\n", "ok class 0\n"),
-        (b"  class  A  -  x:int  y:object \n", "ok class 0\n"),
-    ];
-    for (line, reply) in lines {
-        assert!(rt;
-            is_answered(rt.alloc(), line, Ended::Eof, reply)?,
-            "at {reply}"
-        );
-    }
-    Ok(())
+    are_answered(rt.alloc(), &DEFINITIONS)
 }
 
 /// A class whose super isn't there, with so many fields of no name.

@@ -59,3 +59,12 @@ fn limits_of_one_region(rt: HostRuntime) -> Result<(), Fail> {
     let replies = "ok object 0x10000000\nno 12 TooLarge\nno 13 HeapFull\n";
     answers_over(rt.alloc(), 1, 1024, 4096, lines, replies)
 }
+
+#[test]
+fn arrays_are_no_instances(rt: HostRuntime) -> Result<(), Fail> {
+    let lines =
+        "class Point - x:int y:int\narray [LPoint;\nnew 0 0 1\nnewarray 0 0 0 1\nnew 0 0 0\nnewarray 0 1 1 1\n";
+    let replies =
+        "ok class 0\nok class 1\nno 10 WrongKind\nno 10 WrongKind\nok object 0x10000000\nok object 0x10000020\n";
+    answers(rt.alloc(), 1024, 4096, lines, replies)
+}

@@ -18,12 +18,23 @@ pub fn machine(alloc: Global, regions: u64, mutators: u64, keep: u64) -> Result<
 
 // ---- what is written
 
-/// How a session ends, and what it writes.
-pub fn talk<R: Read + Drop>(alloc: Global, local: &mut Local, reader: R) -> (Ended, Vec<u8>) {
+/// Returns how a session ends, with its reader and its writer.
+fn served<R: Read + Drop, W: Write + Drop>(
+    alloc: Global,
+    local: &mut Local,
+    reader: R,
+    writer: W,
+) -> (Ended, R, W) {
     let mut inlet = ReadInlet::new(reader);
-    let mut outlet = WriteOutlet::new(Vec::new(alloc));
+    let mut outlet = WriteOutlet::new(writer);
     let ended = serve(alloc, &mut inlet, &mut outlet, local, 0);
-    (ended, outlet.into_writer())
+    (ended, inlet.into_reader(), outlet.into_writer())
+}
+
+/// Returns how a session ends, and what it writes.
+pub fn talk<R: Read + Drop>(alloc: Global, local: &mut Local, reader: R) -> (Ended, Vec<u8>) {
+    let (ended, _, text) = served(alloc, local, reader, Vec::new(alloc));
+    (ended, text)
 }
 
 /// The same over a heap of so many regions, read in chunks of a size.
@@ -111,13 +122,12 @@ pub fn play<R: Read + Drop, W: Write + Drop>(
     reader: R,
     writer: W,
 ) -> Result<Outcome<R, W>, Fail> {
-    let mut inlet = ReadInlet::new(reader);
-    let mut outlet = WriteOutlet::new(writer);
-    let ended = serve(alloc, &mut inlet, &mut outlet, &mut local, 0);
+    let (ended, reader, writer) = served(alloc, &mut local, reader, writer);
+    let state = state_of(alloc, &mut local)?;
     Ok(Outcome {
         ended,
-        reader: inlet.into_reader(),
-        writer: outlet.into_writer(),
-        state: state_of(alloc, &mut local)?,
+        reader,
+        writer,
+        state,
     })
 }

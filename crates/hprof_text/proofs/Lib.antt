@@ -9,6 +9,8 @@ pub mod Bounds
 pub mod Lengths
 pub mod Tables
 pub mod Fits
+pub mod Ids
+pub mod Counted
 pub mod Loops
 pub mod Written
 pub mod Numbered

@@ -1,9 +1,9 @@
 -- A loop that appends what each item of a list gives.
-use Rattle.std.proofs.Common.{◌≡◌, ℕ, zero, suc, ◌+◌, ◌<◌, ◌≤◌, List, [], ◌∷◌, ◌++◌, length, take, get_or, map, refl, sym, ap, ap₂, ◌∙◌, subst, arith, append_assoc, length-append}
+use Rattle.std.proofs.Common.{◌≡◌, ℕ, zero, suc, ◌+◌, ◌<◌, ◌≤◌, List, [], ◌∷◌, ◌++◌, length, take, drop, get_or, map, refl, sym, ap, ap₂, ◌∙◌, subst, arith, append_assoc, length-append}
 use Rattle.std.specs.Prelude.{flat_map, zip, Option, Some, slice_get, IfSome, sum_by}
 use Rattle.std.specs.List.{enumerate_from}
 use Rattle.std.specs.Option.{option_map}
-use Rattle.std.proofs.lemmas.List.{append-nil, take_more, get_or_default, take_all, length-map}
+use Rattle.std.proofs.lemmas.List.{append-nil, take_more, get_or_default, take_all, length-map, take-append-drop}
 use Rattle.std.proofs.lemmas.List.Sums.{sum_by_more}
 use Rattle.std.proofs.lemmas.List.Concat.{flat_map-append}
 use Rattle.std.proofs.lemmas.List.Folds.{length-flat_map-take}
@@ -90,3 +90,14 @@ class_item f classes k h =
 
 pub length_items : (f : ℕ × Class → List ℕ) (classes : List Class) → length (map f (enumerate_from 0 classes)) ≡ length classes
 length_items f classes = length-map (enumerate_from 0 classes) f ∙ length-enumerate_from 0 classes
+
+-- ---- several at a time
+
+-- there is room for the first of what is left
+pub front_room : {X : Type 0} (f : X → List ℕ) (xs rest first : List X) (old now : List ℕ) (n limit : ℕ) → first ≡ take n rest → now ++ flat_map f rest ≡ old ++ flat_map f xs → length old + length (flat_map f xs) ≤ limit → length now + length (flat_map f first) ≤ limit
+front_room f xs rest first old now n limit e h room =
+    let s : length (flat_map f rest) ≡ length (flat_map f (take n rest)) + length (flat_map f (drop n rest)) =
+    ap (λ l. length (flat_map f l)) (sym (take-append-drop n rest)) ∙ ap length (flat_map-append f (take n rest) (drop n rest)) ∙ length-append (flat_map f (take n rest)) (flat_map f (drop n rest)) in
+    let d : length (flat_map f first) ≡ length (flat_map f (take n rest)) = ap (λ l. length (flat_map f l)) e in
+    let w : length (now ++ flat_map f rest) ≡ length (old ++ flat_map f xs) = ap length h in
+    omega (arith, s, d, w, length-append now (flat_map f rest), length-append old (flat_map f xs), room)

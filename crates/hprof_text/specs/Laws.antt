@@ -1,10 +1,11 @@
 -- What holds of every text.
-use Rattle.std.specs.Prelude.{◌≡◌, ℕ, ◌^◌, ◌<◌, List}
+use Rattle.std.specs.Prelude.{◌≡◌, ℕ, ◌^◌, ◌<◌, ◌≤◌, List, length}
 use Rattle.std.specs.List.{concat}
 use Rattle.heap_class.specs.declared.IdSize.{IdSize}
 use Rattle.hprof_text.specs.Image.{Image, IsDumpable}
 use Rattle.hprof_text.specs.Segments.{AreSegments, segments_of, pieces_of, dump_text}
-use Rattle.hprof_text.specs.Fits.{HoldsWhole}
+use Rattle.hprof_text.specs.Text.{id}
+use Rattle.hprof_text.specs.Fits.{FitsId, HoldsWhole}
 
 -- the pieces joined are the text
 abbrev pub PiecesJoin : IdSize → Image → ℕ → Type 0
@@ -17,3 +18,12 @@ IsCut limit subs = AreSegments limit subs (segments_of limit subs)
 -- within the limits of a dump, each number of the text is below what the bytes that it has there hold
 abbrev pub NumbersFit : IdSize → Image → ℕ → Type 0
 NumbersFit ids image time = IsDumpable image → time < 2 ^ 64 → HoldsWhole ids image time
+
+-- the pieces of a dump are few: one for each of 65,536 objects, 256 classes, their roots and 128 registers at most, the
+-- opening records and the end
+abbrev pub PiecesFew : IdSize → Image → ℕ → Type 0
+PiecesFew ids image time = IsDumpable image → length (pieces_of ids image time) ≤ 66178
+
+-- identifiers that fit, and whose bytes are equal, are equal
+abbrev pub EqualIds : IdSize → ℕ → ℕ → Type 0
+EqualIds ids a b = FitsId ids a → FitsId ids b → id ids a ≡ id ids b → a ≡ b

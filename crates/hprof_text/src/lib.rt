@@ -7,7 +7,7 @@ ghost use Rattle.heap_class.specs.declared.Refusal.TheVariants.{NoMemory};
 ghost use Rattle.heap_class.specs.declared.IdSize.{IdSize};
 ghost use Rattle.hprof_text.specs.Image.{Image, IsDumpable};
 ghost use Rattle.hprof_text.specs.Cursors.{IsAt};
-ghost use Rattle.hprof_text.specs.Laws.{PiecesJoin, IsCut, NumbersFit};
+ghost use Rattle.hprof_text.specs.Laws.{EqualIds, IsCut, NumbersFit, PiecesFew, PiecesJoin};
 ghost use Rattle.hprof_text.specs.Segments.{dump_text, piece_of};
 
 use crate::measure::Measure;
@@ -201,8 +201,18 @@ pub fn segments_are_cut()
     ensures { (limit : ℕ) (subs : List (List ℕ)) → IsCut limit subs }
 {}
 
+/// The law that a dump has at most 66,178 pieces.
+pub fn pieces_few()
+    ensures { (ids : IdSize) (image : Image) (time : ℕ) → PiecesFew ids image time }
+{}
+
 /// The law that each number of a dump fits in the bytes that it has there: lengths, counts, serials, the ids of classes
 /// and names, type codes and the time.
 pub fn numbers_fit()
     ensures { (ids : IdSize) (image : Image) (time : ℕ) → NumbersFit ids image time }
+{}
+
+/// The law that two identifiers that fit and have equal bytes are equal.
+pub fn equal_ids()
+    ensures { (ids : IdSize) (a b : ℕ) → EqualIds ids a b }
 {}

@@ -10,7 +10,11 @@ ghost use Rattle.hprof_text.specs.Records.{opening_of};
 ghost use Rattle.hprof_text.specs.Text.{id, field_entry, utf8, load_class, value_bytes, dump_of};
 
 use crate::buffer::Buffer;
+use byteorder::{BigEndian, ByteOrder};
 use heap_class::{ClassNo, FirstClasses, IdSize, Kind, ObjKind};
+
+/// How many words are put in order before they are appended.
+const WORDS_AT_ONCE: usize = 32;
 
 impl Buffer {
     /// Appends the own fields of a class, in order.
@@ -48,8 +52,28 @@ impl Buffer {
         ensures written { self.new.written ≡ self.old.written ++ flat_map (big_bytes width) words.now }
         ensures limit { self.new.limit ≡ self.old.limit }
     {
+        if width == 8 {
+            return self.whole_words(words);
+        }
         for word in words {
             self.number(width as usize, *word);
+        }
+    }
+
+    // Appends all 8 bytes of each word, some words at a time.
+    fn whole_words(&mut self, words: &[u64])
+        requires { HasRoom self.old (flat_map (big_bytes 8) words.now) }
+        ensures written { self.new.written ≡ self.old.written ++ flat_map (big_bytes 8) words.now }
+        ensures limit { self.new.limit ≡ self.old.limit }
+    {
+        let mut bytes = [0; 8 * WORDS_AT_ONCE];
+        let mut rest = words;
+        while !rest.is_empty() {
+            let (first, others) = rest.split_at(rest.len().min(WORDS_AT_ONCE));
+            let part = &mut bytes[..8 * first.len()];
+            BigEndian::write_u64_into(first, part);
+            self.bytes(part);
+            rest = others;
         }
     }
 

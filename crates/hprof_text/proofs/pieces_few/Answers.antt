@@ -1,0 +1,5 @@
+use Rattle.hprof_text.proofs.Counted.{pieces_few}
+use Rattle.hprof_text.proofs.pieces_few.Goals as goal
+
+pub returns : goal.returns
+returns c = pieces_few

@@ -59,19 +59,56 @@ fn numbered_class(alloc: Global, random: &mut Pcg32, number: u64) -> Result<Even
 fn any_object(random: &mut Pcg32, m: u64, r: u64) -> Event {
     let class = below(random, 12);
     match below(random, 16) {
-        0 => Event::NewPrim {
+        0 | 1 => Event::NewPrim {
             m,
             r,
             kind: any_kind(random),
             len: any_length(random),
         },
-        1 | 2 => Event::NewArray {
+        2..=4 => Event::NewArray {
             m,
             r,
             class,
             len: any_length(random),
         },
         _ => Event::New { m, r, class },
+    }
+}
+
+/// A slot of an instance or of an array, if that is long enough.
+fn any_slot(random: &mut Pcg32) -> u64 {
+    match below(random, 3) {
+        0 => below(random, 8),
+        1 => below(random, 66),
+        _ => below(random, 1026),
+    }
+}
+
+/// A value that fits into one byte, four or eight.
+fn any_value(random: &mut Pcg32) -> u64 {
+    match below(random, 3) {
+        0 => below(random, 256),
+        1 => below(random, 0xffff_ffff),
+        _ => u64::MAX - below(random, 0xffff_ffff),
+    }
+}
+
+/// What writes a slot of the object in a register: a value, or what another register holds.
+fn any_write(random: &mut Pcg32, m: u64, target: u64) -> Event {
+    let slot = any_slot(random);
+    match below(random, 2) {
+        0 => Event::Put {
+            m,
+            target,
+            slot,
+            value: any_value(random),
+        },
+        _ => Event::Store {
+            m,
+            target,
+            slot,
+            source: below(random, 8),
+        },
     }
 }
 
@@ -106,6 +143,15 @@ impl Heaps {
     fn fill(&mut self, alloc: Global, random: &mut Pcg32, mutators: u64) -> Result<(), Fail> {
         for register in 0..mutators.saturating_mul(8) {
             let event = any_object(random, register / 8, register % 8);
+            self.step(alloc, &event)?;
+        }
+        Ok(())
+    }
+
+    /// Writes a slot of the object in each register of so many mutators.
+    fn write(&mut self, alloc: Global, random: &mut Pcg32, mutators: u64) -> Result<(), Fail> {
+        for register in 0..mutators.saturating_mul(8) {
+            let event = any_write(random, register / 8, register % 8);
             self.step(alloc, &event)?;
         }
         Ok(())
@@ -227,7 +273,7 @@ impl Heaps {
         read_back(alloc, &self.four, 4, &self.plain, tags)
     }
 
-    /// Fills the registers and takes seeded steps, and reads back the dumps after each.
+    /// Fills the registers and writes slots, and then takes seeded steps. Reads back the dumps after each.
     fn go_on(
         &mut self,
         alloc: Global,
@@ -235,6 +281,9 @@ impl Heaps {
         tags: &mut Vec<u64>,
     ) -> Result<(), Fail> {
         self.fill(alloc, random, 16)?;
+        for _ in 0..8 {
+            self.write(alloc, random, 16)?;
+        }
         self.read_back(alloc, tags)?;
         self.play(alloc, random, 100)?;
         self.read_back(alloc, tags)
@@ -251,7 +300,8 @@ impl Heaps {
     }
 }
 
-/// Reads back the dumps of a seeded heap: after its classes, with all registers full, and after seeded steps.
+/// Reads back the dumps of a seeded heap: after its classes, with all registers full and slots written, and
+/// after seeded steps.
 fn played(alloc: Global, seed: u64, tags: &mut Vec<u64>) -> Result<(), Fail> {
     let mut random = Pcg32::new(seed, 2);
     let mut heaps = Heaps::new(alloc)?;

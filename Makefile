@@ -21,7 +21,7 @@ test:
 	cmp examples/point.session crates/heapdbg/stdin
 	python3 checks/edits.py fit
 	python3 checks/no_memory.py
-	seq 6 | xargs -P $(JOBS) -I N sh -c 'cd crates/heap_region && rt try --test --fail-alloc N'
+	seq 5 | xargs -P $(JOBS) -I N sh -c 'cd crates/region_tests && rt try --test --fail-alloc N'
 	rt ci
 	@python3 checks/program.py crates/heapdbg/out/heapdbg crates/heapdbg/out/heapdbg.by-rattle
 

@@ -18,8 +18,6 @@ ghost use Rattle.heap_region.specs.Live.{cells_of, live_in, live_from};
 mod lists;
 mod slots;
 mod storage;
-#[cfg(test)]
-mod tests;
 
 use heap_class::{ObjKind, ObjRef, Refusal};
 pub use lists::{FreeCells, PoolRegions};

@@ -29,6 +29,9 @@ mod sizes;
 pub use crate::buffer::Buffer;
 pub use crate::list_view::{ListView, ListedObject};
 
+/// The most bytes of a segment's body, unless it is a single sub-record.
+pub const SEGMENT_LIMIT: u64 = 4096;
+
 /// The bytes of a piece. Contracts see the list.
 #[derive(Drop)]
 pub struct Bytes {

@@ -3,12 +3,9 @@ ghost use Rattle.std.specs.Prelude.{◌≡◌, ◌+◌, ◌*◌, ◌<◌, ◌≤
 ghost use Rattle.hprof_text.specs.Measured.{IsMeasured, total};
 ghost use Rattle.hprof_text.specs.Sizes.{class_size, object_size};
 
-use crate::View;
 use crate::sizes::{class_size, dump_size};
+use crate::{SEGMENT_LIMIT, View};
 use heap_class::{FirstClasses, IdSize};
-
-/// The most bytes of a segment's body, unless it is a single sub-record.
-const SEGMENT_LIMIT: u64 = 4096;
 
 /// The bytes of the segments so far: of those that are closed, with their heads, and of the body of the open one, if
 /// there is one.

@@ -7,15 +7,12 @@ ghost use Rattle.hprof_text.specs.Image.{IsKnown};
 ghost use Rattle.hprof_text.specs.Records.{class_at};
 ghost use Rattle.hprof_text.specs.Text.{record_of, class_dump, root_sticky_class, root_unknown, dump_of};
 
-use crate::Bytes;
 use crate::buffer::Buffer;
 use crate::sizes::{class_size, dump_size, root_size};
+use crate::{Bytes, SEGMENT_LIMIT};
 use heap_class::{ClassNo, FirstClasses, IdSize, ObjKind, Refusal};
 use std::alloc::Global;
 use std::marker::Model;
-
-/// The most bytes of a segment's body, unless it is a single sub-record.
-const SEGMENT_LIMIT: u64 = 4096;
 
 /// The bytes of a record's head.
 const HEAD: usize = 9;

@@ -182,6 +182,12 @@ impl Pair {
         }
     }
 
+    /// Returns whether both take any event alike.
+    fn any_step(&mut self, random: &mut Pcg32) -> Result<bool, AllocError> {
+        let event = any_event(self.alloc, random, &self.plain.current)?;
+        self.step(&event)
+    }
+
     /// Whether both take a seeded action alike: a rewind, or one to six steps.
     fn act(&mut self, random: &mut Pcg32) -> Result<bool, AllocError> {
         if below(random, 16) == 0 {
@@ -193,8 +199,7 @@ impl Pair {
         if !self.plain.current.marking && below(random, 3) == 0 {
             return self.link(random);
         }
-        let event = any_event(self.alloc, random, &self.plain.current)?;
-        self.step(&event)
+        self.any_step(random)
     }
 
     /// Whether both define a class of nodes, one of arrays and one of forks alike.

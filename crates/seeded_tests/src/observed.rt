@@ -134,16 +134,28 @@ pub fn regions_of(
     Ok(plain)
 }
 
+/// Puts the classes, the regions and the pool into a heap that is empty.
+fn observe_objects(alloc: Global, world: &World, heap: &mut PlainHeap) -> Result<(), AllocError> {
+    heap.classes = classes_of(alloc, world.classes())?;
+    heap.regions = regions_of(alloc, world.regions())?;
+    heap.pool = pool_of(alloc, world.regions())?;
+    Ok(())
+}
+
+/// Puts the registers and the cycle into a heap that is empty.
+fn observe_cycle(world: &World, heap: &mut PlainHeap) -> Result<(), AllocError> {
+    heap.registers.extend_from_slice(world.registers())?;
+    heap.gray.extend_from_slice(world.gray())?;
+    heap.log.extend_from_slice(world.log())?;
+    heap.drained = world.drained();
+    heap.marking = world.phase().is_marking();
+    Ok(())
+}
+
 /// The whole heap.
 pub fn observed(alloc: Global, world: &World) -> Result<PlainHeap, AllocError> {
-    Ok(PlainHeap {
-        classes: classes_of(alloc, world.classes())?,
-        regions: regions_of(alloc, world.regions())?,
-        pool: pool_of(alloc, world.regions())?,
-        registers: copied_numbers(alloc, world.registers())?,
-        gray: copied_numbers(alloc, world.gray())?,
-        log: copied_numbers(alloc, world.log())?,
-        drained: world.drained(),
-        marking: world.phase().is_marking(),
-    })
+    let mut heap = PlainHeap::empty(alloc);
+    observe_objects(alloc, world, &mut heap)?;
+    observe_cycle(world, &mut heap)?;
+    Ok(heap)
 }

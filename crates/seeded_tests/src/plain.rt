@@ -196,6 +196,20 @@ fn falling(alloc: Global, count: u64) -> Result<Vec<u64>, AllocError> {
 }
 
 impl PlainHeap {
+    /// A heap with nothing in it, not even a region.
+    pub fn empty(alloc: Global) -> PlainHeap {
+        PlainHeap {
+            classes: Vec::new(alloc),
+            regions: Vec::new(alloc),
+            pool: Vec::new(alloc),
+            registers: Vec::new(alloc),
+            gray: Vec::new(alloc),
+            log: Vec::new(alloc),
+            drained: 0,
+            marking: false,
+        }
+    }
+
     /// A heap as it begins.
     pub fn new(alloc: Global, regions: u64, mutators: usize) -> Result<PlainHeap, AllocError> {
         Ok(PlainHeap {

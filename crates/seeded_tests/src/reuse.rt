@@ -4,10 +4,10 @@ use crate::plain::{
     PlainClass, PlainField, PlainHeap, PlainObject, PlainRegion, copied_bytes, copied_kinds,
 };
 use heap_class::{Kind, ObjKind};
-use heap_scripts::{apply_all, new, node, take, there_and_back};
+use heap_scripts::{heap_after, machine_after, new, settings, take, there_and_back};
 use heap_step::Event;
 use heap_trail::Machine;
-use heap_world::{Config, World};
+use heap_world::World;
 use std::alloc::{AllocError, Global};
 use std::process::Abort;
 use std::test::Fail;
@@ -22,17 +22,16 @@ fn longs(r: u64, len: u64) -> Event {
     }
 }
 
-/// The steps up to the end of the cycle.
-fn cycle(alloc: Global) -> Result<[Event; 7], AllocError> {
-    Ok([
-        node(alloc)?,
+/// Returns the steps after the class up to the end of the cycle.
+fn cycle() -> [Event; 6] {
+    [
         new(0),
         longs(1, 5),
         Event::Clear { m: 0, r: 0 },
         Event::Snap,
         Event::Mark,
         Event::Finish,
-    ])
+    ]
 }
 
 /// The next cycle's beginning, the sweep that empties a region, and the array that takes it.
@@ -105,19 +104,31 @@ fn node_class(alloc: Global) -> Result<PlainClass, AllocError> {
     })
 }
 
-/// The heap, in every part, as the cycle's end leaves it.
-fn after_the_cycle(alloc: Global) -> Result<PlainHeap, AllocError> {
+/// Puts the regions as the cycle's end leaves them into the heap: a dead node in one, and live longs in the other.
+fn add_regions(alloc: Global, heap: &mut PlainHeap) -> Result<(), AllocError> {
     let dead = unmarked(alloc, ObjKind::Instance(0), 2, false)?;
+    heap.regions.push(pending_region(alloc, 4, dead)?)?;
     let live = unmarked(alloc, ObjKind::Prim(Kind::Long), 5, true)?;
-    let mut heap = PlainHeap::new(alloc, 2, 2)?;
+    heap.regions.push(pending_region(alloc, 16, live)?)?;
+    Ok(())
+}
+
+/// Puts all into the heap that the cycle's end leaves there.
+fn fill(alloc: Global, heap: &mut PlainHeap) -> Result<(), AllocError> {
     heap.classes.push(node_class(alloc)?)?;
     heap.regions.clear();
-    heap.regions.push(pending_region(alloc, 4, dead)?)?;
-    heap.regions.push(pending_region(alloc, 16, live)?)?;
+    add_regions(alloc, heap)?;
     heap.pool.clear();
     if let Some(register) = heap.registers.get_mut(1) {
         *register = 0x1000_2000;
     }
+    Ok(())
+}
+
+/// The heap, in every part, as the cycle's end leaves it.
+fn after_the_cycle(alloc: Global) -> Result<PlainHeap, AllocError> {
+    let mut heap = PlainHeap::new(alloc, 2, 2)?;
+    fill(alloc, &mut heap)?;
     Ok(heap)
 }
 
@@ -126,17 +137,9 @@ fn is_after_the_cycle(alloc: Global, world: &World) -> Result<bool, AllocError> 
     Ok(observed(alloc, world)? == after_the_cycle(alloc)?)
 }
 
-/// A heap at the cycle's end.
-fn cycled(alloc: Global, config: Config) -> Result<World, Fail> {
-    let mut world = World::new(alloc, config)?;
-    apply_all(&mut world, &cycle(alloc)?)?;
-    Ok(world)
-}
-
-/// A machine after all steps.
-fn reused(alloc: Global, config: Config) -> Result<Machine, Fail> {
-    let mut machine = Machine::new(alloc, config)?;
-    take(&mut machine, &cycle(alloc)?)?;
+/// Returns a machine after all steps.
+fn reused(alloc: Global) -> Result<Machine, Fail> {
+    let mut machine = machine_after(alloc, settings(2, 2, 1024)?, &cycle())?;
     take(&mut machine, &reuse())?;
     Ok(machine)
 }
@@ -154,48 +157,75 @@ fn sweep_and_reuse_rewound_in(
 
 #[test]
 fn sweep_and_reuse_rewound(rt: HostRuntime) -> Result<(), Fail> {
-    let config = Config::new(2, 2, 1024).ok_or("settings out of range")?;
-    let mut machine = reused(rt.alloc(), config)?;
+    let mut machine = reused(rt.alloc())?;
     sweep_and_reuse_rewound_in(&rt, rt.alloc(), &mut machine)
 }
 
-/// The heap after the steps: as the next cycle's beginning leaves it, then as the sweep does, then as the array does.
-fn after_each(alloc: Global) -> Result<[PlainHeap; 3], AllocError> {
-    let mut snapped = after_the_cycle(alloc)?;
-    snapped.marking = true;
-    snapped.gray.push(0x1000_2000)?;
-    if let Some(object) = snapped.object_mut(0x1000_2000) {
+/// Marks the array of the second region, as the next cycle's beginning does.
+fn mark_longs(heap: &mut PlainHeap) -> Result<(), AllocError> {
+    heap.marking = true;
+    if let Some(object) = heap.object_mut(0x1000_2000) {
         object.mark = true;
     }
-    let mut swept = snapped.copied(alloc)?;
-    swept.release(0)?;
-    let mut made = swept.copied(alloc)?;
-    made.pool.clear();
-    if let Some(slot) = made.regions.get_mut(0) {
-        *slot = Some(region_of_longs(alloc)?);
+    heap.gray.push(0x1000_2000)?;
+    Ok(())
+}
+
+/// Returns the heap as the next cycle's beginning leaves it.
+fn after_the_snap(alloc: Global) -> Result<PlainHeap, AllocError> {
+    let mut heap = after_the_cycle(alloc)?;
+    mark_longs(&mut heap)?;
+    Ok(heap)
+}
+
+/// Returns the heap as the sweep leaves it.
+fn after_the_sweep(alloc: Global) -> Result<PlainHeap, AllocError> {
+    let mut heap = after_the_snap(alloc)?;
+    heap.release(0)?;
+    Ok(heap)
+}
+
+/// Puts a region with the new array into the heap, and the array's id into a register.
+fn add_longs(heap: &mut PlainHeap, region: PlainRegion) {
+    heap.pool.clear();
+    if let Some(slot) = heap.regions.get_mut(0) {
+        *slot = Some(region);
     }
-    if let Some(register) = made.registers.get_mut(0) {
+    if let Some(register) = heap.registers.get_mut(0) {
         *register = 0x1000_0000;
     }
-    Ok([snapped, swept, made])
 }
 
-/// What is to be seen after each step, and after each is taken back.
-fn expected(alloc: Global) -> Result<Vec<PlainHeap>, AllocError> {
-    let [snapped, swept, made] = after_each(alloc)?;
-    let (snapped_again, swept_again) = (snapped.copied(alloc)?, swept.copied(alloc)?);
-    let mut heaps = Vec::new(alloc);
-    heaps.push(snapped)?;
-    heaps.push(swept)?;
-    heaps.push(made)?;
-    heaps.push(swept_again)?;
-    heaps.push(snapped_again)?;
-    heaps.push(after_the_cycle(alloc)?)?;
-    Ok(heaps)
+/// Returns the heap as the array leaves it.
+fn after_the_array(alloc: Global) -> Result<PlainHeap, AllocError> {
+    let region = region_of_longs(alloc)?;
+    let mut heap = after_the_sweep(alloc)?;
+    add_longs(&mut heap, region);
+    Ok(heap)
 }
 
-/// What is seen of a heap at the cycle's end after each step, and after each is taken back.
-fn seen(alloc: Global, world: &mut World) -> Result<Vec<PlainHeap>, Fail> {
+/// Returns what is to be seen after each of the three steps, and then after each is taken back.
+fn expected(alloc: Global, place: usize) -> Result<PlainHeap, AllocError> {
+    match place {
+        0 | 4 => after_the_snap(alloc),
+        1 | 3 => after_the_sweep(alloc),
+        2 => after_the_array(alloc),
+        _ => after_the_cycle(alloc),
+    }
+}
+
+/// Returns whether the heaps are those.
+fn are_expected(alloc: Global, heaps: &[PlainHeap]) -> Result<bool, AllocError> {
+    for (place, heap) in heaps.iter().enumerate() {
+        if *heap != expected(alloc, place)? {
+            return Ok(false);
+        }
+    }
+    Ok(heaps.len() == 6)
+}
+
+/// Returns whether those are seen of a heap at the cycle's end, on the way there and back.
+fn goes_there_and_back(alloc: Global, world: &mut World) -> Result<bool, Fail> {
     let mut seen = Vec::new(alloc);
     there_and_back(
         world,
@@ -203,14 +233,17 @@ fn seen(alloc: Global, world: &mut World) -> Result<Vec<PlainHeap>, Fail> {
         &|world| Ok(observed(alloc, world)?),
         &mut seen,
     )?;
-    Ok(seen)
+    Ok(are_expected(alloc, seen.as_slice())?)
+}
+
+/// Returns the same of the heap that the steps of the cycle lead to.
+fn is_undone(alloc: Global) -> Result<bool, Fail> {
+    let mut world = heap_after(alloc, settings(2, 2, 1024)?, &cycle())?;
+    goes_there_and_back(alloc, &mut world)
 }
 
 #[test]
 fn sweep_and_reuse_undone(rt: HostRuntime) -> Result<(), Fail> {
-    let config = Config::new(2, 2, 1024).ok_or("settings out of range")?;
-    let mut world = cycled(rt.alloc(), config)?;
-    let seen = seen(rt.alloc(), &mut world)?;
-    assert!(rt; seen == expected(rt.alloc())?);
+    assert!(rt; is_undone(rt.alloc())?);
     Ok(())
 }

@@ -3,7 +3,6 @@ use Rattle.hprof_text.specs.Filled.{filled, IsFilledTo}
 use Rattle.hprof_text.proofs.Numbered.{piece_with, rest_some, rest_at, is_next}
 use Rattle.hprof_text.proofs.pieces.segment_from.Goals as goal
 
-
 pub returns-then-len-eq0-clause-piece : goal.returns-then-len-eq0-clause-piece
 returns-then-len-eq0-clause-piece g c = λ time i rest r b.
     let v = c.args.view.now in

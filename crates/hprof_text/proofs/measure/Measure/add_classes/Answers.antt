@@ -16,9 +16,10 @@ loop-class-preserved c =
     let x = class_at cs i in
     let f = class_size c.args.ids in
     let h : i < length cs = omega arith in
-    let added = measured_as (c.class_size.result ∷ []) (f x ∷ []) c.loop-class.self c.add.new.self (ap (λ n. n ∷ []) c.class_size.ensures.value) c.add.ensures.added in
-    (measured_as _ _ _ _ (taken_sizes f cs i x h (item_at cs i (array_class []) h)) (measured_more (map f (take i cs)) (f x ∷ []) c.args.self.now c.loop-class.self c.add.new.self c.loop-class.invariant.0 added),
-    omega (arith, c.loop-class.invariant.1, c.add.ensures.limit, c.class_size.ensures.limit))
+    let added = measured_as (c.class_size.result ∷ []) (f x ∷ []) c.loop-class.self c.add.new.self (ap (λ n. n ∷ []) c.class_size.ensures.value) c.add.ensures.added in (
+      measured_as _ _ _ _ (taken_sizes f cs i x h (item_at cs i (array_class []) h)) (measured_more (map f (take i cs)) (f x ∷ []) c.args.self.now c.loop-class.self c.add.new.self c.loop-class.invariant.0 added),
+      omega (arith, c.loop-class.invariant.1, c.add.ensures.limit, c.class_size.ensures.limit),
+    )
 
 pub returns-clause-added : goal.returns-clause-added
 returns-clause-added c =

@@ -170,6 +170,7 @@ ok dump 417\n\
 
 #[test]
 fn dump_of_long_array(rt: HostRuntime) -> Result<(), Fail> {
-    let lines = "newprim 0 0 long 40\nput 0 0 0 72623859790382856\nput 0 0 31 31\nput 0 0 32 18446744073709551615\nput 0 0 33 33\nput 0 0 39 39\ndump -\n";
+    let lines =
+        "newprim 0 0 long 40\nput 0 0 0 72623859790382856\nput 0 0 31 31\nput 0 0 32 18446744073709551615\nput 0 0 33 33\nput 0 0 39 39\ndump -\n";
     answers(rt.alloc(), 1024, 4096, lines, DUMP_OF_LONG_ARRAY)
 }

@@ -75,7 +75,6 @@ pub struct ObjRef {
 #[derive(Clone, Copy, PartialEq, Eq, Debug)]
 pub enum LostCause {
     Rewound,
-    Forgotten,
     Memory,
     Closed,
 }

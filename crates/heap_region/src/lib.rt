@@ -8,6 +8,7 @@ ghost use Rattle.heap_class.specs.Refusals.{IsAnswered};
 ghost use Rattle.heap_class.specs.declared.ObjRef.{ObjRef};
 ghost use Rattle.heap_class.specs.declared.Refusal.TheVariants.{NoMemory};
 ghost use Rattle.heap_region.specs.Limits.{region_limit};
+ghost use Rattle.heap_region.specs.Frozen.{region_frozen};
 ghost use Rattle.heap_region.specs.Regions.{FitsWords, Object, UsedRegion, Region, cell_size_for, object_at, object_of, used_at, id_of, ref_of, with_mark, with_word, live_places};
 ghost use Rattle.heap_region.specs.Pool.{RegionPool, opening_pool, alloc_refusal, is_fresh, free_place, new_place, taken, freed, released, restored, allocated, unallocated, blank_object};
 ghost use Rattle.heap_region.specs.Legal.{IsCellTable, IsRegionPool};
@@ -15,10 +16,12 @@ ghost use Rattle.heap_region.specs.Layout.{IsCellSize};
 ghost use Rattle.heap_region.specs.Changes.{with_live, with_pending};
 ghost use Rattle.heap_region.specs.Live.{cells_of, live_in, live_from};
 
+mod frozen_region;
 mod lists;
 mod slots;
 mod storage;
 
+pub use frozen_region::FrozenRegion;
 use heap_class::{ObjKind, ObjRef, Refusal};
 pub use lists::{FreeCells, PoolRegions};
 use slots::{
@@ -412,6 +415,18 @@ impl Regions {
         self.pool.pop();
         self.slots[region] = Some(storage);
         self.rooms[region] = room(&self.slots[region]);
+    }
+
+    /// Returns a copy of a region in use. Fails with NoMemory.
+    pub fn freeze(&self, region: u64) -> Result<FrozenRegion, Refusal>
+        requires { IsSome (used_at self.now.regions region) }
+        ensures copied { IfOk result (λ f. region_frozen self.now.regions region ≡ Some f) }
+        ensures refused { IfErr result (λ e. e ≡ NoMemory) }
+    {
+        match self.storage(region as usize).freeze(self.alloc) {
+            Ok(copy) => Ok(copy),
+            Err(_) => Err(Refusal::NoMemory),
+        }
     }
 
     /// The free cells of a region in use, head first.

@@ -12,26 +12,26 @@ use std::alloc::{AllocError, Global};
 use std::marker::Model;
 
 #[derive(Clone, Copy)]
-struct Header {
-    kind: ObjKind,
-    len: usize,
-    live: bool,
-    mark: bool,
+pub(crate) struct Header {
+    pub(crate) kind: ObjKind,
+    pub(crate) len: usize,
+    pub(crate) live: bool,
+    pub(crate) mark: bool,
 }
 
 // What one region takes of the memory.
 #[derive(Drop)]
-struct Block {
-    words: [u64; 1024],
+pub(crate) struct Block {
+    pub(crate) words: [u64; 1024],
     // What is in each cell; none where it is free.
-    headers: ArrayVec<Option<Header>, 256>,
+    pub(crate) headers: ArrayVec<Option<Header>, 256>,
 }
 
 /// A region in use.
 #[derive(Drop)]
 pub struct Storage {
-    block: Box<Block>,
-    cell_size: u16,
+    pub(crate) block: Box<Block>,
+    pub(crate) cell_size: u16,
     // The number of the cell that heads the free list, and one; 0 where there is none.
     // The first word of each free cell has the next such number.
     head: u16,
@@ -59,10 +59,10 @@ impl Model for Storage {
 /// A copy of an object: its kind, its slots and its two bits.
 #[derive(Drop)]
 pub struct ObjectCopy {
-    kind: ObjKind,
-    words: Vec<u64>,
-    live: bool,
-    mark: bool,
+    pub(crate) kind: ObjKind,
+    pub(crate) words: Vec<u64>,
+    pub(crate) live: bool,
+    pub(crate) mark: bool,
 }
 
 impl Model for ObjectCopy {
@@ -109,7 +109,7 @@ impl ObjectCopy {
 }
 
 // The header of a cell that has an object.
-fn header_at(headers: &[Option<Header>], cell: usize) -> Header
+pub(crate) fn header_at(headers: &[Option<Header>], cell: usize) -> Header
     requires { IsSome (slice_index_or headers.now cell None) }
     ensures { slice_index_or headers.now cell None ≡ Some result }
 {
@@ -137,7 +137,7 @@ fn is_live(header: &Option<Header>) -> bool
 }
 
 // So many words from `start` on.
-fn part(words: &[u64], start: usize, len: usize) -> &[u64]
+pub(crate) fn part(words: &[u64], start: usize, len: usize) -> &[u64]
     requires { start + len ≤ length words.now }
     ensures { result.now ≡ take len (drop start words.now) }
 {
@@ -153,7 +153,7 @@ fn clear(words: &mut [u64], start: usize, len: usize)
 }
 
 // Copies the words in from `start` on.
-fn overwrite(words: &mut [u64], start: usize, from: &[u64])
+pub(crate) fn overwrite(words: &mut [u64], start: usize, from: &[u64])
     requires { start + length from.now ≤ length words.old }
     ensures { words.new ≡ overwritten words.old start from.now }
 {
@@ -173,7 +173,11 @@ fn link_cells(words: &mut [u64], cell_size: usize, count: usize)
 }
 
 // Writes what is in a cell.
-fn set_header(headers: &mut ArrayVec<Option<Header>, 256>, cell: usize, header: Option<Header>)
+pub(crate) fn set_header(
+    headers: &mut ArrayVec<Option<Header>, 256>,
+    cell: usize,
+    header: Option<Header>,
+)
     requires { cell < length headers.old.items }
     ensures { headers.new.items ≡ slice_set headers.old.items cell header }
 {

@@ -1,13 +1,8 @@
-//! Steps of the machine that are undone, and the dump of its state.
-ghost use Rattle.std.specs.Prelude.{IfOk};
-ghost use Rattle.heap_trail.specs.Machine.{shown};
-ghost use Rattle.heap_trail.specs.Pins.{StandsIn};
-
-use heap_class::Refusal;
+//! Steps of the machine that are undone, actions, and pins.
+use heap_class::{LostCause, Refusal};
 use heap_scripts::{SECOND, machine_after, new, settings};
 use heap_step::{Answer, Event};
 use heap_trail::{Action, Machine, Reply};
-use hprof_text::Cursor;
 use std::alloc::{AllocError, Global};
 use std::process::Abort;
 use std::test::Fail;
@@ -62,51 +57,107 @@ fn steps_are_undone(rt: HostRuntime) -> Result<(), Fail> {
     steps_are_undone_in(&rt, &mut machine)
 }
 
-fn actions_are_steps_and_rewinds_in(rt: &impl Abort, machine: &mut Machine) -> Result<(), Fail> {
-    assert_eq!(rt;
-        replied(machine, Action::Step(new(0))),
-        Reply::Answered(Answer::Object(SECOND))
-    );
-    assert_eq!(rt; replied(machine, Action::Rewind(1)), Reply::Place(2));
-    Ok(())
+/// Whether a machine answers an action with a new object at the second address.
+fn makes_second(machine: &mut Machine) -> bool {
+    match replied(machine, Action::Step(new(0))) {
+        Reply::Answered(answer) => answer == Answer::Object(SECOND),
+        _ => false,
+    }
+}
+
+/// Whether a machine answers a rewind of one step with a place.
+fn goes_back_to(machine: &mut Machine, place: u64) -> bool {
+    match replied(machine, Action::Rewind(1)) {
+        Reply::Place(to) => to == place,
+        _ => false,
+    }
+}
+
+/// Whether a machine answers an opening with a pin and its place.
+fn pins(machine: &mut Machine, asked: Option<u64>, number: u64, place: u64) -> bool {
+    match replied(machine, Action::OpenPin(asked)) {
+        Reply::Pinned { pin, at } => pin == number && at == place,
+        _ => false,
+    }
+}
+
+/// Whether a machine refuses an action so.
+fn refuses(machine: &mut Machine, action: Action, expected: Refusal) -> bool {
+    match replied(machine, action) {
+        Reply::Refused(refusal) => refusal == expected,
+        _ => false,
+    }
+}
+
+/// Whether a machine answers with the first piece of a dump.
+fn begins(machine: &mut Machine, pin: u64) -> bool {
+    match replied(machine, Action::NextPiece { pin, time: 0 }) {
+        Reply::Part(piece) => {
+            !piece.last && piece.bytes.as_slice().starts_with(b"JAVA PROFILE 1.0.2")
+        }
+        _ => false,
+    }
+}
+
+/// Whether a machine closes a pin.
+fn closes(machine: &mut Machine, pin: u64) -> bool {
+    matches!(replied(machine, Action::ClosePin(pin)), Reply::Closed)
+}
+
+fn actions_are_done_in(rt: &impl Abort, machine: &mut Machine) {
+    assert!(rt; makes_second(machine));
+    assert!(rt; pins(machine, None, 1, 3));
+    assert!(rt; pins(machine, Some(2), 2, 2));
+    assert!(rt; goes_back_to(machine, 2));
+    assert!(rt; begins(machine, 2));
+    let lost = Refusal::Lost {
+        cause: LostCause::Rewound,
+    };
+    assert!(rt; refuses(machine, Action::NextPiece { pin: 1, time: 0 }, lost));
+    assert!(rt; closes(machine, 1));
+    assert!(rt; refuses(machine, Action::ClosePin(1), Refusal::NoPin));
 }
 
 #[test]
-fn actions_are_steps_and_rewinds(rt: HostRuntime) -> Result<(), Fail> {
+fn actions_are_done(rt: HostRuntime) -> Result<(), Fail> {
     let mut machine = with_node(rt.alloc())?;
-    actions_are_steps_and_rewinds_in(&rt, &mut machine)
-}
-
-/// Whether the first piece begins as a dump does.
-fn begins(machine: &Machine) -> Result<bool, Refusal> {
-    let (piece, _) = machine.piece(Cursor::Start, 0)?;
-    Ok(piece.bytes.as_slice().starts_with(b"JAVA PROFILE 1.0.2"))
-}
-
-/// Whether a piece is the last, and what comes behind it.
-fn behind(machine: &Machine, cursor: Cursor) -> Result<(bool, Cursor), Refusal>
-    requires { StandsIn (shown machine.now) cursor }
-    ensures { IfOk result (λ p. StandsIn (shown machine.now) p.1) }
-{
-    let (piece, next) = machine.piece(cursor, 0)?;
-    Ok((piece.last, next))
-}
-
-fn state_is_dumped_in(rt: &impl Abort, machine: &Machine) -> Result<(), Fail> {
-    assert!(rt; begins(machine)?);
-    let (first, segment) = behind(machine, Cursor::Start)?;
-    let (second, end) = behind(machine, segment)?;
-    let (third, past) = behind(machine, end)?;
-    assert_eq!(rt; (first, second, third), (false, false, true));
-    assert_eq!(rt;
-        (segment, end, past),
-        (Cursor::ClassDump(0), Cursor::End, Cursor::Past)
-    );
+    actions_are_done_in(&rt, &mut machine);
     Ok(())
 }
 
+// ---- lists of actions
+
+/// Steps, a refused rewind, and what a dump asks for.
+fn listed(alloc: Global) -> Result<Vec<Action>, AllocError> {
+    let mut actions = Vec::new(alloc);
+    actions.push(Action::OpenPin(None))?;
+    actions.push(Action::Step(new(0)))?;
+    actions.push(Action::Rewind(9))?;
+    actions.push(Action::NextPiece { pin: 1, time: 7 })?;
+    actions.push(Action::ClosePin(1))?;
+    Ok(actions)
+}
+
+/// Whether these are the replies to those actions.
+fn are_replies(replies: &[Reply]) -> bool {
+    match replies {
+        [
+            Reply::Pinned { pin: 1, at: 2 },
+            Reply::Answered(_),
+            Reply::Refused(Refusal::TooFar { .. }),
+            Reply::Part(_),
+            Reply::Closed,
+        ] => true,
+        _ => false,
+    }
+}
+
 #[test]
-fn state_is_dumped(rt: HostRuntime) -> Result<(), Fail> {
-    let machine = with_node(rt.alloc())?;
-    state_is_dumped_in(&rt, &machine)
+fn lists_are_driven(rt: HostRuntime) -> Result<(), Fail> {
+    let mut machine = with_node(rt.alloc())?;
+    let actions = listed(rt.alloc())?;
+    let replies = machine.drive(&actions)?;
+    assert!(rt; are_replies(&replies));
+    assert_eq!(rt; (machine.place(), machine.retained()), (3, 2));
+    Ok(())
 }

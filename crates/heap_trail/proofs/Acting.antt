@@ -1,22 +1,16 @@
 -- An action's reply, with the mark that may stand beside it.
 use Rattle.std.proofs.Common.{◌≡◌, sym, inl, inr}
-use Rattle.std.specs.Prelude.{◌⊎◌}
 use Rattle.heap_class.specs.declared.Refusal.{Refusal}
-use Rattle.heap_class.specs.declared.Refusal.TheVariants.{NoMemory}
 use Rattle.heap_trail.specs.declared.Action.{Action}
 use Rattle.heap_trail.specs.declared.Reply.{Reply}
 use Rattle.heap_trail.specs.declared.Reply.TheVariants.{Refused}
-use Rattle.heap_trail.specs.Machine.{Machine, Mark, Fine, Refusing, MayStand, acted, acted_under}
-
--- the reply may be given
-abbrev pub MayReply : Machine → Action → Machine → Reply → Type 0
-MayReply m a n r = (mark : Mark) × MayStand m (a, mark) × (acted_under m (a, mark) ≡ (n, r))
+use Rattle.heap_trail.specs.Machine.{Machine, Fine, Refusing, MayReply, MayFail, acted, acted_under}
 
 pub replies_fine : (m : Machine) (a : Action) (n : Machine) (r : Reply) → acted m a ≡ (n, r) → MayReply m a n r
 unfolding acted_under
 replies_fine m a n r h = (Fine, tt, h)
 
-pub replies_refusing : (m : Machine) (a : Action) (n : Machine) (r : Refusal) → n ≡ m → (acted m a ≡ (n, Refused r)) ⊎ (MayStand m (a, Refusing) × (r ≡ NoMemory)) → MayReply m a n (Refused r)
+pub replies_refusing : (m : Machine) (a : Action) (n : Machine) (r : Refusal) → n ≡ m → MayFail m a n r → MayReply m a n (Refused r)
 unfolding acted_under
 replies_refusing m a n r same (inl h) = replies_fine m a n (Refused r) h
 replies_refusing m a n r same (inr h) = (Refusing, h.0, λ i. (sym same i, Refused (sym h.1 i)))

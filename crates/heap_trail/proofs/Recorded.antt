@@ -1,4 +1,5 @@
 -- What records tell of the past.
+use Rattle.heap_class.specs.declared.IdSize.{IdSize}
 use Rattle.std.proofs.Common.{◌≡◌, ℕ, zero, suc, List, [], ◌∷◌, length, take, refl, sym, ap, arith}
 use Rattle.heap_world.specs.State.{HeapState}
 use Rattle.heap_world.specs.Legal.{IsLegal}
@@ -6,8 +7,8 @@ use Rattle.heap_step.specs.declared.Undo.{Undo}
 use Rattle.heap_step.specs.Records.{undone}
 use Rattle.circular_buffer.specs.Buffer.{Buffer}
 use Rattle.heap_trail.specs.Laws.{AreSteps, IsTrail}
-use Rattle.heap_class.specs.declared.IdSize.{IdSize}
-use Rattle.heap_trail.specs.Records.{past_of, AreRecorded, IsKept, machine_of}
+use Rattle.heap_trail.specs.Records.{past_of, AreRecorded, IsKept, machine_with}
+use Rattle.heap_trail.specs.Pins.{Pins}
 
 -- as many states as records
 pub length-past_of : (w : HeapState) (rs : List Undo) → length (past_of w rs) ≡ length rs
@@ -33,8 +34,8 @@ steps_told w [] legal h = legal
 steps_told w (r ∷ rs) legal h = ((h.0.0, h.0.1.accepted, sym h.0.1.gave), steps_told (undone r w) rs h.0.1.legal h.1)
 
 -- and so a machine's states are the steps of one run
-pub is_trail : (ids : IdSize) (w : HeapState) (ring : Buffer Undo) (place keep : ℕ) → IsKept w ring place keep → IsTrail keep (machine_of ids w ring place keep).trail
-is_trail ids w ring place keep k = record {
+pub is_trail : (ids : IdSize) (w : HeapState) (ring : Buffer Undo) (place keep : ℕ) (ps : Pins) → IsKept w ring place keep → IsTrail keep (machine_with ids w ring place keep ps).trail
+is_trail ids w ring place keep ps k = record {
   steps = steps_told w ring.items k.legal k.recorded;
   few = omega (arith, k.few, length-past_of w ring.items);
   placed = omega (arith, k.placed, length-past_of w ring.items);

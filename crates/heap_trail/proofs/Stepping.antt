@@ -1,8 +1,8 @@
 -- What a step makes of a machine.
+use Rattle.heap_class.specs.declared.IdSize.{IdSize}
 use Rattle.std.proofs.Common.{◌≡◌, ℕ, ◌+◌, ◌<◌, ◌≤◌, true, false, List, ◌∷◌, length, length-take, take, sym, ap, subst, ◌∙◌, None, Ok, Err, inl, inr, arith}
 use Rattle.std.specs.Prelude.{nat_le, ◌⊎◌}
 use Rattle.circular_buffer.specs.Buffer.{Buffer, buffer}
-use Rattle.heap_class.specs.declared.IdSize.{IdSize}
 use Rattle.heap_class.specs.declared.Refusal.{Refusal}
 use Rattle.heap_class.specs.declared.Refusal.TheVariants.{NoMemory, ChronicleFull}
 use Rattle.heap_world.specs.State.{HeapState}
@@ -18,7 +18,8 @@ use Rattle.heap_trail.specs.declared.Reply.TheVariants.{Answered, Refused}
 use Rattle.heap_trail.specs.Limits.{last_place}
 use Rattle.heap_trail.specs.Trail.{stepped}
 use Rattle.heap_trail.specs.Machine.{Machine, after_result, after_step_at, acted, Refusing, may_grow, is_accepted, MayStand}
-use Rattle.heap_trail.specs.Records.{past_of, AreRecorded, IsKept, machine_of}
+use Rattle.heap_trail.specs.Records.{past_of, AreRecorded, IsKept, machine_with}
+use Rattle.heap_trail.specs.Pins.{Pins}
 use Rattle.heap_trail.proofs.Recorded.{past_of-take, recorded-take}
 
 -- a ring with one more record in front
@@ -68,45 +69,45 @@ is_last place h = grind (arith, h)
 
 -- ---- replies
 
-pub step_done : (ids : IdSize) (e : Event) (w v : HeapState) (left : Undo) (ring : Buffer Undo) (place keep : ℕ) (answer : Answer) → IsKept w ring place keep → IsAccepted e w v left → place < last_place → applied e w ≡ Ok (v, answer)
-    → acted (machine_of ids w ring place keep) (Step e) ≡ (machine_of ids v (pushed left ring) (place + 1) keep, Answered answer)
+pub step_done : (ids : IdSize) (e : Event) (w v : HeapState) (left : Undo) (ring : Buffer Undo) (place keep : ℕ) (ps : Pins) (answer : Answer) → IsKept w ring place keep → IsAccepted e w v left → place < last_place → applied e w ≡ Ok (v, answer)
+    → acted (machine_with ids w ring place keep ps) (Step e) ≡ (machine_with ids v (pushed left ring) (place + 1) keep ps, Answered answer)
 unfolding acted after_step_at after_result stepped
-step_done ids e w v left ring place keep answer k a h done =
-    ap (λ b. after_step_at b e (machine_of ids w ring place keep)) (not_last place h)
-    ∙ ap (after_result (machine_of ids w ring place keep)) done
-    ∙ ap (λ vs. (let m : Machine = record (machine_of ids w ring place keep) { trail = record { place = place + 1; current = v; past = vs } } in m, Answered answer)) past
+step_done ids e w v left ring place keep ps answer k a h done =
+    ap (λ b. after_step_at b e (machine_with ids w ring place keep ps)) (not_last place h)
+    ∙ ap (after_result (machine_with ids w ring place keep ps)) done
+    ∙ ap (λ vs. (let m : Machine = record (machine_with ids w ring place keep ps) { trail = record { place = place + 1; current = v; past = vs } } in m, Answered answer)) past
   where
     past : take keep (w ∷ past_of w ring.items) ≡ past_of v (take ring.capacity (left ∷ ring.items))
     past = ap (λ n. take n (w ∷ past_of w ring.items)) (sym k.room)
         ∙ ap (λ u. take ring.capacity (u ∷ past_of u ring.items)) (sym (leads_back e w v left k.legal a))
         ∙ sym (past_of-take ring.capacity v (left ∷ ring.items))
 
-pub step_refused : (ids : IdSize) (e : Event) (w : HeapState) (ring : Buffer Undo) (place keep : ℕ) (r : Refusal) → place < last_place → applied e w ≡ Err r
-    → acted (machine_of ids w ring place keep) (Step e) ≡ (machine_of ids w ring place keep, Refused r)
+pub step_refused : (ids : IdSize) (e : Event) (w : HeapState) (ring : Buffer Undo) (place keep : ℕ) (ps : Pins) (r : Refusal) → place < last_place → applied e w ≡ Err r
+    → acted (machine_with ids w ring place keep ps) (Step e) ≡ (machine_with ids w ring place keep ps, Refused r)
 unfolding acted after_step_at after_result
-step_refused ids e w ring place keep r h refused =
-    ap (λ b. after_step_at b e (machine_of ids w ring place keep)) (not_last place h)
-    ∙ ap (after_result (machine_of ids w ring place keep)) refused
+step_refused ids e w ring place keep ps r h refused =
+    ap (λ b. after_step_at b e (machine_with ids w ring place keep ps)) (not_last place h)
+    ∙ ap (after_result (machine_with ids w ring place keep ps)) refused
 
 -- at the last place
-pub step_full : (ids : IdSize) (e : Event) (w : HeapState) (ring : Buffer Undo) (place keep : ℕ) → last_place ≤ place
-    → acted (machine_of ids w ring place keep) (Step e) ≡ (machine_of ids w ring place keep, Refused ChronicleFull)
+pub step_full : (ids : IdSize) (e : Event) (w : HeapState) (ring : Buffer Undo) (place keep : ℕ) (ps : Pins) → last_place ≤ place
+    → acted (machine_with ids w ring place keep ps) (Step e) ≡ (machine_with ids w ring place keep ps, Refused ChronicleFull)
 unfolding acted after_step_at
-step_full ids e w ring place keep h = ap (λ b. after_step_at b e (machine_of ids w ring place keep)) (is_last place h)
+step_full ids e w ring place keep ps h = ap (λ b. after_step_at b e (machine_with ids w ring place keep ps)) (is_last place h)
 
 -- for want of memory, where nothing else refuses it
-pub step_starved : (ids : IdSize) (e : Event) (w : HeapState) (ring : Buffer Undo) (place keep : ℕ) → place < last_place → refusal_of e w ≡ None → event_may_grow e w ≡ true
-    → MayStand (machine_of ids w ring place keep) (Step e, Refusing)
+pub step_starved : (ids : IdSize) (e : Event) (w : HeapState) (ring : Buffer Undo) (place keep : ℕ) (ps : Pins) → place < last_place → refusal_of e w ≡ None → event_may_grow e w ≡ true
+    → MayStand (machine_with ids w ring place keep ps) (Step e, Refusing)
 unfolding acted after_step_at after_result applied applied_unless may_grow is_accepted
-step_starved ids e w ring place keep h none grows = (
+step_starved ids e w ring place keep ps h none grows = (
   grows,
-  ap (λ b. is_accepted (after_step_at b e (machine_of ids w ring place keep)).1) (not_last place h)
-      ∙ ap (λ r. is_accepted (after_result (machine_of ids w ring place keep) (applied_unless r e w)).1) none,
+  ap (λ b. is_accepted (after_step_at b e (machine_with ids w ring place keep ps)).1) (not_last place h)
+      ∙ ap (λ r. is_accepted (after_result (machine_with ids w ring place keep ps) (applied_unless r e w)).1) none,
 )
 
 -- a step that is refused by its event
-pub step_err : (ids : IdSize) (e : Event) (w v : HeapState) (ring : Buffer Undo) (place keep : ℕ) (r : Refusal) → place < last_place → v ≡ w
+pub step_err : (ids : IdSize) (e : Event) (w v : HeapState) (ring : Buffer Undo) (place keep : ℕ) (ps : Pins) (r : Refusal) → place < last_place → v ≡ w
     → (applied e w ≡ Err r) ⊎ ((refusal_of e w ≡ None) × (event_may_grow e w ≡ true) × (r ≡ NoMemory))
-    → (acted (machine_of ids w ring place keep) (Step e) ≡ (machine_of ids v ring place keep, Refused r)) ⊎ (MayStand (machine_of ids w ring place keep) (Step e, Refusing) × (r ≡ NoMemory))
-step_err ids e w v ring place keep r h same (inl refused) = inl (step_refused ids e w ring place keep r h refused ∙ ap (λ u. (machine_of ids u ring place keep, Refused r)) (sym same))
-step_err ids e w v ring place keep r h same (inr starved) = inr (step_starved ids e w ring place keep h starved.0 starved.1, starved.2)
+    → (acted (machine_with ids w ring place keep ps) (Step e) ≡ (machine_with ids v ring place keep ps, Refused r)) ⊎ (MayStand (machine_with ids w ring place keep ps) (Step e, Refusing) × (r ≡ NoMemory))
+step_err ids e w v ring place keep ps r h same (inl refused) = inl (step_refused ids e w ring place keep ps r h refused ∙ ap (λ u. (machine_with ids u ring place keep ps, Refused r)) (sym same))
+step_err ids e w v ring place keep ps r h same (inr starved) = inr (step_starved ids e w ring place keep ps h starved.0 starved.1, starved.2)

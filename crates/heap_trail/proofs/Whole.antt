@@ -20,9 +20,9 @@ use Rattle.hprof_text.specs.Image.{DumpedObject}
 use Rattle.hprof_text.specs.Fits.{FitsBytes, FitsId, WordsFit, ShowsWhole}
 use Rattle.hprof_text.proofs.Fits.{fits_id, numbers_fit}
 use Rattle.heap_trail.specs.Laws.{DumpIsWhole}
-use Rattle.heap_trail.specs.Pins.{dumped_objects, image_of}
-use Rattle.heap_trail.proofs.Counted.{Stands, live_stand}
-use Rattle.heap_trail.proofs.Dumped.{dumpable}
+use Rattle.heap_pins.specs.Images.{dumped_objects, image_of}
+use Rattle.heap_pins.proofs.Counted.{Stands, live_stand}
+use Rattle.heap_pins.proofs.Dumped.{dumpable}
 
 -- ---- words
 

@@ -29,9 +29,9 @@ abbrev pub Script : Type 0
 Script = List (Action × Reply)
 
 -- the machine after the script's actions, each of which finds memory
-unfoldable pub machine_after : Machine → Script → Machine
-machine_after m [] = m
-machine_after m (l ∷ ls) = machine_after (acted m l.0).0 ls
+unfoldable pub machine_at_end : Machine → Script → Machine
+machine_at_end m [] = m
+machine_at_end m (l ∷ ls) = machine_at_end (acted m l.0).0 ls
 
 -- what the machine replies to them
 unfoldable pub replies_to : Machine → Script → List Reply
@@ -48,7 +48,7 @@ Replies regions keep script = replies_to (fresh_machine regions keep) script ≡
 
 -- the state that the script leads to from such a machine
 abbrev pub end_state : ℕ → ℕ → Script → HeapState
-end_state regions keep script = (machine_after (fresh_machine regions keep) script).trail.current
+end_state regions keep script = (machine_at_end (fresh_machine regions keep) script).trail.current
 
 -- a line of a script: an event and its answer, or why it is refused
 abbrev pub does : Event → Answer → Action × Reply

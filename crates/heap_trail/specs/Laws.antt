@@ -9,11 +9,14 @@ use Rattle.heap_world.specs.Legal.{IsLegal, IsLive, NamesOne}
 use Rattle.heap_step.specs.declared.Event.{Event}
 use Rattle.heap_step.specs.Apply.{refusal_of, state_after}
 use Rattle.heap_step.specs.declared.Answer.{Answer}
-use Rattle.hprof_text.specs.Fits.{HoldsWhole, ShowsWhole}
 use Rattle.heap_trail.specs.declared.Action.TheVariants.{Step, Rewind}
 use Rattle.heap_trail.specs.declared.Reply.TheVariants.{Answered, Place}
-use Rattle.heap_trail.specs.Machine.{Machine, acted}
-use Rattle.heap_trail.specs.Pins.{image_of}
+use Rattle.hprof_text.specs.Image.{Image}
+use Rattle.hprof_text.specs.Fits.{HoldsWhole, ShowsWhole}
+use Rattle.heap_pins.specs.Images.{image_of}
+use Rattle.heap_trail.specs.declared.Action.{Action}
+use Rattle.heap_trail.specs.Machine.{Machine, Mark, acted, acted_under, machine_after, without_dumps}
+use Rattle.heap_trail.specs.Pins.{Kept, pin_at}
 use Rattle.heap_trail.specs.Trail.{Trail, retained}
 
 -- each state is legal, and came by an accepted event from the one after it in the list
@@ -42,6 +45,14 @@ ReachesLive v = (x : ℕ) → Reaches v x → IsLive v x
 -- what the registers reached in the newest of these states in which no cycle ran is in v, with its kind and as many words, and live
 abbrev pub FindsSnapshot : List HeapState → HeapState → Type 0
 FindsSnapshot past v = (w : HeapState) → find (λ u. not (is_marking u.phase)) past ≡ Some w → (x : ℕ) (o : Object) → Reaches w x → object_of w.regions x ≡ Some o → NamesOne v (λ p. (p.kind ≡ o.kind) × (length p.words ≡ length o.words) × (p.live ≡ true)) x
+
+-- a dump leaves the trail as without it
+abbrev pub LeavesTrail : Machine → List (Action × Mark) → Type 0
+LeavesTrail m actions = (machine_after m actions).trail ≡ (machine_after m (without_dumps actions)).trail
+
+-- a pin that isn't lost after an action has the image that it had
+abbrev pub KeepsImage : Machine → Action × Mark → ℕ → Type 0
+KeepsImage m a pin = (p q : ℕ) (i j : Image) (g h : ℕ) → pin_at pin m.pins ≡ Some (Kept p i g) → pin_at pin (acted_under m a).0.pins ≡ Some (Kept q j h) → (q ≡ p) × (j ≡ i)
 
 -- each number in the dump of a legal heap is below what the bytes that it has there hold: ids and words too
 abbrev pub DumpIsWhole : IdSize → HeapState → ℕ → Type 0

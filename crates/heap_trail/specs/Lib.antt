@@ -1,8 +1,10 @@
 pub mod Limits
 pub mod Trail
 pub mod Pins
+pub mod Slots
 pub mod Machine
 pub mod Laws
 pub mod Records
+pub mod Past
 pub mod Examples
 pub mod Opened

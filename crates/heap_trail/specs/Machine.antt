@@ -1,19 +1,21 @@
--- The machine, and what it replies to an action.
-use Rattle.std.specs.Prelude.{◌≡◌, ℕ, Bool, true, false, nat_le, Option, Some, None, Result, Ok, Err}
+-- The machine, and what it replies to a list of actions.
+use Rattle.std.specs.Prelude.{◌≡◌, ◌⊎◌, ◌≤◌, ◌^◌, ℕ, Bool, true, false, not, nat_lt, nat_le, List, [], ◌∷◌, length, map, filter, Option, Some, None, unwrap_or, Result, Ok, Err, ⊤}
 use Rattle.heap_class.specs.declared.IdSize.{IdSize}
 use Rattle.heap_class.specs.declared.Refusal.{Refusal}
-use Rattle.heap_class.specs.declared.Refusal.TheVariants.{NoMemory, ChronicleFull}
+use Rattle.heap_class.specs.declared.Refusal.TheVariants.{NoMemory, ChronicleFull, NoPin, Lost}
 use Rattle.heap_world.specs.State.{HeapState, opening_state}
 use Rattle.heap_step.specs.declared.Event.{Event}
+use Rattle.heap_step.specs.declared.Event.TheVariants.{Store, Put, Sweep}
 use Rattle.heap_step.specs.declared.Answer.{Answer}
 use Rattle.heap_step.specs.Apply.{applied, event_may_grow}
+use Rattle.hprof_text.specs.Segments.{pieces_of, piece_of}
 use Rattle.heap_trail.specs.declared.Action.{Action}
-use Rattle.heap_trail.specs.declared.Action.TheVariants.{Step, Rewind}
+use Rattle.heap_trail.specs.declared.Action.TheVariants.{Step, Rewind, OpenPin, NextPiece, ClosePin}
 use Rattle.heap_trail.specs.declared.Reply.{Reply}
-use Rattle.heap_trail.specs.declared.Reply.TheVariants.{Answered, Place, Refused}
+use Rattle.heap_trail.specs.declared.Reply.TheVariants.{Answered, Place, Pinned, Part, Closed, Refused}
 use Rattle.heap_trail.specs.Limits.{last_place}
 use Rattle.heap_trail.specs.Trail.{Trail, opening_trail, stepped, rewind_refusal, rewound}
-use Rattle.heap_trail.specs.Pins.{Pins, no_pins, Shown}
+use Rattle.heap_trail.specs.Pins.{Pins, PinState, Kept, Gone, no_pins, pin_at, open_refusal, with_pin, without_pin, with_piece_given, after_rewind, with_lost}
 
 -- how many steps can be undone at most and the size of ids in dumps, both fixed for a machine; the trail and the pins
 pub record Machine : Type 0 where
@@ -21,10 +23,6 @@ pub record Machine : Type 0 where
   pub ids : IdSize
   pub trail : Trail
   pub pins : Pins
-
--- what a dump of the current state shows
-abbrev pub shown : Machine → Shown
-shown m = record { state = m.trail.current; ids = m.ids }
 
 unfoldable pub opening_machine : IdSize → ℕ → ℕ → ℕ → Machine
 opening_machine ids regions mutators keep = record { keep = keep; ids = ids; trail = opening_trail (opening_state regions mutators); pins = no_pins }
@@ -47,34 +45,119 @@ unless None f m = f m
 unless (Some r) f m = (m, Refused r)
 
 unfoldable pub after_rewind_by : ℕ → Machine → Machine × Reply
-after_rewind_by n m = let t = rewound n m.trail in (record m { trail = t }, Place t.place)
+after_rewind_by n m = let t = rewound n m.trail in (record m { trail = t; pins = after_rewind t.place m.pins }, Place t.place)
+
+unfoldable pub after_open : ℕ → Machine → Machine × Reply
+after_open at m = (record m { pins = with_pin at m.trail m.pins }, Pinned m.pins.next at)
+
+-- the machine after a piece, which is counted unless it is past the last
+unfoldable pub counted : Bool → ℕ → Machine → Machine
+counted true pin m = record m { pins = with_piece_given pin m.pins }
+counted false pin m = m
+
+-- the next piece of a pin
+unfoldable pub after_piece : ℕ → ℕ → Machine → Option PinState → Machine × Reply
+after_piece pin time m None = (m, Refused NoPin)
+after_piece pin time m (Some (Gone cause)) = (m, Refused (Lost cause))
+after_piece pin time m (Some (Kept place image given)) = (counted (nat_lt given (length (pieces_of m.ids image time))) pin m, Part (piece_of m.ids image time given))
+
+unfoldable pub after_close : ℕ → Machine → Option PinState → Machine × Reply
+after_close pin m None = (m, Refused NoPin)
+after_close pin m (Some s) = (record m { pins = without_pin pin m.pins }, Closed)
 
 -- the machine after an action that finds memory, and the reply
 unfoldable pub acted : Machine → Action → Machine × Reply
 acted m (Step e) = after_step_at (nat_le last_place m.trail.place) e m
 acted m (Rewind n) = unless (rewind_refusal n m.trail) (after_rewind_by n) m
+acted m (OpenPin at) = let place = unwrap_or at m.trail.place in unless (open_refusal place m.trail m.pins) (after_open place) m
+acted m (NextPiece pin time) = after_piece pin time m (pin_at pin m.pins)
+acted m (ClosePin pin) = after_close pin m (pin_at pin m.pins)
 
 -- ---- marks: where memory was wanting
 
--- none was, or the action found none and was refused
+-- none was; the action found none and was refused; or the step lost the named pins
 pub data Mark : Type 0 where
   Fine : Mark
   Refusing : Mark
+  Losing : List ℕ → Mark
 
 unfoldable pub acted_under : Machine → Action × Mark → Machine × Reply
 acted_under m (a, Fine) = acted m a
 acted_under m (a, Refusing) = (m, Refused NoMemory)
+acted_under m (a, Losing pins) = let r = acted m a in (record r.0 { pins = with_lost pins r.0.pins }, r.1)
+
+unfoldable pub machine_after : Machine → List (Action × Mark) → Machine
+machine_after m [] = m
+machine_after m (a ∷ as') = machine_after (acted_under m a).0 as'
+
+unfoldable pub replies_of : Machine → List (Action × Mark) → List Reply
+replies_of m [] = []
+replies_of m (a ∷ as') = let r = acted_under m a in r.1 ∷ replies_of r.0 as'
 
 -- ---- which marks may stand beside an action
 
 unfoldable pub may_grow : Action → Machine → Bool
 may_grow (Step e) m = event_may_grow e m.trail.current
 may_grow (Rewind n) m = false
+may_grow (OpenPin at) m = true
+may_grow (NextPiece pin time) m = true
+may_grow (ClosePin pin) m = false
+
+-- the action may overwrite a word of a pin's
+unfoldable pub may_overwrite : Action → Bool
+may_overwrite (Step (Put m target slot value)) = true
+may_overwrite (Step (Store m target slot source)) = true
+may_overwrite (Step (Sweep region)) = true
+may_overwrite a = false
 
 unfoldable pub is_accepted : Reply → Bool
 is_accepted (Refused r) = false
 is_accepted r = true
 
 abbrev pub MayStand : Machine → Action × Mark → Type 0
-MayStand m (a, Fine) = Unit {0}
+MayStand m (a, Fine) = ⊤
 MayStand m (a, Refusing) = (may_grow a m ≡ true) × (is_accepted (acted m a).1 ≡ true)
+MayStand m (a, Losing pins) = (may_overwrite a ≡ true) × (is_accepted (acted m a).1 ≡ true)
+
+-- each mark may stand where it does
+abbrev pub AreMarks : Machine → List (Action × Mark) → Type 0
+AreMarks m [] = ⊤
+AreMarks m (a ∷ as') = MayStand m a × AreMarks (acted_under m a).0 as'
+
+-- ---- what a call may answer
+
+-- the action may leave n and give this reply, under a mark that may stand beside it
+abbrev pub MayReply : Machine → Action → Machine → Reply → Type 0
+MayReply m a n r = (mark : Mark) × MayStand m (a, mark) × (acted_under m (a, mark) ≡ (n, r))
+
+-- the action may leave n and be refused so, also for want of memory
+abbrev pub MayFail : Machine → Action → Machine → Refusal → Type 0
+MayFail m a n r = (acted m a ≡ (n, Refused r)) ⊎ (MayStand m (a, Refusing) × (r ≡ NoMemory))
+
+-- under some marks these actions lead from m to n, with these replies
+abbrev pub MayDrive : Machine → List Action → List Reply → Machine → Type 0
+MayDrive m actions replies n = (marked : List (Action × Mark)) × (map (λ a. a.0) marked ≡ actions) × AreMarks m marked × (replies ≡ replies_of m marked) × (n ≡ machine_after m marked)
+
+-- a piece has at most 2 ^ 24 bytes
+abbrev pub IsSmall : Reply → Type 0
+IsSmall (Answered a) = ⊤
+IsSmall (Place place) = ⊤
+IsSmall (Pinned pin at) = ⊤
+IsSmall (Part piece) = length piece.bytes ≤ 2 ^ 24
+IsSmall Closed = ⊤
+IsSmall (Refused r) = ⊤
+
+-- ---- without the dumper
+
+abbrev pub is_dump_action : Action → Bool
+is_dump_action (Step e) = false
+is_dump_action (Rewind n) = false
+is_dump_action a = true
+
+unfoldable pub without_dumps : List (Action × Mark) → List (Action × Mark)
+without_dumps actions = filter (λ a. not (is_dump_action a.0)) actions
+
+-- ---- the list with no marks
+
+unfoldable pub unmarked_list : List Action → List (Action × Mark)
+unmarked_list actions = map (λ a. (a, Fine)) actions

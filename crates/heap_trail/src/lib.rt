@@ -1,25 +1,28 @@
-//! The machine: the current state and the retained past.
+//! The machine: the current state, the retained past, and the pins on it.
 #![tactic(auto)]
 
-ghost use Rattle.std.specs.Prelude.{◌≡◌, ◌⊎◌, ◌<◌, ◌≤◌, ◌+◌, ◌^◌, ℕ, length, None, Some, IfOk, IfErr, OnOk, OnErr};
+ghost use Rattle.std.specs.Prelude.{◌≡◌, ◌⊎◌, ◌<◌, ◌≤◌, ◌+◌, ◌-◌, ◌^◌, ℕ, List, length, map, None, Some, IfOk, IfErr, OnOk, OnErr};
 ghost use Rattle.heap_class.specs.declared.IdSize.{IdSize};
 ghost use Rattle.heap_class.specs.declared.Refusal.TheVariants.{NoMemory};
 ghost use Rattle.heap_step.specs.declared.Event.{Event};
 ghost use Rattle.heap_step.specs.declared.Event.TheVariants.{Finish, Sweep};
 ghost use Rattle.heap_step.specs.declared.Answer.{Answer};
+ghost use Rattle.heap_step.specs.Laws.{IsStep};
 ghost use Rattle.heap_world.specs.State.{HeapState};
 ghost use Rattle.heap_world.specs.Legal.{IsLegal};
-ghost use Rattle.heap_trail.specs.declared.Action.{Action};
-ghost use Rattle.heap_trail.specs.declared.Action.TheVariants.{Step, Rewind};
-ghost use Rattle.heap_trail.specs.declared.Reply.TheVariants.{Answered, Place, Refused};
-ghost use Rattle.heap_trail.specs.Machine.{Machine, Refusing, acted, acted_under, MayStand, Mark, opening_machine, shown};
-ghost use Rattle.heap_trail.specs.Laws.{DumpIsWhole, FindsSnapshot, IsTrail, LeadsBack, ReachesLive, SparesReached};
+ghost use Rattle.heap_trail.specs.declared.Action.TheVariants.{OpenPin, Step, Rewind};
+ghost use Rattle.heap_trail.specs.declared.Reply.TheVariants.{Answered, Pinned, Place, Refused};
+ghost use Rattle.heap_trail.specs.Laws.{FindsSnapshot, IsTrail, KeepsImage, DumpIsWhole, LeadsBack, LeavesTrail, ReachesLive, SparesReached};
+ghost use Rattle.heap_trail.specs.Machine.{IsSmall, Machine, Mark, MayFail, MayReply, acted, is_dump_action, opening_machine};
+ghost use Rattle.heap_trail.specs.Slots.{AreAllBelow, EachMayKeep, EachSized, slot_after_rewind};
 ghost use Rattle.heap_trail.specs.Trail.{retained, rewound};
-ghost use Rattle.heap_trail.specs.Pins.{image_of, StandsAt, StandsIn};
-ghost use Rattle.hprof_text.specs.Segments.{piece_of};
+ghost use Rattle.heap_trail.specs.Pins.{after_rewind};
 
+mod drive;
 mod examples;
-mod shown;
+mod held;
+mod opening;
+mod pins;
 
 use circular_buffer::HeapCircularBuffer;
 pub use examples::worked_examples;
@@ -27,13 +30,16 @@ use heap_class::{IdSize, Refusal};
 use heap_step::step::undo;
 use heap_step::{Answer, Event, Undo, apply, undo_takes_back};
 use heap_world::{Config, World};
+use held::Slot;
 use hprof_text::{Cursor, Piece, piece_from};
-pub use shown::WorldView;
 use std::alloc::Global;
 use std::marker::Model;
 
 /// No step goes past this place: 2^62.
 const LAST_PLACE: u64 = 0x4000_0000_0000_0000;
+
+/// Pins that may be open, lost ones included.
+const PIN_LIMIT: usize = 4;
 
 /// What a user of the machine asks for.
 #[derive(Drop)]
@@ -42,21 +48,52 @@ pub enum Action {
     Step(Event),
     /// To undo so many of the last steps.
     Rewind(u64),
+    /// A pin on the state at this place, or at the current one.
+    OpenPin(Option<u64>),
+    /// The next piece of a pin's dump.
+    NextPiece { pin: u64, time: u64 },
+    /// To close a pin.
+    ClosePin(u64),
 }
 
 /// What an action answers.
-#[derive(Clone, Copy, PartialEq, Eq, Debug)]
+#[derive(Drop)]
 pub enum Reply {
     /// What the step answers.
     Answered(Answer),
     /// The place after a rewind.
     Place(u64),
+    /// The number of the new pin, and its place.
+    Pinned { pin: u64, at: u64 },
+    /// A piece of a pin's dump.
+    Part(Piece),
+    /// The pin is closed.
+    Closed,
     /// Why nothing was done.
     Refused(Refusal),
 }
 
-/// The current state, the records of the last `keep` steps, newest first, the place, and the size of ids in dumps.
-/// Contracts see the states themselves.
+/// A pin that was opened: its number, counted from 1, and its place.
+#[derive(Clone, Copy, PartialEq, Eq, Debug)]
+pub struct Pinned {
+    pub pin: u64,
+    pub at: u64,
+}
+
+impl Action {
+    /// Whether it opens, reads or closes a pin.
+    pub fn is_dump(&self) -> bool
+        ensures { result ≡ is_dump_action self.now }
+    {
+        match self {
+            Action::Step(_) | Action::Rewind(_) => false,
+            _ => true,
+        }
+    }
+}
+
+/// The current state, the records of the last `keep` steps, newest first, the place, and the pins. Contracts see the states
+/// and the images themselves.
 #[derive(Drop)]
 pub struct Machine {
     alloc: Global,
@@ -65,21 +102,47 @@ pub struct Machine {
     place: u64,
     keep: u64,
     ids: IdSize,
+    next: u64,
+    pins: Vec<Slot>,
 }
 
 impl Model for Machine {
     ghost use Rattle.heap_trail.specs.Machine.{Machine};
-    ghost use Rattle.heap_trail.specs.Records.{machine_of, IsKept};
+    ghost use Rattle.heap_trail.specs.Records.{machine_of, IsWhole};
 
     ghost Value = { Machine };
 
-    ghost view = { λ m. machine_of m.ids m.world m.records m.place m.keep };
+    ghost view = { λ m. machine_of m.ids m.world m.records m.place m.keep m.next m.pins.items };
 
-    ghost invariant = { λ m. IsKept m.world m.records m.place m.keep };
+    ghost use Rattle.std.specs.Prelude.{◌≤◌};
+    ghost use Rattle.std.specs.Vec.{vec_capacity};
+    ghost use Rattle.heap_trail.specs.Limits.{pin_limit};
+
+    ghost invariant = { λ m. IsWhole m.ids m.world m.records m.place m.keep m.next m.pins.items (vec_capacity m.pins) };
+}
+
+// Each pin keeps what the step that left this record and led to this state overwrote, or is lost.
+fn keep_each(pins: &mut [Slot], world: &World, left: &Undo)
+    requires step { (e : Event) × (before : HeapState) × IsStep e before world.now left.now }
+    requires sized { EachSized (length world.now.regions) pins.old }
+    ensures { EachMayKeep left.now world.now pins.old pins.new }
+{
+    for i in 0..pins.len() {
+        pins[i].keep(world, left);
+    }
+}
+
+// Loses the pins above a place.
+fn lose_above(pins: &mut [Slot], to: u64)
+    ensures { pins.new ≡ map (slot_after_rewind to) pins.old }
+{
+    for i in 0..pins.len() {
+        pins[i].rewind(to);
+    }
 }
 
 impl Machine {
-    /// A machine at place 0. Its ring has room for all records that it keeps. Refused NoMemory.
+    /// A machine at place 0. Its ring has room for all records that it keeps, and there is room for all pins. Refused NoMemory.
     pub fn new(alloc: Global, config: Config) -> Result<Machine, Refusal>
         ensures opened { IfOk result (λ m. m ≡ opening_machine config.ids config.regions config.mutators config.keep) }
         ensures refused { IfErr result (λ e. e ≡ NoMemory) }
@@ -87,6 +150,7 @@ impl Machine {
         let keep = config.keep();
         let ids = config.ids();
         let world = World::new(alloc, config)?;
+        let pins = Vec::with_capacity(alloc, PIN_LIMIT)?;
         match HeapCircularBuffer::with_capacity(alloc, keep as usize) {
             Ok(records) => {
                 // Its contract says that the heap is legal.
@@ -98,6 +162,8 @@ impl Machine {
                     place: 0,
                     keep,
                     ids,
+                    next: 1,
+                    pins,
                 })
             }
             Err(_) => Err(Refusal::NoMemory),
@@ -105,14 +171,14 @@ impl Machine {
     }
 
     /// Takes a step, and keeps its record in place of the oldest where `keep` are there. Refused ChronicleFull at place
-    /// 2^62, else as the event is; then nothing has changed.
+    /// 2^62, else as the event is; then nothing has changed. A pin that finds no memory for what the step overwrote is lost.
     ///
     /// A sweep leaves each object that the registers reach as it was. After a finish all that they reach is live. What
     /// they reached when the cycle began, in the newest retained state in which none ran, is after its finish still
     /// there with its kind and as many words, and live: Yuasa's law.
     pub fn step(&mut self, event: &Event) -> Result<Answer, Refusal>
-        ensures done { IfOk result (λ a. acted self.old (Step event.now) ≡ (self.new, Answered a)) }
-        ensures refused { IfErr result (λ e. (acted self.old (Step event.now) ≡ (self.new, Refused e)) ⊎ (MayStand self.old (Step event.now, Refusing) × (e ≡ NoMemory))) }
+        ensures done { IfOk result (λ a. MayReply self.old (Step event.now) self.new (Answered a)) }
+        ensures refused { IfErr result (λ e. MayFail self.old (Step event.now) self.new e) }
         ensures unchanged { OnErr result (self.new ≡ self.old) }
         ensures spares { OnOk result ((region : ℕ) → event.now ≡ Sweep region → SparesReached self.old.trail.current self.new.trail.current) }
         ensures live { OnOk result (event.now ≡ Finish → ReachesLive self.new.trail.current) }
@@ -124,14 +190,15 @@ impl Machine {
         // By this law the record leads back to the state before.
         undo_takes_back();
         let (answer, left) = apply(&mut self.world, event)?;
+        keep_each(&mut self.pins, &self.world, &left);
         // A record that leaves the full ring at its old end is dropped, with the memory that it holds.
         self.records.push_front(left);
         self.place += 1;
         Ok(answer)
     }
 
-    /// Undoes the last `n` retained steps, and answers the new place. Refused TooFar where fewer are retained. Takes no
-    /// memory.
+    /// Undoes the last `n` retained steps, and answers the new place; pins above it are lost. Refused TooFar where fewer are
+    /// retained. Takes no memory.
     pub fn rewind(&mut self, n: u64) -> Result<u64, Refusal>
         ensures done { IfOk result (λ p. acted self.old (Rewind n) ≡ (self.new, Place p)) }
         ensures refused { IfErr result (λ e. acted self.old (Rewind n) ≡ (self.new, Refused e)) }
@@ -141,15 +208,25 @@ impl Machine {
         if n > retained {
             return Err(Refusal::TooFar { asked: n, retained });
         }
+        let to = self.place() - n;
+        self.lose(to);
         for _done in 0..n {
             self.undo_last();
         }
         Ok(self.place())
     }
 
+    // Loses the pins above a place.
+    fn lose(&mut self, to: u64)
+        ensures { self.new ≡ record self.old { pins = after_rewind to self.old.pins } }
+    {
+        lose_above(&mut self.pins, to);
+    }
+
     /// Undoes the last step.
     fn undo_last(&mut self)
-        requires { 0 < retained self.old.trail }
+        requires some { 0 < retained self.old.trail }
+        requires below { AreAllBelow self.old.trail.place self.old.pins }
         ensures { self.new ≡ record self.old { trail = rewound 1 self.old.trail } }
     {
         match self.records.pop_front() {
@@ -163,7 +240,8 @@ impl Machine {
 
     /// Does an action.
     pub fn act(&mut self, action: &Action) -> Reply
-        ensures { (mark : Mark) × MayStand self.old (action.now, mark) × (acted_under self.old (action.now, mark) ≡ (self.new, result)) }
+        ensures reply { MayReply self.old action.now self.new result }
+        ensures small { IsSmall result }
     {
         match action {
             Action::Step(event) => match self.step(event) {
@@ -172,6 +250,18 @@ impl Machine {
             },
             Action::Rewind(n) => match self.rewind(*n) {
                 Ok(place) => Reply::Place(place),
+                Err(refusal) => Reply::Refused(refusal),
+            },
+            Action::OpenPin(at) => match self.open_pin(*at) {
+                Ok(Pinned { pin, at }) => Reply::Pinned { pin, at },
+                Err(refusal) => Reply::Refused(refusal),
+            },
+            Action::NextPiece { pin, time } => match self.piece(*pin, *time) {
+                Ok(piece) => Reply::Part(piece),
+                Err(refusal) => Reply::Refused(refusal),
+            },
+            Action::ClosePin(pin) => match self.close_pin(*pin) {
+                Ok(()) => Reply::Closed,
                 Err(refusal) => Reply::Refused(refusal),
             },
         }
@@ -199,24 +289,17 @@ impl Machine {
     {
         &self.world
     }
-
-    /// The piece of the current state's dump at the cursor, and the cursor after it. Refused NoMemory.
-    pub fn piece(&self, cursor: Cursor, time: u64) -> Result<(Piece, Cursor), Refusal>
-        requires { StandsIn (shown self.now) cursor }
-        ensures piece { IfOk result (λ p. (i : ℕ) → StandsAt (shown self.now) cursor i → p.0 ≡ piece_of self.now.ids (image_of self.now.trail.current) time i) }
-        ensures next { IfOk result (λ p. (i : ℕ) → StandsAt (shown self.now) cursor i → StandsAt (shown self.now) p.1 (i + 1)) }
-        ensures stands { IfOk result (λ p. StandsIn (shown self.now) p.1) }
-        ensures small { IfOk result (λ p. length p.0.bytes ≤ 2 ^ 24) }
-        ensures refused { IfErr result (λ e. e ≡ NoMemory) }
-    {
-        piece_from(
-            self.alloc,
-            &WorldView::new(&self.world, self.ids),
-            cursor,
-            time,
-        )
-    }
 }
+
+/// The law that dumps leave the trail of every list of actions as it is without them.
+pub fn dumps_leave_trail()
+    ensures { (m : Machine) (actions : List (Action × Mark)) → LeavesTrail m actions }
+{}
+
+/// The law that a pin that isn't lost keeps its place and its image under every action.
+pub fn pins_keep_images()
+    ensures { (m : Machine) (a : Action × Mark) (pin : ℕ) → KeepsImage m a pin }
+{}
 
 /// The law that a step that is answered and a rewind of one after it lead back to the state and the place before.
 pub fn step_leads_back()

@@ -1,7 +1,5 @@
 //! Dumps of seeded heaps, read by a reader of the format, beside the plain heap.
-ghost use Rattle.std.specs.Prelude.{◌<◌, IfOk, IfSome};
-ghost use Rattle.heap_trail.specs.Machine.{shown};
-ghost use Rattle.heap_trail.specs.Pins.{StandsIn};
+ghost use Rattle.std.specs.Prelude.{◌<◌};
 
 use crate::draws::{any_event, any_fields, any_kind, any_length, below};
 use crate::dump_reader::{Dump, ReadSegment, dump_from};
@@ -9,9 +7,8 @@ use crate::dumped::{are_cut, tells};
 use crate::plain::PlainHeap;
 use heap_class::{IdSize, Name};
 use heap_step::Event;
-use heap_trail::Machine;
+use heap_trail::{Machine, Pinned};
 use heap_world::Config;
-use hprof_text::Cursor;
 use rand_pcg::Pcg32;
 use std::alloc::{AllocError, Global};
 use std::test::Fail;
@@ -176,32 +173,35 @@ struct Text {
     sizes: Vec<usize>,
 }
 
-/// Adds the piece at a cursor. Gives the next cursor; None behind the last piece.
-fn add_piece(text: &mut Text, machine: &Machine, cursor: Cursor) -> Result<Option<Cursor>, Fail>
-    requires { StandsIn (shown machine.now) cursor }
-    ensures { IfOk result (λ r. IfSome r (λ next. StandsIn (shown machine.now) next)) }
-{
-    let (piece, next) = machine.piece(cursor, TIME)?;
+/// Adds the next piece of a pin. Returns whether it is the last.
+fn add_piece(text: &mut Text, machine: &mut Machine, pin: u64) -> Result<bool, Fail> {
+    let piece = machine.piece(pin, TIME)?;
     let bytes = piece.bytes.as_slice();
     text.bytes.extend_from_slice(bytes)?;
     text.sizes.push(bytes.len())?;
-    if piece.last { Ok(None) } else { Ok(Some(next)) }
+    Ok(piece.last)
 }
 
-/// The dump of a machine.
-fn text_of(alloc: Global, machine: &Machine) -> Result<Text, Fail> {
+/// Returns the dump of a pin.
+fn pin_text(alloc: Global, machine: &mut Machine, pin: u64) -> Result<Text, Fail> {
     let mut text = Text {
         bytes: Vec::new(alloc),
         sizes: Vec::new(alloc),
     };
-    let mut cursor = Cursor::Start;
     for _ in 0..10_000 {
-        match add_piece(&mut text, machine, cursor)? {
-            Some(next) => cursor = next,
-            None => return Ok(text),
+        if add_piece(&mut text, machine, pin)? {
+            return Ok(text);
         }
     }
     Err("no piece is the last".into())
+}
+
+/// Returns the dump of a machine, by a pin that is closed again.
+fn text_of(alloc: Global, machine: &mut Machine) -> Result<Text, Fail> {
+    let Pinned { pin, .. } = machine.open_pin(None)?;
+    let text = pin_text(alloc, machine, pin)?;
+    machine.close_pin(pin)?;
+    Ok(text)
 }
 
 /// Whether the pieces are the opening records, the segments one by one, and the end.
@@ -257,7 +257,7 @@ fn is_read_back(
 /// Fails unless the dump of a machine with ids of so many bytes tells the plain heap.
 fn read_back(
     alloc: Global,
-    machine: &Machine,
+    machine: &mut Machine,
     ids: usize,
     heap: &PlainHeap,
     tags: &mut Vec<u64>,
@@ -268,9 +268,9 @@ fn read_back(
 
 impl Heaps {
     /// Fails unless the dumps of both machines tell the plain heap.
-    fn read_back(&self, alloc: Global, tags: &mut Vec<u64>) -> Result<(), Fail> {
-        read_back(alloc, &self.eight, 8, &self.plain, tags)?;
-        read_back(alloc, &self.four, 4, &self.plain, tags)
+    fn read_back(&mut self, alloc: Global, tags: &mut Vec<u64>) -> Result<(), Fail> {
+        read_back(alloc, &mut self.eight, 8, &self.plain, tags)?;
+        read_back(alloc, &mut self.four, 4, &self.plain, tags)
     }
 
     /// Fills the registers and writes slots, and then takes seeded steps. Reads back the dumps after each.

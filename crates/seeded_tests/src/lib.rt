@@ -14,6 +14,8 @@ mod machine;
 #[cfg(test)]
 mod observed;
 #[cfg(test)]
+mod pins;
+#[cfg(test)]
 mod plain;
 #[cfg(test)]
 mod plain_ending;

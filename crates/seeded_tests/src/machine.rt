@@ -95,15 +95,16 @@ fn cut(m: u64) -> [Event; 2] {
 
 /// The machine and the plain one beside it, and what the plain one's steps came to.
 #[derive(Drop)]
-struct Pair {
-    alloc: Global,
-    machine: Machine,
-    plain: PlainMachine,
-    sights: Sights,
+pub struct Pair {
+    pub alloc: Global,
+    pub machine: Machine,
+    pub plain: PlainMachine,
+    pub sights: Sights,
 }
 
 impl Pair {
-    fn new(alloc: Global, regions: u64) -> Result<Pair, Fail> {
+    /// A machine and a plain one at place 0, over so many regions.
+    pub fn new(alloc: Global, regions: u64) -> Result<Pair, Fail> {
         let config = Config::new(regions, 2, 12).ok_or("settings out of range")?;
         Ok(Pair {
             alloc,
@@ -189,7 +190,7 @@ impl Pair {
     }
 
     /// Whether both take a seeded action alike: a rewind, or one to six steps.
-    fn act(&mut self, random: &mut Pcg32) -> Result<bool, AllocError> {
+    pub fn act(&mut self, random: &mut Pcg32) -> Result<bool, AllocError> {
         if below(random, 16) == 0 {
             return self.rewind(below(random, 14));
         }
@@ -203,7 +204,7 @@ impl Pair {
     }
 
     /// Whether both define a class of nodes, one of arrays and one of forks alike.
-    fn begin(&mut self) -> Result<bool, AllocError> {
+    pub fn begin(&mut self) -> Result<bool, AllocError> {
         let arrays = Event::ArrayClass {
             name: Name::new(self.alloc, b"[Node;")?,
         };

@@ -188,6 +188,16 @@ impl Sights {
         Ok(())
     }
 
+    /// How many sights there were so far.
+    pub fn count(&self) -> usize {
+        self.seen.len()
+    }
+
+    /// Whether a sight was met since so many were.
+    pub fn met_since(&self, before: usize, wanted: Sight) -> bool {
+        self.seen.iter().skip(before).any(|sight| *sight == wanted)
+    }
+
     /// The first sight that wasn't met or undone as often as it should be.
     pub fn lacking(&self) -> Option<(Sight, usize, usize)> {
         for (sight, least_seen, least_undone) in LEAST {

@@ -12,9 +12,9 @@ use Rattle.heap_class.specs.Kinds.{kind_word}
 use Rattle.heap_step.specs.declared.Event.TheVariants.{Class, ArrayClass, NewPrim, Snap, Mark, Drain, Finish}
 use Rattle.heap_trail.specs.declared.Action.TheVariants.{Step}
 use Rattle.session_text.specs.declared.command.Command.{Command}
-use Rattle.session_text.specs.declared.command.Command.TheVariants.{Blank, Bad, Ask, Dump, End}
-use Rattle.session_text.specs.Grammar.{words_of, is_plain, value_of, number, number_or_dash, all_kinds, kind_of, field_of, fields_of, next_number, next_kind, at_end, one_number, two_numbers, three_numbers, four_numbers, newprim_line, dump_line, Rule, class_rules, making_rules, access_rules, marking_rules, session_rules, all_rules, by_rule, class_line, array_line, command_of_words, command_of_text}
-use Rattle.session_text.specs.Reads.{TakesMemory, MayTakeMemory, plain_field, plain_fields, next_number_or_dash, plain_class, plain_array, plain_class_rules, plain_rules}
+use Rattle.session_text.specs.declared.command.Command.TheVariants.{Blank, Bad, Ask, End}
+use Rattle.session_text.specs.Grammar.{words_of, is_plain, value_of, number, number_or_dash, all_kinds, kind_of, field_of, fields_of, next_number, next_number_or_dash, next_kind, at_end, one_number, one_number_or_dash, two_numbers, three_numbers, four_numbers, newprim_line, dump_of, Rule, class_rules, making_rules, access_rules, marking_rules, session_rules, all_rules, by_rule, class_line, array_line, command_of_words, command_of_text}
+use Rattle.session_text.specs.Reads.{TakesMemory, MayTakeMemory, plain_field, plain_fields, plain_class, plain_array, plain_class_rules, plain_rules}
 
 abbrev pub is_plain_byte : ℕ → Bool
 is_plain_byte b = nat_le 0x20 b && nat_le b 0x7e
@@ -143,6 +143,21 @@ kind_read : (ws : List (List ℕ)) → IsPlainRead ws (next_kind ws)
 kind_read [] r e = cc
 kind_read (w ∷ ws) r e = mapped w ws (kind_of w) (kind_plain w) r e
 
+dash_some : (w : List ℕ) (v : Bool) (s : Option ℕ) → bytes_eq w (codes "-") ≡ v → cond v (Some None) (option_map Some (number w)) ≡ Some s → is_plain w ≡ true
+dash_some w true s e h = keyword_plain w (codes "-") e
+dash_some w false s e h = made w (number w) s (number_plain w) h
+  where
+    made : (w : List ℕ) (o : Option ℕ) (s : Option ℕ) → ((n : ℕ) → o ≡ Some n → is_plain w ≡ true) → option_map Some o ≡ Some s → is_plain w ≡ true
+    made w None s h e = cc
+    made w (Some n) s h e = h n refl
+
+dash_plain : (w : List ℕ) (s : Option ℕ) → number_or_dash w ≡ Some s → is_plain w ≡ true
+dash_plain w s e = dash_some w (bytes_eq w (codes "-")) s refl e
+
+dash_read : (ws : List (List ℕ)) → IsPlainRead ws (next_number_or_dash ws)
+dash_read [] r e = cc
+dash_read (w ∷ ws) r e = mapped w ws (number_or_dash w) (dash_plain w) r e
+
 end_plain : {A : Type 0} (x : A) (ws : List (List ℕ)) → OnlyPlain ws (at_end x ws)
 end_plain x [] c e = refl
 end_plain x (w ∷ ws) c e = cc
@@ -157,6 +172,9 @@ made_plain ws f (Some x) h c e = h x refl
 
 one_plain : (ws : List (List ℕ)) → OnlyPlain ws (one_number ws)
 one_plain ws = then_plain ws (next_number ws) (λ a. at_end a.0 a.1) (number_read ws) (λ a. end_plain a.0 a.1)
+
+dash_alone : (ws : List (List ℕ)) → OnlyPlain ws (one_number_or_dash ws)
+dash_alone ws = then_plain ws (next_number_or_dash ws) (λ a. at_end a.0 a.1) (dash_read ws) (λ a. end_plain a.0 a.1)
 
 two_plain : (ws : List (List ℕ)) → OnlyPlain ws (two_numbers ws)
 two_plain ws =
@@ -189,10 +207,6 @@ key_plain : {A : Type 0} (w key : List ℕ) (ws : List (List ℕ)) (here other :
 key_plain w key ws here other true e key_is h k c is = and_from _ _ (keyword_plain w key e ∙ key_is) (h c is)
 key_plain w key ws here other false e key_is h k c is = k c is
 
-dump_plain : (ws : List (List ℕ)) → OnlyPlain ws (dump_line ws)
-dump_plain [] c e = cc
-dump_plain (w ∷ ws) c e = key_plain w (codes "-") ws (at_end Dump ws) None _ refl refl (end_plain Dump ws) (λ d is. cc) c e
-
 then_cond : {A B : Type 0} (f : A → Option B) (v : Bool) (x : A) (o : Option A) → option_and_then f (cond v (Some x) o) ≡ cond v (f x) (option_and_then f o)
 then_cond f true x o = refl
 then_cond f false x o = refl
@@ -212,8 +226,11 @@ session_plain : (w : List ℕ) (ws : List (List ℕ)) → OnlyPlain (w ∷ ws) (
 unfolding session_rules
 session_plain w ws =
     rule_plain w ws _ _ refl (made_plain ws _ (one_number ws) (one_plain ws))
-    (rule_plain w ws _ _ refl (dump_plain ws)
-    (rule_plain w ws _ _ refl (end_plain End ws) (no_rule w ws)))
+    (rule_plain w ws _ _ refl (made_plain ws _ (one_number_or_dash ws) (dash_alone ws))
+    (rule_plain w ws _ _ refl (made_plain ws _ (one_number ws) (one_plain ws))
+    (rule_plain w ws _ _ refl (made_plain ws (λ pin. dump_of pin) (one_number_or_dash ws) (dash_alone ws))
+    (rule_plain w ws _ _ refl (made_plain ws _ (one_number ws) (one_plain ws))
+    (rule_plain w ws _ _ refl (end_plain End ws) (no_rule w ws))))))
 
 marking_plain : (w : List ℕ) (ws : List (List ℕ)) → OnlyPlain (w ∷ ws) (by_rule (marking_rules ++ session_rules) w ws)
 unfolding marking_rules
@@ -275,17 +292,6 @@ fields_if false v o rest = refl
 fields_plain : (ws : List (List ℕ)) → plain_fields ws ≡ cond (are_plain ws) (fields_of ws) None
 fields_plain [] = refl
 fields_plain (w ∷ ws) = ap (λ rest. option_and_then (more_fields rest) (plain_field w)) (fields_plain ws) ∙ fields_if (is_plain w) (are_plain ws) (field_of w) (fields_of ws)
-
-dash_some : (w : List ℕ) (v : Bool) (s : Option ℕ) → bytes_eq w (codes "-") ≡ v → cond v (Some None) (option_map Some (number w)) ≡ Some s → is_plain w ≡ true
-dash_some w true s e h = keyword_plain w (codes "-") e
-dash_some w false s e h = made w (number w) s (number_plain w) h
-  where
-    made : (w : List ℕ) (o : Option ℕ) (s : Option ℕ) → ((n : ℕ) → o ≡ Some n → is_plain w ≡ true) → option_map Some o ≡ Some s → is_plain w ≡ true
-    made w None s h e = cc
-    made w (Some n) s h e = h n refl
-
-dash_plain : (w : List ℕ) (s : Option ℕ) → number_or_dash w ≡ Some s → is_plain w ≡ true
-dash_plain w s e = dash_some w (bytes_eq w (codes "-")) s refl e
 
 -- a class of this name and super
 abbrev class_with : List ℕ → Option ℕ → Option (List Field) → Option Command

@@ -1,5 +1,5 @@
 -- The session of a machine of one's own, from that for any commands.
-use Rattle.std.proofs.Common.{◌≡◌, ℕ, zero, suc, ◌+◌, ◌<◌, ◌≤◌, ◌⊎◌, inl, inr, Bool, true, false, List, [], ◌∷◌, ◌++◌, length, refl, ap, sym, ◌∙◌, subst, arith, append_assoc, length-append, Result}
+use Rattle.std.proofs.Common.{◌≡◌, ℕ, zero, suc, ◌+◌, ◌<◌, ◌≤◌, ◌⊎◌, inl, inr, Bool, true, false, List, [], ◌∷◌, ◌++◌, length, refl, ap, sym, ◌∙◌, subst, arith, append_assoc, length-append, Option, Some, None, true≢false}
 use Rattle.std.specs.Prelude.{codes, nat_lt, if◌then◌else◌}
 use Rattle.std.specs.Bool.{◌==◌}
 use Rattle.std.specs.List.{slice_split}
@@ -9,33 +9,28 @@ use Rattle.std.proofs.lemmas.Bool.Decides.{nat_tests}
 use Rattle.std.specs.Io.KnownBytes.{Keeps}
 use mathlib.Core.List.{IsPrefix}
 use Rattle.dump_pump.specs.Outlets.{Outgoing}
-use Rattle.heap_class.specs.declared.Refusal.{Refusal}
 use Rattle.heap_class.specs.declared.Refusal.TheVariants.{NoMemory}
 use Rattle.heap_trail.specs.declared.Action.{Action}
+use Rattle.heap_trail.specs.declared.Action.TheVariants.{OpenPin, NextPiece, ClosePin}
 use Rattle.heap_trail.specs.declared.Reply.{Reply}
 use Rattle.heap_trail.specs.declared.Reply.TheVariants.{Refused}
-use Rattle.heap_trail.specs.Machine.{Machine, Mark, Fine, Refusing, MayStand, acted_under, shown}
-use Rattle.heap_trail.specs.Pins.{image_of, StandsAt}
-use Rattle.hprof_text.specs.declared.Cursor.{Cursor}
-use Rattle.hprof_text.specs.declared.Cursor.TheVariants.{Start}
-use Rattle.hprof_text.specs.declared.Piece.{Piece}
-use Rattle.hprof_text.specs.Segments.{piece_of}
+use Rattle.heap_trail.specs.Machine.{Machine, Mark, Fine, Refusing, Losing, MayStand, acted_under, may_grow, may_overwrite}
+use Rattle.hprof_text.specs.declared.Piece.{Piece as GivenPiece}
 use Rattle.session_text.specs.declared.Ended.{Ended}
 use Rattle.session_text.specs.declared.Ended.TheVariants.{Quit, Eof, CutLine, TooLong, ReadFault, TooManyReads, WriteFault, NoMemory as NoRoom}
 use Rattle.session_text.specs.declared.ReadEnd.{ReadEnd}
 use Rattle.session_text.specs.declared.ReadEnd.TheVariants.{Over, Failed, Spent}
 use Rattle.session_text.specs.declared.command.Command.{Command}
-use Rattle.session_text.specs.declared.command.Command.TheVariants.{Blank, Bad, Ask, Dump, End}
+use Rattle.session_text.specs.declared.command.Command.TheVariants.{Blank, Bad, Ask, Piece, Dump, DumpNow, End}
 use Rattle.session_text.specs.declared.commands.Local.{Local}
 use Rattle.session_text.specs.Answers.{Answers, Begins}
-use Rattle.session_text.specs.Dumps.{Dumps, total_line, piece_limit}
+use Rattle.session_text.specs.Dumps.{Goes, Dumps, ClosesAfter, total_line, piece_limit}
 use Rattle.session_text.specs.Grammar.{command_of}
 use Rattle.session_text.specs.Inlets.{Incoming, whole}
 use Rattle.session_text.specs.Lines.{NoLf}
-use Rattle.session_text.specs.Local.{LocalActs, LocalGives}
-use Rattle.session_text.specs.Reads.{ActionTakesMemory}
-use Rattle.session_text.specs.Replies.{reply_text, data_lines}
-use Rattle.session_text.specs.Session.{Talk, wrote, mark_of, marks_after, marked, done, after_piece, dumped, after_command, is_end, go_on, FitsCommand, FitLines, MarksFit, at_end, at_long, talked, session_of, Shows, CutsLine, CutsEnd, IsSession}
+use Rattle.session_text.specs.Local.{LocalActs}
+use Rattle.session_text.specs.Replies.{reply_text, data_lines, piece_in, pin_in}
+use Rattle.session_text.specs.Session.{Talk, wrote, mark_of, marks_after, done_quietly, done, after_reply, dumped, after_open, after_up_to, after_command, is_end, go_on, Fits, FitsRest, FitsDump, FitsOpen, FitsCommand, FitLines, MarksFit, at_end, at_long, talked, session_of, Shows, CutsLine, CutsEnd, IsSession}
 use Rattle.session_text.specs.Talks.{IsLine, Talks, stream, IsTalk, IsQuit, Closes, Breaks, Fails, Serves}
 use Rattle.session_text.specs.Writes.{IsCutShort, IsWritten}
 use Rattle.session_text.proofs.Talking.{served_fails}
@@ -49,65 +44,127 @@ parts bytes = slice_split (λ b. b == 10) bytes
 abbrev talk : Machine → List Mark → List ℕ → Talk
 talk m marks w = record { machine = m; marks = marks; written = w }
 
--- what a machine of one's own may do and give
+-- what a machine of one's own may do
 abbrev acts : Local → Action → Reply → Local → Type 0
 acts c a r d = LocalActs c.machine a r d.machine
 
-abbrev gives : Local → Cursor → ℕ → Result (Piece × Cursor) Refusal → Type 0
-gives c cursor time r = LocalGives c.machine cursor time r
-
-abbrev is_at : Machine → Cursor → ℕ → Type 0
-is_at m cursor i = StandsAt (shown m) cursor i
-
 -- ---- dumps
 
-dump_step : (n i time : ℕ) (m : Machine) (mark : Mark) (ms : List Mark) (w : List ℕ) (so_far : ℕ) → dumped (suc n) i time (talk m (mark ∷ ms) w) so_far ≡ after_piece (dumped n (i + 1) time) so_far mark (piece_of m.ids (image_of m.trail.current) time i) (talk m ms w)
+dump_none : (pin time : ℕ) (t : Talk) (so_far : ℕ) → dumped zero pin time t so_far ≡ t
 unfolding dumped
-dump_step n i time m mark ms w so_far = refl
+dump_none pin time t so_far = refl
 
-dump_none : (i time : ℕ) (t : Talk) (so_far : ℕ) → dumped zero i time t so_far ≡ t
+dump_step : (n pin time : ℕ) (t : Talk) (so_far : ℕ) → dumped (suc n) pin time t so_far ≡ (let r = done_quietly (NextPiece pin time) t in after_reply (dumped n pin time) so_far r.1 (piece_in r.1) r.0)
 unfolding dumped
-dump_none i time t so_far = refl
+dump_step n pin time t so_far = refl
 
--- a piece that was given
-piece_last : (n i time : ℕ) (m : Machine) (ms : List Mark) (w : List ℕ) (so_far : ℕ) (p : Piece) → p ≡ piece_of m.ids (image_of m.trail.current) time i → p.last ≡ true
-    → dumped (suc n) i time (talk m (Fine ∷ ms) w) so_far ≡ talk m ms ((w ++ data_lines p.bytes) ++ total_line (so_far + length p.bytes))
-piece_last n i time m ms w so_far p is last =
-    dump_step n i time m Fine ms w so_far ∙ ap (λ q. after_piece (dumped n (i + 1) time) so_far Fine q (talk m ms w)) (sym is)
-    ∙ ap (λ b. if b then talk m ms ((w ++ data_lines p.bytes) ++ total_line (so_far + length p.bytes)) else dumped n (i + 1) time (talk m ms (w ++ data_lines p.bytes)) (so_far + length p.bytes)) last
+fit_none : (pin time : ℕ) (t : Talk) (so_far : ℕ) → FitsDump zero pin time t so_far
+unfolding FitsDump
+fit_none pin time t so_far = tt
 
-piece_more : (n i time : ℕ) (m : Machine) (ms : List Mark) (w : List ℕ) (so_far : ℕ) (p : Piece) → p ≡ piece_of m.ids (image_of m.trail.current) time i → p.last ≡ false
-    → dumped (suc n) i time (talk m (Fine ∷ ms) w) so_far ≡ dumped n (i + 1) time (talk m ms (w ++ data_lines p.bytes)) (so_far + length p.bytes)
-piece_more n i time m ms w so_far p is last =
-    dump_step n i time m Fine ms w so_far ∙ ap (λ q. after_piece (dumped n (i + 1) time) so_far Fine q (talk m ms w)) (sym is)
-    ∙ ap (λ b. if b then talk m ms ((w ++ data_lines p.bytes) ++ total_line (so_far + length p.bytes)) else dumped n (i + 1) time (talk m ms (w ++ data_lines p.bytes)) (so_far + length p.bytes)) last
+fit_step : (n pin time : ℕ) (t : Talk) (so_far : ℕ) → Fits (NextPiece pin time) t → (let r = done_quietly (NextPiece pin time) t in FitsRest (FitsDump n pin time) so_far (piece_in r.1) r.0) → FitsDump (suc n) pin time t so_far
+unfolding FitsDump
+fit_step n pin time t so_far h k = (h, k)
+
+fit_rest : (n pin time : ℕ) (t : Talk) (so_far : ℕ) → FitsDump (suc n) pin time t so_far → (let r = done_quietly (NextPiece pin time) t in FitsRest (FitsDump n pin time) so_far (piece_in r.1) r.0)
+unfolding FitsDump
+fit_rest n pin time t so_far h = h.1
+
+fit_first : (n pin time : ℕ) (t : Talk) (so_far : ℕ) → FitsDump (suc n) pin time t so_far → Fits (NextPiece pin time) t
+unfolding FitsDump
+fit_first n pin time t so_far h = h.0
+
+-- an action under a mark that may stand there
+done_so : (a : Action) (m : Machine) (mark : Mark) (ms : List Mark) (w : List ℕ) (m' : Machine) (r : Reply) → acted_under m (a, mark) ≡ (m', r) → done_quietly a (talk m (mark ∷ ms) w) ≡ (talk m' ms w, r)
+done_so a m mark ms w m' r e = ap (λ (x : Machine × Reply). (talk x.0 ms w, x.1)) e
 
 -- the marks under which a dump has this text
-record DumpsSo (n i time : ℕ) (m : Machine) (so_far : ℕ) (text : List ℕ) : Type 0 where
+record DumpsSo (n pin time : ℕ) (m : Machine) (so_far : ℕ) (text : List ℕ) (m' : Machine) : Type 0 where
   found : List Mark
-  so : (ms : List Mark) (w : List ℕ) → dumped n i time (talk m (found ++ ms) w) so_far ≡ talk m ms (w ++ text)
+  so : (ms : List Mark) (w : List ℕ) → dumped n pin time (talk m (found ++ ms) w) so_far ≡ talk m' ms (w ++ text)
+  fit : (ms : List Mark) (w : List ℕ) → FitsDump n pin time (talk m (found ++ ms) w) so_far
 
-dumps_so : (n i time : ℕ) (c : Local) (cursor : Cursor) (so_far : ℕ) (text : List ℕ) → is_at c.machine cursor i → Dumps gives c time n cursor so_far text → DumpsSo n i time c.machine so_far text
-dumps_so zero i time c cursor so_far text at d = record {
+-- the marks under which a dump has this text after a reply
+record RestSo (n pin time : ℕ) (m : Machine) (so_far : ℕ) (r : Reply) (o : Option GivenPiece) (text : List ℕ) (m' : Machine) : Type 0 where
+  found : List Mark
+  so : (ms : List Mark) (w : List ℕ) → after_reply (dumped n pin time) so_far r o (talk m (found ++ ms) w) ≡ talk m' ms (w ++ text)
+  fit : (ms : List Mark) (w : List ℕ) → FitsRest (FitsDump n pin time) so_far o (talk m (found ++ ms) w)
+
+moved : (m m' : Machine) (ms : List Mark) (w xs ys : List ℕ) → m' ≡ m → ys ≡ xs → talk m ms (w ++ xs) ≡ talk m' ms (w ++ ys)
+moved m m' ms w xs ys e f = λ i. talk ((sym e) i) ms (w ++ (sym f) i)
+
+rest_so : (n pin time : ℕ) (c : Local) (so_far : ℕ) (r : Reply) (o : Option GivenPiece) (text : List ℕ) (d : Local) → ((k : ℕ) (words : List ℕ) → Dumps acts pin time n c k words d → DumpsSo n pin time c.machine k words d.machine) → Goes (Dumps acts pin time n) r o c so_far text d → RestSo n pin time c.machine so_far r o text d.machine
+rest_so n pin time c so_far r None text d ih h = record {
   found = [];
-  so = λ ms w. dump_none i time (talk c.machine ms w) so_far ∙ ap (λ l. talk c.machine ms l) (sym (ap (λ l. w ++ l) d ∙ append-nil w));
+  so = λ ms w. moved c.machine d.machine ms w (reply_text r) text (ap (λ (x : Local). x.machine) h.1) h.0;
+  fit = λ ms w. tt;
 }
-dumps_so (suc n) i time c cursor so_far text at (inl (p, next, more, given, is, inl h)) = record {
-  found = Fine ∷ [];
-  so = λ ms w. piece_last n i time c.machine ms w so_far p (given.0 i at).0 h.0
-      ∙ ap (λ l. talk c.machine ms l) (append_assoc w (data_lines p.bytes) (total_line (so_far + length p.bytes)) ∙ ap (λ l. w ++ (data_lines p.bytes ++ l)) (sym h.1) ∙ ap (λ l. w ++ l) (sym is));
+rest_so n pin time c so_far r (Some p) text d ih (rest, is, inl (last, total, same)) = record {
+  found = [];
+  so = λ ms w.
+      let t = wrote (data_lines p.bytes) (talk c.machine ms w) in
+      ap (λ b. if b then wrote (total_line (so_far + length p.bytes)) t else dumped n pin time t (so_far + length p.bytes)) last
+      ∙ ap (λ l. talk c.machine ms l) (append_assoc w (data_lines p.bytes) (total_line (so_far + length p.bytes)))
+      ∙ moved c.machine d.machine ms w (data_lines p.bytes ++ total_line (so_far + length p.bytes)) text (ap (λ (x : Local). x.machine) same) (is ∙ ap (λ l. data_lines p.bytes ++ l) total);
+  fit = λ ms w no. absurd (true≢false (sym last ∙ no));
 }
-dumps_so (suc n) i time c cursor so_far text at (inl (p, next, more, given, is, inr h)) =
-    let rest = dumps_so n (i + 1) time c next (so_far + length p.bytes) more (given.0 i at).1 h.1 in
+rest_so n pin time c so_far r (Some p) text d ih (rest, is, inr (last, more)) =
+    let g = ih (so_far + length p.bytes) rest more in
     record {
-      found = Fine ∷ rest.found;
-      so = λ ms w. piece_more n i time c.machine (rest.found ++ ms) w so_far p (given.0 i at).0 h.0 ∙ rest.so ms (w ++ data_lines p.bytes)
-          ∙ ap (λ l. talk c.machine ms l) (append_assoc w (data_lines p.bytes) more ∙ ap (λ l. w ++ l) (sym is));
+      found = g.found;
+      so = λ ms w.
+          let t = wrote (data_lines p.bytes) (talk c.machine (g.found ++ ms) w) in
+          ap (λ b. if b then wrote (total_line (so_far + length p.bytes)) t else dumped n pin time t (so_far + length p.bytes)) last
+          ∙ g.so ms (w ++ data_lines p.bytes) ∙ ap (λ l. talk d.machine ms l) (append_assoc w (data_lines p.bytes) rest ∙ ap (λ l. w ++ l) (sym is));
+      fit = λ ms w no. g.fit ms (w ++ data_lines p.bytes);
     }
-dumps_so (suc n) i time c cursor so_far text at (inr (refusal, given, is)) = record {
-  found = Refusing ∷ [];
-  so = λ ms w. dump_step n i time c.machine Refusing ms w so_far ∙ ap (λ l. talk c.machine ms (w ++ l)) (sym (is ∙ ap (λ r. reply_text (Refused r)) given.1));
+
+dumps_so : (n pin time : ℕ) (c : Local) (so_far : ℕ) (text : List ℕ) (d : Local) → Dumps acts pin time n c so_far text d → DumpsSo n pin time c.machine so_far text d.machine
+dumps_so zero pin time c so_far text d h = record {
+  found = [];
+  so = λ ms w. dump_none pin time (talk c.machine ms w) so_far ∙ ap (λ l. talk c.machine ms l) (sym (append-nil w)) ∙ moved c.machine d.machine ms w [] text (ap (λ (x : Local). x.machine) h.1) h.0;
+  fit = λ ms w. fit_none pin time (talk c.machine ms w) so_far;
 }
+dumps_so (suc n) pin time c so_far text d (r, next, (mark, may, e), goes) =
+    let g = rest_so n pin time next so_far r (piece_in r) text d (λ k words h. dumps_so n pin time next k words d h) goes in
+    record {
+      found = mark ∷ g.found;
+      so = λ ms w. dump_step n pin time (talk c.machine (mark ∷ (g.found ++ ms)) w) so_far
+          ∙ ap (λ (x : Talk × Reply). after_reply (dumped n pin time) so_far x.1 (piece_in x.1) x.0) (done_so (NextPiece pin time) c.machine mark (g.found ++ ms) w next.machine r e) ∙ g.so ms w;
+      fit = λ ms w. fit_step n pin time (talk c.machine (mark ∷ (g.found ++ ms)) w) so_far may
+          (subst (λ (x : Talk × Reply). FitsRest (FitsDump n pin time) so_far (piece_in x.1) x.0) (sym (done_so (NextPiece pin time) c.machine mark (g.found ++ ms) w next.machine r e)) (g.fit ms w));
+    }
+
+-- ---- dumps of the current state
+
+-- the close of a pin may have no other mark
+close_fine : (m : Machine) (pin : ℕ) (mark : Mark) → MayStand m (ClosePin pin, mark) → mark ≡ Fine
+unfolding may_grow may_overwrite
+close_fine m pin Fine h = refl
+close_fine m pin Refusing h = absurd (true≢false (sym h.0))
+close_fine m pin (Losing pins) h = absurd (true≢false (sym h.0))
+
+-- the marks under which a dump of the current state has this text after the reply to OpenPin
+record OpenSo (time : ℕ) (m : Machine) (r : Reply) (o : Option ℕ) (text : List ℕ) (m' : Machine) : Type 0 where
+  found : List Mark
+  so : (ms : List Mark) (w : List ℕ) → after_open piece_limit time r o (talk m (found ++ ms) w) ≡ talk m' ms (w ++ text)
+  fit : (ms : List Mark) (w : List ℕ) → FitsOpen time o (talk m (found ++ ms) w)
+
+open_so : (time : ℕ) (c : Local) (r : Reply) (o : Option ℕ) (text : List ℕ) (d : Local) → ClosesAfter acts time r o piece_limit c text d → OpenSo time c.machine r o text d.machine
+open_so time c r None text d h = record {
+  found = [];
+  so = λ ms w. moved c.machine d.machine ms w (reply_text r) text (ap (λ (x : Local). x.machine) h.1) h.0;
+  fit = λ ms w. tt;
+}
+open_so time c r (Some pin) text d (between, closing, h, (mark, may, e)) =
+    let f = dumps_so piece_limit pin time c 0 text between h in
+    let apart : (ms : List Mark) → (f.found ++ mark ∷ []) ++ ms ≡ f.found ++ (mark ∷ ms) = λ ms. append_assoc f.found (mark ∷ []) ms in
+    let dump : (ms : List Mark) (w : List ℕ) → dumped piece_limit pin time (talk c.machine ((f.found ++ mark ∷ []) ++ ms) w) 0 ≡ talk between.machine (mark ∷ ms) (w ++ text) = λ ms w. ap (λ l. dumped piece_limit pin time (talk c.machine l w) 0) (apart ms) ∙ f.so (mark ∷ ms) w in
+    record {
+      found = f.found ++ mark ∷ [];
+      so = λ ms w. ap (λ x. (done_quietly (ClosePin pin) x).0) (dump ms w) ∙ ap (λ (x : Talk × Reply). x.0) (done_so (ClosePin pin) between.machine mark ms (w ++ text) d.machine closing e);
+      fit = λ ms w. (subst (λ l. FitsDump piece_limit pin time (talk c.machine l w) 0) (sym (apart ms)) (f.fit (mark ∷ ms) w), subst (λ x. Fits (ClosePin pin) x) (sym (dump ms w)) may);
+    }
 
 -- ---- one command
 
@@ -116,7 +173,7 @@ record Follows (time : ℕ) (k : Command) (c : Local) (text : List ℕ) (d : Loc
   found : List Mark
   no_end : is_end k ≡ false
   after : (ms : List Mark) (w : List ℕ) → after_command time k (talk c.machine (found ++ ms) w) ≡ talk d.machine ms (w ++ text)
-  fit : (ms : List Mark) (w : List ℕ) → FitsCommand k (talk c.machine (found ++ ms) w)
+  fit : (ms : List Mark) (w : List ℕ) → FitsCommand time k (talk c.machine (found ++ ms) w)
 
 goes_on : (time : ℕ) (k : Command) (c : Local) (text : List ℕ) (d : Local) (f : Follows time k c text d) (ms : List Mark) (w : List ℕ) (more : Talk → Talk × Ended) → go_on more time k (talk c.machine (f.found ++ ms) w) ≡ more (talk d.machine ms (w ++ text))
 goes_on time k c text d f ms w more =
@@ -127,16 +184,11 @@ is_refused : (m : Machine) (a : Action) → acted_under m (a, Refusing) ≡ (m, 
 unfolding acted_under
 is_refused m a = refl
 
--- an action under a mark
-acts_so : (time : ℕ) (a : Action) (c : Local) (mark : Mark) (m : Machine) (r : Reply) (text : List ℕ) (d : Local) → MayStand c.machine (a, mark) ⊎ ActionTakesMemory a → acted_under c.machine (a, mark) ≡ (m, r) → m ≡ d.machine → text ≡ reply_text r → Follows time (Ask a) c text d
-acts_so time a c mark m r text d fit e f is = record {
-  found = mark ∷ [];
-  no_end = refl;
-  after = λ ms w. (λ i. talk (e i).0 ms (w ++ reply_text (e i).1)) ∙ (λ i. talk (f i) ms (w ++ (sym is) i));
-  fit = λ ms w. fit;
-}
+-- an action under a mark, whose reply is written
+replied_so : (a : Action) (m : Machine) (mark : Mark) (ms : List Mark) (w : List ℕ) (m' : Machine) (r : Reply) (text : List ℕ) → acted_under m (a, mark) ≡ (m', r) → text ≡ reply_text r → done a (talk m (mark ∷ ms) w) ≡ talk m' ms (w ++ text)
+replied_so a m mark ms w m' r text e is = ap (λ (x : Talk × Reply). wrote (reply_text x.1) x.0) (done_so a m mark ms w m' r e) ∙ ap (λ l. talk m' ms (w ++ l)) (sym is)
 
-follows : (time : ℕ) (k : Command) (c : Local) (text : List ℕ) (d : Local) → Answers acts gives time k c text d → Follows time k c text d
+follows : (time : ℕ) (k : Command) (c : Local) (text : List ℕ) (d : Local) → Answers acts time k c text d → Follows time k c text d
 follows time Blank c text d h = record {
   found = [];
   no_end = refl;
@@ -149,11 +201,35 @@ follows time Bad c text d h = record {
   after = λ ms w. let p = sym h.1 in let q = sym h.0 in λ i. talk (p i).machine ms (w ++ q i);
   fit = λ ms w. tt;
 }
-follows time (Ask a) c text d (r, inl h, is) = acts_so time a c h.0 d.machine r text d (inl h.1) h.2 refl is
-follows time (Ask a) c text d (r, inr h, is) = acts_so time a c Refusing c.machine (Refused NoMemory) text d (inr h.0) (is_refused c.machine a) (ap (λ (x : Local). x.machine) (sym h.2)) (is ∙ ap reply_text h.1)
-follows time Dump c text d h =
-    let f = dumps_so piece_limit 0 time c Start 0 text refl h.0 in
-    record { found = f.found; no_end = refl; after = λ ms w. f.so ms w ∙ ap (λ (x : Local). talk x.machine ms (w ++ text)) (sym h.1); fit = λ ms w. tt }
+follows time (Ask a) c text d (r, inl (mark, may, e), is) = record {
+  found = mark ∷ [];
+  no_end = refl;
+  after = λ ms w. replied_so a c.machine mark ms w d.machine r text e is;
+  fit = λ ms w. inl may;
+}
+follows time (Ask a) c text d (r, inr (takes, refused, same), is) = record {
+  found = Refusing ∷ [];
+  no_end = refl;
+  after = λ ms w. replied_so a c.machine Refusing ms w d.machine (Refused NoMemory) text (is_refused c.machine a ∙ ap (λ (x : Local). (x.machine, Refused NoMemory)) (sym same)) (is ∙ ap (λ x. reply_text x) refused);
+  fit = λ ms w. inr takes;
+}
+follows time (Piece pin) c text d (r, (mark, may, e), is) = record {
+  found = mark ∷ [];
+  no_end = refl;
+  after = λ ms w. replied_so (NextPiece pin time) c.machine mark ms w d.machine r text e is;
+  fit = λ ms w. may;
+}
+follows time (Dump pin) c text d h =
+    let f = dumps_so piece_limit pin time c 0 text d h in
+    record { found = f.found; no_end = refl; after = f.so; fit = f.fit }
+follows time DumpNow c text d (r, opened, (mark, may, e), closes) =
+    let g = open_so time opened r (pin_in r) text d closes in
+    record {
+      found = mark ∷ g.found;
+      no_end = refl;
+      after = λ ms w. ap (λ (x : Talk × Reply). after_open piece_limit time x.1 (pin_in x.1) x.0) (done_so (OpenPin None) c.machine mark (g.found ++ ms) w opened.machine r e) ∙ g.so ms w;
+      fit = λ ms w. (may, subst (λ (x : Talk × Reply). FitsOpen time (pin_in x.1) x.0) (sym (done_so (OpenPin None) c.machine mark (g.found ++ ms) w opened.machine r e)) (g.fit ms w));
+    }
 follows time End c text d h = absurd h
 
 -- ---- lines
@@ -174,11 +250,11 @@ more_parts time e l (m ∷ ms) t some h = ap (λ b. if b then at_long t else go_
 line_then : (time : ℕ) (e : ReadEnd) (l ys : List ℕ) (t : Talk) → IsLine l → talked time e (parts (l ++ 10 ∷ ys)) t ≡ go_on (talked time e (parts ys)) time (command_of l) t
 line_then time e l ys t h = ap (λ ls. talked time e ls t) (slice_split_at is_lf l 10 ys h.no_lf refl) ∙ more_parts time e l (parts ys) t (omega (arith, length-slice_split is_lf ys)) h.most
 
-more_fit : (time : ℕ) (l : List ℕ) (ls : List (List ℕ)) (t : Talk) → FitsCommand (command_of l) t → FitLines time ls (after_command time (command_of l) t) → FitLines time (l ∷ ls) t
+more_fit : (time : ℕ) (l : List ℕ) (ls : List (List ℕ)) (t : Talk) → FitsCommand time (command_of l) t → FitLines time ls (after_command time (command_of l) t) → FitLines time (l ∷ ls) t
 more_fit time l [] t h k = tt
 more_fit time l (m ∷ ms) t h k = (h, k)
 
-line_fit : (time : ℕ) (l ys : List ℕ) (t : Talk) → IsLine l → FitsCommand (command_of l) t → FitLines time (parts ys) (after_command time (command_of l) t) → FitLines time (parts (l ++ 10 ∷ ys)) t
+line_fit : (time : ℕ) (l ys : List ℕ) (t : Talk) → IsLine l → FitsCommand time (command_of l) t → FitLines time (parts ys) (after_command time (command_of l) t) → FitLines time (parts (l ++ 10 ∷ ys)) t
 line_fit time l ys t h fit rest = subst (λ ls. FitLines time ls t) (sym (slice_split_at is_lf l 10 ys h.no_lf refl)) (more_fit time l (parts ys) t fit rest)
 
 -- the marks under which all whole lines have these answers
@@ -187,7 +263,7 @@ record Passes (time : ℕ) (ls : List (List ℕ)) (c : Local) (text : List ℕ) 
   so : (e : ReadEnd) (rest : List ℕ) (ms : List Mark) (w : List ℕ) → talked time e (parts (stream ls ++ rest)) (talk c.machine (found ++ ms) w) ≡ talked time e (parts rest) (talk d.machine ms (w ++ text))
   fit : (rest : List ℕ) (ms : List Mark) (w : List ℕ) → FitLines time (parts rest) (talk d.machine ms (w ++ text)) → FitLines time (parts (stream ls ++ rest)) (talk c.machine (found ++ ms) w)
 
-passes : (time : ℕ) (ls : List (List ℕ)) (c : Local) (text : List ℕ) (d : Local) → Talks (Answers acts gives time) ls c text d → Passes time ls c text d
+passes : (time : ℕ) (ls : List (List ℕ)) (c : Local) (text : List ℕ) (d : Local) → Talks (Answers acts time) ls c text d → Passes time ls c text d
 passes time [] c text d t = record {
   found = [];
   so = λ e rest ms w. let p = sym t.1 in let q = sym (ap (λ l. w ++ l) t.0 ∙ append-nil w) in λ i. talked time e (parts rest) (talk (p i).machine ms (q i));
@@ -248,56 +324,67 @@ closes_so time e rest a b NoRoom tail m ms w f h = absurd h
 
 -- ---- with no marks all is fine
 
-piece_fine : (b : Bool) (t u : Talk) → t.marks ≡ [] → u.marks ≡ [] → (if b then t else u).marks ≡ []
-piece_fine true t u p q = p
-piece_fine false t u p q = q
+either_fine : (b : Bool) (t u : Talk) → t.marks ≡ [] → u.marks ≡ [] → (if b then t else u).marks ≡ []
+either_fine true t u p q = p
+either_fine false t u p q = q
 
-after_fine : (more : Talk → ℕ → Talk) → ((t : Talk) (n : ℕ) → t.marks ≡ [] → (more t n).marks ≡ []) → (so_far : ℕ) (mark : Mark) (p : Piece) (t : Talk) → t.marks ≡ [] → (after_piece more so_far mark p t).marks ≡ []
-after_fine more ih so_far Fine p t e =
+any_fits : (a : Action) (t : Talk) → t.marks ≡ [] → Fits a t
+any_fits a t e = subst (λ ks. MayStand t.machine (a, mark_of ks)) (sym e) tt
+
+rest_fine : (more : Talk → ℕ → Talk) → ((t : Talk) (n : ℕ) → t.marks ≡ [] → (more t n).marks ≡ []) → (so_far : ℕ) (r : Reply) (o : Option GivenPiece) (t : Talk) → t.marks ≡ [] → (after_reply more so_far r o t).marks ≡ []
+rest_fine more ih so_far r None t e = e
+rest_fine more ih so_far r (Some p) t e =
     let n = so_far + length p.bytes in
-    piece_fine p.last (wrote (total_line n) (wrote (data_lines p.bytes) t)) (more (wrote (data_lines p.bytes) t) n) e (ih (wrote (data_lines p.bytes) t) n e)
-after_fine more ih so_far Refusing p t e = e
+    either_fine p.last (wrote (total_line n) (wrote (data_lines p.bytes) t)) (more (wrote (data_lines p.bytes) t) n) e (ih (wrote (data_lines p.bytes) t) n e)
 
-dump_fine : (n i time : ℕ) (t : Talk) (so_far : ℕ) → t.marks ≡ [] → (dumped n i time t so_far).marks ≡ []
+dump_fine : (n pin time : ℕ) (t : Talk) (so_far : ℕ) → t.marks ≡ [] → (dumped n pin time t so_far).marks ≡ []
 unfolding dumped
-dump_fine zero i time t so_far e = e
-dump_fine (suc n) i time t so_far e = after_fine (dumped n (i + 1) time) (λ u k h. dump_fine n (i + 1) time u k h) so_far (mark_of t.marks) (piece_of t.machine.ids (image_of t.machine.trail.current) time i) (marked t) (ap marks_after e)
+dump_fine zero pin time t so_far e = e
+dump_fine (suc n) pin time t so_far e =
+    let r = done_quietly (NextPiece pin time) t in
+    rest_fine (dumped n pin time) (λ u k h. dump_fine n pin time u k h) so_far r.1 (piece_in r.1) r.0 (ap marks_after e)
+
+rest_fits : (more : Talk → ℕ → Type 0) → ((t : Talk) (n : ℕ) → t.marks ≡ [] → more t n) → (so_far : ℕ) (o : Option GivenPiece) (t : Talk) → t.marks ≡ [] → FitsRest more so_far o t
+rest_fits more ih so_far None t e = tt
+rest_fits more ih so_far (Some p) t e = λ no. ih (wrote (data_lines p.bytes) t) (so_far + length p.bytes) e
+
+dump_fits : (n pin time : ℕ) (t : Talk) (so_far : ℕ) → t.marks ≡ [] → FitsDump n pin time t so_far
+unfolding FitsDump
+dump_fits zero pin time t so_far e = tt
+dump_fits (suc n) pin time t so_far e =
+    let r = done_quietly (NextPiece pin time) t in
+    (any_fits (NextPiece pin time) t e, rest_fits (FitsDump n pin time) (λ u k h. dump_fits n pin time u k h) so_far (piece_in r.1) r.0 (ap marks_after e))
+
+open_fine : (time : ℕ) (r : Reply) (o : Option ℕ) (t : Talk) → t.marks ≡ [] → (after_open piece_limit time r o t).marks ≡ []
+open_fine time r None t e = e
+open_fine time r (Some pin) t e = ap marks_after (dump_fine piece_limit pin time t 0 e)
+
+open_fits : (time : ℕ) (o : Option ℕ) (t : Talk) → t.marks ≡ [] → FitsOpen time o t
+open_fits time None t e = tt
+open_fits time (Some pin) t e = (dump_fits piece_limit pin time t 0 e, any_fits (ClosePin pin) (dumped piece_limit pin time t 0) (dump_fine piece_limit pin time t 0 e))
 
 command_fine : (time : ℕ) (k : Command) (t : Talk) → t.marks ≡ [] → (after_command time k t).marks ≡ []
 command_fine time Blank t e = e
 command_fine time Bad t e = e
 command_fine time (Ask a) t e = ap marks_after e
-command_fine time Dump t e = dump_fine piece_limit 0 time t 0 e
+command_fine time (Piece pin) t e = ap marks_after e
+command_fine time (Dump pin) t e = dump_fine piece_limit pin time t 0 e
+command_fine time DumpNow t e = let r = done_quietly (OpenPin None) t in open_fine time r.1 (pin_in r.1) r.0 (ap marks_after e)
 command_fine time End t e = e
 
-fits_fine : (k : Command) (t : Talk) → t.marks ≡ [] → FitsCommand k t
-fits_fine Blank t e = tt
-fits_fine Bad t e = tt
-fits_fine (Ask a) t e = inl (subst (λ ks. MayStand t.machine (a, mark_of ks)) (sym e) tt)
-fits_fine Dump t e = tt
-fits_fine End t e = tt
+fits_fine : (time : ℕ) (k : Command) (t : Talk) → t.marks ≡ [] → FitsCommand time k t
+fits_fine time Blank t e = tt
+fits_fine time Bad t e = tt
+fits_fine time (Ask a) t e = inl (any_fits a t e)
+fits_fine time (Piece pin) t e = any_fits (NextPiece pin time) t e
+fits_fine time (Dump pin) t e = dump_fits piece_limit pin time t 0 e
+fits_fine time DumpNow t e = let r = done_quietly (OpenPin None) t in (any_fits (OpenPin None) t e, open_fits time (pin_in r.1) r.0 (ap marks_after e))
+fits_fine time End t e = tt
 
 fine : (time : ℕ) (ls : List (List ℕ)) (t : Talk) → t.marks ≡ [] → FitLines time ls t
 fine time [] t e = tt
 fine time (l ∷ []) t e = tt
-fine time (l ∷ m ∷ ms) t e = (fits_fine (command_of l) t e, fine time (m ∷ ms) (after_command time (command_of l) t) (command_fine time (command_of l) t e))
-
--- ---- a dump leaves the machine
-
-piece_machine : (b : Bool) (t u : Talk) (m : Machine) → t.machine ≡ m → u.machine ≡ m → (if b then t else u).machine ≡ m
-piece_machine true t u m p q = p
-piece_machine false t u m p q = q
-
-after_machine : (more : Talk → ℕ → Talk) → ((t : Talk) (n : ℕ) → (more t n).machine ≡ t.machine) → (so_far : ℕ) (mark : Mark) (p : Piece) (t : Talk) → (after_piece more so_far mark p t).machine ≡ t.machine
-after_machine more ih so_far Fine p t =
-    let n = so_far + length p.bytes in
-    piece_machine p.last (wrote (total_line n) (wrote (data_lines p.bytes) t)) (more (wrote (data_lines p.bytes) t) n) t.machine refl (ih (wrote (data_lines p.bytes) t) n)
-after_machine more ih so_far Refusing p t = refl
-
-dump_machine : (n i time : ℕ) (t : Talk) (so_far : ℕ) → (dumped n i time t so_far).machine ≡ t.machine
-unfolding dumped
-dump_machine zero i time t so_far = refl
-dump_machine (suc n) i time t so_far = after_machine (dumped n (i + 1) time) (λ u k. dump_machine n (i + 1) time u k) so_far (mark_of t.marks) (piece_of t.machine.ids (image_of t.machine.trail.current) time i) (marked t)
+fine time (l ∷ m ∷ ms) t e = (fits_fine time (command_of l) t e, fine time (m ∷ ms) (after_command time (command_of l) t) (command_fine time (command_of l) t e))
 
 -- ---- what was written stays
 
@@ -307,21 +394,28 @@ begins_more w s z p = (s ++ p.0, sym (append_assoc w s p.0) ∙ p.1)
 begins_itself : (w : List ℕ) → IsPrefix w w
 begins_itself w = ([], append-nil w)
 
-piece_stays : (b : Bool) (t u : Talk) (w : List ℕ) → IsPrefix w t.written → IsPrefix w u.written → IsPrefix w (if b then t else u).written
-piece_stays true t u w p q = p
-piece_stays false t u w p q = q
+begins_then : (x y z : List ℕ) → IsPrefix x y → IsPrefix y z → IsPrefix x z
+begins_then x y z p q = begins_more x p.0 z (subst (λ l. IsPrefix l z) (sym p.1) q)
 
-after_stays : (more : Talk → ℕ → Talk) → ((t : Talk) (n : ℕ) → IsPrefix t.written (more t n).written) → (so_far : ℕ) (mark : Mark) (p : Piece) (t : Talk) → IsPrefix t.written (after_piece more so_far mark p t).written
-after_stays more ih so_far Fine p t =
+either_begins : (b : Bool) (t u : Talk) (w : List ℕ) → IsPrefix w t.written → IsPrefix w u.written → IsPrefix w (if b then t else u).written
+either_begins true t u w p q = p
+either_begins false t u w p q = q
+
+rest_stays : (more : Talk → ℕ → Talk) → ((t : Talk) (n : ℕ) → IsPrefix t.written (more t n).written) → (so_far : ℕ) (r : Reply) (o : Option GivenPiece) (t : Talk) → IsPrefix t.written (after_reply more so_far r o t).written
+rest_stays more ih so_far r None t = (reply_text r, refl)
+rest_stays more ih so_far r (Some p) t =
     let n = so_far + length p.bytes in
-    piece_stays p.last (wrote (total_line n) (wrote (data_lines p.bytes) t)) (more (wrote (data_lines p.bytes) t) n) t.written
+    either_begins p.last (wrote (total_line n) (wrote (data_lines p.bytes) t)) (more (wrote (data_lines p.bytes) t) n) t.written
     (begins_more t.written (data_lines p.bytes) _ (total_line n, refl)) (begins_more t.written (data_lines p.bytes) _ (ih (wrote (data_lines p.bytes) t) n))
-after_stays more ih so_far Refusing p t = (reply_text (Refused NoMemory), refl)
 
-dump_stays : (n i time : ℕ) (t : Talk) (so_far : ℕ) → IsPrefix t.written (dumped n i time t so_far).written
+dump_stays : (n pin time : ℕ) (t : Talk) (so_far : ℕ) → IsPrefix t.written (dumped n pin time t so_far).written
 unfolding dumped
-dump_stays zero i time t so_far = begins_itself t.written
-dump_stays (suc n) i time t so_far = after_stays (dumped n (i + 1) time) (λ u k. dump_stays n (i + 1) time u k) so_far (mark_of t.marks) (piece_of t.machine.ids (image_of t.machine.trail.current) time i) (marked t)
+dump_stays zero pin time t so_far = begins_itself t.written
+dump_stays (suc n) pin time t so_far = let r = done_quietly (NextPiece pin time) t in rest_stays (dumped n pin time) (λ u k. dump_stays n pin time u k) so_far r.1 (piece_in r.1) r.0
+
+open_stays : (time : ℕ) (r : Reply) (o : Option ℕ) (t : Talk) → IsPrefix t.written (after_open piece_limit time r o t).written
+open_stays time r None t = (reply_text r, refl)
+open_stays time r (Some pin) t = dump_stays piece_limit pin time t 0
 
 end_stays : (e : ReadEnd) (b : Bool) (t : Talk) → IsPrefix t.written (at_end e b t).0.written
 end_stays Over true t = begins_itself t.written
@@ -337,7 +431,9 @@ on_stays : (more : Talk → Talk × Ended) → ((t : Talk) → IsPrefix t.writte
 on_stays more ih time Blank t = ih t
 on_stays more ih time Bad t = begins_more t.written (codes "bad command\n") _ (ih (wrote (codes "bad command\n") t))
 on_stays more ih time (Ask a) t = begins_more t.written _ _ (ih (done a t))
-on_stays more ih time Dump t = let p = dump_stays piece_limit 0 time t 0 in begins_more t.written p.0 _ (subst (λ l. IsPrefix l (more (dumped piece_limit 0 time t 0)).0.written) (sym p.1) (ih (dumped piece_limit 0 time t 0)))
+on_stays more ih time (Piece pin) t = begins_more t.written _ _ (ih (done (NextPiece pin time) t))
+on_stays more ih time (Dump pin) t = begins_then t.written _ _ (dump_stays piece_limit pin time t 0) (ih (dumped piece_limit pin time t 0))
+on_stays more ih time DumpNow t = let r = done_quietly (OpenPin None) t in begins_then t.written _ _ (open_stays time r.1 (pin_in r.1) r.0) (ih (after_open piece_limit time r.1 (pin_in r.1) r.0))
 on_stays more ih time End t = begins_itself t.written
 
 stays : (time : ℕ) (e : ReadEnd) (ls : List (List ℕ)) (t : Talk) → IsPrefix t.written (talked time e ls t).0.written
@@ -345,60 +441,125 @@ stays time e [] t = end_stays e true t
 stays time e (l ∷ []) t = either_stays (nat_lt 4096 (length l)) t (at_end e (length l == 0) t) (end_stays e (length l == 0) t)
 stays time e (l ∷ m ∷ ms) t = either_stays (nat_lt 4096 (length l)) t (go_on (talked time e (m ∷ ms)) time (command_of l) t) (on_stays (talked time e (m ∷ ms)) (λ u. stays time e (m ∷ ms) u) time (command_of l) t)
 
--- ---- a line whose answer was cut short
+-- ---- a dump of fewer pieces
 
--- the marks under which a dump begins with this text
-record DumpBegins (n i time : ℕ) (m : Machine) (so_far : ℕ) (text : List ℕ) : Type 0 where
-  found : List Mark
-  so : (ms : List Mark) (w : List ℕ) → IsPrefix (w ++ text) (dumped n i time (talk m (found ++ ms) w) so_far).written
-  spent : (w : List ℕ) → (dumped n i time (talk m (found ++ []) w) so_far).marks ≡ []
+-- where a dump of fewer pieces uses up the marks, one of more has no others, and goes on from its text
+record GoesOn (k n pin time : ℕ) (t : Talk) (so_far : ℕ) : Type 0 where
+  stays : IsPrefix (dumped k pin time t so_far).written (dumped n pin time t so_far).written
+  spent : (dumped k pin time t so_far).marks ≡ [] → (dumped n pin time t so_far).marks ≡ []
+  fit : FitsDump k pin time t so_far → (dumped k pin time t so_far).marks ≡ [] → FitsDump n pin time t so_far
+
+record RestGoesOn (k n pin time so_far : ℕ) (r : Reply) (o : Option GivenPiece) (t : Talk) : Type 0 where
+  stays : IsPrefix (after_reply (dumped k pin time) so_far r o t).written (after_reply (dumped n pin time) so_far r o t).written
+  spent : (after_reply (dumped k pin time) so_far r o t).marks ≡ [] → (after_reply (dumped n pin time) so_far r o t).marks ≡ []
+  fit : FitsRest (FitsDump k pin time) so_far o t → (after_reply (dumped k pin time) so_far r o t).marks ≡ [] → FitsRest (FitsDump n pin time) so_far o t
+
+same_begins : (b : Bool) (t u v : Talk) → IsPrefix u.written v.written → IsPrefix (if b then t else u).written (if b then t else v).written
+same_begins true t u v p = begins_itself t.written
+same_begins false t u v p = p
+
+same_spent : (b : Bool) (t u v : Talk) → (u.marks ≡ [] → v.marks ≡ []) → (if b then t else u).marks ≡ [] → (if b then t else v).marks ≡ []
+same_spent true t u v f e = e
+same_spent false t u v f e = f e
+
+rest_goes_on : (k n pin time so_far : ℕ) (r : Reply) (o : Option GivenPiece) (t : Talk) → ((u : Talk) (j : ℕ) → GoesOn k n pin time u j) → RestGoesOn k n pin time so_far r o t
+rest_goes_on k n pin time so_far r None t ih = record { stays = begins_itself (t.written ++ reply_text r); spent = λ e. e; fit = λ h e. tt }
+rest_goes_on k n pin time so_far r (Some p) t ih =
+    let j = so_far + length p.bytes in
+    let u = wrote (data_lines p.bytes) t in
+    let g = ih u j in
+    record {
+      stays = same_begins p.last (wrote (total_line j) u) (dumped k pin time u j) (dumped n pin time u j) g.stays;
+      spent = same_spent p.last (wrote (total_line j) u) (dumped k pin time u j) (dumped n pin time u j) g.spent;
+      fit = λ h e no. g.fit (h no) (ap (λ (b : Bool). (if b then wrote (total_line j) u else dumped k pin time u j).marks) (sym no) ∙ e);
+    }
+
+dump_goes_on : (k n pin time : ℕ) (t : Talk) (so_far : ℕ) → k ≤ n → GoesOn k n pin time t so_far
+unfolding dumped FitsDump
+dump_goes_on zero n pin time t so_far le = record {
+  stays = dump_stays n pin time t so_far;
+  spent = λ e. dump_fine n pin time t so_far e;
+  fit = λ h e. dump_fits n pin time t so_far e;
+}
+dump_goes_on (suc k) zero pin time t so_far le = absurd (omega (arith, le))
+dump_goes_on (suc k) (suc n) pin time t so_far le =
+    let r = done_quietly (NextPiece pin time) t in
+    let g = rest_goes_on k n pin time so_far r.1 (piece_in r.1) r.0 (λ u j. dump_goes_on k n pin time u j (omega (arith, le))) in
+    record { stays = g.stays; spent = g.spent; fit = λ h e. (h.0, g.fit h.1 e) }
+
+-- ---- a line whose answer was cut short
 
 is_all : (m : Machine) (ms : List Mark) (xs ys : List ℕ) (t : Talk) → t ≡ talk m ms xs → xs ≡ ys → IsPrefix ys t.written
 is_all m ms xs ys t e f = subst (λ (u : Talk). IsPrefix ys u.written) (sym e) (subst (λ l. IsPrefix ys l) (sym f) (begins_itself ys))
 
-dump_begins : (n k i time : ℕ) (c : Local) (cursor : Cursor) (so_far : ℕ) (text : List ℕ) → k ≤ n → is_at c.machine cursor i → Dumps gives c time k cursor so_far text → DumpBegins n i time c.machine so_far text
-dump_begins n zero i time c cursor so_far text le at d = record {
-  found = [];
-  so = λ ms w. subst (λ l. IsPrefix l (dumped n i time (talk c.machine ms w) so_far).written) (sym (ap (λ l. w ++ l) d ∙ append-nil w)) (dump_stays n i time (talk c.machine ms w) so_far);
-  spent = λ w. dump_fine n i time (talk c.machine [] w) so_far refl;
-}
-dump_begins zero (suc k) i time c cursor so_far text le at d = absurd (omega (arith, le))
-dump_begins (suc n) (suc k) i time c cursor so_far text le at (inl (p, next, more, given, is, inl h)) = record {
-  found = Fine ∷ [];
-  so = λ ms w. is_all c.machine ms _ (w ++ text) _ (piece_last n i time c.machine ms w so_far p (given.0 i at).0 h.0)
-      (append_assoc w (data_lines p.bytes) (total_line (so_far + length p.bytes)) ∙ ap (λ l. w ++ (data_lines p.bytes ++ l)) (sym h.1) ∙ ap (λ l. w ++ l) (sym is));
-  spent = λ w. ap (λ (u : Talk). u.marks) (piece_last n i time c.machine [] w so_far p (given.0 i at).0 h.0);
-}
-dump_begins (suc n) (suc k) i time c cursor so_far text le at (inl (p, next, more, given, is, inr h)) =
-    let rest = dump_begins n k (i + 1) time c next (so_far + length p.bytes) more (omega (arith, le)) (given.0 i at).1 h.1 in
+-- the marks under which a dump begins with this text
+record DumpBegins (k pin time : ℕ) (m : Machine) (text : List ℕ) (m' : Machine) : Type 0 where
+  found : List Mark
+  here : (w : List ℕ) → dumped k pin time (talk m found w) 0 ≡ talk m' [] (w ++ text)
+  so : (w : List ℕ) → IsPrefix (w ++ text) (dumped piece_limit pin time (talk m found w) 0).written
+  spent : (w : List ℕ) → (dumped piece_limit pin time (talk m found w) 0).marks ≡ []
+  fit : (w : List ℕ) → FitsDump piece_limit pin time (talk m found w) 0
+
+dump_begins : (k pin time : ℕ) (c : Local) (text : List ℕ) (d : Local) → k ≤ piece_limit → Dumps acts pin time k c 0 text d → DumpBegins k pin time c.machine text d.machine
+dump_begins k pin time c text d le h =
+    let f = dumps_so k pin time c 0 text d h in
+    let g : (w : List ℕ) → GoesOn k piece_limit pin time (talk c.machine (f.found ++ []) w) 0 = λ w. dump_goes_on k piece_limit pin time (talk c.machine (f.found ++ []) w) 0 le in
+    let none : (w : List ℕ) → (dumped k pin time (talk c.machine (f.found ++ []) w) 0).marks ≡ [] = λ w. ap (λ (u : Talk). u.marks) (f.so [] w) in
     record {
-      found = Fine ∷ rest.found;
-      so = λ ms w.
-          let words : (w ++ data_lines p.bytes) ++ more ≡ w ++ text = append_assoc w (data_lines p.bytes) more ∙ ap (λ l. w ++ l) (sym is) in
-          subst (λ (u : Talk). IsPrefix (w ++ text) u.written) (sym (piece_more n i time c.machine (rest.found ++ ms) w so_far p (given.0 i at).0 h.0))
-          (subst (λ l. IsPrefix l (dumped n (i + 1) time (talk c.machine (rest.found ++ ms) (w ++ data_lines p.bytes)) (so_far + length p.bytes)).written) words (rest.so ms (w ++ data_lines p.bytes)));
-      spent = λ w. ap (λ (u : Talk). u.marks) (piece_more n i time c.machine (rest.found ++ []) w so_far p (given.0 i at).0 h.0) ∙ rest.spent (w ++ data_lines p.bytes);
+      found = f.found ++ [];
+      here = λ w. f.so [] w;
+      so = λ w. begins_then (w ++ text) _ _ (is_all d.machine [] (w ++ text) (w ++ text) _ (f.so [] w) refl) (g w).stays;
+      spent = λ w. (g w).spent (none w);
+      fit = λ w. (g w).fit (f.fit [] w) (none w);
     }
-dump_begins (suc n) (suc k) i time c cursor so_far text le at (inr (refusal, given, is)) = record {
-  found = Refusing ∷ [];
-  so = λ ms w. is_all c.machine ms _ (w ++ text) _ (dump_step n i time c.machine Refusing ms w so_far) (ap (λ l. w ++ l) (sym (is ∙ ap (λ r. reply_text (Refused r)) given.1)));
-  spent = λ w. ap (λ (u : Talk). u.marks) (dump_step n i time c.machine Refusing [] w so_far);
-}
+
+-- the marks under which a dump of the current state begins with this text after the reply to OpenPin
+record OpenBegins (k time : ℕ) (m : Machine) (r : Reply) (o : Option ℕ) (text : List ℕ) (m' : Machine) : Type 0 where
+  found : List Mark
+  here : (w : List ℕ) → after_open k time r o (talk m found w) ≡ talk m' [] (w ++ text)
+  so : (w : List ℕ) → IsPrefix (w ++ text) (after_open piece_limit time r o (talk m found w)).written
+  spent : (w : List ℕ) → (after_open piece_limit time r o (talk m found w)).marks ≡ []
+  fit : (w : List ℕ) → FitsOpen time o (talk m found w)
+
+open_begins : (k time : ℕ) (c : Local) (r : Reply) (o : Option ℕ) (text : List ℕ) (d : Local) → k ≤ piece_limit → ClosesAfter acts time r o k c text d → OpenBegins k time c.machine r o text d.machine
+open_begins k time c r None text d le h =
+    let all : (w : List ℕ) → after_open k time r None (talk c.machine [] w) ≡ talk d.machine [] (w ++ text) = λ w. moved c.machine d.machine [] w (reply_text r) text (ap (λ (x : Local). x.machine) h.1) h.0 in
+    record {
+      found = [];
+      here = all;
+      so = λ w. is_all d.machine [] (w ++ text) (w ++ text) _ (all w) refl;
+      spent = λ w. refl;
+      fit = λ w. tt;
+    }
+open_begins k time c r (Some pin) text d le (between, closing, h, (mark, may, e)) =
+    let f = dump_begins k pin time c text between le h in
+    let is : acted_under between.machine (ClosePin pin, Fine) ≡ (d.machine, closing) = ap (λ x. acted_under between.machine (ClosePin pin, x)) (sym (close_fine between.machine pin mark may)) ∙ e in
+    record {
+      found = f.found;
+      here = λ w. ap (λ x. (done_quietly (ClosePin pin) x).0) (f.here w) ∙ ap (λ (x : Machine × Reply). talk x.0 [] (w ++ text)) is;
+      so = λ w. f.so w;
+      spent = λ w. ap marks_after (f.spent w);
+      fit = λ w. (f.fit w, any_fits (ClosePin pin) (dumped piece_limit pin time (talk c.machine f.found w) 0) (f.spent w));
+    }
 
 -- the marks under which a line's answer begins with this text and leaves this machine
 record BeginsSo (time : ℕ) (k : Command) (c : Local) (tail : List ℕ) (d : Local) (w : List ℕ) (more : Talk → Talk × Ended) : Type 0 where
   found : List Mark
+  pieces : ℕ
+  most : pieces ≤ piece_limit
   so : IsPrefix (w ++ tail) (go_on more time k (talk c.machine found w)).0.written
-  fit : FitsCommand k (talk c.machine found w)
+  fit : FitsCommand time k (talk c.machine found w)
   spent : (after_command time k (talk c.machine found w)).marks ≡ []
-  here : IsPrefix (w ++ tail) (after_command time k (talk c.machine found w)).written
-  machine : d.machine ≡ (after_command time k (talk c.machine found w)).machine
+  here : IsPrefix (w ++ tail) (after_up_to pieces time k (talk c.machine found w)).written
+  machine : d.machine ≡ (after_up_to pieces time k (talk c.machine found w)).machine
 
-follows_so : (time : ℕ) (k : Command) (c : Local) (tail : List ℕ) (d : Local) (w : List ℕ) (more : Talk → Talk × Ended) → ((t : Talk) → IsPrefix t.written (more t).0.written) → Answers acts gives time k c tail d → BeginsSo time k c tail d w more
+follows_so : (time : ℕ) (k : Command) (c : Local) (tail : List ℕ) (d : Local) (w : List ℕ) (more : Talk → Talk × Ended) → ((t : Talk) → IsPrefix t.written (more t).0.written) → Answers acts time k c tail d → BeginsSo time k c tail d w more
 follows_so time k c tail d w more ih h =
     let f = follows time k c tail d h in
     record {
       found = f.found ++ [];
+      pieces = piece_limit;
+      most = omega arith;
       so = subst (λ r. IsPrefix (w ++ tail) r.0.written) (sym (goes_on time k c tail d f [] w more)) (ih (talk d.machine [] (w ++ tail)));
       fit = f.fit [] w;
       spent = ap (λ (u : Talk). u.marks) (f.after [] w);
@@ -406,41 +567,57 @@ follows_so time k c tail d w more ih h =
       machine = sym (ap (λ (u : Talk). u.machine) (f.after [] w));
     }
 
-begins_so : (time : ℕ) (k : Command) (c : Local) (tail : List ℕ) (d : Local) (w : List ℕ) (more : Talk → Talk × Ended) → ((t : Talk) → IsPrefix t.written (more t).0.written) → Begins acts gives time k c tail d → BeginsSo time k c tail d w more
+begins_so : (time : ℕ) (k : Command) (c : Local) (tail : List ℕ) (d : Local) (w : List ℕ) (more : Talk → Talk × Ended) → ((t : Talk) → IsPrefix t.written (more t).0.written) → Begins acts time k c tail d → BeginsSo time k c tail d w more
 begins_so time Blank c tail d w more ih h = absurd h
 begins_so time Bad c tail d w more ih h = follows_so time Bad c tail d w more ih h
 begins_so time (Ask a) c tail d w more ih h = follows_so time (Ask a) c tail d w more ih h
-begins_so time Dump c tail d w more ih h =
-    let f = dump_begins piece_limit h.0 0 time c Start 0 tail h.1 refl h.2 in
-    let p = f.so [] w in
-    let t = dumped piece_limit 0 time (talk c.machine (f.found ++ []) w) 0 in
+begins_so time (Piece pin) c tail d w more ih h = follows_so time (Piece pin) c tail d w more ih h
+begins_so time (Dump pin) c tail d w more ih (pieces, le, h) =
+    let f = dump_begins pieces pin time c tail d le h in
     record {
-      found = f.found ++ [];
-      so = begins_more (w ++ tail) p.0 _ (subst (λ l. IsPrefix l (more t).0.written) (sym p.1) (ih t));
-      fit = tt;
+      found = f.found;
+      pieces = pieces;
+      most = le;
+      so = begins_then (w ++ tail) _ _ (f.so w) (ih (dumped piece_limit pin time (talk c.machine f.found w) 0));
+      fit = f.fit w;
       spent = f.spent w;
-      here = p;
-      machine = ap (λ (x : Local). x.machine) h.3 ∙ sym (dump_machine piece_limit 0 time (talk c.machine (f.found ++ []) w) 0);
+      here = is_all d.machine [] (w ++ tail) (w ++ tail) _ (f.here w) refl;
+      machine = sym (ap (λ (u : Talk). u.machine) (f.here w));
+    }
+begins_so time DumpNow c tail d w more ih (pieces, le, (r, opened, (mark, may, e), closes)) =
+    let f = open_begins pieces time opened r (pin_in r) tail d le closes in
+    let first = done_so (OpenPin None) c.machine mark f.found w opened.machine r e in
+    let t = talk c.machine (mark ∷ f.found) w in
+    let here = ap (λ (x : Talk × Reply). after_open pieces time x.1 (pin_in x.1) x.0) first ∙ f.here w in
+    record {
+      found = mark ∷ f.found;
+      pieces = pieces;
+      most = le;
+      so = begins_then (w ++ tail) _ _ (subst (λ (x : Talk × Reply). IsPrefix (w ++ tail) (after_open piece_limit time x.1 (pin_in x.1) x.0).written) (sym first) (f.so w)) (ih (after_command time DumpNow t));
+      fit = (may, subst (λ (x : Talk × Reply). FitsOpen time (pin_in x.1) x.0) (sym first) (f.fit w));
+      spent = subst (λ (x : Talk × Reply). (after_open piece_limit time x.1 (pin_in x.1) x.0).marks ≡ []) (sym first) (f.spent w);
+      here = is_all d.machine [] (w ++ tail) (w ++ tail) (after_up_to pieces time DumpNow t) here refl;
+      machine = sym (ap (λ (u : Talk). u.machine) here);
     }
 begins_so time End c tail d w more ih h = absurd h
 
 -- ---- the whole
 
-session_lines : (time : ℕ) (e : ReadEnd) (bytes rest : List ℕ) (c : Local) (text : List ℕ) (d : Local) (k : IsTalk (Answers acts gives time) bytes c rest text d) (ms : List Mark)
+session_lines : (time : ℕ) (e : ReadEnd) (bytes rest : List ℕ) (c : Local) (text : List ℕ) (d : Local) (k : IsTalk (Answers acts time) bytes c rest text d) (ms : List Mark)
     → session_of c.machine ((passes time k.lines c text d k.talks).found ++ ms) time bytes e ≡ talked time e (parts rest) (talk d.machine ms text)
 unfolding session_of
 session_lines time e bytes rest c text d k ms =
     let g = passes time k.lines c text d k.talks in
     ap (λ bs. talked time e (parts bs) (talk c.machine (g.found ++ ms) [])) k.are ∙ g.so e rest ms []
 
-session_fit : (time : ℕ) (bytes rest : List ℕ) (c : Local) (text : List ℕ) (d : Local) (k : IsTalk (Answers acts gives time) bytes c rest text d) (ms : List Mark) → FitLines time (parts rest) (talk d.machine ms text)
+session_fit : (time : ℕ) (bytes rest : List ℕ) (c : Local) (text : List ℕ) (d : Local) (k : IsTalk (Answers acts time) bytes c rest text d) (ms : List Mark) → FitLines time (parts rest) (talk d.machine ms text)
     → MarksFit c.machine ((passes time k.lines c text d k.talks).found ++ ms) time bytes
 session_fit time bytes rest c text d k ms h =
     let g = passes time k.lines c text d k.talks in
     subst (λ bs. FitLines time (parts bs) (talk c.machine (g.found ++ ms) [])) (sym k.are) (g.fit rest ms [] h)
 
 -- all lines are answered, and no marks are left
-all_fit : (time : ℕ) (bytes rest : List ℕ) (c : Local) (text : List ℕ) (d : Local) (k : IsTalk (Answers acts gives time) bytes c rest text d) → MarksFit c.machine ((passes time k.lines c text d k.talks).found ++ []) time bytes
+all_fit : (time : ℕ) (bytes rest : List ℕ) (c : Local) (text : List ℕ) (d : Local) (k : IsTalk (Answers acts time) bytes c rest text d) → MarksFit c.machine ((passes time k.lines c text d k.talks).found ++ []) time bytes
 all_fit time bytes rest c text d k = session_fit time bytes rest c text d k [] (fine time (parts rest) (talk d.machine [] text) refl)
 
 abbrev end_for : Ended → ReadEnd
@@ -459,12 +636,12 @@ fits WriteFault = tt
 fits NoRoom = tt
 
 -- the lines and what an ending prints
-closed_so : (time : ℕ) (a b : Incoming) (c d : Local) (ended : Ended) (bytes rest text tail : List ℕ) (k : IsTalk (Answers acts gives time) bytes c rest text d) → Closes rest a b ended tail → (e : ReadEnd) → FitsEnd e ended
+closed_so : (time : ℕ) (a b : Incoming) (c d : Local) (ended : Ended) (bytes rest text tail : List ℕ) (k : IsTalk (Answers acts time) bytes c rest text d) → Closes rest a b ended tail → (e : ReadEnd) → FitsEnd e ended
     → Shows c.machine ((passes time k.lines c text d k.talks).found ++ []) time bytes e (text ++ tail) d.machine ended
 closed_so time a b c d ended bytes rest text tail k closes e f = session_lines time e bytes rest c text d k [] ∙ closes_so time e rest a b ended tail d.machine [] text f closes
 
 -- all lines are answered, and nothing follows
-session_done : (time : ℕ) (bytes rest : List ℕ) (c : Local) (text : List ℕ) (d : Local) (k : IsTalk (Answers acts gives time) bytes c rest text d) (ms : List Mark)
+session_done : (time : ℕ) (bytes rest : List ℕ) (c : Local) (text : List ℕ) (d : Local) (k : IsTalk (Answers acts time) bytes c rest text d) (ms : List Mark)
     → session_of c.machine ((passes time k.lines c text d k.talks).found ++ ms) time (stream k.lines) Over ≡ (talk d.machine ms text, Eof)
 unfolding session_of
 session_done time bytes rest c text d k ms =
@@ -492,7 +669,7 @@ record CutTail (time : ℕ) (rest : List ℕ) (c : Local) (text : List ℕ) (d :
   stops : CutsLine time rest (talk c.machine found text) (text ++ cut.0.part) d.machine
       ⊎ ((ended : Ended) × (talked time end (parts rest) (talk c.machine found text) ≡ (talk c.machine [] (text ++ tail), ended)) × (d.machine ≡ c.machine))
 
-broken_tail : (time : ℕ) (a b : Incoming) (rest : List ℕ) (c : Local) (text : List ℕ) (d : Local) (m w' : Outgoing) → Breaks (Begins acts gives time) rest a b c m d w' → CutTail time rest c text d m w'
+broken_tail : (time : ℕ) (a b : Incoming) (rest : List ℕ) (c : Local) (text : List ℕ) (d : Local) (m w' : Outgoing) → Breaks (Begins acts time) rest a b c m d w' → CutTail time rest c text d m w'
 broken_tail time a b rest c text d m w' (inl ((l, tail, starts, h, cut), same)) =
     let g = begins_so time (command_of l) c tail d text (talked time Over (parts starts.1)) (λ u. stays time Over (parts starts.1) u) h in
     let t = talk c.machine g.found text in
@@ -503,7 +680,7 @@ broken_tail time a b rest c text d m w' (inl ((l, tail, starts, h, cut), same)) 
       so = subst (λ r. IsPrefix (text ++ tail) r.0.written) (sym (ap (λ bs. talked time Over (parts bs) t) starts.2 ∙ line_then time Over l starts.1 t starts.0)) g.so;
       fit = subst (λ bs. FitLines time (parts bs) t) (sym starts.2) (line_fit time l starts.1 t starts.0 g.fit (fine time (parts starts.1) (after_command time (command_of l) t) g.spent));
       cut = cut;
-      stops = inl (l, starts.1, starts.2, g.machine, cut_behind text tail (after_command time (command_of l) t).written m.out w'.out cut.0 g.here);
+      stops = inl (l, starts.1, starts.2, g.pieces, g.most, g.machine, cut_behind text tail (after_up_to g.pieces time (command_of l) t).written m.out w'.out cut.0 g.here);
     }
 broken_tail time a b rest c text d m w' (inr (ended, tail, closes, same, cut)) =
     let shows = closes_so time (end_for ended) rest a b ended tail c.machine [] text (fits ended) closes in
@@ -523,7 +700,7 @@ stops_so : (time : ℕ) (bytes rest : List ℕ) (start : Machine) (marks : List 
 stops_so time bytes rest start marks e t text tail out left lines cut (inl h) = inl h
 stops_so time bytes rest start marks e t text tail out left lines cut (inr (ended, shows, same)) = inr (text ++ tail, ended, lines ∙ shows ∙ ap (λ m. (talk m [] (text ++ tail), ended)) (sym same), same, cut)
 
-failed_session : (time : ℕ) (bytes : List ℕ) (a b : Incoming) (c : Local) (w : Outgoing) (d : Local) (w' : Outgoing) → b.taken ≡ a.taken ++ bytes → Keeps (whole a) (whole b) → Fails (Answers acts gives time) (Begins acts gives time) bytes a b c w d w' → IsSession c.machine time a b w w' d.machine WriteFault
+failed_session : (time : ℕ) (bytes : List ℕ) (a b : Incoming) (c : Local) (w : Outgoing) (d : Local) (w' : Outgoing) → b.taken ≡ a.taken ++ bytes → Keeps (whole a) (whole b) → Fails (Answers acts time) (Begins acts time) bytes a b c w d w' → IsSession c.machine time a b w w' d.machine WriteFault
 failed_session time bytes a b c w d w' taken keeps (rest, text, between, m, k, written, breaks) =
     let g = broken_tail time a b rest between text d m w' breaks in
     let h = g.cut.0 in
@@ -546,12 +723,12 @@ failed_session time bytes a b c w d w' taken keeps (rest, text, between, m, k, w
       ),
     )
 
-pub local_session : (time : ℕ) (a b : Incoming) (c : Local) (w : Outgoing) (d : Local) (w' : Outgoing) (ended : Ended) → Serves (Answers acts gives time) (Begins acts gives time) a b c w d w' ended → IsSession c.machine time a b w w' d.machine ended
+pub local_session : (time : ℕ) (a b : Incoming) (c : Local) (w : Outgoing) (d : Local) (w' : Outgoing) (ended : Ended) → Serves (Answers acts time) (Begins acts time) a b c w d w' ended → IsSession c.machine time a b w w' d.machine ended
 local_session time a b c w d w' Quit (bytes, taken, keeps, (rest, text, tail, k, closes, h)) = (bytes, text ++ tail, (passes time k.lines c text d k.talks).found ++ [], all_fit time bytes rest c text d k, taken, keeps, h.0, λ e. closed_so time a b c d Quit bytes rest text tail k closes e tt)
 local_session time a b c w d w' Eof (bytes, taken, keeps, (rest, text, tail, k, closes, h)) = (bytes, text ++ tail, (passes time k.lines c text d k.talks).found ++ [], all_fit time bytes rest c text d k, taken, keeps, h.0, closed_so time a b c d Eof bytes rest text tail k closes Over refl)
 local_session time a b c w d w' CutLine (bytes, taken, keeps, (rest, text, tail, k, closes, h)) = (bytes, text ++ tail, (passes time k.lines c text d k.talks).found ++ [], all_fit time bytes rest c text d k, taken, keeps, h.0, closed_so time a b c d CutLine bytes rest text tail k closes Over refl)
 local_session time a b c w d w' TooLong (bytes, taken, keeps, (rest, text, tail, k, closes, h)) = (bytes, text ++ tail, (passes time k.lines c text d k.talks).found ++ [], all_fit time bytes rest c text d k, taken, keeps, h.0, λ e. closed_so time a b c d TooLong bytes rest text tail k closes e tt)
 local_session time a b c w d w' ReadFault (bytes, taken, keeps, (rest, text, tail, k, closes, h)) = (bytes, text ++ tail, (passes time k.lines c text d k.talks).found ++ [], all_fit time bytes rest c text d k, taken, keeps, h.0, closed_so time a b c d ReadFault bytes rest text tail k closes Failed refl)
 local_session time a b c w d w' TooManyReads (bytes, taken, keeps, (rest, text, tail, k, closes, h)) = (bytes, text ++ tail, (passes time k.lines c text d k.talks).found ++ [], all_fit time bytes rest c text d k, taken, keeps, h.0, closed_so time a b c d TooManyReads bytes rest text tail k closes Spent refl)
-local_session time a b c w d w' WriteFault (bytes, taken, keeps, h) = failed_session time bytes a b c w d w' taken keeps (served_fails (Answers acts gives time) (Begins acts gives time) bytes a b c w d w' h)
+local_session time a b c w d w' WriteFault (bytes, taken, keeps, h) = failed_session time bytes a b c w d w' taken keeps (served_fails (Answers acts time) (Begins acts time) bytes a b c w d w' h)
 local_session time a b c w d w' NoRoom (bytes, taken, keeps, h) = (bytes, [], [], fine time (parts bytes) (talk c.machine [] []) refl, taken, keeps, ap (λ (x : Outgoing). x.out) h.3 ∙ sym (append-nil w.out), (h.0, refl, ap (λ (x : Local). x.machine) h.2))

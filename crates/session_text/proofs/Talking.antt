@@ -11,9 +11,9 @@ use Rattle.heap_trail.specs.declared.Reply.TheVariants.{Refused}
 use Rattle.session_text.specs.declared.Ended.{Ended}
 use Rattle.session_text.specs.declared.Ended.TheVariants.{Quit, Eof, CutLine, TooLong, ReadFault, TooManyReads, WriteFault, NoMemory}
 use Rattle.session_text.specs.declared.command.Command.{Command}
-use Rattle.session_text.specs.declared.command.Command.TheVariants.{Blank, Bad, Ask, Dump, End}
-use Rattle.session_text.specs.Answers.{Acts, Gives, Says, Answers, Begins}
-use Rattle.session_text.specs.Dumps.{WritesDump}
+use Rattle.session_text.specs.declared.command.Command.TheVariants.{Blank, Bad, Ask, Piece, Dump, DumpNow, End}
+use Rattle.session_text.specs.Answers.{Says, Answers, Begins}
+use Rattle.session_text.specs.Dumps.{Acts, DumpsPin, DumpsNow, WritesDump}
 use Rattle.session_text.specs.Endings.{Ends, ended_of, step_of}
 use Rattle.session_text.specs.Grammar.{command_of}
 use Rattle.session_text.specs.Inlets.{Incoming, whole}
@@ -48,22 +48,28 @@ pub step_written : {S : Type 0} (says begins : Says S) (k : Command) (c : S) (w 
 step_written says begins k c w c' w' text true s b h = (text, s, h)
 step_written says begins k c w c' w' text false s b h = (text, b, h)
 
-pub step_dumped : {S : Type 0} (acts : Acts S) (gives : Gives S) (time : ℕ) (k : Command) (c : S) (w w' : Outgoing) (r : Bool) → Dump ≡ k → WritesDump gives c time w w' r → IsStep (Answers acts gives time) (Begins acts gives time) k c w c w' (step_of r)
-step_dumped acts gives time k c w w' true e h = subst (λ x. IsStep (Answers acts gives time) (Begins acts gives time) x c w c w' (step_of true)) e (h.0, (h.1, refl), h.2)
-step_dumped acts gives time k c w w' false e h = subst (λ x. IsStep (Answers acts gives time) (Begins acts gives time) x c w c w' (step_of false)) e (h.1, (h.0, h.2, h.3, refl), h.4)
+pub step_dumped : {S : Type 0} (acts : Acts S) (time pin : ℕ) (k : Command) (c : S) (w : Outgoing) (c' : S) (w' : Outgoing) (r : Bool) → Dump pin ≡ k → WritesDump (DumpsPin acts pin time) c c' w w' r → IsStep (Answers acts time) (Begins acts time) k c w c' w' (step_of r)
+step_dumped acts time pin k c w c' w' true e h = subst (λ x. IsStep (Answers acts time) (Begins acts time) x c w c' w' (step_of true)) e (h.0, h.1, h.2)
+step_dumped acts time pin k c w c' w' false e h = subst (λ x. IsStep (Answers acts time) (Begins acts time) x c w c' w' (step_of false)) e (h.1, (h.0, h.2, h.3), h.4)
+
+pub step_dumped_now : {S : Type 0} (acts : Acts S) (time : ℕ) (k : Command) (c : S) (w : Outgoing) (c' : S) (w' : Outgoing) (r : Bool) → DumpNow ≡ k → WritesDump (DumpsNow acts time) c c' w w' r → IsStep (Answers acts time) (Begins acts time) k c w c' w' (step_of r)
+step_dumped_now acts time k c w c' w' true e h = subst (λ x. IsStep (Answers acts time) (Begins acts time) x c w c' w' (step_of true)) e (h.0, h.1, h.2)
+step_dumped_now acts time k c w c' w' false e h = subst (λ x. IsStep (Answers acts time) (Begins acts time) x c w c' w' (step_of false)) e (h.1, (h.0, h.2, h.3), h.4)
 
 -- a line found no memory for its reading
-unread : {S : Type 0} (acts : Acts S) (gives : Gives S) (time : ℕ) (k : Command) (c : S) → TakesMemory k → Answers acts gives time k c (reply_text (Refused NoRoom)) c × Begins acts gives time k c (reply_text (Refused NoRoom)) c
-unread acts gives time Blank c h = absurd h
-unread acts gives time Bad c h = absurd h
-unread acts gives time (Ask a) c h = ((Refused NoRoom, inr (h, refl, refl), refl), (Refused NoRoom, inr (h, refl, refl), refl))
-unread acts gives time Dump c h = absurd h
-unread acts gives time End c h = absurd h
+unread : {S : Type 0} (acts : Acts S) (time : ℕ) (k : Command) (c : S) → TakesMemory k → Answers acts time k c (reply_text (Refused NoRoom)) c × Begins acts time k c (reply_text (Refused NoRoom)) c
+unread acts time Blank c h = absurd h
+unread acts time Bad c h = absurd h
+unread acts time (Ask a) c h = ((Refused NoRoom, inr (h, refl, refl), refl), (Refused NoRoom, inr (h, refl, refl), refl))
+unread acts time (Piece pin) c h = absurd h
+unread acts time (Dump pin) c h = absurd h
+unread acts time DumpNow c h = absurd h
+unread acts time End c h = absurd h
 
-pub step_unread : {S : Type 0} (acts : Acts S) (gives : Gives S) (time : ℕ) (k : Command) (c : S) (w w' : Outgoing) (r : Bool) → TakesMemory k → IsWritten (reply_text (Refused NoRoom)) w w' r → IsStep (Answers acts gives time) (Begins acts gives time) k c w c w' (step_of r)
-step_unread acts gives time k c w w' r h written =
-    let u = unread acts gives time k c h in
-    step_written (Answers acts gives time) (Begins acts gives time) k c w c w' (reply_text (Refused NoRoom)) r u.0 u.1 written
+pub step_unread : {S : Type 0} (acts : Acts S) (time : ℕ) (k : Command) (c : S) (w w' : Outgoing) (r : Bool) → TakesMemory k → IsWritten (reply_text (Refused NoRoom)) w w' r → IsStep (Answers acts time) (Begins acts time) k c w c w' (step_of r)
+step_unread acts time k c w w' r h written =
+    let u = unread acts time k c h in
+    step_written (Answers acts time) (Begins acts time) k c w c w' (reply_text (Refused NoRoom)) r u.0 u.1 written
 
 -- ---- lines
 

@@ -10,9 +10,9 @@ use Rattle.heap_class.specs.declared.Field.{Field}
 use Rattle.heap_class.specs.Kinds.{kind_word}
 use Rattle.heap_step.specs.declared.Event.{Event}
 use Rattle.heap_step.specs.declared.Event.TheVariants.{Class, ArrayClass, New, NewArray, NewPrim, Load, Store, Put, Move, Clear, Snap, Mark, Drain, Finish, Sweep}
-use Rattle.heap_trail.specs.declared.Action.TheVariants.{Step, Rewind}
+use Rattle.heap_trail.specs.declared.Action.TheVariants.{Step, Rewind, OpenPin, ClosePin}
 use Rattle.session_text.specs.declared.command.Command.{Command}
-use Rattle.session_text.specs.declared.command.Command.TheVariants.{Blank, Bad, Ask, Dump, End}
+use Rattle.session_text.specs.declared.command.Command.TheVariants.{Blank, Bad, Ask, Piece, Dump, DumpNow, End}
 
 -- ---- words and numbers
 
@@ -55,6 +55,11 @@ abbrev pub next_number : List (List ℕ) → Option (ℕ × List (List ℕ))
 next_number [] = None
 next_number (w ∷ ws) = option_map (λ n. (n, ws)) (number w)
 
+-- the number that the first word is, or None where it is `-`, and the other words
+abbrev pub next_number_or_dash : List (List ℕ) → Option (Option ℕ × List (List ℕ))
+next_number_or_dash [] = None
+next_number_or_dash (w ∷ ws) = option_map (λ n. (n, ws)) (number_or_dash w)
+
 -- the kind that the first word names, and the other words
 abbrev pub next_kind : List (List ℕ) → Option (Kind × List (List ℕ))
 next_kind [] = None
@@ -67,6 +72,9 @@ at_end x (w ∷ ws) = None
 
 abbrev pub one_number : List (List ℕ) → Option ℕ
 one_number ws = option_and_then (λ a. at_end a.0 a.1) (next_number ws)
+
+abbrev pub one_number_or_dash : List (List ℕ) → Option (Option ℕ)
+one_number_or_dash ws = option_and_then (λ a. at_end a.0 a.1) (next_number_or_dash ws)
 
 abbrev pub two_numbers : List (List ℕ) → Option (ℕ × ℕ)
 two_numbers ws = option_and_then (λ a. option_and_then (λ b. at_end (a.0, b.0) b.1) (next_number a.1)) (next_number ws)
@@ -134,10 +142,26 @@ sweep_line ws = option_map (λ region. Ask (Step (Sweep region))) (one_number ws
 abbrev pub rewind_line : List (List ℕ) → Option Command
 rewind_line ws = option_map (λ n. Ask (Rewind n)) (one_number ws)
 
--- `dump -`
+-- `open AT`
+abbrev pub open_line : List (List ℕ) → Option Command
+open_line ws = option_map (λ at. Ask (OpenPin at)) (one_number_or_dash ws)
+
+-- `piece PIN`
+abbrev pub piece_line : List (List ℕ) → Option Command
+piece_line ws = option_map (λ pin. Piece pin) (one_number ws)
+
+-- a dump of a pin, or of the current state
+abbrev pub dump_of : Option ℕ → Command
+dump_of (Some pin) = Dump pin
+dump_of None = DumpNow
+
+-- `dump PIN` or `dump -`
 abbrev pub dump_line : List (List ℕ) → Option Command
-dump_line [] = None
-dump_line (w ∷ ws) = if bytes_eq w (codes "-") then at_end Dump ws else None
+dump_line ws = option_map (λ pin. dump_of pin) (one_number_or_dash ws)
+
+-- `close PIN`
+abbrev pub close_line : List (List ℕ) → Option Command
+close_line ws = option_map (λ pin. Ask (ClosePin pin)) (one_number ws)
 
 -- `end`
 abbrev pub end_line : List (List ℕ) → Option Command
@@ -179,7 +203,14 @@ marking_rules =
 
 -- lines that ask the machine or the session for something
 unfoldable pub session_rules : List Rule
-session_rules = (codes "rewind", rewind_line) ∷ (codes "dump", dump_line) ∷ (codes "end", end_line) ∷ []
+session_rules =
+    (codes "rewind", rewind_line)
+    ∷ (codes "open", open_line)
+    ∷ (codes "piece", piece_line)
+    ∷ (codes "dump", dump_line)
+    ∷ (codes "close", close_line)
+    ∷ (codes "end", end_line)
+    ∷ []
 
 -- all lines
 abbrev pub all_rules : List Rule

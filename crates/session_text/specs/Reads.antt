@@ -6,11 +6,11 @@ use Rattle.heap_class.specs.declared.Field.{Field}
 use Rattle.heap_step.specs.declared.Event.{Event}
 use Rattle.heap_step.specs.declared.Event.TheVariants.{Class, ArrayClass, New, NewArray, NewPrim, Load, Store, Put, Move, Clear, Snap, Mark, Drain, Finish, Sweep}
 use Rattle.heap_trail.specs.declared.Action.{Action}
-use Rattle.heap_trail.specs.declared.Action.TheVariants.{Step, Rewind}
-use Rattle.session_text.specs.Grammar.{words_of, is_plain, Rule, value_of, number_or_dash, field_of, at_end, making_rules, access_rules, marking_rules, session_rules}
+use Rattle.heap_trail.specs.declared.Action.TheVariants.{Step, Rewind, OpenPin, NextPiece, ClosePin}
+use Rattle.session_text.specs.Grammar.{words_of, is_plain, Rule, value_of, field_of, next_number_or_dash, at_end, making_rules, access_rules, marking_rules, session_rules}
 use Rattle.session_text.specs.declared.marks.FieldMark.{FieldMark}
 use Rattle.session_text.specs.declared.command.Command.{Command}
-use Rattle.session_text.specs.declared.command.Command.TheVariants.{Blank, Bad, Ask, Dump, End}
+use Rattle.session_text.specs.declared.command.Command.TheVariants.{Blank, Bad, Ask, Piece, Dump, DumpNow, End}
 
 -- those that define a class
 abbrev pub DefinesClass : Event → Type 0
@@ -33,12 +33,17 @@ DefinesClass (Sweep region) = ⊥
 abbrev pub ActionTakesMemory : Action → Type 0
 ActionTakesMemory (Step e) = DefinesClass e
 ActionTakesMemory (Rewind n) = ⊥
+ActionTakesMemory (OpenPin at) = ⊥
+ActionTakesMemory (NextPiece pin time) = ⊥
+ActionTakesMemory (ClosePin pin) = ⊥
 
 abbrev pub TakesMemory : Command → Type 0
 TakesMemory Blank = ⊥
 TakesMemory Bad = ⊥
 TakesMemory (Ask a) = ActionTakesMemory a
-TakesMemory Dump = ⊥
+TakesMemory (Piece pin) = ⊥
+TakesMemory (Dump pin) = ⊥
+TakesMemory DumpNow = ⊥
 TakesMemory End = ⊥
 
 abbrev pub MayTakeMemory : Option Command → Type 0
@@ -96,10 +101,6 @@ AreWithin text marks = All (λ m. m.start + m.size ≤ length text) marks
 abbrev pub next_name : List (List ℕ) → Option (List ℕ × List (List ℕ))
 next_name [] = None
 next_name (w ∷ ws) = if is_plain w then Some (w, ws) else None
-
-abbrev pub next_number_or_dash : List (List ℕ) → Option (Option ℕ × List (List ℕ))
-next_number_or_dash [] = None
-next_number_or_dash (w ∷ ws) = option_map (λ n. (n, ws)) (number_or_dash w)
 
 -- `class NAME SUPER FIELD ..` and `array NAME` without a bad byte
 abbrev pub plain_class : List (List ℕ) → Option Command

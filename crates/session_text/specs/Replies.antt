@@ -1,16 +1,17 @@
 -- The lines that a session answers.
-use Rattle.std.specs.Prelude.{ℕ, zero, suc, List, [], ◌∷◌, ◌++◌, length, take, drop, flat_map, codes, decimal, if◌then◌else◌}
+use Rattle.std.specs.Prelude.{ℕ, zero, suc, List, [], ◌∷◌, ◌++◌, length, take, drop, flat_map, codes, decimal, Option, Some, None, if◌then◌else◌}
 use Rattle.byteorder.specs.Endian.{big_bytes}
 use Rattle.hex.specs.Hex.{encode_lower}
 use Rattle.heap_class.specs.declared.LostCause.{LostCause}
-use Rattle.heap_class.specs.declared.LostCause.TheVariants.{Rewound, Forgotten, Memory}
+use Rattle.heap_class.specs.declared.LostCause.TheVariants.{Rewound, Memory}
 use Rattle.heap_class.specs.declared.Refusal.{Refusal}
 use Rattle.heap_class.specs.declared.Refusal.TheVariants.{NotDone, SweepPending, NothingToSweep, TooFar, Lost}
 use Rattle.heap_class.specs.Table.{refusal_number, refusal_name}
 use Rattle.heap_step.specs.declared.Answer.{Answer}
 use Rattle.heap_step.specs.declared.Answer.TheVariants.{Class, Object, Null, Value, Done, Pushed, Condemned, Swept}
 use Rattle.heap_trail.specs.declared.Reply.{Reply}
-use Rattle.heap_trail.specs.declared.Reply.TheVariants.{Answered, Place, Refused}
+use Rattle.heap_trail.specs.declared.Reply.TheVariants.{Answered, Place, Pinned, Part, Closed, Refused}
+use Rattle.hprof_text.specs.declared.Piece.{Piece}
 
 -- a space and a number
 abbrev pub and_number : ℕ → List ℕ
@@ -28,7 +29,6 @@ answer_text (Swept dead emptied) = (codes "ok swept" ++ and_number dead) ++ (if 
 
 abbrev pub cause_text : LostCause → List ℕ
 cause_text Rewound = codes "Rewound"
-cause_text Forgotten = codes "Forgotten"
 cause_text Memory = codes "Memory"
 cause_text LostCause.Closed = codes "Closed"
 
@@ -45,18 +45,11 @@ facts_text r = []
 abbrev pub refusal_text : Refusal → List ℕ
 refusal_text r = ((codes "no" ++ and_number (refusal_number r)) ++ 32 ∷ refusal_name r) ++ facts_text r
 
--- what a reply prints, without its LF
-abbrev pub reply_words : Reply → List ℕ
-reply_words (Answered a) = answer_text a
-reply_words (Place p) = codes "ok place" ++ and_number p
-reply_words (Refused r) = refusal_text r
-
 -- a text and its LF
 abbrev pub line : List ℕ → List ℕ
 line text = text ++ 10 ∷ []
 
-abbrev pub reply_text : Reply → List ℕ
-reply_text r = line (reply_words r)
+-- ---- data lines
 
 -- one data line
 abbrev pub data_line : List ℕ → List ℕ
@@ -71,3 +64,51 @@ chunks_of_64 (suc n) (x ∷ xs) = take 64 (x ∷ xs) ∷ chunks_of_64 n (drop 64
 -- the data lines of a piece
 unfoldable pub data_lines : List ℕ → List ℕ
 data_lines bytes = flat_map data_line (chunks_of_64 (length bytes) bytes)
+
+-- ---- replies
+
+-- the length of a piece that is the last, or isn't
+abbrev pub piece_words : Piece → List ℕ
+piece_words piece = (if piece.last then codes "ok last" else codes "ok piece") ++ and_number (length piece.bytes)
+
+-- what a reply prints on its last line, without its LF
+abbrev pub reply_words : Reply → List ℕ
+reply_words (Answered a) = answer_text a
+reply_words (Place p) = codes "ok place" ++ and_number p
+reply_words (Pinned pin at) = ((codes "ok pin" ++ and_number pin) ++ codes " at") ++ and_number at
+reply_words (Part piece) = piece_words piece
+reply_words Closed = codes "ok"
+reply_words (Refused r) = refusal_text r
+
+-- what a reply prints before its last line
+abbrev pub reply_data : Reply → List ℕ
+reply_data (Answered a) = []
+reply_data (Place p) = []
+reply_data (Pinned pin at) = []
+reply_data (Part piece) = data_lines piece.bytes
+reply_data Closed = []
+reply_data (Refused r) = []
+
+-- what a reply prints
+abbrev pub reply_text : Reply → List ℕ
+reply_text r = reply_data r ++ line (reply_words r)
+
+-- ---- what a dump takes from replies
+
+-- the piece that a reply gives
+abbrev pub piece_in : Reply → Option Piece
+piece_in (Answered a) = None
+piece_in (Place p) = None
+piece_in (Pinned pin at) = None
+piece_in (Part piece) = Some piece
+piece_in Closed = None
+piece_in (Refused r) = None
+
+-- the number of the pin that was opened
+abbrev pub pin_in : Reply → Option ℕ
+pin_in (Answered a) = None
+pin_in (Place p) = None
+pin_in (Pinned pin at) = Some pin
+pin_in (Part piece) = None
+pin_in Closed = None
+pin_in (Refused r) = None

@@ -1,27 +1,25 @@
 -- A whole session over a machine of one's own: bytes in, bytes out.
-use Rattle.std.specs.Prelude.{◌≡◌, ℕ, zero, suc, ◌+◌, ◌⊎◌, Bool, true, false, ◌==◌, nat_lt, List, [], ◌∷◌, ◌++◌, length, codes, if◌then◌else◌}
+use Rattle.std.specs.Prelude.{◌≡◌, ℕ, zero, suc, ◌+◌, ◌≤◌, ◌⊎◌, Bool, true, false, ◌==◌, nat_lt, List, [], ◌∷◌, ◌++◌, length, codes, Option, Some, None, if◌then◌else◌}
 use Rattle.std.specs.List.{slice_split}
 use Rattle.std.specs.Io.KnownBytes.{Keeps}
 use mathlib.Core.List.{IsPrefix}
 use Rattle.dump_pump.specs.Outlets.{Outgoing}
-use Rattle.heap_class.specs.declared.Refusal.TheVariants.{NoMemory}
 use Rattle.heap_trail.specs.declared.Action.{Action}
-use Rattle.heap_trail.specs.declared.Reply.TheVariants.{Refused}
-use Rattle.heap_trail.specs.Machine.{Machine, Mark, Fine, Refusing, MayStand, acted_under}
-use Rattle.heap_trail.specs.Pins.{image_of}
-use Rattle.hprof_text.specs.declared.Piece.{Piece}
-use Rattle.hprof_text.specs.Segments.{piece_of}
+use Rattle.heap_trail.specs.declared.Action.TheVariants.{OpenPin, NextPiece, ClosePin}
+use Rattle.heap_trail.specs.declared.Reply.{Reply}
+use Rattle.heap_trail.specs.Machine.{Machine, Mark, Fine, MayStand, acted_under}
+use Rattle.hprof_text.specs.declared.Piece.{Piece as GivenPiece}
 use Rattle.session_text.specs.declared.Ended.{Ended}
 use Rattle.session_text.specs.declared.Ended.TheVariants.{Quit, Eof, CutLine, TooLong, ReadFault, TooManyReads, WriteFault, NoMemory as NoRoom}
 use Rattle.session_text.specs.declared.ReadEnd.{ReadEnd}
 use Rattle.session_text.specs.declared.ReadEnd.TheVariants.{Over, Failed, Spent}
 use Rattle.session_text.specs.declared.command.Command.{Command}
-use Rattle.session_text.specs.declared.command.Command.TheVariants.{Blank, Bad, Ask, Dump, End}
+use Rattle.session_text.specs.declared.command.Command.TheVariants.{Blank, Bad, Ask, Piece, Dump, DumpNow, End}
 use Rattle.session_text.specs.Dumps.{total_line, piece_limit}
 use Rattle.session_text.specs.Grammar.{command_of}
 use Rattle.session_text.specs.Inlets.{Incoming, whole}
 use Rattle.session_text.specs.Reads.{ActionTakesMemory}
-use Rattle.session_text.specs.Replies.{reply_text, data_lines}
+use Rattle.session_text.specs.Replies.{reply_text, data_lines, piece_in, pin_in}
 use Rattle.session_text.specs.Writes.{IsCutShort}
 
 -- a session between two lines: the machine, the marks of what is to come (none: fine), and what was written
@@ -42,43 +40,57 @@ abbrev pub marks_after : List Mark → List Mark
 marks_after [] = []
 marks_after (k ∷ ks) = ks
 
-abbrev pub marked : Talk → Talk
-marked t = record { machine = t.machine; marks = marks_after t.marks; written = t.written }
-
 -- ---- the answers of lines
+
+-- the session after an action, and its reply, of which nothing is written yet
+abbrev pub done_quietly : Action → Talk → Talk × Reply
+done_quietly a t = let r = acted_under t.machine (a, mark_of t.marks) in (record { machine = r.0; marks = marks_after t.marks; written = t.written }, r.1)
 
 -- an action; where its line found no memory it is as an action that found none
 abbrev pub done : Action → Talk → Talk
-done a t = let r = acted_under t.machine (a, mark_of t.marks) in record { machine = r.0; marks = marks_after t.marks; written = t.written ++ reply_text r.1 }
+done a t = let r = done_quietly a t in wrote (reply_text r.1) r.0
 
--- a dump after its next piece, where `more` is the dump from there; `so_far` counts the bytes of the pieces before
-abbrev pub after_piece : (Talk → ℕ → Talk) → ℕ → Mark → Piece → Talk → Talk
-after_piece more so_far Fine p t =
+-- a dump after the reply to NextPiece, where `more` is the dump from there; `so_far` counts the bytes of the pieces before
+abbrev pub after_reply : (Talk → ℕ → Talk) → ℕ → Reply → Option GivenPiece → Talk → Talk
+after_reply more so_far r (Some p) t =
     let n = so_far + length p.bytes in
     if p.last then wrote (total_line n) (wrote (data_lines p.bytes) t) else more (wrote (data_lines p.bytes) t) n
-after_piece more so_far Refusing p t = wrote (reply_text (Refused NoMemory)) t
+after_reply more so_far r None t = wrote (reply_text r) t
 
--- a dump of the current state from piece i on, at most n pieces
+-- at most so many pieces of a pin
 unfoldable pub dumped : ℕ → ℕ → ℕ → Talk → ℕ → Talk
-dumped zero i time t so_far = t
-dumped (suc n) i time t so_far = after_piece (dumped n (i + 1) time) so_far (mark_of t.marks) (piece_of t.machine.ids (image_of t.machine.trail.current) time i) (marked t)
+dumped zero pin time t so_far = t
+dumped (suc n) pin time t so_far = let r = done_quietly (NextPiece pin time) t in after_reply (dumped n pin time) so_far r.1 (piece_in r.1) r.0
+
+-- a dump of the current state after the reply to OpenPin
+abbrev pub after_open : ℕ → ℕ → Reply → Option ℕ → Talk → Talk
+after_open most time r (Some pin) t = (done_quietly (ClosePin pin) (dumped most pin time t 0)).0
+after_open most time r None t = wrote (reply_text r) t
+
+-- after a command other than `end`, of a dump at most so many pieces
+abbrev pub after_up_to : ℕ → ℕ → Command → Talk → Talk
+after_up_to most time Blank t = t
+after_up_to most time Bad t = wrote (codes "bad command\n") t
+after_up_to most time (Ask a) t = done a t
+after_up_to most time (Piece pin) t = done (NextPiece pin time) t
+after_up_to most time (Dump pin) t = dumped most pin time t 0
+after_up_to most time DumpNow t = let r = done_quietly (OpenPin None) t in after_open most time r.1 (pin_in r.1) r.0
+after_up_to most time End t = t
 
 -- ---- the session
 
 -- after a command other than `end`
 abbrev pub after_command : ℕ → Command → Talk → Talk
-after_command time Blank t = t
-after_command time Bad t = wrote (codes "bad command\n") t
-after_command time (Ask a) t = done a t
-after_command time Dump t = dumped piece_limit 0 time t 0
-after_command time End t = t
+after_command time k t = after_up_to piece_limit time k t
 
 abbrev pub is_end : Command → Bool
 is_end End = true
 is_end Blank = false
 is_end Bad = false
 is_end (Ask a) = false
-is_end Dump = false
+is_end (Piece pin) = false
+is_end (Dump pin) = false
+is_end DumpNow = false
 
 -- it goes on with `more` after a command, unless that is `end`
 abbrev pub go_on : (Talk → Talk × Ended) → ℕ → Command → Talk → Talk × Ended
@@ -106,18 +118,39 @@ session_of m marks time bytes e = talked time e (slice_split (λ b. b == 10) byt
 
 -- ---- which marks may stand
 
+-- the next mark may stand beside this action
+abbrev pub Fits : Action → Talk → Type 0
+Fits a t = MayStand t.machine (a, mark_of t.marks)
+
+-- in the rest of a dump, after the reply to NextPiece
+abbrev pub FitsRest : (Talk → ℕ → Type 0) → ℕ → Option GivenPiece → Talk → Type 0
+FitsRest more so_far (Some p) t = p.last ≡ false → more (wrote (data_lines p.bytes) t) (so_far + length p.bytes)
+FitsRest more so_far None t = Unit {0}
+
+-- in a dump
+unfoldable pub FitsDump : ℕ → ℕ → ℕ → Talk → ℕ → Type 0
+FitsDump zero pin time t so_far = Unit {0}
+FitsDump (suc n) pin time t so_far = let r = done_quietly (NextPiece pin time) t in Fits (NextPiece pin time) t × FitsRest (FitsDump n pin time) so_far (piece_in r.1) r.0
+
+-- in a dump of the current state, after the reply to OpenPin
+abbrev pub FitsOpen : ℕ → Option ℕ → Talk → Type 0
+FitsOpen time (Some pin) t = FitsDump piece_limit pin time t 0 × Fits (ClosePin pin) (dumped piece_limit pin time t 0)
+FitsOpen time None t = Unit {0}
+
 -- the mark of an action refuses only where the machine may find no memory for it, or where its line's reading takes memory
-abbrev pub FitsCommand : Command → Talk → Type 0
-FitsCommand Blank t = Unit {0}
-FitsCommand Bad t = Unit {0}
-FitsCommand (Ask a) t = MayStand t.machine (a, mark_of t.marks) ⊎ ActionTakesMemory a
-FitsCommand Dump t = Unit {0}
-FitsCommand End t = Unit {0}
+abbrev pub FitsCommand : ℕ → Command → Talk → Type 0
+FitsCommand time Blank t = Unit {0}
+FitsCommand time Bad t = Unit {0}
+FitsCommand time (Ask a) t = Fits a t ⊎ ActionTakesMemory a
+FitsCommand time (Piece pin) t = Fits (NextPiece pin time) t
+FitsCommand time (Dump pin) t = FitsDump piece_limit pin time t 0
+FitsCommand time DumpNow t = let r = done_quietly (OpenPin None) t in Fits (OpenPin None) t × FitsOpen time (pin_in r.1) r.0
+FitsCommand time End t = Unit {0}
 
 abbrev pub FitLines : ℕ → List (List ℕ) → Talk → Type 0
 FitLines time [] t = Unit {0}
 FitLines time (rest ∷ []) t = Unit {0}
-FitLines time (l ∷ m ∷ more) t = FitsCommand (command_of l) t × FitLines time (m ∷ more) (after_command time (command_of l) t)
+FitLines time (l ∷ m ∷ more) t = FitsCommand time (command_of l) t × FitLines time (m ∷ more) (after_command time (command_of l) t)
 
 -- the marks may stand in the session of these bytes
 abbrev pub MarksFit : Machine → List Mark → ℕ → List ℕ → Type 0
@@ -129,10 +162,11 @@ MarksFit m marks time bytes = FitLines time (slice_split (λ b. b == 10) bytes) 
 abbrev pub Shows : Machine → List Mark → ℕ → List ℕ → ReadEnd → List ℕ → Machine → Ended → Type 0
 Shows m marks time bytes e out m' ended = session_of m marks time bytes e ≡ (record { machine = m'; marks = []; written = out }, ended)
 
--- the next line was acted on, and its answer was cut short
+-- the next line was acted on, a dump up to some piece, and its answer was cut short
 abbrev pub CutsLine : ℕ → List ℕ → Talk → List ℕ → Machine → Type 0
 CutsLine time rest t out m' =
-    (l : List ℕ) × (more : List ℕ) × (rest ≡ l ++ 10 ∷ more) × (m' ≡ (after_command time (command_of l) t).machine) × IsCutShort (after_command time (command_of l) t).written [] out
+    (l : List ℕ) × (more : List ℕ) × (rest ≡ l ++ 10 ∷ more) × (pieces : ℕ) × (pieces ≤ piece_limit)
+    × (m' ≡ (after_up_to pieces time (command_of l) t).machine) × IsCutShort (after_up_to pieces time (command_of l) t).written [] out
 
 -- all lines were answered, and what the ending prints was cut short
 abbrev pub CutsEnd : Machine → List Mark → ℕ → List ℕ → ReadEnd → Talk → List ℕ → Machine → Type 0

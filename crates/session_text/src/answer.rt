@@ -3,18 +3,22 @@ ghost use Rattle.std.specs.Prelude.{◌≡◌, ◌≤◌, length, []};
 ghost use Rattle.session_text.specs.Answers.{Answers, Begins};
 ghost use Rattle.session_text.specs.Endings.{step_of};
 ghost use Rattle.session_text.specs.Grammar.{command_of};
+ghost use Rattle.heap_trail.specs.declared.Reply.{Reply};
+ghost use Rattle.session_text.specs.Replies.{reply_text};
 ghost use Rattle.session_text.specs.Talks.{IsStep, IsAnswered};
+ghost use Rattle.session_text.specs.Writes.{IsWritten};
 
 use crate::buffer::Buffer;
 use crate::command::{Command, command_of};
 use crate::commands::Commands;
-use crate::dump::write_dump;
+use crate::dump::{write_dump, write_dump_now};
 use crate::marks::FieldMarks;
 use crate::page::Page;
-use crate::write::{write_all, write_reply};
+use crate::reply::write_reply;
+use crate::write::write_all;
 use dump_pump::Outlet;
 use heap_class::Refusal;
-use heap_trail::Reply;
+use heap_trail::{Action, Reply};
 use std::alloc::Global;
 
 /// Whether a session goes on after a line.
@@ -31,6 +35,21 @@ fn next_unless(written: bool) -> Step
     if written { Step::Next } else { Step::Fault }
 }
 
+/// Does an action, and writes its reply.
+fn answer_action<O: Outlet, C: Commands>(
+    action: Action,
+    page: &mut Page,
+    writer: &mut O,
+    commands: &mut C,
+) -> bool
+    requires { page.old ≡ [] }
+    ensures empty { page.new ≡ [] }
+    ensures written { (r : Reply) × C.acts commands.old action r commands.new × IsWritten (reply_text r) (O.seen writer.old) (O.seen writer.new) result }
+{
+    let reply = commands.act(action);
+    write_reply(page, writer, &reply)
+}
+
 /// Answers one line.
 fn answer_line<O: Outlet, C: Commands>(
     alloc: Global,
@@ -44,17 +63,19 @@ fn answer_line<O: Outlet, C: Commands>(
     requires page { page.old ≡ [] }
     requires line { length line.now ≤ 4096 }
     ensures empty { page.new ≡ [] }
-    ensures step { IsStep (Answers C.acts C.gives time) (Begins C.acts C.gives time) (command_of line.now) commands.old (O.seen writer.old) commands.new (O.seen writer.new) result }
+    ensures step { IsStep (Answers C.acts time) (Begins C.acts time) (command_of line.now) commands.old (O.seen writer.old) commands.new (O.seen writer.new) result }
 {
     match command_of(alloc, marks, line) {
-        Err(_) => next_unless(write_reply(page, writer, Reply::Refused(Refusal::NoMemory))),
+        Err(_) => next_unless(write_reply(page, writer, &Reply::Refused(Refusal::NoMemory))),
         Ok(Command::Blank) => Step::Next,
         Ok(Command::Bad) => next_unless(write_all(writer, b"bad command\n")),
-        Ok(Command::Ask(action)) => {
-            let reply = commands.act(action);
-            next_unless(write_reply(page, writer, reply))
+        Ok(Command::Ask(action)) => next_unless(answer_action(action, page, writer, commands)),
+        Ok(Command::Piece(pin)) => {
+            let action = Action::NextPiece { pin, time };
+            next_unless(answer_action(action, page, writer, commands))
         }
-        Ok(Command::Dump) => next_unless(write_dump(page, writer, commands, time)),
+        Ok(Command::Dump(pin)) => next_unless(write_dump(page, writer, commands, pin, time)),
+        Ok(Command::DumpNow) => next_unless(write_dump_now(page, writer, commands, time)),
         Ok(Command::End) => Step::Quit,
     }
 }
@@ -71,7 +92,7 @@ pub fn answer_lines<O: Outlet, C: Commands>(
 ) -> Step
     requires { page.old ≡ [] }
     ensures empty { page.new ≡ [] }
-    ensures answered { IsAnswered (Answers C.acts C.gives time) (Begins C.acts C.gives time) buffer.old commands.old (O.seen writer.old) buffer.new commands.new (O.seen writer.new) result }
+    ensures answered { IsAnswered (Answers C.acts time) (Begins C.acts time) buffer.old commands.old (O.seen writer.old) buffer.new commands.new (O.seen writer.new) result }
 {
     while let Some(n) = buffer.line_end() {
         match answer_line(

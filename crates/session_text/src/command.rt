@@ -1,8 +1,8 @@
 //! What a line asks for.
 ghost use Rattle.std.specs.Prelude.{◌≡◌, ◌≤◌, ◌++◌, length, option_map, MatchResult};
 ghost use Rattle.std.specs.Str.{bytes_eq};
-ghost use Rattle.session_text.specs.Grammar.{words_of, next_number, next_kind, at_end, one_number, three_numbers, two_numbers, four_numbers, new_line, newarray_line, newprim_line, load_line, store_line, put_line, move_line, clear_line, step_line, sweep_line, rewind_line, dump_line, end_line, making_rules, access_rules, marking_rules, session_rules, by_rule, without_cr, command_of_text, command_of};
-ghost use Rattle.session_text.specs.Reads.{TakesMemory, MayTakeMemory, IsNext, next_number_or_dash, next_name, plain_class, plain_array, plain_rules};
+ghost use Rattle.session_text.specs.Grammar.{words_of, next_number, next_number_or_dash, next_kind, at_end, one_number, one_number_or_dash, three_numbers, two_numbers, four_numbers, new_line, newarray_line, newprim_line, load_line, store_line, put_line, move_line, clear_line, step_line, sweep_line, rewind_line, open_line, piece_line, dump_line, close_line, end_line, making_rules, access_rules, marking_rules, session_rules, by_rule, without_cr, command_of_text, command_of};
+ghost use Rattle.session_text.specs.Reads.{TakesMemory, MayTakeMemory, IsNext, next_name, plain_class, plain_array, plain_rules};
 
 use crate::fields::{copied_all, kind_at, name_at, read_fields};
 use crate::marks::FieldMarks;
@@ -22,8 +22,12 @@ pub enum Command {
     Bad,
     /// An action, and its reply.
     Ask(Action),
-    /// The text of a dump of the current state.
-    Dump,
+    /// The next piece of a pin.
+    Piece(u64),
+    /// A dump of a pin.
+    Dump(u64),
+    /// A dump of the current state.
+    DumpNow,
     /// The end of the session.
     End,
 }
@@ -89,6 +93,14 @@ fn one_number(mut words: Words) -> Option<u64>
     ensures { result ≡ one_number (words_of words.entry) }
 {
     let a = next_number(&mut words)?;
+    at_end(a, words)
+}
+
+/// The words' one number, or None where it is `-`.
+fn one_number_or_dash(mut words: Words) -> Option<Option<u64>>
+    ensures { result ≡ one_number_or_dash (words_of words.entry) }
+{
+    let a = next_number_or_dash(&mut words)?;
     at_end(a, words)
 }
 
@@ -268,15 +280,38 @@ fn rewind_line(words: Words) -> Option<Command>
     Some(Command::Ask(Action::Rewind(n)))
 }
 
-/// `dump -`.
-fn dump_line(mut words: Words) -> Option<Command>
+/// `open AT`.
+fn open_line(words: Words) -> Option<Command>
+    ensures { result ≡ open_line (words_of words.entry) }
+{
+    let at = one_number_or_dash(words)?;
+    Some(Command::Ask(Action::OpenPin(at)))
+}
+
+/// `piece PIN`.
+fn piece_line(words: Words) -> Option<Command>
+    ensures { result ≡ piece_line (words_of words.entry) }
+{
+    let pin = one_number(words)?;
+    Some(Command::Piece(pin))
+}
+
+/// `dump PIN` or `dump -`.
+fn dump_line(words: Words) -> Option<Command>
     ensures { result ≡ dump_line (words_of words.entry) }
 {
-    let word = words.next_word()?;
-    if !is_word(word, b"-") {
-        return None;
+    match one_number_or_dash(words)? {
+        Some(pin) => Some(Command::Dump(pin)),
+        None => Some(Command::DumpNow),
     }
-    at_end(Command::Dump, words)
+}
+
+/// `close PIN`.
+fn close_line(words: Words) -> Option<Command>
+    ensures { result ≡ close_line (words_of words.entry) }
+{
+    let pin = one_number(words)?;
+    Some(Command::Ask(Action::ClosePin(pin)))
 }
 
 /// `end`.
@@ -357,8 +392,17 @@ fn session_line(word: &[u8], words: Words) -> Option<Command>
     if is_word(word, b"rewind") {
         return rewind_line(words);
     }
+    if is_word(word, b"open") {
+        return open_line(words);
+    }
+    if is_word(word, b"piece") {
+        return piece_line(words);
+    }
     if is_word(word, b"dump") {
         return dump_line(words);
+    }
+    if is_word(word, b"close") {
+        return close_line(words);
     }
     if is_word(word, b"end") {
         return end_line(words);

@@ -1,45 +1,16 @@
-//! Dumps, in data lines.
-ghost use Rattle.std.specs.Prelude.{◌≡◌, ◌+◌, ◌*◌, ◌≤◌, ◌<◌, ◌^◌, ◌++◌, [], length};
-ghost use Rattle.session_text.specs.Dumps.{WritesDump, total_line};
-ghost use Rattle.session_text.specs.Replies.{data_line, data_lines};
+//! Dumps.
+ghost use Rattle.std.specs.Prelude.{◌≡◌, ◌≤◌, ◌++◌, [], length};
+ghost use Rattle.session_text.specs.Dumps.{DumpsNow, DumpsPin, WritesDump, total_line};
 ghost use Rattle.session_text.specs.Writes.{IsAdded};
 
 use crate::PIECE_LIMIT;
 use crate::commands::Commands;
+use crate::data::write_data;
 use crate::page::Page;
-use crate::write::{flush, make_room, write_reply};
+use crate::reply::{piece_in, pin_in, write_reply};
+use crate::write::{flush, make_room};
 use dump_pump::Outlet;
-use heap_trail::Reply;
-use hprof_text::Cursor;
-
-/// The most bytes of a data line's digits.
-const DATA_LIMIT: usize = 64;
-
-/// Adds a data line of at most 64 bytes.
-fn add_data_line(page: &mut Page, bytes: &[u8])
-    requires { (length page.old ≤ 8000) × (length bytes.now ≤ 64) }
-    ensures { page.new ≡ page.old ++ data_line bytes.now }
-{
-    page.add(b"data ");
-    page.add_hex(bytes);
-    page.add(b"\n");
-}
-
-/// Adds the data lines of a piece, and puts out the page each time that it is full.
-fn write_data<O: Outlet>(page: &mut Page, outlet: &mut O, bytes: &[u8]) -> bool
-    ensures { IsAdded (data_lines bytes.now) page.old (O.seen outlet.old) page.new (O.seen outlet.new) result }
-{
-    let mut rest = bytes;
-    while !rest.is_empty() {
-        let (first, others) = rest.split_at(rest.len().min(DATA_LIMIT));
-        if !make_room(page, outlet) {
-            return false;
-        }
-        add_data_line(page, first);
-        rest = others;
-    }
-    true
-}
+use heap_trail::Action;
 
 /// Adds the last line of a dump.
 fn add_total(page: &mut Page, total: u64)
@@ -64,23 +35,23 @@ fn write_total<O: Outlet>(page: &mut Page, outlet: &mut O, total: u64) -> bool
     flush(page, outlet)
 }
 
-/// Writes a dump of the current state: its data lines, and its length or the refusal of a piece.
+/// Writes a dump of a pin: the data lines of its pieces, and their length or the line of a refusal.
 pub fn write_dump<O: Outlet, C: Commands>(
     page: &mut Page,
     outlet: &mut O,
-    commands: &C,
+    commands: &mut C,
+    pin: u64,
     time: u64,
 ) -> bool
     requires { page.old ≡ [] }
     ensures empty { page.new ≡ [] }
-    ensures text { WritesDump C.gives commands.now time (O.seen outlet.old) (O.seen outlet.new) result }
+    ensures text { WritesDump (DumpsPin C.acts pin time) commands.old commands.new (O.seen outlet.old) (O.seen outlet.new) result }
 {
-    let mut cursor = Cursor::Start;
     let mut total: u64 = 0;
     for number in 0..PIECE_LIMIT {
-        let (piece, next) = match commands.piece(cursor, time) {
-            Ok(given) => given,
-            Err(refusal) => return write_reply(page, outlet, Reply::Refused(refusal)),
+        let reply = commands.act(Action::NextPiece { pin, time });
+        let Some(piece) = piece_in(&reply) else {
+            return write_reply(page, outlet, &reply);
         };
         if !write_data(page, outlet, piece.bytes.as_slice()) {
             page.clear();
@@ -90,7 +61,26 @@ pub fn write_dump<O: Outlet, C: Commands>(
         if piece.last {
             return write_total(page, outlet, total);
         }
-        cursor = next;
     }
     flush(page, outlet)
+}
+
+/// Writes a dump of the current state: opens a pin, dumps it, and closes it, also where a write fails.
+pub fn write_dump_now<O: Outlet, C: Commands>(
+    page: &mut Page,
+    outlet: &mut O,
+    commands: &mut C,
+    time: u64,
+) -> bool
+    requires { page.old ≡ [] }
+    ensures empty { page.new ≡ [] }
+    ensures text { WritesDump (DumpsNow C.acts time) commands.old commands.new (O.seen outlet.old) (O.seen outlet.new) result }
+{
+    let opened = commands.act(Action::OpenPin(None));
+    let Some(pin) = pin_in(&opened) else {
+        return write_reply(page, outlet, &opened);
+    };
+    let written = write_dump(page, outlet, commands, pin, time);
+    commands.act(Action::ClosePin(pin));
+    written
 }

@@ -8,6 +8,7 @@ mod answer;
 mod buffer;
 mod command;
 pub mod commands;
+mod data;
 mod digits;
 mod dump;
 mod fields;

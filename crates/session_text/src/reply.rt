@@ -1,13 +1,19 @@
 //! The lines that a session answers.
-ghost use Rattle.std.specs.Prelude.{◌≡◌, ◌+◌, ◌≤◌, ◌++◌, [], ◌∷◌, codes, length};
+ghost use Rattle.std.specs.Prelude.{◌≡◌, ◌+◌, ◌≤◌, ◌++◌, [], ◌∷◌, codes, length, Some, None, MatchOption};
 ghost use Rattle.heap_class.specs.Table.{refusal_name};
 ghost use Rattle.heap_step.specs.declared.Answer.TheVariants.{Object, Swept};
-ghost use Rattle.session_text.specs.Replies.{answer_text, cause_text, facts_text, refusal_text, reply_text};
+ghost use Rattle.heap_trail.specs.declared.Reply.TheVariants.{Pinned};
+ghost use Rattle.session_text.specs.Replies.{answer_text, cause_text, facts_text, refusal_text, line, piece_words, reply_words, reply_data, reply_text, data_lines, piece_in, pin_in};
+ghost use Rattle.session_text.specs.Writes.{IsAdded};
 
+use crate::data::write_data;
 use crate::page::Page;
+use crate::write::{flush, make_room};
+use dump_pump::Outlet;
 use heap_class::{LostCause, Refusal};
 use heap_step::Answer;
 use heap_trail::Reply;
+use hprof_text::Piece;
 
 fn add_object(page: &mut Page, id: u64)
     requires { length page.old ≤ 8000 }
@@ -65,7 +71,6 @@ fn cause_word(cause: LostCause) -> &'static [u8]
 {
     match cause {
         LostCause::Rewound => b"Rewound",
-        LostCause::Forgotten => b"Forgotten",
         LostCause::Memory => b"Memory",
         LostCause::Closed => b"Closed",
     }
@@ -116,18 +121,99 @@ fn add_refusal(page: &mut Page, refusal: Refusal)
     add_facts(page, refusal);
 }
 
-/// Adds the line of a reply.
-pub fn add_reply(page: &mut Page, reply: Reply)
+/// Adds the number of a new pin and its place.
+fn add_pinned(page: &mut Page, pin: u64, at: u64)
     requires { length page.old ≤ 8000 }
-    ensures { page.new ≡ page.old ++ reply_text reply }
+    ensures text { page.new ≡ page.old ++ reply_words (Pinned pin at) }
+    ensures short { length page.new ≤ length page.old + 51 }
+{
+    page.add(b"ok pin");
+    page.add_number(pin);
+    page.add(b" at");
+    page.add_number(at);
+}
+
+/// Adds the length of a piece, and whether it is the last.
+fn add_piece(page: &mut Page, piece: &Piece)
+    requires { length page.old ≤ 8000 }
+    ensures text { page.new ≡ page.old ++ piece_words piece.now }
+    ensures short { length page.new ≤ length page.old + 29 }
+{
+    page.add(if piece.last { b"ok last" } else { b"ok piece" });
+    page.add_number(piece.bytes.as_slice().len() as u64);
+}
+
+/// Adds the last line of a reply.
+fn add_last_line(page: &mut Page, reply: &Reply)
+    requires { length page.old ≤ 8000 }
+    ensures { page.new ≡ page.old ++ line (reply_words reply.now) }
 {
     match reply {
-        Reply::Answered(answer) => add_answer(page, answer),
+        Reply::Answered(answer) => add_answer(page, *answer),
         Reply::Place(place) => {
             page.add(b"ok place");
-            page.add_number(place);
+            page.add_number(*place);
         }
-        Reply::Refused(refusal) => add_refusal(page, refusal),
+        Reply::Pinned { pin, at } => add_pinned(page, *pin, *at),
+        Reply::Part(piece) => add_piece(page, piece),
+        Reply::Closed => page.add(b"ok"),
+        Reply::Refused(refusal) => add_refusal(page, *refusal),
     }
     page.add(b"\n");
+}
+
+/// Puts out a page and the last line of a reply behind it.
+fn write_last_line<O: Outlet>(page: &mut Page, outlet: &mut O, reply: &Reply) -> bool
+    ensures added { IsAdded (line (reply_words reply.now)) page.old (O.seen outlet.old) page.new (O.seen outlet.new) result }
+    ensures empty { page.new ≡ [] }
+{
+    if !make_room(page, outlet) {
+        page.clear();
+        return false;
+    }
+    add_last_line(page, reply);
+    flush(page, outlet)
+}
+
+/// Returns the bytes that a reply prints before its last line: those of a piece.
+#[tactic(auto, unfolding(crate::specs::Replies::data_lines, crate::specs::Replies::chunks_of_64))]
+fn data_of(reply: &Reply) -> &[u8]
+    ensures { data_lines result.now ≡ reply_data reply.now }
+{
+    match reply {
+        Reply::Part(piece) => piece.bytes.as_slice(),
+        _ => &[],
+    }
+}
+
+/// Puts out a page and a reply behind it.
+pub fn write_reply<O: Outlet>(page: &mut Page, outlet: &mut O, reply: &Reply) -> bool
+    ensures added { IsAdded (reply_text reply.now) page.old (O.seen outlet.old) page.new (O.seen outlet.new) result }
+    ensures empty { page.new ≡ [] }
+{
+    if !write_data(page, outlet, data_of(reply)) {
+        page.clear();
+        return false;
+    }
+    write_last_line(page, outlet, reply)
+}
+
+/// Returns the piece that a reply gives.
+pub fn piece_in(reply: &Reply) -> Option<&Piece>
+    ensures { MatchOption result (piece_in reply.now ≡ None) (λ p. piece_in reply.now ≡ Some p.now) }
+{
+    match reply {
+        Reply::Part(piece) => Some(piece),
+        _ => None,
+    }
+}
+
+/// Returns the number of the pin that was opened.
+pub fn pin_in(reply: &Reply) -> Option<u64>
+    ensures { result ≡ pin_in reply.now }
+{
+    match reply {
+        Reply::Pinned { pin, at: _ } => Some(*pin),
+        _ => None,
+    }
 }

@@ -39,7 +39,7 @@ fn talk<I: Inlet, O: Outlet, C: Commands>(
 ) -> Ended
     requires buffer { buffer.old ≡ [] }
     requires page { page.old ≡ [] }
-    ensures { Serves (Answers C.acts C.gives time) (Begins C.acts C.gives time) (I.seen reader.old) (I.seen reader.new) commands.old (O.seen writer.old) commands.new (O.seen writer.new) result }
+    ensures { Serves (Answers C.acts time) (Begins C.acts time) (I.seen reader.old) (I.seen reader.new) commands.old (O.seen writer.old) commands.new (O.seen writer.new) result }
 {
     let mut reads: u64 = 0;
     loop {
@@ -70,8 +70,9 @@ fn talk<I: Inlet, O: Outlet, C: Commands>(
 
 /// Reads lines, and writes the answers of the commands in order, until an ending. In which chunks bytes come and go doesn't
 /// show. After a write that failed nothing more is read and no line is acted on: the answers of the lines before are out
-/// whole, and the answer of the line being answered, which was acted on, or what the ending prints is cut short. `time`, in
-/// milliseconds, stands in the header of each dump.
+/// whole, and the answer of the line being answered, which was acted on, or what the ending prints is cut short. A dump then
+/// asks for no more pieces, and one of the current state closes its pin. `time`, in milliseconds, stands in the header of
+/// each dump.
 pub fn serve<I: Inlet, O: Outlet, C: Commands>(
     alloc: Global,
     reader: &mut I,
@@ -80,7 +81,7 @@ pub fn serve<I: Inlet, O: Outlet, C: Commands>(
     time: u64,
 ) -> Ended
     ensures ends { Ends (I.seen reader.old) (I.seen reader.new) (O.seen writer.old) (O.seen writer.new) result }
-    ensures text { Serves (Answers C.acts C.gives time) (Begins C.acts C.gives time) (I.seen reader.old) (I.seen reader.new) commands.old (O.seen writer.old) commands.new (O.seen writer.new) result }
+    ensures text { Serves (Answers C.acts time) (Begins C.acts time) (I.seen reader.old) (I.seen reader.new) commands.old (O.seen writer.old) commands.new (O.seen writer.new) result }
 {
     match (Buffer::new(alloc), Page::new(alloc), FieldMarks::new(alloc)) {
         (Ok(mut buffer), Ok(mut page), Ok(mut marks)) => {
@@ -102,7 +103,8 @@ pub fn serve<I: Inlet, O: Outlet, C: Commands>(
 /// A session of a machine of one's own: `serve`, where what is written and the machine afterwards are a function of the
 /// bytes read, of where memory was refused and of how reading ended. After a write that failed a beginning of that is
 /// written, and the machine is that after the lines whose answers are out whole, or after the next one too, where its answer
-/// was cut short. The bytes read are those that the reader tells, where it tells them.
+/// was cut short: after some pieces, where that is a dump. The bytes read are those that the reader tells, where it tells
+/// them.
 pub fn serve_local<I: Inlet, O: Outlet>(
     alloc: Global,
     reader: &mut I,

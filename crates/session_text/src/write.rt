@@ -1,12 +1,9 @@
 //! Writing.
 ghost use Rattle.std.specs.Prelude.{◌≡◌, ◌≤◌, [], length};
-ghost use Rattle.session_text.specs.Replies.{reply_text};
 ghost use Rattle.session_text.specs.Writes.{IsWritten, IsAdded};
 
 use crate::page::Page;
-use crate::reply::add_reply;
 use dump_pump::{Outlet, Put};
-use heap_trail::Reply;
 
 /// The most bytes of a page to which a line is added.
 const LINE_START: usize = 8000;
@@ -43,18 +40,5 @@ pub fn make_room<O: Outlet>(page: &mut Page, outlet: &mut O) -> bool
     if page.as_slice().len() <= LINE_START {
         return true;
     }
-    flush(page, outlet)
-}
-
-/// Puts out a page and a reply behind it.
-pub fn write_reply<O: Outlet>(page: &mut Page, outlet: &mut O, reply: Reply) -> bool
-    ensures added { IsAdded (reply_text reply) page.old (O.seen outlet.old) page.new (O.seen outlet.new) result }
-    ensures empty { page.new ≡ [] }
-{
-    if !make_room(page, outlet) {
-        page.clear();
-        return false;
-    }
-    add_reply(page, reply);
     flush(page, outlet)
 }

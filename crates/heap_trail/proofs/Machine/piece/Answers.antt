@@ -1,26 +1,59 @@
-use Rattle.std.proofs.Common.{◌≡◌, ◌+◌, ℕ, sym, ap, subst, ◌∙◌}
-use Rattle.std.specs.Prelude.{IfOk}
+use Rattle.std.proofs.Common.{◌≡◌, ◌⊎◌, ◌∷◌, set, IfErr, subst, inl}
 use Rattle.std.proofs.lemmas.Result.{IfOk-weaker}
-use Rattle.hprof_text.specs.Segments.{piece_of}
-use Rattle.heap_trail.specs.Machine.{shown}
-use Rattle.heap_trail.specs.Pins.{Shown, StandsAt, StandsIn, image_of}
+use Rattle.heap_class.specs.declared.Refusal.TheVariants.{NoMemory, NoPin}
+use Rattle.heap_trail.specs.declared.Action.TheVariants.{NextPiece}
+use Rattle.heap_trail.specs.declared.Reply.TheVariants.{Part, Refused}
+use Rattle.heap_trail.specs.Machine.{Machine, Refusing, MayStand, acted}
+use Rattle.heap_trail.specs.Slots.{HasGiven}
+use Rattle.heap_trail.specs.Records.{past_of, machine_of}
+use Rattle.heap_trail.proofs.SlotFound.{slot_found, pin_missing, held_there}
+use Rattle.heap_trail.proofs.PieceGiven.{can_give, holds_after, pinning_set, piece_done, piece_missing, piece_not_given}
 use Rattle.heap_trail.proofs.Machine.piece.Goals as goal
 
-pub returns-clause-next : goal.returns-clause-next
-returns-clause-next c =
-    let e : c.new.result ≡ shown c.args.self.now = c.new.ensures ∙ ap shown c.self.view_is in
-    subst (λ (v : Shown). IfOk c.piece_from.result (λ p. (i : ℕ) → StandsAt v c.args.cursor i → StandsAt v p.1 (i + 1))) e c.piece_from.ensures.next
+pub next_piece-requires : goal.next_piece-requires
+next_piece-requires c =
+    let i = c.self.inside in
+    let s = c.index_mut.result.now in
+    let there = slot_found c.args.pin i.pins.items c.deref.result.now c.slot_of.result c.in-Some.slot s c.deref.ensures.value c.slot_of.ensures c.in-Some.is c.index_mut.ensures.value in
+    can_give i.ids i.world (past_of i.world i.records.items) i.place s.held
+    (held_there i.ids (i.world ∷ past_of i.world i.records.items) i.place i.next i.pins.items c.in-Some.slot s c.self.invariant.1.held there.0)
 
-pub returns-clause-stands : goal.returns-clause-stands
-returns-clause-stands c =
-    let e : c.new.result ≡ shown c.args.self.now = c.new.ensures ∙ ap shown c.self.view_is in
-    IfOk-weaker c.piece_from.result
-    (λ p. (i : ℕ) → StandsAt c.new.result c.args.cursor i → StandsAt c.new.result p.1 (i + 1))
-    (λ p. StandsIn (shown c.args.self.now) p.1)
-    (λ p next. subst (λ (v : Shown). StandsIn v p.1) e (c.requires.0 + 1, next c.requires.0 (subst (λ (v : Shown). StandsAt v c.args.cursor c.requires.0) (sym e) c.requires.1)))
-    c.piece_from.ensures.next
+pub invariant_of-self : goal.invariant_of-self
+invariant_of-self c =
+    let i = c.self.inside in
+    let s = c.index_mut.result.now in
+    let t = c.next_piece.new.self in
+    let there = slot_found c.args.pin i.pins.items c.deref.result.now c.slot_of.result c.in-Some.slot s c.deref.ensures.value c.slot_of.ensures c.in-Some.is c.index_mut.ensures.value in
+    let before = held_there i.ids (i.world ∷ past_of i.world i.records.items) i.place i.next i.pins.items c.in-Some.slot s c.self.invariant.1.held there.0 in
+    let after = holds_after i.ids i.world (past_of i.world i.records.items) i.place c.args.time s t c.next_piece.result before c.next_piece.ensures.given c.next_piece.ensures.unchanged in
+    (c.self.invariant.0, pinning_set i.ids i.world i.records i.place i.next i.pins.items c.in-Some.slot s t c.self.invariant.1 there.0 c.next_piece.ensures.number after, c.self.invariant.2)
 
-pub returns-clause-piece : goal.returns-clause-piece
-returns-clause-piece c =
-    let e : c.new.result ≡ shown c.args.self.now = c.new.ensures ∙ ap shown c.self.view_is in
-    subst (λ (v : Shown). IfOk c.piece_from.result (λ p. (i : ℕ) → StandsAt v c.args.cursor i → p.0 ≡ piece_of v.ids (image_of v.state) c.args.time i)) e c.piece_from.ensures.piece
+pub returns-in-Some-clause-done : goal.returns-in-Some-clause-done
+returns-in-Some-clause-done c =
+    let i = c.self.inside in
+    let s = c.index_mut.result.now in
+    let t = c.next_piece.new.self in
+    let there = slot_found c.args.pin i.pins.items c.deref.result.now c.slot_of.result c.in-Some.slot s c.deref.ensures.value c.slot_of.ensures c.in-Some.is c.index_mut.ensures.value in
+    let new : Machine = machine_of i.ids i.world i.records i.place i.keep i.next (set i.pins.items c.in-Some.slot t) in
+    IfOk-weaker c.next_piece.result (λ p. HasGiven i.ids i.world c.args.time p s.held t.held) (λ p. acted c.args.self.now (NextPiece c.args.pin c.args.time) ≡ (new, Part p))
+    (λ p given. subst (λ (m : Machine). acted m (NextPiece c.args.pin c.args.time) ≡ (new, Part p)) c.self.view_is
+    (subst (λ n. acted (machine_of i.ids i.world i.records i.place i.keep i.next i.pins.items) (NextPiece n c.args.time) ≡ (new, Part p)) there.1
+    (piece_done i.ids i.world i.records i.place i.keep i.next i.pins.items c.in-Some.slot c.args.time s t p c.self.invariant.1 there.0 c.next_piece.ensures.number given)))
+    c.next_piece.ensures.given
+
+pub returns-in-Some-clause-refused : goal.returns-in-Some-clause-refused
+returns-in-Some-clause-refused c =
+    let i = c.self.inside in
+    let s = c.index_mut.result.now in
+    let t = c.next_piece.new.self in
+    let there = slot_found c.args.pin i.pins.items c.deref.result.now c.slot_of.result c.in-Some.slot s c.deref.ensures.value c.slot_of.ensures c.in-Some.is c.index_mut.ensures.value in
+    let new : Machine = machine_of i.ids i.world i.records i.place i.keep i.next (set i.pins.items c.in-Some.slot t) in
+    subst (λ (m : Machine). IfErr c.next_piece.result (λ e. (acted m (NextPiece c.args.pin c.args.time) ≡ (new, Refused e)) ⊎ (MayStand m (NextPiece c.args.pin c.args.time, Refusing) × (e ≡ NoMemory)))) c.self.view_is
+    (subst (λ n. IfErr c.next_piece.result (λ e. (acted (machine_of i.ids i.world i.records i.place i.keep i.next i.pins.items) (NextPiece n c.args.time) ≡ (new, Refused e)) ⊎ (MayStand (machine_of i.ids i.world i.records i.place i.keep i.next i.pins.items) (NextPiece n c.args.time, Refusing) × (e ≡ NoMemory)))) there.1
+    (piece_not_given i.ids i.world i.records i.place i.keep i.next i.pins.items c.in-Some.slot c.args.time s t c.next_piece.result c.self.invariant.1 there.0 c.next_piece.ensures.refused c.next_piece.ensures.unchanged))
+
+pub returns-in-None-clause-refused : goal.returns-in-None-clause-refused
+returns-in-None-clause-refused c =
+    let i = c.self.inside in
+    inl (subst (λ (m : Machine). acted m (NextPiece c.args.pin c.args.time) ≡ (m, Refused NoPin)) c.self.view_is
+    (piece_missing i.ids i.world i.records i.place i.keep i.next i.pins.items c.args.pin c.args.time (pin_missing i.world i.next c.args.pin i.pins.items c.deref.result.now c.slot_of.result c.deref.ensures.value c.slot_of.ensures c.in-None.is)))

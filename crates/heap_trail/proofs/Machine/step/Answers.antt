@@ -1,31 +1,52 @@
-use Rattle.std.proofs.Common.{◌≡◌, ◌⊎◌, ℕ, ◌+◌, ◌<◌, inl, sym, ap, subst, ◌∙◌}
+use Rattle.std.proofs.Common.{◌≡◌, vec_capacity, ◌⊎◌, ℕ, ◌+◌, ◌<◌, ◌++◌, length, take, drop, List, inl, sym, subst, arith}
+use Rattle.std.proofs.lemmas.List.{take_at}
 use Rattle.std.proofs.lemmas.Result.{err_from_is_err_and}
 use Rattle.circular_buffer.specs.Buffer.{Buffer}
 use Rattle.heap_class.specs.declared.Refusal.TheVariants.{NoMemory, ChronicleFull}
+use Rattle.heap_world.specs.State.{HeapState}
 use Rattle.heap_step.specs.declared.Event.TheVariants.{Finish, Sweep}
 use Rattle.heap_step.specs.declared.Undo.{Undo}
+use Rattle.heap_step.specs.Records.{undone}
 use Rattle.heap_trail.specs.declared.Action.TheVariants.{Step}
-use Rattle.heap_trail.specs.declared.Reply.TheVariants.{Answered, Refused}
+use Rattle.heap_trail.specs.declared.Reply.TheVariants.{Refused}
+use Rattle.heap_trail.specs.declared.held.Slot.{Slot}
 use Rattle.heap_trail.specs.Limits.{last_place}
 use Rattle.heap_trail.specs.Machine.{Machine, Refusing, MayStand, acted}
 use Rattle.heap_trail.specs.Laws.{SparesReached, FindsSnapshot}
-use Rattle.heap_trail.specs.Records.{IsKept, machine_of}
-use Rattle.heap_trail.proofs.Stepping.{IsAccepted, pushed, kept_after_step, step_done, step_full, step_err}
+use Rattle.heap_trail.specs.Slots.{pins_of, EachSized, EachMayKeep}
+use Rattle.heap_trail.specs.Records.{past_of, IsWhole, machine_of, machine_with}
+use Rattle.heap_trail.proofs.Stepping.{IsAccepted, pushed, leads_back, kept_after_step, step_full, step_err}
+use Rattle.heap_trail.proofs.Pinning.{MayAnswer, same_length, pinning_after, step_pinned}
+use Rattle.heap_trail.proofs.EachKept.{sized_after}
 use Rattle.heap_trail.proofs.Reached.{sweep_leaves, finish_lives, finish_finds}
 use Rattle.heap_trail.proofs.Machine.step.Goals as goal
 
 pub returns-then-self-ge-LAST_PLACE-clause-refused : goal.returns-then-self-ge-LAST_PLACE-clause-refused
 returns-then-self-ge-LAST_PLACE-clause-refused c =
     inl (subst (λ (m : Machine). acted m (Step c.args.event.now) ≡ (m, Refused ChronicleFull)) c.self.view_is
-    (step_full c.self.inside.ids c.args.event.now c.self.inside.world c.self.inside.records c.self.inside.place c.self.inside.keep c.if-self-ge-LAST_PLACE.true))
+    (step_full c.self.inside.ids c.args.event.now c.self.inside.world c.self.inside.records c.self.inside.place c.self.inside.keep (pins_of c.self.inside.world c.self.inside.next c.self.inside.pins.items) c.if-self-ge-LAST_PLACE.true))
 
 pub returns-in_err-answer-clause-refused : goal.returns-in_err-answer-clause-refused
 returns-in_err-answer-clause-refused c =
     let p = err_from_is_err_and c.from_residual.result c.from_residual.ensures.1 in
     let under : c.self.inside.place < last_place = c.if-self-ge-LAST_PLACE.false in
     rw (p.1, p.2)
-    (subst (λ (m : Machine). (acted m (Step c.args.event.now) ≡ (machine_of c.self.inside.ids c.apply.new.world c.self.inside.records c.self.inside.place c.self.inside.keep, Refused c.in_err-answer.field-0.0)) ⊎ (MayStand m (Step c.args.event.now, Refusing) × (c.in_err-answer.field-0.0 ≡ NoMemory))) c.self.view_is
-    (step_err c.self.inside.ids c.args.event.now c.self.inside.world c.apply.new.world c.self.inside.records c.self.inside.place c.self.inside.keep c.in_err-answer.field-0.0 under c.in_err-answer.ensures.unchanged c.in_err-answer.ensures.refused))
+    (subst (λ (m : Machine). (acted m (Step c.args.event.now) ≡ (machine_of c.self.inside.ids c.apply.new.world c.self.inside.records c.self.inside.place c.self.inside.keep c.self.inside.next c.self.inside.pins.items, Refused c.in_err-answer.field-0.0)) ⊎ (MayStand m (Step c.args.event.now, Refusing) × (c.in_err-answer.field-0.0 ≡ NoMemory))) c.self.view_is
+    (subst (λ (w : HeapState). (acted (machine_of c.self.inside.ids c.self.inside.world c.self.inside.records c.self.inside.place c.self.inside.keep c.self.inside.next c.self.inside.pins.items) (Step c.args.event.now) ≡ (machine_with c.self.inside.ids c.apply.new.world c.self.inside.records c.self.inside.place c.self.inside.keep (pins_of w c.self.inside.next c.self.inside.pins.items), Refused c.in_err-answer.field-0.0)) ⊎ (MayStand (machine_of c.self.inside.ids c.self.inside.world c.self.inside.records c.self.inside.place c.self.inside.keep c.self.inside.next c.self.inside.pins.items) (Step c.args.event.now, Refusing) × (c.in_err-answer.field-0.0 ≡ NoMemory))) (sym c.in_err-answer.ensures.unchanged)
+    (step_err c.self.inside.ids c.args.event.now c.self.inside.world c.apply.new.world c.self.inside.records c.self.inside.place c.self.inside.keep (pins_of c.self.inside.world c.self.inside.next c.self.inside.pins.items) c.in_err-answer.field-0.0 under c.in_err-answer.ensures.unchanged c.in_err-answer.ensures.refused)))
+
+pub keep_each-requires-clause-sized : goal.keep_each-requires-clause-sized
+keep_each-requires-clause-sized c =
+    let a : IsAccepted c.args.event.now c.self.inside.world c.apply.new.world c.in_ok-answer.left = record {
+      accepted = c.in_ok-answer.ensures.answered;
+      gave = c.in_ok-answer.ensures.state;
+      recorded = c.in_ok-answer.ensures.recorded;
+      after = c.in_ok-answer.ensures.legal;
+      law = c.undo_takes_back.ensures c.args.event.now c.self.inside.world;
+    } in
+    let back : undone c.in_ok-answer.left c.apply.new.world ≡ c.self.inside.world = leads_back c.args.event.now c.self.inside.world c.apply.new.world c.in_ok-answer.left c.self.invariant.0.legal a in
+    subst (λ (ss : List Slot). EachSized (length c.apply.new.world.regions) ss) (sym c.deref_mut.ensures.value)
+    (sized_after c.self.inside.ids c.in_ok-answer.left c.apply.new.world c.self.inside.world (past_of c.self.inside.world c.self.inside.records.items) c.self.inside.place c.self.inside.next c.self.inside.pins.items back c.self.invariant.1.held)
 
 pub invariant_of-self-2 : goal.invariant_of-self-2
 invariant_of-self-2 c =
@@ -36,8 +57,15 @@ invariant_of-self-2 c =
       after = c.in_ok-answer.ensures.legal;
       law = c.undo_takes_back.ensures c.args.event.now c.self.inside.world;
     } in
-    subst (λ (r : Buffer Undo). IsKept c.apply.new.world r (c.self.inside.place + 1) c.self.inside.keep) (sym c.push_front.ensures.items)
-    (kept_after_step c.args.event.now c.self.inside.world c.apply.new.world c.in_ok-answer.left c.self.inside.records c.self.inside.place c.self.inside.keep c.self.invariant a c.if-self-ge-LAST_PLACE.false)
+    let each : EachMayKeep c.in_ok-answer.left c.apply.new.world c.self.inside.pins.items c.keep_each.new.pins = subst (λ (ss : List Slot). EachMayKeep c.in_ok-answer.left c.apply.new.world ss c.keep_each.new.pins) c.deref_mut.ensures.value c.keep_each.ensures in
+    let items : take c.self.inside.pins.len (c.keep_each.new.pins ++ drop (length c.keep_each.new.pins) c.self.inside.pins.items) ≡ c.keep_each.new.pins
+    = take_at c.keep_each.new.pins (drop (length c.keep_each.new.pins) c.self.inside.pins.items) c.self.inside.pins.len (omega (arith, same_length _ _ _ _ each, c.self.inside.pins.ok.0)) in
+    rw items
+    (subst (λ (r : Buffer Undo). IsWhole c.self.inside.ids c.apply.new.world r (c.self.inside.place + 1) c.self.inside.keep c.self.inside.next c.keep_each.new.pins (vec_capacity c.self.inside.pins)) (sym c.push_front.ensures.items) (
+      kept_after_step c.args.event.now c.self.inside.world c.apply.new.world c.in_ok-answer.left c.self.inside.records c.self.inside.place c.self.inside.keep c.self.invariant.0 a c.if-self-ge-LAST_PLACE.false,
+      pinning_after c.self.inside.ids c.args.event.now c.self.inside.world c.apply.new.world c.in_ok-answer.left c.self.inside.records c.self.inside.place c.self.inside.keep c.self.inside.next c.self.inside.pins.items c.keep_each.new.pins c.self.invariant.0 c.self.invariant.1 a each,
+      c.self.invariant.2,
+    ))
 
 pub returns-clause-done : goal.returns-clause-done
 returns-clause-done c =
@@ -48,21 +76,23 @@ returns-clause-done c =
       after = c.in_ok-answer.ensures.legal;
       law = c.undo_takes_back.ensures c.args.event.now c.self.inside.world;
     } in
-    let t : acted (machine_of c.self.inside.ids c.self.inside.world c.self.inside.records c.self.inside.place c.self.inside.keep) (Step c.args.event.now)
-    ≡ (machine_of c.self.inside.ids c.apply.new.world (pushed c.in_ok-answer.left c.self.inside.records) (c.self.inside.place + 1) c.self.inside.keep, Answered c.in_ok-answer.answer) =
-    step_done c.self.inside.ids c.args.event.now c.self.inside.world c.apply.new.world c.in_ok-answer.left c.self.inside.records c.self.inside.place c.self.inside.keep c.in_ok-answer.answer c.self.invariant a c.if-self-ge-LAST_PLACE.false c.in_ok-answer.ensures.done in
-    ap (λ (m : Machine). acted m (Step c.args.event.now)) (sym c.self.view_is) ∙ t
-    ∙ ap (λ (r : Buffer Undo). (machine_of c.self.inside.ids c.apply.new.world r (c.self.inside.place + 1) c.self.inside.keep, Answered c.in_ok-answer.answer)) (sym c.push_front.ensures.items)
+    let each : EachMayKeep c.in_ok-answer.left c.apply.new.world c.self.inside.pins.items c.keep_each.new.pins = subst (λ (ss : List Slot). EachMayKeep c.in_ok-answer.left c.apply.new.world ss c.keep_each.new.pins) c.deref_mut.ensures.value c.keep_each.ensures in
+    let items : take c.self.inside.pins.len (c.keep_each.new.pins ++ drop (length c.keep_each.new.pins) c.self.inside.pins.items) ≡ c.keep_each.new.pins
+    = take_at c.keep_each.new.pins (drop (length c.keep_each.new.pins) c.self.inside.pins.items) c.self.inside.pins.len (omega (arith, same_length _ _ _ _ each, c.self.inside.pins.ok.0)) in
+    subst (λ (ts : List Slot). MayAnswer c.args.self.now c.args.event.now (machine_of c.self.inside.ids c.apply.new.world c.push_front.new.self (c.self.inside.place + 1) c.self.inside.keep c.self.inside.next ts) c.in_ok-answer.answer) (sym items)
+    (subst (λ (r : Buffer Undo). MayAnswer c.args.self.now c.args.event.now (machine_of c.self.inside.ids c.apply.new.world r (c.self.inside.place + 1) c.self.inside.keep c.self.inside.next c.keep_each.new.pins) c.in_ok-answer.answer) (sym c.push_front.ensures.items)
+    (subst (λ (m : Machine). MayAnswer m c.args.event.now (machine_of c.self.inside.ids c.apply.new.world (pushed c.in_ok-answer.left c.self.inside.records) (c.self.inside.place + 1) c.self.inside.keep c.self.inside.next c.keep_each.new.pins) c.in_ok-answer.answer) c.self.view_is
+    (step_pinned c.self.inside.ids c.args.event.now c.self.inside.world c.apply.new.world c.in_ok-answer.left c.self.inside.records c.self.inside.place c.self.inside.keep c.self.inside.next c.self.inside.pins.items c.keep_each.new.pins c.in_ok-answer.answer c.self.invariant.0 c.self.invariant.1 a c.if-self-ge-LAST_PLACE.false c.in_ok-answer.ensures.done each)))
 
 pub returns-clause-spares : goal.returns-clause-spares
 returns-clause-spares c =
     subst (λ (m : Machine). (region : ℕ) → c.args.event.now ≡ Sweep region → SparesReached m.trail.current c.apply.new.world) c.self.view_is
-    (sweep_leaves c.self.inside.world c.apply.new.world c.args.event.now c.self.invariant.legal (c.in_ok-answer.ensures.answered, c.in_ok-answer.ensures.state))
+    (sweep_leaves c.self.inside.world c.apply.new.world c.args.event.now c.self.invariant.0.legal (c.in_ok-answer.ensures.answered, c.in_ok-answer.ensures.state))
 
 pub returns-clause-live : goal.returns-clause-live
-returns-clause-live c = finish_lives c.self.inside.world c.apply.new.world c.args.event.now c.self.invariant.legal (c.in_ok-answer.ensures.answered, c.in_ok-answer.ensures.state)
+returns-clause-live c = finish_lives c.self.inside.world c.apply.new.world c.args.event.now c.self.invariant.0.legal (c.in_ok-answer.ensures.answered, c.in_ok-answer.ensures.state)
 
 pub returns-clause-finds : goal.returns-clause-finds
 returns-clause-finds c =
     subst (λ (m : Machine). c.args.event.now ≡ Finish → FindsSnapshot m.trail.past c.apply.new.world) c.self.view_is
-    (finish_finds c.self.inside.world c.apply.new.world c.args.event.now c.self.inside.records c.self.inside.place c.self.inside.keep c.self.invariant (c.in_ok-answer.ensures.answered, c.in_ok-answer.ensures.state))
+    (finish_finds c.self.inside.world c.apply.new.world c.args.event.now c.self.inside.records c.self.inside.place c.self.inside.keep c.self.invariant.0 (c.in_ok-answer.ensures.answered, c.in_ok-answer.ensures.state))

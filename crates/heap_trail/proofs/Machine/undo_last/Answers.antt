@@ -1,20 +1,31 @@
-use Rattle.std.proofs.Common.{◌≡◌, ◌-◌, sym, ap, subst, ◌∙◌}
+use Rattle.std.proofs.Common.{◌≡◌, vec_capacity, ◌-◌, sym, ap, subst, ◌∙◌}
 use Rattle.circular_buffer.specs.Buffer.{Buffer}
 use Rattle.heap_step.specs.declared.Undo.{Undo}
 use Rattle.heap_trail.specs.Trail.{rewound}
 use Rattle.heap_trail.specs.Machine.{Machine}
-use Rattle.heap_trail.specs.Records.{IsKept, machine_of}
-use Rattle.heap_trail.proofs.Rewinding.{popped, was_step, kept_after_undo, undone_once}
+use Rattle.heap_trail.specs.Slots.{AreAllBelow}
+use Rattle.heap_trail.specs.Records.{IsWhole, machine_of}
+use Rattle.heap_trail.proofs.Rewinding.{popped, was_step, kept_after_undo}
+use Rattle.heap_trail.proofs.Unpinned.{undone_pinned}
 use Rattle.heap_trail.proofs.Machine.undo_last.Goals as goal
 
-pub returns : goal.returns
-returns c = ap (λ (r : Buffer Undo). machine_of c.self.inside.ids c.undo.new.world r (c.self.inside.place - 1) c.self.inside.keep) c.in-Some.ensures.items
-    ∙ subst (λ (m : Machine). machine_of c.self.inside.ids c.undo.new.world (popped c.self.inside.records) (c.self.inside.place - 1) c.self.inside.keep ≡ record m { trail = rewound 1 m.trail }) c.self.view_is
-    (undone_once c.self.inside.ids c.self.inside.world c.undo.new.world c.in-Some.left c.self.inside.records c.self.inside.place c.self.inside.keep c.self.invariant (sym c.in-Some.ensures.value) c.undo.ensures)
-
 pub undo-requires : goal.undo-requires
-undo-requires c = was_step c.self.inside.world c.self.inside.records.items c.in-Some.left c.self.invariant.recorded (sym c.in-Some.ensures.value)
+undo-requires c = was_step c.self.inside.world c.self.inside.records.items c.in-Some.left c.self.invariant.0.recorded (sym c.in-Some.ensures.value)
 
 pub invariant_of-self : goal.invariant_of-self
-invariant_of-self c = subst (λ (r : Buffer Undo). IsKept c.undo.new.world r (c.self.inside.place - 1) c.self.inside.keep) (sym c.in-Some.ensures.items)
-    (kept_after_undo c.self.inside.world c.undo.new.world c.in-Some.left c.self.inside.records c.self.inside.place c.self.inside.keep c.self.invariant (sym c.in-Some.ensures.value) c.undo.ensures)
+invariant_of-self c =
+    let i = c.self.inside in
+    let below = subst (λ (m : Machine). AreAllBelow m.trail.place m.pins) (sym c.self.view_is) c.requires.below in
+    subst (λ (r : Buffer Undo). IsWhole c.self.inside.ids c.undo.new.world r (i.place - 1) i.keep i.next i.pins.items (vec_capacity i.pins)) (sym c.in-Some.ensures.items) (
+      kept_after_undo i.world c.undo.new.world c.in-Some.left i.records i.place i.keep c.self.invariant.0 (sym c.in-Some.ensures.value) c.undo.ensures,
+      (undone_pinned i.ids i.world c.undo.new.world c.in-Some.left i.records i.place i.keep i.next i.pins.items c.self.invariant.0 c.self.invariant.1 (sym c.in-Some.ensures.value) c.undo.ensures below).0,
+      c.self.invariant.2,
+    )
+
+pub returns : goal.returns
+returns c =
+    let i = c.self.inside in
+    let below = subst (λ (m : Machine). AreAllBelow m.trail.place m.pins) (sym c.self.view_is) c.requires.below in
+    ap (λ (r : Buffer Undo). machine_of c.self.inside.ids c.undo.new.world r (i.place - 1) i.keep i.next i.pins.items) c.in-Some.ensures.items
+    ∙ subst (λ (m : Machine). machine_of c.self.inside.ids c.undo.new.world (popped i.records) (i.place - 1) i.keep i.next i.pins.items ≡ record m { trail = rewound 1 m.trail }) c.self.view_is
+    (undone_pinned i.ids i.world c.undo.new.world c.in-Some.left i.records i.place i.keep i.next i.pins.items c.self.invariant.0 c.self.invariant.1 (sym c.in-Some.ensures.value) c.undo.ensures below).1

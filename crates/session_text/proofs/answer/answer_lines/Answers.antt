@@ -8,7 +8,7 @@ loop-n-preserved g c =
     let i = c.loop-n.invariant in
     let e = c.in-Next.ensures.step in
     let same = c.line_end.ensures.same in
-    let says = Answers g.C.Commands.acts g.C.Commands.gives c.args.time in
+    let says = Answers g.C.Commands.acts c.args.time in
     let buffer = c.loop-n.buffer in
     let most = subst (λ l. length l ≤ 4097) same c.as_slice.ensures.most in
     let rest = c.pass.ensures ∙ ap (λ l. drop (c.in-Some.n + 1) l) same in
@@ -26,7 +26,7 @@ returns-in-Fault-clause-answered g c =
     let i = c.loop-n.invariant in
     let e = c.in-Fault.ensures.step in
     let same = c.line_end.ensures.same in
-    let begins = Begins g.C.Commands.acts g.C.Commands.gives c.args.time in
+    let begins = Begins g.C.Commands.acts c.args.time in
     let most = subst (λ l. length l ≤ 4097) same c.as_slice.ensures.most in
     let w = g.O.Outlet.seen c.loop-n.writer in (
       c.loop-n.buffer,

@@ -7,7 +7,7 @@ use Rattle.session_text.proofs.answer.answer_lines.Given as goal
 abbrev pub invariant-loop-n : goal.invariant-loop-n
 invariant-loop-n g l =
     (l.page ≡ [])
-    × (text : List ℕ) × IsTalk (Answers g.C.Commands.acts g.C.Commands.gives l.time) l.initial.buffer l.initial.commands l.buffer text l.commands
+    × (text : List ℕ) × IsTalk (Answers g.C.Commands.acts l.time) l.initial.buffer l.initial.commands l.buffer text l.commands
     × IsWritten text (g.O.Outlet.seen l.initial.writer) (g.O.Outlet.seen l.writer) true
 
 abbrev pub decreases-loop-n : goal.decreases-loop-n

@@ -5,5 +5,5 @@ use Rattle.session_text.proofs.dump.write_dump.Given as goal
 
 abbrev pub invariant-loop-number : goal.invariant-loop-number
 invariant-loop-number g l =
-    g.C.Commands.stands l.commands l.cursor × (l.total ≤ l.number * 16777216)
-    × (text : List ℕ) × IsAdded text l.initial.page (g.O.Outlet.seen l.initial.outlet) l.page (g.O.Outlet.seen l.outlet) true × Onward g.C.Commands.gives l.commands l.time l.number l.cursor l.total text
+    (l.total ≤ l.number * 16777216)
+    × (text : List ℕ) × IsAdded text l.initial.page (g.O.Outlet.seen l.initial.outlet) l.page (g.O.Outlet.seen l.outlet) true × Onward g.C.Commands.acts l.pin l.time l.initial.commands l.number l.commands l.total text

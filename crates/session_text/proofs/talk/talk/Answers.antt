@@ -11,7 +11,7 @@ use Rattle.session_text.proofs.talk.talk.Goals as goal
 pub loop-buffer-init : goal.loop-buffer-init
 loop-buffer-init g c = (
   c.requires.page,
-  open_none (Answers g.C.Commands.acts g.C.Commands.gives c.args.time) (g.I.Inlet.seen c.args.reader.now) c.args.buffer.now c.args.commands.now (g.O.Outlet.seen c.args.writer.now) c.requires.buffer,
+  open_none (Answers g.C.Commands.acts c.args.time) (g.I.Inlet.seen c.args.reader.now) c.args.buffer.now c.args.commands.now (g.O.Outlet.seen c.args.writer.now) c.requires.buffer,
   inl (c.requires.buffer, refl),
 )
 
@@ -19,8 +19,8 @@ pub returns-in-Quit : goal.returns-in-Quit
 returns-in-Quit g c =
     let e = c.in-Quit.ensures.answered in
     let i = c.loop-buffer.invariant in
-    let says = Answers g.C.Commands.acts g.C.Commands.gives c.args.time in
-    let begins = Begins g.C.Commands.acts g.C.Commands.gives c.args.time in
+    let says = Answers g.C.Commands.acts c.args.time in
+    let begins = Begins g.C.Commands.acts c.args.time in
     let w1 = g.O.Outlet.seen c.answer_lines.new.writer in
     let a = g.I.Inlet.seen c.loop-buffer.reader in
     let o = open_answered says _ _ _ _ _ _ _ _ c.answer_lines.new.buffer e.0 c.answer_lines.new.commands w1 i.1 e.1 e.3 in
@@ -30,16 +30,16 @@ pub returns-in-Fault : goal.returns-in-Fault
 returns-in-Fault g c =
     let e = c.in-Fault.ensures.answered in
     let i = c.loop-buffer.invariant in
-    let says = Answers g.C.Commands.acts g.C.Commands.gives c.args.time in
-    let begins = Begins g.C.Commands.acts g.C.Commands.gives c.args.time in
+    let says = Answers g.C.Commands.acts c.args.time in
+    let begins = Begins g.C.Commands.acts c.args.time in
     ends_failing says begins _ _ _ _ _ _ _ _ c.answer_lines.new.commands (g.O.Outlet.seen c.answer_lines.new.writer) i.1 i.2 (e.0, e.1, e.2, e.3, e.4, e.5, inl (e.6, i.1.no_fault))
 
 pub returns-then-as_slice-gt-LINE_LIMIT : goal.returns-then-as_slice-gt-LINE_LIMIT
 returns-then-as_slice-gt-LINE_LIMIT g c =
     let e = c.in-Next.ensures.answered in
     let i = c.loop-buffer.invariant in
-    let says = Answers g.C.Commands.acts g.C.Commands.gives c.args.time in
-    let begins = Begins g.C.Commands.acts g.C.Commands.gives c.args.time in
+    let says = Answers g.C.Commands.acts c.args.time in
+    let begins = Begins g.C.Commands.acts c.args.time in
     let w1 = g.O.Outlet.seen c.answer_lines.new.writer in
     let a = g.I.Inlet.seen c.loop-buffer.reader in
     let o = open_answered says _ _ _ _ _ _ _ _ c.answer_lines.new.buffer e.0 c.answer_lines.new.commands w1 i.1 e.1 e.3 in
@@ -54,8 +54,8 @@ pub returns-then-reads-eq-READ_LIMIT : goal.returns-then-reads-eq-READ_LIMIT
 returns-then-reads-eq-READ_LIMIT g c =
     let e = c.in-Next.ensures.answered in
     let i = c.loop-buffer.invariant in
-    let says = Answers g.C.Commands.acts g.C.Commands.gives c.args.time in
-    let begins = Begins g.C.Commands.acts g.C.Commands.gives c.args.time in
+    let says = Answers g.C.Commands.acts c.args.time in
+    let begins = Begins g.C.Commands.acts c.args.time in
     let w1 = g.O.Outlet.seen c.answer_lines.new.writer in
     let a = g.I.Inlet.seen c.loop-buffer.reader in
     let w = c.end_with-then-reads-eq-READ_LIMIT in
@@ -73,7 +73,7 @@ loop-buffer-preserved g c =
     let e = c.in-Next.ensures.answered in
     let i = c.loop-buffer.invariant in
     let r = c.in-Got.ensures in
-    let says = Answers g.C.Commands.acts g.C.Commands.gives c.args.time in
+    let says = Answers g.C.Commands.acts c.args.time in
     let w1 = g.O.Outlet.seen c.answer_lines.new.writer in
     let o = open_answered says _ _ _ _ _ _ _ _ c.answer_lines.new.buffer e.0 c.answer_lines.new.commands w1 i.1 e.1 e.3 in
     let less : c.loop-buffer.reads < 1000000 = omega (arith, o.most, c.if-reads-eq-READ_LIMIT.false) in
@@ -90,8 +90,8 @@ returns-then-is_empty g c =
     let e = c.in-Next.ensures.answered in
     let i = c.loop-buffer.invariant in
     let r = c.in-End.ensures in
-    let says = Answers g.C.Commands.acts g.C.Commands.gives c.args.time in
-    let begins = Begins g.C.Commands.acts g.C.Commands.gives c.args.time in
+    let says = Answers g.C.Commands.acts c.args.time in
+    let begins = Begins g.C.Commands.acts c.args.time in
     let w1 = g.O.Outlet.seen c.answer_lines.new.writer in
     let o = open_answered says _ _ _ _ _ _ _ _ c.answer_lines.new.buffer e.0 c.answer_lines.new.commands w1 i.1 e.1 e.3 in
     let none = is_empty_of c.as_slice-in-End.result.now c.read.new.self c.answer_lines.new.buffer c.as_slice-in-End.ensures.value r.0 c.if-is_empty.ensures in
@@ -102,8 +102,8 @@ returns-in-End g c =
     let e = c.in-Next.ensures.answered in
     let i = c.loop-buffer.invariant in
     let r = c.in-End.ensures in
-    let says = Answers g.C.Commands.acts g.C.Commands.gives c.args.time in
-    let begins = Begins g.C.Commands.acts g.C.Commands.gives c.args.time in
+    let says = Answers g.C.Commands.acts c.args.time in
+    let begins = Begins g.C.Commands.acts c.args.time in
     let w1 = g.O.Outlet.seen c.answer_lines.new.writer in
     let w = c.end_with-in-End in
     let o = open_answered says _ _ _ _ _ _ _ _ c.answer_lines.new.buffer e.0 c.answer_lines.new.commands w1 i.1 e.1 e.3 in
@@ -122,8 +122,8 @@ returns-in-Failed g c =
     let e = c.in-Next.ensures.answered in
     let i = c.loop-buffer.invariant in
     let r = c.in-Failed.ensures in
-    let says = Answers g.C.Commands.acts g.C.Commands.gives c.args.time in
-    let begins = Begins g.C.Commands.acts g.C.Commands.gives c.args.time in
+    let says = Answers g.C.Commands.acts c.args.time in
+    let begins = Begins g.C.Commands.acts c.args.time in
     let w1 = g.O.Outlet.seen c.answer_lines.new.writer in
     let w = c.end_with-in-Failed in
     let o = open_answered says _ _ _ _ _ _ _ _ c.answer_lines.new.buffer e.0 c.answer_lines.new.commands w1 i.1 e.1 e.3 in

@@ -1,0 +1,269 @@
+-- Walking back: registers, classes, and what is there and live.
+use Rattle.std.proofs.Common.{◌≡◌, ◌≢◌, ◌⊎◌, ℕ, zero, suc, ◌-◌, ◌<◌, Bool, true, false, ◌&&◌, List, [], ◌∷◌, length, set, get_or, map, fold, take, Option, Some, None, IsSome, refl, sym, ap, subst, ◌∙◌, arith, length-take, length-set}
+use mathlib.Core.Logic.{inl, inr}
+use Rattle.std.specs.Prelude.{◌==◌, slice_set, option_map, if◌then◌else◌}
+use Rattle.std.specs.Option.{option_map_or}
+use Rattle.std.proofs.lemmas.List.{get_or-set_same, get_or-set_other}
+use Rattle.std.proofs.lemmas.Bool.{eqb-true, eq-eqb, ne_eqb}
+use Rattle.heap_class.specs.declared.ObjRef.{ObjRef}
+use Rattle.heap_region.specs.Regions.{Object, UsedRegion, Region, Empty, InUse, used_at, object_at, cell_object, slot_object, ref_of, with_region, with_object, with_word, with_mark}
+use Rattle.heap_region.specs.Layout.{word_set}
+use Rattle.heap_region.specs.Pool.{RegionPool, unallocated, freed, released, restored, cell_freed}
+use Rattle.heap_region.proofs.Looked.{same_or_not, object_with_object, object_with_object_other}
+use Rattle.heap_region.proofs.Lookups.{used_there, used_elsewhere}
+use Rattle.heap_region.proofs.Shown.{object_of_used}
+use Rattle.heap_region.proofs.Found.{restored_elsewhere, released_elsewhere, freed_elsewhere}
+use Rattle.heap_mark.specs.Marking.{each_object, each_region, with_mark_of, unsnapped, unshaded, unmarked, undrained, unfinished, unfinished_region}
+use Rattle.heap_mark.proofs.Each.{used_each}
+use Rattle.heap_sweep.specs.Sweep.{unswept, unswept_region}
+use Rattle.heap_world.specs.State.{HeapState, pool_of}
+use Rattle.heap_step.specs.declared.Undo.{Undo}
+use Rattle.heap_step.specs.declared.Undo.TheVariants.{Put, Store, Reg, New, Class, Snap, Mark, Drain, Finish, Sweep, Reclaim}
+use Rattle.heap_step.specs.Records.{undone}
+use Rattle.heap_step.specs.declared.Event.{Event}
+use Rattle.heap_step.specs.Laws.{IsStep, IsTakenBack}
+use Rattle.heap_region.specs.Frozen.{Frozen, frozen, region_frozen}
+use Rattle.heap_pins.specs.Shows.{AreFit, FitIn}
+use Rattle.heap_pins.proofs.Fitting.{sweep_used, sweep_fit, reclaim_within}
+use Rattle.heap_pins.specs.Walk.{cell_state, same_place, dead_state, states_before, registers_before, classes_before, TellsBefore}
+use Rattle.heap_pins.proofs.Others.{keeps_others}
+use Rattle.heap_pins.proofs.Walked.{walked_covers}
+
+-- ---- registers and classes
+
+pub registers_are : (left : Undo) (x : HeapState) → (undone left x).registers ≡ registers_before left x.registers
+unfolding undone registers_before
+registers_are (Put at slot old) x = refl
+registers_are (Store at slot old logged) x = refl
+registers_are (Reg m k old) x = refl
+registers_are (New at fresh m k old) x = refl
+registers_are Class x = refl
+registers_are Snap x = refl
+registers_are (Mark parent pushed) x = refl
+registers_are (Drain pushed) x = refl
+registers_are (Finish log) x = refl
+registers_are (Sweep region dead) x = refl
+registers_are (Reclaim region storage) x = refl
+
+pub classes_are : (left : Undo) (x : HeapState) → length (undone left x).classes ≡ classes_before left (length x.classes)
+unfolding undone classes_before
+classes_are (Put at slot old) x = refl
+classes_are (Store at slot old logged) x = refl
+classes_are (Reg m k old) x = refl
+classes_are (New at fresh m k old) x = refl
+classes_are Class x = omega (arith, length-take (length x.classes - 1) x.classes)
+classes_are Snap x = refl
+classes_are (Mark parent pushed) x = refl
+classes_are (Drain pushed) x = refl
+classes_are (Finish log) x = refl
+classes_are (Sweep region dead) x = refl
+classes_are (Reclaim region storage) x = refl
+
+-- ---- what is there
+
+abbrev states_of : List Region → ObjRef → ℕ
+states_of regions b = cell_state (object_at regions b)
+
+-- a change of an object that keeps `live`
+kept_state : (f : Object → Object) → ((o : Object) → (f o).live ≡ o.live) → (x : Option Object) → cell_state (option_map f x) ≡ cell_state x
+kept_state f keeps None = refl
+kept_state f keeps (Some o) = ap (λ b. if b then 1 else 2) (keeps o)
+
+ref_or_not : (a b : ObjRef) → (b ≡ a) ⊎ (b ≢ a)
+ref_or_not a b = go (same_or_not b.region a.region) (same_or_not b.cell a.cell)
+  where
+    go : (b.region ≡ a.region) ⊎ (b.region ≢ a.region) → (b.cell ≡ a.cell) ⊎ (b.cell ≢ a.cell) → (b ≡ a) ⊎ (b ≢ a)
+    go (inl e) (inl d) = inl (λ i. record { region = e i; cell = d i })
+    go (inl e) (inr d) = inr (λ z. d (ap (λ (r : ObjRef). r.cell) z))
+    go (inr e) d = inr (λ z. e (ap (λ (r : ObjRef). r.region) z))
+
+changed_state : (f : Object → Object) → ((o : Object) → (f o).live ≡ o.live) → (at : ObjRef) (regions : List Region) (b : ObjRef) → states_of (with_object at f regions) b ≡ states_of regions b
+changed_state f keeps at regions b = go (ref_or_not at b)
+  where
+    go : (b ≡ at) ⊎ (b ≢ at) → states_of (with_object at f regions) b ≡ states_of regions b
+    go (inl e) = ap (states_of (with_object at f regions)) e ∙ ap cell_state (object_with_object f regions at) ∙ kept_state f keeps (object_at regions at) ∙ ap (states_of regions) (sym e)
+    go (inr ne) = ap cell_state (object_with_object_other f regions at b ne)
+
+word_state : (at : ObjRef) (slot old : ℕ) (regions : List Region) (b : ObjRef) → states_of (with_word at slot old regions) b ≡ states_of regions b
+unfolding with_word
+word_state at slot old = changed_state (word_set slot old) (λ o. refl) at
+
+mark_state : (m : Bool) (x : ℕ) (regions : List Region) (b : ObjRef) → states_of (with_mark_of m x regions) b ≡ states_of regions b
+unfolding with_mark_of with_mark
+mark_state m x regions b = go (ref_of regions x)
+  where
+    go : (p : Option ObjRef) → states_of (option_map_or (λ at. with_mark m at regions) p regions) b ≡ states_of regions b
+    go None = refl
+    go (Some at) = changed_state (λ o. record o { mark = m }) (λ o. refl) at regions b
+
+marks_state : (xs : List ℕ) (regions : List Region) (b : ObjRef) → states_of (fold (λ regions x. with_mark_of false x regions) regions xs) b ≡ states_of regions b
+marks_state [] regions b = refl
+marks_state (x ∷ xs) regions b = marks_state xs (with_mark_of false x regions) b ∙ mark_state false x regions b
+
+-- each object of each region is changed
+each_found : (f : Object → Object) (cells : List (Option Object)) (c : ℕ) → get_or (map (option_map f) cells) c None ≡ option_map f (get_or cells c None)
+each_found f [] c = refl
+each_found f (x ∷ cells) zero = refl
+each_found f (x ∷ cells) (suc c) = each_found f cells c
+
+each_slot : (f : Object → Object) (g : UsedRegion → UsedRegion) → ((u : UsedRegion) → (g u).cells ≡ map (option_map f) u.cells) → (s : Option UsedRegion) (c : ℕ) → slot_object (option_map g s) c ≡ option_map f (slot_object s c)
+each_slot f g cells None c = refl
+each_slot f g cells (Some u) c = ap (λ l. get_or l c None) (cells u) ∙ each_found f u.cells c
+
+each_at : (f : Object → Object) (g : UsedRegion → UsedRegion) → ((u : UsedRegion) → (g u).cells ≡ map (option_map f) u.cells) → (regions : List Region) (b : ObjRef) → object_at (each_region g regions) b ≡ option_map f (object_at regions b)
+each_at f g cells regions b =
+    object_of_used (each_region g regions) b ∙ ap (λ s. slot_object s b.cell) (used_each g regions b.region) ∙ each_slot f g cells (used_at regions b.region) b.cell
+    ∙ ap (option_map f) (sym (object_of_used regions b))
+
+snap_state : (regions : List Region) (b : ObjRef) → states_of (each_region (each_object (λ o. record o { mark = false })) regions) b ≡ states_of regions b
+unfolding each_object
+snap_state regions b = ap cell_state (each_at (λ o. record o { mark = false }) (each_object (λ o. record o { mark = false })) (λ u. refl) regions b) ∙ kept_state (λ o. record o { mark = false }) (λ o. refl) (object_at regions b)
+
+settled_state : (x : Option Object) → cell_state (option_map {T = Object} (λ o. record o { live = true; mark = o.live }) x) ≡ (if cell_state x == 0 then 0 else 1)
+settled_state None = refl
+settled_state (Some o) = go o.live
+  where
+    go : (b : Bool) → ◌≡◌ {A = ℕ} 1 (if (if b then 1 else 2) == 0 then 0 else 1)
+    go true = refl
+    go false = refl
+
+finish_state : (regions : List Region) (b : ObjRef) → states_of (each_region unfinished_region regions) b ≡ (if states_of regions b == 0 then 0 else 1)
+unfolding unfinished_region each_object
+finish_state regions b = ap cell_state (each_at (λ o. record o { live = true; mark = o.live }) unfinished_region (λ u. refl) regions b) ∙ settled_state (object_at regions b)
+
+-- ---- a region that is changed
+
+-- a test of numbers
+when_same : (a b : ℕ) (x y z : ℕ) → (a ≡ b → z ≡ x) → (a ≢ b → z ≡ y) → z ≡ (if a == b then x else y)
+when_same a b x y z same other = elim (same_or_not a b) [
+  | inl e ↦ same e ∙ ap (λ t. if t then x else y) (sym (eq-eqb a b e))
+  | inr ne ↦ other ne ∙ ap (λ t. if t then x else y) (sym (ne_eqb a b ne))
+]
+
+none_in : (regions : List Region) (b : ObjRef) → used_at regions b.region ≡ None → states_of regions b ≡ 0
+none_in regions b e = ap cell_state (object_of_used regions b ∙ ap (λ s. slot_object s b.cell) e)
+
+used_alike : (regions others : List Region) (b : ObjRef) → used_at regions b.region ≡ used_at others b.region → states_of regions b ≡ states_of others b
+used_alike regions others b e = ap cell_state (object_of_used regions b ∙ ap (λ s. slot_object s b.cell) e ∙ sym (object_of_used others b))
+
+emptied : (r : ℕ) (regions : List Region) → used_at (set regions r Empty) r ≡ None
+unfolding used_at
+emptied r [] = refl
+emptied zero (x ∷ regions) = refl
+emptied (suc r) (x ∷ regions) = emptied r regions
+
+release_state : (at : ObjRef) (s : RegionPool) (b : ObjRef) → states_of (released at.region s).regions b ≡ (if b.region == at.region then 0 else states_of s.regions b)
+unfolding released
+release_state at s b = when_same b.region at.region 0 (states_of s.regions b) (states_of (set s.regions at.region Empty) b)
+    (λ e. none_in (set s.regions at.region Empty) b (ap (used_at (set s.regions at.region Empty)) e ∙ emptied at.region s.regions))
+    (λ ne. used_alike (set s.regions at.region Empty) s.regions b (released_elsewhere at.region b.region s (λ e. ne (sym e))))
+
+-- ---- a test of places
+
+at_place : (a b : ObjRef) → a ≡ b → same_place a b ≡ true
+at_place a b e = rw (eq-eqb a.region b.region (ap (λ (r : ObjRef). r.region) e), eq-eqb a.cell b.cell (ap (λ (r : ObjRef). r.cell) e)) refl
+
+off_place : (a b : ObjRef) → a ≢ b → same_place a b ≡ false
+off_place a b ne = go (a.region == b.region) (a.cell == b.cell) refl refl
+  where
+    go : (x y : Bool) → (a.region == b.region) ≡ x → (a.cell == b.cell) ≡ y → (x && y) ≡ false
+    go true true d e = absurd (ne (λ i. record { region = eqb-true a.region b.region d i; cell = eqb-true a.cell b.cell e i }))
+    go true false d e = refl
+    go false y d e = refl
+
+-- ---- a cell that is given up
+
+vacated : (cells : List (Option Object)) (c : ℕ) → get_or (set cells c None) c None ≡ None
+vacated [] c = refl
+vacated (x ∷ cells) zero = refl
+vacated (x ∷ cells) (suc c) = vacated cells c
+
+freed_slot : (cell : ℕ) (s : Option UsedRegion) → slot_object (option_map (λ u. cell_freed u cell) s) cell ≡ None
+freed_slot cell None = refl
+freed_slot cell (Some u) = vacated u.cells cell
+
+free_state : (at : ObjRef) (s : RegionPool) (b : ObjRef) → states_of (freed at s).regions b ≡ (if same_place b at then 0 else states_of s.regions b)
+unfolding freed
+free_state at s b = go (ref_or_not at b)
+  where
+    gone : object_at (freed at s).regions at ≡ None
+    gone = object_of_used _ at ∙ ap (λ x. slot_object x at.cell) (used_there at.region (λ u. cell_freed u at.cell) s.regions) ∙ freed_slot at.cell (used_at s.regions at.region)
+
+    go : (b ≡ at) ⊎ (b ≢ at) → states_of (freed at s).regions b ≡ (if same_place b at then 0 else states_of s.regions b)
+    go (inl e) = ap (states_of (freed at s).regions) e ∙ ap cell_state gone ∙ ap (λ t. if t then 0 else states_of s.regions b) (sym (at_place b at e))
+    go (inr ne) = ap cell_state (freed_elsewhere at b s (λ e. ne (sym e))) ∙ ap (λ t. if t then 0 else states_of s.regions b) (sym (off_place b at ne))
+
+unalloc_state : (left : Undo) (at : ObjRef) (fresh : Bool) (m k old : ℕ) (x : HeapState) (b : ObjRef) → states_of (unallocated at fresh (pool_of x)).regions b ≡ states_before (New at fresh m k old) (states_of x.regions) b
+unfolding unallocated states_before
+unalloc_state left at true m k old x b = release_state at (pool_of x) b
+unalloc_state left at false m k old x b = free_state at (pool_of x) b
+
+-- ---- what a sweep gives back
+
+cell_set : (cells : List (Option Object)) (i c : ℕ) (o : Object) → i < length cells → cell_state (get_or (set cells i (Some o)) c None) ≡ (if i == c then cell_state (Some o) else cell_state (get_or cells c None))
+cell_set cells i c o lt = when_same i c (cell_state (Some o)) (cell_state (get_or cells c None)) (cell_state (get_or (set cells i (Some o)) c None))
+    (λ e. ap cell_state (ap (λ j. get_or (set cells i (Some o)) j None) (sym e) ∙ get_or-set_same cells i (Some o) None lt))
+    (λ ne. ap cell_state (get_or-set_other cells i c (Some o) None (λ e. ne (sym e))))
+
+dead_states : (dead : List (ℕ × Object)) (size : ℕ) (cells : List (Option Object)) (c : ℕ) → AreFit size (length cells) dead → cell_state (get_or (fold (λ cells d. slice_set cells d.0 (Some d.1)) cells dead) c None) ≡ dead_state dead c (cell_state (get_or cells c None))
+unfolding dead_state
+dead_states [] size cells c fit = refl
+dead_states (d ∷ dead) size cells c fit =
+    dead_states dead size (set cells d.0 (Some d.1)) c (subst (λ n. AreFit size n dead) (sym (length-set cells d.0 (Some d.1))) fit.2)
+    ∙ ap (dead_state dead c) (cell_set cells d.0 c d.1 fit.0)
+
+sweep_slot : (dead : List (ℕ × Object)) (s : Option UsedRegion) (c : ℕ) → IsSome s → ((f : Frozen) → option_map frozen s ≡ Some f → AreFit f.cell_size (length f.cells) dead)
+    → cell_state (slot_object (option_map (unswept_region dead) s) c) ≡ dead_state dead c (cell_state (slot_object s c))
+unfolding unswept_region
+sweep_slot dead None c some fit = absurd (cc)
+sweep_slot dead (Some u) c some fit = dead_states dead u.cell_size u.cells c (fit (frozen u) refl)
+
+sweep_state : (region : ℕ) (dead : List (ℕ × Object)) (s : RegionPool) (b : ObjRef) → IsSome (used_at s.regions region) → FitIn (region_frozen s.regions region) dead
+    → states_of (unswept region dead s).regions b ≡ (if b.region == region then dead_state dead b.cell (states_of s.regions b) else states_of s.regions b)
+unfolding unswept region_frozen
+sweep_state region dead s b some fit = when_same b.region region (dead_state dead b.cell (states_of s.regions b)) (states_of s.regions b) (states_of (with_region region (unswept_region dead) s.regions) b)
+    (λ e. ap cell_state (object_of_used (with_region region (unswept_region dead) s.regions) b ∙ ap (λ x. slot_object x b.cell) (ap (used_at (with_region region (unswept_region dead) s.regions)) e ∙ used_there region (unswept_region dead) s.regions))
+    ∙ sweep_slot dead (used_at s.regions region) b.cell some fit
+    ∙ ap (λ x. dead_state dead b.cell (cell_state x)) (ap (λ r. slot_object (used_at s.regions r) b.cell) (sym e) ∙ sym (object_of_used s.regions b)))
+    (λ ne. used_alike (with_region region (unswept_region dead) s.regions) s.regions b (used_elsewhere region b.region (unswept_region dead) s.regions (λ e. ne (sym e))))
+
+put_there : (r : ℕ) (u : UsedRegion) (regions : List Region) → r < length regions → used_at (set regions r (InUse u)) r ≡ Some u
+unfolding used_at
+put_there r u [] lt = absurd (omega (arith, lt))
+put_there zero u (x ∷ regions) lt = refl
+put_there (suc r) u (x ∷ regions) lt = put_there r u regions (omega (arith, lt))
+
+reclaim_state : (region : ℕ) (storage : UsedRegion) (s : RegionPool) (b : ObjRef) → region < length s.regions → states_of (restored region storage s).regions b ≡ (if b.region == region then cell_state (cell_object storage b.cell) else states_of s.regions b)
+unfolding restored
+reclaim_state region storage s b lt = when_same b.region region (cell_state (cell_object storage b.cell)) (states_of s.regions b) (states_of (set s.regions region (InUse storage)) b)
+    (λ e. ap cell_state (object_of_used (set s.regions region (InUse storage)) b ∙ ap (λ x. slot_object x b.cell) (ap (used_at (set s.regions region (InUse storage))) e ∙ put_there region storage s.regions lt)))
+    (λ ne. used_alike (set s.regions region (InUse storage)) s.regions b (restored_elsewhere region b.region storage s (λ e. ne (sym e))))
+
+-- ---- each record of a step
+
+states_undone : (e : Event) (before x : HeapState) (left : Undo) → IsStep e before x left → (b : ObjRef) → states_of (undone left x).regions b ≡ states_before left (states_of x.regions) b
+unfolding undone unsnapped unmarked undrained unshaded unfinished states_before
+states_undone e before x (Put at slot old) s b = word_state at slot old x.regions b
+states_undone e before x (Store at slot old logged) s b = word_state at slot old x.regions b
+states_undone e before x (Reg m k old) s b = refl
+states_undone e before x (New at fresh m k old) s b = unalloc_state (New at fresh m k old) at fresh m k old x b
+states_undone e before x Class s b = refl
+states_undone e before x Snap s b = snap_state x.regions b
+states_undone e before x (Mark parent pushed) s b = marks_state (take pushed x.gray) x.regions b
+states_undone e before x (Drain pushed) s b = marks_state (take pushed x.gray) x.regions b
+states_undone e before x (Finish log) s b = finish_state x.regions b
+states_undone e before x (Sweep region dead) s b = sweep_state region dead (pool_of x) b (sweep_used e before x (Sweep region dead) s region dead refl) (sweep_fit e before x (Sweep region dead) s region dead refl)
+states_undone e before x (Reclaim region storage) s b = reclaim_state region storage (pool_of x) b (reclaim_within e before x (Reclaim region storage) s region storage refl)
+
+-- ---- all that a record tells
+
+pub tells_before : (e : Event) (before x : HeapState) (left : Undo) → IsTakenBack e before → IsStep e before x left → TellsBefore left before x
+tells_before e before x left law s =
+    let back : undone left x ≡ before = (λ i. undone (s.recorded i) (s.gave i)) ∙ law s.legal s.accepted in
+    subst (λ (w : HeapState). TellsBefore left w x) back (record {
+      registers = registers_are left x;
+      classes = classes_are left x;
+      states = states_undone e before x left s;
+      others = keeps_others left x;
+      touched_region = λ r g. walked_covers left x r g;
+    })

@@ -1,0 +1,158 @@
+-- What a step's record and the pin have for the walk back.
+use Rattle.std.proofs.Common.{◌≡◌, ℕ, zero, suc, ◌<◌, ◌≤◌, Bool, true, false, not, ◌&&◌, ◌||◌, List, [], ◌∷◌, length, All, Option, Some, None, IsSome, IfSome, refl, sym, subst, ◌∙◌, arith}
+use Rattle.std.specs.Prelude.{nat_lt, slice_index_or, option_map, unwrap_or, if◌then◌else◌}
+use Rattle.std.specs.Option.{option_map_or}
+use Rattle.std.specs.List.{list_any}
+use Rattle.std.proofs.lemmas.Bool.{ltb-true}
+use Rattle.std.proofs.lemmas.Option.{slice_get_within}
+use Rattle.heap_class.specs.declared.ObjRef.{ObjRef}
+use Rattle.heap_region.specs.Regions.{Object, UsedRegion, Region, used_at, object_at, cell_object, slot_object}
+use Rattle.heap_region.specs.Layout.{words_of}
+use Rattle.heap_region.specs.Live.{is_live}
+use Rattle.heap_region.specs.Pool.{fresh_region, new_place}
+use Rattle.heap_region.specs.Frozen.{Frozen, frozen, frozen_words, region_frozen}
+use Rattle.heap_region.proofs.Shown.{object_of_used}
+use Rattle.heap_class.specs.Classes.{slots_of}
+use Rattle.heap_sweep.specs.Sweep.{has_live, is_emptied, dead_at}
+use Rattle.heap_world.specs.State.{HeapState, pool_of, is_register, register, register_index}
+use Rattle.heap_world.specs.Legal.{IsLegal}
+use Rattle.heap_step.specs.declared.Event.{Event}
+use Rattle.heap_step.specs.declared.Undo.{Undo}
+use Rattle.heap_step.specs.declared.Undo.TheVariants.{Sweep, Reclaim, New, Reg}
+use Rattle.heap_step.specs.Laws.{IsStep}
+use Rattle.heap_step.specs.Records.{undo_record, reg_record, new_record, sweep_record}
+use Rattle.heap_pins.specs.Covers.{HasAll, Covers}
+use Rattle.heap_pins.specs.Pin.{Pinned, region_seen}
+use Rattle.heap_pins.specs.Shows.{Shows, AreFit, FitIn}
+use Rattle.heap_pins.specs.States.{AreStates, HasNoLive, HasRegion}
+use Rattle.heap_pins.specs.Walked.{SeesSlot, SeesRoom}
+use Rattle.heap_pins.proofs.Counted.{few_cells, stands_in}
+
+-- ---- a slot
+
+slot_there : (f g : Frozen) (cell slot : ℕ) (y : Option Object) → HasAll f g → slice_index_or f.cells cell None ≡ y → IsSome y → IfSome y (λ o. slot < length o.words) → slot < length (frozen_words g cell)
+slot_there f g cell slot None h e some within = absurd (cc)
+slot_there f g cell slot (Some o) h e some within =
+    let p = h.objects cell o e in
+    subst (λ z. slot < length (words_of z)) (sym p.1) (subst (λ ws. slot < length ws) (sym p.3) within)
+
+pub sees_slot : (p : Pinned) (x w : HeapState) (at : ObjRef) (slot : ℕ) → Shows p x w → IsSome (object_at x.regions at) → IfSome (object_at x.regions at) (λ o. slot < length o.words) → SeesSlot p w.regions at slot
+unfolding region_frozen
+sees_slot p x w at slot shows some within = go (used_at x.regions at.region) (shows.objects at.region) (subst IsSome (object_of_used x.regions at) some) (subst (λ y. IfSome y (λ o. slot < length o.words)) (object_of_used x.regions at) within)
+  where
+    go : (s : Option UsedRegion) → Covers (option_map frozen s) (region_seen p w.regions at.region) → IsSome (slot_object s at.cell) → IfSome (slot_object s at.cell) (λ o. slot < length o.words) → SeesSlot p w.regions at slot
+    go None c some within = absurd (cc)
+    go (Some u) c some within = let g = c (frozen u) refl in (g.0, g.1, slot_there (frozen u) g.0 at.cell slot (cell_object u at.cell) g.2 refl some within)
+
+-- ---- dead objects
+
+pub sees_room : (p : Pinned) (x w : HeapState) (region : ℕ) (dead : List (ℕ × Object)) → Shows p x w → IsSome (used_at x.regions region) → FitIn (region_frozen x.regions region) dead → SeesRoom p w.regions region dead
+unfolding region_frozen
+sees_room p x w region dead shows some fit = go (used_at x.regions region) (shows.objects region) some fit
+  where
+    go : (s : Option UsedRegion) → Covers (option_map frozen s) (region_seen p w.regions region) → IsSome s → FitIn (option_map frozen s) dead → SeesRoom p w.regions region dead
+    go None c some fit = absurd (cc)
+    go (Some u) c some fit =
+        let g = c (frozen u) refl in
+        (g.0, g.1, subst (λ size. AreFit size (length g.0.cells) dead) (sym g.2.size) (subst (λ count. AreFit u.cell_size count dead) (sym g.2.count) (fit (frozen u) refl)))
+
+fit_within : (size count : ℕ) (dead : List (ℕ × Object)) → count ≤ 256 → AreFit size count dead → All (λ d. d.0 < 256) dead
+fit_within size count [] few fit k e lt = absurd (omega (arith, lt))
+fit_within size count (d ∷ dead) few fit zero e lt = omega (arith, few, fit.0)
+fit_within size count (d ∷ dead) few fit (suc k) e lt = fit_within size count dead few fit.2 k e (omega (arith, lt))
+
+pub dead_within : (x : HeapState) (region : ℕ) (dead : List (ℕ × Object)) → IsLegal x → IsSome (used_at x.regions region) → FitIn (region_frozen x.regions region) dead → All (λ d. d.0 < 256) dead
+unfolding region_frozen
+dead_within x region dead legal some fit = go (used_at x.regions region) refl some fit
+  where
+    go : (s : Option UsedRegion) → used_at x.regions region ≡ s → IsSome s → FitIn (option_map frozen s) dead → All (λ d. d.0 < 256) dead
+    go None e some fit = absurd (cc)
+    go (Some u) e some fit = fit_within u.cell_size (length u.cells) dead (few_cells u (legal.regions.tables region u e)) (fit (frozen u) refl)
+
+-- ---- bytes and registers
+
+pub region_bytes : (bytes : List ℕ) (regions : List Region) (r : ℕ) → AreStates bytes regions → r < length regions → HasRegion bytes r
+region_bytes bytes regions r s lt = omega (arith, s.count, lt)
+
+pub cell_within : (x : HeapState) (at : ObjRef) → IsLegal x → IsSome (object_at x.regions at) → at.cell < 256
+cell_within x at legal some = go (object_at x.regions at) refl some
+  where
+    go : (y : Option Object) → object_at x.regions at ≡ y → IsSome y → at.cell < 256
+    go None e some = absurd (cc)
+    go (Some o) e some =
+        let s = stands_in x.regions at o e in
+        let there : at.cell < length s.0.cells = slice_get_within s.0.cells at.cell (Some o) s.2 in
+        let few : length s.0.cells ≤ 256 = few_cells s.0 (legal.regions.tables at.region s.0 s.1) in
+        omega (arith, there, few)
+
+pub register_within : (x : HeapState) (m r : ℕ) → is_register x m r ≡ true → register_index m r < length x.registers
+register_within x m r h = ltb-true (register_index m r) (length x.registers) (go (nat_lt r 8) (nat_lt (register_index m r) (length x.registers)) h)
+  where
+    go : (a b : Bool) → (a && b) ≡ true → b ≡ true
+    go true b h = h
+    go false b h = cc
+
+-- ---- a region that was moved out
+
+or_false : (a b : Bool) → (a || b) ≡ false → (a ≡ false) × (b ≡ false)
+or_false true b e = cc
+or_false false b e = (refl, e)
+
+live_is : (o : Option Object) → option_map_or (λ (o : Object). o.live) o false ≡ is_live o
+live_is None = refl
+live_is (Some o) = refl
+
+none_live : (cells : List (Option Object)) → list_any (λ c. option_map_or (λ o. o.live) c false) cells ≡ false → (cell : ℕ) → is_live (slice_index_or cells cell None) ≡ false
+none_live [] e cell = refl
+none_live (o ∷ cells) e zero = sym (live_is o) ∙ (or_false (option_map_or (λ o. o.live) o false) _ e).0
+none_live (o ∷ cells) e (suc cell) = none_live cells (or_false (option_map_or (λ o. o.live) o false) _ e).1 cell
+
+-- no object of a region that a record has is live
+abbrev IsLifeless : Undo → Type 0
+IsLifeless (Reclaim region storage) = HasNoLive storage
+IsLifeless left = Unit {0}
+
+swept_lifeless : (region : ℕ) (w : HeapState) → IsLifeless (sweep_record region w)
+unfolding sweep_record is_emptied has_live
+swept_lifeless region w = go (used_at w.regions region) (option_map_or (λ u. not (has_live u)) (used_at w.regions region) false) refl
+  where
+    lifeless : (b : Bool) → not b ≡ true → b ≡ false
+    lifeless true e = cc
+    lifeless false e = refl
+
+    go : (s : Option UsedRegion) (b : Bool) → option_map_or (λ u. not (has_live u)) s false ≡ b → IsLifeless (if b then Reclaim region (unwrap_or s (fresh_region 4)) else Sweep region (dead_at region (pool_of w)))
+    go None true e = absurd (clash e)
+      where
+        clash : false ≡ true → ⊥
+        clash e = cc
+    go (Some u) true e = none_live u.cells (lifeless (has_live u) e)
+    go s false e = tt
+
+new_lifeless : (m r n : ℕ) (w : HeapState) → IsLifeless (new_record m r n w)
+unfolding new_record reg_record
+new_lifeless m r n w = go (new_place n (pool_of w))
+  where
+    go : (s : Option (ObjRef × Bool)) → IsLifeless (option_map_or (λ p. New p.0 p.1 m r (register w m r)) s (Reg m r (register w m r)))
+    go None = tt
+    go (Some p) = tt
+
+record_lifeless : (e : Event) (w : HeapState) → IsLifeless (undo_record e w)
+unfolding undo_record reg_record
+record_lifeless (Event.Class name sup fields) w = tt
+record_lifeless (Event.ArrayClass name) w = tt
+record_lifeless (Event.New m r class) w = new_lifeless m r (length (slots_of w.classes class)) w
+record_lifeless (Event.NewArray m r class len) w = new_lifeless m r len w
+record_lifeless (Event.NewPrim m r kind len) w = new_lifeless m r len w
+record_lifeless (Event.Load m to from slot) w = tt
+record_lifeless (Event.Store m target slot source) w = tt
+record_lifeless (Event.Put m target slot value) w = tt
+record_lifeless (Event.Move m to from_m from) w = tt
+record_lifeless (Event.Clear m r) w = tt
+record_lifeless Event.Snap w = tt
+record_lifeless Event.Mark w = tt
+record_lifeless Event.Drain w = tt
+record_lifeless Event.Finish w = tt
+record_lifeless (Event.Sweep region) w = swept_lifeless region w
+
+pub reclaim_lifeless : (e : Event) (before after : HeapState) (left : Undo) → IsStep e before after left → (region : ℕ) (storage : UsedRegion) → left ≡ Reclaim region storage → HasNoLive storage
+reclaim_lifeless e before after left s region storage is = subst IsLifeless (sym s.recorded ∙ is) (record_lifeless e before)

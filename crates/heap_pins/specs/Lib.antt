@@ -1,0 +1,10 @@
+pub mod Covers
+pub mod Images
+pub mod Pin
+pub mod Kept
+pub mod Laws
+pub mod Shows
+pub mod Walk
+pub mod States
+pub mod Walked
+pub mod View

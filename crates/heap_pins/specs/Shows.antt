@@ -1,0 +1,64 @@
+-- When a pin shows a state.
+use Rattle.std.specs.Prelude.{◌≡◌, ◌⊎◌, ℕ, zero, suc, ◌*◌, ◌<◌, length, take, List, [], ◌∷◌, Option, Some, None, IsSome, slice_index_or}
+use Rattle.heap_class.specs.declared.ObjRef.{ObjRef}
+use Rattle.heap_region.specs.Regions.{Object, Region, FitsWords, live_places}
+use Rattle.heap_region.specs.Frozen.{Frozen, frozen_object, region_frozen}
+use Rattle.heap_world.specs.State.{HeapState}
+use Rattle.heap_world.specs.Legal.{IsLegal}
+use Rattle.heap_step.specs.declared.Undo.{Undo}
+use Rattle.heap_step.specs.Records.{undone}
+use Rattle.heap_pins.specs.Covers.{Covers}
+use Rattle.heap_pins.specs.Kept.{touched}
+use Rattle.heap_pins.specs.Pin.{Pinned, places_from, region_seen}
+
+-- the pin keeps the registers, the number of classes and the live places of the legal state u
+pub record IsPinOf (p : Pinned) (u : HeapState) : Type 0 where
+  pub legal : IsLegal u
+  pub classes : p.classes ≡ length u.classes
+  pub registers : p.registers ≡ u.registers
+  pub live : places_from 0 p.live ≡ live_places u.regions
+  pub bytes : length p.live ≡ 256 * length u.regions
+  pub copies : length p.copies ≡ length u.regions
+
+-- beside the state v, with as many regions, the pin finds the classes of u and all objects of u's regions
+pub record Shows (p : Pinned) (u v : HeapState) : Type 0 where
+  pub count : length v.regions ≡ length u.regions
+  pub classes : take (length u.classes) v.classes ≡ u.classes
+  pub objects : (r : ℕ) → Covers (region_frozen u.regions r) (region_seen p v.regions r)
+
+-- of the region r of the state w the pin may have a copy now, if it had none
+abbrev pub KeepsRegion : Pinned → Pinned → HeapState → ℕ → Type 0
+KeepsRegion p q w r = (slice_index_or q.copies r None ≡ slice_index_or p.copies r None) ⊎ ((slice_index_or p.copies r None ≡ None) × Covers (region_frozen w.regions r) (slice_index_or q.copies r None))
+
+-- before the step that left this record and the state v, p shows what q shows after it: q has a copy of the region that was touched
+pub record KeepsFor (left : Undo) (v : HeapState) (p q : Pinned) : Type 0 where
+  pub classes : q.classes ≡ p.classes
+  pub registers : q.registers ≡ p.registers
+  pub live : q.live ≡ p.live
+  pub as_many : length q.copies ≡ length p.copies
+  pub each : (r : ℕ) → KeepsRegion p q (undone left v) r
+  pub done : (r : ℕ) → touched left ≡ Some r → slice_index_or q.copies r None ≡ None → region_frozen (undone left v).regions r ≡ None
+
+-- each object is within the cells and fits into its cell
+abbrev pub AreFit : ℕ → ℕ → List (ℕ × Object) → Type 0
+AreFit size count [] = Unit {0}
+AreFit size count (d ∷ dead) = (d.0 < count) × FitsWords size (length d.1.words) × AreFit size count dead
+
+abbrev pub FitIn : Option Frozen → List (ℕ × Object) → Type 0
+FitIn x dead = (f : Frozen) → x ≡ Some f → AreFit f.cell_size (length f.cells) dead
+
+-- P of the first n + 1 of these states
+abbrev pub OfFirst : (HeapState → Type 0) → ℕ → List HeapState → Type 0
+OfFirst P n [] = Unit {0}
+OfFirst P zero (x ∷ xs) = P x
+OfFirst P (suc n) (x ∷ xs) = P x × OfFirst P n xs
+
+-- The pin was taken n steps ago of the legal state u, and it shows u beside the current state and beside each state since that is
+-- retained; the current state is the first.
+pub record Holds (p : Pinned) (u : HeapState) (n : ℕ) (states : List HeapState) : Type 0 where
+  pub pin : IsPinOf p u
+  pub shows : OfFirst (Shows p u) n states
+
+-- the pin finds an object here
+abbrev pub IsSeen : Pinned → List Region → ObjRef → Type 0
+IsSeen p regions at = (at.region < length p.copies) × (f : Frozen) × (region_seen p regions at.region ≡ Some f) × IsSome (frozen_object f at.cell)

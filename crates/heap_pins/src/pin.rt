@@ -1,0 +1,256 @@
+//! A pin: what a dump needs of a state, kept beside the heap that goes on.
+ghost use Rattle.std.specs.Prelude.{◌≡◌, ◌<◌, ◌≤◌, length, replicate, None, Some, IsSome, IfSome, IfOk, IfErr, OnOk, OnErr, slice_get, drop};
+ghost use Rattle.heap_class.specs.declared.Refusal.TheVariants.{NoMemory};
+ghost use Rattle.heap_region.specs.Regions.{object_at, used_at};
+ghost use Rattle.heap_region.specs.Frozen.{frozen, region_frozen};
+ghost use Rattle.heap_world.specs.State.{HeapState};
+ghost use Rattle.heap_step.specs.declared.Event.{Event};
+ghost use Rattle.heap_step.specs.Laws.{IsStep};
+ghost use Rattle.heap_pins.specs.Pin.{IsPlaceAfter, object_seen, places_from};
+ghost use Rattle.heap_pins.specs.Kept.{kept, kept_copy, kept_dead, kept_word, touched, with_dead};
+ghost use Rattle.heap_pins.specs.Shows.{AreFit, FitIn, IsSeen};
+ghost use Rattle.heap_pins.specs.Walked.{IsOpened};
+
+use crate::cells::cell_states;
+use heap_class::{ObjKind, ObjRef, Refusal};
+use heap_region::{FrozenRegion, ObjectCopy, Regions, Storage};
+use heap_step::Undo;
+use heap_sweep::DeadCells;
+use heap_world::World;
+use memchr::memchr;
+use std::alloc::Global;
+use std::marker::Model;
+
+/// The address of the first word of region 0.
+const OBJECT_BASE: u64 = 0x1000_0000;
+
+/// Words of a region.
+const REGION_WORDS: u64 = 1024;
+
+/// A state as a dump shows it. It has the registers, the number of classes and a byte for each cell, 1 for that of a live
+/// object, and copies of the regions that were overwritten since; what is not overwritten yet is read where it is.
+#[derive(Drop)]
+pub struct Pin {
+    pub(crate) classes: u64,
+    pub(crate) registers: Vec<u64>,
+    pub(crate) live: Vec<u8>,
+    pub(crate) copies: Vec<Option<FrozenRegion>>,
+}
+
+impl Model for Pin {
+    ghost use Rattle.heap_pins.specs.Pin.{Pinned};
+
+    ghost Value = { Pinned };
+
+    ghost view = { λ p. record { classes = p.classes; registers = p.registers.items; live = p.live.items; copies = p.copies.items } };
+}
+
+// Returns so many regions without a copy. Fails with NoMemory.
+fn no_copies(alloc: Global, count: u64) -> Result<Vec<Option<FrozenRegion>>, Refusal>
+    ensures made { IfOk result (λ v. v.items ≡ replicate count None) }
+    ensures refused { IfErr result (λ e. e ≡ NoMemory) }
+{
+    let mut copies = Vec::with_capacity(alloc, count as usize)?;
+    for _done in 0..count {
+        copies.push_reserved(None);
+    }
+    Ok(copies)
+}
+
+impl Pin {
+    /// Returns a pin on the current state, from which it can be walked back. Fails with NoMemory.
+    pub fn open(alloc: Global, world: &World) -> Result<Pin, Refusal>
+        ensures opened { IfOk result (λ p. IsOpened p world.now) }
+        ensures refused { IfErr result (λ e. e ≡ NoMemory) }
+    {
+        let classes = world.classes().len();
+        let registers = Vec::from_slice(alloc, world.registers())?;
+        let live = cell_states(alloc, world.regions())?;
+        let copies = no_copies(alloc, world.regions().count())?;
+        Ok(Pin {
+            classes,
+            registers,
+            live,
+            copies,
+        })
+    }
+
+    /// How many regions it shows.
+    pub fn regions(&self) -> u64
+        ensures { result ≡ length self.now.copies }
+    {
+        self.copies.len() as u64
+    }
+
+    /// Keeps what the step that left this record and led to this state overwrote or reclaimed, unless there is a copy of its
+    /// region. Refused NoMemory; then the pin is as it was.
+    pub fn keep(&mut self, world: &World, left: &Undo) -> Result<(), Refusal>
+        requires step { (e : Event) × (before : HeapState) × IsStep e before world.now left.now }
+        requires sized { length self.old.copies ≡ length world.now.regions }
+        ensures kept { OnOk result (self.new ≡ kept left.now world.now self.old) }
+        ensures unchanged { OnErr result (self.new ≡ self.old) }
+        ensures refused { IfErr result (λ e. e ≡ NoMemory) }
+        ensures touched { OnErr result (IsSome (touched left.now)) }
+    {
+        match left {
+            Undo::Put { at, slot, old } => self.keep_word(world, *at, *slot as u64, *old),
+            Undo::Store { at, slot, old, .. } => { self.keep_word(world, *at, *slot as u64, *old) }
+            Undo::Sweep { region, dead } => self.keep_dead(world, *region, dead),
+            Undo::Reclaim { region, storage } => self.keep_region(world, *region, storage),
+            _ => Ok(()),
+        }
+    }
+
+    // Keeps a region of which a word was overwritten.
+    fn keep_word(&mut self, world: &World, at: ObjRef, slot: u64, old: u64) -> Result<(), Refusal>
+        requires there { IsSome (object_at world.now.regions at) }
+        requires within { IfSome (object_at world.now.regions at) (λ o. slot < length o.words) }
+        requires sized { at.region < length self.old.copies }
+        ensures kept { OnOk result (self.new ≡ kept_word world.now at slot old self.old) }
+        ensures unchanged { OnErr result (self.new ≡ self.old) }
+        ensures refused { IfErr result (λ e. e ≡ NoMemory) }
+    {
+        let region = at.region as usize;
+        if self.copies[region].is_some() {
+            return Ok(());
+        }
+        let mut copy = world.regions().freeze(region as u64)?;
+        copy.set_word(at.cell as u64, slot, old);
+        self.copies[region] = Some(copy);
+        Ok(())
+    }
+
+    // Keeps a region that lost these dead objects.
+    fn keep_dead(&mut self, world: &World, region: u16, dead: &DeadCells) -> Result<(), Refusal>
+        requires used { IsSome (used_at world.now.regions region) }
+        requires fit { FitIn (region_frozen world.now.regions region) dead.now }
+        requires sized { region < length self.old.copies }
+        ensures kept { OnOk result (self.new ≡ kept_dead world.now region dead.now self.old) }
+        ensures unchanged { OnErr result (self.new ≡ self.old) }
+        ensures refused { IfErr result (λ e. e ≡ NoMemory) }
+    {
+        if self.copies[region as usize].is_some() {
+            return Ok(());
+        }
+        let mut copy = world.regions().freeze(region as u64)?;
+        put_dead(&mut copy, dead.as_slice());
+        self.copies[region as usize] = Some(copy);
+        Ok(())
+    }
+
+    // Keeps a region that was moved out.
+    fn keep_region(&mut self, world: &World, region: u16, storage: &Storage) -> Result<(), Refusal>
+        requires sized { region < length self.old.copies }
+        ensures kept { OnOk result (self.new ≡ kept_copy region (Some (frozen storage.now)) self.old) }
+        ensures unchanged { OnErr result (self.new ≡ self.old) }
+        ensures refused { IfErr result (λ e. e ≡ NoMemory) }
+    {
+        if self.copies[region as usize].is_some() {
+            return Ok(());
+        }
+        let copy = storage.freeze(world.regions().allocator())?;
+        self.copies[region as usize] = Some(copy);
+        Ok(())
+    }
+}
+
+/// Puts the dead objects into their cells.
+pub(crate) fn put_dead(copy: &mut FrozenRegion, dead: &[(u64, ObjectCopy)])
+    requires { AreFit copy.old.cell_size (length copy.old.cells) dead.now }
+    ensures { copy.new ≡ with_dead dead.now copy.old }
+{
+    for (cell, object) in dead {
+        copy.put(*cell, object);
+    }
+}
+
+// What a dump reads of a pin beside the current state.
+impl Pin {
+    /// How many classes there were.
+    pub fn classes(&self) -> u64
+        ensures { result ≡ self.now.classes }
+    {
+        self.classes
+    }
+
+    /// The registers, mutator by mutator.
+    pub fn registers(&self) -> &[u64]
+        ensures { result.now ≡ self.now.registers }
+    {
+        &self.registers
+    }
+
+    // The first place from a byte on.
+    fn from(&self, number: usize) -> Option<ObjRef>
+        requires within { number ≤ length self.now.live }
+        requires few { length self.now.live ≤ 65536 }
+        ensures { result ≡ slice_get (places_from number (drop number self.now.live)) 0 }
+    {
+        match memchr(1, &self.live[number..]) {
+            Some(found) => {
+                let number = (number + found) as u64;
+                Some(ObjRef {
+                    region: (number / 256) as u16,
+                    cell: (number % 256) as u16,
+                })
+            }
+            None => None,
+        }
+    }
+
+    /// The place of the first object.
+    pub fn first(&self) -> Option<ObjRef>
+        requires { length self.now.live ≤ 65536 }
+        ensures { result ≡ slice_get (places_from 0 self.now.live) 0 }
+    {
+        self.from(0)
+    }
+
+    /// The place of the object after the one here.
+    pub fn next(&self, at: ObjRef) -> Option<ObjRef>
+        requires { length self.now.live ≤ 65536 }
+        ensures { IsPlaceAfter self.now.live at result }
+    {
+        let number = 256 * at.region as usize + at.cell as usize + 1;
+        if number > self.live.len() {
+            return None;
+        }
+        self.from(number)
+    }
+
+    /// What the object here is.
+    pub fn kind(&self, world: &World, at: ObjRef) -> ObjKind
+        requires { IsSeen self.now world.now.regions at }
+        ensures { IfSome (object_seen self.now world.now.regions at) (λ o. result ≡ o.kind) }
+    {
+        match &self.copies[at.region as usize] {
+            Some(copy) => copy.kind(at.cell as u64),
+            None => world.regions().kind(at),
+        }
+    }
+
+    /// The id of the object here: the address of its first word.
+    pub fn id(&self, world: &World, at: ObjRef) -> u64
+        requires { IsSeen self.now world.now.regions at }
+        ensures { IfSome (object_seen self.now world.now.regions at) (λ o. result ≡ o.id) }
+    {
+        match &self.copies[at.region as usize] {
+            Some(copy) => {
+                let first = REGION_WORDS * at.region as u64 + at.cell as u64 * copy.cell_size();
+                OBJECT_BASE + 8 * first
+            }
+            None => world.regions().id(at),
+        }
+    }
+
+    /// The words of the object here, in slot order.
+    pub fn words<'b>(&'b self, world: &'b World, at: ObjRef) -> &'b [u64]
+        requires { IsSeen self.now world.now.regions at }
+        ensures { IfSome (object_seen self.now world.now.regions at) (λ o. result.now ≡ o.words) }
+    {
+        match &self.copies[at.region as usize] {
+            Some(copy) => copy.words(at.cell as u64),
+            None => world.regions().words(at),
+        }
+    }
+}

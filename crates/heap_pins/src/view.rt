@@ -1,0 +1,86 @@
+//! What a dump shows of a pin.
+ghost use Rattle.std.specs.Prelude.{◌≡◌};
+ghost use Rattle.heap_pins.specs.View.{ShowsSome};
+
+use crate::Pin;
+use heap_class::{FirstClasses, IdSize, ObjKind, ObjRef};
+use heap_world::World;
+use hprof_text::View;
+use std::marker::Model;
+
+/// A pin as a dump shows it, read beside a state that came later, with ids of one size.
+#[derive(Drop)]
+pub struct PinView<'a> {
+    pin: &'a Pin,
+    world: &'a World,
+    ids: IdSize,
+}
+
+impl<'a> Model for PinView<'a> {
+    ghost use Rattle.heap_pins.specs.View.{PinShown, ShowsSome};
+
+    ghost Value = { PinShown };
+
+    ghost view = { λ v. record { pin = v.pin.now; state = v.world.now; ids = v.ids } };
+
+    ghost invariant = { λ v. ShowsSome v.pin.now v.world.now };
+}
+
+impl<'a> PinView<'a> {
+    /// Shows the pin beside that state.
+    pub fn new(pin: &'a Pin, world: &'a World, ids: IdSize) -> PinView<'a>
+        requires { ShowsSome pin.now world.now }
+        ensures { result ≡ record { pin = pin.now; state = world.now; ids = ids } }
+    {
+        PinView { pin, world, ids }
+    }
+}
+
+impl<'a> View for PinView<'a> {
+    ghost use Rattle.heap_pins.specs.Pin.{pin_image, places_from};
+
+    ghost image = { λ v. pin_image v.pin v.state };
+
+    ghost ids = { λ v. v.ids };
+
+    ghost places = { λ v. places_from 0 v.pin.live };
+
+    fn classes(&self) -> FirstClasses<'_> {
+        let pin: &Pin = self.pin;
+        self.world.classes().first(pin.classes())
+    }
+
+    fn id_size(&self) -> IdSize {
+        self.ids
+    }
+
+    fn registers(&self) -> &[u64] {
+        let pin: &Pin = self.pin;
+        pin.registers()
+    }
+
+    fn first(&self) -> Option<ObjRef> {
+        let pin: &Pin = self.pin;
+        pin.first()
+    }
+
+    fn next(&self, at: ObjRef) -> Option<ObjRef> {
+        let pin: &Pin = self.pin;
+        pin.next(at)
+    }
+
+    fn kind(&self, at: ObjRef) -> ObjKind {
+        let pin: &Pin = self.pin;
+        pin.kind(self.world, at)
+    }
+
+    fn id(&self, at: ObjRef) -> u64 {
+        let pin: &Pin = self.pin;
+        pin.id(self.world, at)
+    }
+
+    fn words(&self, at: ObjRef) -> &[u64] {
+        let pin: &Pin = self.pin;
+        pin.words(self.world, at)
+    }
+}

@@ -1,0 +1,143 @@
+//! The walk back: a pin is taken from the current state to a past one, record by record.
+ghost use Rattle.std.specs.Prelude.{◌≡◌, ℕ, ◌<◌, List, All, length, None, IsSome, IfOk, IfErr, OnOk};
+ghost use Rattle.heap_class.specs.declared.Refusal.TheVariants.{NoMemory};
+ghost use Rattle.heap_world.specs.State.{register_index};
+ghost use Rattle.heap_step.specs.declared.Undo.TheVariants.{Finish, New};
+ghost use Rattle.heap_pins.specs.Pin.{region_seen};
+ghost use Rattle.heap_pins.specs.States.{HasBytesBefore, HasNoLive, HasRegion};
+ghost use Rattle.heap_pins.specs.Walked.{CanWalk, IsWalkedBack, IsUnreclaimed, IsUnswept};
+ghost use Rattle.heap_pins.specs.Walked.{Sees, SeesRoom, SeesSlot, with_copy, with_old_register, with_old_word};
+
+use crate::cells::{clear_region, make_live, restore_dead, restore_region};
+use crate::pin::{Pin, put_dead};
+use heap_class::{ObjRef, Refusal};
+use heap_region::{FrozenRegion, Storage};
+use heap_step::Undo;
+use heap_sweep::DeadCells;
+use heap_world::World;
+
+impl Pin {
+    /// Takes the pin from the state after the step that left this record to the state before it; `world` is the current
+    /// state. Fails with NoMemory; then the pin is of no use. Copies the region that the step overwrote or reclaimed.
+    pub fn walk_back(&mut self, world: &World, left: &Undo) -> Result<(), Refusal>
+        requires { CanWalk left.now world.now self.old }
+        ensures walked { OnOk result (IsWalkedBack left.now world.now self.old self.new) }
+        ensures refused { IfErr result (λ e. e ≡ NoMemory) }
+    {
+        match left {
+            Undo::Put { at, slot, old } => self.unwrite(world, *at, *slot as u64, *old),
+            Undo::Store { at, slot, old, .. } => self.unwrite(world, *at, *slot as u64, *old),
+            Undo::Reg { m, r, old } => {
+                self.set_register(*m, *r, *old);
+                Ok(())
+            }
+            Undo::New {
+                at,
+                fresh,
+                m,
+                r,
+                old,
+            } => {
+                self.set_register(*m, *r, *old);
+                self.remove_new(*at, *fresh);
+                Ok(())
+            }
+            Undo::Class => {
+                self.classes -= 1;
+                Ok(())
+            }
+            Undo::Finish { .. } => {
+                self.revive();
+                Ok(())
+            }
+            Undo::Sweep { region, dead } => self.unsweep(world, *region, dead),
+            Undo::Reclaim { region, storage } => self.unreclaim(world, *region, storage),
+            Undo::Snap | Undo::Mark { .. } | Undo::Drain { .. } => Ok(()),
+        }
+    }
+
+    // Takes out the copy of a region, or copies it if the pin has no copy of it. Fails with NoMemory.
+    fn take_copy(&mut self, world: &World, region: u16) -> Result<FrozenRegion, Refusal>
+        requires sized { region < length self.old.copies }
+        requires there { IsSome (region_seen self.old world.now.regions region) }
+        ensures taken { IfOk result (Sees self.old world.now.regions region) }
+        ensures left { self.new ≡ with_copy region None self.old }
+        ensures refused { IfErr result (λ e. e ≡ NoMemory) }
+    {
+        match self.copies[region as usize].take() {
+            Some(copy) => Ok(copy),
+            None => world.regions().freeze(region as u64),
+        }
+    }
+
+    // Puts the old word back into a slot, in a copy of its region. Fails with NoMemory.
+    fn unwrite(&mut self, world: &World, at: ObjRef, slot: u64, old: u64) -> Result<(), Refusal>
+        requires sized { at.region < length self.old.copies }
+        requires there { SeesSlot self.old world.now.regions at slot }
+        ensures written { OnOk result (self.new ≡ with_old_word world.now at slot old self.old) }
+        ensures refused { IfErr result (λ e. e ≡ NoMemory) }
+    {
+        let mut copy = self.take_copy(world, at.region)?;
+        copy.set_word(at.cell as u64, slot, old);
+        self.copies[at.region as usize] = Some(copy);
+        Ok(())
+    }
+
+    // Puts the old word back into a register.
+    fn set_register(&mut self, m: u8, r: u8, old: u64)
+        requires { register_index m r < length self.old.registers }
+        ensures { self.new ≡ with_old_register m r old self.old }
+    {
+        self.registers[8 * m as usize + r as usize] = old;
+    }
+
+    // Removes a new object; if a region was taken for it, removes that region's objects.
+    fn remove_new(&mut self, at: ObjRef, fresh: bool)
+        requires within { at.cell < 256 }
+        requires region { HasRegion self.old.live at.region }
+        ensures { (m r old : ℕ) → HasBytesBefore (New at fresh m r old) self.old self.new }
+    {
+        if fresh {
+            clear_region(&mut self.live, at.region);
+        } else {
+            self.live[256 * at.region as usize + at.cell as usize] = 0;
+        }
+    }
+
+    // Makes all objects live.
+    fn revive(&mut self)
+        ensures { (log : List ℕ) → HasBytesBefore (Finish log) self.old self.new }
+    {
+        make_live(&mut self.live);
+    }
+
+    // Puts back the dead objects of a region. Fails with NoMemory.
+    fn unsweep(&mut self, world: &World, region: u16, dead: &DeadCells) -> Result<(), Refusal>
+        requires sized { region < length self.old.copies }
+        requires there { SeesRoom self.old world.now.regions region dead.now }
+        requires within { All (λ d. d.0 < 256) dead.now }
+        requires bytes { HasRegion self.old.live region }
+        ensures swept { OnOk result (IsUnswept world.now region dead.now self.old self.new) }
+        ensures refused { IfErr result (λ e. e ≡ NoMemory) }
+    {
+        let mut copy = self.take_copy(world, region)?;
+        put_dead(&mut copy, dead.as_slice());
+        self.copies[region as usize] = Some(copy);
+        restore_dead(&mut self.live, region, dead.as_slice());
+        Ok(())
+    }
+
+    // Puts back a region that was moved out. Fails with NoMemory.
+    fn unreclaim(&mut self, world: &World, region: u16, storage: &Storage) -> Result<(), Refusal>
+        requires sized { region < length self.old.copies }
+        requires dead { HasNoLive storage.now }
+        requires bytes { HasRegion self.old.live region }
+        ensures reclaimed { OnOk result (IsUnreclaimed region storage.now self.old self.new) }
+        ensures refused { IfErr result (λ e. e ≡ NoMemory) }
+    {
+        let copy = storage.freeze(world.regions().allocator())?;
+        self.copies[region as usize] = Some(copy);
+        restore_region(&mut self.live, region, storage);
+        Ok(())
+    }
+}

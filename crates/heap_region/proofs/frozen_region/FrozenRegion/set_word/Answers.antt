@@ -1,0 +1,34 @@
+use Rattle.std.proofs.Common.{arith}
+use Rattle.heap_region.proofs.Cells.{slot_lies}
+use Rattle.heap_region.proofs.Frozen.{laid_slot}
+use Rattle.heap_region.proofs.frozen_region.FrozenRegion.set_word.Goals as goal
+
+pub overflow_mul-at : goal.overflow_mul-at
+overflow_mul-at c =
+    let lies = slot_lies _ _ _ _ _ (rw (← c.self.view_is) at c.requires) in
+    omega (arith, lies.1, c.self.invariant.words)
+
+pub overflow_add-at : goal.overflow_add-at
+overflow_add-at c =
+    let lies = slot_lies _ _ _ _ _ (rw (← c.self.view_is) at c.requires) in
+    omega (arith, lies.1, c.self.invariant.words)
+
+pub offset_bounds-deref_mut-at : goal.offset_bounds-deref_mut-at
+offset_bounds-deref_mut-at c =
+    let lies = slot_lies _ _ _ _ _ (rw (← c.self.view_is) at c.requires) in
+    omega (arith, lies.1, c.self.invariant.words)
+
+pub bounds-deref_mut-at : goal.bounds-deref_mut-at
+bounds-deref_mut-at c =
+    let lies = slot_lies _ _ _ _ _ (rw (← c.self.view_is) at c.requires) in
+    omega (arith, lies.1, c.self.invariant.words)
+
+pub invariant_of-self : goal.invariant_of-self
+invariant_of-self c =
+    let i = c.self.inside in
+    rw c.deref_mut.ensures.value (laid_slot i.cell_size i.block.value.words i.block.value.headers.items c.self.invariant c.args.cell c.args.slot c.args.value (rw (← c.self.view_is) at c.requires)).0
+
+pub returns : goal.returns
+returns c =
+    let i = c.self.inside in
+    rw (← c.self.view_is, c.deref_mut.ensures.value) (laid_slot i.cell_size i.block.value.words i.block.value.headers.items c.self.invariant c.args.cell c.args.slot c.args.value (rw (← c.self.view_is) at c.requires)).1

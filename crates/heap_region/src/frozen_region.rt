@@ -1,0 +1,116 @@
+//! A copy of a region, to be read after the region was overwritten.
+ghost use Rattle.std.specs.Prelude.{◌≡◌, ◌*◌, ◌+◌, ◌<◌, ◌≤◌, length, IfOk, IsSome, IfSome, Some};
+ghost use Rattle.heap_region.specs.Regions.{FitsWords};
+ghost use Rattle.heap_region.specs.Layout.{IsCellSize};
+ghost use Rattle.heap_region.specs.Frozen.{frozen, frozen_object, frozen_with, frozen_word_set, frozen_words};
+
+use crate::storage::{Block, Header, ObjectCopy, Storage, header_at, overwrite, part, set_header};
+use arrayvec::ArrayVec;
+use heap_class::ObjKind;
+use std::alloc::{AllocError, Global};
+use std::marker::Model;
+
+/// A copy of a region: its cells with the objects in them, and no free list. The bits of its objects are those that they
+/// had when it was made.
+#[derive(Drop)]
+pub struct FrozenRegion {
+    block: Box<Block>,
+    cell_size: u16,
+}
+
+impl Model for FrozenRegion {
+    ghost use Rattle.heap_region.specs.Frozen.{Frozen, IsLaid};
+
+    ghost Value = { Frozen };
+
+    ghost use Rattle.heap_region.specs.Layout.{cells_from};
+
+    ghost view = { λ f. record { cell_size = f.cell_size; cells = cells_from f.cell_size f.block.value.words 0 f.block.value.headers.items } };
+
+    ghost invariant = { λ f. IsLaid f.cell_size f.block.value.words f.block.value.headers.items };
+}
+
+impl Block {
+    // Copies the words and the headers. It stays a call, so that no other function has a block on its stack.
+    #[inline(never)]
+    fn copied(&self, alloc: Global) -> Result<Box<Block>, AllocError>
+        ensures { IfOk result (λ b. (b.value.words ≡ self.now.words) × (b.value.headers.items ≡ self.now.headers.items)) }
+    {
+        let mut headers = ArrayVec::new();
+        if headers.try_extend_from_slice(&self.headers).is_err() {
+            unreachable!();
+        }
+        let copy = Block {
+            words: self.words,
+            headers,
+        };
+        Ok(Box::new(alloc, copy)?)
+    }
+}
+
+impl Storage {
+    /// Returns a copy of the region. Fails if there is no memory for it.
+    pub fn freeze(&self, alloc: Global) -> Result<FrozenRegion, AllocError>
+        ensures { IfOk result (λ f. f ≡ frozen self.now) }
+    {
+        Ok(FrozenRegion {
+            block: self.block.copied(alloc)?,
+            cell_size: self.cell_size,
+        })
+    }
+}
+
+impl FrozenRegion {
+    /// Returns the number of words of each cell: at most 1,024.
+    pub fn cell_size(&self) -> u64
+        ensures value { result ≡ self.now.cell_size }
+        ensures limit { result ≤ 1024 }
+    {
+        self.cell_size as u64
+    }
+
+    /// Returns the kind of the object in the cell.
+    pub fn kind(&self, cell: u64) -> ObjKind
+        requires { IsSome (frozen_object self.now cell) }
+        ensures { IfSome (frozen_object self.now cell) (λ o. result ≡ o.kind) }
+    {
+        header_at(&self.block.headers, cell as usize).kind
+    }
+
+    /// Returns the words of the object in the cell, in slot order.
+    pub fn words(&self, cell: u64) -> &[u64]
+        requires { IsSome (frozen_object self.now cell) }
+        ensures { IfSome (frozen_object self.now cell) (λ o. result.now ≡ o.words) }
+    {
+        let block = &*self.block;
+        let len = header_at(&block.headers, cell as usize).len;
+        part(&block.words, cell as usize * self.cell_size as usize, len)
+    }
+
+    /// Writes a word of the object in the cell.
+    pub fn set_word(&mut self, cell: u64, slot: u64, value: u64)
+        requires { slot < length (frozen_words self.old cell) }
+        ensures { self.new ≡ frozen_word_set cell slot value self.old }
+    {
+        let at = cell as usize * self.cell_size as usize + slot as usize;
+        self.block.words[at] = value;
+    }
+
+    /// Puts an object into the cell, whatever was there.
+    pub fn put(&mut self, cell: u64, object: &ObjectCopy)
+        requires within { cell < length self.old.cells }
+        requires fits { FitsWords self.old.cell_size (length object.now.words) }
+        ensures { self.new ≡ frozen_with cell (Some object.now) self.old }
+    {
+        let start = cell as usize * self.cell_size as usize;
+        let block = &mut *self.block;
+        overwrite(&mut block.words, start, &object.words);
+        let header = Header {
+            kind: object.kind,
+            len: object.words.len(),
+            live: object.live,
+            mark: object.mark,
+        };
+        set_header(&mut block.headers, cell as usize, Some(header));
+    }
+}

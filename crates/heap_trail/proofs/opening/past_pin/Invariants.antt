@@ -1,0 +1,5 @@
+use Rattle.heap_trail.proofs.WalkedPast.{IsWalkedTo}
+use Rattle.heap_trail.proofs.opening.past_pin.Given as goal
+
+abbrev pub invariant-loop-i : goal.invariant-loop-i
+invariant-loop-i l = IsWalkedTo l.pin l.world l.records.items l.i

@@ -1,0 +1,124 @@
+//! The pins that are open, each with its number.
+ghost use Rattle.std.specs.Prelude.{◌≡◌, ◌==◌, ◌≤◌, ◌^◌, ℕ, length, IfOk, IfErr, OnErr};
+ghost use Rattle.std.specs.List.{position};
+ghost use Rattle.heap_world.specs.State.{HeapState};
+ghost use Rattle.heap_step.specs.declared.Event.{Event};
+ghost use Rattle.heap_step.specs.Laws.{IsStep};
+ghost use Rattle.heap_trail.specs.Slots.{CanGive, HasGiven, IsNext, IsSized, MayCount, MayKeep, RefusesPiece, held_advanced, slot_after_rewind};
+
+use heap_class::{IdSize, LostCause, Refusal};
+use heap_pins::{Pin, PinView};
+use heap_step::Undo;
+use heap_world::World;
+use hprof_text::{Cursor, Piece, piece_from};
+use std::alloc::Global;
+
+/// A pin on a place, with the cursor of its next piece and how many it gave; or one that is lost.
+#[derive(Drop)]
+pub(crate) enum Held {
+    Kept {
+        place: u64,
+        pin: Pin,
+        cursor: Cursor,
+        given: u64,
+    },
+    Lost(LostCause),
+}
+
+/// An open pin with its number.
+#[derive(Drop)]
+pub(crate) struct Slot {
+    pub(crate) number: u64,
+    pub(crate) held: Held,
+}
+
+/// Finds the first slot with this number.
+pub(crate) fn slot_of(pins: &[Slot], number: u64) -> Option<usize>
+    ensures { result ≡ position (λ s. s.number == number) pins.now }
+{
+    pins.iter().position(|slot| slot.number == number)
+}
+
+impl Slot {
+    /// Keeps what the step that left this record and led to this state overwrote; a pin that finds no memory for it is lost.
+    pub(crate) fn keep(&mut self, world: &World, left: &Undo)
+        requires step { (e : Event) × (before : HeapState) × IsStep e before world.now left.now }
+        requires sized { IsSized (length world.now.regions) self.old }
+        ensures { MayKeep left.now world.now self.old self.new }
+    {
+        let lost = match &mut self.held {
+            Held::Kept { pin, .. } => pin.keep(world, left).is_err(),
+            Held::Lost(_) => false,
+        };
+        if lost {
+            self.held = Held::Lost(LostCause::Memory);
+        }
+    }
+
+    /// Loses a pin above this place.
+    pub(crate) fn rewind(&mut self, to: u64)
+        ensures { self.new ≡ slot_after_rewind to self.old }
+    {
+        let lost = match &self.held {
+            Held::Kept { place, .. } => *place > to,
+            Held::Lost(_) => false,
+        };
+        if lost {
+            self.held = Held::Lost(LostCause::Rewound);
+        }
+    }
+    /// Gives the pin's next piece. Fails with Lost and its cause if the pin is lost, and with NoMemory; then the same piece
+    /// is next.
+    pub(crate) fn next_piece(
+        &mut self,
+        alloc: Global,
+        world: &World,
+        ids: IdSize,
+        time: u64,
+    ) -> Result<Piece, Refusal>
+        requires { CanGive ids world.now self.old.held }
+        ensures given { IfOk result (λ p. HasGiven ids world.now time p self.old.held self.new.held) }
+        ensures number { self.new.number ≡ self.old.number }
+        ensures refused { IfErr result (λ e. RefusesPiece self.old.held e) }
+        ensures unchanged { OnErr result (self.new ≡ self.old) }
+        ensures small { IfOk result (λ p. length p.bytes ≤ 2 ^ 24) }
+    {
+        let (piece, next) = self.piece_here(alloc, world, ids, time)?;
+        self.advance(next);
+        Ok(piece)
+    }
+
+    // The piece at the cursor, and the cursor after it.
+    fn piece_here(
+        &self,
+        alloc: Global,
+        world: &World,
+        ids: IdSize,
+        time: u64,
+    ) -> Result<(Piece, Cursor), Refusal>
+        requires { CanGive ids world.now self.now.held }
+        ensures piece { IfOk result (λ p. IsNext ids world.now time self.now.held p.0 p.1) }
+        ensures refused { IfErr result (λ e. RefusesPiece self.now.held e) }
+        ensures small { IfOk result (λ p. length p.0.bytes ≤ 2 ^ 24) }
+    {
+        match &self.held {
+            Held::Kept { pin, cursor, .. } => {
+                piece_from(alloc, &PinView::new(pin, world, ids), *cursor, time)
+            }
+            Held::Lost(cause) => Err(Refusal::Lost { cause: *cause }),
+        }
+    }
+
+    // Moves the cursor on, and counts the piece that was given, unless the cursor stands past all.
+    fn advance(&mut self, to: Cursor)
+        requires { MayCount self.old.held }
+        ensures { self.new ≡ record self.old { held = held_advanced to self.old.held } }
+    {
+        if let Held::Kept { cursor, given, .. } = &mut self.held {
+            if !matches!(cursor, Cursor::Past) {
+                *cursor = to;
+                *given += 1;
+            }
+        }
+    }
+}

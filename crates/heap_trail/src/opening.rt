@@ -1,0 +1,34 @@
+//! A pin on a past state.
+ghost use Rattle.std.specs.Prelude.{◌≡◌, ◌≤◌, length, IfOk, IfErr};
+ghost use Rattle.heap_class.specs.declared.Refusal.TheVariants.{NoMemory};
+ghost use Rattle.heap_trail.specs.Records.{AreRecorded};
+ghost use Rattle.heap_trail.specs.Past.{HoldsPast};
+
+use circular_buffer::HeapCircularBuffer;
+use heap_class::Refusal;
+use heap_pins::Pin;
+use heap_step::Undo;
+use heap_world::World;
+use std::alloc::Global;
+
+/// Returns a pin on the state of `n` steps ago, which the newest `n` records lead back to. Fails with NoMemory.
+pub(crate) fn past_pin(
+    alloc: Global,
+    world: &World,
+    records: &HeapCircularBuffer<Undo>,
+    n: u64,
+) -> Result<Pin, Refusal>
+    requires recorded { AreRecorded world.now records.now.items }
+    requires retained { n ≤ length records.now.items }
+    ensures held { IfOk result (λ p. HoldsPast p world.now records.now.items n) }
+    ensures refused { IfErr result (λ e. e ≡ NoMemory) }
+{
+    let mut pin = Pin::open(alloc, world)?;
+    for i in 0..n {
+        match records.nth_front(i as usize) {
+            Some(left) => pin.walk_back(world, left)?,
+            None => unreachable!(),
+        }
+    }
+    Ok(pin)
+}

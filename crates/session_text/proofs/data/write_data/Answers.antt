@@ -1,0 +1,23 @@
+use Rattle.std.proofs.Common.{◌++◌, length, true}
+use Rattle.session_text.specs.Replies.{data_line}
+use Rattle.session_text.proofs.Dumping.{data_lines_go, data_lines_all}
+use Rattle.session_text.proofs.Lists.{zero_of, some_of}
+use Rattle.session_text.proofs.Written.{added_then_here, added_more, added_as}
+use Rattle.session_text.proofs.data.write_data.Goals as goal
+
+pub loop-rest-preserved : goal.loop-rest-preserved
+loop-rest-preserved g c =
+    let i = c.loop-rest.invariant in
+    let s = c.split_at.ensures in
+    let b = g.O.Outlet.seen c.make_room.new.outlet in
+    let first = c.split_at.result.0.now in
+    let here = added_then_here (data_line first) c.loop-rest.page (g.O.Outlet.seen c.loop-rest.outlet) c.make_room.new.page b c.add_data_line.new.page c.if-not-make_room.ensures.added c.add_data_line.ensures in (
+      i.0 ++ data_line first,
+      added_more i.0 (data_line first) c.args.page.now (g.O.Outlet.seen c.args.outlet.now) c.loop-rest.page (g.O.Outlet.seen c.loop-rest.outlet) c.add_data_line.new.page b true i.1 here,
+      data_lines_go c.args.bytes.now i.0 c.loop-rest.rest.now first c.split_at.result.1.now c.min.result (some_of (length c.loop-rest.rest.now) c.loop-rest-test.ensures) c.min.ensures s.front s.back i.2,
+    )
+
+pub returns : goal.returns
+returns g c =
+    let i = c.loop-rest.invariant in
+    added_as i.0 _ c.args.page.now (g.O.Outlet.seen c.args.outlet.now) c.loop-rest.page (g.O.Outlet.seen c.loop-rest.outlet) true (data_lines_all c.args.bytes.now i.0 c.loop-rest.rest.now (zero_of (length c.loop-rest.rest.now) c.loop-rest-test.ensures) i.2) i.1

@@ -1,0 +1,37 @@
+//! Pieces, in data lines.
+ghost use Rattle.std.specs.Prelude.{◌≡◌, ◌≤◌, ◌++◌, length};
+ghost use Rattle.session_text.specs.Replies.{data_line, data_lines};
+ghost use Rattle.session_text.specs.Writes.{IsAdded};
+
+use crate::page::Page;
+use crate::write::make_room;
+use dump_pump::Outlet;
+
+/// The most bytes of a data line's digits.
+const DATA_LIMIT: usize = 64;
+
+/// Adds a data line of at most 64 bytes.
+fn add_data_line(page: &mut Page, bytes: &[u8])
+    requires { (length page.old ≤ 8000) × (length bytes.now ≤ 64) }
+    ensures { page.new ≡ page.old ++ data_line bytes.now }
+{
+    page.add(b"data ");
+    page.add_hex(bytes);
+    page.add(b"\n");
+}
+
+/// Adds the data lines of a piece, and puts out the page each time that it is full.
+pub fn write_data<O: Outlet>(page: &mut Page, outlet: &mut O, bytes: &[u8]) -> bool
+    ensures { IsAdded (data_lines bytes.now) page.old (O.seen outlet.old) page.new (O.seen outlet.new) result }
+{
+    let mut rest = bytes;
+    while !rest.is_empty() {
+        let (first, others) = rest.split_at(rest.len().min(DATA_LIMIT));
+        if !make_room(page, outlet) {
+            return false;
+        }
+        add_data_line(page, first);
+        rest = others;
+    }
+    true
+}

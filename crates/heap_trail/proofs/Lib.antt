@@ -23,3 +23,4 @@ pub mod Whole
 pub mod Given
 pub mod SlotFound
 pub mod PieceGiven
+pub mod ByTrail

@@ -127,9 +127,15 @@ impl PlainPin {
     /// Fails unless the whole text tells the heap that the pin shows.
     fn is_told(&self, alloc: Global) -> Result<(), Fail> {
         let dump = dump_from(alloc, self.bytes.as_slice()).ok_or("it is no dump")?;
-        check(dump.ids == 8 && dump.time == TIME, "it has other ids or another time")?;
+        check(
+            dump.ids == 8 && dump.time == TIME,
+            "it has other ids or another time",
+        )?;
         check(tells(alloc, &dump, &self.heap)?, "it tells another heap")?;
-        check(are_cut(dump.segments.as_slice()), "the segments are cut otherwise")
+        check(
+            are_cut(dump.segments.as_slice()),
+            "the segments are cut otherwise",
+        )
     }
 }
 
@@ -191,7 +197,14 @@ impl Pinning {
     fn open(&mut self, ago: u64) -> Result<(), Fail> {
         let pin = self.expected(ago)?;
         let pinned = self.pair.machine.open_pin(Some(pin.at))?;
-        check(pinned == Pinned { pin: pin.pin, at: pin.at }, "it is pinned otherwise")?;
+        check(
+            pinned
+                == Pinned {
+                    pin: pin.pin,
+                    at: pin.at,
+                },
+            "it is pinned otherwise",
+        )?;
         self.opened = pin.pin;
         self.pins.push(pin)?;
         Ok(())
@@ -204,7 +217,10 @@ impl Pinning {
         let ago = below(random, 16);
         if ago > retained {
             let outcome = self.pair.machine.open_pin(Some(place.saturating_add(ago)));
-            return check(outcome == Err(Refusal::NotRetained), "a place to come is pinned");
+            return check(
+                outcome == Err(Refusal::NotRetained),
+                "a place to come is pinned",
+            );
         }
         if self.pins.len() >= 4 {
             let outcome = self.pair.machine.open_pin(None);
@@ -218,12 +234,18 @@ impl Pinning {
         requires { index < self.old.pins.len }
     {
         let pin = self.pins.remove(index);
-        check(self.pair.machine.close_pin(pin.pin) == Ok(()), "it isn't closed")?;
+        check(
+            self.pair.machine.close_pin(pin.pin) == Ok(()),
+            "it isn't closed",
+        )?;
         for lot in &pin.lots {
             self.seen.push(*lot)?;
         }
         let outcome = self.pair.machine.piece(pin.pin, TIME);
-        check(outcome.is_err_and(|refusal| refusal == Refusal::NoPin), "a closed pin is read")
+        check(
+            outcome.is_err_and(|refusal| refusal == Refusal::NoPin),
+            "a closed pin is read",
+        )
     }
 
     /// Adds the next piece of a pin; closes it after the last, if its text tells the heap that it shows.
@@ -233,9 +255,11 @@ impl Pinning {
         let pin = self.pins[index].pin;
         match self.pair.machine.piece(pin, TIME) {
             Ok(piece) => self.add(index, &piece),
-            Err(Refusal::Lost {
-                cause: LostCause::Rewound,
-            }) => {
+            Err(
+                Refusal::Lost {
+                    cause: LostCause::Rewound,
+                },
+            ) => {
                 check(self.pins[index].lost, "a pin is lost")?;
                 self.close(index)
             }
@@ -248,7 +272,9 @@ impl Pinning {
         requires { index < self.old.pins.len }
     {
         check(!self.pins[index].lost, "a lost pin is read")?;
-        self.pins[index].bytes.extend_from_slice(piece.bytes.as_slice())?;
+        self.pins[index]
+            .bytes
+            .extend_from_slice(piece.bytes.as_slice())?;
         if !piece.last {
             return Ok(());
         }
@@ -259,7 +285,11 @@ impl Pinning {
     /// Reads some pin on, if one is open.
     fn read_any(&mut self, random: &mut Pcg32) -> Result<(), Fail> {
         let index = below(random, 4) as usize;
-        if index < self.pins.len() { self.read(index) } else { Ok(()) }
+        if index < self.pins.len() {
+            self.read(index)
+        } else {
+            Ok(())
+        }
     }
 
     /// Takes a seeded turn: an action of the pair, a pin that is opened, or a piece.

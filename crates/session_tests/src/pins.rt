@@ -67,7 +67,13 @@ ok dump 301\n\
 
 #[test]
 fn dump_of_a_pin_opened_late(rt: HostRuntime) -> Result<(), Fail> {
-    answers(rt.alloc(), 1024, 4096, PINNED_LATE, DUMP_OF_A_PIN_OPENED_LATE)
+    answers(
+        rt.alloc(),
+        1024,
+        4096,
+        PINNED_LATE,
+        DUMP_OF_A_PIN_OPENED_LATE,
+    )
 }
 
 /// The lines that pin place 10, take two steps from it, and rewind to it.
@@ -93,7 +99,13 @@ ok dump 259\n\
 
 #[test]
 fn pin_kept_by_rewind_to_it(rt: HostRuntime) -> Result<(), Fail> {
-    answers(rt.alloc(), 1024, 4096, REWOUND_TO_THE_PIN, PIN_KEPT_BY_REWIND_TO_IT)
+    answers(
+        rt.alloc(),
+        1024,
+        4096,
+        REWOUND_TO_THE_PIN,
+        PIN_KEPT_BY_REWIND_TO_IT,
+    )
 }
 
 /// The same, but they rewind below it, and go on past its place.
@@ -115,7 +127,13 @@ no 23 Lost Rewound\n\
 
 #[test]
 fn pin_lost_by_rewind_below(rt: HostRuntime) -> Result<(), Fail> {
-    answers(rt.alloc(), 1024, 4096, REWOUND_BELOW_THE_PIN, PIN_LOST_BY_REWIND_BELOW)
+    answers(
+        rt.alloc(),
+        1024,
+        4096,
+        REWOUND_BELOW_THE_PIN,
+        PIN_LOST_BY_REWIND_BELOW,
+    )
 }
 
 const TWO_RETAINED: &str = "\

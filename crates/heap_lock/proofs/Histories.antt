@@ -1,0 +1,118 @@
+-- A history with an entry more.
+use Rattle.std.proofs.Common.{◌≡◌, ◌≢◌, ℕ, ◌+◌, ◌==◌, ◌<◌, ◌≤◌, Bool, true, false, List, [], ◌∷◌, ◌++◌, length, set, get_or, filter, append-nil, refl, sym, ap, ◌∙◌, subst, ⊎_elim, arith}
+use mathlib.Core.Option.{some}
+use lib.ListN.{get_elem?}
+use Rattle.std.specs.List.{enumerate_from}
+use Rattle.std.specs.Prelude.{if◌then◌else◌}
+use Rattle.std.proofs.lemmas.Bool.{eq-eqb, ne_eqb}
+use Rattle.std.proofs.lemmas.List.{length-set}
+use Rattle.std.proofs.lemmas.List.Elements.{filter-append}
+use Rattle.atomic_table.specs.Seated.{TableId}
+use Rattle.atomic_table.proofs.Lists.{at_set, at_index}
+use Rattle.heap_world.specs.Limits.{Settings}
+use Rattle.heap_trail.specs.declared.Action.{Action}
+use Rattle.heap_trail.specs.Limits.{last_place}
+use Rattle.heap_trail.specs.Trail.{Trail}
+use Rattle.heap_class.specs.declared.IdSize.TheVariants.{Eight}
+use Rattle.heap_trail.specs.declared.Reply.{Reply}
+use Rattle.heap_trail.specs.Machine.{MayReply, Machine, is_dump_action}
+use Rattle.heap_lock.specs.declared.desk.Desk.{Desk}
+use Rattle.heap_lock.specs.declared.entry.Entry.{Entry}
+use Rattle.heap_lock.specs.declared.entry.Outcome.{Outcome}
+use Rattle.heap_lock.specs.History.{entry, reply_of, opening, machine_at, trail_after, reply_at, MayEnter, IsDue, IsLegalHistory, history_trail, tally}
+use Rattle.heap_lock.specs.Held.{AllSeated, table_at, IsDesk, IsKept}
+use Rattle.heap_trail.proofs.ByTrail.{acts_alike, dumps_leave, place_after}
+
+-- an act that is entered leaves the trail and is answered by the trail alone
+by_trail : (m m' : Machine) (a : Action) (r : Reply) → is_dump_action a ≡ false → MayReply m a m' r → MayEnter r → (m'.trail ≡ trail_after m.keep m.trail a) × (r ≡ reply_at m.keep m.trail a) × (m'.keep ≡ m.keep) × (m'.ids ≡ m.ids)
+unfolding trail_after reply_at
+by_trail m m' a r deed (mark, stands, is) enters = acts_alike Eight m m' a mark r deed is enters.0
+
+trail_place : (keep : ℕ) (t : Trail) (a : Action) → (trail_after keep t a).place ≤ t.place + 1
+unfolding trail_after
+trail_place keep t a = place_after (machine_at keep t) a
+
+pub goes_on : (keep : ℕ) (t : Trail) (es : List Entry) (e : Entry) → IsLegalHistory keep t es → IsDue keep (history_trail keep t es) e → IsLegalHistory keep t (es ++ e ∷ [])
+unfolding history_trail
+goes_on keep t [] e legal due = (due, tt)
+goes_on keep t (f ∷ es) e legal due = (legal.0, goes_on keep (trail_after keep t f.action) es e legal.1 due)
+
+pub ends_at : (keep : ℕ) (t : Trail) (es : List Entry) (e : Entry) → history_trail keep t (es ++ e ∷ []) ≡ trail_after keep (history_trail keep t es) e.action
+unfolding history_trail
+ends_at keep t [] e = refl
+ends_at keep t (f ∷ es) e = ends_at keep (trail_after keep t f.action) es e
+
+-- the place is the number of entries at most
+pub place_within : (keep : ℕ) (t : Trail) (es : List Entry) → (history_trail keep t es).place ≤ t.place + length es
+unfolding history_trail
+place_within keep t [] = omega arith
+place_within keep t (e ∷ es) = omega (arith, place_within keep (trail_after keep t e.action) es, trail_place keep t e.action)
+
+seated_push : (n : ℕ) (es : List Entry) (e : Entry) → AllSeated n es → e.seat < n → AllSeated n (es ++ e ∷ [])
+seated_push n [] e h lt = (lt, tt)
+seated_push n (x ∷ es) e h lt = (h.0, seated_push n es e h.1 lt)
+
+enumerate_push : (n : ℕ) (es : List Entry) (e : Entry) → enumerate_from n (es ++ e ∷ []) ≡ enumerate_from n es ++ (n + length es, e) ∷ []
+enumerate_push n [] e = ap (λ k. (k, e) ∷ []) (omega arith)
+enumerate_push n (x ∷ es) e = ap (λ l. (n, x) ∷ l) (enumerate_push (n + 1) es e ∙ ap (λ k. enumerate_from (n + 1) es ++ (k, e) ∷ []) (omega arith))
+
+pub tally_here : (n : ℕ) (es : List Entry) (e : Entry) → e.seat ≡ n → tally n (es ++ e ∷ []) ≡ tally n es ++ (1 + length es, e) ∷ []
+unfolding tally
+tally_here n es e is =
+    ap (filter (λ (p : ℕ × Entry). p.1.seat == n)) (enumerate_push 1 es e)
+    ∙ filter-append (λ (p : ℕ × Entry). p.1.seat == n) (enumerate_from 1 es) ((1 + length es, e) ∷ [])
+    ∙ ap (λ (l : List (ℕ × Entry)). filter (λ (p : ℕ × Entry). p.1.seat == n) (enumerate_from 1 es) ++ l) (ap (λ (b : Bool). if b then (1 + length es, e) ∷ [] else []) (eq-eqb e.seat n is))
+
+pub tally_other : (n : ℕ) (es : List Entry) (e : Entry) → e.seat ≢ n → tally n (es ++ e ∷ []) ≡ tally n es
+unfolding tally
+tally_other n es e ne =
+    ap (filter (λ (p : ℕ × Entry). p.1.seat == n)) (enumerate_push 1 es e)
+    ∙ filter-append (λ (p : ℕ × Entry). p.1.seat == n) (enumerate_from 1 es) ((1 + length es, e) ∷ [])
+    ∙ ap (λ (l : List (ℕ × Entry)). filter (λ (p : ℕ × Entry). p.1.seat == n) (enumerate_from 1 es) ++ l) (ap (λ (b : Bool). if b then (1 + length es, e) ∷ [] else []) (ne_eqb e.seat n ne))
+    ∙ append-nil _
+
+pub desk_of : (config : Settings) (tables : List TableId) (m : Machine) (es : List Entry) (desks : List Desk) (n : ℕ) (d : Desk) → IsKept config tables m es desks → n < length tables → d ≡ get_or desks n d → IsDesk (table_at tables n) (tally n es) d
+desk_of config tables m es desks n d k lt is = k.booked n d (at_index desks n d (omega (arith, k.count, lt)) is)
+
+-- a machine under a chronicle that isn't full isn't at the last place
+pub not_last : (config : Settings) (tables : List TableId) (m : Machine) (es : List Entry) (desks : List Desk) → IsKept config tables m es desks → length es < 1000000 → m.trail.place < last_place
+not_last config tables m es desks k lt = omega (arith, place_within config.keep (opening config) es, ap (λ (t : Trail). t.place) k.folds, lt)
+
+-- an entry with the machine's reply is due
+pub is_due : (config : Settings) (tables : List TableId) (m m' : Machine) (es : List Entry) (desks : List Desk) (e : Entry) → IsKept config tables m es desks → is_dump_action e.action ≡ false → MayReply m e.action m' (reply_of e.answer) → MayEnter (reply_of e.answer)
+    → IsDue config.keep (history_trail config.keep (opening config) es) e
+is_due config tables m m' es desks e k deed move enters = record {
+  deed = deed;
+  answer = (by_trail m m' e.action (reply_of e.answer) deed move enters).1 ∙ (λ i. reply_at (k.keep i) (k.folds i) e.action);
+  enters = enters;
+}
+
+-- one entry more, with the seat's desk
+pub kept_more : (config : Settings) (tables : List TableId) (m m' : Machine) (es : List Entry) (desks : List Desk) (e : Entry) (d' : Desk) → IsKept config tables m es desks → e.seat < length tables
+    → is_dump_action e.action ≡ false → MayReply m e.action m' (reply_of e.answer) → MayEnter (reply_of e.answer) → IsDesk (table_at tables e.seat) (tally e.seat (es ++ e ∷ [])) d' → IsKept config tables m' (es ++ e ∷ []) (set desks e.seat d')
+kept_more config tables m m' es desks e d' k lt deed move enters desk =
+    let alike = by_trail m m' e.action (reply_of e.answer) deed move enters in record {
+      legal = goes_on config.keep (opening config) es e k.legal (is_due config tables m m' es desks e k deed move enters);
+      keep = alike.2 ∙ k.keep;
+      ids = alike.3 ∙ k.ids;
+      folds = alike.0 ∙ (λ i. trail_after (k.keep i) (k.folds i) e.action) ∙ sym (ends_at config.keep (opening config) es e);
+      seated = seated_push (length tables) es e k.seated lt;
+      count = length-set desks e.seat d' ∙ k.count;
+      booked = λ n d at. ⊎_elim
+          (λ (u : (n ≡ e.seat) × (d' ≡ d)). subst (λ (x : ℕ × Desk). IsDesk (table_at tables x.0) (tally x.0 (es ++ e ∷ [])) x.1) (λ i. (sym u.0 i, u.1 i)) desk)
+          (λ (u : (n ≢ e.seat) × (get_elem? desks n ≡ some d)). subst (λ l. IsDesk (table_at tables n) l d) (sym (tally_other n es e (λ q. u.0 (sym q)))) (k.booked n d u.1))
+          (at_set desks e.seat n d' d at);
+    }
+
+-- what a move of the kept machine makes of its trail, and that its answer is due there
+pub moved_as : (config : Settings) (tables : List TableId) (m m' : Machine) (es : List Entry) (desks : List Desk) (seat : ℕ) (a : Action) (o : Outcome) → IsKept config tables m es desks → is_dump_action a ≡ false → MayReply m a m' (reply_of o) → MayEnter (reply_of o)
+    → (m'.trail ≡ trail_after config.keep m.trail a) × IsDue config.keep m.trail (entry seat a o)
+moved_as config tables m m' es desks seat a o k deed move enters =
+    let alike = by_trail m m' a (reply_of o) deed move enters in
+    (alike.0 ∙ ap (λ n. trail_after n m.trail a) k.keep, record { deed = deed; answer = alike.1 ∙ ap (λ n. reply_at n m.trail a) k.keep; enters = enters })
+
+-- the machine after a dumper's action may be kept in the place of the one before
+pub kept_dumped : (config : Settings) (tables : List TableId) (m m' : Machine) (es : List Entry) (desks : List Desk) (a : Action) (r : Reply) → IsKept config tables m es desks → is_dump_action a ≡ true → MayReply m a m' r → IsKept config tables m' es desks
+kept_dumped config tables m m' es desks a r k dump (mark, stands, is) =
+    let left = dumps_leave m m' a mark r dump is in
+    record { legal = k.legal; keep = left.1 ∙ k.keep; ids = left.2 ∙ k.ids; folds = left.0 ∙ k.folds; seated = k.seated; count = k.count; booked = k.booked }

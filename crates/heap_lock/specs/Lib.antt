@@ -1,0 +1,9 @@
+pub mod Limits
+pub mod History
+pub mod Tally
+pub mod Desks
+pub mod Roles
+pub mod Held
+pub mod Blanks
+pub mod Audits
+pub mod Details

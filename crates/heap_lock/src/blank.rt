@@ -1,0 +1,140 @@
+//! A heap before it is opened.
+ghost use Rattle.std.specs.Prelude.{◌≡◌, ◌∷◌, ◌≤◌, [], map, length, IfOk, IfErr, IfSome, IfNone};
+ghost use Rattle.heap_class.specs.declared.Refusal.TheVariants.{NoMemory};
+ghost use Rattle.heap_lock.specs.Limits.{seat_limit};
+ghost use Rattle.heap_lock.specs.Blanks.{chairs, chair_of, tables_of, AllFresh, AllStubs};
+
+use crate::desk::Desk;
+use crate::entry::Role;
+use crate::heap::{Heap, Kept, Seat, Shared};
+use crate::stub::Stub;
+use heap_class::Refusal;
+use heap_trail::Machine;
+use heap_world::Config;
+use std::alloc::{AllocError, Global};
+use std::collections::VecDeque;
+use std::marker::{Model, PhantomData};
+
+/// A heap that no type names yet. Contracts see its settings, the tables of its shares, and its seats.
+#[derive(Drop)]
+pub struct Blank {
+    config: Config,
+    machine: Machine,
+    desks: Vec<Desk>,
+    stubs: Vec<Stub>,
+    alloc: Global,
+}
+
+impl Model for Blank {
+    ghost use Rattle.std.specs.Prelude.{map};
+    ghost use Rattle.heap_lock.specs.Blanks.{Maker, tables_of, chair_of, IsBlank};
+
+    ghost Value = { Maker };
+
+    ghost view = { λ b. record { config = b.config; tables = tables_of b.desks.items; seats = map chair_of b.stubs.items } };
+
+    ghost invariant = { λ b. IsBlank b.config b.machine b.desks.items b.stubs.items };
+}
+
+/// The seats that nobody has taken yet, the next one first.
+#[derive(Drop)]
+pub struct Seats<L: Heap> {
+    stubs: VecDeque<Stub>,
+    heap: PhantomData<L>,
+}
+
+impl<L: Heap> Model for Seats<L> {
+    ghost use Rattle.std.specs.Prelude.{List, map};
+    ghost use Rattle.heap_lock.specs.Held.{Chair};
+    ghost use Rattle.heap_lock.specs.Blanks.{chair_of, AllStubs};
+
+    ghost Value = { List Chair };
+
+    ghost view = { λ s. map chair_of s.stubs.items };
+
+    ghost invariant = { λ s. AllStubs L.tables s.stubs.items };
+}
+
+impl<L: Heap> Seats<L> {
+    /// Returns the next seat, or None if all are taken. Takes no memory.
+    pub fn take(&mut self) -> Option<Seat<L>>
+        ensures some { IfSome result (λ s. self.old ≡ s ∷ self.new) }
+        ensures none { IfNone result (self.old ≡ []) }
+    {
+        let Stub {
+            number,
+            role,
+            share,
+        } = self.stubs.pop_front()?;
+        Some(Seat::of(number, role, share))
+    }
+}
+
+// Creates a desk and a stub for each role.
+fn seated(alloc: Global, roles: &[Role]) -> Result<(Vec<Desk>, Vec<Stub>), AllocError>
+    requires { length roles.now ≤ seat_limit }
+    ensures seats { IfOk result (λ p. map chair_of p.1.items ≡ chairs 0 roles.now) }
+    ensures desks { IfOk result (λ p. AllFresh p.0.items) }
+    ensures count { IfOk result (λ p. length (tables_of p.0.items) ≡ length roles.now) }
+    ensures stubs { IfOk result (λ p. AllStubs (tables_of p.0.items) p.1.items) }
+{
+    let mut desks = Vec::new(alloc);
+    let mut stubs = Vec::new(alloc);
+    for i in 0..roles.len() {
+        let mut desk = Desk::new(alloc)?;
+        let share = desk.open();
+        desks.push(desk)?;
+        stubs.push(Stub {
+            number: i as u64,
+            role: roles[i],
+            share,
+        })?;
+    }
+    Ok((desks, stubs))
+}
+
+impl Blank {
+    /// Creates a heap of these settings with a seat for each of 1 to 1,024 roles, in order. Fails with NoMemory.
+    pub fn new(alloc: Global, config: Config, roles: &[Role]) -> Result<Blank, Refusal>
+        requires { (1 ≤ length roles.now) × (length roles.now ≤ seat_limit) }
+        ensures settings { IfOk result (λ b. b.config ≡ config) }
+        ensures seats { IfOk result (λ b. b.seats ≡ chairs 0 roles.now) }
+        ensures tables { IfOk result (λ b. length b.tables ≡ length roles.now) }
+        ensures refused { IfErr result (λ e. e ≡ NoMemory) }
+    {
+        let machine = Machine::new(alloc, config)?;
+        let Ok((desks, stubs)) = seated(alloc, roles) else {
+            return Err(Refusal::NoMemory);
+        };
+        Ok(Blank {
+            config,
+            machine,
+            desks,
+            stubs,
+            alloc,
+        })
+    }
+
+    /// Returns the heap under its lock, and its seats in order. Takes no memory.
+    pub fn open<L: Heap>(self) -> (Shared<L>, Seats<L>)
+        requires { (self.config ≡ L.config) × (self.tables ≡ L.tables) }
+        ensures { result.1 ≡ self.seats }
+    {
+        let Blank {
+            config,
+            machine,
+            desks,
+            stubs,
+            alloc,
+        } = self;
+        let kept = Kept::of(machine, Vec::new(alloc), desks);
+        let stubs = VecDeque::from_vec(stubs);
+        (
+            Shared::of(config, kept),
+            Seats {
+                stubs,
+                heap: PhantomData,
+            },
+        )
+    }
+}

@@ -1,0 +1,340 @@
+//! The heap under its lock, and the seats.
+ghost use Rattle.std.specs.Prelude.{◌≡◌, ◌≢◌, ◌+◌, ◌<◌, true, false, length, MatchBool, MatchOption, IfOk, IfErr, OnErr};
+ghost use Rattle.heap_class.specs.declared.Refusal.TheVariants.{NoMemory, ChronicleFull};
+ghost use Rattle.heap_trail.specs.declared.Action.TheVariants.{Step, Rewind};
+ghost use Rattle.heap_trail.specs.Limits.{last_place};
+ghost use Rattle.heap_trail.specs.Machine.{is_dump_action};
+ghost use Rattle.heap_lock.specs.declared.entry.Role.TheVariants.{User};
+ghost use Rattle.heap_lock.specs.Tally.{tally_in};
+ghost use Rattle.heap_lock.specs.History.{opening, Enters, IsLegalHistory};
+ghost use Rattle.heap_lock.specs.Roles.{is_of_mutator, is_of_marker, is_of_sweeper, may};
+ghost use Rattle.heap_lock.specs.Held.{AllSeated, Folds, Stands, IsMoved, IsAct, IsReceived, IsRefused, IsNoEntry, IsChair, IsKept};
+
+use crate::desk::Desk;
+use crate::entry::{Entry, Outcome, Receipt, Role};
+use crate::view::View;
+use atomic_table::Badge;
+use heap_class::Refusal;
+use heap_step::Event;
+use heap_trail::{Action, Machine};
+use heap_world::Config;
+use std::marker::{Brand, Model, PhantomData};
+use std::mem::replace;
+use std::sync::{Mutex, MutexGuard, Wait};
+
+/// Entries of a chronicle at most.
+pub const CHRONICLE_LIMIT: usize = 1_000_000;
+
+/// Which heap it is: what it was made with, and the table of each seat's tally.
+pub trait Heap {
+    ghost use Rattle.std.specs.Prelude.{List};
+    ghost use Rattle.atomic_table.specs.Seated.{TableId};
+    ghost use Rattle.heap_world.specs.Limits.{Settings};
+
+    ghost config: { Settings };
+
+    ghost tables: { List TableId };
+}
+
+impl Heap for Brand {
+    ghost use Rattle.std.specs.Prelude.{[]};
+    ghost use Rattle.heap_class.specs.declared.IdSize.TheVariants.{Eight};
+
+    ghost config = { record { regions = 1; mutators = 1; keep = 1; ids = Eight } };
+
+    ghost tables = { [] };
+}
+
+/// The right of one caller to act. Contracts see its number, its role and its share of the chronicle.
+#[derive(Drop)]
+pub struct Seat<L: Heap> {
+    number: u64,
+    role: Role,
+    share: Badge<View>,
+    heap: PhantomData<L>,
+}
+
+impl<L: Heap> Model for Seat<L> {
+    ghost use Rattle.heap_lock.specs.Tally.{tally_in};
+    ghost use Rattle.heap_lock.specs.Held.{Chair, IsChair};
+
+    ghost Value = { Chair };
+
+    ghost view = { λ s. record { number = s.number; role = s.role; share = tally_in s.share.views } };
+
+    ghost invariant = { λ s. IsChair L.tables s.number s.share };
+}
+
+/// What lies under the lock. Contracts see the machine and the chronicle.
+#[derive(Drop)]
+pub struct Kept<L: Heap> {
+    pub(crate) machine: Machine,
+    chronicle: Vec<Entry>,
+    desks: Vec<Desk>,
+    heap: PhantomData<L>,
+}
+
+impl<L: Heap> Model for Kept<L> {
+    ghost use Rattle.heap_lock.specs.Held.{Held, IsKept};
+
+    ghost Value = { Held };
+
+    ghost view = { λ k. record { machine = k.machine; chronicle = k.chronicle.items } };
+
+    ghost invariant = { λ k. IsKept L.config L.tables k.machine k.chronicle.items k.desks.items };
+}
+
+// Returns whether the event is one of this mutator's own.
+fn is_mutators(own: u64, event: &Event) -> bool
+    ensures { result ≡ is_of_mutator own event.now }
+{
+    match event {
+        Event::New { m, .. }
+        | Event::NewArray { m, .. }
+        | Event::NewPrim { m, .. }
+        | Event::Load { m, .. }
+        | Event::Store { m, .. }
+        | Event::Put { m, .. }
+        | Event::Move { m, .. }
+        | Event::Clear { m, .. } => *m == own,
+        _ => false,
+    }
+}
+
+// Returns whether the event is the marker's.
+fn is_markers(event: &Event) -> bool
+    ensures { result ≡ is_of_marker event.now }
+{
+    match event {
+        Event::Snap | Event::Mark | Event::Drain | Event::Finish => true,
+        _ => false,
+    }
+}
+
+// Returns whether the event is the sweeper's.
+fn is_sweepers(event: &Event) -> bool
+    ensures { result ≡ is_of_sweeper event.now }
+{
+    match event {
+        Event::Sweep { .. } => true,
+        _ => false,
+    }
+}
+
+// Returns whether the refusal is for want of memory.
+fn wants_memory(refusal: Refusal) -> bool
+    ensures { MatchBool result (refusal ≡ NoMemory) (refusal ≢ NoMemory) }
+{
+    refusal == Refusal::NoMemory
+}
+
+// Does an event or a rewind and returns the answer, or None if it finds no memory.
+fn moved(machine: &mut Machine, action: &Action) -> Option<Outcome>
+    requires deed { is_dump_action action.now ≡ false }
+    requires place { machine.old.trail.place < last_place }
+    ensures { MatchOption result (machine.new ≡ machine.old) (λ o. Enters machine.old action.now machine.new o) }
+{
+    match action {
+        Action::Step(event) => match machine.step(event) {
+            Ok(answer) => Some(Outcome::Answered(answer)),
+            Err(refusal) => {
+                if wants_memory(refusal) {
+                    None
+                } else {
+                    Some(Outcome::Refused(refusal))
+                }
+            }
+        },
+        Action::Rewind(n) => match machine.rewind(*n) {
+            Ok(place) => Some(Outcome::Place(place)),
+            Err(refusal) => Some(Outcome::Refused(refusal)),
+        },
+        _ => unreachable!(),
+    }
+}
+
+impl<L: Heap> Seat<L> {
+    pub(crate) fn of(number: u64, role: Role, share: Badge<View>) -> Seat<L>
+        requires { IsChair L.tables number share }
+        ensures { result ≡ record { number = number; role = role; share = tally_in share.views } }
+    {
+        Seat {
+            number,
+            role,
+            share,
+            heap: PhantomData,
+        }
+    }
+
+    /// Returns whether this seat may ask for the event: a mutator for its own from New to Clear, the marker for Snap, Mark,
+    /// Drain and Finish, the sweeper for Sweep, a user for all.
+    pub fn may(&self, event: &Event) -> bool
+        ensures { result ≡ may self.now.role event.now }
+    {
+        match self.role {
+            Role::Mutator(m) => is_mutators(m, event),
+            Role::Marker => is_markers(event),
+            Role::Sweeper => is_sweepers(event),
+            Role::User => true,
+        }
+    }
+
+    /// Returns the role of this seat.
+    pub fn role(&self) -> Role
+        ensures { result ≡ self.now.role }
+    {
+        self.role
+    }
+}
+
+impl<L: Heap> Kept<L> {
+    pub(crate) fn of(machine: Machine, chronicle: Vec<Entry>, desks: Vec<Desk>) -> Kept<L>
+        requires { IsKept L.config L.tables machine chronicle.items desks.items }
+        ensures { result ≡ record { machine = machine; chronicle = chronicle.items } }
+    {
+        Kept {
+            machine,
+            chronicle,
+            desks,
+            heap: PhantomData,
+        }
+    }
+
+    /// Returns what was done. It is a legal history of the heap's seats, and the machine's trail is what it leaves.
+    pub fn chronicle(&self) -> &[Entry]
+        ensures entries { result.now ≡ self.now.chronicle }
+        ensures legal { IsLegalHistory L.config.keep (opening L.config) self.now.chronicle }
+        ensures seated { AllSeated (length L.tables) self.now.chronicle }
+        ensures folds { Folds L.config self.now }
+    {
+        self.chronicle.as_slice()
+    }
+
+    /// Returns the machine.
+    pub fn machine(&self) -> &Machine
+        ensures { result.now ≡ self.now.machine }
+    {
+        &self.machine
+    }
+
+    // Does the action, and adds its entry to chronicle, book and share.
+    fn do_held(&mut self, seat: &mut Seat<L>, action: Action) -> Result<Receipt, Refusal>
+        requires { is_dump_action action ≡ false }
+        ensures moves { IfOk result (λ r. IsMoved L.config action self.old r self.new) }
+        ensures act { IfOk result (λ r. IsAct action self.old seat.old r self.new seat.new) }
+        ensures stands { IfOk result (λ r. Stands L.config seat.new r.turn action r.answer) }
+        ensures refused { IfErr result (λ e. IsRefused self.old e) }
+        ensures unchanged { OnErr result ((self.new ≡ self.old) × (seat.new ≡ seat.old)) }
+    {
+        let Kept {
+            machine,
+            chronicle,
+            desks,
+            heap: _,
+        } = self;
+        if chronicle.len() >= CHRONICLE_LIMIT {
+            return Err(Refusal::ChronicleFull);
+        }
+        if chronicle.reserve(1).is_err() {
+            return Err(Refusal::NoMemory);
+        }
+        let Some(answer) = moved(machine, &action) else {
+            return Err(Refusal::NoMemory);
+        };
+        let number = seat.number;
+        let turn = chronicle.len() as u64 + 1;
+        let entry = Entry {
+            seat: number,
+            action,
+            answer,
+        };
+        let desk = &mut desks[number as usize];
+        let share = replace(&mut seat.share, Badge::blank());
+        seat.share = desk.gain(share, turn, &entry);
+        chronicle.push_reserved(entry);
+        Ok(Receipt {
+            seat: number,
+            turn,
+            answer,
+        })
+    }
+
+    /// Does an event for one who holds the lock. The chronicle and the seat's share gain the entry with the answer that
+    /// the model gives at that point; a refused event is an entry too. Fails with ChronicleFull if there are 1,000,000
+    /// entries, and with NoMemory; then nothing has changed.
+    pub fn act_held(&mut self, seat: &mut Seat<L>, event: Event) -> Result<Receipt, Refusal>
+        requires { may seat.old.role event ≡ true }
+        ensures moves { IfOk result (λ r. IsMoved L.config (Step event) self.old r self.new) }
+        ensures act { IfOk result (λ r. IsAct (Step event) self.old seat.old r self.new seat.new) }
+        ensures stands { IfOk result (λ r. Stands L.config seat.new r.turn (Step event) r.answer) }
+        ensures refused { IfErr result (λ e. IsRefused self.old e) }
+        ensures unchanged { OnErr result ((self.new ≡ self.old) × (seat.new ≡ seat.old)) }
+    {
+        self.do_held(seat, Action::Step(event))
+    }
+
+    /// Undoes the last `n` steps for one who holds the lock. Has its entry and fails as `act_held` does.
+    pub fn rewind_held(&mut self, seat: &mut Seat<L>, n: u64) -> Result<Receipt, Refusal>
+        requires { seat.old.role ≡ User }
+        ensures moves { IfOk result (λ r. IsMoved L.config (Rewind n) self.old r self.new) }
+        ensures act { IfOk result (λ r. IsAct (Rewind n) self.old seat.old r self.new seat.new) }
+        ensures stands { IfOk result (λ r. Stands L.config seat.new r.turn (Rewind n) r.answer) }
+        ensures refused { IfErr result (λ e. IsRefused self.old e) }
+        ensures unchanged { OnErr result ((self.new ≡ self.old) × (seat.new ≡ seat.old)) }
+    {
+        self.do_held(seat, Action::Rewind(n))
+    }
+}
+
+/// The heap and its lock.
+#[derive(Drop)]
+pub struct Shared<L: Heap> {
+    config: Config,
+    pub(crate) kept: Mutex<Kept<L>>,
+    ghost config_is: { config ≡ L.config },
+}
+
+impl<L: Heap> Shared<L> {
+    pub(crate) fn of(config: Config, kept: Kept<L>) -> Shared<L>
+        requires { config ≡ L.config }
+    {
+        Shared {
+            config,
+            kept: Mutex::new(kept),
+        }
+    }
+
+    /// Returns what the heap was made with.
+    pub fn config(&self) -> Config
+        ensures { result ≡ L.config }
+    {
+        self.config
+    }
+
+    /// Takes the lock, and returns a guard of what lies under it. May wait.
+    pub fn lock<R: Wait>(&self, rt: &R) -> MutexGuard<'_, Kept<L>> {
+        self.kept.lock(rt)
+    }
+
+    /// Does an event under the lock, and returns its receipt. The entry ends some legal history, in which the seat's
+    /// entries are just its share. Fails with ChronicleFull and NoMemory alone, and then the share is as before. Any
+    /// other refusal is the answer of the receipt. May wait.
+    pub fn act<R: Wait>(&self, rt: &R, seat: &mut Seat<L>, event: Event) -> Result<Receipt, Refusal>
+        requires { may seat.old.role event ≡ true }
+        ensures receipt { IfOk result (λ r. IsReceived (Step event) seat.old r seat.new) }
+        ensures stands { IfOk result (λ r. Stands L.config seat.new r.turn (Step event) r.answer) }
+        ensures refused { IfErr result (λ e. (seat.new ≡ seat.old) × IsNoEntry e) }
+    {
+        self.kept.lock(rt).act_held(seat, event)
+    }
+
+    /// Undoes the last `n` steps under the lock. Has its receipt and fails as `act` does. May wait.
+    pub fn rewind<R: Wait>(&self, rt: &R, seat: &mut Seat<L>, n: u64) -> Result<Receipt, Refusal>
+        requires { seat.old.role ≡ User }
+        ensures receipt { IfOk result (λ r. IsReceived (Rewind n) seat.old r seat.new) }
+        ensures stands { IfOk result (λ r. Stands L.config seat.new r.turn (Rewind n) r.answer) }
+        ensures refused { IfErr result (λ e. (seat.new ≡ seat.old) × IsNoEntry e) }
+    {
+        self.kept.lock(rt).rewind_held(seat, n)
+    }
+}

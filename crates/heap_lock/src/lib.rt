@@ -1,0 +1,17 @@
+//! The running heap under one lock, with the history of what was done, and a share of it for each seat.
+#![tactic(auto)]
+
+pub mod audits;
+pub mod blank;
+pub mod desk;
+pub mod dumps;
+pub mod entry;
+pub mod heap;
+pub mod same;
+pub mod stub;
+pub mod view;
+
+pub use audits::audit;
+pub use blank::{Blank, Seats};
+pub use entry::{Entry, Outcome, Receipt, Role};
+pub use heap::{Heap, Kept, Seat, Shared};

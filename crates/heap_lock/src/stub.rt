@@ -1,0 +1,12 @@
+//! Seats of a heap that no type names yet.
+use crate::entry::Role;
+use crate::view::View;
+use atomic_table::Badge;
+
+/// What a seat is made of.
+#[derive(Drop)]
+pub struct Stub {
+    pub number: u64,
+    pub role: Role,
+    pub share: Badge<View>,
+}

@@ -1,0 +1,151 @@
+//! The marker's and the sweeper's workers.
+#![tactic(auto)]
+
+ghost use Rattle.std.specs.Prelude.{◌≡◌};
+ghost use Rattle.heap_lock.specs.declared.entry.Role.TheVariants.{Marker, Sweeper};
+ghost use Rattle.heap_work.specs.Rule.{end_of, event_of, stage_after, IsMarked, IsSwept};
+
+use heap_class::Refusal;
+use heap_lock::{Heap, Outcome, Receipt, Seat, Shared};
+use heap_step::{Answer, Event};
+use std::sync::Wait;
+
+/// What a worker passes before each act, without the lock.
+pub trait Gate {
+    /// Returns once the act of this number, counted from 1, may begin.
+    fn pass(&mut self, turn: u64);
+}
+
+/// A gate that is always open.
+#[derive(Clone, Copy)]
+pub struct Open;
+
+impl Gate for Open {
+    fn pass(&mut self, turn: u64) {
+        let _ = turn;
+    }
+}
+
+/// How a mark worker ended, with its last receipt if that tells.
+#[derive(Clone, Copy, PartialEq, Eq, Debug)]
+pub enum Marked {
+    /// The cycle is finished.
+    Finished(Receipt),
+    /// No cycle ran.
+    NotMarking(Receipt),
+    /// A region has to be swept first.
+    Pending(Receipt),
+    /// An act was refused, NoMemory or ChronicleFull.
+    Refused(Refusal),
+    /// It has done as many acts as it may.
+    TurnsOver,
+}
+
+/// How a sweep worker ended.
+#[derive(Clone, Copy, PartialEq, Eq, Debug)]
+pub enum Swept {
+    /// It has asked for each region.
+    Swept,
+    /// An act was refused, NoMemory or ChronicleFull.
+    Refused(Refusal),
+    /// It has done as many acts as it may.
+    TurnsOver,
+}
+
+/// What a mark worker does next.
+#[derive(Clone, Copy, PartialEq, Eq, Debug)]
+pub enum Stage {
+    Snap,
+    Mark,
+    Drain,
+    Finish,
+}
+
+// Returns the event of a stage.
+fn asked(stage: Stage) -> Event
+    ensures { result ≡ event_of stage }
+{
+    match stage {
+        Stage::Snap => Event::Snap,
+        Stage::Mark => Event::Mark,
+        Stage::Drain => Event::Drain,
+        Stage::Finish => Event::Finish,
+    }
+}
+
+// Returns the stage that follows an answer.
+fn next(answer: Outcome) -> Stage
+    ensures { result ≡ stage_after answer }
+{
+    match answer {
+        Outcome::Refused(Refusal::NothingToMark) => Stage::Drain,
+        Outcome::Refused(Refusal::NothingToDrain) => Stage::Finish,
+        _ => Stage::Mark,
+    }
+}
+
+// Returns how the worker ends after this receipt, or None if it goes on.
+fn ended(receipt: Receipt) -> Option<Marked>
+    ensures { result ≡ end_of receipt }
+{
+    match receipt.answer {
+        Outcome::Answered(Answer::Condemned(_)) => Some(Marked::Finished(receipt)),
+        Outcome::Refused(Refusal::NotMarking) => Some(Marked::NotMarking(receipt)),
+        Outcome::Refused(Refusal::SweepPending { .. }) => Some(Marked::Pending(receipt)),
+        _ => None,
+    }
+}
+
+/// Marks until the cycle is finished, in at most `turns` acts: Snap, then Mark; Drain if nothing is left to mark, Finish if
+/// nothing is left to drain, and Mark again after any other answer. Passes the gate before each act, without the lock. May
+/// wait.
+pub fn mark_worker<L: Heap, R: Wait, G: Gate>(
+    shared: &Shared<L>,
+    rt: &R,
+    seat: &mut Seat<L>,
+    gate: &mut G,
+    turns: u64,
+) -> Marked
+    requires { seat.old.role ≡ Marker }
+    ensures { IsMarked L.config seat.old seat.new turns result }
+{
+    let mut stage = Stage::Snap;
+    for turn in 0..turns {
+        gate.pass(turn + 1);
+        match shared.act(rt, seat, asked(stage)) {
+            Ok(receipt) => {
+                if let Some(end) = ended(receipt) {
+                    return end;
+                }
+                stage = next(receipt.answer);
+            }
+            Err(refusal) => return Marked::Refused(refusal),
+        }
+    }
+    Marked::TurnsOver
+}
+
+/// Asks for a sweep of each region once, from 0 on, in at most `turns` acts. Passes the gate before each act, without the
+/// lock. May wait.
+pub fn sweep_worker<L: Heap, R: Wait, G: Gate>(
+    shared: &Shared<L>,
+    rt: &R,
+    seat: &mut Seat<L>,
+    gate: &mut G,
+    turns: u64,
+) -> Swept
+    requires { seat.old.role ≡ Sweeper }
+    ensures { IsSwept L.config seat.old seat.new turns result }
+{
+    let regions = shared.config().regions();
+    for region in 0..regions {
+        if region >= turns {
+            return Swept::TurnsOver;
+        }
+        gate.pass(region + 1);
+        if let Err(refusal) = shared.act(rt, seat, Event::Sweep { region }) {
+            return Swept::Refused(refusal);
+        }
+    }
+    Swept::Swept
+}

@@ -14,7 +14,7 @@ mod view;
 mod walk;
 
 use heap_step::undo_takes_back;
-pub use pin::Pin;
+pub use pin::{Pin, touched_region};
 pub use view::PinView;
 
 /// The law that a region that a record doesn't name still has all that it had before the step.

@@ -57,6 +57,18 @@ fn no_copies(alloc: Global, count: u64) -> Result<Vec<Option<FrozenRegion>>, Ref
     Ok(copies)
 }
 
+/// Returns the region of which a step with this record overwrote a word or removed an object.
+#[tactic(auto, unfolding(crate::specs::Kept::touched))]
+pub fn touched_region(left: &Undo) -> Option<u64>
+    ensures { result ≡ touched left.now }
+{
+    match left {
+        Undo::Put { at, .. } | Undo::Store { at, .. } => Some(at.region as u64),
+        Undo::Sweep { region, .. } | Undo::Reclaim { region, .. } => Some(*region as u64),
+        _ => None,
+    }
+}
+
 impl Pin {
     /// Returns a pin on the current state, from which it can be walked back. Fails with NoMemory.
     pub fn open(alloc: Global, world: &World) -> Result<Pin, Refusal>

@@ -1,17 +1,19 @@
 -- Pin by pin.
 use Rattle.heap_class.specs.declared.IdSize.{IdSize}
-use Rattle.std.proofs.Common.{◌≡◌, ℕ, zero, suc, ◌-◌, ◌<◌, ◌≤◌, List, [], ◌∷◌, length, set, sym, ap, subst, ◌∙◌, arith}
+use Rattle.std.proofs.Common.{◌≡◌, ℕ, zero, suc, ◌-◌, ◌<◌, ◌≤◌, List, [], ◌∷◌, length, set, sym, ap, subst, ◌∙◌, arith, refl, inl, None}
 use Rattle.std.specs.Prelude.{slice_index_or}
 use Rattle.heap_world.specs.State.{HeapState}
 use Rattle.heap_step.specs.declared.Undo.{Undo}
 use Rattle.heap_step.specs.Records.{undone}
+use Rattle.heap_pins.specs.Kept.{kept, kept_if, touched}
+use Rattle.heap_pins.specs.Pin.{Pinned}
 use Rattle.heap_pins.specs.Shows.{Shows}
 use Rattle.heap_pins.proofs.Holding.{first_of}
 use Rattle.heap_pins.proofs.Others.{length_undone}
 use Rattle.heap_trail.specs.declared.held.Held.{Held}
 use Rattle.heap_trail.specs.declared.held.Held.TheVariants.{Kept, Lost}
 use Rattle.heap_trail.specs.declared.held.Slot.{Slot}
-use Rattle.heap_trail.specs.Slots.{IsSized, IsSizedHeld, EachSized, MayKeep, EachMayKeep, HoldsAt, AreHeld}
+use Rattle.heap_trail.specs.Slots.{IsSized, IsSizedHeld, EachSized, held_kept, MayKeep, EachMayKeep, HoldsAt, AreHeld}
 
 -- the first i pins have kept what they have to, and the others are as they were
 abbrev pub KeptUpTo : Undo → HeapState → ℕ → List Slot → List Slot → Type 0
@@ -69,6 +71,22 @@ all_kept left v (suc i) [] (t ∷ ts) k few = absurd (clash k)
     clash e = cc
 all_kept left v (suc i) (s ∷ ss) [] k few = absurd k
 all_kept left v (suc i) (s ∷ ss) (t ∷ ts) k few = (k.0, all_kept left v i ss ts k.1 (omega (arith, few)))
+
+-- ---- a step that touches no region
+
+kept_none : (left : Undo) (v : HeapState) (p : Pinned) → touched left ≡ None → kept left v p ≡ p
+unfolding kept kept_if
+kept_none left v p none = ap (λ t. kept_if t left v p) none
+
+held_none : (left : Undo) (v : HeapState) (h : Held) → touched left ≡ None → h ≡ held_kept left v h
+unfolding held_kept
+held_none left v (Kept place pin cursor given) none = ap (λ p. Kept place p cursor given) (sym (kept_none left v pin none))
+held_none left v (Lost cause) none = refl
+
+-- leaves each pin as it is
+pub none_touched : (left : Undo) (v : HeapState) (ss : List Slot) → touched left ≡ None → EachMayKeep left v ss ss
+none_touched left v [] none = tt
+none_touched left v (s ∷ ss) none = (inl (ap (λ (h : Held). (let t : Slot = record s { held = h } in t)) (held_none left v s.held none)), none_touched left v ss none)
 
 -- ---- each pin has a place for each region
 

@@ -27,6 +27,7 @@ mod pins;
 use circular_buffer::HeapCircularBuffer;
 pub use examples::worked_examples;
 use heap_class::{IdSize, Refusal};
+use heap_pins::touched_region;
 use heap_step::step::undo;
 use heap_step::{Answer, Event, Undo, apply, undo_takes_back};
 use heap_world::{Config, World};
@@ -127,8 +128,13 @@ fn keep_each(pins: &mut [Slot], world: &World, left: &Undo)
     requires sized { EachSized (length world.now.regions) pins.old }
     ensures { EachMayKeep left.now world.now pins.old pins.new }
 {
-    for i in 0..pins.len() {
-        pins[i].keep(world, left);
+    match touched_region(left) {
+        Some(_) => {
+            for i in 0..pins.len() {
+                pins[i].keep(world, left);
+            }
+        }
+        None => {}
     }
 }
 

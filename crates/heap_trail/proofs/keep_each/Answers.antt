@@ -1,8 +1,8 @@
-use Rattle.std.proofs.Common.{◌≡◌, ◌+◌, length, sym, subst, arith, suc}
+use Rattle.std.proofs.Common.{◌≡◌, ◌+◌, length, sym, subst, arith, suc, ◌∙◌}
 use Rattle.std.specs.Prelude.{slice_set}
 use Rattle.heap_trail.specs.Slots.{IsSized, MayKeep}
 use Rattle.heap_trail.specs.declared.held.Slot.{Slot}
-use Rattle.heap_trail.proofs.EachKept.{KeptUpTo, sized_there, one_more, all_kept}
+use Rattle.heap_trail.proofs.EachKept.{KeptUpTo, sized_there, one_more, all_kept, none_touched}
 use Rattle.heap_trail.proofs.keep_each.Goals as goal
 
 pub keep-requires-clause-sized : goal.keep-requires-clause-sized
@@ -16,5 +16,8 @@ loop-i-preserved c =
     (one_more c.args.left.now c.args.world.now c.loop-i.i c.args.pins.now c.loop-i.pins c.index-pins-i.result c.keep.new.self c.loop-i.invariant (omega (arith, c.loop-i-test.true, c.loop-i.auto.pins)) c.index-pins-i.is
     (subst (λ (s : Slot). MayKeep c.args.left.now c.args.world.now s c.keep.new.self) (sym c.index-pins-i.is) c.keep.ensures))
 
-pub returns : goal.returns
-returns c = all_kept c.args.left.now c.args.world.now c.loop-i.i c.args.pins.now c.loop-i.pins c.loop-i.invariant (omega (arith, c.loop-i-test.false, c.loop-i.auto.pins))
+pub returns-after-loop-i : goal.returns-after-loop-i
+returns-after-loop-i c = all_kept c.args.left.now c.args.world.now c.loop-i.i c.args.pins.now c.loop-i.pins c.loop-i.invariant (omega (arith, c.loop-i-test.false, c.loop-i.auto.pins))
+
+pub returns-in-None : goal.returns-in-None
+returns-in-None c = none_touched c.args.left.now c.args.world.now c.args.pins.now (sym c.touched_region.ensures ∙ c.in-None.is)

@@ -112,10 +112,10 @@ opened_same n (x ∷ xs) y = go (x.0 == n) (opened_same n xs y)
     go false rest = rest
 
 -- one pin fewer
-abbrev Left : ℕ → ℕ → List (ℕ × PinState) → Option (ℕ × PinState)
+abbrev pub Left : ℕ → ℕ → List (ℕ × PinState) → Option (ℕ × PinState)
 Left pin n xs = find (λ (e : ℕ × PinState). e.0 == n) (filter (λ e. not (e.0 == pin)) xs)
 
-left_other : (pin n : ℕ) (xs : List (ℕ × PinState)) → n ≢ pin → Left pin n xs ≡ find (λ (e : ℕ × PinState). e.0 == n) xs
+pub left_other : (pin n : ℕ) (xs : List (ℕ × PinState)) → n ≢ pin → Left pin n xs ≡ find (λ (e : ℕ × PinState). e.0 == n) xs
 left_other pin n [] other = refl
 left_other pin n (x ∷ xs) other = go (x.0 == pin) (x.0 == n) refl refl (left_other pin n xs other)
   where
@@ -125,7 +125,7 @@ left_other pin n (x ∷ xs) other = go (x.0 == pin) (x.0 == n) refl refl (left_o
     go false true d e rest = rw (d, e) refl
     go false false d e rest = rw (d, e) rest
 
-left_none : (pin : ℕ) (xs : List (ℕ × PinState)) → Left pin pin xs ≡ None
+pub left_none : (pin : ℕ) (xs : List (ℕ × PinState)) → Left pin pin xs ≡ None
 left_none pin [] = refl
 left_none pin (x ∷ xs) = go (x.0 == pin) refl (left_none pin xs)
   where
@@ -151,7 +151,7 @@ unfolding after_result
 result_same m (Ok r) = refl
 result_same m (Err r) = refl
 
-step_same : (m : Machine) (e : Event) (b : Bool) → (after_step_at b e m).0.pins ≡ m.pins
+pub step_same : (m : Machine) (e : Event) (b : Bool) → (after_step_at b e m).0.pins ≡ m.pins
 unfolding after_step_at
 step_same m e true = refl
 step_same m e false = result_same m (applied e m.trail.current)

@@ -24,3 +24,4 @@ pub mod Given
 pub mod SlotFound
 pub mod PieceGiven
 pub mod ByTrail
+pub mod TextGiven

@@ -1,5 +1,5 @@
 -- What holds of a trail.
-use Rattle.std.specs.Prelude.{◌≡◌, ℕ, ◌<◌, ◌≤◌, ◌^◌, true, not, List, [], ◌∷◌, length, find, Some, None}
+use Rattle.std.specs.Prelude.{◌≡◌, ℕ, ◌<◌, ◌≤◌, ◌^◌, Bool, true, false, not, ◌&&◌, ◌||◌, ◌==◌, List, [], ◌∷◌, ◌++◌, length, find, Some, None, if◌then◌else◌}
 use Rattle.heap_class.specs.declared.IdSize.{IdSize}
 use Rattle.heap_region.specs.Regions.{Object, object_of}
 use Rattle.heap_mark.specs.Marking.{is_marking}
@@ -9,8 +9,10 @@ use Rattle.heap_world.specs.Legal.{IsLegal, IsLive, NamesOne}
 use Rattle.heap_step.specs.declared.Event.{Event}
 use Rattle.heap_step.specs.Apply.{refusal_of, state_after}
 use Rattle.heap_step.specs.declared.Answer.{Answer}
-use Rattle.heap_trail.specs.declared.Action.TheVariants.{Step, Rewind}
-use Rattle.heap_trail.specs.declared.Reply.TheVariants.{Answered, Place}
+use Rattle.hprof_text.specs.Segments.{dump_text}
+use Rattle.heap_trail.specs.declared.Action.TheVariants.{Step, Rewind, OpenPin, NextPiece, ClosePin}
+use Rattle.heap_trail.specs.declared.Reply.{Reply}
+use Rattle.heap_trail.specs.declared.Reply.TheVariants.{Answered, Place, Part}
 use Rattle.hprof_text.specs.Image.{Image}
 use Rattle.hprof_text.specs.Fits.{HoldsWhole, ShowsWhole}
 use Rattle.heap_pins.specs.Images.{image_of}
@@ -57,3 +59,44 @@ KeepsImage m a pin = (p q : ℕ) (i j : Image) (g h : ℕ) → pin_at pin m.pins
 -- each number in the dump of a legal heap is below what the bytes that it has there hold: ids and words too
 abbrev pub DumpIsWhole : IdSize → HeapState → ℕ → Type 0
 DumpIsWhole ids w time = IsLegal w → time < 2 ^ 64 → HoldsWhole ids (image_of w) time × ShowsWhole ids (image_of w)
+
+-- ---- what a pin gives in a list of actions
+
+-- the bytes of a piece of the pin, if the action asked for one and got it
+unfoldable pub piece_given : ℕ → Action → Reply → List ℕ
+piece_given pin (NextPiece n time) (Part p) = if n == pin then p.bytes else []
+piece_given pin a r = []
+
+-- and whether it was the last
+unfoldable pub last_given : ℕ → Action → Reply → Bool
+last_given pin (NextPiece n time) (Part p) = (n == pin) && p.last
+last_given pin a r = false
+
+-- the bytes of all pieces of the pin, in order
+unfoldable pub bytes_given : ℕ → Machine → List (Action × Mark) → List ℕ
+bytes_given pin m [] = []
+bytes_given pin m (a ∷ as') = let r = acted_under m a in piece_given pin a.0 r.1 ++ bytes_given pin r.0 as'
+
+-- whether the last was among them
+unfoldable pub gave_last : ℕ → Machine → List (Action × Mark) → Bool
+gave_last pin m [] = false
+gave_last pin m (a ∷ as') = let r = acted_under m a in last_given pin a.0 r.1 || gave_last pin r.0 as'
+
+-- each piece of the pin is asked for with this time
+abbrev pub AsksAt : ℕ → ℕ → Action → Type 0
+AsksAt pin time (NextPiece n t) = n ≡ pin → t ≡ time
+AsksAt pin time (Step e) = Unit {0}
+AsksAt pin time (Rewind n) = Unit {0}
+AsksAt pin time (OpenPin at) = Unit {0}
+AsksAt pin time (ClosePin n) = Unit {0}
+
+abbrev pub AskAt : ℕ → ℕ → List (Action × Mark) → Type 0
+AskAt pin time [] = Unit {0}
+AskAt pin time (a ∷ as') = AsksAt pin time a.0 × AskAt pin time as'
+
+-- whatever else is done, the pieces of a pin that gave none yet are a beginning of the text of its image, and all of it once the
+-- last was given
+abbrev pub GivesText : Machine → List (Action × Mark) → ℕ → ℕ → Type 0
+GivesText m actions pin time =
+    (place : ℕ) (image : Image) → pin_at pin m.pins ≡ Some (Kept place image 0) → pin < m.pins.next → AskAt pin time actions
+    → (rest : List ℕ) × (bytes_given pin m actions ++ rest ≡ dump_text m.ids image time) × (gave_last pin m actions ≡ true → rest ≡ [])

@@ -12,7 +12,7 @@ ghost use Rattle.heap_world.specs.State.{HeapState};
 ghost use Rattle.heap_world.specs.Legal.{IsLegal};
 ghost use Rattle.heap_trail.specs.declared.Action.TheVariants.{OpenPin, Step, Rewind};
 ghost use Rattle.heap_trail.specs.declared.Reply.TheVariants.{Answered, Pinned, Place, Refused};
-ghost use Rattle.heap_trail.specs.Laws.{FindsSnapshot, IsTrail, KeepsImage, DumpIsWhole, LeadsBack, LeavesTrail, ReachesLive, SparesReached};
+ghost use Rattle.heap_trail.specs.Laws.{FindsSnapshot, IsTrail, GivesText, KeepsImage, DumpIsWhole, LeadsBack, LeavesTrail, ReachesLive, SparesReached};
 ghost use Rattle.heap_trail.specs.Machine.{IsSmall, Machine, Mark, MayFail, MayReply, acted, is_dump_action, opening_machine};
 ghost use Rattle.heap_trail.specs.Slots.{AreAllBelow, EachMayKeep, EachSized, slot_after_rewind};
 ghost use Rattle.heap_trail.specs.Trail.{retained, rewound};
@@ -315,4 +315,10 @@ pub fn step_leads_back()
 /// The law that nothing in the dump of a legal heap is cut off, whatever the size of identifiers.
 pub fn dump_is_whole()
     ensures { (ids : IdSize) (w : HeapState) (time : ℕ) → DumpIsWhole ids w time }
+{}
+
+/// The law that what a pin gives in a list of actions, whatever else is done between its pieces, is a beginning of the text of
+/// its image, and all of it once the last piece was given.
+pub fn dumps_are_text()
+    ensures { (m : Machine) (actions : List (Action × Mark)) (pin time : ℕ) → GivesText m actions pin time }
 {}

@@ -14,7 +14,7 @@ use Rattle.heap_step.specs.declared.Undo.{Undo}
 use Rattle.hprof_text.specs.declared.Cursor.{Cursor}
 use Rattle.hprof_text.specs.declared.Piece.{Piece}
 use Rattle.hprof_text.specs.Image.{Image}
-use Rattle.hprof_text.specs.Segments.{pieces_of}
+use Rattle.hprof_text.specs.Segments.{pieces_of, piece_of}
 use Rattle.heap_pins.specs.Images.{image_of}
 use Rattle.heap_pins.specs.Pin.{Pinned, places_from, pin_image}
 use Rattle.heap_pins.specs.Shows.{Shows, Holds}
@@ -24,6 +24,7 @@ use Rattle.heap_trail.specs.declared.Reply.TheVariants.{Part, Refused}
 use Rattle.heap_trail.specs.declared.held.Held.{Held}
 use Rattle.heap_trail.specs.declared.held.Held.TheVariants.{Kept, Lost}
 use Rattle.heap_trail.specs.declared.held.Slot.{Slot}
+use Rattle.heap_trail.specs.Laws.{IsPieceOfLegal}
 use Rattle.heap_trail.specs.Pins.{PinState, if_kept, each_kept, with_piece_given, pin_at}
 use Rattle.heap_trail.specs.Pins.{Kept as KeptState, Gone}
 use Rattle.heap_trail.specs.Machine.{Machine, Refusing, MayStand, acted, after_piece, counted, may_grow, is_accepted}
@@ -52,6 +53,12 @@ still_holds ids w past place time piece (Kept at pin cursor given) new h g =
     let more = given_after given (length (pieces_of ids (pin_image pin w) time)) in
     subst (HoldsAt ids (w ∷ past) place) (sym g.2) (h.0, h.1, h.2, gives ids w past place h.0 at pin g.1 more h.2 g.3)
 still_holds ids w past place time piece (Lost cause) new h g = absurd g
+
+-- what a pin gives is of the dump of its state, which is legal
+pub of_legal : (ids : IdSize) (w : HeapState) (past : List HeapState) (place time : ℕ) (piece : Piece) (h new : Held) → HoldsAt ids (w ∷ past) place h → HasGiven ids w time piece h new → IsPieceOfLegal ids time piece
+of_legal ids w past place time piece (Kept at pin cursor given) new h g =
+    (h.0, h.2.pin.legal, given, g.0 ∙ ap (λ (i : Image). piece_of ids i time given) (held_image pin h.0 (place - at) w past h.2))
+of_legal ids w past place time piece (Lost cause) new h g = absurd g
 
 -- a pin that gave a piece, or none
 pub holds_after : (ids : IdSize) (w : HeapState) (past : List HeapState) (place time : ℕ) (s t : Slot) (r : Result Piece Refusal) → HoldsAt ids (w ∷ past) place s.held → IfOk r (λ p. HasGiven ids w time p s.held t.held) → OnErr r (t ≡ s) → HoldsAt ids (w ∷ past) place t.held

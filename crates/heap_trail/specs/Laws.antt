@@ -9,7 +9,8 @@ use Rattle.heap_world.specs.Legal.{IsLegal, IsLive, NamesOne}
 use Rattle.heap_step.specs.declared.Event.{Event}
 use Rattle.heap_step.specs.Apply.{refusal_of, state_after}
 use Rattle.heap_step.specs.declared.Answer.{Answer}
-use Rattle.hprof_text.specs.Segments.{dump_text}
+use Rattle.hprof_text.specs.declared.Piece.{Piece}
+use Rattle.hprof_text.specs.Segments.{dump_text, piece_of}
 use Rattle.heap_trail.specs.declared.Action.TheVariants.{Step, Rewind, OpenPin, NextPiece, ClosePin}
 use Rattle.heap_trail.specs.declared.Reply.{Reply}
 use Rattle.heap_trail.specs.declared.Reply.TheVariants.{Answered, Place, Part}
@@ -59,6 +60,10 @@ KeepsImage m a pin = (p q : ℕ) (i j : Image) (g h : ℕ) → pin_at pin m.pins
 -- each number in the dump of a legal heap is below what the bytes that it has there hold: ids and words too
 abbrev pub DumpIsWhole : IdSize → HeapState → ℕ → Type 0
 DumpIsWhole ids w time = IsLegal w → time < 2 ^ 64 → HoldsWhole ids (image_of w) time × ShowsWhole ids (image_of w)
+
+-- a piece, asked for at this time, of the dump of some legal state
+abbrev pub IsPieceOfLegal : IdSize → ℕ → Piece → Type 0
+IsPieceOfLegal ids time piece = (w : HeapState) × IsLegal w × (given : ℕ) × (piece ≡ piece_of ids (image_of w) time given)
 
 -- ---- what a pin gives in a list of actions
 

@@ -2,6 +2,7 @@
 ghost use Rattle.std.specs.Prelude.{◌≡◌, ◌≤◌, ◌^◌, length, IfOk, IfErr, OnErr};
 ghost use Rattle.heap_trail.specs.declared.Action.TheVariants.{OpenPin, NextPiece, ClosePin};
 ghost use Rattle.heap_trail.specs.declared.Reply.TheVariants.{Pinned as PinnedReply, Part, Closed, Refused};
+ghost use Rattle.heap_trail.specs.Laws.{IsPieceOfLegal};
 ghost use Rattle.heap_trail.specs.Pins.{is_retained};
 ghost use Rattle.heap_trail.specs.Machine.{MayFail, acted};
 
@@ -52,11 +53,12 @@ impl Machine {
         Ok(Pinned { pin: number, at })
     }
 
-    /// Gives the next piece of a pin's dump; past the last it is empty. The time, in milliseconds, stands in the first
-    /// piece alone. Fails with NoPin if no such pin is open, with Lost and its cause if the pin is lost, and with
+    /// Gives the next piece of a pin's dump; past the last it is empty. It is a piece of the dump of a legal state. The
+    /// time, in milliseconds, stands in the first piece alone. Fails with NoPin if no such pin is open, with Lost and its cause if the pin is lost, and with
     /// NoMemory; then the same piece is next.
     pub fn piece(&mut self, pin: u64, time: u64) -> Result<Piece, Refusal>
         ensures done { IfOk result (λ p. acted self.old (NextPiece pin time) ≡ (self.new, Part p)) }
+        ensures legal { IfOk result (λ p. IsPieceOfLegal self.old.ids time p) }
         ensures refused { IfErr result (λ e. MayFail self.old (NextPiece pin time) self.new e) }
         ensures unchanged { OnErr result (self.new ≡ self.old) }
         ensures small { IfOk result (λ p. length p.bytes ≤ 2 ^ 24) }

@@ -1,13 +1,14 @@
-use Rattle.std.proofs.Common.{◌≡◌, ◌⊎◌, ◌∷◌, set, IfErr, subst, inl}
+use Rattle.std.proofs.Common.{◌≡◌, ◌⊎◌, ◌∷◌, set, IfOk, IfErr, subst, inl}
 use Rattle.std.proofs.lemmas.Result.{IfOk-weaker}
 use Rattle.heap_class.specs.declared.Refusal.TheVariants.{NoMemory, NoPin}
 use Rattle.heap_trail.specs.declared.Action.TheVariants.{NextPiece}
 use Rattle.heap_trail.specs.declared.Reply.TheVariants.{Part, Refused}
+use Rattle.heap_trail.specs.Laws.{IsPieceOfLegal}
 use Rattle.heap_trail.specs.Machine.{Machine, Refusing, MayStand, acted}
 use Rattle.heap_trail.specs.Slots.{HasGiven}
 use Rattle.heap_trail.specs.Records.{past_of, machine_of}
 use Rattle.heap_trail.proofs.SlotFound.{slot_found, pin_missing, held_there}
-use Rattle.heap_trail.proofs.PieceGiven.{can_give, holds_after, pinning_set, piece_done, piece_missing, piece_not_given}
+use Rattle.heap_trail.proofs.PieceGiven.{can_give, holds_after, of_legal, pinning_set, piece_done, piece_missing, piece_not_given}
 use Rattle.heap_trail.proofs.Machine.piece.Goals as goal
 
 pub next_piece-requires : goal.next_piece-requires
@@ -40,6 +41,18 @@ returns-in-Some-clause-done c =
     (subst (λ n. acted (machine_of i.ids i.world i.records i.place i.keep i.next i.pins.items) (NextPiece n c.args.time) ≡ (new, Part p)) there.1
     (piece_done i.ids i.world i.records i.place i.keep i.next i.pins.items c.in-Some.slot c.args.time s t p c.self.invariant.1 there.0 c.next_piece.ensures.number given)))
     c.next_piece.ensures.given
+
+pub returns-in-Some-clause-legal : goal.returns-in-Some-clause-legal
+returns-in-Some-clause-legal c =
+    let i = c.self.inside in
+    let s = c.index_mut.result.now in
+    let t = c.next_piece.new.self in
+    let past = past_of i.world i.records.items in
+    let there = slot_found c.args.pin i.pins.items c.deref.result.now c.slot_of.result c.in-Some.slot s c.deref.ensures.value c.slot_of.ensures c.in-Some.is c.index_mut.ensures.value in
+    let held = held_there i.ids (i.world ∷ past) i.place i.next i.pins.items c.in-Some.slot s c.self.invariant.1.held there.0 in
+    subst (λ (m : Machine). IfOk c.next_piece.result (λ p. IsPieceOfLegal m.ids c.args.time p)) c.self.view_is
+    (IfOk-weaker c.next_piece.result (λ p. HasGiven i.ids i.world c.args.time p s.held t.held) (λ p. IsPieceOfLegal i.ids c.args.time p)
+    (λ p given. of_legal i.ids i.world past i.place c.args.time p s.held t.held held given) c.next_piece.ensures.given)
 
 pub returns-in-Some-clause-refused : goal.returns-in-Some-clause-refused
 returns-in-Some-clause-refused c =

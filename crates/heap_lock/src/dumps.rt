@@ -2,6 +2,7 @@
 ghost use Rattle.std.specs.Prelude.{◌≡◌, IfOk, IfErr, OnErr};
 ghost use Rattle.heap_trail.specs.declared.Action.TheVariants.{OpenPin, NextPiece, ClosePin};
 ghost use Rattle.heap_trail.specs.declared.Reply.TheVariants.{Pinned as PinnedReply, Part, Closed, Refused};
+ghost use Rattle.heap_trail.specs.Laws.{IsPieceOfLegal};
 ghost use Rattle.heap_lock.specs.Held.{IsDumped, WasDumped};
 
 use crate::heap::{Heap, Kept, Shared};
@@ -20,9 +21,10 @@ impl<L: Heap> Kept<L> {
         self.machine.open_pin(at)
     }
 
-    /// Gives the next piece of a pin's dump. Fails as `Machine::piece` does.
+    /// Gives the next piece of a pin's dump: a piece of the dump of a legal state. Fails as `Machine::piece` does.
     pub fn piece_held(&mut self, pin: u64, time: u64) -> Result<Piece, Refusal>
         ensures done { IfOk result (λ p. IsDumped (NextPiece pin time) self.old (Part p) self.new) }
+        ensures legal { IfOk result (λ p. IsPieceOfLegal L.config.ids time p) }
         ensures refused { IfErr result (λ e. IsDumped (NextPiece pin time) self.old (Refused e) self.new) }
         ensures unchanged { OnErr result (self.new ≡ self.old) }
     {
@@ -54,6 +56,7 @@ impl<L: Heap> Shared<L> {
     /// Gives the next piece of a pin as `Kept::piece_held` does, under the lock. May wait.
     pub fn next_piece<R: Wait>(&self, rt: &R, pin: u64, time: u64) -> Result<Piece, Refusal>
         ensures done { IfOk result (λ p. WasDumped L.config (NextPiece pin time) (Part p)) }
+        ensures legal { IfOk result (λ p. IsPieceOfLegal L.config.ids time p) }
         ensures refused { IfErr result (λ e. WasDumped L.config (NextPiece pin time) (Refused e)) }
     {
         let mut kept = self.kept.lock(rt);

@@ -1,6 +1,7 @@
-use Rattle.std.proofs.Common.{refl}
+use Rattle.std.proofs.Common.{IfOk, refl, subst}
 use Rattle.heap_trail.specs.declared.Action.TheVariants.{NextPiece}
 use Rattle.heap_trail.specs.declared.Reply.TheVariants.{Part}
+use Rattle.heap_trail.specs.Laws.{IsPieceOfLegal}
 use Rattle.heap_lock.proofs.Dumping.{dumped_keeps, dumped_done, dumped_refused}
 use Rattle.heap_lock.proofs.heap.Kept.piece_held.Goals as goal
 
@@ -13,6 +14,9 @@ pub returns-clause-done : goal.returns-clause-done
 returns-clause-done g c =
     dumped_done c.args.self.now c.self.inside.machine c.piece.new.self c.self.inside.chronicle.items (NextPiece c.args.pin c.args.time) (λ p. Part p)
     c.piece.result c.self.view_is c.piece.ensures.done
+
+pub returns-clause-legal : goal.returns-clause-legal
+returns-clause-legal g c = subst (λ ids. IfOk c.piece.result (λ p. IsPieceOfLegal ids c.args.time p)) c.self.invariant.ids c.piece.ensures.legal
 
 pub returns-clause-refused : goal.returns-clause-refused
 returns-clause-refused g c =

@@ -1,5 +1,5 @@
 # The commands of this repository. README says what each is for.
-.PHONY: run build prove test edits bench
+.PHONY: run build prove test edits bench bench-lock
 
 # How many crates `make prove` checks side by side. Each takes up to 6 GB of memory.
 JOBS ?= 3
@@ -31,3 +31,7 @@ edits:
 
 bench: build
 	bash bench/lines.sh
+
+# What acts under the lock cost. Builds a program of its own in a temporary folder.
+bench-lock:
+	python3 bench/lock.py

@@ -1,1 +1,3 @@
 pub mod Outlets
+pub mod Sources
+pub mod Pumps

@@ -3,9 +3,13 @@
 
 pub mod ledger;
 pub mod outlet;
+pub mod source;
+pub mod transfer;
 pub mod write_outlet;
 
 pub use outlet::Outlet;
+pub use source::{Ending, Next, Source};
+pub use transfer::{Pumped, pump};
 pub use write_outlet::WriteOutlet;
 
 /// What a put took.

@@ -1,0 +1,54 @@
+-- What a pump does.
+use Rattle.std.specs.Prelude.{◌≡◌, ℕ, ◌+◌, ◌<◌, ◌≤◌, Bool, true, false, List, [], ◌∷◌, ◌++◌, take, length, Option, Some}
+use mathlib.Core.List.{IsPrefix}
+use Rattle.hprof_text.specs.declared.Piece.{Piece}
+use Rattle.dump_pump.specs.declared.source.Ending.{Ending}
+use Rattle.dump_pump.specs.declared.source.Ending.TheVariants as End
+use Rattle.dump_pump.specs.declared.transfer.Pumped.{Pumped}
+use Rattle.dump_pump.specs.declared.transfer.Pumped.TheVariants.{Done, OutletFailed, Lost, Cancelled}
+use Rattle.dump_pump.specs.Outlets.{Outgoing}
+use Rattle.dump_pump.specs.Sources.{Supply, more}
+
+-- the bytes of the parts, one after another
+abbrev pub joined : List Piece → List ℕ
+joined [] = []
+joined (p ∷ parts) = p.bytes ++ joined parts
+
+-- whether the last of the parts is marked so
+abbrev pub ends : List Piece → Bool
+ends [] = false
+ends (p ∷ []) = p.last
+ends (p ∷ q ∷ parts) = ends (q ∷ parts)
+
+abbrev pub bytes_of : Pumped → ℕ
+bytes_of (Done n) = n
+bytes_of (OutletFailed n) = n
+bytes_of (Lost cause n) = n
+bytes_of (Cancelled n) = n
+
+-- so many of the bytes, from the front, were put out: fewer than all only if a put failed
+abbrev pub PutsAll : List ℕ → Outgoing → Outgoing → ℕ → Type 0
+PutsAll bytes w w' n =
+    (n ≤ length bytes) × (w'.out ≡ w.out ++ take n bytes)
+    × (n ≡ length bytes → w'.failures ≡ w.failures) × (n < length bytes → w'.failures ≡ w.failures + 1)
+
+-- what an answer says of the parts given, of the bytes put out, of how the source ended and of the failures
+abbrev pub Fits : List Piece → List ℕ → Option Ending → ℕ → ℕ → Pumped → Type 0
+Fits given out ended failures failures' (Done n) =
+    (out ≡ joined given) × (ends given ≡ true) × (ended ≡ Some End.Whole) × (failures' ≡ failures)
+Fits given out ended failures failures' (OutletFailed n) = failures' ≡ failures + 1
+Fits given out ended failures failures' (Lost cause n) =
+    (out ≡ joined given) × (ended ≡ Some (End.Lost cause)) × (failures' ≡ failures)
+Fits given out ended failures failures' (Cancelled n) =
+    (out ≡ joined given) × (ended ≡ Some End.Cancelled) × (failures' ≡ failures)
+
+-- the source gave these parts; a beginning of their bytes was put out, as many as the answer says, and all of them unless a
+-- put failed
+pub record IsPumped (a b : Supply) (w w' : Outgoing) (r : Pumped) : Type 0 where
+  pub given : List Piece
+  pub out : List ℕ
+  pub told : b.told ≡ more a.told given
+  pub grows : w'.out ≡ w.out ++ out
+  pub begins : IsPrefix out (joined given)
+  pub counted : bytes_of r ≡ length out
+  pub fits : Fits given out b.ended w.failures w'.failures r

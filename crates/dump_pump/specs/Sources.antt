@@ -1,0 +1,33 @@
+-- What a source gives.
+use Rattle.std.specs.Prelude.{◌≡◌, ℕ, ◌<◌, ◌≤◌, ◌^◌, true, false, List, [], ◌∷◌, ◌++◌, length, Option, Some, None}
+use Rattle.hprof_text.specs.declared.Piece.{Piece}
+use Rattle.dump_pump.specs.declared.source.Ending.{Ending}
+use Rattle.dump_pump.specs.declared.source.Ending.TheVariants as End
+use Rattle.dump_pump.specs.declared.source.Next.{Next}
+use Rattle.dump_pump.specs.declared.source.Next.TheVariants.{Part, Lost, Cancelled}
+
+-- the most parts that a source has left
+abbrev pub part_limit : ℕ
+part_limit = 66178
+
+-- the most bytes of a part
+abbrev pub part_size_limit : ℕ
+part_size_limit = 2 ^ 24
+
+-- the parts that a source gave since it was made, if it tells them, how it ended, and how many parts are left at most
+pub record Supply : Type 0 where
+  pub told : Option (List Piece)
+  pub ended : Option Ending
+  pub left : ℕ
+
+-- what is told, with these parts more
+abbrev pub more : Option (List Piece) → List Piece → Option (List Piece)
+more (Some before) parts = Some (before ++ parts)
+more None parts = None
+
+abbrev pub IsNext : Supply → Supply → Next → Type 0
+IsNext a b (Part p) =
+    (b.told ≡ more a.told (p ∷ [])) × (length p.bytes ≤ part_size_limit) × (b.left < a.left)
+    × (p.last ≡ false → 0 < b.left) × (p.last ≡ true → b.ended ≡ Some End.Whole)
+IsNext a b (Lost cause) = (b.told ≡ a.told) × (b.ended ≡ Some (End.Lost cause))
+IsNext a b Cancelled = (b.told ≡ a.told) × (b.ended ≡ Some End.Cancelled)

@@ -1,0 +1,54 @@
+//! The trait of what gives the parts of a dump.
+use heap_class::LostCause;
+use hprof_text::Piece;
+
+/// The most parts that a source has left.
+pub const PART_LIMIT: u64 = 66_178;
+
+/// What a source gives next.
+#[derive(Drop)]
+pub enum Next {
+    /// A part of the dump, of at most 2^24 bytes.
+    Part(Piece),
+    /// Nothing more: the dump is lost.
+    Lost(LostCause),
+    /// Nothing more: the dump was cancelled.
+    Cancelled,
+}
+
+/// How a source ended.
+#[derive(Clone, Copy, PartialEq, Eq, Debug)]
+pub enum Ending {
+    /// With the part that is the last.
+    Whole,
+    /// The dump is lost.
+    Lost(LostCause),
+    /// The dump was cancelled.
+    Cancelled,
+}
+
+/// What gives the parts of a dump, in order. Contracts see the parts that it gave since it was made, if it tells them, how it
+/// ended, how many parts are left at most, and what stays as it was.
+pub trait Source {
+    ghost use Rattle.std.specs.Prelude.{◌≡◌, ◌<◌, ◌≤◌};
+    ghost use Rattle.dump_pump.specs.Sources.{Supply, IsNext, part_limit};
+
+    // What no call of `next` changes.
+    ghost Kept: { Type 0 } = { Unit {0} };
+
+    ghost kept: { Self → Self.Kept };
+
+    ghost seen: { Self → Supply };
+
+    /// Gives the next part, or says why there is none. Each part lowers the number of parts left, and one that is not the
+    /// last leaves it above 0.
+    fn next(&mut self) -> Next
+        requires { 0 < (Self.seen self.old).left }
+        ensures next { IsNext (Self.seen self.old) (Self.seen self.new) result }
+        ensures kept { Self.kept self.new ≡ Self.kept self.old };
+
+    /// Returns how many parts are left at most.
+    fn left(&self) -> u64
+        ensures left { result ≡ (Self.seen self.now).left }
+        ensures most { result ≤ part_limit };
+}

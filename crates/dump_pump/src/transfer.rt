@@ -1,0 +1,67 @@
+//! Dumps, put out part by part.
+ghost use Rattle.std.specs.Prelude.{◌≡◌, ◌<◌};
+ghost use Rattle.dump_pump.specs.Pumps.{IsPumped, PutsAll};
+
+use crate::source::{Next, Source};
+use crate::{Outlet, Put};
+use heap_class::LostCause;
+
+/// How a pump ended, and how many bytes it put out.
+#[derive(Clone, Copy, PartialEq, Eq, Debug)]
+pub enum Pumped {
+    /// All bytes of the dump are out.
+    Done { bytes: u64 },
+    /// A put failed.
+    OutletFailed { bytes: u64 },
+    /// The dump is lost. All parts that came before are out.
+    Lost { cause: LostCause, bytes: u64 },
+    /// The dump was cancelled. All parts that came before are out.
+    Cancelled { bytes: u64 },
+}
+
+/// Puts out all bytes, unless a put fails. Returns how many are out.
+pub fn put_all<O: Outlet>(outlet: &mut O, bytes: &[u8]) -> usize
+    ensures { PutsAll bytes.now (O.seen outlet.old) (O.seen outlet.new) result }
+{
+    let mut at = 0;
+    while at < bytes.len() {
+        match outlet.put(&bytes[at..]) {
+            Put::Took(n) => at += n,
+            Put::Failed => return at,
+        }
+    }
+    at
+}
+
+/// Puts out the parts of a source, each whole and in order, until one is the last, the source ends otherwise, or a put fails.
+/// Takes no memory of its own.
+pub fn pump<S: Source, O: Outlet>(source: &mut S, outlet: &mut O) -> Pumped
+    requires { 0 < (S.seen source.old).left }
+    ensures pumped { IsPumped (S.seen source.old) (S.seen source.new) (O.seen outlet.old) (O.seen outlet.new) result }
+    ensures kept { S.kept source.new ≡ S.kept source.old }
+{
+    let _most = source.left();
+    let mut total: u64 = 0;
+    loop {
+        match source.next() {
+            Next::Part(piece) => {
+                let size = piece.bytes.as_slice().len();
+                let put = put_all(outlet, piece.bytes.as_slice());
+                total += put as u64;
+                if put < size {
+                    return Pumped::OutletFailed { bytes: total };
+                }
+                if piece.last {
+                    return Pumped::Done { bytes: total };
+                }
+            }
+            Next::Lost(cause) => {
+                return Pumped::Lost {
+                    cause,
+                    bytes: total,
+                };
+            }
+            Next::Cancelled => return Pumped::Cancelled { bytes: total },
+        }
+    }
+}

@@ -25,3 +25,4 @@ pub mod SlotFound
 pub mod PieceGiven
 pub mod ByTrail
 pub mod TextGiven
+pub mod Numbered

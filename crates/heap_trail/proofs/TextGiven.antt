@@ -1,9 +1,9 @@
 -- What a pin gives in a list of actions, whatever else is done, is a beginning of the text of its image.
 use Rattle.std.proofs.Common.{◌≡◌, ◌≢◌, ◌⊎◌, ℕ, zero, suc, ◌+◌, ◌<◌, ◌≤◌, Bool, true, false, cond, List, [], ◌∷◌, ◌++◌, length, drop, map, refl, sym, ap, subst, ◌∙◌, arith, Option, Some, None, Result, Ok, Err, append_assoc}
-use Rattle.std.specs.Prelude.{nat_le, nat_lt, not, unwrap_or, slice_get, find, filter, option_map, ◌==◌, ◌&&◌, ◌||◌, if◌then◌else◌}
+use Rattle.std.specs.Prelude.{nat_le, nat_lt, not, unwrap_or, slice_get, find, option_map, ◌==◌, ◌&&◌, ◌||◌, if◌then◌else◌}
 use Rattle.std.specs.List.{concat, list_any}
 use mathlib.Core.Logic.{inl, inr}
-use Rattle.std.proofs.lemmas.Bool.{eqb-true, eqb-false, eq-eqb, ne_eqb, ltb-true, ltb-false, leb-true}
+use Rattle.std.proofs.lemmas.Bool.{eqb-true, eq-eqb, ne_eqb, ltb-true, ltb-false, leb-true}
 use Rattle.heap_region.proofs.Looked.{same_or_not}
 use Rattle.heap_class.specs.declared.LostCause.{LostCause}
 use Rattle.heap_class.specs.declared.LostCause.TheVariants.{Rewound, Memory}

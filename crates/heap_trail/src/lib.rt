@@ -21,6 +21,7 @@ ghost use Rattle.heap_trail.specs.Pins.{after_rewind};
 mod drive;
 mod examples;
 mod held;
+mod numbers;
 mod opening;
 mod pins;
 

@@ -1,5 +1,5 @@
 //! A pin: what a dump needs of a state, kept beside the heap that goes on.
-ghost use Rattle.std.specs.Prelude.{◌≡◌, ◌<◌, ◌≤◌, length, replicate, None, Some, IsSome, IfSome, IfOk, IfErr, OnOk, OnErr, slice_get, drop};
+ghost use Rattle.std.specs.Prelude.{◌≡◌, ◌<◌, ◌≤◌, length, replicate, None, Some, IsSome, IfSome, IfOk, IfErr, OnOk, OnErr, slice_get, slice_index_or, is_some, drop};
 ghost use Rattle.heap_class.specs.declared.Refusal.TheVariants.{NoMemory};
 ghost use Rattle.heap_region.specs.Regions.{object_at, used_at};
 ghost use Rattle.heap_region.specs.Frozen.{frozen, region_frozen};
@@ -58,6 +58,7 @@ fn no_copies(alloc: Global, count: u64) -> Result<Vec<Option<FrozenRegion>>, Ref
 }
 
 /// Returns the region of which a step with this record overwrote a word or removed an object.
+#[inline(always)]
 #[tactic(auto, unfolding(crate::specs::Kept::touched))]
 pub fn touched_region(left: &Undo) -> Option<u64>
     ensures { result ≡ touched left.now }
@@ -87,11 +88,15 @@ impl Pin {
         })
     }
 
-    /// How many regions it shows.
-    pub fn regions(&self) -> u64
-        ensures { result ≡ length self.now.copies }
+    /// Tells whether it has a copy of a region.
+    #[inline(always)]
+    pub fn has_copy(&self, region: u64) -> bool
+        ensures { result ≡ is_some (slice_index_or self.now.copies region None) }
     {
-        self.copies.len() as u64
+        match self.copies.get(region as usize) {
+            Some(copy) => copy.is_some(),
+            None => false,
+        }
     }
 
     /// Keeps what the step that left this record and led to this state overwrote or reclaimed, unless there is a copy of its

@@ -1,6 +1,6 @@
 -- What the calls on one pin give.
-use Rattle.std.proofs.Common.{◌≡◌, ℕ, ◌<◌, ◌≤◌, Bool, true, false, sym, ap, ◌∙◌, IsSome, arith, inl, inr, Result, Ok, Err}
-use Rattle.std.specs.Prelude.{nat_lt, if◌then◌else◌, OnOk, OnErr}
+use Rattle.std.proofs.Common.{◌≡◌, ℕ, ◌<◌, ◌≤◌, Bool, true, false, sym, ap, ◌∙◌, IsSome, arith, refl, inl, inr, Some, None, Result, Ok, Err}
+use Rattle.std.specs.Prelude.{nat_lt, slice_index_or, is_some, if◌then◌else◌, OnOk, OnErr}
 use Rattle.std.specs.Result.{is_err}
 use Rattle.heap_class.specs.declared.LostCause.{LostCause}
 use Rattle.heap_class.specs.declared.LostCause.TheVariants.{Rewound, Memory}
@@ -8,10 +8,11 @@ use Rattle.heap_world.specs.State.{HeapState}
 use Rattle.heap_step.specs.declared.Undo.{Undo}
 use Rattle.hprof_text.specs.declared.Cursor.{Cursor}
 use Rattle.heap_pins.specs.Pin.{Pinned}
-use Rattle.heap_pins.specs.Kept.{kept, touched}
+use Rattle.heap_pins.specs.Kept.{copy_for, kept, kept_at, kept_if, touched}
+use Rattle.heap_trail.specs.declared.held.Held.{Held}
 use Rattle.heap_trail.specs.declared.held.Held.TheVariants.{Kept, Lost}
 use Rattle.heap_trail.specs.declared.held.Slot.{Slot}
-use Rattle.heap_trail.specs.Slots.{held_kept, is_kept, MayKeep, held_after_rewind, slot_after_rewind}
+use Rattle.heap_trail.specs.Slots.{held_kept, is_kept, is_settled, MayKeep, held_after_rewind, slot_after_rewind}
 
 pub at_err : {A E P : Type 0} (r : Result A E) → is_err r ≡ true → OnErr r P → P
 at_err (Ok a) e p = cc
@@ -41,6 +42,19 @@ keeps left v s t place pin q cursor given e is k = inl (e ∙ (λ i. record { nu
 pub stays_lost : (left : Undo) (v : HeapState) (s t : Slot) (cause : LostCause) → t ≡ record { number = s.number; held = s.held } → s.held ≡ Lost cause → MayKeep left v s t
 unfolding held_kept
 stays_lost left v s t cause e is = inl (e ∙ ap (λ h. record s { held = h }) is ∙ ap (λ h. record s { held = held_kept left v h }) (sym is))
+
+-- a settled one stays as it is
+settled_pin : (left : Undo) (v : HeapState) (r : ℕ) (p : Pinned) → touched left ≡ Some r → is_some (slice_index_or p.copies r None) ≡ true → kept left v p ≡ p
+unfolding kept kept_if kept_at
+settled_pin left v r p at some = ap (λ t. kept_if t left v p) at ∙ ap (λ b. kept_at r (copy_for left v r) b p) some
+
+settled_held : (left : Undo) (v : HeapState) (r : ℕ) (h : Held) → touched left ≡ Some r → is_settled r h ≡ true → h ≡ held_kept left v h
+unfolding held_kept is_settled
+settled_held left v r (Kept place pin cursor given) at settled = ap (λ p. Kept place p cursor given) (sym (settled_pin left v r pin at settled))
+settled_held left v r (Lost cause) at settled = refl
+
+pub settled_stays : (left : Undo) (v : HeapState) (r : ℕ) (s : Slot) → touched left ≡ Some r → is_settled r s.held ≡ true → MayKeep left v s s
+settled_stays left v r s at settled = inl (ap (λ (h : Held). (let t : Slot = record s { held = h } in t)) (settled_held left v r s.held at settled))
 
 -- ---- a rewind
 

@@ -1,5 +1,5 @@
 -- How the pins are kept, and what a step and a rewind make of them.
-use Rattle.std.specs.Prelude.{◌≡◌, ◌⊎◌, ℕ, ◌+◌, ◌-◌, ◌<◌, ◌≤◌, Bool, true, false, nat_lt, List, [], ◌∷◌, length, map, IsSome, if◌then◌else◌}
+use Rattle.std.specs.Prelude.{◌≡◌, ◌⊎◌, ℕ, ◌+◌, ◌-◌, ◌<◌, ◌≤◌, Bool, true, false, nat_lt, List, [], ◌∷◌, length, map, slice_index_or, None, IsSome, is_some, if◌then◌else◌}
 use Rattle.heap_class.specs.declared.LostCause.{LostCause}
 use Rattle.heap_class.specs.declared.LostCause.TheVariants.{Rewound, Memory}
 use Rattle.heap_class.specs.declared.Refusal.{Refusal}
@@ -67,6 +67,11 @@ slot_lost cause s = record s { held = Lost cause }
 -- the pin keeps what it has to, or it is lost, by a step that touched a region
 abbrev pub MayKeep : Undo → HeapState → Slot → Slot → Type 0
 MayKeep left v s t = (t ≡ slot_kept left v s) ⊎ ((t ≡ slot_lost Memory s) × (is_kept s.held ≡ true) × IsSome (touched left))
+
+-- a step that touches the region leaves the pin as it is: it has a copy of the region, or it is lost
+unfoldable pub is_settled : ℕ → Held → Bool
+is_settled region (Kept place pin cursor given) = is_some (slice_index_or pin.copies region None)
+is_settled region (Lost cause) = true
 
 -- ---- a rewind
 

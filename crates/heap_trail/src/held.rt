@@ -1,10 +1,11 @@
 //! The pins that are open, each with its number.
-ghost use Rattle.std.specs.Prelude.{◌≡◌, ◌==◌, ◌≤◌, ◌^◌, ℕ, length, IfOk, IfErr, OnErr};
+ghost use Rattle.std.specs.Prelude.{◌≡◌, ◌==◌, ◌≤◌, ◌^◌, ℕ, length, Some, IfOk, IfErr, OnErr};
 ghost use Rattle.std.specs.List.{position};
 ghost use Rattle.heap_world.specs.State.{HeapState};
 ghost use Rattle.heap_step.specs.declared.Event.{Event};
 ghost use Rattle.heap_step.specs.Laws.{IsStep};
-ghost use Rattle.heap_trail.specs.Slots.{CanGive, HasGiven, IsNext, IsSized, MayCount, MayKeep, RefusesPiece, held_advanced, slot_after_rewind};
+ghost use Rattle.heap_pins.specs.Kept.{touched};
+ghost use Rattle.heap_trail.specs.Slots.{CanGive, HasGiven, IsNext, IsSized, MayCount, MayKeep, RefusesPiece, held_advanced, is_settled, slot_after_rewind};
 
 use heap_class::{IdSize, LostCause, Refusal};
 use heap_pins::{Pin, PinView};
@@ -40,8 +41,34 @@ pub(crate) fn slot_of(pins: &[Slot], number: u64) -> Option<usize>
 }
 
 impl Slot {
-    /// Keeps what the step that left this record and led to this state overwrote; a pin that finds no memory for it is lost.
-    pub(crate) fn keep(&mut self, world: &World, left: &Undo)
+    // Tells whether no write to a region matters to the pin: it has a copy of the region, or it is lost.
+    #[inline(always)]
+    #[tactic(auto, unfolding(crate::specs::Slots::is_settled))]
+    fn is_settled(&self, region: u64) -> bool
+        ensures { result ≡ is_settled region self.now.held }
+    {
+        match &self.held {
+            Held::Kept { pin, .. } => pin.has_copy(region),
+            Held::Lost(_) => true,
+        }
+    }
+
+    /// Keeps what the step that left this record and led to this state overwrote in this region; a pin that finds no memory
+    /// for it is lost.
+    #[inline(always)]
+    pub(crate) fn keep(&mut self, world: &World, left: &Undo, region: u64)
+        requires touched { touched left.now ≡ Some region }
+        requires step { (e : Event) × (before : HeapState) × IsStep e before world.now left.now }
+        requires sized { IsSized (length world.now.regions) self.old }
+        ensures { MayKeep left.now world.now self.old self.new }
+    {
+        if !self.is_settled(region) {
+            self.copy_region(world, left);
+        }
+    }
+
+    // Copies the region that the step touched, as it was before; a pin that finds no memory for it is lost.
+    fn copy_region(&mut self, world: &World, left: &Undo)
         requires step { (e : Event) × (before : HeapState) × IsStep e before world.now left.now }
         requires sized { IsSized (length world.now.regions) self.old }
         ensures { MayKeep left.now world.now self.old self.new }

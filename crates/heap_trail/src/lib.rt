@@ -130,9 +130,9 @@ fn keep_each(pins: &mut [Slot], world: &World, left: &Undo)
     ensures { EachMayKeep left.now world.now pins.old pins.new }
 {
     match touched_region(left) {
-        Some(_) => {
+        Some(region) => {
             for i in 0..pins.len() {
-                pins[i].keep(world, left);
+                pins[i].keep(world, left, region);
             }
         }
         None => {}

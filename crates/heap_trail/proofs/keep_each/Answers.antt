@@ -9,6 +9,9 @@ pub keep-requires-clause-sized : goal.keep-requires-clause-sized
 keep-requires-clause-sized c = subst (λ (s : Slot). IsSized (length c.args.world.now.regions) s) c.index-pins-i.is
     (sized_there c.args.left.now c.args.world.now (length c.args.world.now.regions) c.loop-i.i c.args.pins.now c.loop-i.pins c.index-pins-i.result c.requires.sized c.loop-i.invariant (omega (arith, c.loop-i-test.true, c.loop-i.auto.pins)) c.index-pins-i.is)
 
+pub keep-requires-clause-touched : goal.keep-requires-clause-touched
+keep-requires-clause-touched c = sym c.touched_region.ensures ∙ c.in-Some.is
+
 pub loop-i-preserved : goal.loop-i-preserved
 loop-i-preserved c =
     let e : suc c.loop-i.i ≡ c.loop-i.i + 1 = omega arith in

@@ -18,11 +18,13 @@ use Rattle.heap_world.specs.Legal.{IsLegal}
 use Rattle.heap_world.specs.Events.{after_sweep}
 use Rattle.heap_step.specs.declared.Event.{Event}
 use Rattle.heap_step.specs.declared.Undo.{Undo}
+use Rattle.heap_step.specs.declared.Undo.TheVariants.{Put, Store, Reg, New, Class, Snap, Mark, Drain, Finish, Sweep, Reclaim}
 use Rattle.heap_step.specs.Laws.{IsStep}
 use Rattle.heap_step.proofs.Created.{pool_empty}
 use Rattle.heap_step.proofs.Legal.{keeps_legal}
 use Rattle.heap_step.proofs.Fits.{IsSwept}
-use Rattle.heap_step.proofs.Steps.{sweep_before, reclaim_head}
+use Rattle.heap_step.proofs.Steps.{put_there, store_there, sweep_before, reclaim_head}
+use Rattle.heap_pins.specs.Kept.{touched}
 use Rattle.heap_pins.specs.Shows.{AreFit, FitIn}
 use Rattle.heap_pins.proofs.Keeping.{region_used}
 
@@ -94,3 +96,28 @@ pub reclaim_within : (e : Event) (before after : HeapState) (left : Undo) → Is
 reclaim_within e before after left s region storage is =
     let legal : IsLegal after = subst IsLegal (sym s.gave) (keeps_legal e before s.legal s.accepted) in
     slice_get_within after.regions region Empty (pool_empty after legal (record { region = region; cell = 0 }) (reclaim_head e before after left s region storage is))
+
+-- ---- the region that a step touched
+
+pub touched_within : (e : Event) (before after : HeapState) (left : Undo) → IsStep e before after left → (region : ℕ) → touched left ≡ Some region → region < length after.regions
+unfolding touched
+touched_within e before after left s region t = go left refl t
+  where
+    same : {x y : ℕ} → Some x ≡ Some y → x ≡ y
+    same e = cc
+
+    within : (x : ℕ) → Some x ≡ Some region → x < length after.regions → region < length after.regions
+    within x is lt = subst (λ n. n < length after.regions) (same is) lt
+
+    go : (l : Undo) → left ≡ l → touched l ≡ Some region → region < length after.regions
+    go (Put at slot old) is t = within at.region t (object_within after.regions at (put_there e before after left s at slot old is))
+    go (Store at slot old logged) is t = within at.region t (object_within after.regions at (store_there e before after left s at slot old logged is))
+    go (Reg m r old) is t = absurd (cc)
+    go (New at fresh m r old) is t = absurd (cc)
+    go Class is t = absurd (cc)
+    go Snap is t = absurd (cc)
+    go (Mark parent pushed) is t = absurd (cc)
+    go (Drain pushed) is t = absurd (cc)
+    go (Finish log) is t = absurd (cc)
+    go (Sweep r dead) is t = within r t (used_within after.regions r (sweep_used e before after left s r dead is))
+    go (Reclaim r storage) is t = within r t (reclaim_within e before after left s r storage is)

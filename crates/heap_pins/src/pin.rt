@@ -88,15 +88,13 @@ impl Pin {
         })
     }
 
-    /// Tells whether it has a copy of a region.
+    /// Tells whether it has a copy of a region of the heap.
     #[inline(always)]
     pub fn has_copy(&self, region: u64) -> bool
+        requires { region < length self.now.copies }
         ensures { result ≡ is_some (slice_index_or self.now.copies region None) }
     {
-        match self.copies.get(region as usize) {
-            Some(copy) => copy.is_some(),
-            None => false,
-        }
+        self.copies[region as usize].is_some()
     }
 
     /// Keeps what the step that left this record and led to this state overwrote or reclaimed, unless there is a copy of its

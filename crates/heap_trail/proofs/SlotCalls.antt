@@ -1,5 +1,5 @@
 -- What the calls on one pin give.
-use Rattle.std.proofs.Common.{◌≡◌, ℕ, ◌<◌, ◌≤◌, Bool, true, false, sym, ap, ◌∙◌, IsSome, arith, refl, inl, inr, Some, None, Result, Ok, Err}
+use Rattle.std.proofs.Common.{◌≡◌, ℕ, ◌<◌, ◌≤◌, Bool, true, false, sym, ap, subst, ◌∙◌, IsSome, arith, refl, inl, inr, Some, None, Result, Ok, Err}
 use Rattle.std.specs.Prelude.{nat_lt, slice_index_or, is_some, if◌then◌else◌, OnOk, OnErr}
 use Rattle.std.specs.Result.{is_err}
 use Rattle.heap_class.specs.declared.LostCause.{LostCause}
@@ -12,7 +12,7 @@ use Rattle.heap_pins.specs.Kept.{copy_for, kept, kept_at, kept_if, touched}
 use Rattle.heap_trail.specs.declared.held.Held.{Held}
 use Rattle.heap_trail.specs.declared.held.Held.TheVariants.{Kept, Lost}
 use Rattle.heap_trail.specs.declared.held.Slot.{Slot}
-use Rattle.heap_trail.specs.Slots.{held_kept, is_kept, is_settled, MayKeep, held_after_rewind, slot_after_rewind}
+use Rattle.heap_trail.specs.Slots.{IsSizedHeld, IsWithin, held_kept, is_kept, is_settled, MayKeep, held_after_rewind, slot_after_rewind}
 
 pub at_err : {A E P : Type 0} (r : Result A E) → is_err r ≡ true → OnErr r P → P
 at_err (Ok a) e p = cc
@@ -55,6 +55,11 @@ settled_held left v r (Lost cause) at settled = refl
 
 pub settled_stays : (left : Undo) (v : HeapState) (r : ℕ) (s : Slot) → touched left ≡ Some r → is_settled r s.held ≡ true → MayKeep left v s s
 settled_stays left v r s at settled = inl (ap (λ (h : Held). (let t : Slot = record s { held = h } in t)) (settled_held left v r s.held at settled))
+
+-- a pin with a place for the copy of each region has one for this
+pub held_within : (n r : ℕ) (h : Held) → IsSizedHeld n h → r < n → IsWithin r h
+held_within n r (Kept place pin cursor given) sized lt = subst (λ m. r < m) (sym sized) lt
+held_within n r (Lost cause) sized lt = tt
 
 -- ---- a rewind
 

@@ -68,6 +68,11 @@ slot_lost cause s = record s { held = Lost cause }
 abbrev pub MayKeep : Undo → HeapState → Slot → Slot → Type 0
 MayKeep left v s t = (t ≡ slot_kept left v s) ⊎ ((t ≡ slot_lost Memory s) × (is_kept s.held ≡ true) × IsSome (touched left))
 
+-- the region is one of the heap's, unless the pin is lost
+abbrev pub IsWithin : ℕ → Held → Type 0
+IsWithin region (Kept place pin cursor given) = region < length pin.copies
+IsWithin region (Lost cause) = Unit {0}
+
 -- a step that touches the region leaves the pin as it is: it has a copy of the region, or it is lost
 unfoldable pub is_settled : ℕ → Held → Bool
 is_settled region (Kept place pin cursor given) = is_some (slice_index_or pin.copies region None)

@@ -5,7 +5,7 @@ ghost use Rattle.heap_world.specs.State.{HeapState};
 ghost use Rattle.heap_step.specs.declared.Event.{Event};
 ghost use Rattle.heap_step.specs.Laws.{IsStep};
 ghost use Rattle.heap_pins.specs.Kept.{touched};
-ghost use Rattle.heap_trail.specs.Slots.{CanGive, HasGiven, IsNext, IsSized, MayCount, MayKeep, RefusesPiece, held_advanced, is_settled, slot_after_rewind};
+ghost use Rattle.heap_trail.specs.Slots.{CanGive, HasGiven, IsNext, IsSized, IsWithin, MayCount, MayKeep, RefusesPiece, held_advanced, is_settled, slot_after_rewind};
 
 use heap_class::{IdSize, LostCause, Refusal};
 use heap_pins::{Pin, PinView};
@@ -45,6 +45,7 @@ impl Slot {
     #[inline(always)]
     #[tactic(auto, unfolding(crate::specs::Slots::is_settled))]
     fn is_settled(&self, region: u64) -> bool
+        requires { IsWithin region self.now.held }
         ensures { result ≡ is_settled region self.now.held }
     {
         match &self.held {
@@ -68,6 +69,7 @@ impl Slot {
     }
 
     // Copies the region that the step touched, as it was before; a pin that finds no memory for it is lost.
+    #[inline(never)]
     fn copy_region(&mut self, world: &World, left: &Undo)
         requires step { (e : Event) × (before : HeapState) × IsStep e before world.now left.now }
         requires sized { IsSized (length world.now.regions) self.old }

@@ -120,31 +120,31 @@ dump_over acts pin time start number c total text o e =
     let count : number + 0 ≡ 66178 = omega (arith, e) in
     subst (λ k. Dumps acts pin time k start 0 text c) count (subst (λ l. Dumps acts pin time (number + 0) start 0 l c) (append-nil text) (o 0 [] c (refl, refl)))
 
--- ---- what was written
+-- ---- what was added to a page
 
 -- a whole dump
 pub writes_text : {S : Type 0} (dumps : DumpText S) (c c' : S) (text page : List ℕ) (a : Outgoing) (page' : List ℕ) (b : Outgoing) (r : Bool)
-    → dumps 66178 c text c' → page ≡ [] → page' ≡ [] → IsAdded text page a page' b r → WritesDump dumps c c' a b r
-writes_text dumps c c' text page a page' b true d e f h = (text, d, written_of text page a page' b true e f h)
-writes_text dumps c c' text page a page' b false d e f h = (66178, text, omega arith, d, written_of text page a [] b false e refl h)
+    → dumps 66178 c text c' → IsAdded text page a page' b r → WritesDump dumps c c' page a page' b r
+writes_text dumps c c' text page a page' b true d h = (text, d, h)
+writes_text dumps c c' text page a page' b false d h = (66178, text, omega arith, d, h)
 
 pub writes_whole : {S : Type 0} (acts : Acts S) (pin time : ℕ) (c c' : S) (text page : List ℕ) (a : Outgoing) (page' : List ℕ) (b : Outgoing) (r : Bool)
-    → Dumps acts pin time 66178 c 0 text c' → page ≡ [] → page' ≡ [] → IsAdded text page a page' b r → WritesDump (DumpsPin acts pin time) c c' a b r
-writes_whole acts pin time c c' text page a page' b r d e f h = writes_text (DumpsPin acts pin time) c c' text page a page' b r d e f h
+    → Dumps acts pin time 66178 c 0 text c' → IsAdded text page a page' b r → WritesDump (DumpsPin acts pin time) c c' page a page' b r
+writes_whole acts pin time c c' text page a page' b r d h = writes_text (DumpsPin acts pin time) c c' text page a page' b r d h
 
 cut_in : {S : Type 0} (acts : Acts S) (pin time : ℕ) (start : S) (number : ℕ) (c : S) (total : ℕ) (text : List ℕ) (p : Piece) (r : Reply) (c1 : S) (page : List ℕ) (a : Outgoing) (page' : List ℕ) (b : Outgoing) (last : Bool)
-    → Onward acts pin time start number c total text → number < 66178 → acts c (NextPiece pin time) r c1 → piece_in r ≡ Some p → p.last ≡ last → page ≡ [] → IsAdded (text ++ data_lines p.bytes) page a page' b false → WritesDump (DumpsPin acts pin time) start c1 a b false
-cut_in acts pin time start number c total text p r c1 page a page' b true o less given is last e h =
-    writes_whole acts pin time start c1 ((text ++ data_lines p.bytes) ++ total_line (total + length p.bytes)) page a [] b false (dump_last acts pin time start number c total text p r c1 (total + length p.bytes) o less given is last refl) e refl
-    (added_short (text ++ data_lines p.bytes) (total_line (total + length p.bytes)) page a page' b [] h)
-cut_in acts pin time start number c total text p r c1 page a page' b false o less given is last e h =
+    → Onward acts pin time start number c total text → number < 66178 → acts c (NextPiece pin time) r c1 → piece_in r ≡ Some p → p.last ≡ last → IsAdded (text ++ data_lines p.bytes) page a page' b false → WritesDump (DumpsPin acts pin time) start c1 page a page' b false
+cut_in acts pin time start number c total text p r c1 page a page' b true o less given is last h =
+    writes_whole acts pin time start c1 ((text ++ data_lines p.bytes) ++ total_line (total + length p.bytes)) page a page' b false (dump_last acts pin time start number c total text p r c1 (total + length p.bytes) o less given is last refl)
+    (added_short (text ++ data_lines p.bytes) (total_line (total + length p.bytes)) page a page' b page' h)
+cut_in acts pin time start number c total text p r c1 page a page' b false o less given is last h =
     let d = onward_piece acts pin time start number c total text p r c1 (total + length p.bytes) o given is last refl 0 [] c1 (refl, refl) in
-    ((number + 1) + 0, (text ++ data_lines p.bytes) ++ [], omega (arith, less), d, written_of ((text ++ data_lines p.bytes) ++ []) page a [] b false e refl (added_short (text ++ data_lines p.bytes) [] page a page' b [] h))
+    ((number + 1) + 0, (text ++ data_lines p.bytes) ++ [], omega (arith, less), d, added_short (text ++ data_lines p.bytes) [] page a page' b page' h)
 
 -- a write failed in a piece's data lines
 pub writes_cut : {S : Type 0} (acts : Acts S) (pin time : ℕ) (start : S) (number : ℕ) (c : S) (total : ℕ) (text : List ℕ) (p : Piece) (r : Reply) (c1 : S) (page : List ℕ) (a : Outgoing) (page' : List ℕ) (b : Outgoing)
-    → Onward acts pin time start number c total text → number < 66178 → acts c (NextPiece pin time) r c1 → piece_in r ≡ Some p → page ≡ [] → IsAdded (text ++ data_lines p.bytes) page a page' b false → WritesDump (DumpsPin acts pin time) start c1 a b false
-writes_cut acts pin time start number c total text p r c1 page a page' b o less given is e h = cut_in acts pin time start number c total text p r c1 page a page' b p.last o less given is refl e h
+    → Onward acts pin time start number c total text → number < 66178 → acts c (NextPiece pin time) r c1 → piece_in r ≡ Some p → IsAdded (text ++ data_lines p.bytes) page a page' b false → WritesDump (DumpsPin acts pin time) start c1 page a page' b false
+writes_cut acts pin time start number c total text p r c1 page a page' b o less given is h = cut_in acts pin time start number c total text p r c1 page a page' b p.last o less given is refl h
 
 -- ---- dumps of the current state
 
@@ -157,7 +157,7 @@ now_closed : {S : Type 0} (acts : Acts S) (time n : ℕ) (c : S) (r : Reply) (c1
 now_closed acts time n c r c1 pin text c2 closing c3 opened is d closed = (r, c1, opened, subst (λ o. ClosesAfter acts time r o n c1 text c3) (sym is) (c2, closing, d, closed))
 
 -- a pin was dumped and closed
-pub now_written : {S : Type 0} (acts : Acts S) (time : ℕ) (c : S) (r : Reply) (c1 : S) (pin : ℕ) (c2 : S) (closing : Reply) (c3 : S) (a b : Outgoing) (written : Bool)
-    → acts c (OpenPin None) r c1 → pin_in r ≡ Some pin → WritesDump (DumpsPin acts pin time) c1 c2 a b written → acts c2 (ClosePin pin) closing c3 → WritesDump (DumpsNow acts time) c c3 a b written
-now_written acts time c r c1 pin c2 closing c3 a b true opened is (text, d, h) closed = (text, now_closed acts time 66178 c r c1 pin text c2 closing c3 opened is d closed, h)
-now_written acts time c r c1 pin c2 closing c3 a b false opened is (pieces, text, most, d, h) closed = (pieces, text, most, now_closed acts time pieces c r c1 pin text c2 closing c3 opened is d closed, h)
+pub now_written : {S : Type 0} (acts : Acts S) (time : ℕ) (c : S) (r : Reply) (c1 : S) (pin : ℕ) (c2 : S) (closing : Reply) (c3 : S) (page : List ℕ) (a : Outgoing) (page' : List ℕ) (b : Outgoing) (written : Bool)
+    → acts c (OpenPin None) r c1 → pin_in r ≡ Some pin → WritesDump (DumpsPin acts pin time) c1 c2 page a page' b written → acts c2 (ClosePin pin) closing c3 → WritesDump (DumpsNow acts time) c c3 page a page' b written
+now_written acts time c r c1 pin c2 closing c3 page a page' b true opened is (text, d, h) closed = (text, now_closed acts time 66178 c r c1 pin text c2 closing c3 opened is d closed, h)
+now_written acts time c r c1 pin c2 closing c3 page a page' b false opened is (pieces, text, most, d, h) closed = (pieces, text, most, now_closed acts time pieces c r c1 pin text c2 closing c3 opened is d closed, h)

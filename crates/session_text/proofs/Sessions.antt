@@ -1,10 +1,11 @@
 -- The session of a machine of one's own, from that for any commands.
-use Rattle.std.proofs.Common.{◌≡◌, ℕ, zero, suc, ◌+◌, ◌<◌, ◌≤◌, ◌⊎◌, inl, inr, Bool, true, false, List, [], ◌∷◌, ◌++◌, length, refl, ap, sym, ◌∙◌, subst, arith, append_assoc, length-append, Option, Some, None, true≢false}
+use Rattle.std.proofs.Common.{◌≡◌, ℕ, zero, suc, ◌+◌, ◌<◌, ◌≤◌, ◌⊎◌, inl, inr, Bool, true, false, List, [], ◌∷◌, ◌++◌, take, length, refl, ap, sym, ◌∙◌, subst, arith, append_assoc, length-append, Option, Some, None, true≢false}
 use Rattle.std.specs.Prelude.{codes, nat_lt, if◌then◌else◌}
 use Rattle.std.specs.Bool.{◌==◌}
-use Rattle.std.specs.List.{slice_split}
+use Rattle.std.specs.List.{slice_split, onto_first}
 use Rattle.std.proofs.lemmas.List.{append-nil}
-use Rattle.std.proofs.lemmas.List.Splits.{slice_split_at, slice_split_none, length-slice_split}
+use Rattle.std.proofs.lemmas.List.Splits.{slice_split-cons_no, slice_split_at, slice_split_none, length-slice_split}
+use Rattle.std.proofs.lemmas.List.Elements.{All-head, All-tail}
 use Rattle.std.proofs.lemmas.Bool.Decides.{nat_tests}
 use Rattle.std.specs.Io.KnownBytes.{Keeps}
 use mathlib.Core.List.{IsPrefix}
@@ -30,8 +31,8 @@ use Rattle.session_text.specs.Inlets.{Incoming, whole}
 use Rattle.session_text.specs.Lines.{NoLf}
 use Rattle.session_text.specs.Local.{LocalActs}
 use Rattle.session_text.specs.Replies.{reply_text, data_lines, piece_in, pin_in}
-use Rattle.session_text.specs.Session.{Talk, wrote, mark_of, marks_after, done_quietly, done, after_reply, dumped, after_open, after_up_to, after_command, is_end, go_on, Fits, FitsRest, FitsDump, FitsOpen, FitsCommand, FitLines, MarksFit, at_end, at_long, talked, session_of, Shows, CutsLine, CutsEnd, IsSession}
-use Rattle.session_text.specs.Talks.{IsLine, Talks, stream, IsTalk, IsQuit, Closes, Breaks, Fails, Serves}
+use Rattle.session_text.specs.Session.{Talk, wrote, mark_of, marks_after, done_quietly, done, after_reply, dumped, after_open, after_up_to, after_command, is_end, go_on, Fits, FitsRest, FitsDump, FitsOpen, FitsCommand, FitLines, MarksFit, at_end, at_long, talked, session_of, Shows, CutsLine, CutsEnd, CutsPage, IsSession}
+use Rattle.session_text.specs.Talks.{IsLine, IsLong, Talks, stream, IsTalk, IsQuit, Closes, Breaks, Fails, Serves}
 use Rattle.session_text.specs.Writes.{IsCutShort, IsWritten}
 use Rattle.session_text.proofs.Talking.{served_fails}
 
@@ -237,7 +238,7 @@ follows time End c text d h = absurd h
 not_long : (n : ℕ) → n ≤ 4096 → nat_lt 4096 n ≡ false
 not_long n h = grind (arith, nat_tests)
 
-long : (n : ℕ) → n ≡ 4097 → nat_lt 4096 n ≡ true
+long : (n : ℕ) → 4096 < n → nat_lt 4096 n ≡ true
 long n h = grind (arith, nat_tests)
 
 not_zero : (n : ℕ) → 0 < n → (n == 0) ≡ false
@@ -294,8 +295,38 @@ passes time (l ∷ ls) c text d t =
 alone : (time : ℕ) (e : ReadEnd) (rest : List ℕ) (t : Talk) → IsLine rest → talked time e (parts rest) t ≡ at_end e (length rest == 0) t
 alone time e rest t h = ap (λ ls. talked time e ls t) (slice_split_none is_lf rest h.no_lf) ∙ ap (λ b. if b then at_long t else at_end e (length rest == 0) t) (not_long (length rest) h.most)
 
-too_long : (time : ℕ) (e : ReadEnd) (rest : List ℕ) (t : Talk) → NoLf rest → length rest ≡ 4097 → talked time e (parts rest) t ≡ at_long t
-too_long time e rest t h n = ap (λ ls. talked time e ls t) (slice_split_none is_lf rest h) ∙ ap (λ b. if b then at_long t else at_end e (length rest == 0) t) (long (length rest) n)
+-- the first part, and the others
+record HasFirst (ls : List (List ℕ)) (n : ℕ) : Type 0 where
+  first : List ℕ
+  others : List (List ℕ)
+  are : ls ≡ first ∷ others
+  least : n ≤ length first
+
+some_first : (ls : List (List ℕ)) → 0 < length ls → HasFirst ls 0
+some_first [] h = absurd (omega (arith, h))
+some_first (l ∷ ls) h = record { first = l; others = ls; are = refl; least = omega arith }
+
+-- bytes without LF at their front are all in the first part
+first_part : (n : ℕ) (xs : List ℕ) → n ≤ length xs → NoLf (take n xs) → HasFirst (parts xs) n
+first_part zero xs h none = some_first (parts xs) (omega (arith, length-slice_split is_lf xs))
+first_part (suc n) [] h none = absurd (omega (arith, h))
+first_part (suc n) (x ∷ xs) h none =
+    let r = first_part n xs (omega (arith, h)) (All-tail (λ b. (b == 10) ≡ false) x (take n xs) none) in
+    record {
+      first = x ∷ r.first;
+      others = r.others;
+      are = slice_split-cons_no is_lf x xs (All-head (λ b. (b == 10) ≡ false) x (take n xs) none) ∙ ap (λ ls. onto_first x ls) r.are;
+      least = omega (arith, r.least);
+    }
+
+long_first : (time : ℕ) (e : ReadEnd) (l : List ℕ) (ls : List (List ℕ)) (t : Talk) → 4096 < length l → talked time e (l ∷ ls) t ≡ at_long t
+long_first time e l [] t h = ap (λ b. if b then at_long t else at_end e (length l == 0) t) (long (length l) h)
+long_first time e l (m ∷ ms) t h = ap (λ b. if b then at_long t else go_on (talked time e (m ∷ ms)) time (command_of l) t) (long (length l) h)
+
+too_long : (time : ℕ) (e : ReadEnd) (rest : List ℕ) (t : Talk) → IsLong rest → talked time e (parts rest) t ≡ at_long t
+too_long time e rest t h =
+    let f = first_part 4097 rest (omega (arith, h.0)) h.1 in
+    ap (λ ls. talked time e ls t) f.are ∙ long_first time e f.first f.others t (omega (arith, f.least))
 
 quits : (time : ℕ) (e : ReadEnd) (rest : List ℕ) (t : Talk) → IsQuit rest → talked time e (parts rest) t ≡ (t, Quit)
 quits time e rest t q = ap (λ bs. talked time e (parts bs) t) q.1.2 ∙ line_then time e q.0 q.1.1 t q.1.0 ∙ ap (λ k. go_on (talked time e (parts q.1.1)) time k t) q.2
@@ -316,7 +347,7 @@ closes_so : (time : ℕ) (e : ReadEnd) (rest : List ℕ) (a b : Incoming) (ended
 closes_so time e rest a b Quit tail m ms w f h = quits time e rest (talk m ms w) h.0 ∙ ap (λ l. (talk m ms l, Quit)) (sym (append-nil w) ∙ ap (λ l. w ++ l) (sym h.1))
 closes_so time e rest a b Eof tail m ms w f h = (λ i. talked time (f i) (parts (h.0 i)) (talk m ms w)) ∙ ap (λ l. (talk m ms l, Eof)) (sym (append-nil w) ∙ ap (λ l. w ++ l) (sym h.2))
 closes_so time e rest a b CutLine tail m ms w f h = alone time e rest (talk m ms w) h.0 ∙ (let z = not_zero (length rest) h.1 in λ i. at_end (f i) (z i) (talk m ms w)) ∙ ap (λ l. (talk m ms (w ++ l), CutLine)) (sym h.3)
-closes_so time e rest a b TooLong tail m ms w f h = too_long time e rest (talk m ms w) h.0 h.1 ∙ ap (λ l. (talk m ms (w ++ l), TooLong)) (sym h.2)
+closes_so time e rest a b TooLong tail m ms w f h = too_long time e rest (talk m ms w) h.0 ∙ ap (λ l. (talk m ms (w ++ l), TooLong)) (sym h.1)
 closes_so time e rest a b ReadFault tail m ms w f h = alone time e rest (talk m ms w) h.0 ∙ ap (λ x. at_end x (length rest == 0) (talk m ms w)) f ∙ ap (λ l. (talk m ms (w ++ l), ReadFault)) (sym h.1)
 closes_so time e rest a b TooManyReads tail m ms w f h = alone time e rest (talk m ms w) h.0 ∙ ap (λ x. at_end x (length rest == 0) (talk m ms w)) f ∙ ap (λ l. (talk m ms (w ++ l), TooManyReads)) (sym h.2)
 closes_so time e rest a b WriteFault tail m ms w f h = absurd h
@@ -648,29 +679,33 @@ session_done time bytes rest c text d k ms =
     let g = passes time k.lines c text d k.talks in
     ap (λ bs. talked time Over (parts bs) (talk c.machine (g.found ++ ms) [])) (sym (append-nil (stream k.lines))) ∙ g.so Over [] ms []
 
--- a text, and what was cut short behind it
-cut_behind : (text tail full a b : List ℕ) (h : IsCutShort tail a b) → IsPrefix (text ++ tail) full → IsCutShort full [] (text ++ h.part)
-cut_behind text tail full a b h p = record {
-  part = text ++ h.part;
+-- what was cut short in a beginning of a text
+cut_in : (text full a b : List ℕ) (h : IsCutShort text a b) → IsPrefix text full → IsCutShort full [] h.part
+cut_in text full a b h p = record {
+  part = h.part;
   rest = h.rest ++ p.0;
   has = refl;
-  lacks = sym p.1 ∙ ap (λ l. (text ++ l) ++ p.0) h.lacks ∙ ap (λ l. l ++ p.0) (sym (append_assoc text h.part h.rest)) ∙ append_assoc (text ++ h.part) h.rest p.0;
+  lacks = sym p.1 ∙ ap (λ l. l ++ p.0) h.lacks ∙ append_assoc h.part h.rest p.0;
   some = omega (arith, h.some, length-append h.rest p.0);
 }
 
--- the marks and the text of what was cut short behind the last line that was answered
-record CutTail (time : ℕ) (rest : List ℕ) (c : Local) (text : List ℕ) (d : Local) (m w' : Outgoing) : Type 0 where
+-- where the text was cut short, told of the rest of a session
+abbrev Stops : ℕ → ReadEnd → List ℕ → Talk → List ℕ → List ℕ → Machine → Type 0
+Stops time e rest t full out left =
+    CutsLine time rest t out left ⊎ (((ended : Ended) × (talked time e (parts rest) t ≡ (talk t.machine [] full, ended)) × (left ≡ t.machine)) ⊎ CutsPage t out left)
+
+-- the marks and the text of what was cut short
+record CutTail (time : ℕ) (rest : List ℕ) (c : Local) (text : List ℕ) (d : Local) (w w' : Outgoing) : Type 0 where
   end : ReadEnd
   found : List Mark
   tail : List ℕ
   so : IsPrefix (text ++ tail) (talked time end (parts rest) (talk c.machine found text)).0.written
   fit : FitLines time (parts rest) (talk c.machine found text)
-  cut : IsWritten tail m w' false
-  stops : CutsLine time rest (talk c.machine found text) (text ++ cut.0.part) d.machine
-      ⊎ ((ended : Ended) × (talked time end (parts rest) (talk c.machine found text) ≡ (talk c.machine [] (text ++ tail), ended)) × (d.machine ≡ c.machine))
+  cut : IsWritten (text ++ tail) w w' false
+  stops : Stops time end rest (talk c.machine found text) (text ++ tail) cut.0.part d.machine
 
-broken_tail : (time : ℕ) (a b : Incoming) (rest : List ℕ) (c : Local) (text : List ℕ) (d : Local) (m w' : Outgoing) → Breaks (Begins acts time) rest a b c m d w' → CutTail time rest c text d m w'
-broken_tail time a b rest c text d m w' (inl ((l, tail, starts, h, cut), same)) =
+broken_tail : (time : ℕ) (a b : Incoming) (rest : List ℕ) (c : Local) (text : List ℕ) (d : Local) (w w' : Outgoing) → Breaks (Begins acts time) text rest a b c w d w' → CutTail time rest c text d w w'
+broken_tail time a b rest c text d w w' (inl ((l, tail, starts, h, cut), same)) =
     let g = begins_so time (command_of l) c tail d text (talked time Over (parts starts.1)) (λ u. stays time Over (parts starts.1) u) h in
     let t = talk c.machine g.found text in
     record {
@@ -680,9 +715,9 @@ broken_tail time a b rest c text d m w' (inl ((l, tail, starts, h, cut), same)) 
       so = subst (λ r. IsPrefix (text ++ tail) r.0.written) (sym (ap (λ bs. talked time Over (parts bs) t) starts.2 ∙ line_then time Over l starts.1 t starts.0)) g.so;
       fit = subst (λ bs. FitLines time (parts bs) t) (sym starts.2) (line_fit time l starts.1 t starts.0 g.fit (fine time (parts starts.1) (after_command time (command_of l) t) g.spent));
       cut = cut;
-      stops = inl (l, starts.1, starts.2, g.pieces, g.most, g.machine, cut_behind text tail (after_up_to g.pieces time (command_of l) t).written m.out w'.out cut.0 g.here);
+      stops = inl (l, starts.1, starts.2, g.pieces, g.most, g.machine, cut_in (text ++ tail) (after_up_to g.pieces time (command_of l) t).written w.out w'.out cut.0 g.here);
     }
-broken_tail time a b rest c text d m w' (inr (ended, tail, closes, same, cut)) =
+broken_tail time a b rest c text d w w' (inr (inl (ended, tail, closes, same, cut))) =
     let shows = closes_so time (end_for ended) rest a b ended tail c.machine [] text (fits ended) closes in
     record {
       end = end_for ended;
@@ -691,35 +726,48 @@ broken_tail time a b rest c text d m w' (inr (ended, tail, closes, same, cut)) =
       so = subst (λ r. IsPrefix (text ++ tail) r.0.written) (sym shows) (begins_itself (text ++ tail));
       fit = fine time (parts rest) (talk c.machine [] text) refl;
       cut = cut;
-      stops = inr (ended, shows, ap (λ (x : Local). x.machine) same);
+      stops = inr (inl (ended, shows, ap (λ (x : Local). x.machine) same));
+    }
+broken_tail time a b rest c text d w w' (inr (inr (line, none, same, cut))) =
+    let t = talk c.machine [] text in
+    let all = subst (λ l. IsWritten l w w' false) (sym (append-nil text)) cut in
+    record {
+      end = Over;
+      found = [];
+      tail = [];
+      so = subst (λ l. IsPrefix l (talked time Over (parts rest) t).0.written) (sym (append-nil text)) (stays time Over (parts rest) t);
+      fit = fine time (parts rest) t refl;
+      cut = all;
+      stops = inr (inr (ap (λ (x : Local). x.machine) same, cut_in (text ++ []) text w.out w'.out all.0 (subst (λ l. IsPrefix l text) (sym (append-nil text)) (begins_itself text))));
     }
 
 -- where the text of a whole session was cut
-stops_so : (time : ℕ) (bytes rest : List ℕ) (start : Machine) (marks : List Mark) (e : ReadEnd) (t : Talk) (text tail out : List ℕ) (left : Machine) → session_of start marks time bytes e ≡ talked time e (parts rest) t → IsCutShort (text ++ tail) [] out
-    → CutsLine time rest t out left ⊎ ((ended : Ended) × (talked time e (parts rest) t ≡ (talk t.machine [] (text ++ tail), ended)) × (left ≡ t.machine)) → CutsLine time rest t out left ⊎ CutsEnd start marks time bytes e t out left
-stops_so time bytes rest start marks e t text tail out left lines cut (inl h) = inl h
-stops_so time bytes rest start marks e t text tail out left lines cut (inr (ended, shows, same)) = inr (text ++ tail, ended, lines ∙ shows ∙ ap (λ m. (talk m [] (text ++ tail), ended)) (sym same), same, cut)
+stops_so : (time : ℕ) (bytes rest : List ℕ) (start : Machine) (marks : List Mark) (e : ReadEnd) (t : Talk) (full out : List ℕ) (left : Machine) → session_of start marks time bytes e ≡ talked time e (parts rest) t → IsCutShort full [] out
+    → Stops time e rest t full out left → CutsLine time rest t out left ⊎ (CutsEnd start marks time bytes e t out left ⊎ CutsPage t out left)
+stops_so time bytes rest start marks e t full out left lines cut (inl h) = inl h
+stops_so time bytes rest start marks e t full out left lines cut (inr (inl (ended, shows, same))) = inr (inl (full, ended, lines ∙ shows ∙ ap (λ m. (talk m [] full, ended)) (sym same), same, cut))
+stops_so time bytes rest start marks e t full out left lines cut (inr (inr h)) = inr (inr h)
 
 failed_session : (time : ℕ) (bytes : List ℕ) (a b : Incoming) (c : Local) (w : Outgoing) (d : Local) (w' : Outgoing) → b.taken ≡ a.taken ++ bytes → Keeps (whole a) (whole b) → Fails (Answers acts time) (Begins acts time) bytes a b c w d w' → IsSession c.machine time a b w w' d.machine WriteFault
-failed_session time bytes a b c w d w' taken keeps (rest, text, between, m, k, written, breaks) =
-    let g = broken_tail time a b rest between text d m w' breaks in
+failed_session time bytes a b c w d w' taken keeps (rest, text, between, k, breaks) =
+    let g = broken_tail time a b rest between text d w w' breaks in
     let h = g.cut.0 in
     let marks = (passes time k.lines c text between k.talks).found ++ g.found in
     let lines = session_lines time g.end bytes rest c text between k g.found in
-    let alone = cut_behind text g.tail (text ++ g.tail) m.out w'.out h (begins_itself (text ++ g.tail)) in
-    let stops = stops_so time bytes rest c.machine marks g.end (talk between.machine g.found text) text g.tail (text ++ h.part) d.machine lines alone g.stops in
-    let cut = cut_behind text g.tail (talked time g.end (parts rest) (talk between.machine g.found text)).0.written m.out w'.out h g.so in (
+    let alone = cut_in (text ++ g.tail) (text ++ g.tail) w.out w'.out h (begins_itself (text ++ g.tail)) in
+    let stops = stops_so time bytes rest c.machine marks g.end (talk between.machine g.found text) (text ++ g.tail) h.part d.machine lines alone g.stops in
+    let cut = cut_in (text ++ g.tail) (talked time g.end (parts rest) (talk between.machine g.found text)).0.written w.out w'.out h g.so in (
       bytes,
-      text ++ h.part,
+      h.part,
       marks,
       session_fit time bytes rest c text between k g.found g.fit,
       taken,
       keeps,
-      h.has ∙ ap (λ l. l ++ h.part) written.0 ∙ append_assoc w.out text h.part,
+      h.has,
       (
         g.end,
-        subst (λ r. IsCutShort r.0.written [] (text ++ h.part)) (sym lines) cut,
-        (stream k.lines, rest, talk between.machine g.found text, k.are, session_done time bytes rest c text between k g.found, (h.part, refl), stops),
+        subst (λ r. IsCutShort r.0.written [] h.part) (sym lines) cut,
+        (stream k.lines, rest, talk between.machine g.found text, k.are, session_done time bytes rest c text between k g.found, stops),
       ),
     )
 

@@ -1,7 +1,8 @@
 -- Lines that are answered, and a session so far.
 use Rattle.std.proofs.Common.{◌≡◌, ℕ, ◌+◌, ◌<◌, ◌≤◌, ◌⊎◌, inl, inr, Bool, true, false, List, [], ◌∷◌, ◌++◌, take, drop, length, length-append, Option, Some, None, refl, ap, sym, ◌∙◌, subst, arith, append_assoc}
-use Rattle.std.proofs.lemmas.List.{append-nil, length-take-le}
-use Rattle.std.proofs.lemmas.List.Elements.{All-nil, All-cons, All-append}
+use Rattle.std.proofs.lemmas.List.{append-nil, length-take-le, take-take}
+use Rattle.std.proofs.lemmas.List.Elements.{All-nil, All-cons, All-append, All-take}
+use Rattle.std.specs.Bool.{◌==◌}
 use Rattle.std.proofs.lemmas.Grind.{flat_map-append}
 use Rattle.std.specs.Prelude.{All}
 use Rattle.std.specs.Io.KnownBytes.{Keeps}
@@ -10,6 +11,7 @@ use Rattle.heap_class.specs.declared.Refusal.TheVariants.{NoMemory as NoRoom}
 use Rattle.heap_trail.specs.declared.Reply.TheVariants.{Refused}
 use Rattle.session_text.specs.declared.Ended.{Ended}
 use Rattle.session_text.specs.declared.Ended.TheVariants.{Quit, Eof, CutLine, TooLong, ReadFault, TooManyReads, WriteFault, NoMemory}
+use Rattle.session_text.specs.declared.answer.Step.TheVariants.{Next}
 use Rattle.session_text.specs.declared.command.Command.{Command}
 use Rattle.session_text.specs.declared.command.Command.TheVariants.{Blank, Bad, Ask, Piece, Dump, DumpNow, End}
 use Rattle.session_text.specs.Answers.{Says, Answers, Begins}
@@ -17,11 +19,12 @@ use Rattle.session_text.specs.Dumps.{Acts, DumpsPin, DumpsNow, WritesDump}
 use Rattle.session_text.specs.Endings.{Ends, ended_of, step_of}
 use Rattle.session_text.specs.Grammar.{command_of}
 use Rattle.session_text.specs.Inlets.{Incoming, whole}
-use Rattle.session_text.specs.Lines.{IsLineAt}
+use Rattle.session_text.specs.Lines.{NoLf, IsLineAt}
 use Rattle.session_text.specs.Reads.{TakesMemory}
 use Rattle.session_text.specs.Replies.{reply_text}
-use Rattle.session_text.specs.Talks.{IsLine, Talks, stream, IsTalk, BeginsWith, IsQuit, IsBrokenOff, IsStep, Closes, Breaks, Fails, IsLastRead, IsServed, Serves}
-use Rattle.session_text.specs.Writes.{IsCutShort, IsWritten}
+use Rattle.session_text.specs.Talks.{IsLine, IsLong, Talks, stream, IsTalk, BeginsWith, IsQuit, IsBrokenOff, IsStep, Closes, Waits, Breaks, Fails, IsLastRead, IsServed, Serves}
+use Rattle.session_text.specs.Writes.{IsCutShort, IsWritten, IsAdded}
+use Rattle.session_text.proofs.Written.{added_here}
 
 -- ---- one text and then another
 
@@ -43,18 +46,24 @@ written_more xs ys a b c false h k = (
 
 -- ---- one line
 
--- the answer's text was written, or not to its end
-pub step_written : {S : Type 0} (says begins : Says S) (k : Command) (c : S) (w : Outgoing) (c' : S) (w' : Outgoing) (text : List ℕ) (r : Bool) → says k c text c' → begins k c text c' → IsWritten text w w' r → IsStep says begins k c w c' w' (step_of r)
-step_written says begins k c w c' w' text true s b h = (text, s, h)
-step_written says begins k c w c' w' text false s b h = (text, b, h)
+-- the answer's text was added, or a write failed
+pub step_added : {S : Type 0} (says begins : Says S) (k : Command) (c : S) (page : List ℕ) (w : Outgoing) (c' : S) (page' : List ℕ) (w' : Outgoing) (text : List ℕ) (r : Bool)
+    → says k c text c' → begins k c text c' → IsAdded text page w page' w' r → IsStep says begins k c page w c' page' w' (step_of r)
+step_added says begins k c page w c' page' w' text true s b h = (text, s, h)
+step_added says begins k c page w c' page' w' text false s b h = (text, b, h)
 
-pub step_dumped : {S : Type 0} (acts : Acts S) (time pin : ℕ) (k : Command) (c : S) (w : Outgoing) (c' : S) (w' : Outgoing) (r : Bool) → Dump pin ≡ k → WritesDump (DumpsPin acts pin time) c c' w w' r → IsStep (Answers acts time) (Begins acts time) k c w c' w' (step_of r)
-step_dumped acts time pin k c w c' w' true e h = subst (λ x. IsStep (Answers acts time) (Begins acts time) x c w c' w' (step_of true)) e (h.0, h.1, h.2)
-step_dumped acts time pin k c w c' w' false e h = subst (λ x. IsStep (Answers acts time) (Begins acts time) x c w c' w' (step_of false)) e (h.1, (h.0, h.2, h.3), h.4)
+pub step_blank : {S : Type 0} (acts : Acts S) (time : ℕ) (k : Command) (c : S) (page : List ℕ) (w : Outgoing) → Blank ≡ k → IsStep (Answers acts time) (Begins acts time) k c page w c page w Next
+step_blank acts time k c page w e = subst (λ x. IsStep (Answers acts time) (Begins acts time) x c page w c page w Next) e ([], (refl, refl), added_here [] page w page (sym (append-nil page)))
 
-pub step_dumped_now : {S : Type 0} (acts : Acts S) (time : ℕ) (k : Command) (c : S) (w : Outgoing) (c' : S) (w' : Outgoing) (r : Bool) → DumpNow ≡ k → WritesDump (DumpsNow acts time) c c' w w' r → IsStep (Answers acts time) (Begins acts time) k c w c' w' (step_of r)
-step_dumped_now acts time k c w c' w' true e h = subst (λ x. IsStep (Answers acts time) (Begins acts time) x c w c' w' (step_of true)) e (h.0, h.1, h.2)
-step_dumped_now acts time k c w c' w' false e h = subst (λ x. IsStep (Answers acts time) (Begins acts time) x c w c' w' (step_of false)) e (h.1, (h.0, h.2, h.3), h.4)
+pub step_dumped : {S : Type 0} (acts : Acts S) (time pin : ℕ) (k : Command) (c : S) (page : List ℕ) (w : Outgoing) (c' : S) (page' : List ℕ) (w' : Outgoing) (r : Bool)
+    → Dump pin ≡ k → WritesDump (DumpsPin acts pin time) c c' page w page' w' r → IsStep (Answers acts time) (Begins acts time) k c page w c' page' w' (step_of r)
+step_dumped acts time pin k c page w c' page' w' true e h = subst (λ x. IsStep (Answers acts time) (Begins acts time) x c page w c' page' w' (step_of true)) e (h.0, h.1, h.2)
+step_dumped acts time pin k c page w c' page' w' false e h = subst (λ x. IsStep (Answers acts time) (Begins acts time) x c page w c' page' w' (step_of false)) e (h.1, (h.0, h.2, h.3), h.4)
+
+pub step_dumped_now : {S : Type 0} (acts : Acts S) (time : ℕ) (k : Command) (c : S) (page : List ℕ) (w : Outgoing) (c' : S) (page' : List ℕ) (w' : Outgoing) (r : Bool)
+    → DumpNow ≡ k → WritesDump (DumpsNow acts time) c c' page w page' w' r → IsStep (Answers acts time) (Begins acts time) k c page w c' page' w' (step_of r)
+step_dumped_now acts time k c page w c' page' w' true e h = subst (λ x. IsStep (Answers acts time) (Begins acts time) x c page w c' page' w' (step_of true)) e (h.0, h.1, h.2)
+step_dumped_now acts time k c page w c' page' w' false e h = subst (λ x. IsStep (Answers acts time) (Begins acts time) x c page w c' page' w' (step_of false)) e (h.1, (h.0, h.2, h.3), h.4)
 
 -- a line found no memory for its reading
 unread : {S : Type 0} (acts : Acts S) (time : ℕ) (k : Command) (c : S) → TakesMemory k → Answers acts time k c (reply_text (Refused NoRoom)) c × Begins acts time k c (reply_text (Refused NoRoom)) c
@@ -66,10 +75,11 @@ unread acts time (Dump pin) c h = absurd h
 unread acts time DumpNow c h = absurd h
 unread acts time End c h = absurd h
 
-pub step_unread : {S : Type 0} (acts : Acts S) (time : ℕ) (k : Command) (c : S) (w w' : Outgoing) (r : Bool) → TakesMemory k → IsWritten (reply_text (Refused NoRoom)) w w' r → IsStep (Answers acts time) (Begins acts time) k c w c w' (step_of r)
-step_unread acts time k c w w' r h written =
+pub step_unread : {S : Type 0} (acts : Acts S) (time : ℕ) (k : Command) (c : S) (page : List ℕ) (w : Outgoing) (page' : List ℕ) (w' : Outgoing) (r : Bool)
+    → TakesMemory k → IsAdded (reply_text (Refused NoRoom)) page w page' w' r → IsStep (Answers acts time) (Begins acts time) k c page w c page' w' (step_of r)
+step_unread acts time k c page w page' w' r h added =
     let u = unread acts time k c h in
-    step_written (Answers acts time) (Begins acts time) k c w c w' (reply_text (Refused NoRoom)) r u.0 u.1 written
+    step_added (Answers acts time) (Begins acts time) k c page w c page' w' (reply_text (Refused NoRoom)) r u.0 u.1 added
 
 -- ---- lines
 
@@ -102,22 +112,33 @@ one_line says bytes l rest c text c' is line h = record {
   talks = (text, c', [], line, h, (refl, refl), sym (append-nil text));
 }
 
-line_is : (bytes : List ℕ) (n : ℕ) → length bytes ≤ 4097 → IsLineAt n bytes → IsLine (take n bytes)
-line_is bytes n most at = record { most = omega (arith, length-take-le n bytes (omega (arith, at.0)), at.0); no_lf = at.1 }
+line_is : (bytes : List ℕ) (n : ℕ) → n ≤ 4096 → IsLineAt n bytes → IsLine (take n bytes)
+line_is bytes n most at = record { most = omega (arith, length-take-le n bytes (omega (arith, at.0)), most); no_lf = at.1 }
 
 -- the buffer's first line is answered; s is the buffer
-pub line_answered : {S : Type 0} (says : Says S) (bytes s rest : List ℕ) (n : ℕ) (c : S) (text : List ℕ) (c' : S) → s ≡ bytes → rest ≡ drop (n + 1) bytes → length bytes ≤ 4097 → IsLineAt n bytes → says (command_of (take n s)) c text c' → IsTalk says bytes c rest text c'
+pub line_answered : {S : Type 0} (says : Says S) (bytes s rest : List ℕ) (n : ℕ) (c : S) (text : List ℕ) (c' : S) → s ≡ bytes → rest ≡ drop (n + 1) bytes → n ≤ 4096 → IsLineAt n bytes → says (command_of (take n s)) c text c' → IsTalk says bytes c rest text c'
 line_answered says bytes s rest n c text c' e f most at h =
     subst (λ r. IsTalk says bytes c r text c') (sym f) (one_line says bytes (take n bytes) (drop (n + 1) bytes) c text c' at.2 (line_is bytes n most at) (subst (λ l. says (command_of (take n l)) c text c') e h))
 
-begins_with : (bytes : List ℕ) (n : ℕ) → length bytes ≤ 4097 → IsLineAt n bytes → BeginsWith (take n bytes) bytes
+begins_with : (bytes : List ℕ) (n : ℕ) → n ≤ 4096 → IsLineAt n bytes → BeginsWith (take n bytes) bytes
 begins_with bytes n most at = (line_is bytes n most at, drop (n + 1) bytes, at.2)
 
-pub line_quits : (bytes s : List ℕ) (n : ℕ) → s ≡ bytes → length bytes ≤ 4097 → IsLineAt n bytes → command_of (take n s) ≡ End → IsQuit bytes
+pub line_quits : (bytes s : List ℕ) (n : ℕ) → s ≡ bytes → n ≤ 4096 → IsLineAt n bytes → command_of (take n s) ≡ End → IsQuit bytes
 line_quits bytes s n e most at is = (take n bytes, begins_with bytes n most at, subst (λ l. command_of (take n l) ≡ End) e is)
 
-pub line_broken : {S : Type 0} (begins : Says S) (bytes s : List ℕ) (n : ℕ) (c : S) (tail : List ℕ) (c' : S) (w w' : Outgoing) → s ≡ bytes → length bytes ≤ 4097 → IsLineAt n bytes → begins (command_of (take n s)) c tail c' → IsWritten tail w w' false → IsBrokenOff begins bytes c w c' w'
-line_broken begins bytes s n c tail c' w w' e most at h k = (take n bytes, tail, begins_with bytes n most at, subst (λ l. begins (command_of (take n l)) c tail c') e h, k)
+pub line_broken : {S : Type 0} (begins : Says S) (text bytes s : List ℕ) (n : ℕ) (c : S) (tail : List ℕ) (c' : S) (w w' : Outgoing) → s ≡ bytes → n ≤ 4096 → IsLineAt n bytes → begins (command_of (take n s)) c tail c' → IsWritten (text ++ tail) w w' false → IsBrokenOff begins text bytes c w c' w'
+line_broken begins text bytes s n c tail c' w w' e most at h k = (take n bytes, tail, begins_with bytes n most at, subst (λ l. begins (command_of (take n l)) c tail c') e h, k)
+
+-- ---- lines that are too long
+
+none_first : (n k : ℕ) (xs : List ℕ) → n ≤ k → NoLf (take k xs) → NoLf (take n xs)
+none_first n k xs le none = subst (λ l. NoLf l) (take-take n k xs le) (All-take (λ b. (b == 10) ≡ false) n (take k xs) none)
+
+pub long_line : (bytes : List ℕ) (n : ℕ) → 4096 < n → IsLineAt n bytes → IsLong bytes
+long_line bytes n more at = (omega (arith, more, at.0), none_first 4097 n bytes (omega (arith, more)) at.1)
+
+pub long_rest : (bytes : List ℕ) → 4096 < length bytes → NoLf bytes → IsLong bytes
+long_rest bytes more none = (more, All-take (λ b. (b == 10) ≡ false) 4097 bytes none)
 
 -- ---- sessions
 
@@ -222,14 +243,15 @@ pub came_read : {S : Type 0} (says : Says S) (a : Incoming) (c : S) (w : Outgoin
 came_read says a c w b rest c' w' reads b' rest' more reads' o line is taken read =
     inr (o.bytes, more, rest, taken ∙ ap (λ l. l ++ more) o.taken ∙ append_assoc a.taken o.bytes more, is, last_read says a c w b rest c' w' reads b' more o line read)
 
--- the session ends with what an ending prints, unless its write fails
-pub ends_saying : {S : Type 0} (says begins : Says S) (a : Incoming) (c : S) (w : Outgoing) (b : Incoming) (rest : List ℕ) (c' : S) (w1 : Outgoing) (reads : ℕ) (b' : Incoming) (w2 : Outgoing) (ended : Ended) (tail : List ℕ) (r : Bool)
-    → (o : IsOpen says a c w b rest c' w1 reads) → b'.taken ≡ b.taken → Keeps (whole b) (whole b') → Closes rest a b' ended tail → IsWritten tail w1 w2 r
+-- the lines of the buffer, and what an ending prints, unless a write fails
+pub ends_saying : {S : Type 0} (says begins : Says S) (a : Incoming) (c : S) (w : Outgoing) (b : Incoming) (rest : List ℕ) (c1 : S) (w1 : Outgoing) (reads : ℕ) (rest' text : List ℕ) (c' : S) (b' : Incoming) (w2 : Outgoing) (ended : Ended) (tail : List ℕ) (r : Bool)
+    → (o : IsOpen says a c w b rest c1 w1 reads) → IsTalk says rest c1 rest' text c' → b'.taken ≡ b.taken → Keeps (whole b) (whole b') → Closes rest' a b' ended tail → IsWritten (text ++ tail) w1 w2 r
     → ((rest : List ℕ) × (text : List ℕ) × (tail : List ℕ) × IsTalk says o.bytes c rest text c' × Closes rest a b' ended tail × IsWritten (text ++ tail) w w2 true → IsServed says begins o.bytes a b' c w c' w2 ended)
-    → (IsWritten tail w1 w2 false → Serves says begins a b' c w c' w2 WriteFault) → Serves says begins a b' c w c' w2 (ended_of ended r)
-ends_saying says begins a c w b rest c' w1 reads b' w2 ended tail true o taken same closes h is fault =
-    (o.bytes, taken ∙ o.taken, keeps_then (whole a) (whole b) (whole b') o.keeps same, is (rest, o.text, tail, o.talk, closes, written_more o.text tail w w1 w2 true o.written h))
-ends_saying says begins a c w b rest c' w1 reads b' w2 ended tail false o taken same closes h is fault = fault h
+    → (IsWritten (text ++ tail) w1 w2 false → Serves says begins a b' c w c' w2 WriteFault) → Serves says begins a b' c w c' w2 (ended_of ended r)
+ends_saying says begins a c w b rest c1 w1 reads rest' text c' b' w2 ended tail true o t taken same closes h is fault =
+    let all = subst (λ l. IsWritten l w w2 true) (sym (append_assoc o.text text tail)) (written_more o.text (text ++ tail) w w1 w2 true o.written h) in
+    (o.bytes, taken ∙ o.taken, keeps_then (whole a) (whole b) (whole b') o.keeps same, is (rest', o.text ++ text, tail, talk_then says o.bytes c rest o.text c1 rest' text c' o.talk t, closes, all))
+ends_saying says begins a c w b rest c1 w1 reads rest' text c' b' w2 ended tail false o t taken same closes h is fault = fault h
 
 -- the session ends, and prints nothing more
 pub ends_plainly : {S : Type 0} (says begins : Says S) (a : Incoming) (c : S) (w : Outgoing) (b : Incoming) (rest : List ℕ) (c' : S) (w1 : Outgoing) (reads : ℕ) (b' : Incoming) (ended : Ended)
@@ -244,27 +266,34 @@ ends_plainly says begins a c w b rest c' w1 reads b' ended o taken same closes i
 no_line : (rest l : List ℕ) → length rest ≡ 0 → BeginsWith l rest → ⊥
 no_line rest l none h = omega (arith, none, ap (λ x. length x) h.2, length-append l (10 ∷ h.1))
 
-no_cut : (a b : List ℕ) → IsCutShort [] a b → ⊥
-no_cut a b h = omega (arith, h.some, ap (λ x. length x) h.lacks, length-append h.part h.rest)
+no_cut : (text : List ℕ) (a b : List ℕ) → text ≡ [] → IsCutShort text a b → ⊥
+no_cut text a b none h = omega (arith, h.some, ap (λ x. length x) (sym none ∙ h.lacks), length-append h.part h.rest)
+
+-- where nothing was read, no line is answered
+no_talk : {S : Type 0} (says : Says S) (lines : List (List ℕ)) (rest : List ℕ) (c : S) (text : List ℕ) (c' : S) → length (stream lines ++ rest) ≡ 0 → Talks says lines c text c' → (text ≡ []) × (length rest ≡ 0)
+no_talk says [] rest c text c' none t = (t.0, none)
+no_talk says (l ∷ ls) rest c text c' none t = absurd (omega (arith, none, length-append (stream (l ∷ ls)) rest, length-append (l ++ 10 ∷ []) (stream ls), length-append l (10 ∷ [])))
 
 -- where nothing was read, no ending's line can fail
-closes_none : (rest tail : List ℕ) (a b : Incoming) (w w' : Outgoing) (ended : Ended) → length rest ≡ 0 → length b.reads ≡ length a.reads → b.failures ≡ a.failures → Closes rest a b ended tail → IsWritten tail w w' false → ⊥
-closes_none rest tail a b w w' Quit none same fine h k = no_line rest h.0.0 none h.0.1
-closes_none rest tail a b w w' Eof none same fine h k = no_cut w.out w'.out (subst (λ l. IsCutShort l w.out w'.out) h.2 k.0)
-closes_none rest tail a b w w' CutLine none same fine h k = omega (arith, none, h.1)
-closes_none rest tail a b w w' TooLong none same fine h k = omega (arith, none, h.1)
-closes_none rest tail a b w w' ReadFault none same fine h k = omega (arith, fine, h.2)
-closes_none rest tail a b w w' TooManyReads none same fine h k = omega (arith, same, h.1)
-closes_none rest tail a b w w' WriteFault none same fine h k = h
-closes_none rest tail a b w w' NoMemory none same fine h k = h
+closes_none : (rest text tail : List ℕ) (a b : Incoming) (w w' : Outgoing) (ended : Ended) → length rest ≡ 0 → text ≡ [] → length b.reads ≡ length a.reads → b.failures ≡ a.failures → Closes rest a b ended tail → IsWritten (text ++ tail) w w' false → ⊥
+closes_none rest text tail a b w w' Quit none empty same fine h k = no_line rest h.0.0 none h.0.1
+closes_none rest text tail a b w w' Eof none empty same fine h k = no_cut (text ++ tail) w.out w'.out (ap (λ l. l ++ tail) empty ∙ h.2) k.0
+closes_none rest text tail a b w w' CutLine none empty same fine h k = omega (arith, none, h.1)
+closes_none rest text tail a b w w' TooLong none empty same fine h k = omega (arith, none, h.0.0)
+closes_none rest text tail a b w w' ReadFault none empty same fine h k = omega (arith, fine, h.2)
+closes_none rest text tail a b w w' TooManyReads none empty same fine h k = omega (arith, same, h.1)
+closes_none rest text tail a b w w' WriteFault none empty same fine h k = h
+closes_none rest text tail a b w w' NoMemory none empty same fine h k = h
 
-breaks_none : {S : Type 0} (begins : Says S) (rest : List ℕ) (a b : Incoming) (c : S) (w : Outgoing) (c' : S) (w' : Outgoing) → length rest ≡ 0 → length b.reads ≡ length a.reads → b.failures ≡ a.failures → Breaks begins rest a b c w c' w' → ⊥
-breaks_none begins rest a b c w c' w' none same fine (inl (h, k)) = no_line rest h.0 none h.2
-breaks_none begins rest a b c w c' w' none same fine (inr h) = closes_none rest h.1 a b w w' h.0 none same fine h.2 h.4
+breaks_none : {S : Type 0} (begins : Says S) (text rest : List ℕ) (a b : Incoming) (c : S) (w : Outgoing) (c' : S) (w' : Outgoing) → length rest ≡ 0 → text ≡ [] → length b.reads ≡ length a.reads → b.failures ≡ a.failures → Breaks begins text rest a b c w c' w' → ⊥
+breaks_none begins text rest a b c w c' w' none empty same fine (inl (h, k)) = no_line rest h.0 none h.2
+breaks_none begins text rest a b c w c' w' none empty same fine (inr (inl h)) = closes_none rest text h.1 a b w w' h.0 none empty same fine h.2 h.4
+breaks_none begins text rest a b c w c' w' none empty same fine (inr (inr h)) = no_cut text w.out w'.out empty h.3.0
 
 fails_none : {S : Type 0} (says begins : Says S) (bytes : List ℕ) (a b : Incoming) (c : S) (w : Outgoing) (c' : S) (w' : Outgoing) → bytes ≡ [] → length b.reads ≡ length a.reads → b.failures ≡ a.failures → Fails says begins bytes a b c w c' w' → ⊥
 fails_none says begins bytes a b c w c' w' none same fine f =
-    breaks_none begins f.0 a b f.2 f.3 c' w' (omega (arith, ap (λ x. length x) none, ap (λ x. length x) f.4.are, length-append (stream f.4.lines) f.0)) same fine f.6
+    let n = no_talk says f.3.lines f.0 c f.1 f.2 (ap (λ x. length x) (sym f.3.are ∙ none)) f.3.talks in
+    breaks_none begins f.1 f.0 a b f.2 w c' w' n.1 n.0 same fine f.4
 
 -- a write failed in the answers of the buffer's lines, or behind them
 pub ends_failing : {S : Type 0} (says begins : Says S) (a : Incoming) (c : S) (w : Outgoing) (b : Incoming) (buffer : List ℕ) (c1 : S) (w1 : Outgoing) (reads : ℕ) (c2 : S) (w2 : Outgoing)
@@ -289,15 +318,23 @@ ends_silent says begins a c w b rest c' w1 reads b' w2 ended tail o line taken r
     w1,
     refl,
     last_read says a c w b rest c' w1 reads b' [] o line read,
-    (rest, [], c', w1, subst (λ l. IsTalk says l c' rest [] c') (sym (append-nil rest)) (talk_none says rest c'), written_none w1, inr (ended, tail, closes, refl, h)),
+    (rest, [], c', subst (λ l. IsTalk says l c' rest [] c') (sym (append-nil rest)) (talk_none says rest c'), inr (inl (ended, tail, closes, refl, h))),
   ),
 )
 
+-- a text that is out, and then the write that failed
+breaks_more : {S : Type 0} (begins : Says S) (out text rest : List ℕ) (a b : Incoming) (c : S) (w m : Outgoing) (c' : S) (w' : Outgoing) → IsWritten out w m true → Breaks begins text rest a b c m c' w' → Breaks begins (out ++ text) rest a b c w c' w'
+breaks_more begins out text rest a b c w m c' w' o (inl ((l, tail, starts, h, cut), same)) =
+    inl ((l, tail, starts, h, subst (λ x. IsWritten x w w' false) (sym (append_assoc out text tail)) (written_more out (text ++ tail) w m w' false o cut)), same)
+breaks_more begins out text rest a b c w m c' w' o (inr (inl (ended, tail, closes, same, cut))) =
+    inr (inl (ended, tail, closes, same, subst (λ x. IsWritten x w w' false) (sym (append_assoc out text tail)) (written_more out (text ++ tail) w m w' false o cut)))
+breaks_more begins out text rest a b c w m c' w' o (inr (inr (line, fine, same, cut))) = inr (inr (line, fine, same, written_more out text w m w' false o cut))
+
 -- all the lines from the beginning, and then the write that failed
 pub served_fails : {S : Type 0} (says begins : Says S) (bytes : List ℕ) (a b : Incoming) (c : S) (w : Outgoing) (c' : S) (w' : Outgoing) → IsServed says begins bytes a b c w c' w' WriteFault → Fails says begins bytes a b c w c' w'
-served_fails says begins bytes a b c w c' w' (before, last, rest, c1, w1, is, h, (left, text, between, m, talk, written, breaks)) =
+served_fails says begins bytes a b c w c' w' (before, last, rest, c1, w1, is, h, (left, text, between, talk, breaks)) =
     let all = talk_then says (before ++ last) c (rest ++ last) h.text c1 left text between (talk_read says before c rest h.text c1 last h.talk) talk in
-    (left, h.text ++ text, between, m, subst (λ l. IsTalk says l c left (h.text ++ text) between) (sym is) all, written_more h.text text w w1 m true h.written written, breaks)
+    (left, h.text ++ text, between, subst (λ l. IsTalk says l c left (h.text ++ text) between) (sym is) all, breaks_more begins h.text text left a b between w w1 c' w' h.written breaks)
 
 -- ---- what a session says of its ends alone
 
@@ -305,26 +342,25 @@ ends_either : (a b : Incoming) (rest tail : List ℕ) (ended : Ended) → Closes
 ends_either a b rest tail Quit h = inl h.2
 ends_either a b rest tail Eof h = inl h.3
 ends_either a b rest tail CutLine h = inl h.4
-ends_either a b rest tail TooLong h = inl h.3
+ends_either a b rest tail TooLong h = inl h.2
 ends_either a b rest tail ReadFault h = inr h.2
 ends_either a b rest tail TooManyReads h = inl h.3
 ends_either a b rest tail WriteFault h = absurd h
 ends_either a b rest tail NoMemory h = absurd h
 
-breaks_either : {S : Type 0} (begins : Says S) (rest : List ℕ) (a b : Incoming) (c : S) (w : Outgoing) (c' : S) (w' : Outgoing) → Breaks begins rest a b c w c' w' → (w'.failures ≡ w.failures + 1) × ((b.failures ≡ a.failures) ⊎ (b.failures ≡ a.failures + 1))
-breaks_either begins rest a b c w c' w' (inl (h, k)) = (h.4.1, inl k)
-breaks_either begins rest a b c w c' w' (inr h) = (h.4.1, ends_either a b rest h.1 h.0 h.2)
+breaks_either : {S : Type 0} (begins : Says S) (text rest : List ℕ) (a b : Incoming) (c : S) (w : Outgoing) (c' : S) (w' : Outgoing) → Breaks begins text rest a b c w c' w' → (w'.failures ≡ w.failures + 1) × ((b.failures ≡ a.failures) ⊎ (b.failures ≡ a.failures + 1))
+breaks_either begins text rest a b c w c' w' (inl (h, k)) = (h.4.1, inl k)
+breaks_either begins text rest a b c w c' w' (inr (inl h)) = (h.4.1, ends_either a b rest h.1 h.0 h.2)
+breaks_either begins text rest a b c w c' w' (inr (inr h)) = (h.3.1, inl h.1)
 
 fails_ends : {S : Type 0} (says begins : Says S) (bytes : List ℕ) (a b : Incoming) (c : S) (w : Outgoing) (c' : S) (w' : Outgoing) → Fails says begins bytes a b c w c' w' → Ends a b w w' WriteFault
-fails_ends says begins bytes a b c w c' w' f =
-    let e = breaks_either begins f.0 a b f.2 f.3 c' w' f.6 in
-    (e.0 ∙ ap (λ n. n + 1) f.5.1, e.1)
+fails_ends says begins bytes a b c w c' w' f = breaks_either begins f.1 f.0 a b f.2 w c' w' f.4
 
 pub serves_ends : {S : Type 0} (says begins : Says S) (a b : Incoming) (c : S) (w : Outgoing) (c' : S) (w' : Outgoing) (ended : Ended) → Serves says begins a b c w c' w' ended → Ends a b w w' ended
 serves_ends says begins a b c w c' w' Quit s = let h = s.3 in (h.5.1, h.4.2)
 serves_ends says begins a b c w c' w' Eof s = let h = s.3 in (h.5.1, (h.4.1, h.4.3))
 serves_ends says begins a b c w c' w' CutLine s = let h = s.3 in (h.5.1, (h.4.2, h.4.4))
-serves_ends says begins a b c w c' w' TooLong s = let h = s.3 in (h.5.1, h.4.3)
+serves_ends says begins a b c w c' w' TooLong s = let h = s.3 in (h.5.1, h.4.2)
 serves_ends says begins a b c w c' w' ReadFault s = let h = s.3 in (h.5.1, h.4.2)
 serves_ends says begins a b c w c' w' TooManyReads s = let h = s.3 in (h.5.1, (h.4.1, h.4.3))
 serves_ends says begins a b c w c' w' WriteFault s = fails_ends says begins s.0 a b c w c' w' (served_fails says begins s.0 a b c w c' w' s.3)

@@ -66,3 +66,31 @@ added_then_here text page a page1 b page2 h is = added_more [] text page a page1
 -- a text, and then the page was put out
 pub added_and_flushed : (text page : List ℕ) (a : Outgoing) (page1 : List ℕ) (b : Outgoing) (page2 : List ℕ) (c : Outgoing) (r : Bool) → IsAdded text page a page1 b true → IsAdded [] page1 b page2 c r → IsAdded text page a page2 c r
 added_and_flushed text page a page1 b page2 c r h k = added_as (text ++ []) text page a page2 c r (append-nil text) (added_more text [] page a page1 b page2 c r h k)
+
+-- an empty page took a text, and then it was put out with more behind it
+pub paged_written : (text page tail : List ℕ) (a b c : Outgoing) (r : Bool) → IsAdded text [] a page b true → IsWritten (page ++ tail) b c r → IsWritten (text ++ tail) a c r
+paged_written text page tail a b c true h k = (
+  k.0 ∙ ap (λ l. l ++ (page ++ tail)) h.1 ∙ append_assoc a.out h.0 (page ++ tail) ∙ ap (λ l. a.out ++ l) (sym (append_assoc h.0 page tail) ∙ ap (λ l. l ++ tail) (sym h.2)),
+  k.1 ∙ h.3,
+)
+paged_written text page tail a b c false h k = (
+  record {
+    part = h.0 ++ k.0.part;
+    rest = k.0.rest;
+    has = k.0.has ∙ ap (λ l. l ++ k.0.part) h.1 ∙ append_assoc a.out h.0 k.0.part;
+    lacks = ap (λ l. l ++ tail) h.2 ∙ append_assoc h.0 page tail ∙ ap (λ l. h.0 ++ l) k.0.lacks ∙ sym (append_assoc h.0 k.0.part k.0.rest);
+    some = k.0.some;
+  },
+  k.1 ∙ ap (λ n. n + 1) h.3,
+)
+
+-- an empty page took a text, and then it was put out
+pub paged_flushed : (text page : List ℕ) (a b : Outgoing) (page' : List ℕ) (c : Outgoing) (r : Bool) → IsAdded text [] a page b true → IsAdded [] page b page' c r → page' ≡ [] → IsWritten text a c r
+paged_flushed text page a b page' c r h k none = written_of text [] a page' c r refl none (added_and_flushed text [] a page b page' c r h k)
+
+-- a text, and then the page was put out with it
+pub ends_written : (text page : List ℕ) (a : Outgoing) (page1 : List ℕ) (b : Outgoing) (page2 : List ℕ) (c : Outgoing) (r : Bool) → IsAdded text page a page1 b true → IsAdded [] page1 b page2 c r → page2 ≡ [] → IsWritten (page ++ text) a c r
+ends_written text page a page1 b page2 c true h k none =
+    let all = added_and_flushed text page a page1 b page2 c true h k in
+    (all.1 ∙ ap (λ l. a.out ++ l) (sym (append-nil all.0) ∙ ap (λ l. all.0 ++ l) (sym none) ∙ sym all.2), all.3)
+ends_written text page a page1 b page2 c false h k none = added_and_flushed text page a page1 b page2 c false h k

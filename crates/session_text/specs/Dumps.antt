@@ -6,7 +6,7 @@ use Rattle.heap_trail.specs.declared.Action.TheVariants.{OpenPin, NextPiece, Clo
 use Rattle.heap_trail.specs.declared.Reply.{Reply}
 use Rattle.hprof_text.specs.declared.Piece.{Piece}
 use Rattle.session_text.specs.Replies.{line, and_number, reply_text, data_lines, piece_in, pin_in}
-use Rattle.session_text.specs.Writes.{IsWritten}
+use Rattle.session_text.specs.Writes.{IsAdded}
 
 -- what an action may reply and leave
 abbrev pub Acts : Type 0 → Type 1
@@ -54,7 +54,7 @@ ClosesAfter acts time r None n c text c' = (text ≡ reply_text r) × (c' ≡ c)
 abbrev pub DumpsNow : {S : Type 0} → Acts S → ℕ → DumpText S
 DumpsNow {S} acts time n c text c' = (r : Reply) × (opened : S) × acts c (OpenPin None) r opened × ClosesAfter acts time r (pin_in r) n opened text c'
 
--- a dump was written, or a beginning of one up to some piece
-abbrev pub WritesDump : {S : Type 0} → DumpText S → S → S → Outgoing → Outgoing → Bool → Type 0
-WritesDump dumps c c' a b true = (text : List ℕ) × dumps piece_limit c text c' × IsWritten text a b true
-WritesDump dumps c c' a b false = (pieces : ℕ) × (text : List ℕ) × (pieces ≤ piece_limit) × dumps pieces c text c' × IsWritten text a b false
+-- a dump was added to a page, or a write failed in a dump up to some piece
+abbrev pub WritesDump : {S : Type 0} → DumpText S → S → S → List ℕ → Outgoing → List ℕ → Outgoing → Bool → Type 0
+WritesDump dumps c c' page a page' b true = (text : List ℕ) × dumps piece_limit c text c' × IsAdded text page a page' b true
+WritesDump dumps c c' page a page' b false = (pieces : ℕ) × (text : List ℕ) × (pieces ≤ piece_limit) × dumps pieces c text c' × IsAdded text page a page' b false

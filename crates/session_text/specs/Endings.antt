@@ -1,5 +1,5 @@
 -- What an ending says of the reader and the writer.
-use Rattle.std.specs.Prelude.{◌≡◌, ℕ, ◌+◌, ◌⊎◌, Bool, true, false, List, length}
+use Rattle.std.specs.Prelude.{◌≡◌, ℕ, ◌+◌, ◌⊎◌, Bool, true, false, List, ◌++◌, length}
 use Rattle.dump_pump.specs.Outlets.{Outgoing}
 use Rattle.session_text.specs.declared.Ended.{Ended}
 use Rattle.session_text.specs.declared.Ended.TheVariants.{Quit, Eof, CutLine, TooLong, ReadFault, TooManyReads, WriteFault, NoMemory}
@@ -16,9 +16,9 @@ abbrev pub ended_of : Ended → Bool → Ended
 ended_of ended true = ended
 ended_of ended false = WriteFault
 
--- an ending's line was written, or the session ended by that write
-abbrev pub EndsWith : List ℕ → Outgoing → Outgoing → Ended → Ended → Type 0
-EndsWith line w w' ended result = (written : Bool) × IsWritten line w w' written × (result ≡ ended_of ended written)
+-- the page and an ending's line were put out, or the session ended by a write that failed in them
+abbrev pub EndsWith : List ℕ → List ℕ → Outgoing → Outgoing → Ended → Ended → Type 0
+EndsWith line page w w' ended result = (written : Bool) × IsWritten (page ++ line) w w' written × (result ≡ ended_of ended written)
 
 -- the reader before and after, where no write failed
 abbrev pub ReaderEnds : Incoming → Incoming → Ended → Type 0

@@ -2,7 +2,6 @@
 use Rattle.std.specs.Prelude.{◌≡◌, ℕ, zero, suc, ◌+◌, ◌≤◌, ◌⊎◌, Bool, true, false, ◌==◌, nat_lt, List, [], ◌∷◌, ◌++◌, length, codes, Option, Some, None, if◌then◌else◌}
 use Rattle.std.specs.List.{slice_split}
 use Rattle.std.specs.Io.KnownBytes.{Keeps}
-use mathlib.Core.List.{IsPrefix}
 use Rattle.dump_pump.specs.Outlets.{Outgoing}
 use Rattle.heap_trail.specs.declared.Action.{Action}
 use Rattle.heap_trail.specs.declared.Action.TheVariants.{OpenPin, NextPiece, ClosePin}
@@ -162,21 +161,25 @@ MarksFit m marks time bytes = FitLines time (slice_split (λ b. b == 10) bytes) 
 abbrev pub Shows : Machine → List Mark → ℕ → List ℕ → ReadEnd → List ℕ → Machine → Ended → Type 0
 Shows m marks time bytes e out m' ended = session_of m marks time bytes e ≡ (record { machine = m'; marks = []; written = out }, ended)
 
--- the next line was acted on, a dump up to some piece, and its answer was cut short
+-- the next line was acted on, a dump up to some piece, and the text with its answer was cut short
 abbrev pub CutsLine : ℕ → List ℕ → Talk → List ℕ → Machine → Type 0
 CutsLine time rest t out m' =
     (l : List ℕ) × (more : List ℕ) × (rest ≡ l ++ 10 ∷ more) × (pieces : ℕ) × (pieces ≤ piece_limit)
     × (m' ≡ (after_up_to pieces time (command_of l) t).machine) × IsCutShort (after_up_to pieces time (command_of l) t).written [] out
 
--- all lines were answered, and what the ending prints was cut short
+-- all lines were answered, and the text with what the ending prints was cut short
 abbrev pub CutsEnd : Machine → List Mark → ℕ → List ℕ → ReadEnd → Talk → List ℕ → Machine → Type 0
 CutsEnd m marks time bytes e t out m' = (whole : List ℕ) × (ended : Ended) × Shows m marks time bytes e whole m' ended × (m' ≡ t.machine) × IsCutShort whole [] out
 
--- the lines at the front of the bytes left t, their answers are out, and there the text was cut
+-- the text was cut short before a read
+abbrev pub CutsPage : Talk → List ℕ → Machine → Type 0
+CutsPage t out m' = (m' ≡ t.machine) × IsCutShort t.written [] out
+
+-- the lines at the front of the bytes were acted on and left t, and the text was cut in their answers or behind them
 abbrev pub StopsAfter : Machine → List Mark → ℕ → List ℕ → ReadEnd → List ℕ → Machine → Type 0
 StopsAfter m marks time bytes e out m' =
-    (lines : List ℕ) × (rest : List ℕ) × (t : Talk) × (bytes ≡ lines ++ rest) × (session_of m marks time lines Over ≡ (t, Eof)) × IsPrefix t.written out
-    × (CutsLine time rest t out m' ⊎ CutsEnd m marks time bytes e t out m')
+    (lines : List ℕ) × (rest : List ℕ) × (t : Talk) × (bytes ≡ lines ++ rest) × (session_of m marks time lines Over ≡ (t, Eof))
+    × (CutsLine time rest t out m' ⊎ (CutsEnd m marks time bytes e t out m' ⊎ CutsPage t out m'))
 
 abbrev pub IsShown : Machine → List Mark → ℕ → List ℕ → List ℕ → Machine → Ended → Type 0
 IsShown m marks time bytes out m' Quit = (e : ReadEnd) → Shows m marks time bytes e out m' Quit

@@ -1,23 +1,27 @@
 -- Sessions: the lines that were read, and the texts that were written for them.
-use Rattle.std.specs.Prelude.{◌≡◌, ℕ, ◌+◌, ◌≤◌, ◌<◌, ◌⊎◌, true, false, List, [], ◌∷◌, ◌++◌, length, flat_map, codes, All}
+use Rattle.std.specs.Prelude.{◌≡◌, ℕ, ◌+◌, ◌≤◌, ◌<◌, ◌⊎◌, true, false, List, [], ◌∷◌, ◌++◌, take, length, flat_map, codes, All}
 use Rattle.std.specs.Io.KnownBytes.{Keeps}
 use Rattle.dump_pump.specs.Outlets.{Outgoing}
 use Rattle.session_text.specs.declared.Ended.{Ended}
 use Rattle.session_text.specs.declared.Ended.TheVariants.{Quit, Eof, CutLine, TooLong, ReadFault, TooManyReads, WriteFault, NoMemory}
 use Rattle.session_text.specs.declared.answer.Step.{Step}
-use Rattle.session_text.specs.declared.answer.Step.TheVariants.{Next, Quit as Stop, Fault}
+use Rattle.session_text.specs.declared.answer.Step.TheVariants.{Next, Quit as Stop, Long, Fault}
 use Rattle.session_text.specs.declared.command.Command.{Command}
 use Rattle.session_text.specs.declared.command.Command.TheVariants.{End}
 use Rattle.session_text.specs.Answers.{Says}
 use Rattle.session_text.specs.Grammar.{command_of}
 use Rattle.session_text.specs.Inlets.{Incoming, NothingLeft, whole}
 use Rattle.session_text.specs.Lines.{NoLf}
-use Rattle.session_text.specs.Writes.{IsWritten}
+use Rattle.session_text.specs.Writes.{IsWritten, IsAdded}
 
 -- a line without its LF, or the beginning of one
 pub record IsLine (l : List ℕ) : Type 0 where
   pub most : length l ≤ 4096
   pub no_lf : NoLf l
+
+-- bytes that begin with a line that is too long, or with the beginning of one
+abbrev pub IsLong : List ℕ → Type 0
+IsLong rest = (4096 < length rest) × NoLf (take 4097 rest)
 
 -- ---- lines
 
@@ -43,23 +47,25 @@ BeginsWith l bytes = IsLine l × (more : List ℕ) × (bytes ≡ l ++ 10 ∷ mor
 abbrev pub IsQuit : List ℕ → Type 0
 IsQuit rest = (l : List ℕ) × BeginsWith l rest × (command_of l ≡ End)
 
--- the next line was acted on, and its answer was cut short
-abbrev pub IsBrokenOff : {S : Type 0} → Says S → List ℕ → S → Outgoing → S → Outgoing → Type 0
-IsBrokenOff begins rest c w c' w' = (l : List ℕ) × (tail : List ℕ) × BeginsWith l rest × begins (command_of l) c tail c' × IsWritten tail w w' false
+-- the next line was acted on, and a text that was to be put out before its answer, and the answer, were cut short
+abbrev pub IsBrokenOff : {S : Type 0} → Says S → List ℕ → List ℕ → S → Outgoing → S → Outgoing → Type 0
+IsBrokenOff begins text rest c w c' w' = (l : List ℕ) × (tail : List ℕ) × BeginsWith l rest × begins (command_of l) c tail c' × IsWritten (text ++ tail) w w' false
 
 -- ---- one line, and all whole lines of a buffer
 
-abbrev pub IsStep : {S : Type 0} → Says S → Says S → Command → S → Outgoing → S → Outgoing → Step → Type 0
-IsStep says begins k c w c' w' Next = (text : List ℕ) × says k c text c' × IsWritten text w w' true
-IsStep says begins k c w c' w' Stop = (k ≡ End) × (c' ≡ c) × (w' ≡ w)
-IsStep says begins k c w c' w' Fault = (text : List ℕ) × begins k c text c' × IsWritten text w w' false
+abbrev pub IsStep : {S : Type 0} → Says S → Says S → Command → S → List ℕ → Outgoing → S → List ℕ → Outgoing → Step → Type 0
+IsStep says begins k c page w c' page' w' Next = (text : List ℕ) × says k c text c' × IsAdded text page w page' w' true
+IsStep says begins k c page w c' page' w' Stop = (k ≡ End) × (c' ≡ c) × (page' ≡ page) × (w' ≡ w)
+IsStep says begins k c page w c' page' w' Long = ⊥
+IsStep says begins k c page w c' page' w' Fault = (text : List ℕ) × begins k c text c' × IsAdded text page w page' w' false
 
-abbrev pub IsAnswered : {S : Type 0} → Says S → Says S → List ℕ → S → Outgoing → List ℕ → S → Outgoing → Step → Type 0
-IsAnswered says begins bytes c w rest c' w' Next = (text : List ℕ) × IsTalk says bytes c rest text c' × NoLf rest × IsWritten text w w' true
-IsAnswered says begins bytes c w rest c' w' Stop = (text : List ℕ) × IsTalk says bytes c rest text c' × IsQuit rest × IsWritten text w w' true
-IsAnswered {S} says begins bytes c w rest c' w' Fault =
-    (left : List ℕ) × (text : List ℕ) × (between : S) × (m : Outgoing)
-    × IsTalk says bytes c left text between × IsWritten text w m true × IsBrokenOff begins left between m c' w'
+-- the page was empty before
+abbrev pub IsAnswered : {S : Type 0} → Says S → Says S → List ℕ → S → Outgoing → List ℕ → S → List ℕ → Outgoing → Step → Type 0
+IsAnswered says begins bytes c w rest c' page' w' Next = (text : List ℕ) × IsTalk says bytes c rest text c' × IsLine rest × IsAdded text [] w page' w' true
+IsAnswered says begins bytes c w rest c' page' w' Stop = (text : List ℕ) × IsTalk says bytes c rest text c' × IsQuit rest × IsAdded text [] w page' w' true
+IsAnswered says begins bytes c w rest c' page' w' Long = (text : List ℕ) × IsTalk says bytes c rest text c' × IsLong rest × IsAdded text [] w page' w' true
+IsAnswered {S} says begins bytes c w rest c' page' w' Fault =
+    (left : List ℕ) × (text : List ℕ) × (between : S) × IsTalk says bytes c left text between × IsBrokenOff begins text left between w c' w'
 
 -- ---- endings
 
@@ -68,23 +74,27 @@ abbrev pub Closes : List ℕ → Incoming → Incoming → Ended → List ℕ �
 Closes rest a b Quit tail = IsQuit rest × (tail ≡ []) × (b.failures ≡ a.failures)
 Closes rest a b Eof tail = (rest ≡ []) × NothingLeft b × (tail ≡ []) × (b.failures ≡ a.failures)
 Closes rest a b CutLine tail = IsLine rest × (0 < length rest) × NothingLeft b × (tail ≡ codes "bad cut\n") × (b.failures ≡ a.failures)
-Closes rest a b TooLong tail = NoLf rest × (length rest ≡ 4097) × (tail ≡ codes "bad long\n") × (b.failures ≡ a.failures)
+Closes rest a b TooLong tail = IsLong rest × (tail ≡ codes "bad long\n") × (b.failures ≡ a.failures)
 Closes rest a b ReadFault tail = IsLine rest × (tail ≡ codes "bad read\n") × (b.failures ≡ a.failures + 1)
 Closes rest a b TooManyReads tail = IsLine rest × (length b.reads ≡ length a.reads + 1000000) × (tail ≡ codes "bad reads\n") × (b.failures ≡ a.failures)
 Closes rest a b WriteFault tail = ⊥
 Closes rest a b NoMemory tail = ⊥
 
--- a write failed: in the answer of the next line, or in what an ending prints
-abbrev pub Breaks : {S : Type 0} → Says S → List ℕ → Incoming → Incoming → S → Outgoing → S → Outgoing → Type 0
-Breaks begins rest a b c w c' w' =
-    (IsBrokenOff begins rest c w c' w' × (b.failures ≡ a.failures))
-    ⊎ ((ended : Ended) × (tail : List ℕ) × Closes rest a b ended tail × (c' ≡ c) × IsWritten tail w w' false)
+-- all whole lines were answered, and their texts were to be put out before the next read
+abbrev pub Waits : {S : Type 0} → List ℕ → List ℕ → Incoming → Incoming → S → Outgoing → S → Outgoing → Type 0
+Waits text rest a b c w c' w' = IsLine rest × (b.failures ≡ a.failures) × (c' ≡ c) × IsWritten text w w' false
 
--- some whole lines were answered, their texts are out, and then a write failed
+-- a write failed in a text or behind it: with the answer of the next line, with what an ending prints, or before a read
+abbrev pub Breaks : {S : Type 0} → Says S → List ℕ → List ℕ → Incoming → Incoming → S → Outgoing → S → Outgoing → Type 0
+Breaks begins text rest a b c w c' w' =
+    (IsBrokenOff begins text rest c w c' w' × (b.failures ≡ a.failures))
+    ⊎ (((ended : Ended) × (tail : List ℕ) × Closes rest a b ended tail × (c' ≡ c) × IsWritten (text ++ tail) w w' false)
+    ⊎ Waits text rest a b c w c' w')
+
+-- some whole lines were answered, and a write failed in their texts or behind them
 abbrev pub Fails : {S : Type 0} → Says S → Says S → List ℕ → Incoming → Incoming → S → Outgoing → S → Outgoing → Type 0
 Fails {S} says begins bytes a b c w c' w' =
-    (rest : List ℕ) × (text : List ℕ) × (between : S) × (m : Outgoing)
-    × IsTalk says bytes c rest text between × IsWritten text w m true × Breaks begins rest a b between m c' w'
+    (rest : List ℕ) × (text : List ℕ) × (between : S) × IsTalk says bytes c rest text between × Breaks begins text rest a b between w c' w'
 
 -- the last read took `last`. Each read earlier took some bytes; when the last one was made, all whole lines of the bytes
 -- before were answered, their texts were out, and a line's beginning was left

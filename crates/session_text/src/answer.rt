@@ -6,8 +6,9 @@ ghost use Rattle.session_text.specs.Grammar.{command_of};
 ghost use Rattle.heap_trail.specs.declared.Reply.{Reply};
 ghost use Rattle.session_text.specs.Replies.{reply_text};
 ghost use Rattle.session_text.specs.Talks.{IsStep, IsAnswered};
-ghost use Rattle.session_text.specs.Writes.{IsWritten};
+ghost use Rattle.session_text.specs.Writes.{IsAdded};
 
+use crate::LINE_LIMIT;
 use crate::buffer::Buffer;
 use crate::command::{Command, command_of};
 use crate::commands::Commands;
@@ -15,7 +16,7 @@ use crate::dump::{write_dump, write_dump_now};
 use crate::marks::FieldMarks;
 use crate::page::Page;
 use crate::reply::write_reply;
-use crate::write::write_all;
+use crate::write::write_text;
 use dump_pump::Outlet;
 use heap_class::Refusal;
 use heap_trail::{Action, Reply};
@@ -26,6 +27,9 @@ use std::alloc::Global;
 pub enum Step {
     Next,
     Quit,
+    /// The line is too long.
+    Long,
+    /// A write failed.
     Fault,
 }
 
@@ -35,22 +39,20 @@ fn next_unless(written: bool) -> Step
     if written { Step::Next } else { Step::Fault }
 }
 
-/// Does an action, and writes its reply.
+/// Does an action, and adds its reply to a page.
 fn answer_action<O: Outlet, C: Commands>(
     action: Action,
     page: &mut Page,
     writer: &mut O,
     commands: &mut C,
 ) -> bool
-    requires { page.old ≡ [] }
-    ensures empty { page.new ≡ [] }
-    ensures written { (r : Reply) × C.acts commands.old action r commands.new × IsWritten (reply_text r) (O.seen writer.old) (O.seen writer.new) result }
+    ensures { (r : Reply) × C.acts commands.old action r commands.new × IsAdded (reply_text r) page.old (O.seen writer.old) page.new (O.seen writer.new) result }
 {
     let reply = commands.act(action);
     write_reply(page, writer, &reply)
 }
 
-/// Answers one line.
+/// Adds the answer of one line to a page, which is flushed each time that it is full.
 fn answer_line<O: Outlet, C: Commands>(
     alloc: Global,
     marks: &mut FieldMarks,
@@ -60,15 +62,13 @@ fn answer_line<O: Outlet, C: Commands>(
     writer: &mut O,
     commands: &mut C,
 ) -> Step
-    requires page { page.old ≡ [] }
-    requires line { length line.now ≤ 4096 }
-    ensures empty { page.new ≡ [] }
-    ensures step { IsStep (Answers C.acts time) (Begins C.acts time) (command_of line.now) commands.old (O.seen writer.old) commands.new (O.seen writer.new) result }
+    requires { length line.now ≤ 4096 }
+    ensures { IsStep (Answers C.acts time) (Begins C.acts time) (command_of line.now) commands.old page.old (O.seen writer.old) commands.new page.new (O.seen writer.new) result }
 {
     match command_of(alloc, marks, line) {
         Err(_) => next_unless(write_reply(page, writer, &Reply::Refused(Refusal::NoMemory))),
         Ok(Command::Blank) => Step::Next,
-        Ok(Command::Bad) => next_unless(write_all(writer, b"bad command\n")),
+        Ok(Command::Bad) => next_unless(write_text(page, writer, b"bad command\n")),
         Ok(Command::Ask(action)) => next_unless(answer_action(action, page, writer, commands)),
         Ok(Command::Piece(pin)) => {
             let action = Action::NextPiece { pin, time };
@@ -80,7 +80,8 @@ fn answer_line<O: Outlet, C: Commands>(
     }
 }
 
-/// Answers all whole lines of a buffer.
+/// Answers the whole lines of a buffer, up to the first that is too long. Their answers are added to an empty page, which is
+/// flushed each time that it is full.
 pub fn answer_lines<O: Outlet, C: Commands>(
     alloc: Global,
     marks: &mut FieldMarks,
@@ -91,10 +92,12 @@ pub fn answer_lines<O: Outlet, C: Commands>(
     commands: &mut C,
 ) -> Step
     requires { page.old ≡ [] }
-    ensures empty { page.new ≡ [] }
-    ensures answered { IsAnswered (Answers C.acts time) (Begins C.acts time) buffer.old commands.old (O.seen writer.old) buffer.new commands.new (O.seen writer.new) result }
+    ensures { IsAnswered (Answers C.acts time) (Begins C.acts time) buffer.old commands.old (O.seen writer.old) buffer.new commands.new page.new (O.seen writer.new) result }
 {
     while let Some(n) = buffer.line_end() {
+        if n > LINE_LIMIT {
+            return Step::Long;
+        }
         match answer_line(
             alloc,
             marks,
@@ -106,9 +109,13 @@ pub fn answer_lines<O: Outlet, C: Commands>(
         ) {
             Step::Next => {}
             Step::Quit => return Step::Quit,
+            Step::Long => return Step::Long,
             Step::Fault => return Step::Fault,
         }
         buffer.pass(n + 1);
+    }
+    if buffer.as_slice().len() > LINE_LIMIT {
+        return Step::Long;
     }
     Step::Next
 }

@@ -1,9 +1,9 @@
 //! What has come of the lines that aren't answered yet.
 ghost use Rattle.std.specs.Prelude.{◌≡◌, ◌+◌, ◌-◌, ◌≤◌, ◌<◌, [], take, drop, length, IfOk, MatchOption};
 ghost use Rattle.session_text.specs.Inlets.{IsRead, count_of};
+ghost use Rattle.session_text.specs.Limits.{buffer_limit};
 ghost use Rattle.session_text.specs.Lines.{NoLf, IsLineAt};
 
-use crate::LINE_LIMIT;
 use crate::inlet::{Inlet, Take, count_of};
 use memchr::memchr;
 use std::alloc::{AllocError, Global};
@@ -11,7 +11,10 @@ use std::marker::Model;
 
 const LF: u8 = b'\n';
 
-/// Bytes, at most one more than a line may have. It takes its memory when it is made. Contracts see the bytes.
+/// The most bytes of a buffer.
+const BUFFER_LIMIT: usize = 65_536;
+
+/// Bytes that were read. It takes its memory when it is made. Contracts see the bytes.
 #[derive(Drop)]
 pub struct Buffer {
     bytes: Vec<u8>,
@@ -22,13 +25,14 @@ pub struct Buffer {
 
 impl Model for Buffer {
     ghost use Rattle.std.specs.Prelude.{◌≡◌, ℕ, ◌+◌, ◌-◌, ◌≤◌, List, take, drop, length};
+    ghost use Rattle.session_text.specs.Limits.{buffer_limit};
     ghost use Rattle.session_text.specs.Lines.{NoLf};
 
     ghost Value = { List ℕ };
 
     ghost view = { λ b. take (b.end - b.start) (drop b.start b.bytes.items) };
 
-    ghost invariant = { λ b. (b.start + b.scanned ≤ b.end) × (b.end ≤ 4097) × (length b.bytes.items ≡ 4097) × NoLf (take b.scanned (drop b.start b.bytes.items)) };
+    ghost invariant = { λ b. (b.start + b.scanned ≤ b.end) × (b.end ≤ buffer_limit) × (length b.bytes.items ≡ buffer_limit) × NoLf (take b.scanned (drop b.start b.bytes.items)) };
 }
 
 impl Buffer {
@@ -37,7 +41,7 @@ impl Buffer {
         ensures { IfOk result (λ b. b ≡ []) }
     {
         Ok(Buffer {
-            bytes: vec![in alloc; 0; LINE_LIMIT + 1]?,
+            bytes: vec![in alloc; 0; BUFFER_LIMIT]?,
             start: 0,
             end: 0,
             scanned: 0,
@@ -46,8 +50,7 @@ impl Buffer {
 
     /// The bytes.
     pub fn as_slice(&self) -> &[u8]
-        ensures value { result.now ≡ self.now }
-        ensures most { length self.now ≤ 4097 }
+        ensures { result.now ≡ self.now }
     {
         &self.bytes[self.start..self.end]
     }

@@ -20,7 +20,7 @@ fn add_data_line(page: &mut Page, bytes: &[u8])
     page.add(b"\n");
 }
 
-/// Adds the data lines of a piece, and puts out the page each time that it is full.
+/// Adds the data lines of a piece to a page, which is flushed each time that it is full.
 pub fn write_data<O: Outlet>(page: &mut Page, outlet: &mut O, bytes: &[u8]) -> bool
     ensures { IsAdded (data_lines bytes.now) page.old (O.seen outlet.old) page.new (O.seen outlet.new) result }
 {

@@ -1,5 +1,5 @@
 //! The lines that a session answers.
-ghost use Rattle.std.specs.Prelude.{◌≡◌, ◌+◌, ◌≤◌, ◌++◌, [], ◌∷◌, codes, length, Some, None, MatchOption};
+ghost use Rattle.std.specs.Prelude.{◌≡◌, ◌+◌, ◌≤◌, ◌++◌, ◌∷◌, codes, length, Some, None, MatchOption};
 ghost use Rattle.heap_class.specs.Table.{refusal_name};
 ghost use Rattle.heap_step.specs.declared.Answer.TheVariants.{Object, Swept};
 ghost use Rattle.heap_trail.specs.declared.Reply.TheVariants.{Pinned};
@@ -8,7 +8,7 @@ ghost use Rattle.session_text.specs.Writes.{IsAdded};
 
 use crate::data::write_data;
 use crate::page::Page;
-use crate::write::{flush, make_room};
+use crate::write::make_room;
 use dump_pump::Outlet;
 use heap_class::{LostCause, Refusal};
 use heap_step::Answer;
@@ -162,17 +162,15 @@ fn add_last_line(page: &mut Page, reply: &Reply)
     page.add(b"\n");
 }
 
-/// Puts out a page and the last line of a reply behind it.
+/// Adds the last line of a reply to a page, which is flushed first unless it has room for one more line.
 fn write_last_line<O: Outlet>(page: &mut Page, outlet: &mut O, reply: &Reply) -> bool
-    ensures added { IsAdded (line (reply_words reply.now)) page.old (O.seen outlet.old) page.new (O.seen outlet.new) result }
-    ensures empty { page.new ≡ [] }
+    ensures { IsAdded (line (reply_words reply.now)) page.old (O.seen outlet.old) page.new (O.seen outlet.new) result }
 {
     if !make_room(page, outlet) {
-        page.clear();
         return false;
     }
     add_last_line(page, reply);
-    flush(page, outlet)
+    true
 }
 
 /// Returns the bytes that a reply prints before its last line: those of a piece.
@@ -186,16 +184,11 @@ fn data_of(reply: &Reply) -> &[u8]
     }
 }
 
-/// Puts out a page and a reply behind it.
+/// Adds a reply to a page, which is flushed each time that it is full.
 pub fn write_reply<O: Outlet>(page: &mut Page, outlet: &mut O, reply: &Reply) -> bool
-    ensures added { IsAdded (reply_text reply.now) page.old (O.seen outlet.old) page.new (O.seen outlet.new) result }
-    ensures empty { page.new ≡ [] }
+    ensures { IsAdded (reply_text reply.now) page.old (O.seen outlet.old) page.new (O.seen outlet.new) result }
 {
-    if !write_data(page, outlet, data_of(reply)) {
-        page.clear();
-        return false;
-    }
-    write_last_line(page, outlet, reply)
+    write_data(page, outlet, data_of(reply)) && write_last_line(page, outlet, reply)
 }
 
 /// Returns the piece that a reply gives.

@@ -1,5 +1,5 @@
 //! Sessions.
-ghost use Rattle.std.specs.Prelude.{◌≡◌, []};
+ghost use Rattle.std.specs.Prelude.{◌≡◌, ◌≤◌, [], length};
 ghost use Rattle.session_text.specs.Answers.{Answers, Begins};
 ghost use Rattle.session_text.specs.Endings.{Ends, EndsWith};
 ghost use Rattle.session_text.specs.Session.{IsSession};
@@ -11,20 +11,23 @@ use crate::commands::{Commands, Local};
 use crate::inlet::{Inlet, Take};
 use crate::marks::FieldMarks;
 use crate::page::Page;
-use crate::write::write_all;
-use crate::{Ended, LINE_LIMIT, READ_LIMIT};
+use crate::write::{flush, write_text};
+use crate::{Ended, READ_LIMIT};
 use dump_pump::Outlet;
 use std::alloc::Global;
 
-/// Puts out an ending's line.
-fn end_with<O: Outlet>(writer: &mut O, ended: Ended, line: &[u8]) -> Ended
-    ensures { EndsWith line.now (O.seen writer.old) (O.seen writer.new) ended result }
+/// Puts out a page and an ending's line.
+fn end_with<O: Outlet>(page: &mut Page, outlet: &mut O, ended: Ended, line: &[u8]) -> Ended
+    requires { length line.now ≤ 192 }
+    ensures { EndsWith line.now page.old (O.seen outlet.old) (O.seen outlet.new) ended result }
 {
-    if write_all(writer, line) {
-        ended
-    } else {
-        Ended::WriteFault
+    if !write_text(page, outlet, line) {
+        return Ended::WriteFault;
     }
+    if !flush(page, outlet) {
+        return Ended::WriteFault;
+    }
+    ended
 }
 
 fn talk<I: Inlet, O: Outlet, C: Commands>(
@@ -45,14 +48,15 @@ fn talk<I: Inlet, O: Outlet, C: Commands>(
     loop {
         match answer_lines(alloc, marks, time, buffer, page, writer, commands) {
             Step::Next => {}
-            Step::Quit => return Ended::Quit,
+            Step::Quit => return end_with(page, writer, Ended::Quit, b""),
+            Step::Long => return end_with(page, writer, Ended::TooLong, b"bad long\n"),
             Step::Fault => return Ended::WriteFault,
         }
-        if buffer.as_slice().len() > LINE_LIMIT {
-            return end_with(writer, Ended::TooLong, b"bad long\n");
-        }
         if reads == READ_LIMIT {
-            return end_with(writer, Ended::TooManyReads, b"bad reads\n");
+            return end_with(page, writer, Ended::TooManyReads, b"bad reads\n");
+        }
+        if !flush(page, writer) {
+            return Ended::WriteFault;
         }
         reads += 1;
         match buffer.read(reader) {
@@ -61,18 +65,18 @@ fn talk<I: Inlet, O: Outlet, C: Commands>(
                 if buffer.as_slice().is_empty() {
                     return Ended::Eof;
                 }
-                return end_with(writer, Ended::CutLine, b"bad cut\n");
+                return end_with(page, writer, Ended::CutLine, b"bad cut\n");
             }
-            Take::Failed => return end_with(writer, Ended::ReadFault, b"bad read\n"),
+            Take::Failed => return end_with(page, writer, Ended::ReadFault, b"bad read\n"),
         }
     }
 }
 
 /// Reads lines, and writes the answers of the commands in order, until an ending. In which chunks bytes come and go doesn't
-/// show. After a write that failed nothing more is read and no line is acted on: the answers of the lines before are out
-/// whole, and the answer of the line being answered, which was acted on, or what the ending prints is cut short. A dump then
-/// asks for no more pieces, and one of the current state closes its pin. `time`, in milliseconds, stands in the header of
-/// each dump.
+/// show. Answers wait in a page, which is put out when it is full, before each read and at the end. After a write that failed
+/// nothing more is read and no line is acted on: a beginning of the answers to the lines that were acted on, and of what the
+/// ending prints, is out, in which all answers to lines that were whole before the last read are. A dump then asks for no more
+/// pieces, and one of the current state closes its pin. `time`, in milliseconds, stands in the header of each dump.
 pub fn serve<I: Inlet, O: Outlet, C: Commands>(
     alloc: Global,
     reader: &mut I,
@@ -102,8 +106,8 @@ pub fn serve<I: Inlet, O: Outlet, C: Commands>(
 
 /// A session of a machine of one's own: `serve`, where what is written and the machine afterwards are a function of the
 /// bytes read, of where memory was refused and of how reading ended. After a write that failed a beginning of that is
-/// written, and the machine is that after the lines whose answers are out whole, or after the next one too, where its answer
-/// was cut short: after some pieces, where that is a dump. The bytes read are those that the reader tells, where it tells
+/// written, and the machine is that after some of the lines; of the text up to their answers something is missing. If the last
+/// of them is a dump, it may have been acted on up to some piece. The bytes read are those that the reader tells, if it tells
 /// them.
 pub fn serve_local<I: Inlet, O: Outlet>(
     alloc: Global,

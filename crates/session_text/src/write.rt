@@ -32,7 +32,7 @@ pub fn flush<O: Outlet>(page: &mut Page, outlet: &mut O) -> bool
     written
 }
 
-/// Puts out a page that has no room for a line.
+/// Flushes a page unless it has room for one more line.
 pub fn make_room<O: Outlet>(page: &mut Page, outlet: &mut O) -> bool
     ensures added { IsAdded [] page.old (O.seen outlet.old) page.new (O.seen outlet.new) result }
     ensures room { length page.new ≤ 8000 }
@@ -41,4 +41,16 @@ pub fn make_room<O: Outlet>(page: &mut Page, outlet: &mut O) -> bool
         return true;
     }
     flush(page, outlet)
+}
+
+/// Adds a short text to a page, which is flushed first unless it has room for one more line.
+pub fn write_text<O: Outlet>(page: &mut Page, outlet: &mut O, text: &[u8]) -> bool
+    requires { length text.now ≤ 192 }
+    ensures { IsAdded text.now page.old (O.seen outlet.old) page.new (O.seen outlet.new) result }
+{
+    if !make_room(page, outlet) {
+        return false;
+    }
+    page.add(text);
+    true
 }

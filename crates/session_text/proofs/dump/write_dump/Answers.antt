@@ -2,12 +2,12 @@ use Rattle.std.proofs.Common.{◌+◌, ◌++◌, true, false, ap, subst, length,
 use Rattle.session_text.specs.Dumps.{total_line}
 use Rattle.session_text.specs.Replies.{reply_text, data_lines}
 use Rattle.session_text.specs.Writes.{IsAdded}
-use Rattle.session_text.proofs.Written.{added_more, added_and_flushed}
+use Rattle.session_text.proofs.Written.{added_more}
 use Rattle.session_text.proofs.Dumping.{small_piece, onward_piece, dump_last, dump_refused, dump_over, writes_whole, writes_cut}
 use Rattle.session_text.proofs.dump.write_dump.Goals as goal
 
-pub returns-in_default-clause-text : goal.returns-in_default-clause-text
-returns-in_default-clause-text g c =
+pub returns-in_default : goal.returns-in_default
+returns-in_default g c =
     let acts = g.C.Commands.acts in
     let i = c.loop-number.invariant in
     let reply = reply_text c.act-reply.result in
@@ -15,22 +15,22 @@ returns-in_default-clause-text g c =
     let b = g.O.Outlet.seen c.write_reply.new.outlet in
     let left = c.act-reply.new.self in
     let d = dump_refused acts c.args.pin c.args.time c.args.commands.now c.loop-number.number c.loop-number.commands c.loop-number.total i.1 c.act-reply.result left i.3 (omega (arith, c.loop-number-test.true)) c.act-reply.ensures.acts c.in_default.ensures in
-    writes_whole acts c.args.pin c.args.time c.args.commands.now left (i.1 ++ reply) c.args.page.now a c.write_reply.new.page b c.write_reply.result d c.requires c.write_reply.ensures.empty
-    (added_more i.1 reply c.args.page.now a c.loop-number.page (g.O.Outlet.seen c.loop-number.outlet) c.write_reply.new.page b c.write_reply.result i.2 c.write_reply.ensures.added)
+    writes_whole acts c.args.pin c.args.time c.args.commands.now left (i.1 ++ reply) c.args.page.now a c.write_reply.new.page b c.write_reply.result d
+    (added_more i.1 reply c.args.page.now a c.loop-number.page (g.O.Outlet.seen c.loop-number.outlet) c.write_reply.new.page b c.write_reply.result i.2 c.write_reply.ensures)
 
-pub returns-then-not-write_data-clause-text : goal.returns-then-not-write_data-clause-text
-returns-then-not-write_data-clause-text g c =
+pub returns-then-not-write_data : goal.returns-then-not-write_data
+returns-then-not-write_data g c =
     let i = c.loop-number.invariant in
     let p = c.in-Some.piece.now in
     let a = g.O.Outlet.seen c.args.outlet.now in
     let b = g.O.Outlet.seen c.write_data.new.outlet in
     let w : IsAdded (data_lines p.bytes) c.loop-number.page (g.O.Outlet.seen c.loop-number.outlet) c.write_data.new.page b false = subst (λ l. IsAdded (data_lines l) c.loop-number.page (g.O.Outlet.seen c.loop-number.outlet) c.write_data.new.page b false) c.as_slice.ensures c.if-not-write_data.ensures in
     writes_cut g.C.Commands.acts c.args.pin c.args.time c.args.commands.now c.loop-number.number c.loop-number.commands c.loop-number.total i.1 p c.act-reply.result c.act-reply.new.self c.args.page.now a c.write_data.new.page b i.3
-    (omega (arith, c.loop-number-test.true)) c.act-reply.ensures.acts c.in-Some.ensures c.requires
+    (omega (arith, c.loop-number-test.true)) c.act-reply.ensures.acts c.in-Some.ensures
     (added_more i.1 (data_lines p.bytes) c.args.page.now a c.loop-number.page (g.O.Outlet.seen c.loop-number.outlet) c.write_data.new.page b false i.2 w)
 
-pub returns-then-piece-clause-text : goal.returns-then-piece-clause-text
-returns-then-piece-clause-text g c =
+pub returns-then-piece : goal.returns-then-piece
+returns-then-piece g c =
     let acts = g.C.Commands.acts in
     let i = c.loop-number.invariant in
     let p = c.in-Some.piece.now in
@@ -42,8 +42,8 @@ returns-then-piece-clause-text g c =
     let d = dump_last acts c.args.pin c.args.time c.args.commands.now c.loop-number.number c.loop-number.commands c.loop-number.total i.1 p c.act-reply.result left total i.3
     (omega (arith, c.loop-number-test.true)) c.act-reply.ensures.acts c.in-Some.ensures c.if-piece.true (ap (λ l. c.loop-number.total + length l) c.as_slice-in-loop-number.ensures) in
     let lines = added_more i.1 (data_lines p.bytes) c.args.page.now a c.loop-number.page (g.O.Outlet.seen c.loop-number.outlet) c.write_data.new.page b true i.2 w in
-    writes_whole acts c.args.pin c.args.time c.args.commands.now left ((i.1 ++ data_lines p.bytes) ++ total_line total) c.args.page.now a c.write_total.new.page (g.O.Outlet.seen c.write_total.new.outlet) c.write_total.result d c.requires c.write_total.ensures.empty
-    (added_more (i.1 ++ data_lines p.bytes) (total_line total) c.args.page.now a c.write_data.new.page b c.write_total.new.page (g.O.Outlet.seen c.write_total.new.outlet) c.write_total.result lines c.write_total.ensures.added)
+    writes_whole acts c.args.pin c.args.time c.args.commands.now left ((i.1 ++ data_lines p.bytes) ++ total_line total) c.args.page.now a c.write_total.new.page (g.O.Outlet.seen c.write_total.new.outlet) c.write_total.result d
+    (added_more (i.1 ++ data_lines p.bytes) (total_line total) c.args.page.now a c.write_data.new.page b c.write_total.new.page (g.O.Outlet.seen c.write_total.new.outlet) c.write_total.result lines c.write_total.ensures)
 
 pub loop-number-preserved : goal.loop-number-preserved
 loop-number-preserved g c =
@@ -60,11 +60,8 @@ loop-number-preserved g c =
           c.act-reply.ensures.acts c.in-Some.ensures c.if-piece.false (ap (λ l. c.loop-number.total + length l) c.as_slice-in-loop-number.ensures),
     )
 
-pub returns-clause-text : goal.returns-clause-text
-returns-clause-text g c =
+pub returns : goal.returns
+returns g c =
     let i = c.loop-number.invariant in
-    let a = g.O.Outlet.seen c.args.outlet.now in
-    let b = g.O.Outlet.seen c.flush.new.outlet in
-    writes_whole g.C.Commands.acts c.args.pin c.args.time c.args.commands.now c.loop-number.commands i.1 c.args.page.now a c.flush.new.page b c.flush.result
-    (dump_over g.C.Commands.acts c.args.pin c.args.time c.args.commands.now c.loop-number.number c.loop-number.commands c.loop-number.total i.1 i.3 (omega (arith, c.loop-number-test.false, c.loop-number.auto.number-end))) c.requires c.flush.ensures.empty
-    (added_and_flushed i.1 c.args.page.now a c.loop-number.page (g.O.Outlet.seen c.loop-number.outlet) c.flush.new.page b c.flush.result i.2 c.flush.ensures.added)
+    writes_whole g.C.Commands.acts c.args.pin c.args.time c.args.commands.now c.loop-number.commands i.1 c.args.page.now (g.O.Outlet.seen c.args.outlet.now) c.loop-number.page (g.O.Outlet.seen c.loop-number.outlet) true
+    (dump_over g.C.Commands.acts c.args.pin c.args.time c.args.commands.now c.loop-number.number c.loop-number.commands c.loop-number.total i.1 i.3 (omega (arith, c.loop-number-test.false, c.loop-number.auto.number-end))) i.2

@@ -1,137 +1,173 @@
-use Rattle.std.proofs.Common.{◌≡◌, ◌∙◌, ◌+◌, ◌<◌, ◌≤◌, inl, inr, ap, refl, length, length-append, arith}
+use Rattle.std.proofs.Common.{◌≡◌, ◌∙◌, ◌+◌, ◌++◌, ◌<◌, ◌≤◌, [], inl, inr, ap, subst, refl, length, length-append, arith, true, false}
 use Rattle.std.specs.Prelude.{codes}
 use Rattle.session_text.specs.declared.Ended.TheVariants.{Quit, Eof, CutLine, TooLong, ReadFault, TooManyReads}
 use Rattle.session_text.specs.Answers.{Answers, Begins}
 use Rattle.session_text.specs.Inlets.{whole}
 use Rattle.session_text.specs.Talks.{IsLine, Closes}
+use Rattle.session_text.specs.Writes.{IsWritten}
 use Rattle.session_text.proofs.Lists.{is_empty_of, is_some_of}
-use Rattle.session_text.proofs.Talking.{keeps_same, open_none, open_answered, open_read, came_read, ends_plainly, ends_saying, ends_failing, ends_silent}
+use Rattle.session_text.proofs.Written.{paged_written, paged_flushed}
+use Rattle.session_text.proofs.Talking.{keeps_same, open_none, open_answered, open_read, came_read, talk_none, ends_plainly, ends_saying, ends_failing, ends_silent}
 use Rattle.session_text.proofs.talk.talk.Goals as goal
 
-pub loop-buffer-init : goal.loop-buffer-init
-loop-buffer-init g c = (
+pub loop-page-init : goal.loop-page-init
+loop-page-init g c = (
   c.requires.page,
   open_none (Answers g.C.Commands.acts c.args.time) (g.I.Inlet.seen c.args.reader.now) c.args.buffer.now c.args.commands.now (g.O.Outlet.seen c.args.writer.now) c.requires.buffer,
   inl (c.requires.buffer, refl),
 )
 
-pub returns-in-Quit : goal.returns-in-Quit
-returns-in-Quit g c =
-    let e = c.in-Quit.ensures.answered in
-    let i = c.loop-buffer.invariant in
-    let says = Answers g.C.Commands.acts c.args.time in
-    let begins = Begins g.C.Commands.acts c.args.time in
-    let w1 = g.O.Outlet.seen c.answer_lines.new.writer in
-    let a = g.I.Inlet.seen c.loop-buffer.reader in
-    let o = open_answered says _ _ _ _ _ _ _ _ c.answer_lines.new.buffer e.0 c.answer_lines.new.commands w1 i.1 e.1 e.3 in
-    ends_plainly says begins _ _ _ _ _ _ _ _ a Quit o refl (keeps_same (whole a)) (e.2, refl, o.no_fault) (λ x. x)
-
 pub returns-in-Fault : goal.returns-in-Fault
 returns-in-Fault g c =
-    let e = c.in-Fault.ensures.answered in
-    let i = c.loop-buffer.invariant in
+    let e = c.in-Fault.ensures in
+    let i = c.loop-page.invariant in
     let says = Answers g.C.Commands.acts c.args.time in
     let begins = Begins g.C.Commands.acts c.args.time in
-    ends_failing says begins _ _ _ _ _ _ _ _ c.answer_lines.new.commands (g.O.Outlet.seen c.answer_lines.new.writer) i.1 i.2 (e.0, e.1, e.2, e.3, e.4, e.5, inl (e.6, i.1.no_fault))
+    ends_failing says begins _ _ _ _ _ _ _ _ c.answer_lines.new.commands (g.O.Outlet.seen c.answer_lines.new.writer) i.1 i.2 (e.0, e.1, e.2, e.3, inl (e.4, i.1.no_fault))
 
-pub returns-then-as_slice-gt-LINE_LIMIT : goal.returns-then-as_slice-gt-LINE_LIMIT
-returns-then-as_slice-gt-LINE_LIMIT g c =
-    let e = c.in-Next.ensures.answered in
-    let i = c.loop-buffer.invariant in
+pub returns-in-Quit : goal.returns-in-Quit
+returns-in-Quit g c =
+    let e = c.in-Quit.ensures in
+    let i = c.loop-page.invariant in
     let says = Answers g.C.Commands.acts c.args.time in
     let begins = Begins g.C.Commands.acts c.args.time in
-    let w1 = g.O.Outlet.seen c.answer_lines.new.writer in
-    let a = g.I.Inlet.seen c.loop-buffer.reader in
-    let o = open_answered says _ _ _ _ _ _ _ _ c.answer_lines.new.buffer e.0 c.answer_lines.new.commands w1 i.1 e.1 e.3 in
-    let z = ap (λ l. length l) c.as_slice.ensures.value in
-    let n : length c.answer_lines.new.buffer ≡ 4097 = omega (arith, z, c.as_slice.ensures.most, c.if-as_slice-gt-LINE_LIMIT.true) in
+    let first = g.I.Inlet.seen c.args.reader.now in
+    let a = g.I.Inlet.seen c.loop-page.reader in
+    let left = c.answer_lines.new.buffer in
+    let line = codes "" in
     let w = c.end_with in
-    let closes : Closes c.answer_lines.new.buffer (g.I.Inlet.seen c.args.reader.now) a TooLong (codes "bad long\n") = (e.2, n, refl, o.no_fault) in
-    rw w.ensures.2 (ends_saying says begins _ _ _ _ _ _ _ _ a (g.O.Outlet.seen w.new.writer) TooLong (codes "bad long\n") w.ensures.0 o refl (keeps_same (whole a)) closes w.ensures.1 (λ x. x)
-    (λ h. ends_failing says begins _ _ _ _ _ _ _ _ c.answer_lines.new.commands (g.O.Outlet.seen w.new.writer) i.1 i.2 (c.answer_lines.new.buffer, e.0, c.answer_lines.new.commands, w1, e.1, e.3, inr (TooLong, codes "bad long\n", closes, refl, h))))
+    let w0 = g.O.Outlet.seen c.loop-page.writer in
+    let w2 = g.O.Outlet.seen w.new.outlet in
+    let said = paged_written e.0 c.answer_lines.new.page line w0 (g.O.Outlet.seen c.answer_lines.new.writer) w2 w.ensures.0 e.3 w.ensures.1 in
+    let closes : Closes left first a Quit line = (e.2, refl, i.1.no_fault) in
+    rw w.ensures.2 (ends_saying says begins _ _ _ _ _ _ w0 _ left e.0 c.answer_lines.new.commands a w2 Quit line w.ensures.0 i.1 e.1 refl (keeps_same (whole a)) closes said (λ x. x)
+    (λ h. ends_failing says begins _ _ _ _ _ _ _ _ c.answer_lines.new.commands w2 i.1 i.2 (left, e.0, c.answer_lines.new.commands, e.1, inr (inl (Quit, line, closes, refl, h)))))
+
+pub returns-in-Long : goal.returns-in-Long
+returns-in-Long g c =
+    let e = c.in-Long.ensures in
+    let i = c.loop-page.invariant in
+    let says = Answers g.C.Commands.acts c.args.time in
+    let begins = Begins g.C.Commands.acts c.args.time in
+    let first = g.I.Inlet.seen c.args.reader.now in
+    let a = g.I.Inlet.seen c.loop-page.reader in
+    let left = c.answer_lines.new.buffer in
+    let line = codes "bad long\n" in
+    let w = c.end_with-in-Long in
+    let w0 = g.O.Outlet.seen c.loop-page.writer in
+    let w2 = g.O.Outlet.seen w.new.outlet in
+    let said = paged_written e.0 c.answer_lines.new.page line w0 (g.O.Outlet.seen c.answer_lines.new.writer) w2 w.ensures.0 e.3 w.ensures.1 in
+    let closes : Closes left first a TooLong line = (e.2, refl, i.1.no_fault) in
+    rw w.ensures.2 (ends_saying says begins _ _ _ _ _ _ w0 _ left e.0 c.answer_lines.new.commands a w2 TooLong line w.ensures.0 i.1 e.1 refl (keeps_same (whole a)) closes said (λ x. x)
+    (λ h. ends_failing says begins _ _ _ _ _ _ _ _ c.answer_lines.new.commands w2 i.1 i.2 (left, e.0, c.answer_lines.new.commands, e.1, inr (inl (TooLong, line, closes, refl, h)))))
 
 pub returns-then-reads-eq-READ_LIMIT : goal.returns-then-reads-eq-READ_LIMIT
 returns-then-reads-eq-READ_LIMIT g c =
-    let e = c.in-Next.ensures.answered in
-    let i = c.loop-buffer.invariant in
+    let e = c.in-Next.ensures in
+    let i = c.loop-page.invariant in
     let says = Answers g.C.Commands.acts c.args.time in
     let begins = Begins g.C.Commands.acts c.args.time in
-    let w1 = g.O.Outlet.seen c.answer_lines.new.writer in
-    let a = g.I.Inlet.seen c.loop-buffer.reader in
-    let w = c.end_with-then-reads-eq-READ_LIMIT in
     let first = g.I.Inlet.seen c.args.reader.now in
-    let o = open_answered says _ _ _ _ _ _ _ _ c.answer_lines.new.buffer e.0 c.answer_lines.new.commands w1 i.1 e.1 e.3 in
-    let z = ap (λ l. length l) c.as_slice.ensures.value in
-    let n : length c.answer_lines.new.buffer ≤ 4096 = omega (arith, z, c.if-as_slice-gt-LINE_LIMIT.false) in
-    let all : length a.reads ≡ length first.reads + 1000000 = omega (arith, ap (λ x. length x) o.reads_are, length-append first.reads o.earlier, o.count, c.if-reads-eq-READ_LIMIT.true) in
-    let closes : Closes c.answer_lines.new.buffer first a TooManyReads (codes "bad reads\n") = (record { most = n; no_lf = e.2 }, all, refl, o.no_fault) in
-    rw w.ensures.2 (ends_saying says begins _ _ _ _ _ _ _ _ a (g.O.Outlet.seen w.new.writer) TooManyReads (codes "bad reads\n") w.ensures.0 o refl (keeps_same (whole a)) closes w.ensures.1 (λ x. x)
-    (λ h. ends_failing says begins _ _ _ _ _ _ _ _ c.answer_lines.new.commands (g.O.Outlet.seen w.new.writer) i.1 i.2 (c.answer_lines.new.buffer, e.0, c.answer_lines.new.commands, w1, e.1, e.3, inr (TooManyReads, codes "bad reads\n", closes, refl, h))))
+    let a = g.I.Inlet.seen c.loop-page.reader in
+    let left = c.answer_lines.new.buffer in
+    let line = codes "bad reads\n" in
+    let w = c.end_with-then-reads-eq-READ_LIMIT in
+    let w0 = g.O.Outlet.seen c.loop-page.writer in
+    let w2 = g.O.Outlet.seen w.new.outlet in
+    let said = paged_written e.0 c.answer_lines.new.page line w0 (g.O.Outlet.seen c.answer_lines.new.writer) w2 w.ensures.0 e.3 w.ensures.1 in
+    let all : length a.reads ≡ length first.reads + 1000000 = omega (arith, ap (λ x. length x) i.1.reads_are, length-append first.reads i.1.earlier, i.1.count, c.if-reads-eq-READ_LIMIT.true) in
+    let closes : Closes left first a TooManyReads line = (e.2, all, refl, i.1.no_fault) in
+    rw w.ensures.2 (ends_saying says begins _ _ _ _ _ _ w0 _ left e.0 c.answer_lines.new.commands a w2 TooManyReads line w.ensures.0 i.1 e.1 refl (keeps_same (whole a)) closes said (λ x. x)
+    (λ h. ends_failing says begins _ _ _ _ _ _ _ _ c.answer_lines.new.commands w2 i.1 i.2 (left, e.0, c.answer_lines.new.commands, e.1, inr (inl (TooManyReads, line, closes, refl, h)))))
 
-pub loop-buffer-preserved : goal.loop-buffer-preserved
-loop-buffer-preserved g c =
-    let e = c.in-Next.ensures.answered in
-    let i = c.loop-buffer.invariant in
+pub returns-then-not-flush : goal.returns-then-not-flush
+returns-then-not-flush g c =
+    let e = c.in-Next.ensures in
+    let i = c.loop-page.invariant in
+    let says = Answers g.C.Commands.acts c.args.time in
+    let begins = Begins g.C.Commands.acts c.args.time in
+    let f = c.if-not-flush.ensures in
+    let w0 = g.O.Outlet.seen c.loop-page.writer in
+    let w2 = g.O.Outlet.seen c.flush.new.outlet in
+    let cut = paged_flushed e.0 c.answer_lines.new.page w0 (g.O.Outlet.seen c.answer_lines.new.writer) c.flush.new.page w2 false e.3 f.added f.empty in
+    ends_failing says begins _ _ _ _ _ _ _ _ c.answer_lines.new.commands w2 i.1 i.2 (c.answer_lines.new.buffer, e.0, c.answer_lines.new.commands, e.1, inr (inr (e.2, i.1.no_fault, refl, cut)))
+
+pub loop-page-preserved : goal.loop-page-preserved
+loop-page-preserved g c =
+    let e = c.in-Next.ensures in
+    let i = c.loop-page.invariant in
     let r = c.in-Got.ensures in
     let says = Answers g.C.Commands.acts c.args.time in
-    let w1 = g.O.Outlet.seen c.answer_lines.new.writer in
-    let o = open_answered says _ _ _ _ _ _ _ _ c.answer_lines.new.buffer e.0 c.answer_lines.new.commands w1 i.1 e.1 e.3 in
-    let less : c.loop-buffer.reads < 1000000 = omega (arith, o.most, c.if-reads-eq-READ_LIMIT.false) in
-    let z = ap (λ l. length l) c.as_slice.ensures.value in
-    let n : length c.answer_lines.new.buffer ≤ 4096 = omega (arith, z, c.if-as_slice-gt-LINE_LIMIT.false) in
+    let f = c.if-not-flush.ensures in
+    let w0 = g.O.Outlet.seen c.loop-page.writer in
+    let w1 = g.O.Outlet.seen c.flush.new.outlet in
+    let out = paged_flushed e.0 c.answer_lines.new.page w0 (g.O.Outlet.seen c.answer_lines.new.writer) c.flush.new.page w1 true e.3 f.added f.empty in
+    let o = open_answered says _ _ _ _ _ _ _ _ c.answer_lines.new.buffer e.0 c.answer_lines.new.commands w1 i.1 e.1 out in
+    let less : c.loop-page.reads < 1000000 = omega (arith, o.most, c.if-reads-eq-READ_LIMIT.false) in
     let b = g.I.Inlet.seen c.read.new.inlet in (
-      c.in-Next.ensures.empty,
+      f.empty,
       open_read says _ _ _ _ _ _ _ _ b c.read.new.self r.0 o less r.1 r.2 r.3 r.4 r.5 r.6,
-      came_read says _ _ _ _ _ _ _ _ b c.read.new.self r.0 (c.loop-buffer.reads + 1) o (record { most = n; no_lf = e.2 }) r.2 r.3 r.4,
+      came_read says _ _ _ _ _ _ _ _ b c.read.new.self r.0 (c.loop-page.reads + 1) o e.2 r.2 r.3 r.4,
     )
 
 pub returns-then-is_empty : goal.returns-then-is_empty
 returns-then-is_empty g c =
-    let e = c.in-Next.ensures.answered in
-    let i = c.loop-buffer.invariant in
+    let e = c.in-Next.ensures in
+    let i = c.loop-page.invariant in
     let r = c.in-End.ensures in
     let says = Answers g.C.Commands.acts c.args.time in
     let begins = Begins g.C.Commands.acts c.args.time in
-    let w1 = g.O.Outlet.seen c.answer_lines.new.writer in
-    let o = open_answered says _ _ _ _ _ _ _ _ c.answer_lines.new.buffer e.0 c.answer_lines.new.commands w1 i.1 e.1 e.3 in
-    let none = is_empty_of c.as_slice-in-End.result.now c.read.new.self c.answer_lines.new.buffer c.as_slice-in-End.ensures.value r.0 c.if-is_empty.ensures in
+    let f = c.if-not-flush.ensures in
+    let w0 = g.O.Outlet.seen c.loop-page.writer in
+    let w1 = g.O.Outlet.seen c.flush.new.outlet in
+    let out = paged_flushed e.0 c.answer_lines.new.page w0 (g.O.Outlet.seen c.answer_lines.new.writer) c.flush.new.page w1 true e.3 f.added f.empty in
+    let o = open_answered says _ _ _ _ _ _ _ _ c.answer_lines.new.buffer e.0 c.answer_lines.new.commands w1 i.1 e.1 out in
+    let none = is_empty_of c.as_slice.result.now c.read.new.self c.answer_lines.new.buffer c.as_slice.ensures r.0 c.if-is_empty.ensures in
     ends_plainly says begins _ _ _ _ _ _ _ _ (g.I.Inlet.seen c.read.new.inlet) Eof o r.2 r.5 (none, r.1, refl, r.4 ∙ o.no_fault) (λ x. x)
 
 pub returns-in-End : goal.returns-in-End
 returns-in-End g c =
-    let e = c.in-Next.ensures.answered in
-    let i = c.loop-buffer.invariant in
+    let e = c.in-Next.ensures in
+    let i = c.loop-page.invariant in
     let r = c.in-End.ensures in
     let says = Answers g.C.Commands.acts c.args.time in
     let begins = Begins g.C.Commands.acts c.args.time in
-    let w1 = g.O.Outlet.seen c.answer_lines.new.writer in
+    let f = c.if-not-flush.ensures in
+    let w0 = g.O.Outlet.seen c.loop-page.writer in
+    let w1 = g.O.Outlet.seen c.flush.new.outlet in
+    let out = paged_flushed e.0 c.answer_lines.new.page w0 (g.O.Outlet.seen c.answer_lines.new.writer) c.flush.new.page w1 true e.3 f.added f.empty in
+    let o = open_answered says _ _ _ _ _ _ _ _ c.answer_lines.new.buffer e.0 c.answer_lines.new.commands w1 i.1 e.1 out in
     let w = c.end_with-in-End in
-    let o = open_answered says _ _ _ _ _ _ _ _ c.answer_lines.new.buffer e.0 c.answer_lines.new.commands w1 i.1 e.1 e.3 in
-    let z = ap (λ l. length l) c.as_slice.ensures.value in
-    let n : length c.answer_lines.new.buffer ≤ 4096 = omega (arith, z, c.if-as_slice-gt-LINE_LIMIT.false) in
-    let some = is_some_of c.as_slice-in-End.result.now c.read.new.self c.answer_lines.new.buffer c.as_slice-in-End.ensures.value r.0 c.if-is_empty.ensures in
-    let line : IsLine c.answer_lines.new.buffer = record { most = n; no_lf = e.2 } in
+    let line = codes "bad cut\n" in
+    let w2 = g.O.Outlet.seen w.new.outlet in
+    let said = subst (λ l. IsWritten (l ++ line) w1 w2 w.ensures.0) f.empty w.ensures.1 in
     let b = g.I.Inlet.seen c.read.new.inlet in
-    let closes : Closes c.answer_lines.new.buffer (g.I.Inlet.seen c.args.reader.now) b CutLine (codes "bad cut\n") = (line, some, r.1, refl, r.4 ∙ o.no_fault) in
-    let w2 = g.O.Outlet.seen w.new.writer in
-    rw w.ensures.2 (ends_saying says begins _ _ _ _ _ _ _ _ b w2 CutLine (codes "bad cut\n") w.ensures.0 o r.2 r.5 closes w.ensures.1 (λ x. x)
-    (λ h. ends_silent says begins _ _ _ _ _ _ _ _ b w2 CutLine (codes "bad cut\n") o line r.2 r.3 r.5 closes h))
+    let left = c.answer_lines.new.buffer in
+    let last = c.answer_lines.new.commands in
+    let some = is_some_of c.as_slice.result.now c.read.new.self left c.as_slice.ensures r.0 c.if-is_empty.ensures in
+    let closes : Closes left (g.I.Inlet.seen c.args.reader.now) b CutLine line = (e.2, some, r.1, refl, r.4 ∙ o.no_fault) in
+    rw w.ensures.2 (ends_saying says begins _ _ _ _ _ _ w1 _ left [] last b w2 CutLine line w.ensures.0 o (talk_none says left last) r.2 r.5 closes said (λ x. x)
+    (λ h. ends_silent says begins _ _ _ _ _ _ _ _ b w2 CutLine line o e.2 r.2 r.3 r.5 closes h))
 
 pub returns-in-Failed : goal.returns-in-Failed
 returns-in-Failed g c =
-    let e = c.in-Next.ensures.answered in
-    let i = c.loop-buffer.invariant in
+    let e = c.in-Next.ensures in
+    let i = c.loop-page.invariant in
     let r = c.in-Failed.ensures in
     let says = Answers g.C.Commands.acts c.args.time in
     let begins = Begins g.C.Commands.acts c.args.time in
-    let w1 = g.O.Outlet.seen c.answer_lines.new.writer in
+    let f = c.if-not-flush.ensures in
+    let w0 = g.O.Outlet.seen c.loop-page.writer in
+    let w1 = g.O.Outlet.seen c.flush.new.outlet in
+    let out = paged_flushed e.0 c.answer_lines.new.page w0 (g.O.Outlet.seen c.answer_lines.new.writer) c.flush.new.page w1 true e.3 f.added f.empty in
+    let o = open_answered says _ _ _ _ _ _ _ _ c.answer_lines.new.buffer e.0 c.answer_lines.new.commands w1 i.1 e.1 out in
     let w = c.end_with-in-Failed in
-    let o = open_answered says _ _ _ _ _ _ _ _ c.answer_lines.new.buffer e.0 c.answer_lines.new.commands w1 i.1 e.1 e.3 in
-    let z = ap (λ l. length l) c.as_slice.ensures.value in
-    let n : length c.answer_lines.new.buffer ≤ 4096 = omega (arith, z, c.if-as_slice-gt-LINE_LIMIT.false) in
-    let line : IsLine c.answer_lines.new.buffer = record { most = n; no_lf = e.2 } in
+    let line = codes "bad read\n" in
+    let w2 = g.O.Outlet.seen w.new.outlet in
+    let said = subst (λ l. IsWritten (l ++ line) w1 w2 w.ensures.0) f.empty w.ensures.1 in
     let b = g.I.Inlet.seen c.read.new.inlet in
-    let closes : Closes c.answer_lines.new.buffer (g.I.Inlet.seen c.args.reader.now) b ReadFault (codes "bad read\n") = (line, refl, r.3 ∙ ap (λ k. k + 1) o.no_fault) in
-    let w2 = g.O.Outlet.seen w.new.writer in
-    rw w.ensures.2 (ends_saying says begins _ _ _ _ _ _ _ _ b w2 ReadFault (codes "bad read\n") w.ensures.0 o r.1 r.4 closes w.ensures.1 (λ x. x)
-    (λ h. ends_silent says begins _ _ _ _ _ _ _ _ b w2 ReadFault (codes "bad read\n") o line r.1 r.2 r.4 closes h))
+    let left = c.answer_lines.new.buffer in
+    let last = c.answer_lines.new.commands in
+    let closes : Closes left (g.I.Inlet.seen c.args.reader.now) b ReadFault line = (e.2, refl, r.3 ∙ ap (λ k. k + 1) o.no_fault) in
+    rw w.ensures.2 (ends_saying says begins _ _ _ _ _ _ w1 _ left [] last b w2 ReadFault line w.ensures.0 o (talk_none says left last) r.1 r.4 closes said (λ x. x)
+    (λ h. ends_silent says begins _ _ _ _ _ _ _ _ b w2 ReadFault line o e.2 r.1 r.2 r.4 closes h))

@@ -3,13 +3,13 @@ use Rattle.session_text.specs.Answers.{Answers}
 use Rattle.session_text.proofs.Talking.{IsOpen, Came}
 use Rattle.session_text.proofs.talk.talk.Given as goal
 
-abbrev pub invariant-loop-buffer : goal.invariant-loop-buffer
-invariant-loop-buffer g l =
+abbrev pub invariant-loop-page : goal.invariant-loop-page
+invariant-loop-page g l =
     let s = l.initial in
     let says = Answers g.C.Commands.acts l.time in
     (l.page ≡ [])
     × IsOpen says (g.I.Inlet.seen s.reader) s.commands (g.O.Outlet.seen s.writer) (g.I.Inlet.seen l.reader) l.buffer l.commands (g.O.Outlet.seen l.writer) l.reads
     × Came says (g.I.Inlet.seen s.reader) s.commands (g.O.Outlet.seen s.writer) (g.I.Inlet.seen l.reader) l.buffer l.commands (g.O.Outlet.seen l.writer) l.reads
 
-abbrev pub decreases-loop-buffer : goal.decreases-loop-buffer
-decreases-loop-buffer g l = 1000000 - l.reads
+abbrev pub decreases-loop-page : goal.decreases-loop-page
+decreases-loop-page g l = 1000000 - l.reads

@@ -8,11 +8,10 @@ comes in a read of its own. The sessions are made so that the program never has 
 byte that was moved no look would be seen, so a store to a byte of a measured line stops the script.
 
 One line of each session is measured, LF included. The first table has the most looks at any of its bytes and the mean over its
-bytes: by loads of 1 byte, of 2 to 15, of 16 and more, and by all of these. A load counts for each byte that it covers.
-`earlier` are looks, by loads of any size, from before the line's turn, which begins when the line before has its answer: a
-search for the end of a line looks some way beyond that end, at lines of the same read. Then the table says which byte had the
-most looks in its line's turn, and how many bytes had as many. The second table has the looks in the line's turn over the parts
-of each line.
+bytes: by loads of 1 byte, of 2 to 15, of 16 and more, and by all of these. A load counts for each byte that it covers. Looks
+from the turns of other lines of the same read count too: a search for the end of a line looks some way beyond that end. Then
+the table says which byte had the most looks, and how many bytes had as many. The second table has the looks over the parts of
+each line.
 
 Only looks at the bytes that `read` gave are counted. A name that a line defines is copied when the line is read: the copying is
 counted, and what the machine looks at in its copy isn't.
@@ -27,9 +26,7 @@ from dataclasses import dataclass, field
 
 READ = re.compile(r"sys_read \( 0, (0x[0-9a-f]+), \d+ \)")
 GIVEN = re.compile(r"--> Success\((0x[0-9a-f]+)\)")
-WRITE = re.compile(r"sys_write \( 1, ")
 SIZES = ("1 byte", "2 to 15", "16 and more")
-EARLIER = len(SIZES)
 PARTS = ("word 1", "word 2", "word 3", "later words", "spaces", "LF")
 
 
@@ -44,14 +41,12 @@ class Session:
 
 @dataclass
 class Looks:
-    """What a trace has told: for each byte of the input its looks by SIZES and EARLIER, which bytes were written over, how many
-    were read, and how many answers were written. `turns` has for each byte how many answers come before its line's own."""
+    """What a trace has told: for each byte of the input its looks by SIZES, which bytes were written over, and how many were
+    read."""
 
-    turns: list
     counts: list
     lost: set = field(default_factory=set)
     read: int = 0
-    answers: int = 0
 
 
 def one_line(name, line, *before):
@@ -113,15 +108,13 @@ def run(program, messages, log):
 
 def entries(log):
     """What a trace tells until the end of input: loads `L`, stores `S`, both `M` and reads of standard input `R`, each with its
-    address and its bytes, and writes of answers `W`. What comes later, as the freeing of memory, is no matter."""
+    address and its bytes. What comes later, as the freeing of memory, is no matter."""
     reading = None
     for text in log:
         if text[:2] in (" L", " S", " M"):
             start, size = text[3:].split(",")
             yield text[1], int(start, 16), int(size)
         elif text.startswith("SYSCALL"):
-            if WRITE.search(text):
-                yield "W", 0, 0
             asked, given = READ.search(text), GIVEN.search(text)
             reading = int(asked[1], 16) if asked else reading
             if reading is not None and given:
@@ -139,21 +132,17 @@ def note_access(looks, place, kind, start, size):
             continue
         at = place[address]
         if kind in "LM":
-            early = looks.answers < looks.turns[at]
-            group = EARLIER if early else 0 if size == 1 else 1 if size < 16 else 2
-            looks.counts[group][at] += 1
+            looks.counts[0 if size == 1 else 1 if size < 16 else 2][at] += 1
         if kind in "SM":
             looks.lost.add(place.pop(address))
 
 
-def looks_of(log, turns):
-    """Counts the looks that a trace tells."""
-    looks = Looks(turns, [[0] * len(turns) for _ in range(EARLIER + 1)])
+def looks_of(log, size):
+    """Counts the looks at an input of `size` bytes that a trace tells."""
+    looks = Looks([[0] * size for _ in SIZES])
     place, low, high = {}, 0, -1
     for kind, start, size in entries(log):
-        if kind == "W":
-            looks.answers += 1
-        elif kind == "R":
+        if kind == "R":
             place.update((start + n, looks.read + n) for n in range(size))
             looks.read += size
             low, high = min(place), max(place)
@@ -162,36 +151,31 @@ def looks_of(log, turns):
     return looks
 
 
-def turns_of(lines):
-    """For each byte of lines, how many of the lines before its own are answered: all but those without words."""
-    turns, answered = [], 0
-    for line in lines:
-        turns += [answered] * len(line)
-        answered += 1 if line.strip(b" \n") else 0
-    return turns
+def is_answered(line):
+    """Tells whether a line has an answer: all have one but those without words."""
+    return line.strip(b" \n") != b""
 
 
-def check(session, looks, answers, span):
-    """Stops where a trace doesn't tell what the tables need."""
-    if looks.read != len(looks.turns):
-        raise SystemExit(f"looks.py: {looks.read} bytes of {len(looks.turns)} were seen to be read: {session.name}")
-    if looks.answers != len(answers):
-        raise SystemExit(f"looks.py: {len(answers)} answers came in {looks.answers} writes: {session.name}")
+def check(session, looks, size, span):
+    """Stops if a trace doesn't tell what the tables need."""
+    if looks.read != size:
+        raise SystemExit(f"looks.py: {looks.read} bytes of {size} were seen to be read: {session.name}")
     if not looks.lost.isdisjoint(span):
         raise SystemExit(f"looks.py: bytes of the line were written over: {session.name}")
 
 
 def measured(program, session):
-    """The measured line, the looks at its bytes by SIZES and EARLIER, and its answer."""
+    """The measured line, the looks at its bytes by SIZES, and its answer."""
     lines = b"".join(session.messages).splitlines(keepends=True)
     chosen = len(lines) - 1 - session.behind
     start = sum(map(len, lines[:chosen]))
     span = range(start, start + len(lines[chosen]))
     with tempfile.NamedTemporaryFile("r", encoding="latin-1") as log:
         answers = run(program, session.messages, log.name)
-        looks = looks_of(log, turns_of(lines))
-    check(session, looks, answers, span)
-    answer = answers[looks.turns[start]] if lines[chosen].strip(b" \n") else "(none)"
+        size = sum(map(len, lines))
+        looks = looks_of(log, size)
+    check(session, looks, size, span)
+    answer = answers[sum(map(is_answered, lines[:chosen]))] if is_answered(lines[chosen]) else "(none)"
     return lines[chosen], [group[span.start : span.stop] for group in looks.counts], answer
 
 
@@ -245,11 +229,11 @@ def main():
     sizes, parts = [], []
     for session in plain_sessions() + named_sessions():
         line, counts, answer = measured(program, session)
-        own = [sum(column) for column in zip(*counts[:EARLIER])]
-        cells = [cell for each in (*counts[:EARLIER], own, counts[EARLIER]) for cell in most_and_mean(each)]
-        sizes.append([session.name, str(len(line)), *cells, where_most(line, own), answer])
-        parts.append([session.name, *by_part(line, own), ""])
-    heads = [head for each in (*SIZES, "all", "earlier") for head in (each, "mean")]
+        every = [sum(column) for column in zip(*counts)]
+        cells = [cell for each in (*counts, every) for cell in most_and_mean(each)]
+        sizes.append([session.name, str(len(line)), *cells, where_most(line, every), answer])
+        parts.append([session.name, *by_part(line, every), ""])
+    heads = [head for each in (*SIZES, "all") for head in (each, "mean")]
     print_table("Most looks at a byte, by the loads' sizes", ["line", "bytes", *heads, "most looks at", "answer"], sizes)
     heads = [head for each in PARTS for head in (each, "mean")]
     print_table("Most looks at a byte, by parts of the line", ["line", *heads, ""], parts)

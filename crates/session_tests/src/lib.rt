@@ -26,6 +26,8 @@ mod mutators;
 #[cfg(test)]
 mod names;
 #[cfg(test)]
+mod pages;
+#[cfg(test)]
 mod pins;
 #[cfg(test)]
 mod rewinds;

@@ -19,7 +19,7 @@ pub fn machine(alloc: Global, regions: u64, mutators: u64, keep: u64) -> Result<
 // ---- what is written
 
 /// Returns how a session ends, with its reader and its writer.
-fn served<R: Read + Drop, W: Write + Drop>(
+pub fn served<R: Read + Drop, W: Write + Drop>(
     alloc: Global,
     local: &mut Local,
     reader: R,

@@ -78,6 +78,27 @@ impl Write for Sips {
     }
 }
 
+/// Takes all bytes of a write, and counts the writes.
+#[derive(Drop)]
+pub struct Counted {
+    pub taken: Vec<u8>,
+    pub writes: u64,
+}
+
+impl Write for Counted {
+    fn write(&mut self, given: &[u8]) -> io::Result<usize> {
+        if self.taken.extend_from_slice(given).is_err() {
+            return Err(ErrorKind::OutOfMemory.into());
+        }
+        self.writes = self.writes.saturating_add(1);
+        Ok(given.len())
+    }
+
+    fn flush(&mut self) -> io::Result<()> {
+        Ok(())
+    }
+}
+
 // ---- those that fail
 
 /// Gives a text byte by byte, and fails where no read is left.

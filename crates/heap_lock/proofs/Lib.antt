@@ -5,3 +5,4 @@ pub mod Making
 pub mod Fields
 pub mod Refusals
 pub mod Dumping
+pub mod Sourcing

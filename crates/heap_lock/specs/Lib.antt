@@ -7,3 +7,4 @@ pub mod Held
 pub mod Blanks
 pub mod Audits
 pub mod Details
+pub mod Sources

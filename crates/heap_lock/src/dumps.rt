@@ -1,5 +1,5 @@
 //! The dumper's calls: they leave no entry.
-ghost use Rattle.std.specs.Prelude.{◌≡◌, IfOk, IfErr, OnErr};
+ghost use Rattle.std.specs.Prelude.{◌≡◌, ◌^◌, ◌≤◌, length, IfOk, IfErr, OnErr};
 ghost use Rattle.heap_trail.specs.declared.Action.TheVariants.{OpenPin, NextPiece, ClosePin};
 ghost use Rattle.heap_trail.specs.declared.Reply.TheVariants.{Pinned as PinnedReply, Part, Closed, Refused};
 ghost use Rattle.heap_trail.specs.Laws.{IsPieceOfLegal};
@@ -25,6 +25,7 @@ impl<L: Heap> Kept<L> {
     pub fn piece_held(&mut self, pin: u64, time: u64) -> Result<Piece, Refusal>
         ensures done { IfOk result (λ p. IsDumped (NextPiece pin time) self.old (Part p) self.new) }
         ensures legal { IfOk result (λ p. IsPieceOfLegal L.config.ids time p) }
+        ensures small { IfOk result (λ p. length p.bytes ≤ 2 ^ 24) }
         ensures refused { IfErr result (λ e. IsDumped (NextPiece pin time) self.old (Refused e) self.new) }
         ensures unchanged { OnErr result (self.new ≡ self.old) }
     {
@@ -57,6 +58,7 @@ impl<L: Heap> Shared<L> {
     pub fn next_piece<R: Wait>(&self, rt: &R, pin: u64, time: u64) -> Result<Piece, Refusal>
         ensures done { IfOk result (λ p. WasDumped L.config (NextPiece pin time) (Part p)) }
         ensures legal { IfOk result (λ p. IsPieceOfLegal L.config.ids time p) }
+        ensures small { IfOk result (λ p. length p.bytes ≤ 2 ^ 24) }
         ensures refused { IfErr result (λ e. WasDumped L.config (NextPiece pin time) (Refused e)) }
     {
         let mut kept = self.kept.lock(rt);

@@ -8,6 +8,7 @@ pub mod dumps;
 pub mod entry;
 pub mod heap;
 pub mod same;
+pub mod source;
 pub mod stub;
 pub mod view;
 
@@ -15,3 +16,4 @@ pub use audits::audit;
 pub use blank::{Blank, Seats};
 pub use entry::{Entry, Outcome, Receipt, Role};
 pub use heap::{Heap, Kept, Seat, Shared};
+pub use source::LockedSource;

@@ -4,6 +4,8 @@
 #[cfg(test)]
 mod acts;
 #[cfg(test)]
+mod live_dumps;
+#[cfg(test)]
 mod threads;
 #[cfg(test)]
 mod workers;

@@ -1,0 +1,112 @@
+//! The source of a live dump: the pieces of a pin, with the lock for one at a time.
+ghost use Rattle.std.specs.Prelude.{◌≡◌, ◌<◌, ◌≤◌, length, None as Nothing};
+ghost use Rattle.dump_pump.specs.Sources.{IsNext, part_limit, part_size_limit};
+ghost use Rattle.heap_lock.specs.Sources.{IsLoss, IsPieceRefusal, Gives, Supplies, supply};
+
+use crate::heap::{Heap, Shared};
+use dump_pump::source::PART_LIMIT;
+use dump_pump::{Ending, Next, Source};
+use heap_class::{LostCause, Refusal};
+use hprof_text::Piece;
+use std::sync::Wait;
+
+/// The pieces that a pin of a shared heap has left. Each call of `next` takes the lock for one piece and has let it go when it
+/// returns, so others act between two pieces and while a piece is written. Its fields are public: none is a guard.
+#[derive(Drop)]
+pub struct LockedSource<'a, L: Heap, R: Wait> {
+    pub shared: &'a Shared<L>,
+    pub rt: &'a R,
+    pub pin: u64,
+    /// The time in the header of the dump, in milliseconds.
+    pub time: u64,
+    /// The number of pieces given, at most 66,178.
+    pub count: u64,
+    /// How the source ended, if it has.
+    pub ending: Option<Ending>,
+}
+
+// Returns the cause of an end that is a refusal of a piece.
+fn cause_of(refusal: Refusal) -> LostCause
+    requires { IsPieceRefusal refusal }
+    ensures { IsLoss refusal result }
+{
+    match refusal {
+        Refusal::NoMemory => LostCause::Memory,
+        Refusal::NoPin => LostCause::Closed,
+        Refusal::Lost { cause } => cause,
+        _ => unreachable!(),
+    }
+}
+
+impl<'a, L: Heap, R: Wait> LockedSource<'a, L, R> {
+    /// Creates a source that has given nothing yet. Takes neither the lock nor memory.
+    pub fn new(shared: &'a Shared<L>, rt: &'a R, pin: u64, time: u64) -> LockedSource<'a, L, R>
+        ensures names { (result.pin ≡ pin) × (result.time ≡ time) }
+        ensures fresh { supply result.count result.ending ≡ supply 0 Nothing }
+    {
+        LockedSource {
+            shared,
+            rt,
+            pin,
+            time,
+            count: 0,
+            ending: None,
+        }
+    }
+
+    /// Gives the next piece, which is one of the dump of a legal state, or says why there is none: Lost with the cause with
+    /// which the pin is lost, Lost(Memory) if the piece was refused NoMemory, Lost(Closed) if the pin isn't open or the piece
+    /// would be the 66,178th and isn't the last. Never says Cancelled. May wait.
+    pub fn next_part(&mut self) -> Next
+        requires { self.old.count < part_limit }
+        ensures supplies { Supplies L.config self.old.pin self.old.time self.old.count result }
+        ensures next { IsNext (supply self.old.count self.old.ending) (supply self.new.count self.new.ending) result }
+        ensures names { (self.new.pin ≡ self.old.pin) × (self.new.time ≡ self.old.time) }
+    {
+        match self.shared.next_piece(self.rt, self.pin, self.time) {
+            Ok(piece) => self.gives(piece),
+            Err(refusal) => {
+                let cause = cause_of(refusal);
+                self.ending = Some(Ending::Lost(cause));
+                Next::Lost(cause)
+            }
+        }
+    }
+
+    // Counts a piece, and says what it is.
+    fn gives(&mut self, piece: Piece) -> Next
+        requires count { self.old.count < part_limit }
+        requires small { length piece.bytes ≤ part_size_limit }
+        ensures next { IsNext (supply self.old.count self.old.ending) (supply self.new.count self.new.ending) result }
+        ensures given { Gives self.old.count piece result }
+        ensures names { (self.new.pin ≡ self.old.pin) × (self.new.time ≡ self.old.time) }
+    {
+        if piece.last {
+            self.ending = Some(Ending::Whole);
+        } else if self.count + 1 == PART_LIMIT {
+            self.ending = Some(Ending::Lost(LostCause::Closed));
+            return Next::Lost(LostCause::Closed);
+        }
+        self.count += 1;
+        Next::Part(piece)
+    }
+}
+
+impl<'a, L: Heap, R: Wait> Source for LockedSource<'a, L, R> {
+    ghost use Rattle.std.specs.Prelude.{ℕ};
+    ghost use Rattle.heap_lock.specs.Sources.{supply};
+
+    ghost Kept = { ℕ × ℕ };
+
+    ghost kept = { λ s. (s.pin, s.time) };
+
+    ghost seen = { λ s. supply s.count s.ending };
+
+    fn next(&mut self) -> Next {
+        self.next_part()
+    }
+
+    fn left(&self) -> u64 {
+        PART_LIMIT.saturating_sub(self.count)
+    }
+}

@@ -1,0 +1,47 @@
+//! The cancel word.
+ghost use Rattle.std.specs.Prelude.{◌≡◌, true};
+ghost use Rattle.dump_meter.specs.Seats.{asking, finding};
+
+use crate::rule::{Asks, Counts, Looks};
+use crate::seats::{AskSeat, FeedSeat};
+use crate::view::View;
+use atomic_table::Shared;
+use std::marker::Model;
+
+/// The cancel word of a meter: whether one of its askers asked. Contracts see which meter's it is.
+#[derive(Drop)]
+pub struct Cancel<'a> {
+    pub(crate) table: &'a Shared<(), View, (), Counts>,
+}
+
+impl<'a> Model for Cancel<'a> {
+    ghost use Rattle.std.specs.Prelude.{◌≡◌};
+    ghost use Rattle.atomic_table.specs.Seated.{TableId, table_id_coded};
+
+    ghost Value = { TableId };
+
+    ghost coded = { table_id_coded };
+
+    ghost view = { λ c. c.table.now.table_id };
+
+    ghost invariant = { λ c. c.table.now.table_id.words ≡ 2 };
+}
+
+impl<'a> Cancel<'a> {
+    /// Asks to cancel, by a seat of this meter. It can't be taken back. Waits for nothing.
+    pub fn ask(&self, seat: &mut AskSeat)
+        requires { seat.old.meter ≡ self.now }
+        ensures { seat.new ≡ asking self.now true }
+    {
+        let _ = self.table.fetch_or::<Asks>(&mut seat.seat, 1, 1);
+    }
+
+    /// Returns whether anybody asked, by a seat of this meter. What was found stays so. Waits for nothing.
+    pub fn asked(&self, seat: &mut FeedSeat) -> bool
+        requires { seat.old.meter ≡ self.now }
+        ensures found { seat.new ≡ finding self.now result }
+        ensures lasting { seat.old.found ≡ true → result ≡ true }
+    {
+        self.table.load::<Looks>(&mut seat.seat, 1) == 1
+    }
+}

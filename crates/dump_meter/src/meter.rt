@@ -1,0 +1,128 @@
+//! Meters.
+ghost use Rattle.std.specs.Prelude.{◌≡◌, ◌+◌, ◌<◌, ◌≤◌, All, length, IfOk, false};
+ghost use Rattle.dump_meter.specs.Seats.{sum, seen, asking, finding, seat_limit};
+
+use crate::cancel::Cancel;
+use crate::progress::Progress;
+use crate::rule::{Counts, NewAsker, NewFeeder, NewReader};
+use crate::seats::{AskSeat, FeedSeat, OutSeat, ReadSeat};
+use crate::view::View;
+use atomic_table::{Seat, Shared, Table};
+use std::alloc::{AllocError, Global};
+use std::marker::Model;
+
+/// The most seats that read or ask, together.
+pub const SEAT_LIMIT: usize = 16;
+
+/// A progress word and a cancel word. Contracts see which meter it is.
+#[derive(Drop)]
+pub struct Meter {
+    table: Table<(), View, (), Counts, Global>,
+}
+
+impl Model for Meter {
+    ghost use Rattle.std.specs.Prelude.{◌≡◌};
+    ghost use Rattle.atomic_table.specs.Seated.{TableId, table_id_coded};
+
+    ghost Value = { TableId };
+
+    ghost coded = { table_id_coded };
+
+    ghost view = { λ m. m.table.shared.table_id };
+
+    ghost invariant = { λ m. m.table.shared.table_id.words ≡ 2 };
+}
+
+/// A meter with its seats: one that adds, those that read, those that ask, and one that looks whether they did.
+#[derive(Drop)]
+pub struct NewMeter {
+    pub meter: Meter,
+    pub out: OutSeat,
+    pub readers: Vec<ReadSeat>,
+    pub askers: Vec<AskSeat>,
+    pub feed: FeedSeat,
+}
+
+/// Creates so many seats that read. Fails if memory is refused.
+fn new_readers(
+    alloc: Global,
+    table: &Shared<(), View, (), Counts>,
+    out: &mut Seat<(), View>,
+    count: usize,
+) -> Result<Vec<ReadSeat>, AllocError>
+    requires { (out.old.table_id ≡ table.now.table_id) × (0 < table.now.table_id.words) }
+    ensures out { (out.new.table_id ≡ out.old.table_id) × (out.new.me ≡ out.old.me) }
+    ensures count { IfOk result (λ v. length v.items ≡ count) }
+    ensures seats { IfOk result (λ v. All (λ s. s ≡ seen table.now.table_id 0) v.items) }
+{
+    let mut seats = Vec::new(alloc);
+    for _ in 0..count {
+        let seat = table.split_seat::<NewReader>(out);
+        seats.push(ReadSeat { seat })?;
+    }
+    Ok(seats)
+}
+
+/// Creates so many seats that ask. Fails if memory is refused.
+fn new_askers(
+    alloc: Global,
+    table: &Shared<(), View, (), Counts>,
+    out: &mut Seat<(), View>,
+    count: usize,
+) -> Result<Vec<AskSeat>, AllocError>
+    requires { (out.old.table_id ≡ table.now.table_id) × (0 < table.now.table_id.words) }
+    ensures out { (out.new.table_id ≡ out.old.table_id) × (out.new.me ≡ out.old.me) }
+    ensures count { IfOk result (λ v. length v.items ≡ count) }
+    ensures seats { IfOk result (λ v. All (λ s. s ≡ asking table.now.table_id false) v.items) }
+{
+    let mut seats = Vec::new(alloc);
+    for _ in 0..count {
+        let seat = table.split_seat::<NewAsker>(out);
+        seats.push(AskSeat { seat })?;
+    }
+    Ok(seats)
+}
+
+impl Meter {
+    /// Creates a meter at 0 that nobody asked to cancel, with so many seats that read and so many that ask, together at most
+    /// 16. Fails if memory is refused.
+    pub fn new(alloc: Global, readers: usize, askers: usize) -> Result<NewMeter, AllocError>
+        requires { readers + askers ≤ seat_limit }
+        ensures out { IfOk result (λ m. m.out ≡ sum m.meter 0) }
+        ensures reader_count { IfOk result (λ m. length m.readers.items ≡ readers) }
+        ensures readers { IfOk result (λ m. All (λ s. s ≡ seen m.meter 0) m.readers.items) }
+        ensures asker_count { IfOk result (λ m. length m.askers.items ≡ askers) }
+        ensures askers { IfOk result (λ m. All (λ s. s ≡ asking m.meter false) m.askers.items) }
+        ensures feed { IfOk result (λ m. m.feed ≡ finding m.meter false) }
+    {
+        let (table, mut out) = Table::of_words(alloc, &[0, 0], &())?;
+        let read = new_readers(alloc, &table.shared, &mut out, readers)?;
+        let ask = new_askers(alloc, &table.shared, &mut out, askers)?;
+        let feed = table.shared.split_seat::<NewFeeder>(&mut out);
+        Ok(NewMeter {
+            meter: Meter { table },
+            out: OutSeat { seat: out },
+            readers: read,
+            askers: ask,
+            feed: FeedSeat { seat: feed },
+        })
+    }
+
+    /// Lends the progress word.
+    pub fn progress(&self) -> Progress<'_>
+        ensures { result ≡ self.now }
+    {
+        Progress {
+            table: &self.table.shared,
+        }
+    }
+
+    /// Lends the cancel word.
+    pub fn cancel(&self) -> Cancel<'_>
+        ensures { result ≡ self.now }
+    {
+        Cancel {
+            table: &self.table.shared,
+        }
+    }
+}

@@ -1,0 +1,87 @@
+//! The rule of the two words, and what each step tells its seat.
+use crate::view::View;
+use atomic_table::{Play, Split, TableRule};
+
+/// The rule: the progress word is the sum of the out seat, and no reader saw more. The cancel word is 1 if an asker asked, else
+/// 0, and it is 1 if a feeder found it so.
+pub struct Counts;
+
+impl TableRule<(), View, ()> for Counts {
+    ghost use Rattle.dump_meter.specs.declared.view.View.TheVariants.{Out};
+    ghost use Rattle.dump_meter.specs.Meters.{IsMeter};
+
+    ghost holds = { λ _ s. IsMeter s.words s.views };
+
+    ghost first = { λ _. Out 0 };
+}
+
+/// A reader's seat, made beside another seat.
+pub struct NewReader;
+
+impl Split<View> for NewReader {
+    ghost use Rattle.dump_meter.specs.declared.view.View.TheVariants.{Read};
+
+    ghost left = { λ v. v };
+
+    ghost right = { λ _. Read 0 };
+}
+
+/// An asker's seat, made beside another seat.
+pub struct NewAsker;
+
+impl Split<View> for NewAsker {
+    ghost use Rattle.std.specs.Prelude.{false};
+    ghost use Rattle.dump_meter.specs.declared.view.View.TheVariants.{Ask};
+
+    ghost left = { λ v. v };
+
+    ghost right = { λ _. Ask false };
+}
+
+/// A feeder's seat, made beside another seat.
+pub struct NewFeeder;
+
+impl Split<View> for NewFeeder {
+    ghost use Rattle.std.specs.Prelude.{false};
+    ghost use Rattle.dump_meter.specs.declared.view.View.TheVariants.{Feed};
+
+    ghost left = { λ v. v };
+
+    ghost right = { λ _. Feed false };
+}
+
+/// The out seat adds.
+pub struct Adds;
+
+impl Play<(), View> for Adds {
+    ghost use Rattle.dump_meter.specs.Meters.{Added};
+
+    ghost then = { Added };
+}
+
+/// A reader reads.
+pub struct Reads;
+
+impl Play<(), View> for Reads {
+    ghost use Rattle.dump_meter.specs.Meters.{WasRead};
+
+    ghost then = { WasRead };
+}
+
+/// An asker asks.
+pub struct Asks;
+
+impl Play<(), View> for Asks {
+    ghost use Rattle.dump_meter.specs.Meters.{Asked};
+
+    ghost then = { Asked };
+}
+
+/// A feeder looks.
+pub struct Looks;
+
+impl Play<(), View> for Looks {
+    ghost use Rattle.dump_meter.specs.Meters.{Looked};
+
+    ghost then = { Looked };
+}

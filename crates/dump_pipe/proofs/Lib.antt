@@ -1,0 +1,5 @@
+pub mod Piping
+pub mod Feeding
+pub mod Draining
+pub mod Watching
+pub mod Streaming

@@ -1,0 +1,40 @@
+use Rattle.std.proofs.Common.{◌≡◌, ◌++◌, List, ℕ, take, length, sym, ap, ◌∙◌, arith}
+use Rattle.dump_meter.specs.Seats.{Sum}
+use Rattle.dump_pipe.proofs.Draining.{room, drain_more, drain_failed}
+use Rattle.dump_pipe.proofs.drainer.drain_pipe.Goals as goal
+
+pub overflow_add-total : goal.overflow_add-total
+overflow_add-total g c =
+    let r = room _ _ _ _ _ c.in-Part.piece c.loop.invariant.5 c.in-Part.ensures.room in
+    record { fits = omega (arith, r, c.put_all-put.ensures.0, ap (λ (l : List ℕ). length l) c.as_slice.ensures) }
+
+pub add-requires-clause-fits : goal.add-requires-clause-fits
+add-requires-clause-fits g c =
+    let r = room _ _ _ _ _ c.in-Part.piece c.loop.invariant.5 c.in-Part.ensures.room in
+    omega (arith, r, c.requires.room, c.loop.invariant.4, c.put_all-put.ensures.0, ap (λ (l : List ℕ). length l) c.as_slice.ensures)
+
+pub returns-then-put-size-clause-drained : goal.returns-then-put-size-clause-drained
+returns-then-put-size-clause-drained g c =
+    let p = c.put_all-put.ensures in
+    let a = ap (λ (l : List ℕ). length l) c.as_slice.ensures in
+    let z = ap (λ (l : List ℕ). length l) c.as_slice-size.ensures in
+    drain_failed _ _ _ _ _ _ _ _ c.in-Part.piece c.put_all-put.result c.loop.invariant.5 c.in-Part.ensures.got (omega (arith, p.0, a))
+    (p.1 ∙ ap (λ l. (g.O.Outlet.seen c.loop.outlet).out ++ take c.put_all-put.result l) c.as_slice.ensures)
+    (p.3 (omega (arith, c.if-put-size.true, a, z)))
+    c.skip.ensures.skipped
+
+pub loop-preserved : goal.loop-preserved
+loop-preserved g c =
+    let p = c.put_all-put.ensures in
+    let a = ap (λ (l : List ℕ). length l) c.as_slice.ensures in
+    let z = ap (λ (l : List ℕ). length l) c.as_slice-size.ensures in
+    let all : c.put_all-put.result ≡ length c.in-Part.piece.bytes = omega (arith, p.0, c.if-put-size.false, a, z) in (
+      tt,
+      tt,
+      c.in-Part.ensures.end,
+      ap (λ (s : Sum). s.meter) c.add.ensures,
+      omega (arith, ap (λ (s : Sum). s.sum) c.add.ensures, c.loop.invariant.4),
+      drain_more _ _ _ _ _ _ _ c.in-Part.piece c.put_all-put.result c.loop.invariant.5 c.in-Part.ensures.got all
+          (p.1 ∙ ap (λ l. (g.O.Outlet.seen c.loop.outlet).out ++ take c.put_all-put.result l) c.as_slice.ensures)
+          (p.2 (all ∙ sym a)),
+    )

@@ -1,0 +1,32 @@
+-- What a stream does.
+use Rattle.std.specs.Prelude.{◌≡◌, ℕ, ◌⊎◌, [], Option, Some, None}
+use Rattle.heap_class.specs.declared.LostCause.TheVariants.{Memory}
+use Rattle.dump_pump.specs.declared.source.Ending.{Ending}
+use Rattle.dump_pump.specs.declared.transfer.Pumped.{Pumped}
+use Rattle.dump_pump.specs.declared.transfer.Pumped.TheVariants.{Lost}
+use Rattle.dump_pump.specs.Outlets.{Outgoing}
+use Rattle.dump_pump.specs.Pumps.{IsPumped, bytes_of}
+use Rattle.dump_pump.specs.Sources.{Supply}
+use Rattle.dump_pipe.specs.declared.view.View.{View}
+use Rattle.dump_pipe.specs.declared.view.View.TheVariants.{Sends, Gets}
+use Rattle.dump_pipe.specs.Feeds.{IsFed}
+use Rattle.dump_pipe.specs.Drains.{IsDrained}
+
+-- what a pump does, or nothing is put out, for want of a thread or of memory
+abbrev pub IsStreamed : Supply → Supply → Outgoing → Outgoing → Pumped → Type 0
+IsStreamed a b w w' r = IsPumped a b w w' r ⊎ ((r ≡ Lost Memory 0) × (w' ≡ w))
+
+-- the source was fed, or nothing was sent
+abbrev pub MayFeed : Supply → Supply → View → Option Ending → Type 0
+MayFeed a b v (Some e) = IsFed a b v e
+MayFeed a b v None = v ≡ Sends []
+
+-- the pipe was drained, or nothing was received and put out
+abbrev pub MayDrain : View → Outgoing → Outgoing → Option Pumped → Type 0
+MayDrain v w w' (Some r) = IsDrained [] v w w' r
+MayDrain v w w' None = (v ≡ Gets []) × (w' ≡ w)
+
+-- the bytes that a drain put out, if there was one
+abbrev pub drained_bytes : Option Pumped → ℕ
+drained_bytes (Some r) = bytes_of r
+drained_bytes None = 0

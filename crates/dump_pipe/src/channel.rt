@@ -1,0 +1,136 @@
+//! A channel of few messages, with one end that sends and one that receives.
+ghost use Rattle.std.specs.Prelude.{◌≡◌, ◌≤◌, ◌∷◌, ◌++◌, [], IfOk};
+ghost use Rattle.crossbeam_channel.specs.Claims.{view, IsSeatAt};
+ghost use Rattle.crossbeam_channel.specs.Ends.{sends_on, receives_on};
+ghost use Rattle.dump_pipe.specs.declared.view.View.TheVariants.{Sends, Gets};
+ghost use Rattle.dump_pipe.specs.Pipes.{weigh, list_of, byte_limit};
+
+use crate::message::Message;
+use crate::view::View;
+use crossbeam_channel::protocol::{Join, Lesson, Outcome, Protocol, Split};
+use crossbeam_channel::{Pass, RuledReceiver, RuledSender, bounded_with};
+use std::alloc::{AllocError, Global};
+use std::sync::Wait;
+
+/// The most messages that a pipe holds.
+pub const PIPE_LIMIT: usize = 8;
+
+/// The rule: what was received, and then what the pipe holds, is what was sent.
+pub struct InOrder;
+
+impl Protocol<Message, View> for InOrder {
+    ghost use Rattle.std.specs.Prelude.{[]};
+    ghost use Rattle.dump_pipe.specs.declared.view.View.TheVariants.{Both};
+    ghost use Rattle.dump_pipe.specs.Pipes.{IsInOrder};
+
+    ghost holds = { IsInOrder };
+
+    ghost first = { Both [] [] };
+}
+
+/// A pipe's two ends, made of one and made one again.
+pub struct Ends;
+
+impl Split<View> for Ends {
+    ghost use Rattle.dump_pipe.specs.Pipes.{sends_of, gets_of};
+
+    ghost left = { sends_of };
+
+    ghost right = { gets_of };
+}
+
+impl Join<View> for Ends {
+    ghost use Rattle.dump_pipe.specs.declared.view.View.TheVariants.{Spent};
+    ghost use Rattle.dump_pipe.specs.Pipes.{both_of};
+
+    ghost both = { both_of };
+
+    ghost spent = { Spent };
+}
+
+/// What both ends together know: what was received is a beginning of what was sent.
+pub struct Order;
+
+impl Lesson<Message, View> for Order {
+    ghost use Rattle.dump_pipe.specs.Pipes.{HasOrder};
+
+    ghost fact = { HasOrder };
+}
+
+/// A message was sent.
+pub struct Sent;
+
+impl Outcome<Message, View> for Sent {
+    ghost use Rattle.dump_pipe.specs.Pipes.{HasSent};
+
+    ghost then = { HasSent };
+}
+
+impl Lesson<Message, View> for Sent {
+    ghost fact = { λ v items. Unit {0} };
+}
+
+/// A message was received.
+pub struct Got;
+
+impl Outcome<Message, View> for Got {
+    ghost use Rattle.dump_pipe.specs.Pipes.{HasGot};
+
+    ghost then = { HasGot };
+}
+
+impl Lesson<Message, View> for Got {
+    ghost fact = { λ v items. Unit {0} };
+}
+
+/// The end that sends.
+pub type Sender = RuledSender<Message, View, InOrder>;
+
+/// The end that receives.
+pub type Receiver = RuledReceiver<Message, View, InOrder>;
+
+/// What an end knows. It has no bytes.
+pub type End = Pass<Message, View>;
+
+/// Creates an empty pipe for the messages of one dump, with what its two ends know. Fails if memory is refused.
+pub fn pipe(alloc: Global) -> Result<(Sender, Receiver, End, End), AllocError>
+    ensures ends { IfOk result (λ p. receives_on p.1 ≡ sends_on p.0) }
+    ensures sender { IfOk result (λ p. IsSeatAt (sends_on p.0) p.2 × (view p.2 ≡ Sends [])) }
+    ensures receiver { IfOk result (λ p. IsSeatAt (receives_on p.1) p.3 × (view p.3 ≡ Gets [])) }
+{
+    let (sender, receiver, mut one) = bounded_with(alloc, PIPE_LIMIT)?;
+    let other = sender.another::<Ends>(&mut one);
+    Ok((sender, receiver, one, other))
+}
+
+/// Sends a message. Waits while the pipe is full. A message that is handed back is sent again.
+pub fn send<R: Wait>(rt: &R, sender: &Sender, end: &mut End, message: Message)
+    requires end { IsSeatAt (sends_on sender.now) end.old × (view end.old ≡ Sends (list_of (view end.old))) }
+    requires room { weigh (list_of (view end.old) ++ message ∷ []) ≤ byte_limit }
+    ensures end { IsSeatAt (sends_on sender.now) end.new }
+    ensures sent { view end.new ≡ Sends (list_of (view end.old) ++ message ∷ []) }
+{
+    let mut next = message;
+    for _ in rt.forever() {
+        match sender.send_as::<Sent, R>(rt, end, next) {
+            Ok(()) => return,
+            Err(error) => next = error.into_inner(),
+        }
+    }
+    unreachable!()
+}
+
+/// Receives a message. Waits while there is none. A receive that gives none is tried again.
+pub fn receive<R: Wait>(rt: &R, receiver: &Receiver, end: &mut End) -> Message
+    requires { IsSeatAt (receives_on receiver.now) end.old × (view end.old ≡ Gets (list_of (view end.old))) }
+    ensures end { IsSeatAt (receives_on receiver.now) end.new }
+    ensures got { view end.new ≡ Gets (list_of (view end.old) ++ result ∷ []) }
+    ensures room { weigh (list_of (view end.old) ++ result ∷ []) ≤ byte_limit }
+{
+    for _ in rt.forever() {
+        if let Ok(message) = receiver.recv_as::<Got, R>(rt, end) {
+            return message;
+        }
+    }
+    unreachable!()
+}

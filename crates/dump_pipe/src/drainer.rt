@@ -1,0 +1,79 @@
+//! The end of a pipe that receives.
+ghost use Rattle.std.specs.Prelude.{◌≡◌, ◌+◌, ◌<◌, ◌^◌};
+ghost use Rattle.crossbeam_channel.specs.Claims.{view, IsSeatAt};
+ghost use Rattle.crossbeam_channel.specs.Ends.{receives_on};
+ghost use Rattle.dump_pump.specs.Pumps.{bytes_of};
+ghost use Rattle.dump_pipe.specs.declared.view.View.TheVariants.{Gets};
+ghost use Rattle.dump_pipe.specs.Pipes.{list_of, byte_limit};
+ghost use Rattle.dump_pipe.specs.Drains.{IsDrained, IsSkipped, answer_to};
+
+use crate::channel::{End, Receiver, receive};
+use crate::message::Message;
+use dump_meter::{OutSeat, Progress};
+use dump_pump::transfer::put_all;
+use dump_pump::{Ending, Outlet, Pumped};
+use std::sync::Wait;
+
+/// Receives messages until the ending, and lets them go.
+pub fn skip<R: Wait>(rt: &R, receiver: &Receiver, end: &mut End)
+    requires { IsSeatAt (receives_on receiver.now) end.old × (view end.old ≡ Gets (list_of (view end.old))) }
+    ensures end { IsSeatAt (receives_on receiver.now) end.new }
+    ensures skipped { IsSkipped (list_of (view end.old)) (view end.new) }
+{
+    for _ in rt.forever() {
+        if let Message::End(_) = receive(rt, receiver, end) {
+            return;
+        }
+    }
+    unreachable!()
+}
+
+/// Returns how a drain ends if no put failed.
+fn answer(ending: Ending, bytes: u64) -> Pumped
+    ensures answer { result ≡ answer_to ending bytes }
+    ensures counted { bytes_of result ≡ bytes }
+{
+    match ending {
+        Ending::Whole => Pumped::Done { bytes },
+        Ending::Lost(cause) => Pumped::Lost { cause, bytes },
+        Ending::Cancelled => Pumped::Cancelled { bytes },
+    }
+}
+
+/// Puts out the parts that are received, each whole and in order, and adds what is put out to the progress, until the ending.
+/// Once a put fails it puts out nothing more, and receives what is left. Waits while the pipe is empty. The seat is one of the
+/// progress's meter, and its sum has room for the bytes of a dump.
+pub fn drain_pipe<O: Outlet, R: Wait>(
+    rt: &R,
+    receiver: &Receiver,
+    end: &mut End,
+    outlet: &mut O,
+    progress: &Progress<'_>,
+    seat: &mut OutSeat,
+) -> Pumped
+    requires end { IsSeatAt (receives_on receiver.now) end.old × (view end.old ≡ Gets (list_of (view end.old))) }
+    requires meter { seat.old.meter ≡ progress.now }
+    requires room { seat.old.sum + byte_limit < 2 ^ 64 }
+    ensures end { IsSeatAt (receives_on receiver.now) end.new }
+    ensures drained { IsDrained (list_of (view end.old)) (view end.new) (O.seen outlet.old) (O.seen outlet.new) result }
+    ensures meter { seat.new.meter ≡ progress.now }
+    ensures counted { seat.new.sum ≡ seat.old.sum + bytes_of result }
+{
+    let mut total: u64 = 0;
+    for _ in rt.forever() {
+        match receive(rt, receiver, end) {
+            Message::Part(piece) => {
+                let size = piece.bytes.as_slice().len();
+                let put = put_all(outlet, piece.bytes.as_slice());
+                total += put as u64;
+                progress.add(seat, put as u64);
+                if put < size {
+                    skip(rt, receiver, end);
+                    return Pumped::OutletFailed { bytes: total };
+                }
+            }
+            Message::End(ending) => return answer(ending, total),
+        }
+    }
+    unreachable!()
+}

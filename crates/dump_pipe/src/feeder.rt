@@ -1,0 +1,42 @@
+//! The end of a pipe that sends.
+ghost use Rattle.std.specs.Prelude.{◌≡◌, ◌<◌, []};
+ghost use Rattle.crossbeam_channel.specs.Claims.{view, IsSeatAt};
+ghost use Rattle.crossbeam_channel.specs.Ends.{sends_on};
+ghost use Rattle.dump_pipe.specs.declared.view.View.TheVariants.{Sends};
+ghost use Rattle.dump_pipe.specs.Feeds.{IsFed};
+
+use crate::channel::{End, Sender, send};
+use crate::message::Message;
+use dump_pump::{Ending, Next, Source};
+use std::sync::Wait;
+
+/// Sends the parts of a source, in order, and then how it ended, which it returns. Waits while the pipe is full.
+pub fn feed<S: Source, R: Wait>(rt: &R, source: &mut S, sender: &Sender, end: &mut End) -> Ending
+    requires source { 0 < (S.seen source.old).left }
+    requires end { IsSeatAt (sends_on sender.now) end.old × (view end.old ≡ Sends []) }
+    ensures end { IsSeatAt (sends_on sender.now) end.new }
+    ensures fed { IsFed (S.seen source.old) (S.seen source.new) (view end.new) result }
+    ensures kept { S.kept source.new ≡ S.kept source.old }
+{
+    let _most = source.left();
+    loop {
+        match source.next() {
+            Next::Part(piece) => {
+                let last = piece.last;
+                send(rt, sender, end, Message::Part(piece));
+                if last {
+                    send(rt, sender, end, Message::End(Ending::Whole));
+                    return Ending::Whole;
+                }
+            }
+            Next::Lost(cause) => {
+                send(rt, sender, end, Message::End(Ending::Lost(cause)));
+                return Ending::Lost(cause);
+            }
+            Next::Cancelled => {
+                send(rt, sender, end, Message::End(Ending::Cancelled));
+                return Ending::Cancelled;
+            }
+        }
+    }
+}

@@ -1,0 +1,136 @@
+//! Dumps through a pipe between two threads.
+ghost use Rattle.std.specs.Prelude.{◌≡◌, ◌+◌, ◌<◌, ◌^◌, []};
+ghost use Rattle.crossbeam_channel.specs.Claims.{view, IsSeatAt};
+ghost use Rattle.crossbeam_channel.specs.Ends.{sends_on, receives_on};
+ghost use Rattle.dump_pump.specs.Pumps.{bytes_of};
+ghost use Rattle.dump_pipe.specs.declared.view.View.TheVariants.{Sends, Gets};
+ghost use Rattle.dump_pipe.specs.Pipes.{byte_limit};
+ghost use Rattle.dump_pipe.specs.Streams.{IsStreamed, MayFeed, MayDrain, drained_bytes};
+
+use crate::channel::{End, Ends, Order, Receiver, Sender, pipe};
+use crate::drainer::drain_pipe;
+use crate::feeder::feed;
+use crate::start::Start;
+use dump_meter::{OutSeat, Progress};
+use dump_pump::{Ending, Outlet, Pumped, Source};
+use heap_class::LostCause;
+use std::alloc::Global;
+use std::sync::Wait;
+use std::thread::{Threads, join_mut};
+
+/// Begins and feeds. None if it was given up.
+fn begin_feed<S: Source, R: Wait>(
+    rt: &R,
+    start: &Start,
+    source: &mut S,
+    sender: &Sender,
+    end: &mut End,
+) -> Option<Ending>
+    requires source { 0 < (S.seen source.old).left }
+    requires end { IsSeatAt (sends_on sender.now) end.old × (view end.old ≡ Sends []) }
+    ensures end { IsSeatAt (sends_on sender.now) end.new }
+    ensures fed { MayFeed (S.seen source.old) (S.seen source.new) (view end.new) result }
+    ensures kept { S.kept source.new ≡ S.kept source.old }
+{
+    if !start.begin() {
+        return None;
+    }
+    Some(feed(rt, source, sender, end))
+}
+
+/// Drains once the other end has begun. None if it was given up.
+fn drain_begun<O: Outlet, R: Wait>(
+    rt: &R,
+    start: &Start,
+    receiver: &Receiver,
+    end: &mut End,
+    outlet: &mut O,
+    progress: &Progress<'_>,
+    seat: &mut OutSeat,
+) -> Option<Pumped>
+    requires end { IsSeatAt (receives_on receiver.now) end.old × (view end.old ≡ Gets []) }
+    requires meter { seat.old.meter ≡ progress.now }
+    requires room { seat.old.sum + byte_limit < 2 ^ 64 }
+    ensures end { IsSeatAt (receives_on receiver.now) end.new }
+    ensures drained { MayDrain (view end.new) (O.seen outlet.old) (O.seen outlet.new) result }
+    ensures meter { seat.new.meter ≡ progress.now }
+    ensures counted { seat.new.sum ≡ seat.old.sum + drained_bytes result }
+{
+    if !start.is_begun() {
+        return None;
+    }
+    Some(drain_pipe(rt, receiver, end, outlet, progress, seat))
+}
+
+/// Feeds in a thread of its own, and drains in the caller's.
+fn join_ends<S: Source + Send, O: Outlet, R: Threads + Wait + Sync>(
+    rt: &R,
+    sender: &Sender,
+    receiver: &Receiver,
+    one: &mut End,
+    other: &mut End,
+    source: &mut S,
+    outlet: &mut O,
+    progress: &Progress<'_>,
+    seat: &mut OutSeat,
+) -> (Option<Ending>, Option<Pumped>)
+    requires source { 0 < (S.seen source.old).left }
+    requires one { IsSeatAt (sends_on sender.now) one.old × (view one.old ≡ Sends []) }
+    requires other { IsSeatAt (receives_on receiver.now) other.old × (view other.old ≡ Gets []) }
+    requires meter { seat.old.meter ≡ progress.now }
+    requires room { seat.old.sum + byte_limit < 2 ^ 64 }
+    ensures one { IsSeatAt (sends_on sender.now) one.new }
+    ensures other { IsSeatAt (receives_on receiver.now) other.new }
+    ensures fed { MayFeed (S.seen source.old) (S.seen source.new) (view one.new) result.0 }
+    ensures kept { S.kept source.new ≡ S.kept source.old }
+    ensures drained { MayDrain (view other.new) (O.seen outlet.old) (O.seen outlet.new) result.1 }
+    ensures meter { seat.new.meter ≡ progress.now }
+    ensures counted { seat.new.sum ≡ seat.old.sum + drained_bytes result.1 }
+{
+    let start = Start::new();
+    let mut feeder = || -> Option<Ending>
+        requires { (0 < (S.seen source.now).left) × IsSeatAt (sends_on sender.now) one.now × (view one.now ≡ Sends []) }
+    { begin_feed(rt, &start, source, sender, one) };
+    let mut drainer = || -> Option<Pumped>
+        requires { IsSeatAt (receives_on receiver.now) other.now × (view other.now ≡ Gets []) × (seat.now.meter ≡ progress.now) × (seat.now.sum + byte_limit < 2 ^ 64) }
+    { drain_begun(rt, &start, receiver, other, outlet, progress, seat) };
+    join_mut(rt, &mut feeder, &mut drainer)
+}
+
+/// Puts out the parts of a source as `pump` does, while a thread of its own asks the source for the next ones, and adds what is
+/// put out to the progress. Returns Lost by Memory, with 0 bytes, if no pipe or no thread can be had. Waits for the source and
+/// for the outlet, and both threads have ended when it returns. The seat is one of the progress's meter, and its sum has room
+/// for the bytes of a dump.
+pub fn stream_parts<S: Source + Send, O: Outlet, R: Threads + Wait + Sync>(
+    rt: &R,
+    alloc: Global,
+    source: &mut S,
+    outlet: &mut O,
+    progress: &Progress<'_>,
+    seat: &mut OutSeat,
+) -> Pumped
+    requires source { 0 < (S.seen source.old).left }
+    requires meter { seat.old.meter ≡ progress.now }
+    requires room { seat.old.sum + byte_limit < 2 ^ 64 }
+    ensures streamed { IsStreamed (S.seen source.old) (S.seen source.new) (O.seen outlet.old) (O.seen outlet.new) result }
+    ensures kept { S.kept source.new ≡ S.kept source.old }
+    ensures meter { seat.new.meter ≡ progress.now }
+    ensures counted { seat.new.sum ≡ seat.old.sum + bytes_of result }
+{
+    let lost = Pumped::Lost {
+        cause: LostCause::Memory,
+        bytes: 0,
+    };
+    let Ok((sender, receiver, mut one, mut other)) = pipe(alloc) else {
+        return lost;
+    };
+    let (_fed, drained) = join_ends(
+        rt, &sender, &receiver, &mut one, &mut other, source, outlet, progress, seat,
+    );
+    let Some(pumped) = drained else {
+        return lost;
+    };
+    sender.absorb::<Ends>(&mut one, other);
+    sender.learn_as::<Order>(&mut one);
+    pumped
+}

@@ -1,0 +1,36 @@
+//! Sources that can be cancelled.
+ghost use Rattle.std.specs.Prelude.{◌≡◌};
+
+use dump_meter::{Cancel, FeedSeat};
+use dump_pump::{Next, Source};
+
+/// A source that looks before each part whether anybody asked to cancel: it gives Cancelled if so, else what its own source
+/// gives. The seat is one of the meter whose cancel word it is.
+#[derive(Drop)]
+pub struct Watched<'a, S: Source> {
+    pub source: S,
+    pub cancel: Cancel<'a>,
+    pub seat: FeedSeat,
+    ghost met: { seat.meter ≡ cancel },
+}
+
+impl<'a, S: Source> Source for Watched<'a, S> {
+    ghost use Rattle.dump_pipe.specs.Watches.{watched};
+
+    ghost Kept = { S.Kept };
+
+    ghost kept = { λ w. S.kept w.source };
+
+    ghost seen = { λ w. watched (S.seen w.source) w.seat.found };
+
+    fn next(&mut self) -> Next {
+        if self.cancel.asked(&mut self.seat) {
+            return Next::Cancelled;
+        }
+        self.source.next()
+    }
+
+    fn left(&self) -> u64 {
+        self.source.left()
+    }
+}

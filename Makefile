@@ -21,9 +21,8 @@ test:
 	cmp examples/point.session crates/heapdbg/stdin
 	python3 checks/edits.py fit
 	python3 checks/no_memory.py
-	seq 5 | xargs -P $(JOBS) -I N sh -c 'cd crates/region_tests && rt try --test --fail-alloc N'
-	cd crates/growth_tests && rt try --test --fail-alloc 16
 	rt ci
+	@python3 checks/growths.py crates/growths/out/growths crates/growths/stdout crates/heapdbg/out/heapdbg
 	@python3 checks/program.py crates/heapdbg/out/heapdbg crates/heapdbg/out/heapdbg.by-rattle
 
 # Tries the edits that are not in the gate: of all crates, or of those that CRATE names.

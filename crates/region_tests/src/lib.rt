@@ -1,4 +1,4 @@
-//! The calls of the regions, by tests that can be run with each allocation refused in turn.
+//! Tests of the calls of the regions.
 #![tactic(auto)]
 
 #[cfg(test)]

@@ -1,0 +1,131 @@
+#!/usr/bin/env python3
+"""Runs built programs once for each of their allocations, which is refused in that run.
+
+Usage: checks/growths.py GROWTHS WANTED HEAPDBG
+GROWTHS has to print what is in the file WANTED whatever is refused. HEAPDBG does sessions: each ends for want of memory before it
+reads, or refuses one line and answers all others as a session without that line, or loses a pin and answers all but its pieces as
+if it hadn't. Prints a line for each difference, and how many allocations were refused; ends with status 1 if there is a difference."""
+import os
+import pathlib
+import subprocess
+import sys
+import tempfile
+
+SOURCE = pathlib.Path(__file__).resolve().parent / "refuse.c"
+LIMIT = 2000
+REFUSED = b"no 1 NoMemory"
+LOST = b"no 23 Lost Memory"
+
+SESSIONS = {
+    "sweep_and_reuse_rewound": """class Node - next:object v:long, new 0 0 0, newprim 0 1 long 5, clear 0 0, snap, mark, finish, snap,
+        sweep 0, newprim 0 0 long 17, rewind 3""",
+    "dump_of_a_past_place": """class Point - x:int y:int, new 0 0 0, put 0 0 0 7, open -, put 0 0 0 9, clear 0 0, snap, finish, sweep 0,
+        new 0 0 0, piece 1, dump 1, close 1""",
+    "finish_refused_until_ready": """class Node - next:object v:long, new 0 0 0, new 0 1 0, newprim 0 2 long 5, store 0 0 0 1, snap,
+        store 0 0 0 0, store 0 0 0 1, mark, mark, mark, finish, drain, drain, finish, sweep 0, snap, mark, mark, mark, finish""",
+    "dump_of_object_array": "array [Lq;, newarray 0 0 0 2, store 0 0 1 0, dump -",
+}
+
+
+def refusing(folder):
+    """Builds the library that refuses an allocation. Returns its path."""
+    library = os.path.join(folder, "refuse.so")
+    subprocess.run(["cc", "-shared", "-fPIC", "-O1", "-o", library, SOURCE], check=True)
+    return library
+
+
+def run(command, library, number, given=b""):
+    """Runs a command with the allocation of this number refused. Returns status, standard output and standard error."""
+    variables = {"LD_PRELOAD": library, "REFUSED": str(number)}
+    ran = subprocess.run(command, env=variables, capture_output=True, input=given, timeout=60)
+    return ran.returncode, ran.stdout, ran.stderr
+
+
+def replies(out):
+    """Returns the replies of an output as (data lines, last line)."""
+    found, data = [], []
+    for line in out.splitlines():
+        if line.startswith(b"data "):
+            data.append(line)
+        else:
+            found.append((data, line))
+            data = []
+    return found
+
+
+def session(command, library, lines, number=0):
+    """Returns status, replies and standard error of a session."""
+    status, out, error = run(command, library, number, b"".join(line + b"\n" for line in lines))
+    return status, replies(out), error
+
+
+def is_refusal(command, library, lines, found):
+    """Tells whether just one line was refused, and all others are answered as without it."""
+    at = [last for _, last in found].index(REFUSED)
+    _, others, _ = session(command, library, lines[:at] + lines[at + 1 :])
+    _, sound, _ = session(command, library, lines)
+    data = found[at][0]
+    return others == found[:at] + found[at + 1 :] and data == sound[at][0][: len(data)]
+
+
+def is_right(command, library, lines, status, found, error):
+    """Tells whether a session in which an allocation was refused went as it may."""
+    if error == b"refused\nheapdbg: memory\n":
+        return (status, found) == (1, [])
+    if (status, error) != (0, b"refused\n") or len(found) != len(lines):
+        return False
+    if any(last == REFUSED for _, last in found):
+        return is_refusal(command, library, lines, found)
+    _, sound, _ = session(command, library, lines)
+    return all(one == other or one == ([], LOST) for one, other in zip(found, sound))
+
+
+def wrong_sessions(command, library, lines):
+    """Yields the numbers of the allocations after whose refusal a session goes otherwise than it may, and then how many it makes."""
+    for number in range(1, LIMIT):
+        status, found, error = session(command, library, lines, number)
+        if not error:
+            return number - 1
+        if not is_right(command, library, lines, status, found, error):
+            yield number
+    return LIMIT
+
+
+def wrong_runs(command, library, wanted):
+    """Yields the numbers of the allocations after whose refusal a program prints otherwise, and then how many it makes."""
+    for number in range(1, LIMIT):
+        status, out, error = run(command, library, number)
+        if not error:
+            return number - 1
+        if (status, out) != (0, wanted):
+            yield number
+    return LIMIT
+
+
+def told(name, numbers):
+    """Prints what came of refusing the allocations. Returns whether all went as it may."""
+    wrong = []
+    while True:
+        try:
+            wrong.append(next(numbers))
+        except StopIteration as end:
+            count = end.value
+            break
+    print(f"{name}: {count} allocations refused in turn" + (f", wrong after {wrong}" if wrong else ""))
+    return not wrong and 0 < count < LIMIT
+
+
+def main(growths, wanted, heapdbg):
+    """Returns the exit status: 0 where every run went as it may."""
+    with tempfile.TemporaryDirectory() as folder:
+        library = refusing(folder)
+        good = told("growths", wrong_runs([os.path.abspath(growths)], library, pathlib.Path(wanted).read_bytes()))
+        command = [os.path.abspath(heapdbg), "run", "--regions", "2"]
+        for name, text in SESSIONS.items():
+            lines = [line.strip().encode() for line in text.replace("\n", " ").split(",")]
+            good = told(name, wrong_sessions(command, library, lines)) and good
+    return 0 if good else 1
+
+
+if __name__ == "__main__":
+    sys.exit(main(*sys.argv[1:]))

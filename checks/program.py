@@ -33,13 +33,13 @@ def record(tag, body):
     return bytes([tag]) + bytes(4) + len(body).to_bytes(4, "big") + body
 
 
-def dump_of_longs(count, size=8):
-    """Returns the replies to a new array of so many longs, all 0, and to the dump of that heap with ids of `size` bytes.
-    The array and its root stand in one segment if they have at most 4,096 bytes, and else in one each."""
+def dump_of_longs(count, size=8, time=0):
+    """Returns the replies to a new array of so many longs, all 0, and to the dump of that heap with ids of `size` bytes and a
+    time. The array and its root stand in one segment if they have at most 4,096 bytes, and else in one each."""
     object_id = 0x10000000.to_bytes(size, "big")
     array = b"\x23" + object_id + bytes.fromhex("00000001") + count.to_bytes(4, "big") + b"\x0b" + bytes(8 * count)
     root = b"\xff" + object_id
-    opening = b"JAVA PROFILE 1.0.2\0" + size.to_bytes(4, "big") + bytes.fromhex("00000000 00000000")
+    opening = b"JAVA PROFILE 1.0.2\0" + size.to_bytes(4, "big") + time.to_bytes(8, "big")
     opening += record(0x05, bytes.fromhex("00000001 00000000 00000000"))
     bodies = [array + root] if len(array + root) <= 4096 else [array, root]
     pieces = [opening, *(record(0x1C, body) for body in bodies), record(0x2C, b"")]
@@ -74,9 +74,22 @@ def sessions(program):
     yield "a million bytes", run(program, ["run"], b"clear 0 0\n" * many), (0, b"ok\n" * many, b"")
     dumped = run(program, ["run"], b"newprim 0 0 long 1024\ndump -\n")
     yield "a dump of several pages", dumped, (0, dump_of_longs(1024), b"")
-    for words, size in ((["--ids", "4"], 4), (["--ids=4"], 4), (["--ids", "8"], 8)):
+    for words, size in ((["--ids", "4"], 4), (["--keep", "4", "--ids=04"], 4), (["--ids", "8"], 8), (["--ids=8"], 8)):
         ran = run(program, ["run", *words], b"newprim 0 0 long 1\ndump -\n")
         yield " ".join(words), ran, (0, dump_of_longs(1, size), b"")
+    latest = 2**64 - 1
+    ran = run(program, ["run", f"--time={latest}"], b"newprim 0 0 long 1\ndump -\n")
+    yield "the last time", ran, (0, dump_of_longs(1, 8, latest), b"")
+    for words, kept in ((["--keep=0007"], 7), (["--keep", "1"], 1), ([], 1024)):
+        ran = run(program, ["run", *words], b"clear 0 0\n" * 1025 + b"rewind 1025\n")
+        yield "kept steps", ran, (0, b"ok\n" * 1025 + b"no 21 TooFar 1025 %d\n" % kept, b"")
+    for words, regions in ((["--regions", "256"], 256), (["--regions=1"], 1), ([], 16)):
+        ran = run(program, ["run", *words], b"newprim 0 0 long 1024\n" * regions + b"new 0 0 0\nnewprim 0 0 long 1\n")
+        arrays = b"".join(b"ok object 0x%08x\n" % (0x10000000 + 8192 * number) for number in range(regions))
+        yield "regions", ran, (0, arrays + b"no 2 NoClass\nno 13 HeapFull\n", b"")
+    for words, mutators in ((["--mutators", "16"], 16), (["--mutators=1"], 1), ([], 2)):
+        ran = run(program, ["run", *words], b"clear %d 0\nclear %d 0\n" % (mutators - 1, mutators))
+        yield "mutators", ran, (0, b"ok\nno 7 BadRegister\n", b"")
     yield "nothing after end", run(program, ["run"], b"clear 0 0\nend\nclear"), (0, b"ok\n", b"")
     yield "a cut line", run(program, ["run"], b"clear 0 0\nclear 0"), (1, b"ok\nbad cut\n", b"heapdbg: cut\n")
     yield "a line of 4,096 bytes", run(program, ["run"], b"a" * 4096 + b"\n"), (0, b"bad command\n", b"")
@@ -98,23 +111,37 @@ def faults(program):
     yield "little memory", ran, (1, b"", b"heapdbg: memory\n")
 
 
+# Values that are out of range, or are not in digits alone.
+VALUES = """
+--regions 0, --regions 257, --regions +4, --regions=-4, --regions 4k, --mutators 0, --mutators 17, --keep 0, --keep 65537, --keep +4,
+--time 1x, --time 18446744073709551616, --ids 0, --ids 3, --ids 5, --ids 6, --ids 7, --ids 9, --ids eight
+"""
+
+# Command lines that clap refuses, and the first line of what it says.
+REFUSED = {
+    "": b"'heapdbg' requires a subcommand but one was not provided",
+    "go": b"unrecognized subcommand 'go'",
+    "--regions 4 run": b"unexpected argument '--regions' found",
+    "run four": b"unexpected argument 'four' found",
+    "run --region 4": b"unexpected argument '--region' found",
+    "run --regions": b"a value is required for '--regions <N>' but none was supplied",
+    "run --regions=": b"a value is required for '--regions <N>' but none was supplied",
+    "run --ids": b"a value is required for '--ids <N>' but none was supplied",
+    "run --regions 4 --regions=4": b"the argument '--regions <N>' cannot be used multiple times",
+    "run --ids 4 --ids 4": b"the argument '--ids <N>' cannot be used multiple times",
+}
+
+
 def bad_lines(program):
     """Yields bad command lines as (name, what happened, what must happen). Only the first line of a text of clap's is looked at."""
-    values = (["--regions", "0"], ["--regions=257"], ["--mutators", "17"], ["--keep", "0"], ["--time", "1x"], ["--ids", "5"])
-    for words in values:
-        yield " ".join(words), run(program, ["run", *words], EXAMPLE), (2, b"", OUT_OF_RANGE)
+    for words in VALUES.replace("\n", " ").split(","):
+        yield words, run(program, ["run", *words.split()], EXAMPLE), (2, b"", OUT_OF_RANGE)
     for words in (["\udcff"], ["run", "--regions", "\udcff"]):
         yield "a word that is not UTF-8", run(program, words, EXAMPLE), (2, b"", NOT_UTF8)
-    firsts = [
-        (["--help"], USAGE),
-        (["run", "--help"], RUN_ABOUT),
-        ([], b"error: 'heapdbg' requires a subcommand but one was not provided\n"),
-        (["go"], b"error: unrecognized subcommand 'go'\n"),
-        (["run", "--region", "4"], b"error: unexpected argument '--region' found\n"),
-    ]
-    for words, line in firsts:
-        status, out, error = run(program, words, EXAMPLE)
-        yield " ".join(words) or "no words", (status, out, error[: len(line)]), (2, b"", line)
+    firsts = {words: b"error: %s\n" % text for words, text in REFUSED.items()}
+    for words, line in {"--help": USAGE, "run --help": RUN_ABOUT, **firsts}.items():
+        status, out, error = run(program, words.split(), EXAMPLE)
+        yield words or "no words", (status, out, error[: len(line)]), (2, b"", line)
 
 
 def differences(program):

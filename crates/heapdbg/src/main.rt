@@ -6,8 +6,6 @@ mod command_line;
 mod failure;
 mod settings;
 mod task;
-#[cfg(test)]
-mod tests;
 
 use std::process::ExitCode;
 

@@ -4,6 +4,8 @@
 #[cfg(test)]
 mod chunks;
 #[cfg(test)]
+mod cut_dumps;
+#[cfg(test)]
 mod cycles;
 #[cfg(test)]
 mod dumps;

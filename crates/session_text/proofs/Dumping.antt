@@ -11,7 +11,7 @@ use Rattle.hprof_text.specs.declared.Piece.{Piece}
 use Rattle.session_text.specs.Replies.{reply_text, data_line, data_lines, chunks_of_64, piece_in, pin_in}
 use Rattle.session_text.specs.Writes.{IsAdded}
 use Rattle.session_text.specs.Dumps.{Acts, Goes, Dumps, DumpText, DumpsPin, ClosesAfter, DumpsNow, WritesDump, total_line}
-use Rattle.session_text.proofs.Written.{added_short, written_of}
+use Rattle.session_text.proofs.Written.{added_short}
 
 -- any number that is no less than the length cuts the whole list
 chunks_alike : (n m : ℕ) (xs : List ℕ) → length xs ≤ n → length xs ≤ m → chunks_of_64 n xs ≡ chunks_of_64 m xs

@@ -22,7 +22,7 @@ use Rattle.session_text.specs.Inlets.{Incoming, whole}
 use Rattle.session_text.specs.Lines.{NoLf, IsLineAt}
 use Rattle.session_text.specs.Reads.{TakesMemory}
 use Rattle.session_text.specs.Replies.{reply_text}
-use Rattle.session_text.specs.Talks.{IsLine, IsLong, Talks, stream, IsTalk, BeginsWith, IsQuit, IsBrokenOff, IsStep, Closes, Waits, Breaks, Fails, IsLastRead, IsServed, Serves}
+use Rattle.session_text.specs.Talks.{IsLine, IsLong, Talks, stream, IsTalk, BeginsWith, IsQuit, IsBrokenOff, IsStep, Closes, Breaks, Fails, IsLastRead, IsServed, Serves}
 use Rattle.session_text.specs.Writes.{IsCutShort, IsWritten, IsAdded}
 use Rattle.session_text.proofs.Written.{added_here}
 

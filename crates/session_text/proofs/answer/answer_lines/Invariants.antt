@@ -1,4 +1,4 @@
-use Rattle.std.proofs.Common.{◌≡◌, ℕ, List, [], true, length}
+use Rattle.std.proofs.Common.{ℕ, List, [], true, length}
 use Rattle.session_text.specs.Answers.{Answers}
 use Rattle.session_text.specs.Talks.{IsTalk}
 use Rattle.session_text.specs.Writes.{IsAdded}

@@ -1,9 +1,9 @@
-use Rattle.std.proofs.Common.{◌≡◌, ◌∙◌, ◌+◌, ◌++◌, ◌<◌, ◌≤◌, [], inl, inr, ap, subst, refl, length, length-append, arith, true, false}
+use Rattle.std.proofs.Common.{◌≡◌, ◌∙◌, ◌+◌, ◌++◌, ◌<◌, [], inl, inr, ap, subst, refl, length, length-append, arith, true, false}
 use Rattle.std.specs.Prelude.{codes}
 use Rattle.session_text.specs.declared.Ended.TheVariants.{Quit, Eof, CutLine, TooLong, ReadFault, TooManyReads}
 use Rattle.session_text.specs.Answers.{Answers, Begins}
 use Rattle.session_text.specs.Inlets.{whole}
-use Rattle.session_text.specs.Talks.{IsLine, Closes}
+use Rattle.session_text.specs.Talks.{Closes}
 use Rattle.session_text.specs.Writes.{IsWritten}
 use Rattle.session_text.proofs.Lists.{is_empty_of, is_some_of}
 use Rattle.session_text.proofs.Written.{paged_written, paged_flushed}

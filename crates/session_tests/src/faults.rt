@@ -149,10 +149,26 @@ impl Example<'_> {
     }
 }
 
-/// Whether each writer that takes less than an example's text stops so.
-fn stop_at_each_byte(alloc: Global, lines: &str, spent: Spent) -> Result<bool, Fail> {
+/// A half of a text.
+#[derive(Clone, Copy, PartialEq, Eq)]
+enum Half {
+    Early,
+    Late,
+}
+
+/// Returns where a half of a text of so many bytes begins and ends.
+fn bounds(half: Half, size: usize) -> (usize, usize) {
+    match half {
+        Half::Early => (0, size / 2),
+        Half::Late => (size / 2, size),
+    }
+}
+
+/// Returns whether each writer that takes less than an example's text, and ends in this half of it, stops so.
+fn stop_at_each_byte(alloc: Global, lines: &str, spent: Spent, half: Half) -> Result<bool, Fail> {
     let example = Example::new(alloc, lines.as_bytes())?;
-    for count in 0..example.text.len() {
+    let (first, end) = bounds(half, example.text.len());
+    for count in first..end {
         if !example.stops_after(alloc, count, spent)? {
             return Ok(false);
         }
@@ -187,10 +203,10 @@ fn readers_that_fail(rt: HostRuntime) -> Result<(), Fail> {
 }
 
 #[test]
-fn writers_that_fail(rt: HostRuntime) -> Result<(), Fail> {
+fn writers_that_fail_early(rt: HostRuntime) -> Result<(), Fail> {
     for lines in EXAMPLES {
         assert!(rt;
-            stop_at_each_byte(rt.alloc(), lines, Spent::Fails)?,
+            stop_at_each_byte(rt.alloc(), lines, Spent::Fails, Half::Early)?,
             "in {lines}"
         );
     }
@@ -198,10 +214,32 @@ fn writers_that_fail(rt: HostRuntime) -> Result<(), Fail> {
 }
 
 #[test]
-fn writers_that_take_nothing(rt: HostRuntime) -> Result<(), Fail> {
+fn writers_that_fail_late(rt: HostRuntime) -> Result<(), Fail> {
     for lines in EXAMPLES {
         assert!(rt;
-            stop_at_each_byte(rt.alloc(), lines, Spent::TakesNothing)?,
+            stop_at_each_byte(rt.alloc(), lines, Spent::Fails, Half::Late)?,
+            "in {lines}"
+        );
+    }
+    Ok(())
+}
+
+#[test]
+fn writers_that_take_nothing_early(rt: HostRuntime) -> Result<(), Fail> {
+    for lines in EXAMPLES {
+        assert!(rt;
+            stop_at_each_byte(rt.alloc(), lines, Spent::TakesNothing, Half::Early)?,
+            "in {lines}"
+        );
+    }
+    Ok(())
+}
+
+#[test]
+fn writers_that_take_nothing_late(rt: HostRuntime) -> Result<(), Fail> {
+    for lines in EXAMPLES {
+        assert!(rt;
+            stop_at_each_byte(rt.alloc(), lines, Spent::TakesNothing, Half::Late)?,
             "in {lines}"
         );
     }

@@ -1,11 +1,12 @@
 //! Sources that are watched: asked before, between two parts, and by another thread in the middle of a stream.
 ghost use Rattle.std.specs.Prelude.{◌≡◌, ◌<◌, All, false};
+ghost use denote.Param.Send.{IsSync};
 ghost use Rattle.dump_meter.specs.Seats.{sum, asking, finding};
 
 use crate::parts::{Asking, PinParts, one_point, points, text_of};
 use crate::sinks::{Gated, reaches};
 use crate::streaming::into_writer;
-use dump_meter::{AskSeat, Cancel, Meter, NewMeter};
+use dump_meter::{AskSeat, Cancel, FeedSeat, Meter, NewMeter, OutSeat};
 use dump_pipe::Watched;
 use dump_pump::{Pumped, WriteOutlet, pump};
 use std::alloc::Global;
@@ -15,7 +16,37 @@ use std::test::*;
 use std::thread;
 use std::thread::Threads;
 
-/// Pumps the dump of one point, watched, where the part behind so many turns is the one before which is asked.
+/// Pumps parts, watched, from a source that is taken to have given `turn` of them: it asks to cancel before the second, if that is
+/// to come. Returns how it went, and what is out.
+fn pump_asked(
+    alloc: Global,
+    meter: &Meter,
+    parts: PinParts,
+    asker: AskSeat,
+    feed: FeedSeat,
+    turn: u64,
+) -> (Pumped, Vec<u8>)
+    requires parts { 0 < parts.left }
+    requires asker { asker.meter ≡ meter.now }
+    requires feed { feed.meter ≡ meter.now }
+{
+    let asking = Asking {
+        source: parts,
+        cancel: meter.cancel(),
+        seat: asker,
+        turn,
+    };
+    let mut source = Watched {
+        source: asking,
+        cancel: meter.cancel(),
+        seat: feed,
+    };
+    let mut outlet = WriteOutlet::new(Vec::new(alloc));
+    let pumped = pump(&mut source, &mut outlet);
+    (pumped, outlet.into_writer())
+}
+
+/// Pumps the dump of one point so. Returns how it went, and what is out.
 fn pumped_watched(alloc: Global, turn: u64) -> Result<(Pumped, Vec<u8>), Fail> {
     let parts = PinParts::open(one_point(alloc)?)?;
     let NewMeter {
@@ -26,19 +57,7 @@ fn pumped_watched(alloc: Global, turn: u64) -> Result<(Pumped, Vec<u8>), Fail> {
         feed,
     } = Meter::new(alloc, 0, 1)?;
     let asker = askers.pop().ok_or("no asker")?;
-    let mut source = Watched {
-        source: Asking {
-            source: parts,
-            cancel: meter.cancel(),
-            seat: asker,
-            turn,
-        },
-        cancel: meter.cancel(),
-        seat: feed,
-    };
-    let mut outlet = WriteOutlet::new(Vec::new(alloc));
-    let pumped = pump(&mut source, &mut outlet);
-    Ok((pumped, outlet.into_writer()))
+    Ok(pump_asked(alloc, &meter, parts, asker, feed, turn))
 }
 
 /// Returns how a watched pump went, and whether its bytes are the first of the text of one point.
@@ -106,6 +125,61 @@ fn ask_once_held(
 
 /// Streams into an outlet that is held at 8,000 bytes, and has another thread ask meanwhile. Returns whether it was held, how the
 /// stream went, and what is out.
+fn cancelled_by_two<R: Threads + Wait + Sync>(
+    rt: &R,
+    alloc: Global,
+    parts: PinParts,
+    meter: &Meter,
+    out: OutSeat,
+    asker: AskSeat,
+    feed: FeedSeat,
+) -> (bool, Pumped, Vec<u8>)
+    requires parts { 0 < parts.left }
+    requires out { out ≡ sum meter.now 0 }
+    requires asker { asker.meter ≡ meter.now }
+    requires feed { feed.meter ≡ meter.now }
+{
+    let (here, gate) = (AtomicU64::new(0), AtomicU64::new(0));
+    let here_now = &here;
+    let gate_now = &gate;
+    let (held, (pumped, text)) = thread::join(
+        rt,
+        move || -> bool
+            requires { asker.meter ≡ meter.now }
+        {
+            let mut seat = asker;
+            ask_once_held(&meter.cancel(), &mut seat, here_now, gate_now)
+        },
+        move || -> (Pumped, Vec<u8>)
+            requires { IsSync R.row × (0 < parts.left) × (out ≡ sum meter.now 0) × (feed.meter ≡ meter.now) }
+        {
+            let mut seat = out;
+            let mut source = Watched {
+                source: parts,
+                cancel: meter.cancel(),
+                seat: feed,
+            };
+            let writer = Gated {
+                taken: Vec::new(alloc),
+                held: 8000,
+                here: here_now,
+                gate: gate_now,
+            };
+            let (pumped, writer) = into_writer(
+                rt,
+                alloc,
+                &mut source,
+                writer,
+                &meter.progress(),
+                &mut seat,
+            );
+            (pumped, writer.taken)
+        },
+    );
+    (held, pumped, text)
+}
+
+/// Streams so with the seats of a new meter. None if it has no asker.
 fn cancelled_meanwhile<R: Threads + Wait + Sync>(
     rt: &R,
     alloc: Global,
@@ -125,45 +199,7 @@ fn cancelled_meanwhile<R: Threads + Wait + Sync>(
         feed,
     } = made;
     let asker = askers.pop()?;
-    let (asks, looks, progress) = (meter.cancel(), meter.cancel(), meter.progress());
-    let (here, gate) = (AtomicU64::new(0), AtomicU64::new(0));
-    let here_now = &here;
-    let gate_now = &gate;
-    let (held, (pumped, text)) = thread::join(
-        rt,
-        move || -> bool
-            requires { asker.meter ≡ asks }
-        {
-            let mut seat = asker;
-            ask_once_held(&asks, &mut seat, here_now, gate_now)
-        },
-        move || -> (Pumped, Vec<u8>)
-            requires { (0 < parts.left) × (out ≡ sum progress 0) × (feed.meter ≡ looks) }
-        {
-            let mut seat = out;
-            let mut source = Watched {
-                source: parts,
-                cancel: looks,
-                seat: feed,
-            };
-            let writer = Gated {
-                taken: Vec::new(alloc),
-                held: 8000,
-                here: here_now,
-                gate: gate_now,
-            };
-            let (pumped, writer) = into_writer(
-                rt,
-                alloc,
-                &mut source,
-                writer,
-                &progress,
-                &mut seat,
-            );
-            (pumped, writer.taken)
-        },
-    );
-    Some((held, pumped, text))
+    Some(cancelled_by_two(rt, alloc, parts, &meter, out, asker, feed))
 }
 
 /// Streams the dump of 2,000 points and has it cancelled in the middle. Returns whether the outlet was held, the answer is a

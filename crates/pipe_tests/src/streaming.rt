@@ -1,6 +1,6 @@
 //! Streams: worked examples.
 ghost use Rattle.std.specs.Prelude.{◌≡◌, ◌+◌, ◌<◌, ◌^◌, All};
-ghost use Rattle.dump_pump.specs.Pumps.{bytes_of};
+ghost use denote.Param.Send.{IsSync};
 ghost use Rattle.dump_meter.specs.Seats.{sum, seen};
 ghost use Rattle.dump_pipe.specs.Pipes.{byte_limit};
 
@@ -88,7 +88,51 @@ fn read_along(
     (0, false)
 }
 
-/// Streams the dump of thirty points while another thread reads the progress.
+/// Streams parts while another thread reads the progress. Returns how the stream went, what was read last, and whether nothing
+/// above 1,258 was read.
+fn read_by_two<R: Threads + Wait + Sync>(
+    rt: &R,
+    alloc: Global,
+    parts: PinParts,
+    meter: &Meter,
+    out: OutSeat,
+    reader: ReadSeat,
+) -> (Pumped, (u64, bool))
+    requires parts { 0 < parts.left }
+    requires out { out ≡ sum meter.now 0 }
+    requires reader { reader.meter ≡ meter.now }
+{
+    let done = AtomicU64::new(0);
+    let is_done = &done;
+    let (read, pumped) = thread::join(
+        rt,
+        move || -> (u64, bool)
+            requires { reader.meter ≡ meter.now }
+        {
+            let mut seat = reader;
+            read_along(&meter.progress(), &mut seat, is_done, 1258)
+        },
+        move || -> Pumped
+            requires { IsSync R.row × (0 < parts.left) × (out ≡ sum meter.now 0) }
+        {
+            let mut source = parts;
+            let mut seat = out;
+            let (pumped, _) = into_writer(
+                rt,
+                alloc,
+                &mut source,
+                Vec::new(alloc),
+                &meter.progress(),
+                &mut seat,
+            );
+            is_done.store(1, Ordering::SeqCst);
+            pumped
+        },
+    );
+    (pumped, read)
+}
+
+/// Streams so with the seats of a new meter. None if it has no reader.
 fn read_meanwhile<R: Threads + Wait + Sync>(
     rt: &R,
     alloc: Global,
@@ -107,35 +151,7 @@ fn read_meanwhile<R: Threads + Wait + Sync>(
         feed: _,
     } = made;
     let reader = readers.pop()?;
-    let (mine, theirs) = (meter.progress(), meter.progress());
-    let done = AtomicU64::new(0);
-    let is_done = &done;
-    let (read, pumped) = thread::join(
-        rt,
-        move || -> (u64, bool)
-            requires { reader.meter ≡ theirs }
-        {
-            let mut seat = reader;
-            read_along(&theirs, &mut seat, is_done, 1258)
-        },
-        move || -> Pumped
-            requires { (0 < parts.left) × (out ≡ sum mine 0) }
-        {
-            let mut source = parts;
-            let mut seat = out;
-            let (pumped, _) = into_writer(
-                rt,
-                alloc,
-                &mut source,
-                Vec::new(alloc),
-                &mine,
-                &mut seat,
-            );
-            is_done.store(1, Ordering::SeqCst);
-            pumped
-        },
-    );
-    Some((pumped, read))
+    Some(read_by_two(rt, alloc, parts, &meter, out, reader))
 }
 
 /// Streams the dump of thirty points. Returns how it went, what was read of the progress last, and whether nothing above the

@@ -1,0 +1,5 @@
+pub mod Ungiven
+pub mod Handing
+pub mod Texts
+pub mod Placing
+pub mod Pumping

@@ -1,0 +1,4 @@
+pub mod Handed
+pub mod Endings
+pub mod Pinned
+pub mod Dumped

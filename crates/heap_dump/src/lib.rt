@@ -1,0 +1,8 @@
+//! Dumps of a machine's pins, through the pump.
+#![tactic(auto)]
+
+mod dump;
+mod source;
+
+pub use dump::{dump_pin, dump_place, pieces_are_text};
+pub use source::PinSource;

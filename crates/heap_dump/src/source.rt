@@ -1,0 +1,131 @@
+//! A source of the pieces of a machine's pin.
+ghost use Rattle.std.specs.Prelude.{◌≡◌, ◌<◌, ◌≤◌, None};
+ghost use Rattle.dump_pump.specs.Sources.{part_limit};
+ghost use Rattle.heap_trail.specs.Pins.{pin_at};
+ghost use Rattle.heap_dump.specs.Handed.{given_of};
+ghost use Rattle.heap_dump.specs.Endings.{HandsOut, cause_of, is_whole};
+ghost use Rattle.heap_dump.specs.Pinned.{IsCounted, IsCaused};
+
+use dump_pump::source::PART_LIMIT;
+use dump_pump::{Ending, Next, Source};
+use heap_class::{LostCause, Refusal};
+use heap_trail::Machine;
+use std::snapshot::Snapshot;
+
+/// The pieces of a machine's pin, in order from the first that the pin has not given yet.
+#[derive(Drop)]
+pub struct PinSource<'a> {
+    /// The machine that has the pin.
+    pub machine: &'a mut Machine,
+    /// The machine when the source was made, for contracts alone.
+    pub start: Snapshot<Machine>,
+    /// The number of the pin.
+    pub pin: u64,
+    /// The time in the header, in milliseconds.
+    pub time: u64,
+    /// How many parts were handed out, at most 66,178.
+    pub count: u64,
+    /// How the source ended.
+    pub ended: Option<Ending>,
+    ghost counted: { IsCounted pin start.value machine.now count ended },
+    ghost caused: { IsCaused pin machine.now ended },
+}
+
+impl<'a> PinSource<'a> {
+    /// Returns a source of a pin's pieces that has handed out none. If no such pin is open, it will be lost. Takes no memory.
+    pub fn new(machine: &'a mut Machine, pin: u64, time: u64) -> PinSource<'a>
+        ensures machine { result.machine.ghost_name ≡ machine.entry.ghost_name }
+        ensures now { result.machine.now ≡ machine.old }
+        ensures start { result.start.value ≡ machine.old }
+        ensures pin { result.pin ≡ pin }
+        ensures time { result.time ≡ time }
+        ensures count { result.count ≡ 0 }
+        ensures ended { result.ended ≡ None }
+    {
+        let start = Snapshot::of(&*machine);
+        PinSource {
+            start,
+            pin,
+            time,
+            count: 0,
+            ended: None,
+            machine,
+        }
+    }
+}
+
+/// Tells why a dump is lost whose piece was refused so.
+pub(crate) fn cause_of(refusal: Refusal) -> LostCause
+    ensures { result ≡ cause_of refusal }
+{
+    match refusal {
+        Refusal::NoMemory => LostCause::Memory,
+        Refusal::Lost { cause } => cause,
+        _ => LostCause::Closed,
+    }
+}
+
+/// Tells whether an ending is that with the last part.
+fn is_whole(ended: &Option<Ending>) -> bool
+    ensures { result ≡ is_whole ended.now }
+{
+    matches!(ended, Some(Ending::Whole))
+}
+
+/// Takes a pin's next piece, counts it, and notes how the source ended.
+fn hand_out(
+    machine: &mut Machine,
+    pin: u64,
+    time: u64,
+    count: &mut u64,
+    ended: &mut Option<Ending>,
+) -> Next
+    requires few { count.old < part_limit }
+    requires counted { count.old ≤ given_of (pin_at pin machine.old.pins) }
+    ensures { HandsOut pin time machine.old machine.new count.old count.new ended.old ended.new result }
+{
+    // Its contract says that the images are within a dump's limits.
+    machine.next_pin();
+    match machine.piece(pin, time) {
+        Ok(piece) => {
+            *count += 1;
+            if piece.last {
+                *ended = Some(Ending::Whole);
+            }
+            Next::Part(piece)
+        }
+        Err(refusal) => {
+            let cause = cause_of(refusal);
+            *ended = Some(Ending::Lost(cause));
+            Next::Lost(cause)
+        }
+    }
+}
+
+impl<'a> Source for PinSource<'a> {
+    ghost use Rattle.heap_dump.specs.Pinned.{Pinned, pinned, supply};
+
+    ghost Kept = { Pinned };
+
+    ghost kept = { λ s. pinned s.machine.ghost_name s.pin s.time s.start.value s.machine.now };
+
+    ghost seen = { λ s. supply s.pin s.time s.start.value s.machine.now s.count s.ended };
+
+    fn next(&mut self) -> Next {
+        hand_out(
+            &mut *self.machine,
+            self.pin,
+            self.time,
+            &mut self.count,
+            &mut self.ended,
+        )
+    }
+
+    fn left(&self) -> u64 {
+        if is_whole(&self.ended) {
+            0
+        } else {
+            PART_LIMIT.saturating_sub(self.count)
+        }
+    }
+}

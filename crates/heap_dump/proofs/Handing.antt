@@ -1,25 +1,22 @@
 -- A pin's next piece, or why there is none.
-use Rattle.std.proofs.Common.{◌≡◌, ◌⊎◌, ℕ, ◌+◌, ◌-◌, ◌<◌, ◌≤◌, Bool, true, false, cond, List, [], ◌∷◌, ◌++◌, length, map, refl, sym, ap, subst, ◌∙◌, arith, Option, Some, None}
+use Rattle.std.proofs.Common.{◌≡◌, ℕ, ◌+◌, ◌-◌, ◌<◌, ◌≤◌, Bool, true, false, cond, List, [], ◌∷◌, ◌++◌, length, refl, sym, ap, subst, ◌∙◌, arith, Option, Some, None}
 use Rattle.std.specs.Prelude.{All, find, nat_le, nat_lt, option_map, ◌==◌, if◌then◌else◌}
-use Rattle.std.specs.List.{range_with_len}
 use mathlib.Core.Logic.{inl, inr}
-use Rattle.std.proofs.lemmas.Bool.{ltb-true, ltb-false, leb-false, le-leb}
+use Rattle.std.proofs.lemmas.Bool.{ltb-false, leb-false}
 use Rattle.std.proofs.lemmas.List.Elements.{All-head, All-tail}
 use Rattle.std.proofs.lemmas.List.FromFn.{map-range_with_len_more}
 use Rattle.heap_class.specs.declared.LostCause.{LostCause}
 use Rattle.heap_class.specs.declared.LostCause.TheVariants.{Rewound, Memory, Closed}
 use Rattle.heap_class.specs.declared.Refusal.{Refusal}
 use Rattle.heap_class.specs.declared.Refusal.TheVariants as Why
-use Rattle.hprof_text.specs.Image.{Image, IsDumpable}
 use Rattle.hprof_text.specs.declared.Piece.{Piece}
 use Rattle.hprof_text.specs.Segments.{pieces_of, piece_of, nth_piece}
 use Rattle.hprof_text.proofs.Counted.{pieces_few}
 use Rattle.dump_pump.specs.Sources.{IsNext, part_limit}
 use Rattle.heap_trail.specs.declared.Action.TheVariants.{NextPiece}
-use Rattle.heap_trail.specs.declared.Reply.{Reply}
 use Rattle.heap_trail.specs.declared.Reply.TheVariants.{Part, Refused}
 use Rattle.heap_trail.specs.Pins.{PinState, Kept, Gone, IsDumpablePin, AreDumpable, pin_at}
-use Rattle.heap_trail.specs.Machine.{Machine, Refusing, MayStand, MayFail, after_piece, acted, counted, is_accepted}
+use Rattle.heap_trail.specs.Machine.{Machine, MayFail, after_piece, acted, counted, is_accepted}
 use Rattle.dump_pump.specs.declared.source.Ending.{Ending}
 use Rattle.dump_pump.specs.declared.source.Ending.TheVariants as End
 use Rattle.dump_pump.specs.declared.source.Next.{Next}

@@ -5,7 +5,6 @@ use mathlib.Core.List.{IsPrefix}
 use Rattle.heap_class.specs.declared.IdSize.{IdSize}
 use Rattle.hprof_text.specs.declared.Piece.{Piece}
 use Rattle.dump_pump.specs.declared.source.Ending.{Ending}
-use Rattle.dump_pump.specs.declared.source.Ending.TheVariants as End
 use Rattle.dump_pump.specs.declared.transfer.Pumped.{Pumped}
 use Rattle.dump_pump.specs.declared.transfer.Pumped.TheVariants.{Done, OutletFailed, Lost, Cancelled}
 use Rattle.dump_pump.specs.Outlets.{Outgoing}
@@ -17,7 +16,7 @@ use Rattle.heap_dump.specs.Handed.{given_of, handed, pieces_at, ungiven}
 use Rattle.heap_dump.specs.Endings.{left_of, may_end, may_lose}
 use Rattle.heap_dump.specs.Pinned.{pinned, supply}
 use Rattle.heap_dump.specs.Dumped.{FitsPin, PutsPin}
-use Rattle.heap_dump.proofs.Ungiven.{ungiven_ids, zero_alike, zero_pieces, zero_lose, zero_state}
+use Rattle.heap_dump.proofs.Ungiven.{ungiven_ids, zero_alike, zero_pieces, zero_lose}
 
 none_handed : (ids : IdSize) (time first : ℕ) (s : Option PinState) → pieces_at ids time first 0 s ≡ []
 none_handed ids time first None = refl

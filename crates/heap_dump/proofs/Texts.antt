@@ -1,6 +1,6 @@
 -- Pieces from the first on are a beginning of the text.
-use Rattle.std.proofs.Common.{◌≡◌, ℕ, zero, suc, ◌+◌, ◌≤◌, Bool, true, false, List, [], ◌∷◌, ◌++◌, length, drop, map, refl, sym, ap, subst, ◌∙◌, arith, Option, Some, None, append_assoc}
-use Rattle.std.specs.Prelude.{nat_le, slice_get, unwrap_or}
+use Rattle.std.proofs.Common.{◌≡◌, ℕ, zero, suc, ◌+◌, ◌≤◌, true, false, List, [], ◌∷◌, ◌++◌, length, drop, map, refl, sym, ap, ◌∙◌, arith, Some, append_assoc}
+use Rattle.std.specs.Prelude.{slice_get, unwrap_or}
 use Rattle.std.specs.List.{concat, range_with_len}
 use Rattle.std.proofs.lemmas.List.{append-nil}
 use Rattle.std.proofs.lemmas.Bool.{leb-true}
@@ -10,7 +10,7 @@ use Rattle.hprof_text.specs.declared.Piece.{Piece}
 use Rattle.hprof_text.specs.Segments.{pieces_of, dump_text, piece_of, nth_piece}
 use Rattle.hprof_text.proofs.Joined.{pieces_join}
 use Rattle.dump_pump.specs.Pumps.{joined, ends}
-use Rattle.heap_trail.specs.Pins.{PinState, Kept, pin_at}
+use Rattle.heap_trail.specs.Pins.{Kept}
 use Rattle.heap_trail.specs.Machine.{Machine}
 use Rattle.heap_dump.specs.Handed.{given_of, pieces_at, handed}
 use Rattle.heap_dump.specs.Dumped.{AreText}

@@ -1,4 +1,4 @@
-use Rattle.std.proofs.Common.{◌≡◌, refl, sym, ap, ◌∙◌, Some, if◌then◌else◌}
+use Rattle.std.proofs.Common.{refl, sym, ap, ◌∙◌, Some, if◌then◌else◌}
 use Rattle.dump_pump.specs.declared.source.Ending.TheVariants.{Whole}
 use Rattle.heap_trail.specs.Pins.{pin_at}
 use Rattle.heap_dump.specs.Endings.{may_lose}

@@ -1,0 +1,4 @@
+pub mod Copying
+pub mod Reporting
+pub mod Seating
+pub mod Acting

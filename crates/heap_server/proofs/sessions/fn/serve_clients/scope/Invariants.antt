@@ -1,0 +1,11 @@
+use Rattle.std.proofs.Common.{◌≡◌, ◌+◌, ◌≤◌, false, length, vec_len, vec_capacity}
+use Rattle.heap_server.specs.Seating.{AreUsers}
+use Rattle.heap_server.proofs.sessions.fn.serve_clients.scope.Given as goal
+
+abbrev pub invariant-loop-seat : goal.invariant-loop-seat
+invariant-loop-seat g l =
+    AreUsers l.seats × (vec_len l.running + length l.seats ≡ l._most) × (l._most ≤ vec_capacity l.running) × (vec_len l.ends ≡ 0)
+    × (l._most ≤ vec_capacity l.ends) × (l.refused ≡ false)
+
+abbrev pub decreases-loop-seat : goal.decreases-loop-seat
+decreases-loop-seat g l = length l.seats

@@ -1,0 +1,5 @@
+pub mod Joined
+pub mod Copies
+pub mod Sending
+pub mod Seating
+pub mod Reports

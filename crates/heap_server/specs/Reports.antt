@@ -1,0 +1,23 @@
+-- How sessions ended, in words.
+use Rattle.std.specs.Prelude.{ℕ, ◌+◌, List, [], ◌∷◌, ◌++◌, codes, decimal}
+use Rattle.session_text.specs.declared.Ended.{Ended}
+use Rattle.session_text.specs.declared.Ended.TheVariants.{Quit, Eof, CutLine, TooLong, ReadFault, TooManyReads, WriteFault, NoMemory}
+
+abbrev pub word_of : Ended → List ℕ
+word_of Quit = codes "quit"
+word_of Eof = codes "eof"
+word_of CutLine = codes "cut"
+word_of TooLong = codes "long"
+word_of ReadFault = codes "read"
+word_of TooManyReads = codes "reads"
+word_of WriteFault = codes "write"
+word_of NoMemory = codes "memory"
+
+-- the line of a session of this number
+abbrev pub line_of : ℕ → Ended → List ℕ
+line_of number ended = codes "session " ++ (decimal number ++ (codes " " ++ (word_of ended ++ codes "\n")))
+
+-- the lines of all, the first with this number
+abbrev pub report_of : ℕ → List Ended → List ℕ
+report_of number [] = []
+report_of number (ended ∷ more) = line_of number ended ++ report_of (number + 1) more

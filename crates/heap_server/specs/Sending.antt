@@ -1,0 +1,30 @@
+-- What a client sends, and how it ends.
+use Rattle.std.specs.Prelude.{◌≡◌, ℕ, Bool, true, false, codes}
+use Rattle.dump_pump.specs.Outlets.{Outgoing}
+use Rattle.dump_pump.specs.Pumps.{PutsAll}
+use Rattle.session_text.specs.Inlets.{Incoming}
+use Rattle.heap_server.specs.declared.client.Asked.{Asked}
+use Rattle.heap_server.specs.declared.client.Asked.TheVariants.{Done, ReadFault as Unread, WriteFault as Unwritten}
+use Rattle.heap_server.specs.declared.copy.Copied.{Copied}
+use Rattle.heap_server.specs.declared.copy.Copied.TheVariants.{Whole, ReadFault, WriteFault}
+use Rattle.heap_server.specs.Copies.{Copies}
+
+-- the last line was put out, or a beginning of it
+abbrev pub PutsLastLine : Outgoing → Outgoing → Type 0
+PutsLastLine w w' = (n : ℕ) × PutsAll (codes "\nend\n") w w' n
+
+-- after the input's copy the last line was put out, unless a write failed
+abbrev pub SendsAfter : Outgoing → Outgoing → Bool → Copied → Type 0
+SendsAfter between w' failed Whole = (failed ≡ false) × PutsLastLine between w'
+SendsAfter between w' failed ReadFault = (failed ≡ true) × PutsLastLine between w'
+SendsAfter between w' failed WriteFault = (failed ≡ false) × (w' ≡ between)
+
+abbrev pub Sends : Incoming → Incoming → Outgoing → Outgoing → Bool → Type 0
+Sends a b w w' failed = (copied : Copied) × (between : Outgoing) × Copies a b w between copied × SendsAfter between w' failed copied
+
+-- a fault of the input goes before one of the copy
+abbrev pub end_of : Bool → Copied → Asked
+end_of true copied = Unread
+end_of false Whole = Done
+end_of false ReadFault = Unread
+end_of false WriteFault = Unwritten

@@ -1,0 +1,109 @@
+//! A user's seat at a shared heap, which acts on the lines of a session.
+ghost use Rattle.std.specs.Prelude.{◌≡◌, IfOk, IfErr};
+ghost use Rattle.heap_trail.specs.declared.Action.TheVariants.{OpenPin, NextPiece, ClosePin};
+ghost use Rattle.heap_trail.specs.Machine.{IsSmall};
+ghost use Rattle.heap_lock.specs.declared.entry.Role.TheVariants.{User};
+ghost use Rattle.heap_lock.specs.Held.{WasDumped};
+ghost use Rattle.heap_lock.specs.History.{reply_of};
+ghost use Rattle.heap_server.specs.Joined.{IsReply, IsLegalPart};
+
+use heap_class::Refusal;
+use heap_lock::{Heap, Outcome, Receipt, Seat, Shared};
+use heap_trail::{Action, Reply};
+use session_text::Commands;
+use std::sync::Wait;
+
+/// A user's seat, with its heap. What others do on the heap goes on between any two actions. Contracts see the seat, whose
+/// share has what this session did, in order.
+#[derive(Drop)]
+pub struct Joined<'a, L: Heap, R: Wait> {
+    shared: &'a Shared<L>,
+    rt: &'a R,
+    pub seat: Seat<L>,
+    ghost user: { seat.role ≡ User },
+}
+
+// Returns the reply that an outcome is.
+fn reply(outcome: Outcome) -> Reply
+    ensures { result ≡ reply_of outcome }
+{
+    match outcome {
+        Outcome::Answered(answer) => Reply::Answered(answer),
+        Outcome::Place(place) => Reply::Place(place),
+        Outcome::Refused(refusal) => Reply::Refused(refusal),
+    }
+}
+
+// Returns the reply to an act.
+fn replied(done: Result<Receipt, Refusal>) -> Reply
+    ensures reply { IsReply done result }
+    ensures small { IsSmall result }
+{
+    match done {
+        Ok(receipt) => reply(receipt.answer),
+        Err(refusal) => Reply::Refused(refusal),
+    }
+}
+
+impl<'a, L: Heap, R: Wait> Joined<'a, L, R> {
+    /// Creates the commands of this seat.
+    pub fn new(shared: &'a Shared<L>, rt: &'a R, seat: Seat<L>) -> Joined<'a, L, R>
+        requires { seat.role ≡ User }
+        ensures { result.seat ≡ seat }
+    {
+        Joined { shared, rt, seat }
+    }
+
+    // Opens a pin, and leaves the seat.
+    fn opened(&self, at: Option<u64>) -> Reply
+        ensures done { WasDumped L.config (OpenPin at) result }
+        ensures small { IsSmall result }
+    {
+        match self.shared.open_pin(self.rt, at) {
+            Ok(pinned) => Reply::Pinned {
+                pin: pinned.pin,
+                at: pinned.at,
+            },
+            Err(refusal) => Reply::Refused(refusal),
+        }
+    }
+
+    // Gives the next piece of a pin, and leaves the seat.
+    fn part(&self, pin: u64, time: u64) -> Reply
+        ensures done { WasDumped L.config (NextPiece pin time) result }
+        ensures legal { IsLegalPart L.config.ids time result }
+        ensures small { IsSmall result }
+    {
+        match self.shared.next_piece(self.rt, pin, time) {
+            Ok(piece) => Reply::Part(piece),
+            Err(refusal) => Reply::Refused(refusal),
+        }
+    }
+
+    // Closes a pin, and leaves the seat.
+    fn closed(&self, pin: u64) -> Reply
+        ensures done { WasDumped L.config (ClosePin pin) result }
+        ensures small { IsSmall result }
+    {
+        match self.shared.close_pin(self.rt, pin) {
+            Ok(()) => Reply::Closed,
+            Err(refusal) => Reply::Refused(refusal),
+        }
+    }
+}
+
+impl<'a, L: Heap, R: Wait> Commands for Joined<'a, L, R> {
+    ghost use Rattle.heap_server.specs.Joined.{IsJoined};
+
+    ghost acts = { λ c a r d. IsJoined L.config c.seat a r d.seat };
+
+    fn act(&mut self, action: Action) -> Reply {
+        match action {
+            Action::Step(event) => replied(self.shared.act(self.rt, &mut self.seat, event)),
+            Action::Rewind(n) => replied(self.shared.rewind(self.rt, &mut self.seat, n)),
+            Action::OpenPin(at) => self.opened(at),
+            Action::NextPiece { pin, time } => self.part(pin, time),
+            Action::ClosePin(pin) => self.closed(pin),
+        }
+    }
+}

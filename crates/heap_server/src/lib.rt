@@ -1,0 +1,14 @@
+//! Sessions of clients over one shared heap, each in a thread of its own, and the client that asks.
+#![tactic(auto)]
+
+pub mod client;
+pub mod copy;
+pub mod joined;
+pub mod report;
+pub mod sessions;
+
+pub use client::{Asked, ask};
+pub use copy::{Copied, copy_all};
+pub use joined::Joined;
+pub use report::{tell_sessions, word};
+pub use sessions::{Served, serve_clients, serve_heap, users};

@@ -1,0 +1,153 @@
+//! Sessions over one shared heap.
+ghost use Rattle.std.specs.Prelude.{◌≡◌, ◌+◌, ◌≤◌, IfOk, IfErr, length, vec_len, vec_capacity};
+ghost use Rattle.heap_class.specs.declared.Refusal.TheVariants.{NoMemory};
+ghost use Rattle.heap_lock.specs.declared.entry.Role.TheVariants.{User};
+ghost use Rattle.heap_server.specs.Seating.{AreUsers, IsFor, session_limit};
+
+use crate::joined::Joined;
+use dump_pump::WriteOutlet;
+use heap_class::Refusal;
+use heap_lock::{Blank, Heap, Role, Seat, Seats, Shared};
+use heap_world::Config;
+use session_text::{Ended, ReadInlet, serve};
+use std::alloc::{AllocError, Global};
+use std::marker::Brand;
+use std::net::{TcpListener, TcpStream};
+use std::sync::Wait;
+use std::thread;
+use std::thread::{JoinHandle, Threads};
+
+/// How the sessions ended, in order of acceptance, and whether an accept failed.
+#[derive(Drop)]
+pub struct Served {
+    pub ends: Vec<Ended>,
+    pub refused: bool,
+}
+
+/// Creates a heap of these settings with a user's seat for each of 1 to 1,000 sessions. Fails with NoMemory.
+pub fn users(alloc: Global, config: Config, sessions: u64) -> Result<Blank, Refusal>
+    requires { (1 ≤ sessions) × (sessions ≤ session_limit) }
+    ensures settings { IfOk result (λ b. b.config ≡ config) }
+    ensures seats { IfOk result (λ b. AreUsers b.seats × (length b.seats ≡ sessions)) }
+    ensures refused { IfErr result (λ e. e ≡ NoMemory) }
+{
+    let Ok(roles) = vec![in alloc; Role::User; sessions as usize] else {
+        return Err(Refusal::NoMemory);
+    };
+    Blank::new(alloc, config, roles.as_slice())
+}
+
+/// Serves one client between its socket and the heap. Closes no pin at its end. May wait.
+fn session<L: Heap, R: Wait>(
+    rt: &R,
+    alloc: Global,
+    shared: &Shared<L>,
+    seat: Seat<L>,
+    stream: TcpStream,
+    time: u64,
+) -> Ended
+    requires { seat.role ≡ User }
+{
+    let mut reader = ReadInlet::new(&stream);
+    let mut writer = WriteOutlet::new(&stream);
+    let mut joined = Joined::new(shared, rt, seat);
+    serve(alloc, &mut reader, &mut writer, &mut joined, time)
+}
+
+/// Waits for each session in turn. One for which no thread could be had ended by NoMemory.
+fn await_all<R: Threads>(
+    rt: &R,
+    running: &mut Vec<Option<JoinHandle<Ended>>>,
+    ends: &mut Vec<Ended>,
+)
+    requires { vec_len ends.old + vec_len running.old ≤ vec_capacity ends.old }
+    ensures { vec_len ends.new ≡ vec_len ends.old + vec_len running.old }
+{
+    for i in 0..running.len() {
+        ends.push_reserved(match running[i].take() {
+            Some(thread) => thread.join(rt),
+            None => Ended::NoMemory,
+        });
+    }
+}
+
+/// Accepts as many clients as there are seats, in turn, and serves each in a thread of its own. After an accept that failed no
+/// more are accepted. Returns once all sessions have ended; that of a client for which no thread could be had ends by
+/// NoMemory. Fails if there is no memory for `most` endings, and accepts nothing. May wait.
+pub fn serve_clients<L: Heap + Send + Sync, R: Threads + Wait + Sync>(
+    rt: &R,
+    alloc: Global,
+    shared: &Shared<L>,
+    seats: Seats<L>,
+    most: usize,
+    listener: &TcpListener,
+    time: u64,
+) -> Result<Served, AllocError>
+    requires users { AreUsers seats }
+    requires most { length seats ≡ most }
+    ensures { IfOk result (IsFor most) }
+{
+    let ends = Vec::with_capacity(alloc, most)?;
+    let running = Vec::with_capacity(alloc, most)?;
+    Ok(thread::scope(
+        thread::scope_env(),
+        rt,
+        move |scope| -> Served
+            requires users { AreUsers seats }
+            requires most { length seats ≡ most }
+            requires empty { (vec_len ends ≡ 0) × (vec_len running ≡ 0) }
+            requires room { (most ≤ vec_capacity ends) × (most ≤ vec_capacity running) }
+            ensures { IsFor most result }
+        {
+            let _most = most;
+            let mut seats = seats;
+            let mut running = running;
+            let mut ends = ends;
+            let mut refused = false;
+            while let Some(seat) = seats.take() {
+                let Ok((stream, _)) = listener.accept() else {
+                    refused = true;
+                    break;
+                };
+                let thread = scope.spawn(move || session(rt, alloc, shared, seat, stream, time));
+                running.push_reserved(thread.ok());
+            }
+            await_all(rt, &mut running, &mut ends);
+            Served { ends, refused }
+        },
+    ))
+}
+
+/// Opens a heap, and serves as many clients as it has seats, as `serve_clients` does. May wait.
+pub fn serve_heap<R: Threads + Wait + Sync>(
+    rt: &R,
+    alloc: Global,
+    blank: Blank,
+    most: usize,
+    listener: &TcpListener,
+    time: u64,
+) -> Result<Served, AllocError>
+    requires users { AreUsers blank.seats }
+    requires most { length blank.seats ≡ most }
+    ensures { IfOk result (IsFor most) }
+{
+    serve_opened::<Brand, R>(rt, alloc, blank, most, listener, time)
+}
+
+// Does so for a heap that a type names.
+fn serve_opened<L: Heap + Send + Sync, R: Threads + Wait + Sync>(
+    rt: &R,
+    alloc: Global,
+    blank: Blank,
+    most: usize,
+    listener: &TcpListener,
+    time: u64,
+) -> Result<Served, AllocError>
+    requires named { (blank.config ≡ L.config) × (blank.tables ≡ L.tables) }
+    requires users { AreUsers blank.seats }
+    requires most { length blank.seats ≡ most }
+    ensures { IfOk result (IsFor most) }
+{
+    let (shared, seats) = blank.open::<L>();
+    serve_clients(rt, alloc, &shared, seats, most, listener, time)
+}

@@ -1,0 +1,13 @@
+//! Dumps through the pipe and beside the meter: worked examples, outlets that fail, and streams that are cancelled.
+#![tactic(auto)]
+
+#[cfg(test)]
+mod cancelling;
+#[cfg(test)]
+mod ends;
+#[cfg(test)]
+mod parts;
+#[cfg(test)]
+mod sinks;
+#[cfg(test)]
+mod streaming;

@@ -1,10 +1,11 @@
 #!/usr/bin/env python3
 """Runs built programs once for each of their allocations, which is refused in that run.
 
-Usage: checks/growths.py GROWTHS WANTED HEAPDBG
+Usage: checks/growths.py [-v] GROWTHS WANTED HEAPDBG
 GROWTHS has to print what is in the file WANTED whatever is refused. HEAPDBG does sessions: each ends for want of memory before it
 reads, or refuses one line and answers all others as a session without that line, or loses a pin and answers all but its pieces as
-if it hadn't. Prints a line for each difference, and how many allocations were refused; ends with status 1 if there is a difference."""
+if it hadn't. Prints a line for each program or session that goes otherwise, and with -v for each how many allocations were refused; ends
+with status 1 if one goes otherwise."""
 import os
 import pathlib
 import subprocess
@@ -102,8 +103,8 @@ def wrong_runs(command, library, wanted):
     return LIMIT
 
 
-def told(name, numbers):
-    """Prints what came of refusing the allocations. Returns whether all went as it may."""
+def told(name, numbers, verbose):
+    """Prints what came of refusing the allocations, if something went wrong or it is asked. Returns whether all went as it may."""
     wrong = []
     while True:
         try:
@@ -111,21 +112,25 @@ def told(name, numbers):
         except StopIteration as end:
             count = end.value
             break
-    print(f"{name}: {count} allocations refused in turn" + (f", wrong after {wrong}" if wrong else ""))
-    return not wrong and 0 < count < LIMIT
+    good = not wrong and 0 < count < LIMIT
+    if verbose or not good:
+        print(f"{name}: {count} allocations refused in turn" + (f", wrong after {wrong}" if wrong else ""))
+    return good
 
 
-def main(growths, wanted, heapdbg):
+def main(growths, wanted, heapdbg, verbose=False):
     """Returns the exit status: 0 where every run went as it may."""
     with tempfile.TemporaryDirectory() as folder:
         library = refusing(folder)
-        good = told("growths", wrong_runs([os.path.abspath(growths)], library, pathlib.Path(wanted).read_bytes()))
+        runs = wrong_runs([os.path.abspath(growths)], library, pathlib.Path(wanted).read_bytes())
+        good = told("growths", runs, verbose)
         command = [os.path.abspath(heapdbg), "run", "--regions", "2"]
         for name, text in SESSIONS.items():
             lines = [line.strip().encode() for line in text.replace("\n", " ").split(",")]
-            good = told(name, wrong_sessions(command, library, lines)) and good
+            good = told(name, wrong_sessions(command, library, lines), verbose) and good
     return 0 if good else 1
 
 
 if __name__ == "__main__":
-    sys.exit(main(*sys.argv[1:]))
+    words = [word for word in sys.argv[1:] if word != "-v"]
+    sys.exit(main(*words, verbose="-v" in sys.argv))

@@ -1,5 +1,5 @@
 # The commands of this repository. README says what each is for.
-.PHONY: run build prove test edits bench bench-lock
+.PHONY: run build prove test edits bench bench-lock soak
 
 # How many crates `make prove` checks side by side. Each takes up to 6 GB of memory.
 JOBS ?= 3
@@ -24,6 +24,7 @@ test:
 	rt ci
 	@python3 checks/growths.py crates/growths/out/growths crates/growths/stdout crates/heapdbg/out/heapdbg
 	@python3 checks/program.py crates/heapdbg/out/heapdbg crates/heapdbg/out/heapdbg.by-rattle
+	@python3 checks/sockets.py --step 20 crates/heapdbg/out/heapdbg
 
 # Tries the edits that are not in the gate: of all crates, or of those that CRATE names.
 edits:
@@ -35,3 +36,10 @@ bench: build
 # What acts under the lock cost. Builds a program of its own in a temporary folder.
 bench-lock:
 	python3 bench/lock.py
+
+# How many seconds `make soak` takes.
+SECONDS ?= 600
+
+# Has 8 clients work on one served heap. It needs bin/heapdbg.
+soak:
+	SECONDS=$(SECONDS) python3 bench/soak.py bin/heapdbg

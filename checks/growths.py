@@ -4,13 +4,18 @@
 Usage: checks/growths.py [-v] GROWTHS WANTED HEAPDBG
 GROWTHS has to print what is in the file WANTED whatever is refused. HEAPDBG does sessions: each ends for want of memory before it
 reads, or refuses one line and answers all others as a session without that line, or loses a pin and answers all but its pieces as
-if it hadn't. Prints a line for each program or session that goes otherwise, and with -v for each how many allocations were refused; ends
-with status 1 if one goes otherwise."""
+if it hadn't. It serves two clients: a session that ends for want of memory has answered nothing, and the other one goes on. It
+saves a dump: that of the session's last state, or a beginning of it, if the dump is lost for want of memory. Prints a line for each
+program or session that goes otherwise, and with -v for each how many allocations were refused; ends with status 1 if one goes
+otherwise."""
+import contextlib
 import os
 import pathlib
+import socket
 import subprocess
 import sys
 import tempfile
+import time
 
 SOURCE = pathlib.Path(__file__).resolve().parent / "refuse.c"
 LIMIT = 2000
@@ -25,7 +30,11 @@ SESSIONS = {
     "finish_refused_until_ready": """class Node - next:object v:long, new 0 0 0, new 0 1 0, newprim 0 2 long 5, store 0 0 0 1, snap,
         store 0 0 0 0, store 0 0 0 1, mark, mark, mark, finish, drain, drain, finish, sweep 0, snap, mark, mark, mark, finish""",
     "dump_of_object_array": "array [Lq;, newarray 0 0 0 2, store 0 0 1 0, dump -",
+    "save_pumps_the_heap": "class Point - x:int y:int, new 0 0 0, put 0 0 0 7, open -, put 0 0 0 9",
 }
+
+# What the second of two clients sends.
+SECOND = [b"newprim 1 5 byte 3", b"put 1 5 2 9", b"load 1 0 5 2", b"dump -", b"clear 1 5"]
 
 
 def refusing(folder):
@@ -92,6 +101,113 @@ def wrong_sessions(command, library, lines):
     return LIMIT
 
 
+def served(program, library, number, clients, tries=3):
+    """Serves clients one after another, with the allocation of this number refused, on another port if one was taken meanwhile.
+    Returns status, the words of the sessions, what each client was answered, and standard error; no words and no answers if
+    nothing was listened to."""
+    with socket.create_server(("127.0.0.1", 0)) as found:
+        port = found.getsockname()[1]
+    words = [program, "serve", "--port", str(port), "--sessions", str(len(clients)), "--regions", "2"]
+    variables = {"LD_PRELOAD": library, "REFUSED": str(number)}
+    answers = []
+    with subprocess.Popen(words, env=variables, stdout=subprocess.PIPE, stderr=subprocess.PIPE) as server:
+        try:
+            for given in clients:
+                client = connected(server, port)
+                if client is None:
+                    break
+                with client:
+                    answers.append(replies(answered(client, given)))
+            out, error = server.communicate(timeout=60)
+        finally:
+            server.kill()
+    if tries > 1 and error.endswith(b"heapdbg: listen\n"):
+        return served(program, library, number, clients, tries - 1)
+    return server.returncode, [line.split()[-1] for line in out.splitlines()], answers, error
+
+
+def answered(client, given):
+    """Sends bytes to a server, and returns what comes until it closes. A session that ends for want of memory reads nothing."""
+    found = b""
+    with contextlib.suppress(OSError):
+        client.sendall(given)
+        client.shutdown(socket.SHUT_WR)
+        while part := client.recv(65536):
+            found += part
+    return found
+
+
+def connected(server, port):
+    """Returns a connection to a server once it listens, or None if it ends before."""
+    while server.poll() is None:
+        with contextlib.suppress(ConnectionRefusedError):
+            return socket.create_connection(("127.0.0.1", port), 60)
+        time.sleep(0.005)
+    return None
+
+
+def wrong_servers(program, library, first, second):
+    """Yields the numbers of the allocations after whose refusal two sessions go otherwise than they may, and then how many
+    there are."""
+    command = [program, "run", "--regions", "2"]
+    clients = [b"".join(line + b"\n" for line in lines) for lines in (first, second)]
+    alone = {0: session(command, library, second)[1], 1: session(command, library, first)[1]}
+    for number in range(1, LIMIT):
+        status, words, answers, error = served(program, library, number, clients)
+        if not error:
+            return number - 1
+        if words == [] and answers == []:
+            good = (status, error) == (1, b"refused\nheapdbg: memory\n")
+        elif b"memory" in words:
+            at = words.index(b"memory")
+            good = (status, answers[at], answers[1 - at]) == (0, [], alone[at]) and words[1 - at] == b"eof"
+        else:
+            found = [reply for client in answers for reply in client]
+            good = words == [b"eof", b"eof"] and is_right(command, library, first + second, status, found, error)
+        if not good:
+            yield number
+    return LIMIT
+
+
+def saved(program, library, lines, number=0):
+    """Returns status, replies and standard error of a session that is saved, and the bytes of its file."""
+    with tempfile.TemporaryDirectory() as folder:
+        path = os.path.join(folder, "out.hprof")
+        command = [program, "save", "--out", path, "--regions", "2"]
+        status, found, error = session(command, library, lines, number)
+        return status, found, error, pathlib.Path(path).read_bytes() if os.path.exists(path) else None
+
+
+def is_saved(program, library, lines, found, dump):
+    """Tells whether the file has the dump of the session's last state, without the line that was refused, if one was."""
+    lasts = [last for _, last in found]
+    kept = [line for line, last in zip(lines, lasts) if last != REFUSED]
+    _, _, _, whole = saved(program, library, kept)
+    if lasts[-1].startswith(b"lost Memory"):
+        return whole.startswith(dump) and lasts[-1] == b"lost Memory %d" % len(dump)
+    return dump == whole and lasts[-1] == b"saved %d" % len(dump)
+
+
+def wrong_saves(program, library, lines):
+    """Yields the numbers of the allocations after whose refusal a session that is saved goes otherwise than it may, and then how
+    many it makes."""
+    for number in range(1, LIMIT):
+        status, found, error, dump = saved(program, library, lines, number)
+        if not error:
+            return number - 1
+        if error == b"refused\nheapdbg: memory\n":
+            good = (status, found, dump) == (1, [], None)
+        else:
+            lost = found != [] and found[-1][1].startswith(b"lost")
+            said = (1, b"refused\nheapdbg: lost\n") if lost else (0, b"refused\n")
+            command = [program, "run", "--regions", "2"]
+            good = (status, error) == said and is_saved(program, library, lines, found, dump)
+            good = good and is_right(command, library, lines, 0, found[:-1], b"refused\n")
+        if not good:
+            yield number
+    return LIMIT
+
+
 def wrong_runs(command, library, wanted):
     """Yields the numbers of the allocations after whose refusal a program prints otherwise, and then how many it makes."""
     for number in range(1, LIMIT):
@@ -124,10 +240,14 @@ def main(growths, wanted, heapdbg, verbose=False):
         library = refusing(folder)
         runs = wrong_runs([os.path.abspath(growths)], library, pathlib.Path(wanted).read_bytes())
         good = told("growths", runs, verbose)
-        command = [os.path.abspath(heapdbg), "run", "--regions", "2"]
+        program = os.path.abspath(heapdbg)
+        command = [program, "run", "--regions", "2"]
         for name, text in SESSIONS.items():
             lines = [line.strip().encode() for line in text.replace("\n", " ").split(",")]
             good = told(name, wrong_sessions(command, library, lines), verbose) and good
+            good = told(f"{name}, saved", wrong_saves(program, library, lines), verbose) and good
+            others = wrong_servers(program, library, lines, SECOND)
+            good = told(f"{name}, served", others, verbose) and good
     return 0 if good else 1
 
 

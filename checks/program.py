@@ -6,21 +6,31 @@ Prints a line for each difference and ends with status 1 if there is one. Prints
 import os
 import pathlib
 import resource
+import socket
 import subprocess
 import sys
+import tempfile
+import threading
+import time
 
 TOP = pathlib.Path(__file__).resolve().parent.parent
 EXAMPLE = (TOP / "examples/point.session").read_bytes()
 EXAMPLE_REPLIES = (TOP / "crates/heapdbg/stdout").read_bytes()
-OUT_OF_RANGE = b"""error: a value is in digits alone: --regions 1 to 256, --mutators 1 to 16, \
---keep 1 to 65536, --time below 2^64, --ids 4 or 8
+OUT_OF_RANGE = b"""error: a value is in digits alone: --regions 1 to 256, --mutators 1 to 16, --keep 1 to 65536, \
+--time below 2^64, --ids 4 or 8, --port and --to 1 to 65535, --sessions 1 to 1000; \
+save takes one of --out and --to
 
-For more information, try 'heapdbg run --help'.
+For more information, try 'heapdbg --help'.
 """
 NOT_UTF8 = b"error: a word of the command line is not UTF-8\n"
 USAGE = b"Usage: heapdbg <COMMAND>\n"
 RUN_ABOUT = b"Reads commands from standard input and writes replies to standard output\n"
+SAVE_ABOUT = b"Runs a session, and dumps the state that it leaves\n"
+SERVE_ABOUT = b"Serves sessions over one heap to clients on 127.0.0.1, and tells how each ended\n"
+ASK_ABOUT = b"Sends standard input to a session that is served, and copies what comes back to standard output\n"
 MEBIBYTE = 1 << 20
+# The most seconds that a run, an answer or a connection may take.
+SECONDS = 20
 
 
 def data_lines(piece):
@@ -48,11 +58,11 @@ def dump_of_longs(count, size=8, time=0):
 
 
 def run(program, words, given=b"", **how):
-    """Returns status, standard output and standard error of the program, which is told its name. A run has 20 seconds."""
+    """Returns status, standard output and standard error of the program, which is told its name."""
     if "stdin" not in how:
         how["input"] = given
     how.setdefault("stdout", subprocess.PIPE)
-    ran = subprocess.run(["heapdbg", *words], executable=program, stderr=subprocess.PIPE, timeout=20, **how)
+    ran = subprocess.run(["heapdbg", *words], executable=program, stderr=subprocess.PIPE, timeout=SECONDS, **how)
     return ran.returncode, ran.stdout or b"", ran.stderr
 
 
@@ -111,10 +121,342 @@ def faults(program):
     yield "little memory", ran, (1, b"", b"heapdbg: memory\n")
 
 
+# ---- clients
+
+
+def free_port():
+    """Returns a port that nobody listens on."""
+    with socket.create_server(("127.0.0.1", 0)) as server:
+        return server.getsockname()[1]
+
+
+def connected(port, room=None):
+    """Returns a client of the port, which may not be listened on yet; its buffer for what comes has `room` bytes, if that is
+    given."""
+    end = time.monotonic() + SECONDS
+    while True:
+        client = socket.socket()
+        client.settimeout(SECONDS)
+        if room:
+            client.setsockopt(socket.SOL_SOCKET, socket.SO_RCVBUF, room)
+        try:
+            client.connect(("127.0.0.1", port))
+            return client
+        except ConnectionRefusedError:
+            client.close()
+            if time.monotonic() > end:
+                raise
+            time.sleep(0.01)
+
+
+def answered(client, lines, size):
+    """Sends lines, and returns the next `size` bytes that come, or all that come before the end."""
+    client.sendall(lines)
+    got = b""
+    while len(got) < size:
+        part = client.recv(size - len(got))
+        if not part:
+            break
+        got += part
+    return got
+
+
+def rest_of(client, lines):
+    """Sends lines, and returns all that comes until the session has ended."""
+    return answered(client, lines, 1 << 30)
+
+
+def asked(program, port, given, **how):
+    """Runs `ask`, again while nobody listens on the port yet."""
+    end = time.monotonic() + SECONDS
+    while True:
+        ran = run(program, ["ask", "--port", str(port)], given, **how)
+        if ran[2] != b"heapdbg: connect\n" or time.monotonic() > end:
+            return ran
+        time.sleep(0.01)
+
+
+def served(program, clients, words=(), **how):
+    """Returns what happened to a run of `serve`, and then what its clients return, which are given its port."""
+    port = free_port()
+    how.setdefault("stdout", subprocess.PIPE)
+    line = ["heapdbg", "serve", "--port", str(port), *words]
+    child = subprocess.Popen(line, executable=program, stderr=subprocess.PIPE, **how)
+    try:
+        got = clients(port)
+        out, error = child.communicate(timeout=SECONDS)
+        return (child.returncode, out or b"", error, *got)
+    finally:
+        if child.poll() is None:
+            child.kill()
+            child.communicate()
+
+
+def files(count):
+    """Returns what a child does first: it gives up all but so many open files."""
+    return lambda: resource.setrlimit(resource.RLIMIT_NOFILE, (count, count))
+
+
+def example_by_two(port):
+    """The first client makes the point, the second writes and dumps it, and ends first."""
+    lines = EXAMPLE.splitlines(keepends=True)
+    with connected(port) as first, connected(port) as second:
+        made = answered(first, b"".join(lines[:2]), len(b"ok class 0\nok object 0x10000000\n"))
+        dumped = rest_of(second, b"".join(lines[2:]) + b"end\n")
+        return made + dumped, rest_of(first, b"end\n")
+
+
+def closing_in_a_line(port):
+    """The first client closes in the middle of a line, and the second dumps what it left."""
+    lines = EXAMPLE.splitlines(keepends=True)
+    with connected(port) as first:
+        made = answered(first, b"".join(lines[:3]), len(b"ok class 0\nok object 0x10000000\nok\n"))
+        first.sendall(b"put 0 0 0")
+    with connected(port) as second:
+        return (made + rest_of(second, lines[3] + b"end\n"),)
+
+
+ARRAY = b"newprim 0 0 long 1024\n"
+WRITES = 1000
+
+
+def never_reading(port):
+    """The first client asks for more dumps than any buffers hold and reads none. Meanwhile the second writes."""
+    with connected(port, 4096) as first, connected(port) as second:
+        first.sendall(ARRAY + b"dump -\n" * 2000)
+        while answered(second, b"put 0 0 0 1\n", 2) != b"ok":
+            assert second.recv(100)
+        got = answered(second, b"", 1)
+        for number in range(WRITES):
+            got += answered(second, b"put 0 0 1 %d\n" % number, 3)
+        return got, rest_of(second, b"end\n")
+
+
+def ended(lines):
+    """Returns clients: one, which sends these lines and returns what comes until its session has ended."""
+
+    def clients(port):
+        with connected(port) as client:
+            return (rest_of(client, lines),)
+
+    return clients
+
+
+def served_sessions(program):
+    """Yields sessions that are served as (name, what happened, what must happen)."""
+    quits = b"session 1 quit\nsession 2 quit\n"
+    two = ["--sessions", "2"]
+    yield "the example by two", served(program, example_by_two, two), (0, quits, b"", EXAMPLE_REPLIES, b"")
+    cut = (0, b"session 1 cut\nsession 2 quit\n", b"", EXAMPLE_REPLIES)
+    yield "a client that closes in a line", served(program, closing_in_a_line, two), cut
+    slow = (0, b"session 1 write\nsession 2 quit\n", b"", b"\n" + b"ok\n" * WRITES, b"")
+    yield "a client that never reads", served(program, never_reading, two), slow
+    long = served(program, ended(b"a" * 4097))
+    yield "a line too long", long, (0, b"session 1 long\n", b"", b"bad long\n")
+    ids = served(program, ended(b"newprim 0 0 long 1\ndump -\nend\n"), ["--ids", "4", "--time=7"])
+    yield "ids and time", ids, (0, b"session 1 quit\n", b"", dump_of_longs(1, 4, 7))
+    kept = served(program, ended(b"clear 1 0\n" * 3 + b"rewind 3\nend\n"), ["--keep", "2", "--mutators", "1"])
+    yield "kept steps", kept, (0, b"session 1 quit\n", b"", b"no 7 BadRegister\n" * 3 + b"no 21 TooFar 3 0\n")
+    three = served(program, lambda port: [ended(b"close 1\nend\n")(port)[0] for _ in range(3)], ["--sessions=3"])
+    yield "three in turn", three, (0, quits + b"session 3 quit\n", b"", *[b"no 22 NoPin\n"] * 3)
+
+
+# Worked examples of a session over a shared heap: words of `serve`, lines, and what they are answered. The dump is that of one
+# point whose `x` is 7.
+WORKED = {
+    "rewind_gives_back_cells": (
+        [],
+        b"class Point - x:int y:int\nnew 0 0 0\nnew 0 1 0\nrewind 2\nnew 0 0 0\n",
+        b"ok class 0\nok object 0x10000000\nok object 0x10000020\nok place 1\nok object 0x10000000\n",
+    ),
+    "dump_of_a_past_place": (
+        [],
+        EXAMPLE.replace(b"dump -\n", b"open -\nput 0 0 0 9\nclear 0 0\nsnap\nfinish\nsweep 0\nnew 0 0 0\ndump 1\n"),
+        EXAMPLE_REPLIES.replace(
+            b"ok\ndata",
+            b"ok\nok pin 1 at 3\nok\nok\nok pushed 0\nok condemned 1\nok swept 1 empty\nok object 0x10000000\ndata",
+            1,
+        ),
+    ),
+    "rewind_too_far": (
+        ["--keep", "3"],
+        b"clear 0 0\n" * 4 + b"rewind 3\nrewind 1\n",
+        b"ok\n" * 4 + b"ok place 1\nno 21 TooFar 1 0\n",
+    ),
+    "refusals_of_mutators": (
+        [],
+        b"class A - x:int x:int\nclass a+b -\nclass A 3\nclass Point - x:int y:int\nnew 0 0 0\nput 0 0 0 4294967296\n"
+        b"load 0 1 0 2\nload 0 1 1 0\nstore 0 0 0 1\nput 0 0 1 5\nload 0 1 0 1\n",
+        b"no 5 DuplicateName\nno 4 BadName\nno 2 NoClass\nok class 0\nok object 0x10000000\nno 11 OutOfRange\n"
+        b"no 9 BadSlot\nno 8 NullRegister\nno 10 WrongKind\nok\nok value 5\n",
+    ),
+}
+
+
+def worked(program):
+    """Yields worked examples over a shared heap as (name, what happened, what must happen)."""
+    for name, (words, lines, answers) in WORKED.items():
+        yield name, served(program, ended(lines + b"end\n"), words), (0, b"session 1 quit\n", b"", answers)
+
+
+def asking(program):
+    """Yields clients of `ask` as (name, what happened, what must happen)."""
+    quit = (0, b"session 1 quit\n", b"")
+    happened = served(program, lambda port: asked(program, port, EXAMPLE))
+    yield "ask", happened, (*quit, 0, EXAMPLE_REPLIES, b"")
+    happened = served(program, lambda port: asked(program, port, b"clear 0 0\nclear 0"))
+    yield "ask without a last LF", happened, (*quit, 0, b"ok\nbad command\n", b"")
+    happened = served(program, lambda port: asked(program, port, b""))
+    yield "ask for nothing", happened, (*quit, 0, b"", b"")
+    happened = served(program, lambda port: asked(program, port, b"a" * 5000 + b"\nclear 0 0\n" * 9))
+    yield "ask too long a line", happened[:3], (0, b"session 1 long\n", b"")
+    yield "ask nobody", run(program, ["ask", "--port", str(free_port())], EXAMPLE), (1, b"", b"heapdbg: connect\n")
+
+
+def served_faults(program):
+    """Yields faults of `serve` and `ask` as (name, what happened, what must happen)."""
+    with socket.create_server(("127.0.0.1", 0)) as server:
+        taken = ["serve", "--port", str(server.getsockname()[1])]
+        yield "a port in use", run(program, taken), (1, b"", b"heapdbg: listen\n")
+        large = [*taken, "--regions", "256", "--keep", "65536", "--sessions", "1000"]
+        enough = next(n for n in range(1, 64) if run(program, ["run"], preexec_fn=limited(n * MEBIBYTE))[0] == 0)
+        ran = run(program, large, preexec_fn=limited(enough * MEBIBYTE))
+        yield "little memory before a port in use", ran, (1, b"", b"heapdbg: memory\n")
+    with open("/dev/full", "wb") as full:
+        happened = served(program, ended(b"end\n"), stdout=full)
+        yield "a full output of serve", happened, (1, b"", b"heapdbg: write\n", b"")
+        happened = served(program, lambda port: asked(program, port, EXAMPLE, stdout=full))
+        yield "a full output of ask", happened[3:], (1, b"", b"heapdbg: write\n")
+        folder = os.open("/", os.O_RDONLY)
+        happened = served(program, lambda port: asked(program, port, b"", stdin=folder))
+        yield "a folder as input of ask", happened, (0, b"session 1 quit\n", b"", 1, b"", b"heapdbg: read\n")
+        os.close(folder)
+    # Standard streams and the listener take four files, a session one more.
+    happened = served(program, lambda port: (), ["--sessions", "2"], preexec_fn=files(4))
+    yield "no accept", happened, (1, b"", b"heapdbg: accept\n")
+    happened = served(program, ended(b"clear 0 0\nend\n"), ["--sessions", "2"], preexec_fn=files(5))
+    yield "no second accept", happened, (1, b"session 1 quit\n", b"heapdbg: accept\n", b"ok\n")
+
+
+# ---- saves
+
+POINT = b"".join(EXAMPLE.splitlines(keepends=True)[:3])
+POINT_MADE = b"".join(EXAMPLE_REPLIES.splitlines(keepends=True)[:3])
+
+
+def bytes_of(replies):
+    """Returns the bytes of the data lines among replies."""
+    return b"".join(bytes.fromhex(line[5:].decode()) for line in replies.splitlines() if line.startswith(b"data "))
+
+
+POINT_DUMP = bytes_of(EXAMPLE_REPLIES)
+EMPTY_DUMP = bytes_of(dump_of_longs(1))[:52] + record(0x2C, b"")
+
+
+def saved(program, path, given=POINT, words=(), **how):
+    """Returns what happened to a run of `save` to a file, and then what the file has, None if there is none."""
+    ran = run(program, ["save", "--out", path, *words], given, **how)
+    if not os.path.isfile(path):
+        return (*ran, None)
+    with open(path, "rb") as file:
+        return (*ran, file.read())
+
+
+def saved_files(program):
+    """Yields sessions that are saved to files as (name, what happened, what must happen)."""
+    with tempfile.TemporaryDirectory() as folder:
+        path = os.path.join(folder, "heap.hprof")
+        yield "a cut session saved", saved(program, path, b"clear 0"), (1, b"bad cut\n", b"heapdbg: cut\n", None)
+        done = (0, POINT_MADE + b"saved 301\n", b"", POINT_DUMP)
+        yield "saved", saved(program, path), done
+        pathlib.Path(path).write_bytes(bytes(1000))
+        yield "saved over a file", saved(program, path, POINT + b"end\nclear"), done
+        pins = b"ok pin 1 at 3\nok pin 2 at 3\nok pin 3 at 3\nok pin 4 at 3\n"
+        four = (0, POINT_MADE + pins + b"saved 301\n", b"", POINT_DUMP)
+        yield "saved beside four pins", saved(program, path, POINT + b"open -\n" * 4), four
+        short = bytes_of(dump_of_longs(1, 4, 7))
+        ids = (0, b"ok object 0x10000000\nsaved %d\n" % len(short), b"", short)
+        yield "saved ids and time", saved(program, path, b"newprim 0 0 long 1\n", ["--ids", "4", "--time=7"]), ids
+        large = bytes_of(dump_of_longs(1024))
+        arrays = (0, b"ok object 0x10000000\nsaved %d\n" % len(large), b"", large)
+        yield "saved large", saved(program, path, b"newprim 0 0 long 1024\n"), arrays
+        viewed = saved(program, path, (TOP / "examples/viewer.session").read_bytes())
+        lines = viewed[1].splitlines()
+        told = [viewed[0], all(line.startswith(b"ok") for line in lines[:-1]), lines[-1]]
+        yield "the viewer's example", told, [0, True, b"saved %d" % len(viewed[3])]
+
+
+def saved_faults(program):
+    """Yields saves that fail as (name, what happened, what must happen)."""
+    out = (1, POINT_MADE + b"failed 0\n", b"heapdbg: out\n", None)
+    with tempfile.TemporaryDirectory() as folder:
+        path = os.path.join(folder, "heap.hprof")
+        missing = os.path.join(folder, "none", "heap.hprof")
+        yield "saved to no folder", saved(program, missing), out
+        yield "saved to a folder", saved(program, folder), out
+        yield "saved to a full file", saved(program, "/dev/full"), out
+        yield "saved to no name", saved(program, ""), out
+        with open("/dev/full", "wb") as full:
+            yield "answers to a full output", saved(program, path, stdout=full), (1, b"", b"heapdbg: write\n", None)
+            last = (1, b"", b"heapdbg: write\n", EMPTY_DUMP)
+            yield "a last line to a full output", saved(program, path, b"", stdout=full), last
+            both = (1, b"", b"heapdbg: write\n", None)
+            yield "no outlet and a full output", saved(program, missing, b"", stdout=full), both
+    enough = next(n for n in range(1, 64) if run(program, ["run"], preexec_fn=limited(n * MEBIBYTE))[0] == 0)
+    large = ["save", "--to", str(free_port()), "--regions", "256", "--keep", "65536"]
+    ran = run(program, large, EXAMPLE, preexec_fn=limited(enough * MEBIBYTE))
+    yield "little memory before no listener", ran, (1, b"", b"heapdbg: memory\n")
+    ran = run(program, ["save", "--to", str(free_port())], POINT)
+    yield "saved to nobody", ran, (1, POINT_MADE + b"failed 0\n", b"heapdbg: connect\n")
+
+
+def received(server, got):
+    """Adds to a list what the first client of a server sends until it closes."""
+    with server.accept()[0] as client:
+        client.settimeout(SECONDS)
+        got.append(rest_of(client, b""))
+
+
+def closed(server, got):
+    """Closes the first client of a server at once."""
+    server.accept()[0].close()
+
+
+def saved_to(program, peer, given, *words):
+    """Returns what happened to a run of `save` to a server whose one client a peer sees to, and then what that peer got."""
+    with socket.create_server(("127.0.0.1", 0)) as server:
+        server.settimeout(SECONDS)
+        got = []
+        listener = threading.Thread(target=peer, args=(server, got))
+        listener.start()
+        ran = run(program, ["save", f"--to={server.getsockname()[1]}", *words], given)
+        listener.join()
+    return (*ran, *got)
+
+
+def saved_to_listeners(program):
+    """Yields saves to a listener as (name, what happened, what must happen)."""
+    whole = (0, POINT_MADE + b"saved 301\n", b"", POINT_DUMP)
+    yield "saved to a listener", saved_to(program, received, POINT), whole
+    status, out, error = saved_to(program, closed, b"newprim 0 0 long 1024\n" * 256, "--regions=256")
+    last = out.splitlines()[-1].split()
+    told = (status, last[0], int(last[1]) < 2_104_143, error)
+    yield "saved to a peer that closes", told, (1, b"failed", True, b"heapdbg: out\n")
+
+
 # Values that are out of range, or are not in digits alone.
 VALUES = """
 --regions 0, --regions 257, --regions=, --regions +4, --regions=-4, --regions 4k, --mutators 0, --mutators 17, --keep 0, --keep 65537, --keep +4,
 --time 1x, --time 18446744073709551616, --ids 0, --ids 3, --ids 5, --ids 6, --ids 7, --ids 9, --ids eight
+"""
+
+SAVED_VALUES = """
+save, save --out x --to 7000, save --regions 4, save --to 0, save --to 65536, save --to +80, save --to=, save --to 4k, save --to 7000 --keep 0
+"""
+
+SERVED_VALUES = """
+serve --port 0, serve --port 65536, serve --port +80, serve --port=, serve --port 4k, serve --port 7000 --sessions 0, serve --port 7000 --sessions 1001,
+serve --port 7000 --sessions x, serve --port 7000 --regions 257, serve --port 7000 --ids 5, ask --port 0, ask --port 65536, ask --port=-1x
 """
 
 # Command lines that clap refuses, and the first line of what it says.
@@ -128,6 +470,21 @@ REFUSED = {
     "run --ids": b"a value is required for '--ids <N>' but none was supplied",
     "run --regions 4 --regions=4": b"the argument '--regions <N>' cannot be used multiple times",
     "run --ids 4 --ids 4": b"the argument '--ids <N>' cannot be used multiple times",
+    "run --out x": b"unexpected argument '--out' found",
+    "run --to 7000": b"unexpected argument '--to' found",
+    "save --out": b"a value is required for '--out <PATH>' but none was supplied",
+    "save --to": b"a value is required for '--to <N>' but none was supplied",
+    "save --out x --out y": b"the argument '--out <PATH>' cannot be used multiple times",
+    "save --port 7000": b"unexpected argument '--port' found",
+    "run --port 7000": b"unexpected argument '--port' found",
+    "run --sessions 2": b"unexpected argument '--sessions' found",
+    "serve": b"the following required arguments were not provided:",
+    "serve --sessions 2": b"the following required arguments were not provided:",
+    "serve --port": b"a value is required for '--port <N>' but none was supplied",
+    "serve --port 7000 --port 7000": b"the argument '--port <N>' cannot be used multiple times",
+    "ask": b"the following required arguments were not provided:",
+    "ask --port 7000 --sessions 2": b"unexpected argument '--sessions' found",
+    "ask --port 7000 --keep 2": b"unexpected argument '--keep' found",
 }
 
 
@@ -135,19 +492,26 @@ def bad_lines(program):
     """Yields bad command lines as (name, what happened, what must happen). Only the first line of a text of clap's is looked at."""
     for words in VALUES.replace("\n", " ").split(","):
         yield words, run(program, ["run", *words.split()], EXAMPLE), (2, b"", OUT_OF_RANGE)
+    for words in (SAVED_VALUES + "," + SERVED_VALUES).replace("\n", " ").split(","):
+        yield words, run(program, words.split(), EXAMPLE), (2, b"", OUT_OF_RANGE)
     for words in (["\udcff"], ["run", "--regions", "\udcff"]):
         yield "a word that is not UTF-8", run(program, words, EXAMPLE), (2, b"", NOT_UTF8)
     firsts = {words: b"error: %s\n" % text for words, text in REFUSED.items()}
-    for words, line in {"--help": USAGE, "run --help": RUN_ABOUT, **firsts}.items():
+    helps = {"--help": USAGE, "run --help": RUN_ABOUT, "save --help": SAVE_ABOUT, "serve --help": SERVE_ABOUT, "ask --help": ASK_ABOUT}
+    for words, line in {**helps, **firsts}.items():
         status, out, error = run(program, words.split(), EXAMPLE)
         yield words or "no words", (status, out, error[: len(line)]), (2, b"", line)
 
 
 def differences(program):
     """Yields a line for each run that went otherwise than it must."""
-    for cases in (sessions, faults, bad_lines):
+    parts = ("status", "standard output", "standard error", "first of the clients or the dump", "second", "third")
+    saves = (saved_files, saved_faults, saved_to_listeners)
+    for cases in (sessions, faults, bad_lines, *saves, served_sessions, worked, asking, served_faults):
         for name, happened, wanted in cases(program):
-            for what, one, other in zip(("status", "standard output", "standard error"), happened, wanted):
+            if len(happened) != len(wanted):
+                yield f"{program}, {name}: {len(happened)} facts, and must be {len(wanted)}"
+            for what, one, other in zip(parts, happened, wanted):
                 if one != other:
                     yield f"{program}, {name}: {what} is {one!r:.300}, and must be {other!r:.300}"
 

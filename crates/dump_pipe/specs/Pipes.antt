@@ -35,6 +35,14 @@ list_of (Sends xs) = xs
 list_of (Gets ys) = ys
 list_of Spent = []
 
+-- an end that sends
+abbrev pub IsSending : View → Type 0
+IsSending v = v ≡ Sends (list_of v)
+
+-- an end that receives
+abbrev pub IsReceiving : View → Type 0
+IsReceiving v = v ≡ Gets (list_of v)
+
 abbrev pub sends_of : View → View
 sends_of v = Sends (list_of v)
 

@@ -1,5 +1,6 @@
 -- What a stream does.
-use Rattle.std.specs.Prelude.{◌≡◌, ℕ, ◌⊎◌, [], Option, Some, None}
+use Rattle.std.specs.Prelude.{◌≡◌, ℕ, ◌+◌, ◌<◌, ◌^◌, ◌⊎◌, [], Option, Some, None}
+use Rattle.atomic_table.specs.Seated.{TableId}
 use Rattle.heap_class.specs.declared.LostCause.TheVariants.{Memory}
 use Rattle.dump_pump.specs.declared.source.Ending.{Ending}
 use Rattle.dump_pump.specs.declared.transfer.Pumped.{Pumped}
@@ -7,14 +8,24 @@ use Rattle.dump_pump.specs.declared.transfer.Pumped.TheVariants.{Lost}
 use Rattle.dump_pump.specs.Outlets.{Outgoing}
 use Rattle.dump_pump.specs.Pumps.{IsPumped, bytes_of}
 use Rattle.dump_pump.specs.Sources.{Supply}
+use Rattle.dump_meter.specs.Seats.{Sum}
 use Rattle.dump_pipe.specs.declared.view.View.{View}
 use Rattle.dump_pipe.specs.declared.view.View.TheVariants.{Sends, Gets}
+use Rattle.dump_pipe.specs.Pipes.{byte_limit}
 use Rattle.dump_pipe.specs.Feeds.{IsFed}
 use Rattle.dump_pipe.specs.Drains.{IsDrained}
 
 -- what a pump does, or nothing is put out, for want of a thread or of memory
 abbrev pub IsStreamed : Supply → Supply → Outgoing → Outgoing → Pumped → Type 0
 IsStreamed a b w w' r = IsPumped a b w w' r ⊎ ((r ≡ Lost Memory 0) × (w' ≡ w))
+
+-- the source has parts left, and nothing was sent
+abbrev pub CanFeed : Supply → View → Type 0
+CanFeed a v = (0 < a.left) × (v ≡ Sends [])
+
+-- nothing was received, and the meter's seat has room for the bytes of a dump
+abbrev pub CanDrain : View → Sum → TableId → Type 0
+CanDrain v seat meter = (v ≡ Gets []) × (seat.meter ≡ meter) × (seat.sum + byte_limit < 2 ^ 64)
 
 -- the source was fed, or nothing was sent
 abbrev pub MayFeed : Supply → Supply → View → Option Ending → Type 0

@@ -3,7 +3,7 @@ ghost use Rattle.std.specs.Prelude.{◌≡◌, ◌≤◌, ◌∷◌, ◌++◌, [
 ghost use Rattle.crossbeam_channel.specs.Claims.{view, IsSeatAt};
 ghost use Rattle.crossbeam_channel.specs.Ends.{sends_on, receives_on};
 ghost use Rattle.dump_pipe.specs.declared.view.View.TheVariants.{Sends, Gets};
-ghost use Rattle.dump_pipe.specs.Pipes.{weigh, list_of, byte_limit};
+ghost use Rattle.dump_pipe.specs.Pipes.{weigh, list_of, byte_limit, IsSending, IsReceiving};
 
 use crate::message::Message;
 use crate::view::View;
@@ -105,7 +105,7 @@ pub fn pipe(alloc: Global) -> Result<(Sender, Receiver, End, End), AllocError>
 
 /// Sends a message. Waits while the pipe is full. A message that is handed back is sent again.
 pub fn send<R: Wait>(rt: &R, sender: &Sender, end: &mut End, message: Message)
-    requires end { IsSeatAt (sends_on sender.now) end.old × (view end.old ≡ Sends (list_of (view end.old))) }
+    requires end { IsSeatAt (sends_on sender.now) end.old × IsSending (view end.old) }
     requires room { weigh (list_of (view end.old) ++ message ∷ []) ≤ byte_limit }
     ensures end { IsSeatAt (sends_on sender.now) end.new }
     ensures sent { view end.new ≡ Sends (list_of (view end.old) ++ message ∷ []) }
@@ -122,7 +122,7 @@ pub fn send<R: Wait>(rt: &R, sender: &Sender, end: &mut End, message: Message)
 
 /// Receives a message. Waits while there is none. A receive that gives none is tried again.
 pub fn receive<R: Wait>(rt: &R, receiver: &Receiver, end: &mut End) -> Message
-    requires { IsSeatAt (receives_on receiver.now) end.old × (view end.old ≡ Gets (list_of (view end.old))) }
+    requires { IsSeatAt (receives_on receiver.now) end.old × IsReceiving (view end.old) }
     ensures end { IsSeatAt (receives_on receiver.now) end.new }
     ensures got { view end.new ≡ Gets (list_of (view end.old) ++ result ∷ []) }
     ensures room { weigh (list_of (view end.old) ++ result ∷ []) ≤ byte_limit }

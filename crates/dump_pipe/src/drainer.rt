@@ -3,8 +3,7 @@ ghost use Rattle.std.specs.Prelude.{◌≡◌, ◌+◌, ◌<◌, ◌^◌};
 ghost use Rattle.crossbeam_channel.specs.Claims.{view, IsSeatAt};
 ghost use Rattle.crossbeam_channel.specs.Ends.{receives_on};
 ghost use Rattle.dump_pump.specs.Pumps.{bytes_of};
-ghost use Rattle.dump_pipe.specs.declared.view.View.TheVariants.{Gets};
-ghost use Rattle.dump_pipe.specs.Pipes.{list_of, byte_limit};
+ghost use Rattle.dump_pipe.specs.Pipes.{list_of, byte_limit, IsReceiving};
 ghost use Rattle.dump_pipe.specs.Drains.{IsDrained, IsSkipped, answer_to};
 
 use crate::channel::{End, Receiver, receive};
@@ -16,7 +15,7 @@ use std::sync::Wait;
 
 /// Receives messages until the ending, and lets them go.
 pub fn skip<R: Wait>(rt: &R, receiver: &Receiver, end: &mut End)
-    requires { IsSeatAt (receives_on receiver.now) end.old × (view end.old ≡ Gets (list_of (view end.old))) }
+    requires { IsSeatAt (receives_on receiver.now) end.old × IsReceiving (view end.old) }
     ensures end { IsSeatAt (receives_on receiver.now) end.new }
     ensures skipped { IsSkipped (list_of (view end.old)) (view end.new) }
 {
@@ -51,7 +50,7 @@ pub fn drain_pipe<O: Outlet, R: Wait>(
     progress: &Progress<'_>,
     seat: &mut OutSeat,
 ) -> Pumped
-    requires end { IsSeatAt (receives_on receiver.now) end.old × (view end.old ≡ Gets (list_of (view end.old))) }
+    requires end { IsSeatAt (receives_on receiver.now) end.old × IsReceiving (view end.old) }
     requires meter { seat.old.meter ≡ progress.now }
     requires room { seat.old.sum + byte_limit < 2 ^ 64 }
     ensures end { IsSeatAt (receives_on receiver.now) end.new }

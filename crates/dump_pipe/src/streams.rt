@@ -5,7 +5,7 @@ ghost use Rattle.crossbeam_channel.specs.Ends.{sends_on, receives_on};
 ghost use Rattle.dump_pump.specs.Pumps.{bytes_of};
 ghost use Rattle.dump_pipe.specs.declared.view.View.TheVariants.{Sends, Gets};
 ghost use Rattle.dump_pipe.specs.Pipes.{byte_limit};
-ghost use Rattle.dump_pipe.specs.Streams.{IsStreamed, MayFeed, MayDrain, drained_bytes};
+ghost use Rattle.dump_pipe.specs.Streams.{IsStreamed, CanFeed, CanDrain, MayFeed, MayDrain, drained_bytes};
 
 use crate::channel::{End, Ends, Order, Receiver, Sender, pipe};
 use crate::drainer::drain_pipe;
@@ -89,10 +89,10 @@ fn join_ends<S: Source + Send, O: Outlet, R: Threads + Wait + Sync>(
 {
     let start = Start::new();
     let mut feeder = || -> Option<Ending>
-        requires { (0 < (S.seen source.now).left) × IsSeatAt (sends_on sender.now) one.now × (view one.now ≡ Sends []) }
+        requires { CanFeed (S.seen source.now) (view one.now) × IsSeatAt (sends_on sender.now) one.now }
     { begin_feed(rt, &start, source, sender, one) };
     let mut drainer = || -> Option<Pumped>
-        requires { IsSeatAt (receives_on receiver.now) other.now × (view other.now ≡ Gets []) × (seat.now.meter ≡ progress.now) × (seat.now.sum + byte_limit < 2 ^ 64) }
+        requires { CanDrain (view other.now) seat.now progress.now × IsSeatAt (receives_on receiver.now) other.now }
     { drain_begun(rt, &start, receiver, other, outlet, progress, seat) };
     join_mut(rt, &mut feeder, &mut drainer)
 }

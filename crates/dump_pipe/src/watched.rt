@@ -15,11 +15,12 @@ pub struct Watched<'a, S: Source> {
 }
 
 impl<'a, S: Source> Source for Watched<'a, S> {
+    ghost use Rattle.atomic_table.specs.Seated.{TableId};
     ghost use Rattle.dump_pipe.specs.Watches.{watched};
 
-    ghost Kept = { S.Kept };
+    ghost Kept = { S.Kept × TableId };
 
-    ghost kept = { λ w. S.kept w.source };
+    ghost kept = { λ w. (S.kept w.source, w.cancel) };
 
     ghost seen = { λ w. watched (S.seen w.source) w.seat.found };
 

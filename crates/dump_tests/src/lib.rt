@@ -4,4 +4,6 @@
 #[cfg(test)]
 mod dumps;
 #[cfg(test)]
+mod failures;
+#[cfg(test)]
 mod outlets;

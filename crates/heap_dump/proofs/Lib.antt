@@ -3,3 +3,4 @@ pub mod Handing
 pub mod Texts
 pub mod Placing
 pub mod Pumping
+pub mod Paging

@@ -2,3 +2,4 @@ pub mod Handed
 pub mod Endings
 pub mod Pinned
 pub mod Dumped
+pub mod Paged

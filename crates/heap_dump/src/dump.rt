@@ -1,21 +1,29 @@
 //! Dumps of pins and of the current state.
-ghost use Rattle.std.specs.Prelude.{◌≡◌, ℕ};
+ghost use Rattle.std.specs.Prelude.{◌≡◌, ℕ, []};
 ghost use Rattle.heap_trail.specs.Machine.{Machine};
 ghost use Rattle.heap_dump.specs.Handed.{ungiven};
 ghost use Rattle.heap_dump.specs.Dumped.{AreText, IsDumped, PutsPin};
 
+use crate::paged::pump_paged;
 use crate::source::{PinSource, cause_of};
-use dump_pump::{Outlet, Pumped, pump};
+use dump_pump::{Outlet, Pumped};
 use heap_trail::Machine;
 
-/// Puts out the pieces of a pin that it has not given yet, each whole and in order, until the last is out, the pin gives no
-/// more, or a put fails. Nothing of the machine changes but how many pieces the pin gave.
-pub fn dump_pin<O: Outlet>(machine: &mut Machine, pin: u64, time: u64, outlet: &mut O) -> Pumped
+/// Puts out the pieces of a pin that it has not given yet, each whole and in order, by way of an empty page, until the last is
+/// out, the pin gives no more, or a put fails. Nothing of the machine changes but how many pieces the pin gave.
+pub fn dump_pin<O: Outlet>(
+    machine: &mut Machine,
+    pin: u64,
+    time: u64,
+    page: &mut Vec<u8>,
+    outlet: &mut O,
+) -> Pumped
+    requires { page.old.items ≡ [] }
     ensures put { PutsPin pin time machine.old (O.seen outlet.old) (O.seen outlet.new) result }
     ensures same { ungiven pin machine.new ≡ ungiven pin machine.old }
 {
     let mut source = PinSource::new(machine, pin, time);
-    let pumped = pump(&mut source, outlet);
+    let pumped = pump_paged(&mut source, page, outlet);
     let PinSource {
         machine: _machine,
         start: _,
@@ -27,16 +35,22 @@ pub fn dump_pin<O: Outlet>(machine: &mut Machine, pin: u64, time: u64, outlet: &
     pumped
 }
 
-/// Puts out the dump of the current state: opens a pin on it, puts its pieces out, and closes it. If the pin is refused,
-/// nothing is put out: the dump is lost for want of memory if that is why, and else because the pin is closed.
-pub fn dump_place<O: Outlet>(machine: &mut Machine, outlet: &mut O, time: u64) -> Pumped
+/// Puts out the dump of the current state: opens a pin on it, puts its pieces out by way of an empty page, and closes it. If the
+/// pin is refused, nothing is put out: the dump is lost for want of memory if that is why, and else because the pin is closed.
+pub fn dump_place<O: Outlet>(
+    machine: &mut Machine,
+    page: &mut Vec<u8>,
+    outlet: &mut O,
+    time: u64,
+) -> Pumped
+    requires { page.old.items ≡ [] }
     ensures { IsDumped time machine.old machine.new (O.seen outlet.old) (O.seen outlet.new) result }
 {
     // Its contract says that no open pin has the next number.
     machine.next_pin();
     match machine.open_pin(None) {
         Ok(opened) => {
-            let pumped = dump_pin(machine, opened.pin, time, outlet);
+            let pumped = dump_pin(machine, opened.pin, time, page, outlet);
             let _closed = machine.close_pin(opened.pin);
             pumped
         }

@@ -1,2 +1,4 @@
 pub mod Words
 pub mod Asked
+pub mod Saved
+pub mod Telling

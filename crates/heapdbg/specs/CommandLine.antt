@@ -1,6 +1,6 @@
 -- The command line: which settings a list of words asks for.
-use Rattle.std.specs.Prelude.{◌≡◌, ◌==◌, ◌&&◌, ℕ, List, Option, Some, None, Bool, ⊤, true, false, codes}
-use Rattle.std.specs.Prelude.{[], length, map, nat_le, nat_lt, option_and_then, string_bytes, if◌then◌else◌}
+use Rattle.std.specs.Prelude.{◌≡◌, ◌≤◌, ◌==◌, ◌&&◌, ℕ, List, Option, Some, None, Bool, ⊤, true, false, codes}
+use Rattle.std.specs.Prelude.{[], length, map, nat_le, nat_lt, option_and_then, option_map, string_bytes, if◌then◌else◌}
 use Rattle.std.specs.List.{list_all, list_any}
 use Rattle.std.specs.Option.{option_map_or}
 use Rattle.clap.specs.Lexer.{long_of}
@@ -12,9 +12,13 @@ use Rattle.clap.specs.Words.{App, Row, Rule, Text, fault_of, first_of, new_app, 
 use Rattle.clap.specs.declared.builder.ArgAction.TheVariants.{Set}
 use Rattle.heap_class.specs.declared.IdSize.{IdSize}
 use Rattle.heap_class.specs.declared.IdSize.TheVariants.{Four, Eight}
+use Rattle.heap_server.specs.Seating.{session_limit}
+use Rattle.heap_world.specs.Limits.{AreSettings}
 use Rattle.heapdbg.specs.declared.command_line.TheConstants.{OUT_OF_RANGE}
 use Rattle.heapdbg.specs.declared.settings.Task.{Task}
-use Rattle.heapdbg.specs.declared.settings.Task.TheVariants.{Run}
+use Rattle.heapdbg.specs.declared.settings.Task.TheVariants.{Run, Save, Serve, Ask}
+use Rattle.heapdbg.specs.declared.settings.Target.{Target}
+use Rattle.heapdbg.specs.declared.settings.Target.TheVariants.{Out, To}
 use Rattle.heapdbg.specs.declared.settings.Settings.{Settings}
 use Rattle.heapdbg.specs.declared.settings.LineFault.{LineFault}
 use Rattle.heapdbg.specs.declared.settings.LineFault.TheVariants.{Bad, Memory}
@@ -27,22 +31,42 @@ texts = map (λ word. word.now)
 abbrev pub value_option : Text → Rule
 value_option name = record (new_rule name) { long = Some name; action = Some Set; value_names = 1 }
 
--- the command `run` with the options of the heap and its history
-abbrev pub heap_line : App
-heap_line =
+-- a command with the options of the heap and its history
+abbrev pub heap_line : Text → App
+heap_line name =
     with_rule
-    (with_rule (with_rule (new_app (codes "run")) (value_option (codes "regions"))) (value_option (codes "mutators")))
+    (with_rule (with_rule (new_app name) (value_option (codes "regions"))) (value_option (codes "mutators")))
     (value_option (codes "keep"))
 
--- the command `run` with its five options
-abbrev pub run_line : App
-run_line = with_rule (with_rule heap_line (value_option (codes "time"))) (value_option (codes "ids"))
+-- a command with the options of the heap, its history and its dumps
+abbrev pub session_line : Text → App
+session_line name = with_rule (with_rule (heap_line name) (value_option (codes "time"))) (value_option (codes "ids"))
 
--- the program's name, and a command that has to follow
-abbrev pub heapdbg_line : App
-heapdbg_line =
+-- the option `--port VALUE`, which has to be given
+abbrev pub port_option : Rule
+port_option = record (value_option (codes "port")) { required = true }
+
+abbrev pub run_line : App
+run_line = session_line (codes "run")
+
+abbrev pub save_line : App
+save_line = with_rule (with_rule (session_line (codes "save")) (value_option (codes "out"))) (value_option (codes "to"))
+
+abbrev pub serve_line : App
+serve_line = with_rule (with_rule (session_line (codes "serve")) port_option) (value_option (codes "sessions"))
+
+abbrev pub ask_line : App
+ask_line = with_rule (new_app (codes "ask")) port_option
+
+-- the program's name, and a command that has to follow, of those that need nobody else
+abbrev pub local_line : App
+local_line =
     let named = new_app (codes "heapdbg") in
-    with_subcommand (record named { top = record named.top { subcommand_required = true } }) run_line.top
+    with_subcommand (with_subcommand (record named { top = record named.top { subcommand_required = true } }) run_line.top) save_line.top
+
+-- all commands
+abbrev pub heapdbg_line : App
+heapdbg_line = with_subcommand (with_subcommand local_line serve_line.top) ask_line.top
 
 -- the number that a text of digits alone writes, where it lies from least to most
 abbrev pub number_in : ℕ → ℕ → Text → Option ℕ
@@ -86,12 +110,44 @@ settings_in task rows = settings_with task (value_of (codes "regions") 16 1 256 
     (value_of (codes "time") 0 0 18446744073709551615 rows)
     (id_size_in rows)
 
--- the task of a command's name
-abbrev pub task_named : Text → Option Task
-task_named name = if bytes_eq name (codes "run") then Some Run else None
+-- the highest port
+abbrev pub port_limit : ℕ
+port_limit = 65535
+
+-- the port that is given
+abbrev pub port_in : List Row → Option ℕ
+port_in rows = option_and_then (number_in 1 port_limit) (first_of (codes "port") rows)
+
+-- how many sessions are asked for, and 1 where the option is not given
+abbrev pub sessions_in : List Row → Option ℕ
+sessions_in rows = value_of (codes "sessions") 1 1 session_limit rows
+
+-- where a dump goes: one of the two options is given, and a port has to be one
+abbrev pub target_in : Option Text → Option Text → Option Target
+target_in (Some path) None = Some Out
+target_in None (Some text) = option_map (λ port. To port) (number_in 1 port_limit text)
+target_in None None = None
+target_in (Some path) (Some text) = None
+
+abbrev pub save_in : List Row → Option Task
+save_in rows = option_map (λ target. Save target) (target_in (first_of (codes "out") rows) (first_of (codes "to") rows))
+
+abbrev pub serve_in : List Row → Option Task
+serve_in rows = option_and_then (λ port. option_map (λ sessions. Serve port sessions) (sessions_in rows)) (port_in rows)
+
+abbrev pub ask_in : List Row → Option Task
+ask_in rows = option_map (λ port. Ask port) (port_in rows)
+
+-- the task of a command's name and options
+abbrev pub task_in : Text → List Row → Option Task
+task_in name rows =
+    if bytes_eq name (codes "run") then Some Run
+    else (if bytes_eq name (codes "save") then save_in rows
+    else (if bytes_eq name (codes "serve") then serve_in rows
+    else (if bytes_eq name (codes "ask") then ask_in rows else None)))
 
 abbrev pub settings_under : Text × List Row → Option Settings
-settings_under found = option_and_then (λ task. settings_in task found.1) (task_named found.0)
+settings_under found = option_and_then (λ task. settings_in task found.1) (task_in found.0 found.1)
 
 -- the settings that the words ask for, where they are a command line of the program
 abbrev pub settings_of : List Text → Option Settings
@@ -107,6 +163,29 @@ names_option name word = option_map_or (λ found. bytes_eq found.0 name) (long_o
 abbrev pub is_given : Text → List Text → Bool
 is_given name words = list_any (names_option name) words
 
+-- the file that a dump goes to
+abbrev pub path_of : List Text → Option Text
+path_of words = option_and_then (λ found. first_of (codes "out") found.1) (subcommand_of heapdbg_line words)
+
+-- the port and the number of sessions are within their limits
+abbrev pub IsTask : Task → Type 0
+IsTask Run = ⊤
+IsTask (Save Out) = ⊤
+IsTask (Save (To port)) = (1 ≤ port) × (port ≤ port_limit)
+IsTask (Serve port sessions) = (1 ≤ port) × (port ≤ port_limit) × (1 ≤ sessions) × (sessions ≤ session_limit)
+IsTask (Ask port) = (1 ≤ port) × (port ≤ port_limit)
+
+-- the settings are within their limits
+abbrev pub AreWithin : Settings → Type 0
+AreWithin s = AreSettings s.regions s.mutators s.keep × IsTask s.task
+
+-- how many sessions there are
+abbrev pub sessions_of : Task → ℕ
+sessions_of Run = 1
+sessions_of (Save target) = 1
+sessions_of (Serve port sessions) = sessions
+sessions_of (Ask port) = 1
+
 -- an option that no word names has its default
 pub record HasDefaults (words : List Text) (s : Settings) : Type 0 where
   pub regions : is_given (codes "regions") words ≡ false → s.regions ≡ 16
@@ -114,6 +193,7 @@ pub record HasDefaults (words : List Text) (s : Settings) : Type 0 where
   pub keep : is_given (codes "keep") words ≡ false → s.keep ≡ 1024
   pub time : is_given (codes "time") words ≡ false → s.time ≡ 0
   pub ids : is_given (codes "ids") words ≡ false → s.ids ≡ Eight
+  pub sessions : is_given (codes "sessions") words ≡ false → sessions_of s.task ≡ 1
 
 -- the fault has this text, or memory ran out
 abbrev pub IsBadWith : Text → LineFault → Type 0

@@ -28,6 +28,11 @@ word_of fault.Read = codes "read"
 word_of fault.Reads = codes "reads"
 word_of fault.Write = codes "write"
 word_of fault.Memory = codes "memory"
+word_of fault.Listen = codes "listen"
+word_of fault.Accept = codes "accept"
+word_of fault.Connect = codes "connect"
+word_of fault.Out = codes "out"
+word_of fault.Lost = codes "lost"
 
 -- what standard error gets: the text of a bad command line, or a line with the word of the fault
 abbrev pub message_of : Failure → List ℕ

@@ -11,8 +11,14 @@ use Rattle.heapdbg.specs.declared.failure.Fault.TheVariants.{Memory}
 use Rattle.heapdbg.specs.declared.failure.Failure.{Failure}
 use Rattle.heapdbg.specs.declared.settings.LineFault.{LineFault}
 use Rattle.heapdbg.specs.declared.settings.Settings.{Settings}
+use Rattle.heapdbg.specs.declared.settings.Task.{Task}
+use Rattle.heapdbg.specs.declared.failure.Fault.TheVariants as fault
+use Rattle.heapdbg.specs.declared.settings.Task.TheVariants.{Run, Save, Serve, Ask}
+use Rattle.heapdbg.specs.declared.settings.Target.TheVariants.{Out, To}
 use Rattle.heapdbg.specs.CommandLine.{IsRefusalOf, settings_of}
 use Rattle.heapdbg.specs.Endings.{failure_of, outcome_of, work_of}
+use Rattle.heapdbg.specs.Saving.{IsSavedTo}
+use Rattle.heapdbg.specs.Serving.{IsAsked, IsServed}
 
 -- a session over a heap with these settings as it begins, and how it ended; or no memory for one, and then nothing is read
 -- or written
@@ -21,8 +27,16 @@ IsRun s a b w w' result =
     ((ended : Ended) × (left : Machine) × IsSession (opening_machine s.ids s.regions s.mutators s.keep) s.time a b w w' left ended × Ends a b w w' ended × (result ≡ outcome_of ended))
     ⊎ ((result ≡ Err Memory) × (b ≡ a) × (w' ≡ w))
 
--- the settings that the words ask for, and a run with them; or a refusal of the words, and then nothing is read or written
+-- the task of the settings was done
+abbrev pub IsDone : Task → Settings → Incoming → Incoming → Outgoing → Outgoing → Result (Unit {0}) Fault → Type 0
+IsDone Run s a b w w' result = IsRun s a b w w' result
+IsDone (Save Out) s a b w w' result = IsSavedTo fault.Out s a b w w' result
+IsDone (Save (To port)) s a b w w' result = IsSavedTo fault.Connect s a b w w' result
+IsDone (Serve port sessions) s a b w w' result = (b ≡ a) × IsServed sessions w w' result
+IsDone (Ask port) s a b w w' result = IsAsked a b w w' result
+
+-- the settings that the words ask for, and their task done; or a refusal of the words, and then nothing is read or written
 abbrev pub IsPerformed : List (List ℕ) → Incoming → Incoming → Outgoing → Outgoing → Result (Unit {0}) Failure → Type 0
 IsPerformed words a b w w' result =
-    ((s : Settings) × (done : Result (Unit {0}) Fault) × (settings_of words ≡ Some s) × IsRun s a b w w' done × (result ≡ work_of done))
+    ((s : Settings) × (done : Result (Unit {0}) Fault) × (settings_of words ≡ Some s) × IsDone s.task s a b w w' done × (result ≡ work_of done))
     ⊎ ((line : LineFault) × IsRefusalOf words line × (result ≡ Err (failure_of line)) × (b ≡ a) × (w' ≡ w))

@@ -1,17 +1,18 @@
 //! Reads the command line.
-ghost use Rattle.std.specs.Prelude.{◌≡◌, Some, codes, false, IfOk, IfErr};
+ghost use Rattle.std.specs.Prelude.{◌≡◌, Some, codes, false, IfOk, IfErr, IfSome};
 ghost use Rattle.std.specs.List.{list_all};
 ghost use Rattle.std.specs.Prelude.{option_and_then};
 ghost use Rattle.std.specs.Char.{is_ascii_digit};
 ghost use Rattle.clap.specs.Words.{FailsBy, app_of, fault_of, found_of, kind_of, rows_of};
 ghost use Rattle.clap.specs.declared.builder.Command.TheViews.{out-Command};
 ghost use Rattle.clap.specs.Words.{rule_of, subcommand_of, subcommand_rows_of};
-ghost use Rattle.heap_world.specs.Limits.{AreSettings};
-ghost use Rattle.heapdbg.specs.CommandLine.{HasDefaults, IsBadWith, IsRefusalOf, heap_line, heapdbg_line, number_in, run_line, settings_in};
-ghost use Rattle.heapdbg.specs.CommandLine.{settings_of, settings_under, task_named, texts, value_of};
-ghost use Rattle.heapdbg.specs.CommandLine.{id_size_of, value_option};
+ghost use Rattle.heapdbg.specs.CommandLine.{AreWithin, HasDefaults, IsBadWith, IsRefusalOf, heap_line, heapdbg_line, local_line, number_in, run_line};
+ghost use Rattle.heapdbg.specs.CommandLine.{settings_in, settings_of, settings_under, texts, value_of};
+ghost use Rattle.heapdbg.specs.CommandLine.{id_size_of, path_of, session_line, task_in, value_option};
 
+use crate::save_options::{save_parser, save_task};
 use crate::settings::{LineFault, Settings, Task};
+use crate::socket_options::{ask_parser, ask_task, serve_parser, serve_task};
 use clap::error::ErrorKind;
 use clap::{Arg, ArgAction, ArgMatches, Command, Error};
 use heap_class::IdSize;
@@ -22,7 +23,7 @@ use std::alloc::{AllocError, Global};
 pub fn settings(alloc: Global, words: &[&str]) -> Result<Settings, LineFault>
     ensures ok { IfOk result (λ s. settings_of (texts words.now) ≡ Some s) }
     ensures refused { IfErr result (IsRefusalOf (texts words.now)) }
-    ensures limits { IfOk result (λ s. AreSettings s.regions s.mutators s.keep) }
+    ensures limits { IfOk result AreWithin }
     ensures defaults { IfOk result (HasDefaults (texts words.now)) }
 {
     let matches = match parsed(alloc, words) {
@@ -35,9 +36,23 @@ pub fn settings(alloc: Global, words: &[&str]) -> Result<Settings, LineFault>
     }
 }
 
+/// The file that the words name for a dump, or None if they name none or there is no memory to read them.
+pub fn out_path<'a>(alloc: Global, words: &'a [&'a str]) -> Option<&'a str>
+    ensures { IfSome result (λ path. path_of (texts words.now) ≡ Some path.now) }
+{
+    match parsed(alloc, words) {
+        Ok(matches) => match matches.subcommand() {
+            Some((_, options)) => options.get_str("out"),
+            None => None,
+        },
+        Err(_) => None,
+    }
+}
+
 const OUT_OF_RANGE: &str =
-    "error: a value is in digits alone: --regions 1 to 256, --mutators 1 to 16, \
-    --keep 1 to 65536, --time below 2^64, --ids 4 or 8\n\nFor more information, try 'heapdbg run --help'.\n";
+    "error: a value is in digits alone: --regions 1 to 256, --mutators 1 to 16, --keep 1 to 65536, \
+    --time below 2^64, --ids 4 or 8, --port and --to 1 to 65535, --sessions 1 to 1000; \
+    save takes one of --out and --to\n\nFor more information, try 'heapdbg --help'.\n";
 
 /// What clap makes of the words.
 fn parsed<'a>(alloc: Global, words: &'a [&'a str]) -> Result<ArgMatches<'a>, Error>
@@ -52,15 +67,42 @@ fn parsed<'a>(alloc: Global, words: &'a [&'a str]) -> Result<ArgMatches<'a>, Err
 fn parser<'a>(alloc: Global) -> Result<Command<'a>, AllocError>
     ensures { IfOk result (λ c. app_of c ≡ heapdbg_line) }
 {
-    let run = run_parser(alloc)?;
-    Command::new(alloc, "heapdbg")
-        .subcommand_required(true)
-        .subcommand(run)
+    let serve = serve_parser(alloc)?;
+    let ask = ask_parser(alloc)?;
+    local_parser(alloc)?.subcommand(serve)?.subcommand(ask)
 }
 
-/// Creates the parser of the command `run`, with an option for each setting.
+/// The program's name, with the commands that need nobody else.
+fn local_parser<'a>(alloc: Global) -> Result<Command<'a>, AllocError>
+    ensures { IfOk result (λ c. app_of c ≡ local_line) }
+{
+    let run = run_parser(alloc)?;
+    let save = save_parser(alloc)?;
+    Command::new(alloc, "heapdbg")
+        .subcommand_required(true)
+        .subcommand(run)?
+        .subcommand(save)
+}
+
+/// Creates the parser of the command `run`.
 fn run_parser<'a>(alloc: Global) -> Result<Command<'a>, AllocError>
     ensures app { IfOk result (λ c. app_of c ≡ run_line) }
+    ensures local { IfOk result (λ c. (out-Command c).has_globals ≡ false) }
+{
+    session_parser(
+        alloc,
+        "run",
+        "Reads commands from standard input and writes replies to standard output",
+    )
+}
+
+/// Creates the parser of a command that opens a heap, with the options for the heap, its history and its dumps.
+pub(crate) fn session_parser<'a>(
+    alloc: Global,
+    name: &'a str,
+    about: &'a str,
+) -> Result<Command<'a>, AllocError>
+    ensures app { IfOk result (λ c. app_of c ≡ session_line name.entry.now) }
     ensures local { IfOk result (λ c. (out-Command c).has_globals ≡ false) }
 {
     let time = value_arg(
@@ -73,12 +115,12 @@ fn run_parser<'a>(alloc: Global) -> Result<Command<'a>, AllocError>
         "ids",
         "Bytes of an identifier in a dump, 4 or 8 [default: 8]",
     );
-    heap_parser(alloc)?.arg(time)?.arg(ids)
+    heap_parser(alloc, name, about)?.arg(time)?.arg(ids)
 }
 
-/// Creates the parser of the command `run` with the options that say how large the heap and its history are.
-fn heap_parser<'a>(alloc: Global) -> Result<Command<'a>, AllocError>
-    ensures app { IfOk result (λ c. app_of c ≡ heap_line) }
+/// Creates the parser of a command with the options that say how large the heap and its history are.
+fn heap_parser<'a>(alloc: Global, name: &'a str, about: &'a str) -> Result<Command<'a>, AllocError>
+    ensures app { IfOk result (λ c. app_of c ≡ heap_line name.entry.now) }
     ensures local { IfOk result (λ c. (out-Command c).has_globals ≡ false) }
 {
     let regions = value_arg(
@@ -96,15 +138,15 @@ fn heap_parser<'a>(alloc: Global) -> Result<Command<'a>, AllocError>
         "keep",
         "Steps that can be undone, 1 to 65536 [default: 1024]",
     );
-    Command::new(alloc, "run")
-        .about("Reads commands from standard input and writes replies to standard output")
+    Command::new(alloc, name)
+        .about(about)
         .arg(regions)?
         .arg(mutators)?
         .arg(keep)
 }
 
 /// The option `--NAME N`.
-fn value_arg<'a>(alloc: Global, name: &'a str, help: &'a str) -> Arg<'a>
+pub(crate) fn value_arg<'a>(alloc: Global, name: &'a str, help: &'a str) -> Arg<'a>
     ensures rule { rule_of result ≡ value_option name.entry.now }
     ensures local { result.global ≡ false }
 {
@@ -120,15 +162,28 @@ fn asked(matches: &ArgMatches<'_>) -> Option<Settings>
     ensures { result ≡ option_and_then settings_under (subcommand_rows_of matches.now) }
 {
     let (name, options) = matches.subcommand()?;
-    let task = task_of(name)?;
+    let task = task_of(name, options)?;
     settings_from(task, options)
 }
 
-/// The task of a command's name.
-fn task_of(name: &str) -> Option<Task>
-    ensures { result ≡ task_named name.now }
+/// The task of a command's name and options.
+fn task_of(name: &str, options: &ArgMatches<'_>) -> Option<Task>
+    ensures { result ≡ task_in name.now (rows_of (found_of options.now)) }
 {
-    if name == "run" { Some(Task::Run) } else { None }
+    if name == "run" {
+        return Some(Task::Run);
+    }
+    if name == "save" {
+        return save_task(options);
+    }
+    if name == "serve" {
+        return serve_task(options);
+    }
+    if name == "ask" {
+        ask_task(options)
+    } else {
+        None
+    }
 }
 
 /// The settings that a task's options give, where each has a value in its range.
@@ -163,7 +218,7 @@ fn id_size(bytes: u64) -> Option<IdSize>
 }
 
 /// The value of an option from `least` to `most`, and `default` where the option isn't given.
-fn option_value(
+pub(crate) fn option_value(
     options: &ArgMatches<'_>,
     name: &str,
     default: u64,
@@ -179,7 +234,7 @@ fn option_value(
 }
 
 /// The number that a text of digits alone writes, where it lies from `least` to `most`.
-fn number(text: &str, least: u64, most: u64) -> Option<u64>
+pub(crate) fn number(text: &str, least: u64, most: u64) -> Option<u64>
     ensures { result ≡ number_in least most text.now }
 {
     if !is_digits(text) {

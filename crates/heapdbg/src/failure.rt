@@ -25,6 +25,16 @@ pub enum Fault {
     Write,
     /// Memory ran out.
     Memory,
+    /// The port can't be listened on.
+    Listen,
+    /// A client could not be accepted.
+    Accept,
+    /// No connection to the port can be had.
+    Connect,
+    /// The file can't be made, or what takes the dump failed.
+    Out,
+    /// The dump is lost.
+    Lost,
 }
 
 /// Why the program failed. Its `Display` is what standard error gets.
@@ -48,6 +58,11 @@ impl Fault {
             Fault::Reads => "reads",
             Fault::Write => "write",
             Fault::Memory => "memory",
+            Fault::Listen => "listen",
+            Fault::Accept => "accept",
+            Fault::Connect => "connect",
+            Fault::Out => "out",
+            Fault::Lost => "lost",
         }
     }
 }

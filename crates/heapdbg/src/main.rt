@@ -1,10 +1,16 @@
-//! A heap with a debugger's commands: `heapdbg run` answers commands from standard input on standard
-//! output.
+//! A heap with a debugger's commands: `heapdbg run` answers commands from standard input on standard output, `heapdbg save` does
+//! so and dumps the state that is left, `heapdbg serve` answers those of clients on sockets, and `heapdbg ask` is such a client.
 #![tactic(auto)]
 
+mod ask;
 mod command_line;
 mod failure;
+mod lent;
+mod save;
+mod save_options;
+mod serve;
 mod settings;
+mod socket_options;
 mod task;
 
 use std::process::ExitCode;

@@ -1,14 +1,40 @@
 //! What a command line asks for.
+ghost use Rattle.std.specs.Prelude.{◌≡◌};
+ghost use Rattle.heap_world.specs.Limits.{AreSettings};
 
 use heap_class::IdSize;
+use heap_world::Config;
 use std::fmt;
 use thiserror::Error;
+
+/// Where a save puts its dump.
+#[derive(Clone, Copy, Debug, PartialEq, Eq)]
+pub enum Target {
+    /// In the file that the command line names.
+    Out,
+    /// To a port of this computer, 1 to 65,535.
+    To(u16),
+}
 
 /// What the program does.
 #[derive(Clone, Copy, Debug, PartialEq, Eq)]
 pub enum Task {
     /// Runs one session between standard input and standard output.
     Run,
+    /// Runs one session likewise, and dumps the state that it leaves.
+    Save(Target),
+    /// Serves sessions over one shared heap to clients of this computer.
+    Serve {
+        /// The port to listen on, 1 to 65,535.
+        port: u16,
+        /// How many sessions, 1 to 1,000.
+        sessions: u64,
+    },
+    /// Asks a session that is served: sends standard input, and copies what comes back to standard output.
+    Ask {
+        /// The port to connect to, 1 to 65,535.
+        port: u16,
+    },
 }
 
 /// The task, and the value of each option.
@@ -37,4 +63,15 @@ pub enum LineFault {
     /// Memory ran out while the words were read.
     #[error("out of memory")]
     Memory,
+}
+
+/// The heap that the settings ask for.
+pub fn config(settings: &Settings) -> Config
+    requires { AreSettings settings.now.regions settings.now.mutators settings.now.keep }
+    ensures { result ≡ record { regions = settings.now.regions; mutators = settings.now.mutators; keep = settings.now.keep; ids = settings.now.ids } }
+{
+    match Config::new(settings.regions, settings.mutators, settings.keep) {
+        Some(config) => config.with_ids(settings.ids),
+        None => unreachable!(),
+    }
 }

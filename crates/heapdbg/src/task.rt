@@ -1,48 +1,84 @@
 //! The tasks, from the words of the command line on.
 ghost use Rattle.std.specs.Prelude.{◌≡◌, Some, IfOk, IfErr, map, string_bytes};
 ghost use Rattle.std.specs.IoError.{error_kind};
-ghost use Rattle.heapdbg.specs.CommandLine.{IsBadWith, IsRefusalOf, settings_of, texts};
-ghost use Rattle.heapdbg.specs.Runs.{IsRun, IsPerformed};
+ghost use Rattle.heapdbg.specs.CommandLine.{AreWithin, IsBadWith, IsRefusalOf, settings_of, texts};
+ghost use Rattle.heapdbg.specs.Runs.{IsDone, IsRun, IsPerformed};
+ghost use Rattle.heapdbg.specs.Saving.{IsSavedTo};
 ghost use Rattle.heap_world.specs.Limits.{AreSettings};
 
-use crate::command_line::{bad, settings};
+use crate::ask::ask_port;
+use crate::command_line::{bad, out_path, settings};
 use crate::failure::{Failure, Fault, outcome};
-use crate::settings::{LineFault, Settings, Task};
+use crate::save::{save_out, save_to};
+use crate::serve::serve_port;
+use crate::settings::{LineFault, Settings, Target, Task, config};
 use dump_pump::{Outlet, WriteOutlet};
 use heap_trail::Machine;
-use heap_world::Config;
 use session_text::{Inlet, Local, ReadInlet, serve_local};
 use std::alloc::{AllocError, Global};
+use std::fs::Files;
 use std::io::{Error, ErrorKind};
+use std::net::{Net, TcpListener, TcpStream};
 use std::rt::Env;
+use std::sync::Wait;
+use std::thread::Threads;
 use std::{env, io};
 
 /// Reads the command line, and does what it asks for between standard input and standard output.
-pub fn perform<R: AllocGlobal + Env + Input + Print>(rt: &R) -> Result<(), Failure> {
+pub fn perform<R>(rt: &R) -> Result<(), Failure>
+where
+    R: AllocGlobal + Env + Files + Input + Print + Sync,
+    R: Net<Listener = TcpListener, Stream = TcpStream> + Threads + Wait,
+    R::Reader: Send,
+{
     let words: Vec<String> = match env::args(rt) {
         Ok(words) => words.collect(rt.alloc()).map_err(|_| Fault::Memory)?,
         Err(error) => return Err(unread(rt.alloc(), &error).into()),
     };
     let mut reader = ReadInlet::new(rt.reader());
     let mut writer = WriteOutlet::new(io::writer(rt));
-    perform_words(rt.alloc(), words.as_slice(), &mut reader, &mut writer)
+    perform_words(rt, rt.alloc(), words.as_slice(), &mut reader, &mut writer)
 }
 
 /// Does what the words ask for between a reader and a writer. Where they ask for nothing, or there is no memory to read
 /// them, nothing is read or written.
-fn perform_words<I: Inlet, O: Outlet>(
+fn perform_words<R, I: Inlet + Send, O: Outlet>(
+    rt: &R,
     alloc: Global,
     words: &[String],
     reader: &mut I,
     writer: &mut O,
 ) -> Result<(), Failure>
+where
+    R: Net<Listener = TcpListener, Stream = TcpStream> + Files + Threads + Wait + Sync,
     ensures { IsPerformed (map string_bytes words.now) (I.seen reader.old) (I.seen reader.new) (O.seen writer.old) (O.seen writer.new) result }
 {
     let asked = asked(alloc, words)?;
-    match asked.task {
-        Task::Run => session(alloc, &asked, reader, writer)?,
-    }
+    work(rt, alloc, words, &asked, reader, writer)?;
     Ok(())
+}
+
+/// Does the task of the settings, which the words ask for.
+fn work<R, I: Inlet + Send, O: Outlet>(
+    rt: &R,
+    alloc: Global,
+    words: &[String],
+    asked: &Settings,
+    reader: &mut I,
+    writer: &mut O,
+) -> Result<(), Fault>
+where
+    R: Net<Listener = TcpListener, Stream = TcpStream> + Files + Threads + Wait + Sync,
+    requires { AreWithin asked.now }
+    ensures { IsDone asked.now.task asked.now (I.seen reader.old) (I.seen reader.new) (O.seen writer.old) (O.seen writer.new) result }
+{
+    match asked.task {
+        Task::Run => session(alloc, asked, reader, writer),
+        Task::Save(Target::Out) => save_named(rt, alloc, words, asked, reader, writer),
+        Task::Save(Target::To(port)) => save_to(rt, alloc, asked, port, reader, writer),
+        Task::Serve { port, sessions } => serve_port(rt, alloc, asked, port, sessions, writer),
+        Task::Ask { port } => ask_port(rt, port, reader, writer),
+    }
 }
 
 const NOT_UTF8: &str = "error: a word of the command line is not UTF-8\n";
@@ -62,7 +98,7 @@ fn unread(alloc: Global, error: &Error) -> LineFault
 fn asked(alloc: Global, words: &[String]) -> Result<Settings, LineFault>
     ensures ok { IfOk result (λ s. settings_of (map string_bytes words.now) ≡ Some s) }
     ensures refused { IfErr result (IsRefusalOf (map string_bytes words.now)) }
-    ensures limits { IfOk result (λ s. AreSettings s.regions s.mutators s.keep) }
+    ensures limits { IfOk result AreWithin }
 {
     match borrowed(alloc, words) {
         Ok(line) => settings(alloc, line.as_slice()),
@@ -81,17 +117,6 @@ fn borrowed<'a>(alloc: Global, words: &'a [String]) -> Result<Vec<&'a str>, Allo
     Ok(line)
 }
 
-/// The heap that the settings ask for.
-fn config(settings: &Settings) -> Config
-    requires { AreSettings settings.now.regions settings.now.mutators settings.now.keep }
-    ensures { result ≡ record { regions = settings.now.regions; mutators = settings.now.mutators; keep = settings.now.keep; ids = settings.now.ids } }
-{
-    match Config::new(settings.regions, settings.mutators, settings.keep) {
-        Some(config) => config.with_ids(settings.ids),
-        None => unreachable!(),
-    }
-}
-
 /// One session over a heap of its own.
 fn session<I: Inlet, O: Outlet>(
     alloc: Global,
@@ -104,9 +129,30 @@ fn session<I: Inlet, O: Outlet>(
 {
     match Machine::new(alloc, config(settings)) {
         Ok(machine) => {
-            let mut local = Local { machine };
+            let mut local = Local::new(machine);
             outcome(serve_local(alloc, reader, writer, &mut local, settings.time))
         }
         Err(_) => Err(Fault::Memory),
+    }
+}
+
+/// One session over a heap of its own, whose last state is dumped to the file that the words name.
+fn save_named<R: Files, I: Inlet, O: Outlet>(
+    rt: &R,
+    alloc: Global,
+    words: &[String],
+    settings: &Settings,
+    reader: &mut I,
+    writer: &mut O,
+) -> Result<(), Fault>
+    requires { AreSettings settings.now.regions settings.now.mutators settings.now.keep }
+    ensures { IsSavedTo Fault.Out settings.now (I.seen reader.old) (I.seen reader.new) (O.seen writer.old) (O.seen writer.new) result }
+{
+    let Ok(line) = borrowed(alloc, words) else {
+        return Err(Fault::Memory);
+    };
+    match out_path(alloc, line.as_slice()) {
+        Some(path) => save_out(rt, alloc, settings, path, reader, writer),
+        None => Err(Fault::Memory),
     }
 }

@@ -109,7 +109,7 @@ pub fn cancelled_before<R: Threads + Wait + Sync>(
 }
 
 /// Asks to cancel once an outlet is held, and then opens its gate. Returns whether it was held.
-fn ask_once_held(
+pub fn ask_once_held(
     cancel: &Cancel<'_>,
     seat: &mut AskSeat,
     here: &AtomicU64,

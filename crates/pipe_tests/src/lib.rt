@@ -6,7 +6,13 @@ mod cancelling;
 #[cfg(test)]
 mod ends;
 #[cfg(test)]
+mod live;
+#[cfg(test)]
+mod live_tests;
+#[cfg(test)]
 mod parts;
+#[cfg(test)]
+mod shared;
 #[cfg(test)]
 mod sinks;
 #[cfg(test)]

@@ -10,9 +10,7 @@ use std::test::Fail;
 /// A machine at place 0 with ids of this size.
 pub fn machine_of(alloc: Global, ids: IdSize) -> Result<Local, Fail> {
     let config = Config::new(16, 2, 1024).ok_or("settings out of range")?;
-    Ok(Local {
-        machine: Machine::new(alloc, config.with_ids(ids))?,
-    })
+    Ok(Local::new(Machine::new(alloc, config.with_ids(ids))?))
 }
 
 /// Fails unless a session over a heap with ids of four bytes runs all lines and writes this.

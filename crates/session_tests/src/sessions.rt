@@ -11,9 +11,7 @@ use std::test::Fail;
 /// A machine at place 0.
 pub fn machine(alloc: Global, regions: u64, mutators: u64, keep: u64) -> Result<Local, Fail> {
     let config = Config::new(regions, mutators, keep).ok_or("settings out of range")?;
-    Ok(Local {
-        machine: Machine::new(alloc, config)?,
-    })
+    Ok(Local::new(Machine::new(alloc, config)?))
 }
 
 // ---- what is written

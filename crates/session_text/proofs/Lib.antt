@@ -10,5 +10,7 @@ pub mod Numbers
 pub mod Fielded
 pub mod Talking
 pub mod Sessions
+pub mod FirstPin
 pub mod Dumping
 pub mod Hexadecimal
+pub mod Mutating

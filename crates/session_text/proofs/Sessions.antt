@@ -46,8 +46,8 @@ abbrev talk : Machine → List Mark → List ℕ → Talk
 talk m marks w = record { machine = m; marks = marks; written = w }
 
 -- what a machine of one's own may do
-abbrev acts : Local → Action → Reply → Local → Type 0
-acts c a r d = LocalActs c.machine a r d.machine
+abbrev pub acts : Local → Action → Reply → Local → Type 0
+acts c a r d = LocalActs c.machine a r d.machine × (d.first_pin ≡ c.first_pin)
 
 -- ---- dumps
 
@@ -126,7 +126,7 @@ dumps_so zero pin time c so_far text d h = record {
   so = λ ms w. dump_none pin time (talk c.machine ms w) so_far ∙ ap (λ l. talk c.machine ms l) (sym (append-nil w)) ∙ moved c.machine d.machine ms w [] text (ap (λ (x : Local). x.machine) h.1) h.0;
   fit = λ ms w. fit_none pin time (talk c.machine ms w) so_far;
 }
-dumps_so (suc n) pin time c so_far text d (r, next, (mark, may, e), goes) =
+dumps_so (suc n) pin time c so_far text d (r, next, ((mark, may, e), kept), goes) =
     let g = rest_so n pin time next so_far r (piece_in r) text d (λ k words h. dumps_so n pin time next k words d h) goes in
     record {
       found = mark ∷ g.found;
@@ -157,7 +157,7 @@ open_so time c r None text d h = record {
   so = λ ms w. moved c.machine d.machine ms w (reply_text r) text (ap (λ (x : Local). x.machine) h.1) h.0;
   fit = λ ms w. tt;
 }
-open_so time c r (Some pin) text d (between, closing, h, (mark, may, e)) =
+open_so time c r (Some pin) text d (between, closing, h, ((mark, may, e), kept)) =
     let f = dumps_so piece_limit pin time c 0 text between h in
     let apart : (ms : List Mark) → (f.found ++ mark ∷ []) ++ ms ≡ f.found ++ (mark ∷ ms) = λ ms. append_assoc f.found (mark ∷ []) ms in
     let dump : (ms : List Mark) (w : List ℕ) → dumped piece_limit pin time (talk c.machine ((f.found ++ mark ∷ []) ++ ms) w) 0 ≡ talk between.machine (mark ∷ ms) (w ++ text) = λ ms w. ap (λ l. dumped piece_limit pin time (talk c.machine l w) 0) (apart ms) ∙ f.so (mark ∷ ms) w in
@@ -202,7 +202,7 @@ follows time Bad c text d h = record {
   after = λ ms w. let p = sym h.1 in let q = sym h.0 in λ i. talk (p i).machine ms (w ++ q i);
   fit = λ ms w. tt;
 }
-follows time (Ask a) c text d (r, inl (mark, may, e), is) = record {
+follows time (Ask a) c text d (r, inl ((mark, may, e), kept), is) = record {
   found = mark ∷ [];
   no_end = refl;
   after = λ ms w. replied_so a c.machine mark ms w d.machine r text e is;
@@ -214,7 +214,7 @@ follows time (Ask a) c text d (r, inr (takes, refused, same), is) = record {
   after = λ ms w. replied_so a c.machine Refusing ms w d.machine (Refused NoMemory) text (is_refused c.machine a ∙ ap (λ (x : Local). (x.machine, Refused NoMemory)) (sym same)) (is ∙ ap (λ x. reply_text x) refused);
   fit = λ ms w. inr takes;
 }
-follows time (Piece pin) c text d (r, (mark, may, e), is) = record {
+follows time (Piece pin) c text d (r, ((mark, may, e), kept), is) = record {
   found = mark ∷ [];
   no_end = refl;
   after = λ ms w. replied_so (NextPiece pin time) c.machine mark ms w d.machine r text e is;
@@ -223,7 +223,7 @@ follows time (Piece pin) c text d (r, (mark, may, e), is) = record {
 follows time (Dump pin) c text d h =
     let f = dumps_so piece_limit pin time c 0 text d h in
     record { found = f.found; no_end = refl; after = f.so; fit = f.fit }
-follows time DumpNow c text d (r, opened, (mark, may, e), closes) =
+follows time DumpNow c text d (r, opened, ((mark, may, e), kept), closes) =
     let g = open_so time opened r (pin_in r) text d closes in
     record {
       found = mark ∷ g.found;
@@ -562,7 +562,7 @@ open_begins k time c r None text d le h =
       spent = λ w. refl;
       fit = λ w. tt;
     }
-open_begins k time c r (Some pin) text d le (between, closing, h, (mark, may, e)) =
+open_begins k time c r (Some pin) text d le (between, closing, h, ((mark, may, e), kept)) =
     let f = dump_begins k pin time c text between le h in
     let is : acted_under between.machine (ClosePin pin, Fine) ≡ (d.machine, closing) = ap (λ x. acted_under between.machine (ClosePin pin, x)) (sym (close_fine between.machine pin mark may)) ∙ e in
     record {
@@ -615,7 +615,7 @@ begins_so time (Dump pin) c tail d w more ih (pieces, le, h) =
       here = is_all d.machine [] (w ++ tail) (w ++ tail) _ (f.here w) refl;
       machine = sym (ap (λ (u : Talk). u.machine) (f.here w));
     }
-begins_so time DumpNow c tail d w more ih (pieces, le, (r, opened, (mark, may, e), closes)) =
+begins_so time DumpNow c tail d w more ih (pieces, le, (r, opened, ((mark, may, e), kept), closes)) =
     let f = open_begins pieces time opened r (pin_in r) tail d le closes in
     let first = done_so (OpenPin None) c.machine mark f.found w opened.machine r e in
     let t = talk c.machine (mark ∷ f.found) w in

@@ -82,6 +82,10 @@ first_cut t e is some (inr le) =
     let size : 0 < length t = positive t e is some in
     ap (λ ws. filter some_byte ws) (slice_split_none is_space t none) ∙ keep_first t [] size ∙ ap (λ l. l ∷ []) (sym all) ∙ ap (λ ws. take e t ∷ ws) (sym (ap words_of (drop_all (e + 1) t (omega (arith, le))) ∙ words_nil))
 
+-- a text that begins with a word
+pub words_first : (t : List ℕ) → 0 < word_size t → words_of t ≡ first_word t ∷ words_of (drop (word_size t + 1) t)
+words_first t some = first_cut t (word_size t) refl some (cases_lt (word_size t) (length t))
+
 first_other : (x : ℕ) (xs : List ℕ) (v : Bool) → is_space x ≡ v → not v ≡ true → 0 < position_or_len is_space (x ∷ xs)
 first_other x xs true e h = cc
 first_other x xs false e h = let n : position_or_len is_space (x ∷ xs) ≡ 1 + position_or_len is_space xs = ap (λ v. cond (not v) (1 + position_or_len is_space xs) 0) e in omega (arith, n)

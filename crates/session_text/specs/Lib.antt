@@ -7,6 +7,7 @@ pub mod Replies
 pub mod Writes
 pub mod Lines
 pub mod Dumps
+pub mod Mutators
 pub mod Answers
 pub mod Talks
 pub mod Endings

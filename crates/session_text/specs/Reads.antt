@@ -1,5 +1,5 @@
 -- How lines are read, and which take memory for it.
-use Rattle.std.specs.Prelude.{◌≡◌, ℕ, ◌+◌, ◌-◌, ◌*◌, ◌^◌, ◌≤◌, All, length, ◌==◌, nat_lt, nat_le, List, [], ◌∷◌, ◌++◌, take, drop, codes, Option, Some, None, option_map, option_and_then, if◌then◌else◌}
+use Rattle.std.specs.Prelude.{◌≡◌, ℕ, ◌+◌, ◌-◌, ◌*◌, ◌^◌, ◌<◌, ◌≤◌, All, length, ◌==◌, nat_lt, List, [], ◌∷◌, ◌++◌, take, drop, codes, Option, Some, None, option_map, option_and_then, if◌then◌else◌}
 use Rattle.std.specs.Char.{is_ascii_digit}
 use Rattle.std.specs.List.{position_or_len}
 use Rattle.heap_class.specs.declared.Field.{Field}
@@ -7,7 +7,7 @@ use Rattle.heap_step.specs.declared.Event.{Event}
 use Rattle.heap_step.specs.declared.Event.TheVariants.{Class, ArrayClass, New, NewArray, NewPrim, Load, Store, Put, Move, Clear, Snap, Mark, Drain, Finish, Sweep}
 use Rattle.heap_trail.specs.declared.Action.{Action}
 use Rattle.heap_trail.specs.declared.Action.TheVariants.{Step, Rewind, OpenPin, NextPiece, ClosePin}
-use Rattle.session_text.specs.Grammar.{words_of, is_plain, Rule, value_of, field_of, next_number_or_dash, at_end, making_rules, access_rules, marking_rules, session_rules}
+use Rattle.session_text.specs.Grammar.{words_of, is_plain, Rule, value_of, number, next_number, field_of, next_number_or_dash, at_end, making_rules, access_rules, marking_rules, session_rules}
 use Rattle.session_text.specs.declared.marks.FieldMark.{FieldMark}
 use Rattle.session_text.specs.declared.command.Command.{Command}
 use Rattle.session_text.specs.declared.command.Command.TheVariants.{Blank, Bad, Ask, Piece, Dump, DumpNow, End}
@@ -74,9 +74,22 @@ IsRestOf text rest = (length rest ≤ length text) × (rest ≡ drop (length tex
 abbrev pub with_digit : ℕ → ℕ → Option ℕ
 with_digit n b = if is_ascii_digit b then (if nat_lt (n * 10 + (b - 48)) (2 ^ 64) then Some (n * 10 + (b - 48)) else None) else None
 
--- the value of up to 20 digits
-abbrev pub digits_at : List ℕ → Option (ℕ × ℕ)
-digits_at t = with_size t (if nat_le (word_size t) 20 then value_of (first_word t) else None)
+-- a number with these digits more
+abbrev pub value_from : ℕ → List ℕ → Option ℕ
+value_from n [] = Some n
+value_from n (b ∷ bs) = option_and_then (λ m. value_from m bs) (with_digit n b)
+
+-- the first word has so many bytes before `rest`, and its value is that of the value so far with the digits of `rest`
+abbrev pub IsReadTo : List ℕ → List ℕ → ℕ → ℕ → Type 0
+IsReadTo t rest size value = (word_size t ≡ size + word_size rest) × (value_of (first_word t) ≡ value_from value (first_word rest))
+
+-- the number that the first word is, and its size; or 0, where it is no number
+abbrev pub IsNumberAt : List ℕ → ℕ → ℕ → Type 0
+IsNumberAt t value size = with_size t (number (first_word t)) ≡ (if size == 0 then None else Some (value, size))
+
+-- the number that the word at a place is, and the place behind it and the byte that ends it; or a place past the text by two
+abbrev pub IsNumberFrom : List ℕ → ℕ → ℕ → ℕ → Type 0
+IsNumberFrom t at value next = next ≤ length t + 1 → (at < length t) × (next_number (words_of (drop at t)) ≡ Some (value, words_of (drop next t)))
 
 -- ---- words without a bad byte
 

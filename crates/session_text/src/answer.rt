@@ -1,8 +1,10 @@
 //! Lines and their answers.
-ghost use Rattle.std.specs.Prelude.{◌≡◌, ◌≤◌, length, []};
+ghost use Rattle.std.specs.Prelude.{◌≡◌, ◌≤◌, length, [], true};
+ghost use Rattle.heap_step.specs.declared.Answer.TheVariants.{Done};
+ghost use Rattle.heap_trail.specs.declared.Reply.TheVariants.{Answered};
 ghost use Rattle.session_text.specs.Answers.{Answers, Begins};
 ghost use Rattle.session_text.specs.Endings.{step_of};
-ghost use Rattle.session_text.specs.Grammar.{command_of};
+ghost use Rattle.session_text.specs.Grammar.{command_of, command_of_text};
 ghost use Rattle.heap_trail.specs.declared.Reply.{Reply};
 ghost use Rattle.session_text.specs.Replies.{reply_text};
 ghost use Rattle.session_text.specs.Talks.{IsStep, IsAnswered};
@@ -10,15 +12,17 @@ ghost use Rattle.session_text.specs.Writes.{IsAdded};
 
 use crate::LINE_LIMIT;
 use crate::buffer::Buffer;
-use crate::command::{Command, command_of};
+use crate::command::{Command, command_of_text, without_cr};
 use crate::commands::Commands;
 use crate::dump::{write_dump, write_dump_now};
 use crate::marks::FieldMarks;
+use crate::mutator::{Quick, answer_mutator};
 use crate::page::Page;
 use crate::reply::write_reply;
 use crate::write::write_text;
 use dump_pump::Outlet;
 use heap_class::Refusal;
+use heap_step::Answer;
 use heap_trail::{Action, Reply};
 use std::alloc::Global;
 
@@ -39,8 +43,17 @@ fn next_unless(written: bool) -> Step
     if written { Step::Next } else { Step::Fault }
 }
 
+/// Whether a reply prints no more than that an event was done.
+#[inline(always)]
+fn is_done(reply: &Reply) -> bool
+    ensures { result ≡ true → reply.now ≡ Answered Done }
+{
+    matches!(reply, Reply::Answered(Answer::Done))
+}
+
 /// Does an action, and adds its reply to a page.
-fn answer_action<O: Outlet, C: Commands>(
+#[inline(always)]
+pub fn answer_action<O: Outlet, C: Commands>(
     action: Action,
     page: &mut Page,
     writer: &mut O,
@@ -49,6 +62,9 @@ fn answer_action<O: Outlet, C: Commands>(
     ensures { (r : Reply) × C.acts commands.old action r commands.new × IsAdded (reply_text r) page.old (O.seen writer.old) page.new (O.seen writer.new) result }
 {
     let reply = commands.act(action);
+    if is_done(&reply) {
+        return write_text(page, writer, b"ok\n");
+    }
     write_reply(page, writer, &reply)
 }
 
@@ -65,7 +81,29 @@ fn answer_line<O: Outlet, C: Commands>(
     requires { length line.now ≤ 4096 }
     ensures { IsStep (Answers C.acts time) (Begins C.acts time) (command_of line.now) commands.old page.old (O.seen writer.old) commands.new page.new (O.seen writer.new) result }
 {
-    match command_of(alloc, marks, line) {
+    let text = without_cr(line);
+    match answer_mutator(text, page, writer, commands) {
+        Quick::Next => Step::Next,
+        Quick::Fault => Step::Fault,
+        Quick::No => answer_text(alloc, marks, text, time, page, writer, commands),
+    }
+}
+
+/// Adds the answer of one line to a page, which is flushed each time that it is full.
+#[inline(never)]
+fn answer_text<O: Outlet, C: Commands>(
+    alloc: Global,
+    marks: &mut FieldMarks,
+    text: &[u8],
+    time: u64,
+    page: &mut Page,
+    writer: &mut O,
+    commands: &mut C,
+) -> Step
+    requires { length text.now ≤ 4096 }
+    ensures { IsStep (Answers C.acts time) (Begins C.acts time) (command_of_text text.now) commands.old page.old (O.seen writer.old) commands.new page.new (O.seen writer.new) result }
+{
+    match command_of_text(alloc, marks, text) {
         Err(_) => next_unless(write_reply(page, writer, &Reply::Refused(Refusal::NoMemory))),
         Ok(Command::Blank) => Step::Next,
         Ok(Command::Bad) => next_unless(write_text(page, writer, b"bad command\n")),

@@ -43,7 +43,10 @@ fn is_word(word: &[u8], name: &[u8]) -> bool
 fn next_number(words: &mut Words) -> Option<u64>
     ensures { IsNext (next_number (words_of words.old)) (words_of words.new) result }
 {
-    let (value, size) = number_at(words.front()?)?;
+    let (value, size) = number_at(words.front()?);
+    if size == 0 {
+        return None;
+    }
     words.pass(size);
     Some(value)
 }
@@ -431,7 +434,7 @@ fn line_after(
 }
 
 /// Drops a CR at the end.
-fn without_cr(line: &[u8]) -> &[u8]
+pub fn without_cr(line: &[u8]) -> &[u8]
     ensures { result.now ≡ without_cr line.now }
 {
     let size = line.len();
@@ -442,7 +445,7 @@ fn without_cr(line: &[u8]) -> &[u8]
     }
 }
 
-fn command_of_text(
+pub fn command_of_text(
     alloc: Global,
     marks: &mut FieldMarks,
     text: &[u8],
@@ -455,14 +458,4 @@ fn command_of_text(
         return Ok(Command::Blank);
     };
     Ok(line_after(alloc, marks, word, words)?.unwrap_or(Command::Bad))
-}
-
-/// What a line asks for, its LF left off. It has at most 4,096 bytes, since `marks` has room for no more fields than those make:
-/// what is in it is dropped. Refused only where the line defines a class.
-#[tactic(auto, unfolding(crate::specs::Grammar::command_of))]
-pub fn command_of(alloc: Global, marks: &mut FieldMarks, line: &[u8]) -> Result<Command, AllocError>
-    requires { length line.now ≤ 4096 }
-    ensures { MatchResult result (λ c. c ≡ command_of line.now) (λ _. TakesMemory (command_of line.now)) }
-{
-    command_of_text(alloc, marks, without_cr(line))
 }

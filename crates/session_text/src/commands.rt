@@ -1,4 +1,7 @@
 //! What acts on lines.
+ghost use Rattle.std.specs.Prelude.{◌≡◌};
+ghost use Rattle.session_text.specs.Local.{own_closed};
+
 use heap_trail::{Action, Machine, Reply};
 
 /// What acts on the lines of a session. Contracts see what an action may answer and leave.
@@ -15,16 +18,37 @@ pub trait Commands {
         ensures small { IsSmall result };
 }
 
-/// A machine of one's own.
+/// A machine of one's own, which acts on the lines of a session. No action changes which number was the first.
 #[derive(Drop)]
 pub struct Local {
+    /// The machine.
     pub machine: Machine,
+    /// The first number that a pin opened through these commands can have.
+    pub first_pin: u64,
+}
+
+impl Local {
+    /// Creates the commands of a machine. Pins that are open already do not count as opened through them. Takes no memory.
+    pub fn new(machine: Machine) -> Local
+        ensures { result ≡ record { machine = machine; first_pin = machine.pins.next } }
+    {
+        let first_pin = machine.next_pin();
+        Local { machine, first_pin }
+    }
+
+    /// Closes each pin that was opened through these commands and is not closed, lost or not. Takes no memory.
+    pub fn close_all(&mut self)
+        ensures { self.new ≡ record self.old { machine = own_closed self.old.first_pin self.old.machine } }
+    {
+        self.machine.close_from(self.first_pin);
+    }
 }
 
 impl Commands for Local {
+    ghost use Rattle.std.specs.Prelude.{◌≡◌};
     ghost use Rattle.session_text.specs.Local.{LocalActs};
 
-    ghost acts = { λ c a r d. LocalActs c.machine a r d.machine };
+    ghost acts = { λ c a r d. LocalActs c.machine a r d.machine × (d.first_pin ≡ c.first_pin) };
 
     fn act(&mut self, action: Action) -> Reply {
         self.machine.act(&action)

@@ -14,6 +14,7 @@ mod dump;
 mod fields;
 pub mod inlet;
 mod marks;
+mod mutator;
 mod number;
 mod page;
 pub mod read_inlet;

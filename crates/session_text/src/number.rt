@@ -1,13 +1,16 @@
 //! Numbers in decimal.
-ghost use Rattle.std.specs.Prelude.{◌≡◌, ◌≤◌, length, codes, IfSome};
+ghost use Rattle.std.specs.Prelude.{◌≡◌, ◌≤◌, ◌<◌, length, drop, codes, IfSome};
 ghost use Rattle.std.specs.Str.{bytes_eq};
 ghost use Rattle.session_text.specs.Grammar.{number, number_or_dash};
-ghost use Rattle.session_text.specs.Reads.{first_word, with_digit, with_size, digits_at};
+ghost use Rattle.session_text.specs.Reads.{first_word, with_digit, with_size, IsReadTo, IsNumberAt, IsNumberFrom};
 
 use crate::words::SPACE;
 
 /// The most digits of a number, leading zeros included.
 const DIGIT_LIMIT: usize = 20;
+
+/// The digits of which any make a number below 2^64.
+const SURE_DIGITS: usize = 19;
 
 /// A number with a digit more. None where `b` is no digit or the number comes to 2^64.
 fn with_digit(value: u64, b: u8) -> Option<u64>
@@ -19,37 +22,67 @@ fn with_digit(value: u64, b: u8) -> Option<u64>
     value.checked_mul(10)?.checked_add(u64::from(b - b'0'))
 }
 
-/// The value of the digits of the text's first word, and its bytes. None where it has another byte, is longer than a number or
-/// comes to 2^64.
-fn digits_at(text: &[u8]) -> Option<(u64, usize)>
-    ensures value { result ≡ digits_at text.now }
-    ensures within { IfSome result (λ r. r.1 ≤ length text.now) }
+/// The number that the text's first word is, given the value of its first 19 digits, and its bytes, or 0 bytes.
+#[inline(never)]
+fn last_digit(text: &[u8], value: u64) -> (u64, usize)
+    requires { (19 < length text.now) × IsReadTo text.now (drop 19 text.now) 19 value }
+    ensures value { IsNumberAt text.now result.0 result.1 }
+    ensures within { result.1 ≤ length text.now }
+{
+    if text[SURE_DIGITS] == SPACE {
+        return (value, SURE_DIGITS);
+    }
+    let Some(whole) = with_digit(value, text[SURE_DIGITS]) else {
+        return (0, 0);
+    };
+    if text.len() > DIGIT_LIMIT && text[DIGIT_LIMIT] != SPACE {
+        return (0, 0);
+    }
+    (whole, DIGIT_LIMIT)
+}
+
+/// The number that the text's first word is, and its bytes: 1 to 20 digits below 2^64. It has 0 bytes if it is no number.
+pub fn number_at(text: &[u8]) -> (u64, usize)
+    ensures value { IsNumberAt text.now result.0 result.1 }
+    ensures within { result.1 ≤ length text.now }
 {
     let mut value: u64 = 0;
     let mut size = 0;
-    for b in text {
-        if *b == SPACE {
-            break;
+    let sure = text.len().min(SURE_DIGITS);
+    while size < sure {
+        let b = text[size];
+        if !b.is_ascii_digit() {
+            if b == SPACE {
+                return (value, size);
+            }
+            return (0, 0);
         }
-        if size == DIGIT_LIMIT {
-            return None;
-        }
-        value = with_digit(value, *b)?;
+        value = value * 10 + u64::from(b - b'0');
         size += 1;
     }
-    Some((value, size))
+    if size == text.len() {
+        return (value, size);
+    }
+    last_digit(text, value)
 }
 
-/// The number that the text's first word is, and its bytes: 1 to 20 digits below 2^64.
-pub fn number_at(text: &[u8]) -> Option<(u64, usize)>
-    ensures value { result ≡ with_size text.now (number (first_word text.now)) }
-    ensures within { IfSome result (λ r. r.1 ≤ length text.now) }
+/// The number at a place of a text, and the place behind it and the byte that ends it. That place is past the text by two bytes
+/// if there is no such number.
+#[inline(always)]
+pub fn number_from(text: &[u8], at: usize) -> (u64, usize)
+    ensures { IsNumberFrom text.now at result.0 result.1 }
 {
-    let (value, size) = digits_at(text)?;
-    if size == 0 {
-        return None;
+    if at >= text.len() {
+        return (0, text.len() + 2);
     }
-    Some((value, size))
+    if text[at].is_ascii_digit() && at + 1 < text.len() && text[at + 1] == SPACE {
+        return (u64::from(text[at] - b'0'), at + 2);
+    }
+    let (value, size) = number_at(&text[at..]);
+    if size == 0 {
+        return (0, text.len() + 2);
+    }
+    (value, at + size + 1)
 }
 
 /// Whether the text's first word is `-`.
@@ -71,6 +104,9 @@ pub fn number_or_dash_at(text: &[u8]) -> Option<(Option<u64>, usize)>
     if is_dash_at(text) {
         return Some((None, 1));
     }
-    let (value, size) = number_at(text)?;
+    let (value, size) = number_at(text);
+    if size == 0 {
+        return None;
+    }
     Some((Some(value), size))
 }

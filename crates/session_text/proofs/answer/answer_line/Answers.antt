@@ -1,17 +1,12 @@
-use Rattle.std.proofs.Common.{◌∙◌, sym}
-use Rattle.session_text.specs.Grammar.{command_of}
-use Rattle.session_text.proofs.Talking.{step_unread, step_blank, step_dumped}
+use Rattle.std.proofs.Common.{true, false}
+use Rattle.session_text.proofs.Mutating.{step_quick, step_left}
 use Rattle.session_text.proofs.answer.answer_line.Goals as goal
 
-pub returns-in-Err : goal.returns-in-Err
-returns-in-Err g c =
-    rw c.next_unless.ensures (step_unread g.C.Commands.acts c.args.time (command_of c.args.line.now) c.args.commands.now c.args.page.now (g.O.Outlet.seen c.args.writer.now) c.write_reply.new.page (g.O.Outlet.seen c.write_reply.new.outlet) c.write_reply.result c.in-Err.ensures c.write_reply.ensures)
+pub returns-in-Next : goal.returns-in-Next
+returns-in-Next g c = step_quick g.C.Commands.acts c.args.time c.args.line.now c.without_cr-text.result.now c.args.commands.now c.args.page.now (g.O.Outlet.seen c.args.writer.now) c.answer_mutator.new.commands c.answer_mutator.new.page (g.O.Outlet.seen c.answer_mutator.new.writer) true c.without_cr-text.ensures c.in-Next.ensures
 
-pub returns-in-Ok-Dump : goal.returns-in-Ok-Dump
-returns-in-Ok-Dump g c =
-    rw c.next_unless-in-Ok-Dump.ensures (step_dumped g.C.Commands.acts c.args.time c.in-Ok-Dump.pin (command_of c.args.line.now) c.args.commands.now c.args.page.now (g.O.Outlet.seen c.args.writer.now) c.write_dump.new.commands c.write_dump.new.page (g.O.Outlet.seen c.write_dump.new.outlet) c.write_dump.result
-    (sym c.in-Ok-Dump.field-0-is ∙ c.in-Ok-Dump.ensures) c.write_dump.ensures)
+pub returns-in-Fault : goal.returns-in-Fault
+returns-in-Fault g c = step_quick g.C.Commands.acts c.args.time c.args.line.now c.without_cr-text.result.now c.args.commands.now c.args.page.now (g.O.Outlet.seen c.args.writer.now) c.answer_mutator.new.commands c.answer_mutator.new.page (g.O.Outlet.seen c.answer_mutator.new.writer) false c.without_cr-text.ensures c.in-Fault.ensures
 
-pub returns-in-Ok-Blank : goal.returns-in-Ok-Blank
-returns-in-Ok-Blank g c =
-    step_blank g.C.Commands.acts c.args.time (command_of c.args.line.now) c.args.commands.now c.args.page.now (g.O.Outlet.seen c.args.writer.now) (sym c.in-Ok-Blank.field-0-is ∙ c.in-Ok-Blank.ensures)
+pub returns-in-No : goal.returns-in-No
+returns-in-No g c = step_left g.C.Commands.acts c.args.time c.args.line.now c.without_cr-text.result.now c.args.commands.now c.args.page.now (g.O.Outlet.seen c.args.writer.now) c.answer_mutator.new.commands c.answer_mutator.new.page (g.O.Outlet.seen c.answer_mutator.new.writer) c.answer_text.new.commands c.answer_text.new.page (g.O.Outlet.seen c.answer_text.new.writer) c.answer_text.result c.without_cr-text.ensures c.in-No.ensures c.answer_text.ensures

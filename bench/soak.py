@@ -1,0 +1,220 @@
+#!/usr/bin/env python3
+"""Has 8 clients work on one served heap: `soak.py [PROGRAM]`, for `SECONDS` seconds (600 if that is not set).
+
+PROGRAM is `bin/heapdbg` if it isn't given. The clients send lines of every kind by lot, a page of lines at a time, and open two pins on
+one place, dump both and close them. Prints a line for each reply that is not well formed, for two whole dumps of one place that
+differ, and for a session that ended otherwise than by `end`; then how much was done, and the memory of the program after the first
+minute and at the end. Status 1 if anything was wrong.
+
+A heap that is served takes 1,000,000 acts in all, so the clients pause between pages as long as that they don't run out of them.
+Whether each receipt fits the chronicle can't be seen through the program: lock_tests and growths look at that."""
+import os
+import pathlib
+import random
+import re
+import socket
+import subprocess
+import sys
+import threading
+import time
+
+TOP = pathlib.Path(__file__).resolve().parent.parent
+CLIENTS = 8
+MUTATORS = 4
+# How many acts the clients may do together, and how many lines are in a page.
+ACTS = 900_000
+PAGE = 40
+NUMBER = r"(0|[1-9][0-9]*)"
+ID = r"0x[0-9a-f]{8}"
+FACTS = {18: f" {NUMBER} {NUMBER}", 19: f" {NUMBER}", 20: f" {NUMBER}", 21: f" {NUMBER} {NUMBER}", 23: " (Rewound|Memory)"}
+NAMES = """NoMemory NoClass ClassLimit BadName DuplicateName FieldLimit BadRegister NullRegister BadSlot WrongKind OutOfRange TooLarge HeapFull
+AlreadyMarking NotMarking NothingToMark NothingToDrain NotDone SweepPending NothingToSweep TooFar NoPin Lost NotRetained PinLimit
+ChronicleFull""".split()
+REFUSED = "|".join(f"no {number} {name}{FACTS.get(number, '')}" for number, name in enumerate(NAMES, 1))
+# What a line may be answered if it is not refused, by its first word.
+ANSWERS = {
+    "class": f"ok class {NUMBER}", "array": f"ok class {NUMBER}", "new": f"ok object {ID}", "newarray": f"ok object {ID}",
+    "newprim": f"ok object {ID}", "load": f"ok (object {ID}|null|value {NUMBER})", "store": "ok", "put": "ok", "move": "ok", "clear": "ok",
+    "snap": f"ok pushed {NUMBER}", "mark": f"ok pushed {NUMBER}", "drain": "ok pushed [01]", "finish": f"ok condemned {NUMBER}",
+    "sweep": f"ok swept {NUMBER}( empty)?", "rewind": f"ok place {NUMBER}", "open": f"ok pin {NUMBER} at {NUMBER}",
+    "dump": f"ok dump {NUMBER}", "piece": f"ok (piece|last) {NUMBER}", "close": "ok", "what": "bad command",
+}
+PATTERNS = {word: re.compile(f"({answer})|{REFUSED}") for word, answer in ANSWERS.items()}
+DATA = re.compile("data ([0-9a-f]{2}){1,64}")
+
+
+def line_by_lot(lot):
+    """Returns a line of any kind but those on pins."""
+    mutator, register, slot = lot.randrange(MUTATORS), lot.randrange(9), lot.randrange(5)
+    other = lot.randrange(8)
+    lines = (
+        (1, f"class Class{lot.randrange(400)} - next:object left:object count:int wide:long"),
+        (1, f"array Array{lot.randrange(100)}"),
+        (12, f"new {mutator} {register} {lot.randrange(3)}"),
+        (4, f"newarray {mutator} {register} {lot.randrange(3)} {lot.randrange(9)}"),
+        (4, f"newprim {mutator} {register} {lot.choice(['int', 'long', 'object', 'byte'])} {lot.randrange(40)}"),
+        (12, f"load {mutator} {register} {other} {slot}"),
+        (15, f"store {mutator} {register} {lot.randrange(2)} {other}"),
+        (15, f"put {mutator} {register} {lot.randrange(2, 4)} {lot.randrange(1 << 33)}"),
+        (6, f"move {mutator} {register} {lot.randrange(MUTATORS)} {other}"),
+        (6, f"clear {mutator} {register}"),
+        (3, "snap"), (12, "mark"), (8, "drain"), (3, "finish"), (6, f"sweep {lot.randrange(16)}"),
+        (1, f"rewind {lot.randrange(1, 30) if lot.randrange(4) == 0 else 2000}"),
+        (1, "what is this"),
+    )
+    return lot.choices([text for _, text in lines], [weight for weight, _ in lines])[0]
+
+
+class Client:
+    """A client of a session, with what it saw."""
+
+    def __init__(self, port, number):
+        self.lot = random.Random(number)
+        self.socket = socket.create_connection(("127.0.0.1", port), timeout=60)
+        self.replies = self.socket.makefile("rb")
+        self.lines = self.pairs = self.lost = self.bytes = 0
+        self.wrong = []
+
+    def reply(self, line):
+        """Returns the last line of the reply to a line, and the bytes of its data lines."""
+        data = []
+        while True:
+            got = self.replies.readline().decode("ascii", "replace")
+            if not got.endswith("\n"):
+                self.wrong.append(f"{line!r} was not answered: {got!r}")
+                raise ConnectionError(line)
+            got = got[:-1]
+            if not DATA.fullmatch(got):
+                break
+            data.append(got[5:])
+        word = line.split()[0]
+        if not PATTERNS[word].fullmatch(got) or (data and word not in ("dump", "piece")):
+            self.wrong.append(f"{line!r} was answered {got!r} after {len(data)} data lines")
+        text = bytes.fromhex("".join(data))
+        if got.startswith("ok dump ") and got != f"ok dump {len(text)}":
+            self.wrong.append(f"{line!r} was answered {got!r} after {len(text)} bytes")
+        self.lines += 1
+        self.bytes += len(text)
+        return got, text
+
+    def asks(self, line):
+        """Sends a line, and returns its reply."""
+        self.socket.sendall(line.encode() + b"\n")
+        return self.reply(line)
+
+    def page(self):
+        """Sends a page of lines at once, and reads their replies."""
+        lines = [line_by_lot(self.lot) for _ in range(PAGE)]
+        self.socket.sendall("\n".join(lines).encode() + b"\n")
+        for line in lines:
+            self.reply(line)
+
+    def pair(self):
+        """Dumps the present place under two pins. The first dump comes last, so that its place was there when the second was opened."""
+        opened = self.asks("open -")[0].split()
+        if opened[0] != "ok":
+            return
+        again = self.asks(f"open {opened[4]}")[0].split()
+        if again[0] == "ok":
+            self.page()
+            second = self.asks(f"dump {again[2]}")
+            first = self.asks(f"dump {opened[2]}")
+            if first[0].startswith("ok") and second[0].startswith("ok"):
+                self.pairs += 1
+                if first[1] != second[1] or not first[1].startswith(b"JAVA PROFILE 1.0.2\0"):
+                    self.wrong.append(f"two dumps of place {opened[4]} differ")
+            else:
+                self.lost += 1
+            self.asks(f"close {again[2]}")
+        self.asks(f"close {opened[2]}")
+
+    def works(self, seconds):
+        """Works for so many seconds, and ends its session."""
+        start = time.monotonic()
+        try:
+            while (now := time.monotonic() - start) < seconds:
+                if self.lot.randrange(10) == 0:
+                    self.pair()
+                elif self.lot.randrange(20) == 0:
+                    self.asks("dump -")
+                else:
+                    self.page()
+                ahead = self.lines * CLIENTS / ACTS * seconds - now
+                if ahead > 0:
+                    time.sleep(min(ahead, 1))
+            self.socket.sendall(b"end\n")
+            if self.replies.read():
+                self.wrong.append("something came after the line end")
+        except OSError as error:
+            self.wrong.append(f"the session broke off: {error!r}")
+        self.socket.close()
+
+
+def memory(child):
+    """Returns how many KiB of memory the program has."""
+    found = re.search(r"VmRSS:\s+(\d+) kB", pathlib.Path(f"/proc/{child.pid}/status").read_text())
+    return int(found[1]) if found else 0
+
+
+def free_port():
+    """Returns a port that nobody listens on."""
+    with socket.create_server(("127.0.0.1", 0)) as server:
+        return server.getsockname()[1]
+
+
+def connected(port):
+    """Connects the clients, once the program listens."""
+    clients = []
+    end = time.monotonic() + 20
+    while len(clients) < CLIENTS:
+        try:
+            clients.append(Client(port, len(clients)))
+        except ConnectionRefusedError:
+            if time.monotonic() > end:
+                raise
+            time.sleep(0.02)
+    return clients
+
+
+def worked(child, clients, seconds):
+    """Has all clients work, and returns the memory of the program after the first minute and at the end."""
+    threads = [threading.Thread(target=client.works, args=(seconds,)) for client in clients]
+    for thread in threads:
+        thread.start()
+    first = min(60, seconds / 2)
+    time.sleep(first)
+    early = memory(child)
+    time.sleep(max(0, seconds - first - 0.5))
+    late = memory(child)
+    for thread in threads:
+        thread.join()
+    return first, early, late
+
+
+def main(program, seconds):
+    """Returns the exit status."""
+    port = free_port()
+    line = [program, "serve", "--port", str(port), "--sessions", str(CLIENTS), "--mutators", str(MUTATORS)]
+    child = subprocess.Popen(line, stdout=subprocess.PIPE, stderr=subprocess.PIPE)
+    try:
+        clients = connected(port)
+        first, early, late = worked(child, clients, seconds)
+        out, error = child.communicate(timeout=60)
+    finally:
+        if child.poll() is None:
+            child.kill()
+    wrong = [text for client in clients for text in client.wrong]
+    wanted = "".join(f"session {number} quit\n" for number in range(1, CLIENTS + 1)).encode()
+    if (child.returncode, out, error) != (0, wanted, b""):
+        wrong.append(f"the program ended with {child.returncode}, {out!r} and {error!r}")
+    for text in wrong[:50]:
+        print(text)
+    total = [sum(getattr(client, name) for client in clients) for name in ("lines", "pairs", "lost", "bytes")]
+    print("{} lines, {} pairs of equal dumps, {} pairs with a lost pin, {} bytes of dumps".format(*total))
+    print(f"memory: {early} KiB after {first:.0f} s, {late} KiB after {seconds:.0f} s")
+    return 1 if wrong else 0
+
+
+if __name__ == "__main__":
+    PROGRAM = sys.argv[1] if len(sys.argv) > 1 else os.path.join(TOP, "bin/heapdbg")
+    sys.exit(main(PROGRAM, float(os.environ.get("SECONDS") or 600)))

@@ -1,0 +1,217 @@
+#!/usr/bin/env python3
+"""Serves hostile clients with the built program, and asks hostile servers.
+
+Usage: checks/sockets.py [--step N] PROGRAM ..
+A connection is closed after each N bytes, 1 if that isn't given. Nothing may hang: each wait has a limit. Prints a line for each difference and ends with status 1 if there is one. Prints nothing
+where all is well."""
+import contextlib
+import os
+import pathlib
+import select
+import socket
+import struct
+import subprocess
+import sys
+import threading
+
+TOP = pathlib.Path(__file__).resolve().parent.parent
+EXAMPLE = (TOP / "examples/point.session").read_bytes()
+LIMIT = 20
+STEP = 1
+RESET = struct.pack("ii", 1, 0)
+ENDINGS = {"quit", "eof", "cut", "read", "write"}
+
+
+class Server:
+    """A `serve` of the program, with so many sessions, on a port that was free."""
+
+    def __init__(self, program, sessions):
+        with socket.create_server(("127.0.0.1", 0)) as found:
+            self.port = found.getsockname()[1]
+        words = ["heapdbg", "serve", "--port", str(self.port), "--sessions", str(sessions)]
+        self.run = subprocess.Popen(words, executable=program, stdout=subprocess.PIPE, stderr=subprocess.PIPE)
+
+    def client(self):
+        """Returns a connection, once the server listens."""
+        for _ in range(LIMIT * 100):
+            with contextlib.suppress(ConnectionRefusedError):
+                return socket.create_connection(("127.0.0.1", self.port), LIMIT)
+            with contextlib.suppress(subprocess.TimeoutExpired):
+                self.run.wait(0.01)
+                break
+        raise TimeoutError("the server doesn't listen")
+
+    def ended(self):
+        """Returns status, the words of the sessions in order, and standard error, once all sessions have ended."""
+        out, error = self.run.communicate(timeout=LIMIT)
+        lines = [line.split(" ") for line in out.decode().splitlines()]
+        numbers = [line[:-1] for line in lines]
+        assert numbers == [["session", str(n + 1)] for n in range(len(lines))], out
+        return self.run.returncode, [line[-1] for line in lines], error
+
+    def __enter__(self):
+        return self
+
+    def __exit__(self, *_):
+        self.run.kill()
+        self.run.communicate()
+
+
+def all_of(client):
+    """Returns all that comes until the other side closes."""
+    with client.makefile("rb") as come:
+        return come.read()
+
+
+def exchanged(server, given):
+    """Sends bytes from a new client, which then reads all answers."""
+    with server.client() as client:
+        client.sendall(given)
+        client.shutdown(socket.SHUT_WR)
+        return all_of(client)
+
+
+def replies(program, given):
+    """Returns the output of a session of one's own."""
+    ran = subprocess.run(["heapdbg", "run"], executable=program, input=given, capture_output=True, timeout=LIMIT)
+    return ran.stdout
+
+
+def ending(given):
+    """Returns how a session ends whose input is these bytes, and how many of them are whole lines."""
+    whole = given.rfind(b"\n") + 1
+    return ("eof" if whole == len(given) else "cut"), whole
+
+
+def closing_clients(program):
+    """Yields how a client's session ends that closes at some byte of the example, and what another then has."""
+    for length in range(0, len(EXAMPLE) + 1, STEP):
+        given = EXAMPLE[:length]
+        word, whole = ending(given)
+        with Server(program, 2) as server:
+            first = exchanged(server, given)
+            second = exchanged(server, EXAMPLE)
+            found = first, second, server.ended()
+        before = replies(program, EXAMPLE[:whole])
+        wanted = replies(program, given), replies(program, EXAMPLE[:whole] + EXAMPLE)[len(before) :], (0, [word, "eof"], b"")
+        yield f"closes its writing side after {length} bytes", found, wanted
+
+
+def resetting_clients(program):
+    """Yields what another client has beside one that resets its connection at some byte of the example, with all answers unread."""
+    for length in range(0, len(EXAMPLE) + 1, STEP):
+        with Server(program, 2) as server:
+            with server.client() as client:
+                client.sendall(EXAMPLE[:length])
+                client.setsockopt(socket.SOL_SOCKET, socket.SO_LINGER, RESET)
+            answers = exchanged(server, b"clear 0 0\nend\n")
+            status, words, error = server.ended()
+        found = answers, status, words[1:], set(words[:1]) <= ENDINGS, error
+        yield f"resets after {length} bytes", found, (b"ok\n", 0, ["quit"], True, b"")
+
+
+def silent_reader(program):
+    """Yields what a client has that sends a million lines and reads no answer until it can send no more, and another beside it."""
+    lines = b"x\n" * 1_000_000
+    with Server(program, 2) as server, server.client() as client:
+        client.setblocking(False)
+        sent = 0
+        while sent < len(lines) and select.select([], [client], [], 1)[1]:
+            sent += client.send(lines[sent : sent + 65536])
+        beside = exchanged(server, b"move 0 0 0 1\nend\n")
+        client.setblocking(True)
+        client.settimeout(LIMIT)
+        rest = threading.Thread(target=lambda: (client.sendall(lines[sent:]), client.shutdown(socket.SHUT_WR)))
+        rest.start()
+        found = all_of(client) == b"bad command\n" * 1_000_000, beside, server.ended()
+        rest.join(LIMIT)
+    yield "reads nothing until it has sent all or can't", found, (True, b"ok\n", (0, ["eof", "quit"], b""))
+
+
+def endless_line(program):
+    """Yields what a client has that sends no LF, and another beside it."""
+    with Server(program, 3) as server, server.client() as client:
+        client.sendall(b"a" * 4096)
+        beside = exchanged(server, b"clear 0 0\nend\n")
+        client.sendall(b"a")
+        found = all_of(client), beside, exchanged(server, b"clear 0 0"), server.ended()
+    yield "sends no LF", found, (b"bad long\n", b"ok\n", b"bad cut\n", (0, ["long", "quit", "cut"], b""))
+
+
+def many_sessions(program):
+    """Yields what 1,000 clients have, one after another."""
+    with Server(program, 1000) as server:
+        found = [exchanged(server, b"clear 0 0\nrewind 1\nend\n") for _ in range(1000)], server.ended()
+    yield "1,000 sessions", found, ([b"ok\nok place 0\n"] * 1000, (0, ["quit"] * 1000, b""))
+
+
+def taken_port(program):
+    """Yields what `serve` says of a port that is taken, and `ask` of one where nobody listens."""
+    with socket.create_server(("127.0.0.1", 0)) as taken:
+        port = str(taken.getsockname()[1])
+        ran = subprocess.run(["heapdbg", "serve", "--port", port], executable=program, capture_output=True, timeout=LIMIT)
+        yield "a taken port", (ran.returncode, ran.stdout, ran.stderr), (1, b"", b"heapdbg: listen\n")
+    ran = subprocess.run(["heapdbg", "ask", "--port", port], executable=program, input=b"", capture_output=True, timeout=LIMIT)
+    yield "no server", (ran.returncode, ran.stdout, ran.stderr), (1, b"", b"heapdbg: connect\n")
+
+
+def closing_server(listener, answers, read):
+    """Accepts a client, reads all that it sends if it is asked to, sends these answers and closes."""
+    client, _ = listener.accept()
+    with client:
+        client.settimeout(LIMIT)
+        if read:
+            sent = b""
+            while not sent.endswith(b"\nend\n"):
+                sent += client.recv(4096)
+        client.sendall(answers)
+
+
+def asked(program, answers, read):
+    """Returns status, output and standard error of `ask` with the example against a server that sends these answers and closes."""
+    with socket.create_server(("127.0.0.1", 0)) as listener:
+        server = threading.Thread(target=closing_server, args=(listener, answers, read))
+        server.start()
+        words = ["heapdbg", "ask", "--port", str(listener.getsockname()[1])]
+        ran = subprocess.run(words, executable=program, input=EXAMPLE, capture_output=True, timeout=LIMIT)
+        server.join(LIMIT)
+    return ran.returncode, ran.stdout, ran.stderr
+
+
+def closing_servers(program):
+    """Yields what `ask` prints against a server that closes at some byte of its answers, after or before it read the lines."""
+    answers = replies(program, EXAMPLE)
+    for length in range(0, len(answers) + 1, STEP):
+        yield f"the server closes after {length} bytes", asked(program, answers[:length], True), (0, answers[:length], b"")
+        status, out, error = asked(program, answers[:length], False)
+        fits = (status, error) in ((0, b""), (1, b"heapdbg: read\n")) and answers[:length].startswith(out)
+        yield f"the server closes after {length} bytes, and reads nothing", fits, True
+
+
+CASES = closing_clients, resetting_clients, silent_reader, endless_line, many_sessions, taken_port, closing_servers
+
+
+def differences(program):
+    """Yields a line for each run that went otherwise than it must."""
+    for case in CASES:
+        for name, found, wanted in case(program):
+            if found != wanted:
+                yield f"{program}, {name}: {found!r:.400}, and must be {wanted!r:.400}"
+
+
+def main(words):
+    """Returns the exit status: 0 where every run of every program went as it must."""
+    global STEP
+    programs = words
+    if words[:1] == ["--step"]:
+        STEP, programs = int(words[1]), words[2:]
+    if not programs:
+        print("usage: checks/sockets.py [--step N] PROGRAM ..")
+        return 2
+    found = [line for program in programs for line in differences(os.path.abspath(program))]
+    print("\n".join(found), end="\n" if found else "")
+    return 1 if found else 0
+
+
+if __name__ == "__main__":
+    sys.exit(main(sys.argv[1:]))

@@ -1,0 +1,11 @@
+use Rattle.std.proofs.Common.{◌≡◌}
+use Rattle.heap_dump.proofs.Paging.{IsWaiting}
+use Rattle.heap_dump.proofs.paged.pump_paged.Given as goal
+
+abbrev pub invariant-loop-piece : goal.invariant-loop-piece
+invariant-loop-piece g l =
+    IsWaiting (g.S.Source.seen l.initial.source) (g.S.Source.seen l.source) l.page.items (g.O.Outlet.seen l.initial.outlet) (g.O.Outlet.seen l.outlet) l.total
+    × (g.S.Source.kept l.source ≡ g.S.Source.kept l.initial.source)
+
+abbrev pub decreases-loop-piece : goal.decreases-loop-piece
+decreases-loop-piece g l = (g.S.Source.seen l.source).left

@@ -1,0 +1,9 @@
+//! Sessions whose last state is dumped to where its bytes go: a file, a socket, or memory.
+#![tactic(auto)]
+
+mod line;
+mod place;
+mod save;
+
+pub use place::Place;
+pub use save::{Saved, save_into};

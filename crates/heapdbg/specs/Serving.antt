@@ -1,0 +1,44 @@
+-- What serving and asking answer. Sockets tell nothing of their bytes, so nothing is said of what goes over them.
+use Rattle.std.specs.Prelude.{◌≡◌, ℕ, ◌⊎◌, Bool, true, false, Result, Ok, Err}
+use Rattle.dump_pump.specs.Outlets.{Outgoing}
+use Rattle.session_text.specs.Inlets.{Incoming}
+use Rattle.session_text.specs.Writes.{IsWritten}
+use Rattle.heap_server.specs.Reports.{report_of}
+use Rattle.heap_server.specs.Seating.{IsFor}
+use Rattle.heap_server.specs.declared.client.Asked.{Asked}
+use Rattle.heap_server.specs.declared.client.Asked.TheVariants as asked
+use Rattle.heap_server.specs.declared.sessions.Served.{Served}
+use Rattle.heapdbg.specs.declared.failure.Fault.{Fault}
+use Rattle.heapdbg.specs.declared.failure.Fault.TheVariants.{Accept, Connect, Listen, Memory, Read, Write}
+
+-- an accept that failed is named before a write that did
+abbrev pub served_outcome : Bool → Bool → Result (Unit {0}) Fault
+served_outcome true written = Err Accept
+served_outcome false true = Ok tt
+served_outcome false false = Err Write
+
+-- a line for each session was put out, or a beginning of them where a write failed; or there was no memory for the lines, and
+-- nothing was put out
+abbrev pub IsTold : Served → Outgoing → Outgoing → Result (Unit {0}) Fault → Type 0
+IsTold served w w' result =
+    ((written : Bool) × IsWritten (report_of 1 served.ends.items) w w' written × (result ≡ served_outcome served.refused written))
+    ⊎ ((result ≡ Err Memory) × (w' ≡ w))
+
+-- so many sessions ended, or fewer where an accept failed, and it was told how; or there was no memory or no port, and nothing
+-- was put out
+abbrev pub IsServed : ℕ → Outgoing → Outgoing → Result (Unit {0}) Fault → Type 0
+IsServed sessions w w' result =
+    ((served : Served) × IsFor sessions served × IsTold served w w' result)
+    ⊎ (((result ≡ Err Memory) ⊎ (result ≡ Err Listen)) × (w' ≡ w))
+
+-- what an ended client is for the program
+abbrev pub asked_outcome : Asked → Result (Unit {0}) Fault
+asked_outcome asked.Done = Ok tt
+asked_outcome asked.ReadFault = Err Read
+asked_outcome asked.WriteFault = Err Write
+asked_outcome asked.NoMemory = Err Memory
+
+-- a client ended; or no connection could be had, and nothing was read or written
+abbrev pub IsAsked : Incoming → Incoming → Outgoing → Outgoing → Result (Unit {0}) Fault → Type 0
+IsAsked a b w w' result =
+    ((ended : Asked) × (result ≡ asked_outcome ended)) ⊎ ((result ≡ Err Connect) × (b ≡ a) × (w' ≡ w))

@@ -1,0 +1,132 @@
+//! A session whose last state is dumped to a file or a socket.
+ghost use Rattle.std.specs.Prelude.{◌≡◌, option_map};
+ghost use Rattle.heap_world.specs.Limits.{AreSettings};
+ghost use Rattle.heapdbg.specs.Saving.{IsSavedTo, save_outcome};
+
+use crate::failure::{Fault, outcome};
+use crate::settings::{Settings, config};
+use dump_pump::{Outlet, Pumped, WriteOutlet};
+use heap_save::{Place, save_into};
+use heap_trail::Machine;
+use session_text::{Ended, Inlet, Local};
+use std::alloc::Global;
+use std::fs;
+use std::fs::Files;
+use std::net::{Ipv4Addr, Net, TcpStream};
+
+/// A file that is made, or cut to nothing if it is there.
+#[derive(Drop)]
+struct OutFile<'a, R> {
+    rt: &'a R,
+    path: &'a str,
+}
+
+impl<R: Files> Place for OutFile<'_, R> {
+    type Out = WriteOutlet<R::File>;
+
+    ghost makes = { λ place outlet. Unit {0} };
+
+    fn open(&mut self) -> Option<WriteOutlet<R::File>> {
+        match fs::create(self.rt, self.path) {
+            Ok(file) => Some(WriteOutlet::new(file)),
+            Err(_) => None,
+        }
+    }
+}
+
+/// A port of this computer that is connected to.
+#[derive(Drop)]
+struct Peer<'a, R> {
+    rt: &'a R,
+    port: u16,
+}
+
+impl<R: Net> Place for Peer<'_, R> {
+    type Out = WriteOutlet<R::Stream>;
+
+    ghost makes = { λ place outlet. Unit {0} };
+
+    fn open(&mut self) -> Option<WriteOutlet<R::Stream>> {
+        match TcpStream::connect(self.rt, (Ipv4Addr::LOCALHOST, self.port)) {
+            Ok(stream) => Some(WriteOutlet::new(stream)),
+            Err(_) => None,
+        }
+    }
+}
+
+/// Runs a session and dumps the state that it leaves to a file. Fails as a session does, with Out if the file can't be made or
+/// a write to it fails, and with Lost if the dump is lost.
+pub fn save_out<R: Files, I: Inlet, O: Outlet>(
+    rt: &R,
+    alloc: Global,
+    settings: &Settings,
+    path: &str,
+    reader: &mut I,
+    writer: &mut O,
+) -> Result<(), Fault>
+    requires { AreSettings settings.now.regions settings.now.mutators settings.now.keep }
+    ensures { IsSavedTo Fault.Out settings.now (I.seen reader.old) (I.seen reader.new) (O.seen writer.old) (O.seen writer.new) result }
+{
+    let mut place = OutFile { rt, path };
+    save(alloc, settings, reader, writer, &mut place, Fault::Out)
+}
+
+/// Runs a session and dumps the state that it leaves to a port. Fails as a session does, with Connect if no connection can be
+/// had, with Out if a write to it fails, and with Lost if the dump is lost.
+pub fn save_to<R: Net, I: Inlet, O: Outlet>(
+    rt: &R,
+    alloc: Global,
+    settings: &Settings,
+    port: u16,
+    reader: &mut I,
+    writer: &mut O,
+) -> Result<(), Fault>
+    requires { AreSettings settings.now.regions settings.now.mutators settings.now.keep }
+    ensures { IsSavedTo Fault.Connect settings.now (I.seen reader.old) (I.seen reader.new) (O.seen writer.old) (O.seen writer.new) result }
+{
+    let mut place = Peer { rt, port };
+    save(alloc, settings, reader, writer, &mut place, Fault::Connect)
+}
+
+/// Runs a session and dumps the state that it leaves into the outlet of a place. Fails with `unmade` if none can be made.
+fn save<I: Inlet, O: Outlet, P: Place>(
+    alloc: Global,
+    settings: &Settings,
+    reader: &mut I,
+    writer: &mut O,
+    place: &mut P,
+    unmade: Fault,
+) -> Result<(), Fault>
+where
+    P::Out: Drop,
+    requires { AreSettings settings.now.regions settings.now.mutators settings.now.keep }
+    ensures { IsSavedTo unmade settings.now (I.seen reader.old) (I.seen reader.new) (O.seen writer.old) (O.seen writer.new) result }
+{
+    match Machine::new(alloc, config(settings)) {
+        Ok(machine) => {
+            let mut local = Local::new(machine);
+            let saved = save_into(alloc, &mut local, reader, writer, place, settings.time);
+            save_outcome(unmade, saved.outlet.is_some(), saved.ended, saved.pumped)
+        }
+        Err(_) => Err(Fault::Memory),
+    }
+}
+
+/// What a session that was saved is for the program, which made an outlet or didn't.
+fn save_outcome(
+    unmade: Fault,
+    made: bool,
+    ended: Ended,
+    pumped: Option<Pumped>,
+) -> Result<(), Fault>
+    ensures { result ≡ save_outcome unmade made ended pumped }
+{
+    outcome(ended)?;
+    match pumped {
+        None | Some(Pumped::Done { bytes: _ }) => Ok(()),
+        Some(Pumped::OutletFailed { bytes: _ }) => Err(if made { Fault::Out } else { unmade }),
+        Some(Pumped::Lost { cause: _, bytes: _ } | Pumped::Cancelled { bytes: _ }) => {
+            Err(Fault::Lost)
+        }
+    }
+}

@@ -1,0 +1,87 @@
+//! The command lines of the tasks over sockets.
+ghost use Rattle.std.specs.Prelude.{◌≡◌, false, IfOk};
+ghost use Rattle.clap.specs.Words.{app_of, found_of, rows_of, rule_of};
+ghost use Rattle.clap.specs.declared.builder.Command.TheViews.{out-Command};
+ghost use Rattle.heapdbg.specs.CommandLine.{ask_in, ask_line, number_in, port_in, port_limit, port_option, serve_in, serve_line};
+
+use crate::command_line::{number, option_value, session_parser, value_arg};
+use crate::settings::Task;
+use clap::{Arg, ArgMatches, Command};
+use std::alloc::{AllocError, Global};
+
+/// The highest port.
+const PORT_LIMIT: u64 = 65535;
+
+/// The most sessions.
+const SESSION_LIMIT: u64 = 1000;
+
+/// Creates the parser of the command `serve`.
+pub(crate) fn serve_parser<'a>(alloc: Global) -> Result<Command<'a>, AllocError>
+    ensures app { IfOk result (λ c. app_of c ≡ serve_line) }
+    ensures local { IfOk result (λ c. (out-Command c).has_globals ≡ false) }
+{
+    let sessions = value_arg(
+        alloc,
+        "sessions",
+        "Sessions over the one heap, 1 to 1000 [default: 1]",
+    );
+    let about = "Serves sessions over one heap to clients on 127.0.0.1, and tells how each ended";
+    session_parser(alloc, "serve", about)?
+        .arg(port_arg(alloc))?
+        .arg(sessions)
+}
+
+/// Creates the parser of the command `ask`.
+pub(crate) fn ask_parser<'a>(alloc: Global) -> Result<Command<'a>, AllocError>
+    ensures app { IfOk result (λ c. app_of c ≡ ask_line) }
+    ensures local { IfOk result (λ c. (out-Command c).has_globals ≡ false) }
+{
+    Command::new(alloc, "ask")
+        .about(
+            "Sends standard input to a session that is served, and copies what comes back to standard output",
+        )
+        .arg(port_arg(alloc))
+}
+
+/// The option `--port N`, which has to be given.
+fn port_arg<'a>(alloc: Global) -> Arg<'a>
+    ensures rule { rule_of result ≡ port_option }
+    ensures local { result.global ≡ false }
+{
+    value_arg(alloc, "port", "Port on 127.0.0.1, 1 to 65535").required(true)
+}
+
+/// The task of the options of `serve`.
+pub(crate) fn serve_task(options: &ArgMatches<'_>) -> Option<Task>
+    ensures { result ≡ serve_in (rows_of (found_of options.now)) }
+{
+    let port = port(options)?;
+    let sessions = option_value(options, "sessions", 1, 1, SESSION_LIMIT)?;
+    Some(Task::Serve { port, sessions })
+}
+
+/// The task of the options of `ask`.
+pub(crate) fn ask_task(options: &ArgMatches<'_>) -> Option<Task>
+    ensures { result ≡ ask_in (rows_of (found_of options.now)) }
+{
+    let port = port(options)?;
+    Some(Task::Ask { port })
+}
+
+/// The port that is given.
+fn port(options: &ArgMatches<'_>) -> Option<u16>
+    ensures { result ≡ port_in (rows_of (found_of options.now)) }
+{
+    match options.get_str("port") {
+        Some(text) => port_of(text),
+        None => None,
+    }
+}
+
+/// The port that a text writes.
+pub(crate) fn port_of(text: &str) -> Option<u16>
+    ensures { result ≡ number_in 1 port_limit text.now }
+{
+    let port = number(text, 1, PORT_LIMIT)?;
+    Some(port as u16)
+}

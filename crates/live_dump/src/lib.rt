@@ -1,0 +1,8 @@
+//! Dumps of a shared heap through a pipe: the lock for one piece at a time, and the outlet in another thread.
+#![tactic(auto)]
+
+pub mod source;
+pub mod streams;
+
+pub use source::ToldSource;
+pub use streams::stream;

@@ -1,6 +1,7 @@
 //! A pin: what a dump needs of a state, kept beside the heap that goes on.
 ghost use Rattle.std.specs.Prelude.{◌≡◌, ◌<◌, ◌≤◌, length, replicate, None, Some, IsSome, IfSome, IfOk, IfErr, OnOk, OnErr, slice_get, slice_index_or, is_some, drop};
 ghost use Rattle.heap_class.specs.declared.Refusal.TheVariants.{NoMemory};
+ghost use Rattle.memchr.specs.Find.{IsFirstByte, is_byte};
 ghost use Rattle.heap_region.specs.Regions.{object_at, used_at};
 ghost use Rattle.heap_region.specs.Frozen.{frozen, region_frozen};
 ghost use Rattle.heap_world.specs.State.{HeapState};
@@ -67,6 +68,17 @@ pub fn touched_region(left: &Undo) -> Option<u64>
         Undo::Put { at, .. } | Undo::Store { at, .. } => Some(at.region as u64),
         Undo::Sweep { region, .. } | Undo::Reclaim { region, .. } => Some(*region as u64),
         _ => None,
+    }
+}
+
+// Finds the first byte of a live object. That is often the first of all, which is looked at before any search.
+#[inline]
+fn first_live(bytes: &[u8]) -> Option<usize>
+    ensures { IsFirstByte (is_byte 1) bytes.now result }
+{
+    match bytes {
+        [1, ..] => Some(0),
+        _ => memchr(1, bytes),
     }
 }
 
@@ -201,7 +213,7 @@ impl Pin {
         requires few { length self.now.live ≤ 65536 }
         ensures { result ≡ slice_get (places_from number (drop number self.now.live)) 0 }
     {
-        match memchr(1, &self.live[number..]) {
+        match first_live(&self.live[number..]) {
             Some(found) => {
                 let number = (number + found) as u64;
                 Some(ObjRef {

@@ -1,8 +1,9 @@
 #!/usr/bin/env python3
 """Times the dump of a session that is saved to a file: `saves.py [PROGRAM]`.
 
-PROGRAM is `bin/heapdbg` if it isn't given. A session that makes 65,536 objects is saved and run in turn, 21 times each; the
-difference of the medians of user and system time is what the dump costs."""
+PROGRAM is `bin/heapdbg` if it isn't given. A session that makes 65,536 objects is saved and run in turn, 200 times each; the
+difference of the means of user and system time is what the dump costs. The kernel counts these times in ticks of some milliseconds,
+so that a single run tells little."""
 import os
 import statistics
 import subprocess
@@ -11,7 +12,7 @@ import tempfile
 
 TOP = os.path.join(os.path.dirname(os.path.abspath(__file__)), "..")
 OBJECTS = 65536
-TIMES = 21
+TIMES = 200
 
 
 def seconds(words, path):
@@ -35,7 +36,7 @@ def main(program):
             for _ in range(TIMES)
         ]
         size = os.path.getsize(out)
-    saved, ran = (statistics.median(times) for times in zip(*pairs))
+    saved, ran = (statistics.mean(times) for times in zip(*pairs))
     print(f"save of {OBJECTS} objects, {size} bytes: {(saved - ran) / OBJECTS * 1e9:.0f} ns an object")
 
 

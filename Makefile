@@ -37,9 +37,10 @@ bench: build
 bench-lock:
 	python3 bench/lock.py
 
-# How many seconds `make soak` takes.
+# How many clients `make soak` has, and how many seconds it takes.
+CLIENTS ?= 8
 SECONDS ?= 600
 
-# Has 8 clients work on one served heap. It needs bin/heapdbg.
+# Has clients work on one served heap. It needs bin/heapdbg.
 soak:
-	SECONDS=$(SECONDS) python3 bench/soak.py bin/heapdbg
+	CLIENTS=$(CLIENTS) SECONDS=$(SECONDS) python3 bench/soak.py bin/heapdbg

@@ -1,11 +1,13 @@
 #!/usr/bin/env python3
-"""Has 16 threads act on a heap under its lock, and their receipts audited: `audit.py [COMMAND ..]`, for `SECONDS` seconds (600).
+"""Has 16 threads act on a heap under its lock, and their receipts audited: `audit.py [COMMAND ..]`, for `SECONDS` seconds
+(600).
 
-Builds `audit.rt.txt` as one more crate of a copy of this repository in a temporary folder, over what checks here kept. With a command,
-that of a program which was built so, runs it instead; words before the program run it, such as `valgrind -q`. Each round is a heap
-of its own, on which each thread does `ACTS` acts by lot (20000), rewinds and whole cycles among them, and dumps places under two
-pins while the others act. Prints a line for each round in which the receipts of a thread don't agree with the history or two dumps of
-one place differ; then how much was done, and the most memory of a round. Status 1 if anything was wrong."""
+Builds `audit.rt.txt` as one more crate of a copy of this repository in a temporary folder, over what checks here kept. With a
+command, that of a program which was built so, runs it instead; words before the program run it, such as `valgrind -q`. Each
+round is a heap of its own, on which each thread does `ACTS` acts by lot (20000), rewinds and whole cycles among them, and
+dumps places under two pins while the others act. Prints a line for each round in which the receipts of a thread don't agree
+with the history or two dumps of one place differ; then how much was done, and the most memory of a round. Status 1 if anything
+was wrong."""
 import os
 import pathlib
 import resource
@@ -16,8 +18,8 @@ import tempfile
 import time
 
 TOP = pathlib.Path(__file__).resolve().parent.parent
-LIBRARIES = """dump_pump heap_lock heap_scripts heap_trail heap_pins heap_step heap_world hprof_text heap_mark heap_sweep heap_region
-heap_class atomic_table http_server"""
+LIBRARIES = """dump_pump heap_lock heap_scripts heap_trail heap_pins heap_step heap_world hprof_text heap_mark heap_sweep
+heap_region heap_class atomic_table http_server"""
 ANSWER = """use Rattle.audit.proofs.done.Given as goal
 
 abbrev pub ghosts-opened : goal.ghosts-opened

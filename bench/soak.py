@@ -1,11 +1,11 @@
 #!/usr/bin/env python3
 """Has clients work on one served heap: `soak.py [PROGRAM ..]`, `CLIENTS` of them (8) for `SECONDS` seconds (600).
 
-PROGRAM is `bin/heapdbg` if it isn't given; words before its name are a command that runs it, such as `valgrind -q`. The clients send
-lines of every kind by lot, a page of lines at a time, and open two pins on one place, dump both and close them. Prints a line for each
-reply that is not well formed, for a dump that can't be read or whose references name no object of it, for two whole dumps of one
-place that differ, and for a session that ended otherwise than by `end`; then how much was done, and the memory of the program after
-the first minute and at the end, with the acts done by then. Status 1 if anything was wrong.
+PROGRAM is `bin/heapdbg` if it isn't given; words before its name are a command that runs it, such as `valgrind -q`. The
+clients send lines of every kind by lot, a page of lines at a time, and open two pins on one place, dump both and close them.
+Prints a line for each reply that is not well formed, for a dump that can't be read or whose references name no object of it,
+for two whole dumps of one place that differ, and for a session that ended otherwise than by `end`; then how much was done, and
+the memory of the program after the first minute and at the end, with the acts done by then. Status 1 if anything was wrong.
 
 A heap that is served takes 1,000,000 acts in all, so the clients pause between pages as long as that they don't run out of them.
 No reply says at which turn it was given, so whether they fit one history can't be seen here: `audit.py` looks at that."""

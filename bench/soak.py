@@ -156,7 +156,7 @@ class Client:
                     self.page()
                 ahead = self.lines * CLIENTS / ACTS * seconds - now
                 if ahead > 0:
-                    time.sleep(min(ahead, 1))
+                    time.sleep(min(ahead, 3))
             self.socket.sendall(b"end\n")
             if self.replies.read():
                 self.wrong.append("something came after the line end")

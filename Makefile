@@ -1,5 +1,5 @@
 # The commands of this repository. README says what each is for.
-.PHONY: run build prove test edits bench bench-lock soak
+.PHONY: run build prove test edits bench bench-lock soak audit
 
 # How many crates `make prove` checks side by side. Each takes up to 6 GB of memory.
 JOBS ?= 3
@@ -24,7 +24,7 @@ test:
 	rt ci
 	@python3 checks/growths.py crates/growths/out/growths crates/growths/stdout crates/heapdbg/out/heapdbg
 	@python3 checks/program.py crates/heapdbg/out/heapdbg crates/heapdbg/out/heapdbg.by-rattle
-	@python3 checks/sockets.py --step 20 crates/heapdbg/out/heapdbg
+	@python3 checks/sockets.py crates/heapdbg/out/heapdbg
 
 # Tries the edits that are not in the gate: of all crates, or of those that CRATE names.
 edits:
@@ -37,9 +37,14 @@ bench: build
 bench-lock:
 	python3 bench/lock.py
 
-# How many seconds `make soak` takes.
+# How many clients `make soak` has, and how many seconds it takes.
+CLIENTS ?= 8
 SECONDS ?= 600
 
-# Has 8 clients work on one served heap. It needs bin/heapdbg.
+# Has clients work on one served heap. It needs bin/heapdbg.
 soak:
-	SECONDS=$(SECONDS) python3 bench/soak.py bin/heapdbg
+	CLIENTS=$(CLIENTS) SECONDS=$(SECONDS) python3 bench/soak.py bin/heapdbg
+
+# Has 16 threads act on a heap under its lock, and their receipts audited. Builds a program of its own in a temporary folder.
+audit:
+	SECONDS=$(SECONDS) python3 bench/audit.py

@@ -2,12 +2,12 @@
 """Runs built programs once for each of their allocations, which is refused in that run.
 
 Usage: checks/growths.py [-v] GROWTHS WANTED HEAPDBG
-GROWTHS has to print what is in the file WANTED whatever is refused. HEAPDBG does sessions: each ends for want of memory before it
-reads, or refuses one line and answers all others as a session without that line, or loses a pin and answers all but its pieces as
-if it hadn't. It serves two clients: a session that ends for want of memory has answered nothing, and the other one goes on. It
-saves a dump: that of the session's last state, or a beginning of it, if the dump is lost for want of memory. Prints a line for each
-program or session that goes otherwise, and with -v for each how many allocations were refused; ends with status 1 if one goes
-otherwise."""
+GROWTHS has to print what is in the file WANTED whatever is refused. HEAPDBG does sessions: each ends for want of memory before
+it reads, or refuses one line and answers all others as a session without that line, or loses a pin and answers all but its
+pieces as if it hadn't. It serves two clients at a time: a session that ends for want of memory has answered nothing, and the
+other one goes on. It saves a dump: that of the session's last state, or a beginning of it, if the dump is lost for want of
+memory. Prints a line for each program or session that goes otherwise, and with -v for each how many allocations were refused;
+ends with status 1 if one goes otherwise."""
 import contextlib
 import os
 import pathlib
@@ -102,22 +102,21 @@ def wrong_sessions(command, library, lines):
 
 
 def served(program, library, number, clients, tries=3):
-    """Serves clients one after another, with the allocation of this number refused, on another port if one was taken meanwhile.
-    Returns status, the words of the sessions, what each client was answered, and standard error; no words and no answers if
-    nothing was listened to."""
+    """Serves clients, with the allocation of this number refused, on another port if one was taken meanwhile. All are connected
+    before the first sends its lines, and each of the others sends its own once the one before was answered. Returns status,
+    the words of the sessions, what each client was answered, and standard error; no words and no answers if nothing was
+    listened to."""
     with socket.create_server(("127.0.0.1", 0)) as found:
         port = found.getsockname()[1]
     words = [program, "serve", "--port", str(port), "--sessions", str(len(clients)), "--regions", "2"]
     variables = {"LD_PRELOAD": library, "REFUSED": str(number)}
     answers = []
-    with subprocess.Popen(words, env=variables, stdout=subprocess.PIPE, stderr=subprocess.PIPE) as server:
+    with contextlib.ExitStack() as opened, subprocess.Popen(
+        words, env=variables, stdout=subprocess.PIPE, stderr=subprocess.PIPE
+    ) as server:
         try:
-            for given in clients:
-                client = connected(server, port)
-                if client is None:
-                    break
-                with client:
-                    answers.append(replies(answered(client, given)))
+            found = [opened.enter_context(client) for _ in clients if (client := connected(server, port))]
+            answers = [replies(answered(client, given)) for client, given in zip(found, clients)]
             out, error = server.communicate(timeout=60)
         finally:
             server.kill()

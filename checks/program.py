@@ -3,6 +3,7 @@
 
 Usage: checks/program.py PROGRAM ..
 Prints a line for each difference and ends with status 1 if there is one. Prints nothing where all is well."""
+import contextlib
 import os
 import pathlib
 import resource
@@ -104,6 +105,42 @@ def sessions(program):
     yield "a cut line", run(program, ["run"], b"clear 0 0\nclear 0"), (1, b"ok\nbad cut\n", b"heapdbg: cut\n")
     yield "a line of 4,096 bytes", run(program, ["run"], b"a" * 4096 + b"\n"), (0, b"bad command\n", b"")
     yield "a line of 4,097 bytes", run(program, ["run"], b"a" * 4097 + b"\n"), (1, b"bad long\n", b"heapdbg: long\n")
+
+
+# Lines at their limits, and what each is answered in a session of its own.
+LINES_AT_THE_LIMITS = (
+    (b"clear 0 " + b"0" * 20, b"ok"),
+    (b"clear 0 " + b"0" * 21, b"bad command"),
+    (b"clear 0 18446744073709551615", b"no 7 BadRegister"),
+    (b"clear 0 18446744073709551616", b"bad command"),
+    (b"put 0 0 0 -1", b"bad command"),
+    (b"clear 0 0\x80", b"bad command"),
+    (b"class A - x:y:int", b"bad command"),
+    (b"class a:b -", b"no 4 BadName"),
+)
+
+
+def lines_at_the_limits(program):
+    """Yields lines at their limits, each alone, and a session's most reads as (name, what happened, what must happen)."""
+    for line, reply in LINES_AT_THE_LIMITS:
+        yield repr(line), run(program, ["run"], line + b"\n"), (0, reply + b"\n", b"")
+    yield "999,999 reads and the end", read_by_one(program, 999_999, True), (0, b"", b"")
+    yield "1,000,000 reads", read_by_one(program, 1_000_000, False), (1, b"bad reads\n", b"heapdbg: reads\n")
+
+
+def read_by_one(program, count, ends):
+    """Returns what happened to a session each of whose reads gives one LF, so many times, and then the end if it has one."""
+    ours, theirs = socket.socketpair(socket.AF_UNIX, socket.SOCK_SEQPACKET)
+    pipes = {"stdin": theirs, "stdout": subprocess.PIPE, "stderr": subprocess.PIPE}
+    with ours, subprocess.Popen(["heapdbg", "run"], executable=program, **pipes) as child:
+        theirs.close()
+        with contextlib.suppress(OSError):
+            for _ in range(count):
+                ours.send(b"\n")
+        if ends:
+            ours.close()
+        out, error = child.communicate(timeout=SECONDS)
+    return child.returncode, out, error
 
 
 def faults(program):
@@ -426,6 +463,8 @@ def saved_to(program, peer, given, *words):
     """Returns what happened to a run of `save` to a server whose one client a peer sees to, and then what that peer got."""
     with socket.create_server(("127.0.0.1", 0)) as server:
         server.settimeout(SECONDS)
+        # Little room on the peer's side, so that a long dump has to wait for the peer.
+        server.setsockopt(socket.SOL_SOCKET, socket.SO_RCVBUF, 4096)
         got = []
         listener = threading.Thread(target=peer, args=(server, got))
         listener.start()
@@ -438,9 +477,10 @@ def saved_to_listeners(program):
     """Yields saves to a listener as (name, what happened, what must happen)."""
     whole = (0, POINT_MADE + b"saved 301\n", b"", POINT_DUMP)
     yield "saved to a listener", saved_to(program, received, POINT), whole
-    status, out, error = saved_to(program, closed, b"newprim 0 0 long 1024\n" * 256, "--regions=256")
+    many = b"class Four - a:long b:long c:long d:long\n" + b"new 0 0 0\n" * 65_536
+    status, out, error = saved_to(program, closed, many, "--regions=256")
     last = out.splitlines()[-1].split()
-    told = (status, last[0], int(last[1]) < 2_104_143, error)
+    told = (status, last[0], int(last[1]) < 57 * 65_536, error)
     yield "saved to a peer that closes", told, (1, b"failed", True, b"heapdbg: out\n")
 
 
@@ -507,7 +547,7 @@ def differences(program):
     """Yields a line for each run that went otherwise than it must."""
     parts = ("status", "standard output", "standard error", "first of the clients or the dump", "second", "third")
     saves = (saved_files, saved_faults, saved_to_listeners)
-    for cases in (sessions, faults, bad_lines, *saves, served_sessions, worked, asking, served_faults):
+    for cases in (sessions, lines_at_the_limits, faults, bad_lines, *saves, served_sessions, worked, asking, served_faults):
         for name, happened, wanted in cases(program):
             if len(happened) != len(wanted):
                 yield f"{program}, {name}: {len(happened)} facts, and must be {len(wanted)}"

@@ -9,6 +9,7 @@ mod acts;
 mod digest;
 mod scripts;
 mod states;
+mod streams;
 
 use std::alloc::Global;
 use std::io::Write;
@@ -39,4 +40,6 @@ fn main(rt: HostRuntime) {
     let mut out = rt.stdout();
     compare_actions(alloc, &mut out);
     say(&mut out, b"acts", acts::done(&rt, alloc) == Some(6));
+    let went = streams::done(&rt, alloc) == Some(true);
+    say(&mut out, b"streams", went);
 }

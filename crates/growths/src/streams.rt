@@ -1,0 +1,210 @@
+//! Streams of a shared heap's dump, one of which may be lost for want of memory.
+ghost use Rattle.std.specs.Prelude.{◌≡◌, IfSome, false};
+ghost use Rattle.dump_meter.specs.Seats.{sum, finding};
+
+use crate::digest::Digest;
+use crate::states::seen;
+use dump_meter::{Meter, NewMeter};
+use dump_pump::{Pumped, WriteOutlet};
+use heap_class::{Kind, LostCause, Refusal};
+use heap_lock::{Blank, Heap, Role, Seat, Shared};
+use heap_step::Event;
+use heap_world::Config;
+use live_dump::stream;
+use std::alloc::Global;
+use std::marker::Brand;
+use std::sync::Wait;
+use std::thread::Threads;
+
+/// Arrays in the heap, each of which fills a region and a segment of the dump.
+const ARRAYS: u64 = 10;
+
+/// Bytes of the dump: the opening records, a segment for each array, one for a root, and the end.
+const TEXT_SIZE: usize = 52 + 10 * 8219 + 18 + 9;
+
+/// How a stream went, what it put out, and whether every reader of the heap told the same before and after it.
+#[derive(Drop)]
+struct Streamed {
+    pumped: Pumped,
+    text: Vec<u8>,
+    is_as_before: bool,
+}
+
+/// Creates an array that fills a region.
+fn longs() -> Event {
+    Event::NewPrim {
+        m: 0,
+        r: 0,
+        kind: Kind::Long,
+        len: 1024,
+    }
+}
+
+/// Makes an array. If memory is refused, asks once more.
+fn is_made<L: Heap, R: Wait>(rt: &R, shared: &Shared<L>, user: &mut Seat<L>) -> bool {
+    let (event, again) = (longs(), longs());
+    if !user.may(&event) || !user.may(&again) {
+        return false;
+    }
+    match shared.act(rt, user, event) {
+        Err(Refusal::NoMemory) => shared.act(rt, user, again).is_ok(),
+        receipt => receipt.is_ok(),
+    }
+}
+
+/// Makes the arrays.
+fn are_made<L: Heap, R: Wait>(rt: &R, shared: &Shared<L>, user: &mut Seat<L>) -> bool {
+    for _ in 0..ARRAYS {
+        if !is_made(rt, shared, user) {
+            return false;
+        }
+    }
+    true
+}
+
+/// Opens a pin. If memory is refused, asks once more.
+fn opened<L: Heap, R: Wait>(rt: &R, shared: &Shared<L>) -> Option<u64> {
+    match shared.open_pin(rt, None) {
+        Ok(pinned) => Some(pinned.pin),
+        Err(Refusal::NoMemory) => Some(shared.open_pin(rt, None).ok()?.pin),
+        Err(_) => None,
+    }
+}
+
+/// Creates a meter. If memory is refused, asks once more.
+fn metered(alloc: Global) -> Option<NewMeter>
+    ensures out { IfSome result (λ m. m.out ≡ sum m.meter 0) }
+    ensures feed { IfSome result (λ m. m.feed ≡ finding m.meter false) }
+{
+    match Meter::new(alloc, 1, 1) {
+        Ok(made) => Some(made),
+        Err(_) => Meter::new(alloc, 1, 1).ok(),
+    }
+}
+
+/// Creates an empty text with room for the dump. If memory is refused, asks once more.
+fn reserved(alloc: Global) -> Option<Vec<u8>> {
+    match Vec::with_capacity(alloc, TEXT_SIZE) {
+        Ok(text) => Some(text),
+        Err(_) => Vec::with_capacity(alloc, TEXT_SIZE).ok(),
+    }
+}
+
+/// Returns what the readers of a heap tell.
+fn told<L: Heap, R: Wait>(rt: &R, shared: &Shared<L>) -> Digest {
+    let kept = shared.lock(rt);
+    let mut digest = seen(kept.machine());
+    digest.add(kept.chronicle().len() as u64);
+    digest
+}
+
+/// Streams the dump of a pin behind a text. Returns how it went, and the text.
+fn put_out<L: Heap + Send + Sync, R: Threads + Wait + Sync>(
+    rt: &R,
+    alloc: Global,
+    shared: &Shared<L>,
+    pin: u64,
+    made: NewMeter,
+    text: Vec<u8>,
+) -> (Pumped, Vec<u8>)
+    requires out { made.out ≡ sum made.meter 0 }
+    requires feed { made.feed ≡ finding made.meter false }
+{
+    let NewMeter {
+        meter,
+        mut out,
+        readers: _,
+        askers: _,
+        feed,
+    } = made;
+    let mut outlet = WriteOutlet::new(text);
+    let (pumped, _) = stream(
+        rt,
+        alloc,
+        shared,
+        pin,
+        7,
+        &mut outlet,
+        &meter,
+        &mut out,
+        feed,
+    );
+    (pumped, outlet.into_writer())
+}
+
+/// Streams the dump of a new pin, and closes it.
+fn stream_once<L: Heap + Send + Sync, R: Threads + Wait + Sync>(
+    rt: &R,
+    alloc: Global,
+    shared: &Shared<L>,
+) -> Option<Streamed> {
+    let pin = opened(rt, shared)?;
+    let made = metered(alloc)?;
+    let text = reserved(alloc)?;
+    let before = told(rt, shared);
+    let (pumped, text) = put_out(rt, alloc, shared, pin, made, text);
+    let is_as_before = told(rt, shared) == before;
+    shared.close_pin(rt, pin).ok()?;
+    Some(Streamed {
+        pumped,
+        text,
+        is_as_before,
+    })
+}
+
+/// Tells whether a stream put out this text, or was lost for want of memory and put out a beginning of it.
+fn is_of(streamed: &Streamed, text: &[u8]) -> bool {
+    let size = streamed.text.len();
+    let is_told = match streamed.pumped {
+        Pumped::Done { bytes } => bytes == size as u64 && size == text.len(),
+        Pumped::Lost {
+            cause: LostCause::Memory,
+            bytes,
+        } => bytes == size as u64,
+        _ => false,
+    };
+    is_told && streamed.is_as_before && text.starts_with(streamed.text.as_slice())
+}
+
+/// Tells whether two streams of one place, at most one of which was lost for want of memory, went as they must.
+fn are_right(first: &Streamed, second: &Streamed) -> bool {
+    let text = if first.text.len() < second.text.len() {
+        second.text.as_slice()
+    } else {
+        first.text.as_slice()
+    };
+    text.len() == TEXT_SIZE && is_of(first, text) && is_of(second, text)
+}
+
+fn done_in<L: Heap + Send + Sync, R: Threads + Wait + Sync>(
+    rt: &R,
+    alloc: Global,
+    blank: Blank,
+) -> Option<bool>
+    requires { (blank.config ≡ L.config) × (blank.tables ≡ L.tables) }
+{
+    let (shared, mut seats) = blank.open::<L>();
+    let mut user = seats.take()?;
+    if !are_made(rt, &shared, &mut user) {
+        return None;
+    }
+    let first = stream_once(rt, alloc, &shared)?;
+    let second = stream_once(rt, alloc, &shared)?;
+    Some(are_right(&first, &second))
+}
+
+/// Creates a heap with a user's seat. If memory is refused, asks once more.
+fn created(alloc: Global) -> Option<Blank> {
+    let config = Config::new(16, 1, 1024)?;
+    let roles = [Role::User];
+    match Blank::new(alloc, config, roles.as_slice()) {
+        Err(Refusal::NoMemory) => Blank::new(alloc, config, roles.as_slice()).ok(),
+        created => created.ok(),
+    }
+}
+
+/// Creates a heap, and streams its dump twice. Tells whether both streams went as they must.
+pub fn done<R: Threads + Wait + Sync>(rt: &R, alloc: Global) -> Option<bool> {
+    let blank = created(alloc)?;
+    done_in::<Brand, R>(rt, alloc, blank)
+}

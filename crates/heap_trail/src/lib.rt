@@ -124,6 +124,7 @@ impl Model for Machine {
 }
 
 // Each pin keeps what the step that left this record and led to this state overwrote, or is lost.
+#[inline(always)]
 fn keep_each(pins: &mut [Slot], world: &World, left: &Undo)
     requires step { (e : Event) × (before : HeapState) × IsStep e before world.now left.now }
     requires sized { EachSized (length world.now.regions) pins.old }
@@ -183,6 +184,7 @@ impl Machine {
     /// A sweep leaves each object that the registers reach as it was. After a finish all that they reach is live. What
     /// they reached when the cycle began, in the newest retained state in which none ran, is after its finish still
     /// there with its kind and as many words, and live: Yuasa's law.
+    #[inline(always)]
     pub fn step(&mut self, event: &Event) -> Result<Answer, Refusal>
         ensures done { IfOk result (λ a. MayReply self.old (Step event.now) self.new (Answered a)) }
         ensures refused { IfErr result (λ e. MayFail self.old (Step event.now) self.new e) }
@@ -246,6 +248,7 @@ impl Machine {
     }
 
     /// Does an action.
+    #[inline(always)]
     pub fn act(&mut self, action: &Action) -> Reply
         ensures reply { MayReply self.old action.now self.new result }
         ensures small { IsSmall result }

@@ -15,6 +15,7 @@ ghost use Rattle.heap_trail.specs.declared.Reply.TheVariants.{Answered, Pinned, 
 ghost use Rattle.heap_trail.specs.Laws.{FindsSnapshot, IsTrail, GivesText, KeepsImage, DumpIsWhole, LeadsBack, LeavesTrail, ReachesLive, SparesReached};
 ghost use Rattle.heap_trail.specs.Machine.{IsSmall, Machine, Mark, MayFail, MayReply, acted, is_dump_action, opening_machine};
 ghost use Rattle.heap_trail.specs.Slots.{AreAllBelow, EachMayKeep, EachSized, slot_after_rewind};
+ghost use Rattle.heap_trail.specs.Records.{with_record};
 ghost use Rattle.heap_trail.specs.Trail.{retained, rewound};
 ghost use Rattle.heap_trail.specs.Pins.{after_rewind};
 
@@ -124,7 +125,6 @@ impl Model for Machine {
 }
 
 // Each pin keeps what the step that left this record and led to this state overwrote, or is lost.
-#[inline(always)]
 fn keep_each(pins: &mut [Slot], world: &World, left: &Undo)
     requires step { (e : Event) × (before : HeapState) × IsStep e before world.now left.now }
     requires sized { EachSized (length world.now.regions) pins.old }
@@ -137,6 +137,46 @@ fn keep_each(pins: &mut [Slot], world: &World, left: &Undo)
             }
         }
         None => {}
+    }
+}
+
+// Puts a record into the ring. The record that leaves a full ring at its old end is dropped, with the memory that it holds.
+#[inline(never)]
+fn add_record(records: &mut HeapCircularBuffer<Undo>, left: Undo)
+    ensures { records.new ≡ with_record left records.old }
+{
+    records.push_front(left);
+}
+
+// Has each pin keep what the step that left this record and led to this state overwrote, and puts the record into the ring.
+#[inline(never)]
+fn keep_and_add(
+    pins: &mut [Slot],
+    world: &World,
+    records: &mut HeapCircularBuffer<Undo>,
+    left: Undo,
+)
+    requires step { (e : Event) × (before : HeapState) × IsStep e before world.now left }
+    requires sized { EachSized (length world.now.regions) pins.old }
+    ensures pins { EachMayKeep left world.now pins.old pins.new }
+    ensures records { records.new ≡ with_record left records.old }
+{
+    keep_each(pins, world, &left);
+    add_record(records, left);
+}
+
+// Does what `keep_and_add` does. Without pins the record goes to the ring at once.
+#[inline(always)]
+fn remember(pins: &mut [Slot], world: &World, records: &mut HeapCircularBuffer<Undo>, left: Undo)
+    requires step { (e : Event) × (before : HeapState) × IsStep e before world.now left }
+    requires sized { EachSized (length world.now.regions) pins.old }
+    ensures pins { EachMayKeep left world.now pins.old pins.new }
+    ensures records { records.new ≡ with_record left records.old }
+{
+    if pins.is_empty() {
+        add_record(records, left);
+    } else {
+        keep_and_add(pins, world, records, left);
     }
 }
 
@@ -199,9 +239,7 @@ impl Machine {
         // By this law the record leads back to the state before.
         undo_takes_back();
         let (answer, left) = apply(&mut self.world, event)?;
-        keep_each(&mut self.pins, &self.world, &left);
-        // A record that leaves the full ring at its old end is dropped, with the memory that it holds.
-        self.records.push_front(left);
+        remember(&mut self.pins, &self.world, &mut self.records, left);
         self.place += 1;
         Ok(answer)
     }

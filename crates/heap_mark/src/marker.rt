@@ -94,6 +94,7 @@ impl Marker {
     }
 
     /// Whether a cycle is running.
+    #[inline(always)]
     pub fn phase(&self) -> Phase
         ensures { result ≡ self.now.phase }
     {
@@ -277,6 +278,7 @@ impl Marker {
 
     /// The barrier: while a cycle runs, a reference that is overwritten goes to the log if it isn't null. Answers whether it
     /// did. Refused NoMemory where the log can't grow; then nothing has changed.
+    #[inline(always)]
     pub fn log_old(&mut self, old: u64) -> Result<bool, Refusal>
         ensures logged { IfOk result (λ b. b ≡ (is_marking self.old.phase && not (old == 0))) }
         ensures log { IfOk result (λ b. self.new ≡ (if b then record self.old { log = self.old.log ++ old ∷ [] } else self.old)) }

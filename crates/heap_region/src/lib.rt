@@ -165,6 +165,7 @@ impl Regions {
     }
 
     /// What the object in the cell is.
+    #[inline(always)]
     pub fn kind(&self, at: ObjRef) -> ObjKind
         requires { IsSome (object_at self.now.regions at) }
         ensures { IfSome (object_at self.now.regions at) (λ o. result ≡ o.kind) }
@@ -173,6 +174,7 @@ impl Regions {
     }
 
     /// How many slots the object in the cell has: at most 1,024.
+    #[inline(always)]
     pub fn len(&self, at: ObjRef) -> u64
         requires { IsSome (object_at self.now.regions at) }
         ensures value { IfSome (object_at self.now.regions at) (λ o. result ≡ length o.words) }
@@ -190,6 +192,7 @@ impl Regions {
     }
 
     /// A word of the object in the cell.
+    #[inline(always)]
     pub fn word(&self, at: ObjRef, slot: u64) -> u64
         requires there { IsSome (object_at self.now.regions at) }
         requires within { IfSome (object_at self.now.regions at) (λ o. slot < length o.words) }
@@ -208,6 +211,7 @@ impl Regions {
     }
 
     /// Writes a word of the object in the cell.
+    #[inline(always)]
     pub fn set_word(&mut self, at: ObjRef, slot: u64, value: u64)
         requires there { IsSome (object_at self.old.regions at) }
         requires within { IfSome (object_at self.old.regions at) (λ o. slot < length o.words) }
@@ -290,6 +294,7 @@ impl Regions {
     }
 
     /// The place of the object that an id names. Whether it names one `find` tells.
+    #[inline(always)]
     pub fn place(&self, id: u64) -> ObjRef
         requires { IsSome (object_of self.now.regions id) }
         ensures { ref_of self.now.regions id ≡ Some result }
@@ -468,6 +473,7 @@ impl Regions {
     }
 
     // A region, if it is in use.
+    #[inline(always)]
     fn used(&self, region: usize) -> Option<&Storage>
         ensures value { MatchOption result (used_at self.now.regions region ≡ None) (λ s. used_at self.now.regions region ≡ Some s.now) }
         ensures limit { IfSome result (λ s. region < region_limit) }
@@ -476,6 +482,7 @@ impl Regions {
     }
 
     // A region in use.
+    #[inline(always)]
     fn storage(&self, region: usize) -> &Storage
         requires { IsSome (used_at self.now.regions region) }
         ensures value { used_at self.now.regions region ≡ Some result.now }

@@ -109,6 +109,7 @@ impl ObjectCopy {
 }
 
 // The header of a cell that has an object.
+#[inline(always)]
 pub(crate) fn header_at(headers: &[Option<Header>], cell: usize) -> Header
     requires { IsSome (slice_index_or headers.now cell None) }
     ensures { slice_index_or headers.now cell None ≡ Some result }
@@ -236,6 +237,7 @@ impl Storage {
     }
 
     /// The words of each cell.
+    #[inline(always)]
     pub(crate) fn cell_size(&self) -> usize
         ensures value { result ≡ self.now.cell_size }
         ensures whole { IsWhole self.now }
@@ -283,6 +285,7 @@ impl Storage {
     }
 
     /// How many slots the object in the cell has.
+    #[inline(always)]
     pub(crate) fn len(&self, cell: usize) -> usize
         requires { IsSome (cell_object self.now cell) }
         ensures value { result ≡ length (words_at self.now cell) }
@@ -292,6 +295,7 @@ impl Storage {
     }
 
     /// What the object in the cell is.
+    #[inline(always)]
     pub(crate) fn kind(&self, cell: usize) -> ObjKind
         requires { IsSome (cell_object self.now cell) }
         ensures { IfSome (cell_object self.now cell) (λ o. result ≡ o.kind) }
@@ -330,6 +334,7 @@ impl Storage {
     }
 
     /// A word of the object in the cell.
+    #[inline(always)]
     pub(crate) fn word(&self, cell: usize, slot: usize) -> u64
         requires { slot < length (words_at self.now cell) }
         ensures { result ≡ slice_index (words_at self.now cell) slot }
@@ -348,6 +353,7 @@ impl Storage {
     }
 
     /// Writes a word of the object in the cell.
+    #[inline(always)]
     pub(crate) fn set_word(&mut self, cell: usize, slot: usize, value: u64)
         requires { slot < length (words_at self.old cell) }
         ensures value { self.new ≡ changed_at self.old cell (word_set slot value) }

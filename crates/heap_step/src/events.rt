@@ -16,6 +16,7 @@ use heap_sweep::Reclaimed;
 use heap_world::{Created, Loaded, World};
 
 /// Applies an event by the function of its kind.
+#[inline(always)]
 pub fn dispatch(world: &mut World, event: &Event) -> Result<(Answer, Undo), Refusal>
     requires { IsLegal world.old }
     ensures { IsApplied event.now world.old world.new result }
@@ -115,6 +116,7 @@ fn create_prim(
 }
 
 /// Applies an event that reads a slot.
+#[inline(always)]
 fn load(world: &mut World, m: u64, to: u64, from: u64, slot: u64) -> Result<(Answer, Undo), Refusal>
     requires { IsLegal world.old }
     ensures { IsApplied (Event.Load m to from slot) world.old world.new result }
@@ -127,6 +129,7 @@ fn load(world: &mut World, m: u64, to: u64, from: u64, slot: u64) -> Result<(Ans
 }
 
 /// Applies an event that writes a reference slot.
+#[inline(always)]
 fn store(
     world: &mut World,
     m: u64,
@@ -147,6 +150,7 @@ fn store(
 }
 
 /// Applies an event that writes a value slot.
+#[inline(always)]
 fn put(
     world: &mut World,
     m: u64,
@@ -166,6 +170,7 @@ fn put(
 }
 
 /// Applies an event that copies a register.
+#[inline(always)]
 fn copy(
     world: &mut World,
     m: u64,
@@ -181,6 +186,7 @@ fn copy(
 }
 
 /// Applies an event that makes a register null.
+#[inline(always)]
 fn clear(world: &mut World, m: u64, r: u64) -> Result<(Answer, Undo), Refusal>
     requires { IsLegal world.old }
     ensures { IsApplied (Event.Clear m r) world.old world.new result }
@@ -254,6 +260,7 @@ fn sweep_record(reclaimed: Reclaimed) -> Undo
 }
 
 /// What a load answers: of a reference the object or null, of a value the value.
+#[inline(always)]
 #[tactic(auto, unfolding(crate::specs::Apply::object_or_null))]
 fn slot_answer(loaded: Loaded) -> Answer
     ensures { result ≡ (if loaded.reference then object_or_null loaded.word else Value loaded.word) }
@@ -283,6 +290,7 @@ fn made(m: u8, r: u8, created: Created) -> (Answer, Undo)
 }
 
 /// The record of register `r` of mutator `m` that held `old`.
+#[inline(always)]
 fn reg_record(m: u8, r: u8, old: u64) -> Undo
     ensures { result ≡ Undo.Reg m r old }
 {

@@ -16,6 +16,7 @@ use heap_world::World;
 
 /// Applies an event: at Ok its answer and the record that takes it back; refused, nothing has changed. NoMemory comes
 /// only where the event may grow and nothing else refuses it. While a cycle runs, what is marked or sheltered stays so.
+#[inline(always)]
 pub fn apply(world: &mut World, event: &Event) -> Result<(Answer, Undo), Refusal>
     ensures answered { IsAnswered (refusal_of event.now world.old) (event_may_grow event.now world.old) result }
     ensures state { IfOk result (λ p. world.new ≡ state_after event.now world.old) }

@@ -23,10 +23,10 @@ use Rattle.heap_trail.specs.Pins.{Pins, PinState, if_kept, each_kept, with_lost}
 use Rattle.heap_trail.specs.Pins.{Kept as KeptState, Gone}
 use Rattle.heap_trail.specs.Slots.{pins_of, EachMayKeep, AreHeld}
 use Rattle.heap_trail.specs.Machine.{Machine, Mark, Fine, Losing, MayStand, acted, acted_under, may_overwrite, is_accepted}
-use Rattle.heap_trail.specs.Records.{past_of, IsKept, machine_with, machine_of, IsPinning}
+use Rattle.heap_trail.specs.Records.{past_of, IsKept, machine_with, machine_of, IsPinning, with_record}
 use Rattle.heap_trail.proofs.Recorded.{past_of-take}
 use Rattle.heap_trail.proofs.Slots.{lost_in, held_after_step, pins_stepped}
-use Rattle.heap_trail.proofs.Stepping.{IsAccepted, pushed, leads_back, step_done}
+use Rattle.heap_trail.proofs.Stepping.{IsAccepted, leads_back, step_done}
 
 -- ---- the pins stay as many
 
@@ -37,7 +37,7 @@ same_length left v (s ∷ ss) [] e = absurd e
 same_length left v (s ∷ ss) (t ∷ ts) e = ap suc (same_length left v ss ts e.1)
 
 pub pinning_after : (ids : IdSize) (e : Event) (w v : HeapState) (left : Undo) (ring : Buffer Undo) (place keep next : ℕ) (ss ts : List Slot) → IsKept w ring place keep → IsPinning ids w ring place next ss → IsAccepted e w v left → EachMayKeep left v ss ts
-    → IsPinning ids v (pushed left ring) (place + 1) next ts
+    → IsPinning ids v (with_record left ring) (place + 1) next ts
 pinning_after ids e w v left ring place keep next ss ts k p a each =
     let back : undone left v ≡ w = leads_back e w v left k.legal a in
     let before : AreHeld ids (undone left v ∷ past_of (undone left v) ring.items) place next ss = subst (λ u. AreHeld ids (u ∷ past_of u ring.items) place next ss) (sym back) p.held in
@@ -112,7 +112,7 @@ abbrev pub MayAnswer : Machine → Event → Machine → Answer → Type 0
 MayAnswer m e n a = (mark : Mark) × MayStand m (Step e, mark) × (acted_under m (Step e, mark) ≡ (n, Answered a))
 
 pub step_pinned : (ids : IdSize) (e : Event) (w v : HeapState) (left : Undo) (ring : Buffer Undo) (place keep next : ℕ) (ss ts : List Slot) (answer : Answer) → IsKept w ring place keep → IsPinning ids w ring place next ss → IsAccepted e w v left → place < last_place
-    → applied e w ≡ Ok (v, answer) → EachMayKeep left v ss ts → MayAnswer (machine_of ids w ring place keep next ss) e (machine_of ids v (pushed left ring) (place + 1) keep next ts) answer
+    → applied e w ≡ Ok (v, answer) → EachMayKeep left v ss ts → MayAnswer (machine_of ids w ring place keep next ss) e (machine_of ids v (with_record left ring) (place + 1) keep next ts) answer
 unfolding acted_under is_accepted
 step_pinned ids e w v left ring place keep next ss ts answer k p a h done each = go (lost_in left v ss ts each) refl
   where
@@ -122,22 +122,22 @@ step_pinned ids e w v left ring place keep next ss ts answer k p a h done each =
     m : Machine
     m = machine_of ids w ring place keep next ss
 
-    stepped : acted (machine_of ids w ring place keep next ss) (Step e) ≡ (machine_with ids v (pushed left ring) (place + 1) keep (pins_of w next ss), Answered answer)
+    stepped : acted (machine_of ids w ring place keep next ss) (Step e) ≡ (machine_with ids v (with_record left ring) (place + 1) keep (pins_of w next ss), Answered answer)
     stepped = step_done ids e w v left ring place keep (pins_of w next ss) answer k a h done
 
     pins : pins_of v next ts ≡ with_lost (lost_in left v ss ts each) (pins_of w next ss)
     pins = pins_stepped ids left v (past_of (undone left v) ring.items) place next ss ts each (subst (λ u. AreHeld ids (u ∷ past_of u ring.items) place next ss) (sym back) p.held)
         ∙ ap (λ u. with_lost (lost_in left v ss ts each) (pins_of u next ss)) back
 
-    go : (lost : List ℕ) → lost_in left v ss ts each ≡ lost → MayAnswer (machine_of ids w ring place keep next ss) e (machine_of ids v (pushed left ring) (place + 1) keep next ts) answer
+    go : (lost : List ℕ) → lost_in left v ss ts each ≡ lost → MayAnswer (machine_of ids w ring place keep next ss) e (machine_of ids v (with_record left ring) (place + 1) keep next ts) answer
     go [] none = (
       Fine,
       tt,
-      stepped ∙ ap (λ ps. (machine_with ids v (pushed left ring) (place + 1) keep ps, Answered answer)) (sym (pins ∙ ap (λ l. with_lost l (pins_of w next ss)) none ∙ lose_none (pins_of w next ss))),
+      stepped ∙ ap (λ ps. (machine_with ids v (with_record left ring) (place + 1) keep ps, Answered answer)) (sym (pins ∙ ap (λ l. with_lost l (pins_of w next ss)) none ∙ lose_none (pins_of w next ss))),
     )
     go (n ∷ ns) some = (
       Losing (n ∷ ns),
       (touching e w (subst (λ u. IsSome (touched u)) a.recorded (lost_touches left v ss ts each n ns some)), ap (λ r. is_accepted r.1) stepped),
       ap (λ (r : Machine × Reply). (record r.0 { pins = with_lost (n ∷ ns) r.0.pins }, r.1)) stepped
-          ∙ ap (λ ps. (machine_with ids v (pushed left ring) (place + 1) keep ps, Answered answer)) (sym (pins ∙ ap (λ l. with_lost l (pins_of w next ss)) some)),
+          ∙ ap (λ ps. (machine_with ids v (with_record left ring) (place + 1) keep ps, Answered answer)) (sym (pins ∙ ap (λ l. with_lost l (pins_of w next ss)) some)),
     )

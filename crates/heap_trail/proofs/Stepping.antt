@@ -2,7 +2,7 @@
 use Rattle.heap_class.specs.declared.IdSize.{IdSize}
 use Rattle.std.proofs.Common.{◌≡◌, ℕ, ◌+◌, ◌<◌, ◌≤◌, true, false, List, ◌∷◌, length, length-take, take, sym, ap, subst, ◌∙◌, None, Ok, Err, inl, inr, arith}
 use Rattle.std.specs.Prelude.{nat_le, ◌⊎◌}
-use Rattle.circular_buffer.specs.Buffer.{Buffer, buffer}
+use Rattle.circular_buffer.specs.Buffer.{Buffer}
 use Rattle.heap_class.specs.declared.Refusal.{Refusal}
 use Rattle.heap_class.specs.declared.Refusal.TheVariants.{NoMemory, ChronicleFull}
 use Rattle.heap_world.specs.State.{HeapState}
@@ -18,13 +18,9 @@ use Rattle.heap_trail.specs.declared.Reply.TheVariants.{Answered, Refused}
 use Rattle.heap_trail.specs.Limits.{last_place}
 use Rattle.heap_trail.specs.Trail.{stepped}
 use Rattle.heap_trail.specs.Machine.{Machine, after_result, after_step_at, acted, Refusing, may_grow, is_accepted, MayStand}
-use Rattle.heap_trail.specs.Records.{past_of, AreRecorded, IsKept, machine_with}
+use Rattle.heap_trail.specs.Records.{past_of, AreRecorded, IsKept, machine_with, with_record}
 use Rattle.heap_trail.specs.Pins.{Pins}
 use Rattle.heap_trail.proofs.Recorded.{past_of-take, recorded-take}
-
--- a ring with one more record in front
-abbrev pub pushed : Undo → Buffer Undo → Buffer Undo
-pushed left ring = buffer (take ring.capacity (left ∷ ring.items)) ring.capacity
 
 -- an accepted event, the state after it and its record
 pub record IsAccepted (e : Event) (w v : HeapState) (left : Undo) : Type 0 where
@@ -41,7 +37,7 @@ leads_back e w v left legal a = (λ i. undone (a.recorded i) (a.gave i)) ∙ a.l
 short_take : {A : Type 0} (n : ℕ) (xs : List A) → length (take n xs) ≤ n
 short_take n xs = omega (arith, length-take n xs)
 
-pub kept_after_step : (e : Event) (w v : HeapState) (left : Undo) (ring : Buffer Undo) (place keep : ℕ) → IsKept w ring place keep → IsAccepted e w v left → place < last_place → IsKept v (pushed left ring) (place + 1) keep
+pub kept_after_step : (e : Event) (w v : HeapState) (left : Undo) (ring : Buffer Undo) (place keep : ℕ) → IsKept w ring place keep → IsAccepted e w v left → place < last_place → IsKept v (with_record left ring) (place + 1) keep
 kept_after_step e w v left ring place keep k a h = record {
   legal = a.after;
   recorded = recorded-take ring.capacity v (left ∷ ring.items) all;
@@ -70,7 +66,7 @@ is_last place h = grind (arith, h)
 -- ---- replies
 
 pub step_done : (ids : IdSize) (e : Event) (w v : HeapState) (left : Undo) (ring : Buffer Undo) (place keep : ℕ) (ps : Pins) (answer : Answer) → IsKept w ring place keep → IsAccepted e w v left → place < last_place → applied e w ≡ Ok (v, answer)
-    → acted (machine_with ids w ring place keep ps) (Step e) ≡ (machine_with ids v (pushed left ring) (place + 1) keep ps, Answered answer)
+    → acted (machine_with ids w ring place keep ps) (Step e) ≡ (machine_with ids v (with_record left ring) (place + 1) keep ps, Answered answer)
 unfolding acted after_step_at after_result stepped
 step_done ids e w v left ring place keep ps answer k a h done =
     ap (λ b. after_step_at b e (machine_with ids w ring place keep ps)) (not_last place h)

@@ -1,6 +1,6 @@
 -- The past that the records tell, and when they tell it rightly.
-use Rattle.std.specs.Prelude.{◌≡◌, ℕ, ◌+◌, ◌≤◌, List, [], ◌∷◌, length}
-use Rattle.circular_buffer.specs.Buffer.{Buffer}
+use Rattle.std.specs.Prelude.{◌≡◌, ℕ, ◌+◌, ◌≤◌, List, [], ◌∷◌, length, take}
+use Rattle.circular_buffer.specs.Buffer.{Buffer, buffer}
 use Rattle.heap_world.specs.Limits.{keep_limit}
 use Rattle.heap_world.specs.State.{HeapState}
 use Rattle.heap_world.specs.Legal.{IsLegal}
@@ -25,6 +25,10 @@ past_of w (r ∷ rs) = let v = undone r w in v ∷ past_of v rs
 abbrev pub AreRecorded : HeapState → List Undo → Type 0
 AreRecorded w [] = Unit {0}
 AreRecorded w (r ∷ rs) = ((e : Event) × IsStep e (undone r w) w r) × AreRecorded (undone r w) rs
+
+-- a ring with one more record in front, and without the oldest where it was full
+abbrev pub with_record : Undo → Buffer Undo → Buffer Undo
+with_record left ring = buffer (take ring.capacity (left ∷ ring.items)) ring.capacity
 
 -- what holds of a machine's fields: the ring has room for `keep` records
 pub record IsKept (w : HeapState) (ring : Buffer Undo) (place keep : ℕ) : Type 0 where

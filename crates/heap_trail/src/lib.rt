@@ -15,6 +15,7 @@ ghost use Rattle.heap_trail.specs.declared.Reply.TheVariants.{Answered, Pinned, 
 ghost use Rattle.heap_trail.specs.Laws.{FindsSnapshot, IsTrail, GivesText, KeepsImage, DumpIsWhole, LeadsBack, LeavesTrail, ReachesLive, SparesReached};
 ghost use Rattle.heap_trail.specs.Machine.{IsSmall, Machine, Mark, MayFail, MayReply, acted, is_dump_action, opening_machine};
 ghost use Rattle.heap_trail.specs.Slots.{AreAllBelow, EachMayKeep, EachSized, slot_after_rewind};
+ghost use Rattle.heap_trail.specs.Records.{with_record};
 ghost use Rattle.heap_trail.specs.Trail.{retained, rewound};
 ghost use Rattle.heap_trail.specs.Pins.{after_rewind};
 
@@ -139,6 +140,46 @@ fn keep_each(pins: &mut [Slot], world: &World, left: &Undo)
     }
 }
 
+// Puts a record into the ring. The record that leaves a full ring at its old end is dropped, with the memory that it holds.
+#[inline(never)]
+fn add_record(records: &mut HeapCircularBuffer<Undo>, left: Undo)
+    ensures { records.new ≡ with_record left records.old }
+{
+    records.push_front(left);
+}
+
+// Has each pin keep what the step that left this record and led to this state overwrote, and puts the record into the ring.
+#[inline(never)]
+fn keep_and_add(
+    pins: &mut [Slot],
+    world: &World,
+    records: &mut HeapCircularBuffer<Undo>,
+    left: Undo,
+)
+    requires step { (e : Event) × (before : HeapState) × IsStep e before world.now left }
+    requires sized { EachSized (length world.now.regions) pins.old }
+    ensures pins { EachMayKeep left world.now pins.old pins.new }
+    ensures records { records.new ≡ with_record left records.old }
+{
+    keep_each(pins, world, &left);
+    add_record(records, left);
+}
+
+// Does what `keep_and_add` does. Without pins the record goes to the ring at once.
+#[inline(always)]
+fn remember(pins: &mut [Slot], world: &World, records: &mut HeapCircularBuffer<Undo>, left: Undo)
+    requires step { (e : Event) × (before : HeapState) × IsStep e before world.now left }
+    requires sized { EachSized (length world.now.regions) pins.old }
+    ensures pins { EachMayKeep left world.now pins.old pins.new }
+    ensures records { records.new ≡ with_record left records.old }
+{
+    if pins.is_empty() {
+        add_record(records, left);
+    } else {
+        keep_and_add(pins, world, records, left);
+    }
+}
+
 // Loses the pins above a place.
 fn lose_above(pins: &mut [Slot], to: u64)
     ensures { pins.new ≡ map (slot_after_rewind to) pins.old }
@@ -183,6 +224,7 @@ impl Machine {
     /// A sweep leaves each object that the registers reach as it was. After a finish all that they reach is live. What
     /// they reached when the cycle began, in the newest retained state in which none ran, is after its finish still
     /// there with its kind and as many words, and live: Yuasa's law.
+    #[inline(always)]
     pub fn step(&mut self, event: &Event) -> Result<Answer, Refusal>
         ensures done { IfOk result (λ a. MayReply self.old (Step event.now) self.new (Answered a)) }
         ensures refused { IfErr result (λ e. MayFail self.old (Step event.now) self.new e) }
@@ -197,9 +239,7 @@ impl Machine {
         // By this law the record leads back to the state before.
         undo_takes_back();
         let (answer, left) = apply(&mut self.world, event)?;
-        keep_each(&mut self.pins, &self.world, &left);
-        // A record that leaves the full ring at its old end is dropped, with the memory that it holds.
-        self.records.push_front(left);
+        remember(&mut self.pins, &self.world, &mut self.records, left);
         self.place += 1;
         Ok(answer)
     }
@@ -246,6 +286,7 @@ impl Machine {
     }
 
     /// Does an action.
+    #[inline(always)]
     pub fn act(&mut self, action: &Action) -> Reply
         ensures reply { MayReply self.old action.now self.new result }
         ensures small { IsSmall result }

@@ -169,6 +169,7 @@ fn nulls(alloc: Global, count: usize) -> Result<Vec<u64>, Refusal>
 }
 
 // Whether mutator m has a register r.
+#[inline(always)]
 fn is_register(registers: &[u64], m: u64, r: u64) -> bool
     requires { length registers.now ≤ 128 }
     ensures { result ≡ (nat_lt r 8 && nat_lt (8 * m + r) (length registers.now)) }
@@ -177,6 +178,7 @@ fn is_register(registers: &[u64], m: u64, r: u64) -> bool
 }
 
 // Writes a word to register r of mutator m.
+#[inline(always)]
 fn write_register(registers: &mut Vec<u64>, m: u64, r: u64, word: u64)
     requires { IsTrue (nat_lt r 8 && nat_lt (8 * m + r) (length registers.old.items)) }
     ensures { registers.new.items ≡ slice_set registers.old.items (8 * m + r) word }
@@ -185,6 +187,7 @@ fn write_register(registers: &mut Vec<u64>, m: u64, r: u64, word: u64)
 }
 
 // The kind of a slot among these; none where there is no such slot.
+#[inline(always)]
 fn kind_at(kinds: &[Kind], slot: u64) -> Option<Kind>
     ensures { result ≡ slice_get kinds.now slot }
 {
@@ -192,6 +195,7 @@ fn kind_at(kinds: &[Kind], slot: u64) -> Option<Kind>
 }
 
 // The kind of a slot where all of so many have it; none where there is no such slot.
+#[inline(always)]
 fn kind_within(kind: Kind, len: u64, slot: u64) -> Option<Kind>
     ensures { result ≡ slice_get (replicate len kind) slot }
 {
@@ -239,6 +243,7 @@ impl World {
     }
 
     /// Whether a cycle is running.
+    #[inline(always)]
     pub fn phase(&self) -> Phase
         ensures value { result ≡ self.now.phase }
         ensures legal { IsLegal self.now }
@@ -270,6 +275,7 @@ impl World {
     }
 
     /// Whether mutator `m` has a register `r`.
+    #[inline(always)]
     pub fn has_register(&self, m: u64, r: u64) -> bool
         ensures { result ≡ is_register self.now m r }
     {
@@ -277,6 +283,7 @@ impl World {
     }
 
     /// What register `r` of mutator `m` holds.
+    #[inline(always)]
     pub fn register(&self, m: u64, r: u64) -> u64
         requires { IsTrue (is_register self.now m r) }
         ensures { result ≡ register self.now m r }
@@ -358,6 +365,7 @@ impl World {
 
     /// Writes a value slot of the object that register `target` of mutator `m` names. Refused BadRegister, NullRegister,
     /// BadSlot, WrongKind or OutOfRange. Takes no memory.
+    #[inline(always)]
     pub fn put(
         &mut self,
         m: u64,
@@ -427,6 +435,7 @@ impl World {
     }
 
     // The kind of a slot of the object in the cell; none where it has no such slot.
+    #[inline(always)]
     fn slot_kind_at(&self, at: ObjRef, slot: u64) -> Option<Kind>
         requires { IsSome (object_at self.now.regions at) }
         ensures { IfSome (object_at self.now.regions at) (λ o. result ≡ slice_get (slot_kinds self.now.classes o) slot) }
@@ -439,6 +448,7 @@ impl World {
     }
 
     // Where the object stands that an id in a register names, and the kind of a slot of it.
+    #[inline(always)]
     fn slot_named(&self, id: u64, slot: u64) -> Result<(ObjRef, Kind), Refusal>
         requires { Contains self.now.registers id }
         ensures slot { IfOk result (λ p. (id ≢ 0) × (slot_kind self.now id slot ≡ Some p.1)) }
@@ -456,6 +466,7 @@ impl World {
     }
 
     // Where the object stands whose slot may be given the value.
+    #[inline(always)]
     fn put_place(&self, m: u64, target: u64, slot: u64, value: u64) -> Result<ObjRef, Refusal>
         ensures accepted { OnOk result (put_refusal m target slot value self.now ≡ None) }
         ensures refused { IfErr result (λ e. put_refusal m target slot value self.now ≡ Some e) }

@@ -12,6 +12,7 @@ use heap_class::{ObjRef, Refusal};
 impl World {
     /// Reads a slot of the object that register `from` of mutator `m` names; a reference goes to register `to`. Refused
     /// BadRegister, NullRegister or BadSlot. Takes no memory.
+    #[inline(always)]
     pub fn load(&mut self, m: u64, to: u64, from: u64, slot: u64) -> Result<Loaded, Refusal>
         ensures answered { IsAnswered (load_refusal m to from slot self.old) false result }
         ensures loaded { OnOk result (self.new ≡ after_load m to from slot self.old) }
@@ -41,6 +42,7 @@ impl World {
     /// Writes what register `source` of mutator `m` holds to a reference slot of the object that register `target` names;
     /// while a cycle runs, an old reference goes to the log. Refused BadRegister, NullRegister, BadSlot, WrongKind, or
     /// NoMemory where the log can't grow.
+    #[inline(always)]
     pub fn store(
         &mut self,
         m: u64,
@@ -78,6 +80,7 @@ impl World {
 
     /// Copies register `from` of mutator `from_m` to register `to` of mutator `m`, and answers what stood there. Refused
     /// BadRegister. Takes no memory.
+    #[inline(always)]
     pub fn move_register(&mut self, m: u64, to: u64, from_m: u64, from: u64) -> Result<u64, Refusal>
         ensures answered { IsAnswered (move_refusal m to from_m from self.old) false result }
         ensures moved { OnOk result (self.new ≡ after_move m to from_m from self.old) }
@@ -95,6 +98,7 @@ impl World {
     }
 
     /// Makes register `r` of mutator `m` null, and answers what stood there. Refused BadRegister. Takes no memory.
+    #[inline(always)]
     pub fn clear_register(&mut self, m: u64, r: u64) -> Result<u64, Refusal>
         ensures answered { IsAnswered (clear_refusal m r self.old) false result }
         ensures cleared { OnOk result (self.new ≡ with_register m r 0 self.old) }
@@ -120,6 +124,7 @@ impl World {
     }
 
     // Writes a word to a register, which keeps a legal heap legal.
+    #[inline(always)]
     fn set_register(&mut self, m: u64, r: u64, word: u64)
         requires register { IsTrue (is_register self.old m r) }
         requires legal { IsLegal self.old → IsLegal (with_register m r word self.old) }
@@ -129,6 +134,7 @@ impl World {
     }
 
     // Where the object stands whose slot may be given what the source holds.
+    #[inline(always)]
     fn store_place(&self, m: u64, target: u64, slot: u64, source: u64) -> Result<ObjRef, Refusal>
         ensures accepted { OnOk result (store_refusal m target slot source self.now ≡ None) }
         ensures refused { IfErr result (λ e. store_refusal m target slot source self.now ≡ Some e) }

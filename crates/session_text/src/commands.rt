@@ -50,6 +50,7 @@ impl Commands for Local {
 
     ghost acts = { λ c a r d. LocalActs c.machine a r d.machine × (d.first_pin ≡ c.first_pin) };
 
+    #[inline(always)]
     fn act(&mut self, action: Action) -> Reply {
         self.machine.act(&action)
     }

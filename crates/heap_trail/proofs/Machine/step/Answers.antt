@@ -14,8 +14,8 @@ use Rattle.heap_trail.specs.Limits.{last_place}
 use Rattle.heap_trail.specs.Machine.{Machine, Refusing, MayStand, acted}
 use Rattle.heap_trail.specs.Laws.{SparesReached, FindsSnapshot}
 use Rattle.heap_trail.specs.Slots.{pins_of, EachSized, EachMayKeep}
-use Rattle.heap_trail.specs.Records.{past_of, IsWhole, machine_of, machine_with}
-use Rattle.heap_trail.proofs.Stepping.{IsAccepted, pushed, leads_back, kept_after_step, step_full, step_err}
+use Rattle.heap_trail.specs.Records.{past_of, IsWhole, machine_of, machine_with, with_record}
+use Rattle.heap_trail.proofs.Stepping.{IsAccepted, leads_back, kept_after_step, step_full, step_err}
 use Rattle.heap_trail.proofs.Pinning.{MayAnswer, same_length, pinning_after, step_pinned}
 use Rattle.heap_trail.proofs.EachKept.{sized_after}
 use Rattle.heap_trail.proofs.Reached.{sweep_leaves, finish_lives, finish_finds}
@@ -35,8 +35,8 @@ returns-in_err-answer-clause-refused c =
     (subst (λ (w : HeapState). (acted (machine_of c.self.inside.ids c.self.inside.world c.self.inside.records c.self.inside.place c.self.inside.keep c.self.inside.next c.self.inside.pins.items) (Step c.args.event.now) ≡ (machine_with c.self.inside.ids c.apply.new.world c.self.inside.records c.self.inside.place c.self.inside.keep (pins_of w c.self.inside.next c.self.inside.pins.items), Refused c.in_err-answer.field-0.0)) ⊎ (MayStand (machine_of c.self.inside.ids c.self.inside.world c.self.inside.records c.self.inside.place c.self.inside.keep c.self.inside.next c.self.inside.pins.items) (Step c.args.event.now, Refusing) × (c.in_err-answer.field-0.0 ≡ NoMemory))) (sym c.in_err-answer.ensures.unchanged)
     (step_err c.self.inside.ids c.args.event.now c.self.inside.world c.apply.new.world c.self.inside.records c.self.inside.place c.self.inside.keep (pins_of c.self.inside.world c.self.inside.next c.self.inside.pins.items) c.in_err-answer.field-0.0 under c.in_err-answer.ensures.unchanged c.in_err-answer.ensures.refused)))
 
-pub keep_each-requires-clause-sized : goal.keep_each-requires-clause-sized
-keep_each-requires-clause-sized c =
+pub remember-requires-clause-sized : goal.remember-requires-clause-sized
+remember-requires-clause-sized c =
     let a : IsAccepted c.args.event.now c.self.inside.world c.apply.new.world c.in_ok-answer.left = record {
       accepted = c.in_ok-answer.ensures.answered;
       gave = c.in_ok-answer.ensures.state;
@@ -57,13 +57,13 @@ invariant_of-self-2 c =
       after = c.in_ok-answer.ensures.legal;
       law = c.undo_takes_back.ensures c.args.event.now c.self.inside.world;
     } in
-    let each : EachMayKeep c.in_ok-answer.left c.apply.new.world c.self.inside.pins.items c.keep_each.new.pins = subst (λ (ss : List Slot). EachMayKeep c.in_ok-answer.left c.apply.new.world ss c.keep_each.new.pins) c.deref_mut.ensures.value c.keep_each.ensures in
-    let items : take c.self.inside.pins.len (c.keep_each.new.pins ++ drop (length c.keep_each.new.pins) c.self.inside.pins.items) ≡ c.keep_each.new.pins
-    = take_at c.keep_each.new.pins (drop (length c.keep_each.new.pins) c.self.inside.pins.items) c.self.inside.pins.len (omega (arith, same_length _ _ _ _ each, c.self.inside.pins.ok.0)) in
+    let each : EachMayKeep c.in_ok-answer.left c.apply.new.world c.self.inside.pins.items c.remember.new.pins = subst (λ (ss : List Slot). EachMayKeep c.in_ok-answer.left c.apply.new.world ss c.remember.new.pins) c.deref_mut.ensures.value c.remember.ensures.pins in
+    let items : take c.self.inside.pins.len (c.remember.new.pins ++ drop (length c.remember.new.pins) c.self.inside.pins.items) ≡ c.remember.new.pins
+    = take_at c.remember.new.pins (drop (length c.remember.new.pins) c.self.inside.pins.items) c.self.inside.pins.len (omega (arith, same_length _ _ _ _ each, c.self.inside.pins.ok.0)) in
     rw items
-    (subst (λ (r : Buffer Undo). IsWhole c.self.inside.ids c.apply.new.world r (c.self.inside.place + 1) c.self.inside.keep c.self.inside.next c.keep_each.new.pins (vec_capacity c.self.inside.pins)) (sym c.push_front.ensures.items) (
+    (subst (λ (r : Buffer Undo). IsWhole c.self.inside.ids c.apply.new.world r (c.self.inside.place + 1) c.self.inside.keep c.self.inside.next c.remember.new.pins (vec_capacity c.self.inside.pins)) (sym c.remember.ensures.records) (
       kept_after_step c.args.event.now c.self.inside.world c.apply.new.world c.in_ok-answer.left c.self.inside.records c.self.inside.place c.self.inside.keep c.self.invariant.0 a c.if-self-ge-LAST_PLACE.false,
-      pinning_after c.self.inside.ids c.args.event.now c.self.inside.world c.apply.new.world c.in_ok-answer.left c.self.inside.records c.self.inside.place c.self.inside.keep c.self.inside.next c.self.inside.pins.items c.keep_each.new.pins c.self.invariant.0 c.self.invariant.1 a each,
+      pinning_after c.self.inside.ids c.args.event.now c.self.inside.world c.apply.new.world c.in_ok-answer.left c.self.inside.records c.self.inside.place c.self.inside.keep c.self.inside.next c.self.inside.pins.items c.remember.new.pins c.self.invariant.0 c.self.invariant.1 a each,
       c.self.invariant.2,
     ))
 
@@ -76,13 +76,13 @@ returns-clause-done c =
       after = c.in_ok-answer.ensures.legal;
       law = c.undo_takes_back.ensures c.args.event.now c.self.inside.world;
     } in
-    let each : EachMayKeep c.in_ok-answer.left c.apply.new.world c.self.inside.pins.items c.keep_each.new.pins = subst (λ (ss : List Slot). EachMayKeep c.in_ok-answer.left c.apply.new.world ss c.keep_each.new.pins) c.deref_mut.ensures.value c.keep_each.ensures in
-    let items : take c.self.inside.pins.len (c.keep_each.new.pins ++ drop (length c.keep_each.new.pins) c.self.inside.pins.items) ≡ c.keep_each.new.pins
-    = take_at c.keep_each.new.pins (drop (length c.keep_each.new.pins) c.self.inside.pins.items) c.self.inside.pins.len (omega (arith, same_length _ _ _ _ each, c.self.inside.pins.ok.0)) in
-    subst (λ (ts : List Slot). MayAnswer c.args.self.now c.args.event.now (machine_of c.self.inside.ids c.apply.new.world c.push_front.new.self (c.self.inside.place + 1) c.self.inside.keep c.self.inside.next ts) c.in_ok-answer.answer) (sym items)
-    (subst (λ (r : Buffer Undo). MayAnswer c.args.self.now c.args.event.now (machine_of c.self.inside.ids c.apply.new.world r (c.self.inside.place + 1) c.self.inside.keep c.self.inside.next c.keep_each.new.pins) c.in_ok-answer.answer) (sym c.push_front.ensures.items)
-    (subst (λ (m : Machine). MayAnswer m c.args.event.now (machine_of c.self.inside.ids c.apply.new.world (pushed c.in_ok-answer.left c.self.inside.records) (c.self.inside.place + 1) c.self.inside.keep c.self.inside.next c.keep_each.new.pins) c.in_ok-answer.answer) c.self.view_is
-    (step_pinned c.self.inside.ids c.args.event.now c.self.inside.world c.apply.new.world c.in_ok-answer.left c.self.inside.records c.self.inside.place c.self.inside.keep c.self.inside.next c.self.inside.pins.items c.keep_each.new.pins c.in_ok-answer.answer c.self.invariant.0 c.self.invariant.1 a c.if-self-ge-LAST_PLACE.false c.in_ok-answer.ensures.done each)))
+    let each : EachMayKeep c.in_ok-answer.left c.apply.new.world c.self.inside.pins.items c.remember.new.pins = subst (λ (ss : List Slot). EachMayKeep c.in_ok-answer.left c.apply.new.world ss c.remember.new.pins) c.deref_mut.ensures.value c.remember.ensures.pins in
+    let items : take c.self.inside.pins.len (c.remember.new.pins ++ drop (length c.remember.new.pins) c.self.inside.pins.items) ≡ c.remember.new.pins
+    = take_at c.remember.new.pins (drop (length c.remember.new.pins) c.self.inside.pins.items) c.self.inside.pins.len (omega (arith, same_length _ _ _ _ each, c.self.inside.pins.ok.0)) in
+    subst (λ (ts : List Slot). MayAnswer c.args.self.now c.args.event.now (machine_of c.self.inside.ids c.apply.new.world c.remember.new.records (c.self.inside.place + 1) c.self.inside.keep c.self.inside.next ts) c.in_ok-answer.answer) (sym items)
+    (subst (λ (r : Buffer Undo). MayAnswer c.args.self.now c.args.event.now (machine_of c.self.inside.ids c.apply.new.world r (c.self.inside.place + 1) c.self.inside.keep c.self.inside.next c.remember.new.pins) c.in_ok-answer.answer) (sym c.remember.ensures.records)
+    (subst (λ (m : Machine). MayAnswer m c.args.event.now (machine_of c.self.inside.ids c.apply.new.world (with_record c.in_ok-answer.left c.self.inside.records) (c.self.inside.place + 1) c.self.inside.keep c.self.inside.next c.remember.new.pins) c.in_ok-answer.answer) c.self.view_is
+    (step_pinned c.self.inside.ids c.args.event.now c.self.inside.world c.apply.new.world c.in_ok-answer.left c.self.inside.records c.self.inside.place c.self.inside.keep c.self.inside.next c.self.inside.pins.items c.remember.new.pins c.in_ok-answer.answer c.self.invariant.0 c.self.invariant.1 a c.if-self-ge-LAST_PLACE.false c.in_ok-answer.ensures.done each)))
 
 pub returns-clause-spares : goal.returns-clause-spares
 returns-clause-spares c =

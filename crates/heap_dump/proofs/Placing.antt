@@ -135,7 +135,7 @@ now_ago t =
     let none : t.place - t.place ≡ 0 = omega arith in
     ap (λ n. slice_index_or (t.current ∷ t.past) n t.current) none
 
-opens_at : (m n : Machine) (pin : ℕ) → AreNumbered m.pins → Opens m n pin → pin_at pin n.pins ≡ Some (Kept m.trail.place (image_of m.trail.current) 0)
+pub opens_at : (m n : Machine) (pin : ℕ) → AreNumbered m.pins → Opens m n pin → pin_at pin n.pins ≡ Some (Kept m.trail.place (image_of m.trail.current) 0)
 unfolding pin_at with_pin
 opens_at m n pin all o =
     (λ i. pin_at (o.number i) (o.now i).pins)

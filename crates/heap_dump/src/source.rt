@@ -55,7 +55,7 @@ impl<'a> PinSource<'a> {
 }
 
 /// Tells why a dump is lost whose piece was refused so.
-pub(crate) fn cause_of(refusal: Refusal) -> LostCause
+pub fn cause_of(refusal: Refusal) -> LostCause
     ensures { result ≡ cause_of refusal }
 {
     match refusal {
@@ -73,7 +73,7 @@ fn is_whole(ended: &Option<Ending>) -> bool
 }
 
 /// Takes a pin's next piece, counts it, and notes how the source ended.
-fn hand_out(
+pub fn hand_out(
     machine: &mut Machine,
     pin: u64,
     time: u64,

@@ -6,9 +6,11 @@ ghost use Rattle.heap_save.specs.Saves.{IsEnded, IsSaved, Lands};
 use crate::line::write_last;
 use crate::place::Place;
 use dump_pump::{Outlet, Pumped};
-use heap_dump::dump_place;
+use pin_stream::{Gauge, stream_place};
 use session_text::{Ended, Inlet, Local, serve_local};
 use std::alloc::Global;
+use std::sync::Wait;
+use std::thread::Threads;
 
 /// The bytes of a dump that wait until an outlet is asked, if there is memory for them.
 const PAGE_ROOM: usize = 65536;
@@ -35,10 +37,12 @@ fn page(alloc: Global) -> Vec<u8>
 }
 
 /// Closes the pins that were opened through these commands, has the outlet made, and dumps the current state into it.
-fn dump_last<P: Place>(
+fn dump_last<P: Place, G: Gauge, R: Threads + Wait + Sync>(
+    rt: &R,
     alloc: Global,
     local: &mut Local,
     place: &mut P,
+    gauge: &mut G,
     time: u64,
 ) -> (Pumped, Option<P::Out>)
     ensures lands { Lands (P.makes place.old) time (own_closed local.old.first_pin local.old.machine) local.new.machine (option_map P.Out.seen result.1) result.0 }
@@ -46,24 +50,36 @@ fn dump_last<P: Place>(
     ensures ended { IsEnded result.0 }
 {
     local.close_all();
-    let Some(mut outlet) = place.open() else {
+    let Some(outlet) = place.open() else {
         return (Pumped::OutletFailed { bytes: 0 }, None);
     };
-    let pumped = dump_place(&mut local.machine, &mut page(alloc), &mut outlet, time);
-    (pumped, Some(outlet))
+    let (pumped, taken) = stream_place(
+        rt,
+        alloc,
+        &mut local.machine,
+        time,
+        page(alloc),
+        outlet,
+        gauge,
+    );
+    (pumped, Some(taken))
 }
 
 /// Serves a session of a machine of one's own as `serve_local` does. If it ended by `end` or at the end of input, closes each
 /// pin that was opened through these commands, has the outlet made, dumps the current state into it, and writes a last line:
 /// `saved`, `failed` or `lost` with its cause, and how many bytes the outlet took. A dump is failed at 0 bytes if no outlet
 /// could be made. Otherwise no outlet is made, and no last line is written. `time`, in milliseconds, stands in the header of
-/// each dump. The bytes of the dump wait for the outlet in a page of 65,536 bytes; if there is no memory for it, they don't.
-pub fn save_into<I: Inlet, O: Outlet, P: Place>(
+/// each dump. A thread of its own makes the pieces of the dump, and the caller's puts them out, which a gauge sees; without a
+/// thread, a pipe or a meter the dump is lost by Memory, at 0 bytes. The bytes of the dump wait for the outlet in a page of 65,536
+/// bytes; if there is no memory for it, they don't. May wait.
+pub fn save_into<I: Inlet, O: Outlet, P: Place, G: Gauge, R: Threads + Wait + Sync>(
+    rt: &R,
     alloc: Global,
     local: &mut Local,
     reader: &mut I,
     writer: &mut O,
     place: &mut P,
+    gauge: &mut G,
     time: u64,
 ) -> Saved<P::Out>
     ensures saved { IsSaved (P.makes place.old) local.old.first_pin time local.old.machine local.new.machine (I.seen reader.old) (I.seen reader.new) (O.seen writer.old) (O.seen writer.new) (option_map P.Out.seen result.outlet) result.ended result.pumped }
@@ -78,7 +94,7 @@ pub fn save_into<I: Inlet, O: Outlet, P: Place>(
             outlet: None,
         };
     }
-    let (pumped, outlet) = dump_last(alloc, local, place, time);
+    let (pumped, outlet) = dump_last(rt, alloc, local, place, gauge, time);
     if !write_last(writer, pumped) {
         return Saved {
             ended: Ended::WriteFault,

@@ -1,0 +1,86 @@
+//! A source of a machine's pin that may go to another thread.
+ghost use Rattle.std.specs.Prelude.{◌≡◌, None, false};
+ghost use Rattle.heap_trail.specs.Pins.{pin_at};
+ghost use Rattle.heap_dump.specs.Handed.{given_of};
+ghost use Rattle.heap_dump.specs.Endings.{is_whole};
+ghost use Rattle.heap_dump.specs.Pinned.{IsCaused};
+
+use dump_pump::source::PART_LIMIT;
+use dump_pump::{Ending, Next, Source};
+use heap_dump::hand_out;
+use heap_trail::Machine;
+
+/// The pieces of a machine's pin that had given none, in order. It keeps no snapshot of the machine, as `PinSource` does, so that
+/// it may go to another thread.
+#[derive(Drop)]
+pub struct FreshSource<'a> {
+    /// The machine that has the pin.
+    pub machine: &'a mut Machine,
+    /// The number of the pin.
+    pub pin: u64,
+    /// The time in the header, in milliseconds.
+    pub time: u64,
+    /// How many parts were handed out, at most 66,178.
+    pub count: u64,
+    /// How the source ended.
+    pub ended: Option<Ending>,
+    ghost counted: { is_whole ended ≡ false → given_of (pin_at pin machine.now.pins) ≡ count },
+    ghost caused: { IsCaused pin machine.now ended },
+}
+
+impl<'a> FreshSource<'a> {
+    /// Returns a source of the pieces of a pin that has given none. If no such pin is open, it will be lost. Takes no memory.
+    pub fn new(machine: &'a mut Machine, pin: u64, time: u64) -> FreshSource<'a>
+        requires { given_of (pin_at pin machine.old.pins) ≡ 0 }
+        ensures machine { result.machine.ghost_name ≡ machine.entry.ghost_name }
+        ensures now { result.machine.now ≡ machine.old }
+        ensures pin { result.pin ≡ pin }
+        ensures time { result.time ≡ time }
+        ensures count { result.count ≡ 0 }
+        ensures ended { result.ended ≡ None }
+    {
+        FreshSource {
+            machine,
+            pin,
+            time,
+            count: 0,
+            ended: None,
+        }
+    }
+}
+
+/// Tells whether an ending is that with the last part.
+fn is_whole(ended: &Option<Ending>) -> bool
+    ensures { result ≡ is_whole ended.now }
+{
+    matches!(ended, Some(Ending::Whole))
+}
+
+impl<'a> Source for FreshSource<'a> {
+    ghost use Rattle.heap_dump.specs.Pinned.{Pinned};
+    ghost use Rattle.pin_stream.specs.Fresh.{fresh_pinned, fresh_supply};
+
+    ghost Kept = { Pinned };
+
+    ghost kept = { λ s. fresh_pinned s.machine.ghost_name s.pin s.time s.machine.now };
+
+    ghost seen = { λ s. fresh_supply s.pin s.time s.machine.now s.count s.ended };
+
+    fn next(&mut self) -> Next {
+        hand_out(
+            &mut *self.machine,
+            self.pin,
+            self.time,
+            &mut self.count,
+            &mut self.ended,
+        )
+    }
+
+    fn left(&self) -> u64 {
+        if is_whole(&self.ended) {
+            0
+        } else {
+            PART_LIMIT.saturating_sub(self.count)
+        }
+    }
+}

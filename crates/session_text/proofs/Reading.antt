@@ -1,8 +1,8 @@
 -- Digits that stand in a text, and the numbers that they are in its beginnings.
-use Rattle.std.proofs.Common.{◌≡◌, refl, ℕ, ◌+◌, ◌-◌, ◌*◌, ◌^◌, ◌<◌, ◌≤◌, ◌⊎◌, inl, inr, Bool, true, false, cond, List, [], ◌∷◌, ◌++◌, take, drop, length, get_or, Some, None, nat_lt, ap, sym, subst, ◌∙◌, arith, leb-true, ne_eqb, lt-ltb}
+use Rattle.std.proofs.Common.{◌≡◌, refl, ℕ, ◌+◌, ◌-◌, ◌*◌, ◌^◌, ◌<◌, ◌≤◌, ◌⊎◌, inl, inr, Bool, true, false, cond, List, [], ◌∷◌, ◌++◌, take, drop, length, get_or, Some, None, nat_lt, ap, sym, subst, ◌∙◌, arith, leb-true, le-leb, ne_eqb, lt-ltb}
 use Rattle.std.specs.Prelude.{◌==◌, suc, zero}
 use Rattle.std.proofs.Math.Seq.{take-add}
-use Rattle.std.proofs.lemmas.Bool.{and_parts}
+use Rattle.std.proofs.lemmas.Bool.{and_from, and_parts}
 use Rattle.std.proofs.lemmas.List.{length-drop, length-take-le, get_or-drop, get_or-take}
 use Rattle.std.proofs.lemmas.List.Elements.{All-nil, All-cons, All-append}
 use Rattle.std.specs.Char.{is_ascii_digit}
@@ -60,13 +60,11 @@ read_in_more t at size value whole lt few digit low h = (
         read_digit (drop at (take n t)) size value whole (long_in t n at size most less) (λ e. omega (arith, low, e, get)) (digit ∙ ap (λ b. with_digit value b) (sym get)) (h.4 n (omega (arith, le)) most)
 
 -- one of the first 19 digits
-pub read_in_sure : (t : List ℕ) (at size value : ℕ) → at + size < length t → size < 19 → is_ascii_digit (get_or t (at + size) 0) ≡ true → IsReadIn t at value size → value < 10 ^ size
+pub read_in_sure : (t : List ℕ) (at size value : ℕ) → at + size < length t → size < 19 → 48 ≤ get_or t (at + size) 0 → get_or t (at + size) 0 ≤ 57 → IsReadIn t at value size → value < 10 ^ size
     → IsReadIn t at (value * 10 + (get_or t (at + size) 0 - 48)) (size + 1) × (value * 10 + (get_or t (at + size) 0 - 48) < 10 ^ (size + 1))
-read_in_sure t at size value lt few digit h less =
+read_in_sure t at size value lt few low high h less =
     let b = get_or t (at + size) 0 in
-    let both = and_parts _ _ digit in
-    let low : 48 ≤ b = leb-true 48 b both.0 in
-    let high : b ≤ 57 = leb-true b 57 both.1 in
+    let digit : is_ascii_digit b ≡ true = and_from _ _ (le-leb 48 b low) (le-leb b 57 high) in
     let sure = sure_more size value (b - 48) few less (omega (arith, low, high)) in
     let is : Some (value * 10 + (b - 48)) ≡ with_digit value b = sym (ap (λ v. cond v (cond (nat_lt (value * 10 + (b - 48)) (2 ^ 64)) (Some (value * 10 + (b - 48))) None) None) digit ∙ ap (λ v. cond v (Some (value * 10 + (b - 48))) None) (lt-ltb _ _ sure.0)) in
     (read_in_more t at size value (value * 10 + (b - 48)) lt (omega (arith, few)) is low h, sure.1)
@@ -87,7 +85,10 @@ pub read_in_one : (t : List ℕ) (at : ℕ) → at < length t → is_ascii_digit
 read_in_one t at lt digit =
     let here : at + 0 ≡ at = omega arith in
     let get : get_or t (at + 0) 0 ≡ get_or t at 0 = ap (λ n. get_or t n 0) here in
-    let read = read_in_sure t at 0 0 (omega (arith, lt)) (omega arith) (ap is_ascii_digit get ∙ digit) (read_in_none t at (omega (arith, lt))) (omega arith) in
+    let both = and_parts _ _ digit in
+    let low : 48 ≤ get_or t at 0 = leb-true _ _ both.0 in
+    let high : get_or t at 0 ≤ 57 = leb-true _ _ both.1 in
+    let read = read_in_sure t at 0 0 (omega (arith, lt)) (omega arith) (omega (arith, low, get)) (omega (arith, high, get)) (read_in_none t at (omega (arith, lt))) (omega arith) in
     let value : 0 * 10 + (get_or t (at + 0) 0 - 48) ≡ get_or t at 0 - 48 = omega (arith, get) in
     let one : 0 + 1 ≡ 1 = omega arith in
     subst (λ v. IsReadIn t at v 1) value (subst (λ n. IsReadIn t at (0 * 10 + (get_or t (at + 0) 0 - 48)) n) one read.0)

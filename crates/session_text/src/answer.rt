@@ -18,7 +18,7 @@ use crate::dump::{write_dump, write_dump_now};
 use crate::marks::FieldMarks;
 use crate::mutator::{Quick, answer_mutator};
 use crate::page::Page;
-use crate::reply::write_reply;
+use crate::reply::{write_answer, write_reply};
 use crate::write::write_text;
 use dump_pump::Outlet;
 use heap_class::Refusal;
@@ -65,7 +65,10 @@ pub fn answer_action<O: Outlet, C: Commands>(
     if is_done(&reply) {
         return write_text(page, writer, b"ok\n");
     }
-    write_other(page, writer, reply)
+    match reply {
+        Reply::Answered(answer) => write_answer(page, writer, answer),
+        other => write_other(page, writer, other),
+    }
 }
 
 /// Adds a reply to a page, which is flushed each time that it is full.

@@ -1,5 +1,5 @@
 //! The lines of mutators, read in one pass, in which their end is found, and answered at once.
-ghost use Rattle.std.specs.Prelude.{◌≡◌, ◌≤◌, Some, codes, take, drop, IfSome};
+ghost use Rattle.std.specs.Prelude.{◌≡◌, ◌≤◌, Some, codes, length, take, drop, IfSome};
 ghost use Rattle.heap_trail.specs.declared.Action.TheVariants.{Step};
 ghost use Rattle.session_text.specs.declared.command.Command.TheVariants.{Ask};
 ghost use Rattle.session_text.specs.Grammar.{words_of, two_numbers, three_numbers, four_numbers, command_of_text};
@@ -61,7 +61,7 @@ fn verb_of(text: &[u8]) -> Verb
 /// The two numbers that the first line of a text has from a place on, and where it ends.
 #[inline(always)]
 fn two_in(text: &[u8], at: usize) -> Option<(u64, u64, usize)>
-    requires { (at ≤ 6) × NoLf (take at text.now) }
+    requires { (at ≤ 6) × (at ≤ length text.now) × NoLf (take at text.now) }
     ensures line { IfSome result (λ r. IsShortLine r.2 text.now × (at ≤ r.2)) }
     ensures numbers { IfSome result (λ r. two_numbers (words_of (drop at (take r.2 text.now))) ≡ Some (r.0, r.1)) }
 {
@@ -76,7 +76,7 @@ fn two_in(text: &[u8], at: usize) -> Option<(u64, u64, usize)>
 /// The three numbers that the first line of a text has from a place on, and where it ends.
 #[inline(always)]
 fn three_in(text: &[u8], at: usize) -> Option<(u64, u64, u64, usize)>
-    requires { (at ≤ 6) × NoLf (take at text.now) }
+    requires { (at ≤ 6) × (at ≤ length text.now) × NoLf (take at text.now) }
     ensures line { IfSome result (λ r. IsShortLine r.3 text.now × (at ≤ r.3)) }
     ensures numbers { IfSome result (λ r. three_numbers (words_of (drop at (take r.3 text.now))) ≡ Some (r.0, r.1, r.2)) }
 {
@@ -92,7 +92,7 @@ fn three_in(text: &[u8], at: usize) -> Option<(u64, u64, u64, usize)>
 /// The four numbers that the first line of a text has from a place on, and where it ends.
 #[inline(always)]
 fn four_in(text: &[u8], at: usize) -> Option<(u64, u64, u64, u64, usize)>
-    requires { (at ≤ 6) × NoLf (take at text.now) }
+    requires { (at ≤ 6) × (at ≤ length text.now) × NoLf (take at text.now) }
     ensures line { IfSome result (λ r. IsShortLine r.4 text.now × (at ≤ r.4)) }
     ensures numbers { IfSome result (λ r. four_numbers (words_of (drop at (take r.4 text.now))) ≡ Some (r.0, r.1, r.2, r.3)) }
 {

@@ -1,5 +1,5 @@
 //! Numbers in decimal.
-ghost use Rattle.std.specs.Prelude.{◌≡◌, ◌≤◌, ◌<◌, length, drop, codes, IfSome};
+ghost use Rattle.std.specs.Prelude.{◌≡◌, ◌+◌, ◌≤◌, ◌<◌, length, drop, codes, IfSome};
 ghost use Rattle.std.specs.Str.{bytes_eq};
 ghost use Rattle.session_text.specs.Grammar.{number, number_or_dash};
 ghost use Rattle.session_text.specs.Reads.{first_word, with_digit, with_size, IsReadTo, IsReadIn, IsNumberAt, IsNumberThen};
@@ -76,11 +76,11 @@ fn digits_in(text: &[u8], at: usize) -> (u64, usize)
     let mut size = 0;
     let sure = (text.len() - at).min(SURE_DIGITS);
     while size < sure {
-        let b = text[at + size];
-        if !b.is_ascii_digit() {
+        let b = u64::from(text[at + size]);
+        if b < 48 || b > 57 {
             return (value, size);
         }
-        value = value * 10 + (u64::from(b) - 48);
+        value = value * 10 + (b - 48);
         size += 1;
     }
     if at + size == text.len() {
@@ -95,13 +95,14 @@ fn digits_in(text: &[u8], at: usize) -> (u64, usize)
 /// The number at a place of a text, if this byte ends it, and that byte's place; or the text's end if there is no such number.
 #[inline(always)]
 pub fn number_then(text: &[u8], at: usize, ender: u8) -> (u64, usize)
+    requires { at ≤ length text.now + 1 }
     ensures number { IsNumberThen text.now at ender result.0 result.1 }
     ensures within { result.1 ≤ length text.now }
 {
-    if at >= text.len() {
+    if at + 1 >= text.len() {
         return (0, text.len());
     }
-    if text[at].is_ascii_digit() && at + 1 < text.len() && text[at + 1] == ender {
+    if text[at].is_ascii_digit() && text[at + 1] == ender {
         return (u64::from(text[at]) - 48, at + 1);
     }
     let (value, size) = digits_in(text, at);

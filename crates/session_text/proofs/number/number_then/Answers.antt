@@ -9,7 +9,7 @@ returns-then-at-text-clause-number c lt = absurd (omega (arith, lt))
 pub returns-then-text-at-clause-number : goal.returns-then-text-at-clause-number
 returns-then-text-at-clause-number c =
     let t = c.args.text.now in
-    let lt : c.args.at < length t = omega (arith, c.if-at-text-2.true) in
+    let lt : c.args.at < length t = omega (arith, c.if-at-text.false) in
     let read = read_in_one t c.args.at lt (sym c.is_ascii_digit.ensures.value ∙ c.if-is_ascii_digit.true) in
     then_of t c.args.at c.args.ender (c.from.result - 48) 1 (subst (λ v. IsReadIn t c.args.at (v - 48) 1) (sym c.from.ensures) read) (λ e. omega (arith, e)) c.if-text-at.true
 

@@ -13,4 +13,5 @@ pub mod Sessions
 pub mod FirstPin
 pub mod Dumping
 pub mod Hexadecimal
+pub mod Reading
 pub mod Mutating

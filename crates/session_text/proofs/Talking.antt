@@ -11,6 +11,7 @@ use Rattle.heap_class.specs.declared.Refusal.TheVariants.{NoMemory as NoRoom}
 use Rattle.heap_trail.specs.declared.Reply.TheVariants.{Refused}
 use Rattle.session_text.specs.declared.Ended.{Ended}
 use Rattle.session_text.specs.declared.Ended.TheVariants.{Quit, Eof, CutLine, TooLong, ReadFault, TooManyReads, WriteFault, NoMemory}
+use Rattle.session_text.specs.declared.answer.Step.{Step}
 use Rattle.session_text.specs.declared.answer.Step.TheVariants.{Next}
 use Rattle.session_text.specs.declared.command.Command.{Command}
 use Rattle.session_text.specs.declared.command.Command.TheVariants.{Blank, Bad, Ask, Piece, Dump, DumpNow, End}
@@ -22,7 +23,7 @@ use Rattle.session_text.specs.Inlets.{Incoming, whole}
 use Rattle.session_text.specs.Lines.{NoLf, IsLineAt}
 use Rattle.session_text.specs.Reads.{TakesMemory}
 use Rattle.session_text.specs.Replies.{reply_text}
-use Rattle.session_text.specs.Talks.{IsLine, IsLong, Talks, stream, IsTalk, BeginsWith, IsQuit, IsBrokenOff, IsStep, Closes, Breaks, Fails, IsLastRead, IsServed, Serves}
+use Rattle.session_text.specs.Talks.{IsFirst, IsLine, IsLong, Talks, stream, IsTalk, BeginsWith, IsQuit, IsBrokenOff, IsStep, Closes, Breaks, Fails, IsLastRead, IsServed, Serves}
 use Rattle.session_text.specs.Writes.{IsCutShort, IsWritten, IsAdded}
 use Rattle.session_text.proofs.Written.{added_here}
 
@@ -139,6 +140,16 @@ long_line bytes n more at = (omega (arith, more, at.0), none_first 4097 n bytes 
 
 pub long_rest : (bytes : List ℕ) → 4096 < length bytes → NoLf bytes → IsLong bytes
 long_rest bytes more none = (more, All-take (λ b. (b == 10) ≡ false) 4097 bytes none)
+
+-- ---- the first line of a buffer
+
+-- what comes of it, after it was left once
+pub first_left : {S : Type 0} (says begins : Says S) (bytes : List ℕ) (c : S) (page : List ℕ) (w : Outgoing) (c1 : S) (page1 : List ℕ) (w1 : Outgoing) (rest : List ℕ) (c' : S) (page' : List ℕ) (w' : Outgoing) (o : Option Step)
+    → (c1 ≡ c) × (page1 ≡ page) × (w1 ≡ w) → IsFirst says begins bytes c1 page1 w1 rest c' page' w' o → IsFirst says begins bytes c page w rest c' page' w' o
+first_left says begins bytes c page w c1 page1 w1 rest c' page' w' o same h =
+    let a = subst (λ x. IsFirst says begins bytes x page1 w1 rest c' page' w' o) same.0 h in
+    let b = subst (λ x. IsFirst says begins bytes c x w1 rest c' page' w' o) same.1 a in
+    subst (λ x. IsFirst says begins bytes c page x rest c' page' w' o) same.2 b
 
 -- ---- sessions
 

@@ -1,5 +1,5 @@
 -- Lines that are answered at once.
-use Rattle.std.specs.Prelude.{◌≡◌, ℕ, Bool, true, false, List, [], ◌∷◌, drop, codes}
+use Rattle.std.specs.Prelude.{◌≡◌, ℕ, ◌≤◌, Bool, true, false, List, [], ◌∷◌, take, drop, length, codes}
 use Rattle.dump_pump.specs.Outlets.{Outgoing}
 use Rattle.heap_step.specs.declared.Event.{Event}
 use Rattle.heap_trail.specs.declared.Action.TheVariants.{Step}
@@ -11,7 +11,8 @@ use Rattle.session_text.specs.declared.mutator.Quick.TheVariants.{No, Next, Faul
 use Rattle.session_text.specs.declared.mutator.Verb.{Verb}
 use Rattle.session_text.specs.declared.mutator.Verb.TheVariants.{Load, Store, Put, Move, Clear, New, Mark, Other}
 use Rattle.session_text.specs.Dumps.{Acts}
-use Rattle.session_text.specs.Grammar.{words_of}
+use Rattle.session_text.specs.Grammar.{words_of, command_of_text, without_cr}
+use Rattle.session_text.specs.Lines.{NoLf, IsLineAt}
 use Rattle.session_text.specs.Replies.{reply_text}
 use Rattle.session_text.specs.Writes.{IsAdded}
 
@@ -19,16 +20,24 @@ use Rattle.session_text.specs.Writes.{IsAdded}
 abbrev pub Follows : List ℕ → List ℕ → ℕ → Type 0
 Follows key line at = words_of line ≡ key ∷ words_of (drop at line)
 
--- what a verb says of a line
+-- so it is with each line that begins as the text does up to that place, and no line ends before it
+abbrev pub FollowsIn : List ℕ → List ℕ → ℕ → Type 0
+FollowsIn key text at = (at ≤ length text) × NoLf (take at text) × ((n : ℕ) → at ≤ n → n ≤ length text → Follows key (take n text) at)
+
+-- the text's first line ends here, it isn't too long, and no CR ends it
+abbrev pub IsShortLine : ℕ → List ℕ → Type 0
+IsShortLine n text = IsLineAt n text × (n ≤ 4096) × (take n text ≡ without_cr (take n text))
+
+-- what a verb says of a text
 abbrev pub IsVerb : List ℕ → Verb → Type 0
-IsVerb line Load = Follows (codes "load") line 5
-IsVerb line Store = Follows (codes "store") line 6
-IsVerb line Put = Follows (codes "put") line 4
-IsVerb line Move = Follows (codes "move") line 5
-IsVerb line Clear = Follows (codes "clear") line 6
-IsVerb line New = Follows (codes "new") line 4
-IsVerb line Mark = words_of line ≡ codes "mark" ∷ []
-IsVerb line Other = Unit {0}
+IsVerb text Load = FollowsIn (codes "load") text 5
+IsVerb text Store = FollowsIn (codes "store") text 6
+IsVerb text Put = FollowsIn (codes "put") text 4
+IsVerb text Move = FollowsIn (codes "move") text 5
+IsVerb text Clear = FollowsIn (codes "clear") text 6
+IsVerb text New = FollowsIn (codes "new") text 4
+IsVerb text Mark = IsShortLine 4 text × (take 4 text ≡ codes "mark")
+IsVerb text Other = Unit {0}
 
 -- the event was done, and its reply was added
 abbrev pub IsDone : {S : Type 0} → Acts S → Event → S → List ℕ → Outgoing → S → List ℕ → Outgoing → Bool → Type 0
@@ -43,3 +52,13 @@ abbrev pub IsQuick : {S : Type 0} → Acts S → Command → S → List ℕ → 
 IsQuick acts k c page w c' page' w' No = (c' ≡ c) × (page' ≡ page) × (w' ≡ w)
 IsQuick acts k c page w c' page' w' Next = IsAsked acts k c page w c' page' w' true
 IsQuick acts k c page w c' page' w' Fault = IsAsked acts k c page w c' page' w' false
+
+-- if a text's first line was answered, it ends here
+abbrev pub IsPassed : List ℕ → Quick → ℕ → Type 0
+IsPassed text No n = Unit {0}
+IsPassed text Next n = IsShortLine n text
+IsPassed text Fault n = IsShortLine n text
+
+-- what has come of a text's first line
+abbrev pub IsQuickIn : {S : Type 0} → Acts S → List ℕ → S → List ℕ → Outgoing → S → List ℕ → Outgoing → Quick × ℕ → Type 0
+IsQuickIn acts text c page w c' page' w' r = IsPassed text r.0 r.1 × IsQuick acts (command_of_text (take r.1 text)) c page w c' page' w' r.0

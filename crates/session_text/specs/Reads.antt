@@ -1,5 +1,5 @@
 -- How lines are read, and which take memory for it.
-use Rattle.std.specs.Prelude.{◌≡◌, ℕ, ◌+◌, ◌-◌, ◌*◌, ◌^◌, ◌<◌, ◌≤◌, All, length, ◌==◌, nat_lt, List, [], ◌∷◌, ◌++◌, take, drop, codes, Option, Some, None, option_map, option_and_then, if◌then◌else◌}
+use Rattle.std.specs.Prelude.{◌≡◌, ◌⊎◌, ℕ, suc, get_or, ◌+◌, ◌-◌, ◌*◌, ◌^◌, ◌<◌, ◌≤◌, All, length, ◌==◌, nat_lt, List, [], ◌∷◌, ◌++◌, take, drop, codes, Option, Some, None, option_map, option_and_then, if◌then◌else◌}
 use Rattle.std.specs.Char.{is_ascii_digit}
 use Rattle.std.specs.List.{position_or_len}
 use Rattle.heap_class.specs.declared.Field.{Field}
@@ -8,6 +8,7 @@ use Rattle.heap_step.specs.declared.Event.TheVariants.{Class, ArrayClass, New, N
 use Rattle.heap_trail.specs.declared.Action.{Action}
 use Rattle.heap_trail.specs.declared.Action.TheVariants.{Step, Rewind, OpenPin, NextPiece, ClosePin}
 use Rattle.session_text.specs.Grammar.{words_of, is_plain, Rule, value_of, number, next_number, field_of, next_number_or_dash, at_end, making_rules, access_rules, marking_rules, session_rules}
+use Rattle.session_text.specs.Lines.{NoLf}
 use Rattle.session_text.specs.declared.marks.FieldMark.{FieldMark}
 use Rattle.session_text.specs.declared.command.Command.{Command}
 use Rattle.session_text.specs.declared.command.Command.TheVariants.{Blank, Bad, Ask, Piece, Dump, DumpNow, End}
@@ -90,6 +91,22 @@ IsNumberAt t value size = with_size t (number (first_word t)) ≡ (if size == 0 
 -- the number that the word at a place is, and the place behind it and the byte that ends it; or a place past the text by two
 abbrev pub IsNumberFrom : List ℕ → ℕ → ℕ → ℕ → Type 0
 IsNumberFrom t at value next = next ≤ length t + 1 → (at < length t) × (next_number (words_of (drop at t)) ≡ Some (value, words_of (drop next t)))
+
+-- digits that stand at a place, in any beginning of the text that has them: so many, and their value
+abbrev pub IsReadIn : List ℕ → ℕ → ℕ → ℕ → Type 0
+IsReadIn t at value size =
+    (at + size ≤ length t) × (size ≤ 20)
+    × ((s : ℕ) → size ≡ suc s → 48 ≤ get_or t (at + s) 0)
+    × (NoLf (take at t) → NoLf (take (at + size) t))
+    × ((n : ℕ) → at + size ≤ n → n ≤ length t → IsReadTo (drop at (take n t)) (drop size (drop at (take n t))) size value)
+
+-- the number at a place, in each beginning of the text in which it is a word; this byte, at the place `end`, ends it
+abbrev pub IsNumberThen : List ℕ → ℕ → ℕ → ℕ → ℕ → Type 0
+IsNumberThen t at ender value end =
+    end < length t → (at < end) × (end ≤ at + 20) × (get_or t end 0 ≡ ender)
+    × ((s : ℕ) → end ≡ suc s → 48 ≤ get_or t s 0)
+    × (NoLf (take at t) → NoLf (take end t))
+    × ((n : ℕ) → n ≤ length t → (n ≡ end) ⊎ ((end < n) × (ender ≡ 32)) → IsNumberFrom (take n t) at value (end + 1))
 
 -- ---- words without a bad byte
 

@@ -1,5 +1,5 @@
 -- Sessions: the lines that were read, and the texts that were written for them.
-use Rattle.std.specs.Prelude.{◌≡◌, ℕ, ◌+◌, ◌≤◌, ◌<◌, ◌⊎◌, true, false, List, [], ◌∷◌, ◌++◌, take, length, flat_map, codes, All}
+use Rattle.std.specs.Prelude.{◌≡◌, ℕ, ◌+◌, ◌≤◌, ◌<◌, ◌⊎◌, true, false, List, [], ◌∷◌, ◌++◌, take, length, flat_map, codes, All, Option, Some, None}
 use Rattle.std.specs.Io.KnownBytes.{Keeps}
 use Rattle.dump_pump.specs.Outlets.{Outgoing}
 use Rattle.session_text.specs.declared.Ended.{Ended}
@@ -66,6 +66,14 @@ IsAnswered says begins bytes c w rest c' page' w' Stop = (text : List ℕ) × Is
 IsAnswered says begins bytes c w rest c' page' w' Long = (text : List ℕ) × IsTalk says bytes c rest text c' × IsLong rest × IsAdded text [] w page' w' true
 IsAnswered {S} says begins bytes c w rest c' page' w' Fault =
     (left : List ℕ) × (text : List ℕ) × (between : S) × IsTalk says bytes c left text between × IsBrokenOff begins text left between w c' w'
+
+-- the first line of some bytes, if it is whole: it is answered, or it is left and nothing has changed
+abbrev pub IsFirst : {S : Type 0} → Says S → Says S → List ℕ → S → List ℕ → Outgoing → List ℕ → S → List ℕ → Outgoing → Option Step → Type 0
+IsFirst says begins bytes c page w rest c' page' w' None = (rest ≡ bytes) × IsLine rest × (c' ≡ c) × (page' ≡ page) × (w' ≡ w)
+IsFirst says begins bytes c page w rest c' page' w' (Some Next) = (length rest < length bytes) × (text : List ℕ) × IsTalk says bytes c rest text c' × IsAdded text page w page' w' true
+IsFirst says begins bytes c page w rest c' page' w' (Some Stop) = (rest ≡ bytes) × IsQuit rest × (c' ≡ c) × (page' ≡ page) × (w' ≡ w)
+IsFirst says begins bytes c page w rest c' page' w' (Some Long) = (rest ≡ bytes) × IsLong rest × (c' ≡ c) × (page' ≡ page) × (w' ≡ w)
+IsFirst says begins bytes c page w rest c' page' w' (Some Fault) = (l : List ℕ) × (tail : List ℕ) × BeginsWith l bytes × begins (command_of l) c tail c' × IsAdded tail page w page' w' false
 
 -- ---- endings
 

@@ -7,7 +7,7 @@ ghost use Rattle.session_text.specs.Endings.{step_of};
 ghost use Rattle.session_text.specs.Grammar.{command_of, command_of_text};
 ghost use Rattle.heap_trail.specs.declared.Reply.{Reply};
 ghost use Rattle.session_text.specs.Replies.{reply_text};
-ghost use Rattle.session_text.specs.Talks.{IsStep, IsAnswered};
+ghost use Rattle.session_text.specs.Talks.{IsFirst, IsStep, IsAnswered};
 ghost use Rattle.session_text.specs.Writes.{IsAdded};
 
 use crate::LINE_LIMIT;
@@ -18,7 +18,7 @@ use crate::dump::{write_dump, write_dump_now};
 use crate::marks::FieldMarks;
 use crate::mutator::{Quick, answer_mutator};
 use crate::page::Page;
-use crate::reply::write_reply;
+use crate::reply::{write_answer, write_reply};
 use crate::write::write_text;
 use dump_pump::Outlet;
 use heap_class::Refusal;
@@ -65,28 +65,18 @@ pub fn answer_action<O: Outlet, C: Commands>(
     if is_done(&reply) {
         return write_text(page, writer, b"ok\n");
     }
-    write_reply(page, writer, &reply)
+    match reply {
+        Reply::Answered(answer) => write_answer(page, writer, answer),
+        other => write_other(page, writer, other),
+    }
 }
 
-/// Adds the answer of one line to a page, which is flushed each time that it is full.
-fn answer_line<O: Outlet, C: Commands>(
-    alloc: Global,
-    marks: &mut FieldMarks,
-    line: &[u8],
-    time: u64,
-    page: &mut Page,
-    writer: &mut O,
-    commands: &mut C,
-) -> Step
-    requires { length line.now ≤ 4096 }
-    ensures { IsStep (Answers C.acts time) (Begins C.acts time) (command_of line.now) commands.old page.old (O.seen writer.old) commands.new page.new (O.seen writer.new) result }
+/// Adds a reply to a page, which is flushed each time that it is full.
+#[inline(never)]
+fn write_other<O: Outlet>(page: &mut Page, writer: &mut O, reply: Reply) -> bool
+    ensures { IsAdded (reply_text reply) page.old (O.seen writer.old) page.new (O.seen writer.new) result }
 {
-    let text = without_cr(line);
-    match answer_mutator(text, page, writer, commands) {
-        Quick::Next => Step::Next,
-        Quick::Fault => Step::Fault,
-        Quick::No => answer_text(alloc, marks, text, time, page, writer, commands),
-    }
+    write_reply(page, writer, &reply)
 }
 
 /// Adds the answer of one line to a page, which is flushed each time that it is full.
@@ -118,6 +108,54 @@ fn answer_text<O: Outlet, C: Commands>(
     }
 }
 
+/// Adds the answer of one line to a page, which is flushed each time that it is full.
+fn answer_line<O: Outlet, C: Commands>(
+    alloc: Global,
+    marks: &mut FieldMarks,
+    line: &[u8],
+    time: u64,
+    page: &mut Page,
+    writer: &mut O,
+    commands: &mut C,
+) -> Step
+    requires { length line.now ≤ 4096 }
+    ensures { IsStep (Answers C.acts time) (Begins C.acts time) (command_of line.now) commands.old page.old (O.seen writer.old) commands.new page.new (O.seen writer.new) result }
+{
+    answer_text(alloc, marks, without_cr(line), time, page, writer, commands)
+}
+
+/// Answers the first line of a buffer if it is whole. Its answer is added to a page, which is flushed each time that it is full.
+#[inline(never)]
+fn answer_first<O: Outlet, C: Commands>(
+    alloc: Global,
+    marks: &mut FieldMarks,
+    time: u64,
+    buffer: &mut Buffer,
+    page: &mut Page,
+    writer: &mut O,
+    commands: &mut C,
+) -> Option<Step>
+    ensures { IsFirst (Answers C.acts time) (Begins C.acts time) buffer.old commands.old page.old (O.seen writer.old) buffer.new commands.new page.new (O.seen writer.new) result }
+{
+    let Some(n) = buffer.line_end() else {
+        if buffer.as_slice().len() > LINE_LIMIT {
+            return Some(Step::Long);
+        }
+        return None;
+    };
+    if n > LINE_LIMIT {
+        return Some(Step::Long);
+    }
+    let line = &buffer.as_slice()[..n];
+    match answer_line(alloc, marks, line, time, page, writer, commands) {
+        Step::Next => buffer.pass(n + 1),
+        Step::Quit => return Some(Step::Quit),
+        Step::Long => return Some(Step::Long),
+        Step::Fault => return Some(Step::Fault),
+    }
+    Some(Step::Next)
+}
+
 /// Answers the whole lines of a buffer, up to the first that is too long. Their answers are added to an empty page, which is
 /// flushed each time that it is full.
 pub fn answer_lines<O: Outlet, C: Commands>(
@@ -132,28 +170,19 @@ pub fn answer_lines<O: Outlet, C: Commands>(
     requires { page.old ≡ [] }
     ensures { IsAnswered (Answers C.acts time) (Begins C.acts time) buffer.old commands.old (O.seen writer.old) buffer.new commands.new page.new (O.seen writer.new) result }
 {
-    while let Some(n) = buffer.line_end() {
-        if n > LINE_LIMIT {
-            return Step::Long;
+    loop {
+        match answer_mutator(buffer.as_slice(), page, writer, commands) {
+            (Quick::Next, n) => buffer.pass(n + 1),
+            (Quick::Fault, _) => return Step::Fault,
+            (Quick::No, _) => {
+                match answer_first(alloc, marks, time, buffer, page, writer, commands) {
+                    None => return Step::Next,
+                    Some(Step::Next) => {}
+                    Some(Step::Quit) => return Step::Quit,
+                    Some(Step::Long) => return Step::Long,
+                    Some(Step::Fault) => return Step::Fault,
+                }
+            }
         }
-        match answer_line(
-            alloc,
-            marks,
-            &buffer.as_slice()[..n],
-            time,
-            page,
-            writer,
-            commands,
-        ) {
-            Step::Next => {}
-            Step::Quit => return Step::Quit,
-            Step::Long => return Step::Long,
-            Step::Fault => return Step::Fault,
-        }
-        buffer.pass(n + 1);
     }
-    if buffer.as_slice().len() > LINE_LIMIT {
-        return Step::Long;
-    }
-    Step::Next
 }

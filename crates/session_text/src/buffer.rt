@@ -9,7 +9,8 @@ use memchr::memchr;
 use std::alloc::{AllocError, Global};
 use std::marker::Model;
 
-const LF: u8 = b'\n';
+/// What ends a line.
+pub const LF: u8 = b'\n';
 
 /// The most bytes of a buffer.
 const BUFFER_LIMIT: usize = 65_536;

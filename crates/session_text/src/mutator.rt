@@ -1,13 +1,15 @@
-//! The lines of mutators, read in one pass and answered at once.
-ghost use Rattle.std.specs.Prelude.{◌≡◌, ◌∷◌, [], Some, codes, drop, IfSome};
+//! The lines of mutators, read in one pass, in which their end is found, and answered at once.
+ghost use Rattle.std.specs.Prelude.{◌≡◌, ◌≤◌, Some, codes, length, take, drop, IfSome};
 ghost use Rattle.heap_trail.specs.declared.Action.TheVariants.{Step};
 ghost use Rattle.session_text.specs.declared.command.Command.TheVariants.{Ask};
 ghost use Rattle.session_text.specs.Grammar.{words_of, two_numbers, three_numbers, four_numbers, command_of_text};
-ghost use Rattle.session_text.specs.Mutators.{Follows, IsVerb, IsQuick};
+ghost use Rattle.session_text.specs.Lines.{NoLf};
+ghost use Rattle.session_text.specs.Mutators.{FollowsIn, IsVerb, IsQuick, IsQuickIn, IsShortLine};
 
 use crate::answer::answer_action;
+use crate::buffer::LF;
 use crate::commands::Commands;
-use crate::number::number_from;
+use crate::number::number_then;
 use crate::page::Page;
 use crate::words::SPACE;
 use dump_pump::Outlet;
@@ -27,10 +29,10 @@ enum Verb {
     Other,
 }
 
-/// What has come of a line.
+/// What has come of a text's first line.
 #[derive(Clone, Copy, PartialEq, Eq, Debug)]
 pub enum Quick {
-    /// Nothing. The line is read as any other.
+    /// Nothing. It is read as any other, if it is whole.
     No,
     /// It was answered.
     Next,
@@ -38,64 +40,70 @@ pub enum Quick {
     Fault,
 }
 
-/// The keyword that a line begins with.
+/// The keyword that a text begins with.
 #[inline(always)]
-#[tactic(auto, using(crate::proofs::Mutating::load_follows, crate::proofs::Mutating::store_follows, crate::proofs::Mutating::put_follows, crate::proofs::Mutating::move_follows, crate::proofs::Mutating::clear_follows, crate::proofs::Mutating::new_follows, crate::proofs::Mutating::is_mark))]
-fn verb_of(line: &[u8]) -> Verb
-    ensures { IsVerb line.now result }
+#[tactic(auto, using(crate::proofs::Mutating::load_in, crate::proofs::Mutating::store_in, crate::proofs::Mutating::put_in, crate::proofs::Mutating::move_in, crate::proofs::Mutating::clear_in, crate::proofs::Mutating::new_in, crate::proofs::Mutating::mark_in))]
+fn verb_of(text: &[u8]) -> Verb
+    ensures { IsVerb text.now result }
 {
-    match line {
+    match text {
         [b'l', b'o', b'a', b'd', SPACE, ..] => Verb::Load,
         [b's', b't', b'o', b'r', b'e', SPACE, ..] => Verb::Store,
         [b'p', b'u', b't', SPACE, ..] => Verb::Put,
         [b'm', b'o', b'v', b'e', SPACE, ..] => Verb::Move,
         [b'c', b'l', b'e', b'a', b'r', SPACE, ..] => Verb::Clear,
         [b'n', b'e', b'w', SPACE, ..] => Verb::New,
-        [b'm', b'a', b'r', b'k'] => Verb::Mark,
+        [b'm', b'a', b'r', b'k', LF, ..] => Verb::Mark,
         _ => Verb::Other,
     }
 }
 
-/// The two numbers that a line has from a place on.
+/// The two numbers that the first line of a text has from a place on, and where it ends.
 #[inline(always)]
-fn two_from(line: &[u8], at: usize) -> Option<(u64, u64)>
-    ensures { IfSome result (λ n. two_numbers (words_of (drop at line.now)) ≡ Some n) }
+fn two_in(text: &[u8], at: usize) -> Option<(u64, u64, usize)>
+    requires { (at ≤ 6) × (at ≤ length text.now) × NoLf (take at text.now) }
+    ensures line { IfSome result (λ r. IsShortLine r.2 text.now × (at ≤ r.2)) }
+    ensures numbers { IfSome result (λ r. two_numbers (words_of (drop at (take r.2 text.now))) ≡ Some (r.0, r.1)) }
 {
-    let (a, at) = number_from(line, at);
-    let (b, at) = number_from(line, at);
-    if at != line.len() + 1 {
+    let (a, end) = number_then(text, at, SPACE);
+    let (b, end) = number_then(text, end + 1, LF);
+    if end == text.len() {
         return None;
     }
-    Some((a, b))
+    Some((a, b, end))
 }
 
-/// The three numbers that a line has from a place on.
+/// The three numbers that the first line of a text has from a place on, and where it ends.
 #[inline(always)]
-fn three_from(line: &[u8], at: usize) -> Option<(u64, u64, u64)>
-    ensures { IfSome result (λ n. three_numbers (words_of (drop at line.now)) ≡ Some n) }
+fn three_in(text: &[u8], at: usize) -> Option<(u64, u64, u64, usize)>
+    requires { (at ≤ 6) × (at ≤ length text.now) × NoLf (take at text.now) }
+    ensures line { IfSome result (λ r. IsShortLine r.3 text.now × (at ≤ r.3)) }
+    ensures numbers { IfSome result (λ r. three_numbers (words_of (drop at (take r.3 text.now))) ≡ Some (r.0, r.1, r.2)) }
 {
-    let (a, at) = number_from(line, at);
-    let (b, at) = number_from(line, at);
-    let (c, at) = number_from(line, at);
-    if at != line.len() + 1 {
+    let (a, end) = number_then(text, at, SPACE);
+    let (b, end) = number_then(text, end + 1, SPACE);
+    let (c, end) = number_then(text, end + 1, LF);
+    if end == text.len() {
         return None;
     }
-    Some((a, b, c))
+    Some((a, b, c, end))
 }
 
-/// The four numbers that a line has from a place on.
+/// The four numbers that the first line of a text has from a place on, and where it ends.
 #[inline(always)]
-fn four_from(line: &[u8], at: usize) -> Option<(u64, u64, u64, u64)>
-    ensures { IfSome result (λ n. four_numbers (words_of (drop at line.now)) ≡ Some n) }
+fn four_in(text: &[u8], at: usize) -> Option<(u64, u64, u64, u64, usize)>
+    requires { (at ≤ 6) × (at ≤ length text.now) × NoLf (take at text.now) }
+    ensures line { IfSome result (λ r. IsShortLine r.4 text.now × (at ≤ r.4)) }
+    ensures numbers { IfSome result (λ r. four_numbers (words_of (drop at (take r.4 text.now))) ≡ Some (r.0, r.1, r.2, r.3)) }
 {
-    let (a, at) = number_from(line, at);
-    let (b, at) = number_from(line, at);
-    let (c, at) = number_from(line, at);
-    let (d, at) = number_from(line, at);
-    if at != line.len() + 1 {
+    let (a, end) = number_then(text, at, SPACE);
+    let (b, end) = number_then(text, end + 1, SPACE);
+    let (c, end) = number_then(text, end + 1, SPACE);
+    let (d, end) = number_then(text, end + 1, LF);
+    if end == text.len() {
         return None;
     }
-    Some((a, b, c, d))
+    Some((a, b, c, d, end))
 }
 
 /// Does an event and adds its reply.
@@ -120,176 +128,190 @@ fn answer_event<O: Outlet, C: Commands>(
 /// `load M TO FROM SLOT`.
 #[inline(never)]
 fn answer_load<O: Outlet, C: Commands>(
-    line: &[u8],
+    text: &[u8],
     page: &mut Page,
     writer: &mut O,
     commands: &mut C,
-) -> Quick
-    requires { Follows (codes "load") line.now 5 }
-    ensures { IsQuick C.acts (command_of_text line.now) commands.old page.old (O.seen writer.old) commands.new page.new (O.seen writer.new) result }
+) -> (Quick, usize)
+    requires { FollowsIn (codes "load") text.now 5 }
+    ensures { IsQuickIn C.acts text.now commands.old page.old (O.seen writer.old) commands.new page.new (O.seen writer.new) result }
 {
-    let Some((m, to, from, slot)) = four_from(line, 5) else {
-        return Quick::No;
+    let Some((m, to, from, slot, n)) = four_in(text, 5) else {
+        return (Quick::No, 0);
     };
-    answer_event(
+    let quick = answer_event(
         Event::Load { m, to, from, slot },
-        line,
+        &text[..n],
         page,
         writer,
         commands,
-    )
+    );
+    (quick, n)
 }
 
 /// `store M TARGET SLOT SOURCE`.
 #[inline(never)]
 fn answer_store<O: Outlet, C: Commands>(
-    line: &[u8],
+    text: &[u8],
     page: &mut Page,
     writer: &mut O,
     commands: &mut C,
-) -> Quick
-    requires { Follows (codes "store") line.now 6 }
-    ensures { IsQuick C.acts (command_of_text line.now) commands.old page.old (O.seen writer.old) commands.new page.new (O.seen writer.new) result }
+) -> (Quick, usize)
+    requires { FollowsIn (codes "store") text.now 6 }
+    ensures { IsQuickIn C.acts text.now commands.old page.old (O.seen writer.old) commands.new page.new (O.seen writer.new) result }
 {
-    let Some((m, target, slot, source)) = four_from(line, 6) else {
-        return Quick::No;
+    let Some((m, target, slot, source, n)) = four_in(text, 6) else {
+        return (Quick::No, 0);
     };
-    answer_event(
+    let quick = answer_event(
         Event::Store {
             m,
             target,
             slot,
             source,
         },
-        line,
+        &text[..n],
         page,
         writer,
         commands,
-    )
+    );
+    (quick, n)
 }
 
 /// `put M TARGET SLOT VALUE`.
 #[inline(never)]
 fn answer_put<O: Outlet, C: Commands>(
-    line: &[u8],
+    text: &[u8],
     page: &mut Page,
     writer: &mut O,
     commands: &mut C,
-) -> Quick
-    requires { Follows (codes "put") line.now 4 }
-    ensures { IsQuick C.acts (command_of_text line.now) commands.old page.old (O.seen writer.old) commands.new page.new (O.seen writer.new) result }
+) -> (Quick, usize)
+    requires { FollowsIn (codes "put") text.now 4 }
+    ensures { IsQuickIn C.acts text.now commands.old page.old (O.seen writer.old) commands.new page.new (O.seen writer.new) result }
 {
-    let Some((m, target, slot, value)) = four_from(line, 4) else {
-        return Quick::No;
+    let Some((m, target, slot, value, n)) = four_in(text, 4) else {
+        return (Quick::No, 0);
     };
-    answer_event(
+    let quick = answer_event(
         Event::Put {
             m,
             target,
             slot,
             value,
         },
-        line,
+        &text[..n],
         page,
         writer,
         commands,
-    )
+    );
+    (quick, n)
 }
 
 /// `move M TO FROM_M FROM`.
 #[inline(never)]
 fn answer_move<O: Outlet, C: Commands>(
-    line: &[u8],
+    text: &[u8],
     page: &mut Page,
     writer: &mut O,
     commands: &mut C,
-) -> Quick
-    requires { Follows (codes "move") line.now 5 }
-    ensures { IsQuick C.acts (command_of_text line.now) commands.old page.old (O.seen writer.old) commands.new page.new (O.seen writer.new) result }
+) -> (Quick, usize)
+    requires { FollowsIn (codes "move") text.now 5 }
+    ensures { IsQuickIn C.acts text.now commands.old page.old (O.seen writer.old) commands.new page.new (O.seen writer.new) result }
 {
-    let Some((m, to, from_m, from)) = four_from(line, 5) else {
-        return Quick::No;
+    let Some((m, to, from_m, from, n)) = four_in(text, 5) else {
+        return (Quick::No, 0);
     };
-    answer_event(
+    let quick = answer_event(
         Event::Move {
             m,
             to,
             from_m,
             from,
         },
-        line,
+        &text[..n],
         page,
         writer,
         commands,
-    )
+    );
+    (quick, n)
 }
 
 /// `clear M R`.
 #[inline(never)]
 fn answer_clear<O: Outlet, C: Commands>(
-    line: &[u8],
+    text: &[u8],
     page: &mut Page,
     writer: &mut O,
     commands: &mut C,
-) -> Quick
-    requires { Follows (codes "clear") line.now 6 }
-    ensures { IsQuick C.acts (command_of_text line.now) commands.old page.old (O.seen writer.old) commands.new page.new (O.seen writer.new) result }
+) -> (Quick, usize)
+    requires { FollowsIn (codes "clear") text.now 6 }
+    ensures { IsQuickIn C.acts text.now commands.old page.old (O.seen writer.old) commands.new page.new (O.seen writer.new) result }
 {
-    let Some((m, r)) = two_from(line, 6) else {
-        return Quick::No;
+    let Some((m, r, n)) = two_in(text, 6) else {
+        return (Quick::No, 0);
     };
-    answer_event(Event::Clear { m, r }, line, page, writer, commands)
+    let quick = answer_event(Event::Clear { m, r }, &text[..n], page, writer, commands);
+    (quick, n)
 }
 
 /// `new M R CLASS`.
 #[inline(never)]
 fn answer_new<O: Outlet, C: Commands>(
-    line: &[u8],
+    text: &[u8],
     page: &mut Page,
     writer: &mut O,
     commands: &mut C,
-) -> Quick
-    requires { Follows (codes "new") line.now 4 }
-    ensures { IsQuick C.acts (command_of_text line.now) commands.old page.old (O.seen writer.old) commands.new page.new (O.seen writer.new) result }
+) -> (Quick, usize)
+    requires { FollowsIn (codes "new") text.now 4 }
+    ensures { IsQuickIn C.acts text.now commands.old page.old (O.seen writer.old) commands.new page.new (O.seen writer.new) result }
 {
-    let Some((m, r, class)) = three_from(line, 4) else {
-        return Quick::No;
+    let Some((m, r, class, n)) = three_in(text, 4) else {
+        return (Quick::No, 0);
     };
-    answer_event(Event::New { m, r, class }, line, page, writer, commands)
+    let quick = answer_event(
+        Event::New { m, r, class },
+        &text[..n],
+        page,
+        writer,
+        commands,
+    );
+    (quick, n)
 }
 
 /// `mark`.
 #[inline(never)]
 fn answer_mark<O: Outlet, C: Commands>(
-    line: &[u8],
+    text: &[u8],
     page: &mut Page,
     writer: &mut O,
     commands: &mut C,
-) -> Quick
-    requires { words_of line.now ≡ codes "mark" ∷ [] }
-    ensures { IsQuick C.acts (command_of_text line.now) commands.old page.old (O.seen writer.old) commands.new page.new (O.seen writer.new) result }
+) -> (Quick, usize)
+    requires { IsShortLine 4 text.now × (take 4 text.now ≡ codes "mark") }
+    ensures { IsQuickIn C.acts text.now commands.old page.old (O.seen writer.old) commands.new page.new (O.seen writer.new) result }
 {
-    answer_event(Event::Mark, line, page, writer, commands)
+    let quick = answer_event(Event::Mark, &text[..4], page, writer, commands);
+    (quick, 4)
 }
 
-/// Answers a line at once, if it is one of a mutator or `mark`, in the shortest form: single spaces, none at the end.
+/// Answers the first line of a text at once, if it is one of a mutator or `mark`, in the shortest form: single spaces, none at
+/// the end. Returns where that line ends, too.
 #[inline(always)]
 pub fn answer_mutator<O: Outlet, C: Commands>(
-    line: &[u8],
+    text: &[u8],
     page: &mut Page,
     writer: &mut O,
     commands: &mut C,
-) -> Quick
-    ensures { IsQuick C.acts (command_of_text line.now) commands.old page.old (O.seen writer.old) commands.new page.new (O.seen writer.new) result }
+) -> (Quick, usize)
+    ensures { IsQuickIn C.acts text.now commands.old page.old (O.seen writer.old) commands.new page.new (O.seen writer.new) result }
 {
-    match verb_of(line) {
-        Verb::Load => answer_load(line, page, writer, commands),
-        Verb::Store => answer_store(line, page, writer, commands),
-        Verb::Put => answer_put(line, page, writer, commands),
-        Verb::Move => answer_move(line, page, writer, commands),
-        Verb::Clear => answer_clear(line, page, writer, commands),
-        Verb::New => answer_new(line, page, writer, commands),
-        Verb::Mark => answer_mark(line, page, writer, commands),
-        Verb::Other => Quick::No,
+    match verb_of(text) {
+        Verb::Load => answer_load(text, page, writer, commands),
+        Verb::Store => answer_store(text, page, writer, commands),
+        Verb::Put => answer_put(text, page, writer, commands),
+        Verb::Move => answer_move(text, page, writer, commands),
+        Verb::Clear => answer_clear(text, page, writer, commands),
+        Verb::New => answer_new(text, page, writer, commands),
+        Verb::Mark => answer_mark(text, page, writer, commands),
+        Verb::Other => (Quick::No, 0),
     }
 }

@@ -1,8 +1,8 @@
 //! Numbers in decimal.
-ghost use Rattle.std.specs.Prelude.{◌≡◌, ◌≤◌, ◌<◌, length, drop, codes, IfSome};
+ghost use Rattle.std.specs.Prelude.{◌≡◌, ◌+◌, ◌≤◌, ◌<◌, length, drop, codes, IfSome};
 ghost use Rattle.std.specs.Str.{bytes_eq};
 ghost use Rattle.session_text.specs.Grammar.{number, number_or_dash};
-ghost use Rattle.session_text.specs.Reads.{first_word, with_digit, with_size, IsReadTo, IsNumberAt, IsNumberFrom};
+ghost use Rattle.session_text.specs.Reads.{first_word, with_digit, with_size, IsReadTo, IsReadIn, IsNumberAt, IsNumberThen};
 
 use crate::words::SPACE;
 
@@ -66,23 +66,51 @@ pub fn number_at(text: &[u8]) -> (u64, usize)
     last_digit(text, value)
 }
 
-/// The number at a place of a text, and the place behind it and the byte that ends it. That place is past the text by two bytes
-/// if there is no such number.
-#[inline(always)]
-pub fn number_from(text: &[u8], at: usize) -> (u64, usize)
-    ensures { IsNumberFrom text.now at result.0 result.1 }
+/// The value of the digits that stand at a place, and how many they are: at most 20, with a value below 2^64.
+#[inline(never)]
+fn digits_in(text: &[u8], at: usize) -> (u64, usize)
+    requires { at ≤ length text.now }
+    ensures { IsReadIn text.now at result.0 result.1 }
 {
-    if at >= text.len() {
-        return (0, text.len() + 2);
+    let mut value: u64 = 0;
+    let mut size = 0;
+    let sure = (text.len() - at).min(SURE_DIGITS);
+    while size < sure {
+        let b = u64::from(text[at + size]);
+        if b < 48 || b > 57 {
+            return (value, size);
+        }
+        value = value * 10 + (b - 48);
+        size += 1;
     }
-    if text[at].is_ascii_digit() && at + 1 < text.len() && text[at + 1] == SPACE {
-        return (u64::from(text[at] - b'0'), at + 2);
+    if at + size == text.len() {
+        return (value, size);
     }
-    let (value, size) = number_at(&text[at..]);
-    if size == 0 {
-        return (0, text.len() + 2);
+    match with_digit(value, text[at + size]) {
+        Some(whole) => (whole, size + 1),
+        None => (value, size),
     }
-    (value, at + size + 1)
+}
+
+/// The number at a place of a text, if this byte ends it, and that byte's place; or the text's end if there is no such number.
+#[inline(always)]
+pub fn number_then(text: &[u8], at: usize, ender: u8) -> (u64, usize)
+    requires { at ≤ length text.now + 1 }
+    ensures number { IsNumberThen text.now at ender result.0 result.1 }
+    ensures within { result.1 ≤ length text.now }
+{
+    if at + 1 >= text.len() {
+        return (0, text.len());
+    }
+    if text[at].is_ascii_digit() && text[at + 1] == ender {
+        return (u64::from(text[at]) - 48, at + 1);
+    }
+    let (value, size) = digits_in(text, at);
+    let end = at + size;
+    if size == 0 || end == text.len() || text[end] != ender {
+        return (0, text.len());
+    }
+    (value, end)
 }
 
 /// Whether the text's first word is `-`.

@@ -2,7 +2,7 @@
 ghost use Rattle.std.specs.Prelude.{◌≡◌, ◌+◌, ◌≤◌, ◌++◌, ◌∷◌, codes, length, Some, None, MatchOption};
 ghost use Rattle.heap_class.specs.Table.{refusal_name};
 ghost use Rattle.heap_step.specs.declared.Answer.TheVariants.{Object, Swept};
-ghost use Rattle.heap_trail.specs.declared.Reply.TheVariants.{Pinned};
+ghost use Rattle.heap_trail.specs.declared.Reply.TheVariants.{Answered, Pinned};
 ghost use Rattle.session_text.specs.Replies.{answer_text, cause_text, facts_text, refusal_text, line, piece_words, reply_words, reply_data, reply_text, data_lines, piece_in, pin_in};
 ghost use Rattle.session_text.specs.Writes.{IsAdded};
 
@@ -170,6 +170,27 @@ fn write_last_line<O: Outlet>(page: &mut Page, outlet: &mut O, reply: &Reply) ->
         return false;
     }
     add_last_line(page, reply);
+    true
+}
+
+/// Adds the line of what an event answers.
+fn add_answer_line(page: &mut Page, answer: Answer)
+    requires { length page.old ≤ 8000 }
+    ensures { page.new ≡ page.old ++ line (answer_text answer) }
+{
+    add_answer(page, answer);
+    page.add(b"\n");
+}
+
+/// Adds what an event answers to a page, which is flushed first unless it has room for one more line.
+#[inline(never)]
+pub fn write_answer<O: Outlet>(page: &mut Page, outlet: &mut O, answer: Answer) -> bool
+    ensures { IsAdded (reply_text (Answered answer)) page.old (O.seen outlet.old) page.new (O.seen outlet.new) result }
+{
+    if !make_room(page, outlet) {
+        return false;
+    }
+    add_answer_line(page, answer);
     true
 }
 

@@ -3,10 +3,12 @@
 
 mod gauge;
 mod places;
+mod size;
 mod source;
 mod streams;
 
 pub use gauge::{Gauge, Silent};
 pub use places::stream_place;
+pub use size::dump_size;
 pub use source::FreshSource;
 pub use streams::stream_pin;

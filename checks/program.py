@@ -473,6 +473,35 @@ def saved_to(program, peer, given, *words):
     return (*ran, *got)
 
 
+def late(server, got):
+    """Adds to a list how much the first client of a server sends until it closes, of which all but the first bytes are read late."""
+    with server.accept()[0] as client:
+        client.settimeout(SECONDS)
+        first = client.recv(4096)
+        time.sleep(0.5)
+        got.append(len(first + rest_of(client, b"")))
+
+
+def saved_beside_a_terminal(program):
+    """Returns the status of a large save to a server that reads late, what the server got, and the lines on a terminal that is
+    its standard error."""
+    with socket.create_server(("127.0.0.1", 0)) as server:
+        server.setsockopt(socket.SOL_SOCKET, socket.SO_RCVBUF, 4096)
+        server.settimeout(SECONDS)
+        got = []
+        listener = threading.Thread(target=late, args=(server, got))
+        listener.start()
+        terminal, error = os.openpty()
+        words = ["heapdbg", "save", f"--to={server.getsockname()[1]}", "--regions=256"]
+        given = b"newprim 0 0 long 1024\n" * 256
+        ran = subprocess.run(words, executable=program, input=given, stdout=subprocess.PIPE, stderr=error, timeout=SECONDS)
+        os.close(error)
+        listener.join()
+    shown = os.read(terminal, 65536)
+    os.close(terminal)
+    return ran.returncode, got, shown
+
+
 def saved_to_listeners(program):
     """Yields saves to a listener as (name, what happened, what must happen)."""
     whole = (0, POINT_MADE + b"saved 301\n", b"", POINT_DUMP)
@@ -482,6 +511,11 @@ def saved_to_listeners(program):
     last = out.splitlines()[-1].split()
     told = (status, last[0], int(last[1]) < 57 * 65_536, error)
     yield "saved to a peer that closes", told, (1, b"failed", True, b"heapdbg: out\n")
+    status, got, shown = saved_beside_a_terminal(program)
+    *lines, last = shown.split(b"\r")
+    sizes = [int(line.split()[0]) for line in lines[1:-1] if line]
+    told = (status, got, last, len(sizes) > 0, sizes == sorted(sizes), all(line.endswith(b" of 2104143 bytes") for line in lines if line))
+    yield "saved beside a terminal", told, (0, [2_104_143], b"\n", True, True, True)
 
 
 # Values that are out of range, or are not in digits alone.

@@ -6,6 +6,7 @@ mod ask;
 mod command_line;
 mod failure;
 mod lent;
+mod progress;
 mod save;
 mod save_options;
 mod serve;
@@ -13,8 +14,10 @@ mod settings;
 mod socket_options;
 mod task;
 
+use std::io::IsTerminal;
 use std::process::ExitCode;
 
 fn main(rt: HostRuntime) -> ExitCode {
-    failure::report(&mut rt.stderr(), &task::perform(&rt))
+    let is_terminal = rt.stderr().is_terminal();
+    failure::report(&mut rt.stderr(), &task::perform(&rt, is_terminal))
 }

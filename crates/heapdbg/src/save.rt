@@ -4,15 +4,20 @@ ghost use Rattle.heap_world.specs.Limits.{AreSettings};
 ghost use Rattle.heapdbg.specs.Saving.{IsSavedTo, save_outcome};
 
 use crate::failure::{Fault, outcome};
+use crate::progress::TerminalGauge;
 use crate::settings::{Settings, config};
 use dump_pump::{Outlet, Pumped, WriteOutlet};
 use heap_save::{Place, save_into};
 use heap_trail::Machine;
+use pin_stream::Gauge;
 use session_text::{Ended, Inlet, Local};
 use std::alloc::Global;
 use std::fs;
 use std::fs::Files;
 use std::net::{Ipv4Addr, Net, TcpStream};
+use std::sync::Wait;
+use std::thread::Threads;
+use std::time::Clock;
 
 /// A file that is made, or cut to nothing if it is there.
 #[derive(Drop)]
@@ -54,47 +59,75 @@ impl<R: Net> Place for Peer<'_, R> {
     }
 }
 
-/// Runs a session and dumps the state that it leaves to a file. Fails as a session does, with Out if the file can't be made or
-/// a write to it fails, and with Lost if the dump is lost.
-pub fn save_out<R: Files, I: Inlet, O: Outlet>(
+/// Runs a session and dumps the state that it leaves to a file, which is shown on standard error if that is a terminal. Fails as a session does, with Out if the file can't be made or
+/// a write to it fails, and with Lost if the dump is lost. May wait.
+pub fn save_out<R, I: Inlet, O: Outlet>(
     rt: &R,
     alloc: Global,
     settings: &Settings,
     path: &str,
     reader: &mut I,
     writer: &mut O,
+    is_terminal: bool,
 ) -> Result<(), Fault>
+where
+    R: Clock + Eprint + Files + Threads + Wait + Sync,
     requires { AreSettings settings.now.regions settings.now.mutators settings.now.keep }
     ensures { IsSavedTo Fault.Out settings.now (I.seen reader.old) (I.seen reader.new) (O.seen writer.old) (O.seen writer.new) result }
 {
     let mut place = OutFile { rt, path };
-    save(alloc, settings, reader, writer, &mut place, Fault::Out)
+    let mut gauge = TerminalGauge::new(rt, alloc, settings.ids, is_terminal);
+    save(
+        rt,
+        alloc,
+        settings,
+        reader,
+        writer,
+        &mut place,
+        &mut gauge,
+        Fault::Out,
+    )
 }
 
-/// Runs a session and dumps the state that it leaves to a port. Fails as a session does, with Connect if no connection can be
-/// had, with Out if a write to it fails, and with Lost if the dump is lost.
-pub fn save_to<R: Net, I: Inlet, O: Outlet>(
+/// Runs a session and dumps the state that it leaves to a port, which is shown on standard error if that is a terminal. Fails as a session does, with Connect if no connection can be
+/// had, with Out if a write to it fails, and with Lost if the dump is lost. May wait.
+pub fn save_to<R, I: Inlet, O: Outlet>(
     rt: &R,
     alloc: Global,
     settings: &Settings,
     port: u16,
     reader: &mut I,
     writer: &mut O,
+    is_terminal: bool,
 ) -> Result<(), Fault>
+where
+    R: Clock + Eprint + Net + Threads + Wait + Sync,
     requires { AreSettings settings.now.regions settings.now.mutators settings.now.keep }
     ensures { IsSavedTo Fault.Connect settings.now (I.seen reader.old) (I.seen reader.new) (O.seen writer.old) (O.seen writer.new) result }
 {
     let mut place = Peer { rt, port };
-    save(alloc, settings, reader, writer, &mut place, Fault::Connect)
+    let mut gauge = TerminalGauge::new(rt, alloc, settings.ids, is_terminal);
+    save(
+        rt,
+        alloc,
+        settings,
+        reader,
+        writer,
+        &mut place,
+        &mut gauge,
+        Fault::Connect,
+    )
 }
 
 /// Runs a session and dumps the state that it leaves into the outlet of a place. Fails with `unmade` if none can be made.
-fn save<I: Inlet, O: Outlet, P: Place>(
+fn save<I: Inlet, O: Outlet, P: Place, G: Gauge, R: Threads + Wait + Sync>(
+    rt: &R,
     alloc: Global,
     settings: &Settings,
     reader: &mut I,
     writer: &mut O,
     place: &mut P,
+    gauge: &mut G,
     unmade: Fault,
 ) -> Result<(), Fault>
 where
@@ -105,7 +138,16 @@ where
     match Machine::new(alloc, config(settings)) {
         Ok(machine) => {
             let mut local = Local::new(machine);
-            let saved = save_into(alloc, &mut local, reader, writer, place, settings.time);
+            let saved = save_into(
+                rt,
+                alloc,
+                &mut local,
+                reader,
+                writer,
+                place,
+                gauge,
+                settings.time,
+            );
             save_outcome(unmade, saved.outlet.is_some(), saved.ended, saved.pumped)
         }
         Err(_) => Err(Fault::Memory),

@@ -22,12 +22,14 @@ use std::net::{Net, TcpListener, TcpStream};
 use std::rt::Env;
 use std::sync::Wait;
 use std::thread::Threads;
+use std::time::Clock;
 use std::{env, io};
 
-/// Reads the command line, and does what it asks for between standard input and standard output.
-pub fn perform<R>(rt: &R) -> Result<(), Failure>
+/// Reads the command line, and does what it asks for between standard input and standard output. `is_terminal` tells whether
+/// standard error is one.
+pub fn perform<R>(rt: &R, is_terminal: bool) -> Result<(), Failure>
 where
-    R: AllocGlobal + Env + Files + Input + Print + Sync,
+    R: AllocGlobal + Clock + Env + Eprint + Files + Input + Print + Sync,
     R: Net<Listener = TcpListener, Stream = TcpStream> + Threads + Wait,
     R::Reader: Send,
 {
@@ -37,7 +39,14 @@ where
     };
     let mut reader = ReadInlet::new(rt.reader());
     let mut writer = WriteOutlet::new(io::writer(rt));
-    perform_words(rt, rt.alloc(), words.as_slice(), &mut reader, &mut writer)
+    perform_words(
+        rt,
+        rt.alloc(),
+        words.as_slice(),
+        &mut reader,
+        &mut writer,
+        is_terminal,
+    )
 }
 
 /// Does what the words ask for between a reader and a writer. Where they ask for nothing, or there is no memory to read
@@ -48,13 +57,20 @@ fn perform_words<R, I: Inlet + Send, O: Outlet>(
     words: &[String],
     reader: &mut I,
     writer: &mut O,
+    is_terminal: bool,
 ) -> Result<(), Failure>
 where
-    R: Net<Listener = TcpListener, Stream = TcpStream> + Files + Threads + Wait + Sync,
+    R: Net<Listener = TcpListener, Stream = TcpStream>
+        + Clock
+        + Eprint
+        + Files
+        + Threads
+        + Wait
+        + Sync,
     ensures { IsPerformed (map string_bytes words.now) (I.seen reader.old) (I.seen reader.new) (O.seen writer.old) (O.seen writer.new) result }
 {
     let asked = asked(alloc, words)?;
-    work(rt, alloc, words, &asked, reader, writer)?;
+    work(rt, alloc, words, &asked, reader, writer, is_terminal)?;
     Ok(())
 }
 
@@ -66,16 +82,31 @@ fn work<R, I: Inlet + Send, O: Outlet>(
     asked: &Settings,
     reader: &mut I,
     writer: &mut O,
+    is_terminal: bool,
 ) -> Result<(), Fault>
 where
-    R: Net<Listener = TcpListener, Stream = TcpStream> + Files + Threads + Wait + Sync,
+    R: Net<Listener = TcpListener, Stream = TcpStream>
+        + Clock
+        + Eprint
+        + Files
+        + Threads
+        + Wait
+        + Sync,
     requires { AreWithin asked.now }
     ensures { IsDone asked.now.task asked.now (I.seen reader.old) (I.seen reader.new) (O.seen writer.old) (O.seen writer.new) result }
 {
     match asked.task {
         Task::Run => session(alloc, asked, reader, writer),
-        Task::Save(Target::Out) => save_named(rt, alloc, words, asked, reader, writer),
-        Task::Save(Target::To(port)) => save_to(rt, alloc, asked, port, reader, writer),
+        Task::Save(Target::Out) => save_named(rt, alloc, words, asked, reader, writer, is_terminal),
+        Task::Save(Target::To(port)) => save_to(
+            rt,
+            alloc,
+            asked,
+            port,
+            reader,
+            writer,
+            is_terminal,
+        ),
         Task::Serve { port, sessions } => serve_port(rt, alloc, asked, port, sessions, writer),
         Task::Ask { port } => ask_port(rt, port, reader, writer),
     }
@@ -137,14 +168,17 @@ fn session<I: Inlet, O: Outlet>(
 }
 
 /// One session over a heap of its own, whose last state is dumped to the file that the words name.
-fn save_named<R: Files, I: Inlet, O: Outlet>(
+fn save_named<R, I: Inlet, O: Outlet>(
     rt: &R,
     alloc: Global,
     words: &[String],
     settings: &Settings,
     reader: &mut I,
     writer: &mut O,
+    is_terminal: bool,
 ) -> Result<(), Fault>
+where
+    R: Clock + Eprint + Files + Threads + Wait + Sync,
     requires { AreSettings settings.now.regions settings.now.mutators settings.now.keep }
     ensures { IsSavedTo Fault.Out settings.now (I.seen reader.old) (I.seen reader.new) (O.seen writer.old) (O.seen writer.new) result }
 {
@@ -152,7 +186,7 @@ fn save_named<R: Files, I: Inlet, O: Outlet>(
         return Err(Fault::Memory);
     };
     match out_path(alloc, line.as_slice()) {
-        Some(path) => save_out(rt, alloc, settings, path, reader, writer),
+        Some(path) => save_out(rt, alloc, settings, path, reader, writer, is_terminal),
         None => Err(Fault::Memory),
     }
 }

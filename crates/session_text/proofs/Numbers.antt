@@ -5,7 +5,7 @@ use Rattle.std.proofs.Math.Nat.{pow-succ'}
 use Rattle.std.proofs.Math.Seq.{drop-drop}
 use Rattle.std.proofs.lemmas.Bool.{and_parts}
 use Rattle.std.proofs.lemmas.Bool.Decides.{nat_tests}
-use Rattle.std.proofs.lemmas.List.{drop_all, length-drop, get_or-drop}
+use Rattle.std.proofs.lemmas.List.{drop_all}
 use Rattle.std.proofs.lemmas.Str.{digit_value_digit}
 use Rattle.std.specs.Char.{is_ascii_digit, digit_value}
 use Rattle.std.specs.List.{list_all}
@@ -175,20 +175,6 @@ number_next t at value size h some =
     ap next_number (words_first u longer)
     ∙ ap (λ o. option_map (λ n. (n, words_of (drop (word_size u + 1) u))) o) is.0
     ∙ ap (λ k. Some (value, words_of k)) (ap (λ n. drop (n + 1) u) (sym is.1) ∙ drop-drop (size + 1) at t ∙ ap (λ n. drop n t) (omega arith))
-
--- one digit and a space behind it
-pub digit_next : (t : List ℕ) (at : ℕ) → at + 1 < length t → is_ascii_digit (get_or t at 0) ≡ true → get_or t (at + 1) 0 ≡ 32 → next_number (words_of (drop at t)) ≡ Some (get_or t at 0 - 48, words_of (drop (at + 2) t))
-digit_next t at lt digit space =
-    let u = drop at t in
-    let size = length-drop at t in
-    let first : get_or u 0 0 ≡ get_or t at 0 = get_or-drop at t 0 0 ∙ ap (λ n. get_or t n 0) (omega arith) in
-    let second : get_or u 1 0 ≡ 32 = get_or-drop at t 1 0 ∙ space in
-    let read = read_sure u 0 0 (omega (arith, size, lt)) (omega arith) (ap is_ascii_digit first ∙ digit) (read_none u) (omega arith) in
-    let is = read_to_space u 1 (0 * 10 + (get_or u 0 0 - 48)) (omega (arith, size, lt)) (omega arith) second read.0 in
-    let value : 0 * 10 + (get_or u 0 0 - 48) ≡ get_or t at 0 - 48 = omega (arith, first) in
-    number_next t at (0 * 10 + (get_or u 0 0 - 48)) 1 is (λ e. omega (arith, e))
-    ∙ ap (λ v. Some (v, words_of (drop (at + 1 + 1) t))) value
-    ∙ ap (λ n. Some (get_or t at 0 - 48, words_of (drop n t))) (omega arith)
 
 -- ---- tables
 

@@ -1,6 +1,6 @@
 -- Digits that stand in a text, and the numbers that they are in its beginnings.
 use Rattle.std.proofs.Common.{◌≡◌, refl, ℕ, ◌+◌, ◌-◌, ◌*◌, ◌^◌, ◌<◌, ◌≤◌, ◌⊎◌, inl, inr, Bool, true, false, cond, List, [], ◌∷◌, ◌++◌, take, drop, length, get_or, Some, None, nat_lt, ap, sym, subst, ◌∙◌, arith, leb-true, le-leb, ne_eqb, lt-ltb}
-use Rattle.std.specs.Prelude.{◌==◌, suc, zero}
+use Rattle.std.specs.Prelude.{◌==◌, suc}
 use Rattle.std.proofs.Math.Seq.{take-add}
 use Rattle.std.proofs.lemmas.Bool.{and_from, and_parts}
 use Rattle.std.proofs.lemmas.List.{length-drop, length-take-le, get_or-drop, get_or-take}

@@ -67,7 +67,6 @@ pub fn number_at(text: &[u8]) -> (u64, usize)
 }
 
 /// The value of the digits that stand at a place, and how many they are: at most 20, with a value below 2^64.
-#[inline(never)]
 fn digits_in(text: &[u8], at: usize) -> (u64, usize)
     requires { at ≤ length text.now }
     ensures { IsReadIn text.now at result.0 result.1 }

@@ -1,4 +1,4 @@
-use Rattle.std.proofs.Common.{◌++◌, ◌≤◌, [], Some, true, false, subst, arith}
+use Rattle.std.proofs.Common.{◌++◌, [], Some, true, false, subst}
 use Rattle.session_text.specs.declared.answer.Step.{Step}
 use Rattle.session_text.specs.declared.answer.Step.TheVariants.{Next, Fault}
 use Rattle.session_text.specs.Answers.{Answers, Begins}

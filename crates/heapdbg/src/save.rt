@@ -59,8 +59,9 @@ impl<R: Net> Place for Peer<'_, R> {
     }
 }
 
-/// Runs a session and dumps the state that it leaves to a file, which is shown on standard error if that is a terminal. Fails as a session does, with Out if the file can't be made or
-/// a write to it fails, and with Lost if the dump is lost. May wait.
+/// Runs a session and dumps the state that it leaves to a file. Shows the progress of the dump on standard error if that is a
+/// terminal. Fails as a session does, with Out if the file can't be made or a write to it fails, and with Lost if the dump is lost.
+/// May wait.
 pub fn save_out<R, I: Inlet, O: Outlet>(
     rt: &R,
     alloc: Global,
@@ -89,8 +90,9 @@ where
     )
 }
 
-/// Runs a session and dumps the state that it leaves to a port, which is shown on standard error if that is a terminal. Fails as a session does, with Connect if no connection can be
-/// had, with Out if a write to it fails, and with Lost if the dump is lost. May wait.
+/// Runs a session and dumps the state that it leaves to a port. Shows the progress of the dump on standard error if that is a
+/// terminal. Fails as a session does, with Connect if no connection can be had, with Out if a write to it fails, and with Lost if the
+/// dump is lost. May wait.
 pub fn save_to<R, I: Inlet, O: Outlet>(
     rt: &R,
     alloc: Global,

@@ -473,31 +473,31 @@ def saved_to(program, peer, given, *words):
     return (*ran, *got)
 
 
-def late(server, got):
-    """Adds to a list how much the first client of a server sends until it closes, of which all but the first bytes are read late."""
-    with server.accept()[0] as client:
-        client.settimeout(SECONDS)
-        first = client.recv(4096)
+def late(path, got):
+    """Adds to a list how many bytes come out of a pipe with a name, of which all but the first are read late."""
+    with open(path, "rb") as pipe:
+        first = pipe.read(4096)
         time.sleep(0.5)
-        got.append(len(first + rest_of(client, b"")))
+        got.append(len(first + pipe.read()))
 
 
 def saved_beside_a_terminal(program):
-    """Returns the status of a large save to a server that reads late, what the server got, and the lines on a terminal that is
-    its standard error."""
-    with socket.create_server(("127.0.0.1", 0)) as server:
-        server.setsockopt(socket.SOL_SOCKET, socket.SO_RCVBUF, 4096)
-        server.settimeout(SECONDS)
-        got = []
-        listener = threading.Thread(target=late, args=(server, got))
-        listener.start()
-        terminal, error = os.openpty()
-        words = ["heapdbg", "save", f"--to={server.getsockname()[1]}", "--regions=256"]
+    """Returns the status of a large save to a pipe that is read late, how much came out of it, and what is on a terminal that is its
+    standard error."""
+    terminal, error = os.openpty()
+    got = []
+    with tempfile.TemporaryDirectory() as folder:
+        path = os.path.join(folder, "pipe")
+        os.mkfifo(path)
+        reader = threading.Thread(target=late, args=(path, got))
+        reader.start()
+        words = ["heapdbg", "save", "--out", path, "--regions=256"]
         given = b"newprim 0 0 long 1024\n" * 256
         ran = subprocess.run(words, executable=program, input=given, stdout=subprocess.PIPE, stderr=error, timeout=SECONDS)
-        os.close(error)
-        listener.join()
+        reader.join()
+    os.set_blocking(terminal, False)
     shown = os.read(terminal, 65536)
+    os.close(error)
     os.close(terminal)
     return ran.returncode, got, shown
 
@@ -511,9 +511,13 @@ def saved_to_listeners(program):
     last = out.splitlines()[-1].split()
     told = (status, last[0], int(last[1]) < 57 * 65_536, error)
     yield "saved to a peer that closes", told, (1, b"failed", True, b"heapdbg: out\n")
+
+
+def saved_on_terminals(program):
+    """Yields a save whose standard error is a terminal as (name, what happened, what must happen)."""
     status, got, shown = saved_beside_a_terminal(program)
     *lines, last = shown.split(b"\r")
-    sizes = [int(line.split()[0]) for line in lines[1:-1] if line]
+    sizes = [int(line.split()[0]) for line in lines if line]
     told = (status, got, last, len(sizes) > 0, sizes == sorted(sizes), all(line.endswith(b" of 2104143 bytes") for line in lines if line))
     yield "saved beside a terminal", told, (0, [2_104_143], b"\n", True, True, True)
 
@@ -580,7 +584,7 @@ def bad_lines(program):
 def differences(program):
     """Yields a line for each run that went otherwise than it must."""
     parts = ("status", "standard output", "standard error", "first of the clients or the dump", "second", "third")
-    saves = (saved_files, saved_faults, saved_to_listeners)
+    saves = (saved_files, saved_faults, saved_to_listeners, saved_on_terminals)
     for cases in (sessions, lines_at_the_limits, faults, bad_lines, *saves, served_sessions, worked, asking, served_faults):
         for name, happened, wanted in cases(program):
             if len(happened) != len(wanted):

@@ -7,7 +7,9 @@ use session_text::Ended;
 use std::alloc::Global;
 use std::io;
 use std::io::{ErrorKind, Read};
+use std::sync::Wait;
 use std::test::Fail;
+use std::thread::Threads;
 
 /// Gives a text byte by byte, and fails where no read is left.
 #[derive(Drop)]
@@ -36,8 +38,13 @@ impl Read for ByteReader<'_> {
 // ---- outlets
 
 /// Returns whether an outlet that takes so many bytes a write and fails once it has `most` fails the save there.
-fn fails_at(alloc: Global, size: usize, most: usize) -> Result<bool, Fail> {
-    let part = saved_lines(alloc, POINT, place(alloc, size, most))?;
+fn fails_at<R: Threads + Wait + Sync>(
+    rt: &R,
+    alloc: Global,
+    size: usize,
+    most: usize,
+) -> Result<bool, Fail> {
+    let part = saved_lines(rt, alloc, POINT, place(alloc, size, most))?;
     let line = format!(in alloc; "failed {most}\n")?;
     let told = part.pumped == Some(Pumped::OutletFailed { bytes: most as u64 });
     let digits = &DUMP_OF_ONE_POINT.as_bytes()[..most.min(SIZE) * 2];
@@ -53,12 +60,12 @@ fn fails_at(alloc: Global, size: usize, most: usize) -> Result<bool, Fail> {
 fn outlets_that_fail(rt: HostRuntime) -> Result<(), Fail> {
     for most in 0..SIZE {
         assert!(rt;
-            fails_at(rt.alloc(), 1, most)?,
+            fails_at(&rt, rt.alloc(), 1, most)?,
             "a byte a put, {most} bytes"
         );
-        assert!(rt; fails_at(rt.alloc(), 1000, most)?, "{most} bytes");
+        assert!(rt; fails_at(&rt, rt.alloc(), 1000, most)?, "{most} bytes");
     }
-    let whole = saved_lines(rt.alloc(), POINT, place(rt.alloc(), 1, SIZE))?;
+    let whole = saved_lines(&rt, rt.alloc(), POINT, place(rt.alloc(), 1, SIZE))?;
     assert!(rt; took(&whole.taken, DUMP_OF_ONE_POINT));
     assert!(rt; ends_with(rt.alloc(), whole.writer.as_slice(), "saved 301\n")?);
     Ok(())
@@ -67,13 +74,18 @@ fn outlets_that_fail(rt: HostRuntime) -> Result<(), Fail> {
 // ---- readers and writers
 
 /// Saves the session of a point over a reader of a byte a read, of which so many succeed.
-fn read_by_byte(alloc: Global, reads_left: usize) -> Result<Outcome<Vec<u8>>, Fail> {
+fn read_by_byte<R: Threads + Wait + Sync>(
+    rt: &R,
+    alloc: Global,
+    reads_left: usize,
+) -> Result<Outcome<Vec<u8>>, Fail> {
     let reader = ByteReader {
         rest: POINT.as_bytes(),
         reads_left,
     };
     let mut local = local(alloc)?;
     saved(
+        rt,
         alloc,
         &mut local,
         reader,
@@ -86,18 +98,22 @@ fn read_by_byte(alloc: Global, reads_left: usize) -> Result<Outcome<Vec<u8>>, Fa
 #[test]
 fn readers_that_fail(rt: HostRuntime) -> Result<(), Fail> {
     for reads in 0..POINT.len() {
-        let part = read_by_byte(rt.alloc(), reads)?;
+        let part = read_by_byte(&rt, rt.alloc(), reads)?;
         assert!(rt; part.ended == Ended::ReadFault);
         assert!(rt; part.pumped.is_none() && part.taken.is_none() && part.kept);
         assert!(rt; part.writer.as_slice().ends_with(b"bad read\n"));
     }
-    let whole = read_by_byte(rt.alloc(), POINT.len() + 1)?;
+    let whole = read_by_byte(&rt, rt.alloc(), POINT.len() + 1)?;
     assert!(rt; ends_with(rt.alloc(), whole.writer.as_slice(), "saved 301\n")?);
     Ok(())
 }
 
 /// Saves the session of a point over a writer of a byte a write, which fails once it has `most`.
-fn written_up_to(alloc: Global, most: usize) -> Result<Outcome<Sink>, Fail> {
+fn written_up_to<R: Threads + Wait + Sync>(
+    rt: &R,
+    alloc: Global,
+    most: usize,
+) -> Result<Outcome<Sink>, Fail> {
     let writer = Sink {
         taken: Vec::new(alloc),
         size: 1,
@@ -105,6 +121,7 @@ fn written_up_to(alloc: Global, most: usize) -> Result<Outcome<Sink>, Fail> {
     };
     let mut local = local(alloc)?;
     saved(
+        rt,
         alloc,
         &mut local,
         POINT.as_bytes(),
@@ -118,14 +135,14 @@ fn written_up_to(alloc: Global, most: usize) -> Result<Outcome<Sink>, Fail> {
 fn writers_that_fail(rt: HostRuntime) -> Result<(), Fail> {
     let whole = format!(in rt.alloc(); "{POINT_MADE}saved 301\n")?;
     for most in 0..whole.len() {
-        let part = written_up_to(rt.alloc(), most)?;
+        let part = written_up_to(&rt, rt.alloc(), most)?;
         assert!(rt; part.ended == Ended::WriteFault);
         assert!(rt; part.writer.taken.as_slice() == &whole.as_bytes()[..most]);
         let dumped = most >= POINT_MADE.len();
         assert!(rt; part.pumped.is_some() == dumped && part.kept != dumped);
         assert!(rt; took(&part.taken, DUMP_OF_ONE_POINT) == dumped);
     }
-    let all = written_up_to(rt.alloc(), whole.len())?;
+    let all = written_up_to(&rt, rt.alloc(), whole.len())?;
     assert!(rt; all.ended == Ended::Eof);
     assert!(rt; all.writer.taken.as_slice() == whole.as_bytes());
     Ok(())
@@ -134,11 +151,11 @@ fn writers_that_fail(rt: HostRuntime) -> Result<(), Fail> {
 /// A session that is cut, and one that ends by `end`.
 #[test]
 fn endings_that_are_saved(rt: HostRuntime) -> Result<(), Fail> {
-    let cut = saved_lines(rt.alloc(), "clear 0", place(rt.alloc(), 1000, 1000))?;
+    let cut = saved_lines(&rt, rt.alloc(), "clear 0", place(rt.alloc(), 1000, 1000))?;
     assert!(rt; cut.ended == Ended::CutLine);
     assert!(rt; cut.pumped.is_none() && cut.taken.is_none() && cut.kept);
     assert!(rt; cut.writer.as_slice() == b"bad cut\n".as_slice());
-    let quit = saved_lines(rt.alloc(), "end\nclear", Once { writer: None })?;
+    let quit = saved_lines(&rt, rt.alloc(), "end\nclear", Once { writer: None })?;
     assert!(rt; quit.ended == Ended::Quit);
     assert!(rt; quit.writer.as_slice() == b"failed 0\n".as_slice());
     Ok(())

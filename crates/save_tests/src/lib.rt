@@ -6,6 +6,8 @@ mod faults;
 #[cfg(test)]
 mod pins;
 #[cfg(test)]
+mod pipes;
+#[cfg(test)]
 mod places;
 #[cfg(test)]
 mod point;

@@ -11,6 +11,7 @@ fn pins_of_the_session_are_closed(rt: HostRuntime) -> Result<(), Fail> {
     let lines = format!(in rt.alloc(); "{POINT}open 0\nopen 1\nopen -\nopen -\n")?;
     let mut local = local(rt.alloc())?;
     let done = saved(
+        &rt,
         rt.alloc(),
         &mut local,
         lines.as_bytes(),
@@ -44,7 +45,7 @@ fn pins_of_others_stay(rt: HostRuntime) -> Result<(), Fail> {
         let mut local = pinned(rt.alloc(), pins)?;
         let writer = Vec::new(rt.alloc());
         let place = place(rt.alloc(), 1000, 1000);
-        let done = saved(rt.alloc(), &mut local, b"".as_slice(), writer, place)?;
+        let done = saved(&rt, rt.alloc(), &mut local, b"".as_slice(), writer, place)?;
         assert!(rt; done.writer.as_slice() == line.as_bytes());
         assert!(rt; local.machine.piece(1, 0).is_ok() && local.machine.piece(pins, 0).is_ok());
     }

@@ -5,10 +5,13 @@ use dump_pump::{Pumped, WriteOutlet};
 use heap_save::{Saved, save_into};
 use heap_trail::Machine;
 use heap_world::Config;
+use pin_stream::Silent;
 use session_text::{Ended, Local, ReadInlet};
 use std::alloc::Global;
 use std::io::{Read, Write};
+use std::sync::Wait;
 use std::test::Fail;
+use std::thread::Threads;
 
 /// What came of a session that was saved.
 #[derive(Drop)]
@@ -47,10 +50,11 @@ fn digits(alloc: Global, made: Option<WriteOutlet<Sink>>) -> Result<Option<Strin
 }
 
 /// Saves a session over a reader and a writer.
-pub fn saved<R: Read + Drop, W: Write + Drop>(
+pub fn saved<I: Read + Drop, W: Write + Drop, R: Threads + Wait + Sync>(
+    rt: &R,
     alloc: Global,
     local: &mut Local,
-    reader: R,
+    reader: I,
     writer: W,
     mut place: Once,
 ) -> Result<Outcome<W>, Fail> {
@@ -60,7 +64,16 @@ pub fn saved<R: Read + Drop, W: Write + Drop>(
         ended,
         pumped,
         outlet: made,
-    } = save_into(alloc, local, &mut inlet, &mut outlet, &mut place, 0);
+    } = save_into(
+        rt,
+        alloc,
+        local,
+        &mut inlet,
+        &mut outlet,
+        &mut place,
+        &mut Silent,
+        0,
+    );
     Ok(Outcome {
         ended,
         pumped,
@@ -71,9 +84,21 @@ pub fn saved<R: Read + Drop, W: Write + Drop>(
 }
 
 /// Saves a session of these lines.
-pub fn saved_lines(alloc: Global, lines: &str, place: Once) -> Result<Outcome<Vec<u8>>, Fail> {
+pub fn saved_lines<R: Threads + Wait + Sync>(
+    rt: &R,
+    alloc: Global,
+    lines: &str,
+    place: Once,
+) -> Result<Outcome<Vec<u8>>, Fail> {
     let mut local = local(alloc)?;
-    saved(alloc, &mut local, lines.as_bytes(), Vec::new(alloc), place)
+    saved(
+        rt,
+        alloc,
+        &mut local,
+        lines.as_bytes(),
+        Vec::new(alloc),
+        place,
+    )
 }
 
 /// Returns whether the session of a point was answered and had this last line.
@@ -92,7 +117,7 @@ pub fn took(taken: &Option<String>, digits: &str) -> bool {
 
 #[test]
 fn save_pumps_the_heap(rt: HostRuntime) -> Result<(), Fail> {
-    let whole = saved_lines(rt.alloc(), POINT, place(rt.alloc(), 1000, 1000))?;
+    let whole = saved_lines(&rt, rt.alloc(), POINT, place(rt.alloc(), 1000, 1000))?;
     assert!(rt; whole.ended == Ended::Eof);
     assert!(rt; whole.pumped == Some(Pumped::Done { bytes: 301 }));
     assert!(rt; took(&whole.taken, DUMP_OF_ONE_POINT));
@@ -102,7 +127,7 @@ fn save_pumps_the_heap(rt: HostRuntime) -> Result<(), Fail> {
 
 #[test]
 fn outlet_that_fails_after_100_bytes(rt: HostRuntime) -> Result<(), Fail> {
-    let part = saved_lines(rt.alloc(), POINT, place(rt.alloc(), 1000, 100))?;
+    let part = saved_lines(&rt, rt.alloc(), POINT, place(rt.alloc(), 1000, 100))?;
     assert!(rt; part.ended == Ended::Eof);
     assert!(rt; part.pumped == Some(Pumped::OutletFailed { bytes: 100 }));
     assert!(rt; took(&part.taken, &DUMP_OF_ONE_POINT[..200]));
@@ -112,7 +137,7 @@ fn outlet_that_fails_after_100_bytes(rt: HostRuntime) -> Result<(), Fail> {
 
 #[test]
 fn no_outlet_can_be_made(rt: HostRuntime) -> Result<(), Fail> {
-    let none = saved_lines(rt.alloc(), POINT, Once { writer: None })?;
+    let none = saved_lines(&rt, rt.alloc(), POINT, Once { writer: None })?;
     assert!(rt; none.ended == Ended::Eof);
     assert!(rt; none.pumped == Some(Pumped::OutletFailed { bytes: 0 }));
     assert!(rt; none.taken.is_none());

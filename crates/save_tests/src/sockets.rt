@@ -3,10 +3,12 @@ use crate::point::{DUMP_OF_ONE_POINT, POINT};
 use crate::saves::{ends_with, local};
 use dump_pump::WriteOutlet;
 use heap_save::{Place, save_into};
+use pin_stream::Silent;
 use session_text::{Local, ReadInlet};
 use std::alloc::Global;
 use std::io::Read;
 use std::net::{Net, SocketAddr, TcpListener, TcpStream};
+use std::sync::Wait;
 use std::test::Fail;
 use std::thread::Threads;
 use std::{io, thread};
@@ -41,16 +43,30 @@ fn received(alloc: Global, listener: &TcpListener) -> io::Result<Vec<u8>> {
 }
 
 /// Saves the session of a point to an address. Returns what it wrote.
-fn saved_to<R: Net>(rt: &R, alloc: Global, mut local: Local, address: SocketAddr) -> Vec<u8> {
+fn saved_to<R: Net + Threads + Wait + Sync>(
+    rt: &R,
+    alloc: Global,
+    mut local: Local,
+    address: SocketAddr,
+) -> Vec<u8> {
     let mut inlet = ReadInlet::new(POINT.as_bytes());
     let mut outlet = WriteOutlet::new(Vec::new(alloc));
     let mut place = Peer { rt, address };
-    save_into(alloc, &mut local, &mut inlet, &mut outlet, &mut place, 0);
+    save_into(
+        rt,
+        alloc,
+        &mut local,
+        &mut inlet,
+        &mut outlet,
+        &mut place,
+        &mut Silent,
+        0,
+    );
     outlet.into_writer()
 }
 
 /// Saves it to a listener beside it. Returns what was received, and what the session wrote.
-fn exchanged<R: Net<Listener = TcpListener, Stream = TcpStream> + Threads + Sync>(
+fn exchanged<R: Net<Listener = TcpListener, Stream = TcpStream> + Threads + Wait + Sync>(
     rt: &R,
     alloc: Global,
 ) -> Result<(Vec<u8>, Vec<u8>), Fail> {

@@ -9,37 +9,16 @@ dumps places under two pins while the others act. Prints a line for each round i
 with the history or two dumps of one place differ; then how much was done, and the most memory of a round. Status 1 if anything
 was wrong."""
 import os
-import pathlib
 import resource
-import shutil
 import subprocess
 import sys
 import tempfile
 import time
 
-TOP = pathlib.Path(__file__).resolve().parent.parent
-LIBRARIES = """dump_pump heap_lock heap_scripts heap_trail heap_pins heap_step heap_world hprof_text heap_mark heap_sweep
-heap_region heap_class atomic_table http_server"""
-ANSWER = """use Rattle.audit.proofs.done.Given as goal
+from programs import built
 
-abbrev pub ghosts-opened : goal.ghosts-opened
-ghosts-opened g a = record { config = a.blank.config; tables = a.blank.tables }
-"""
+LIBRARIES = "dump_pump heap_scripts http_server"
 NAMES = "acts, finished cycles, rewinds, pairs of equal dumps, pairs with a pin that was lost or refused".split(", ")
-
-
-def built(folder):
-    """Builds the program in a copy of the repository. Returns its path."""
-    crate = folder / "crates/audit"
-    shutil.copytree(TOP / "crates", folder / "crates")
-    shutil.copy(TOP / "HANDLES", folder)
-    (folder / "crates.txt").write_text((TOP / "crates.txt").read_text() + f"audit: {' '.join(LIBRARIES.split())}\n")
-    (crate / "src").mkdir(parents=True)
-    shutil.copy(TOP / "bench/audit.rt.txt", crate / "src/main.rt")
-    (crate / "proofs/done").mkdir(parents=True)
-    (crate / "proofs/done/Invariants.antt").write_text(ANSWER)
-    subprocess.run(["rt", "run", "--", "1", "1"], cwd=crate, check=True)
-    return crate / "out/audit"
 
 
 def counts(said):
@@ -74,4 +53,4 @@ if __name__ == "__main__":
     if sys.argv[1:]:
         sys.exit(main(sys.argv[1:], SECONDS, ACTS))
     with tempfile.TemporaryDirectory(prefix="audit-") as name:
-        sys.exit(main([built(pathlib.Path(name))], SECONDS, ACTS))
+        sys.exit(main([built(name, "audit", "opened", LIBRARIES, ["1", "1"])], SECONDS, ACTS))

@@ -4,41 +4,18 @@
 Builds `lock_bench.rt.txt` as one more crate of a copy of this repository in FOLDER (a temporary one if none is given), over what
 checks here kept, and prints what an act costs over `Machine::step` in instructions and nanoseconds, what four threads do
 against one, and the memory of 1,000,000 entries. With a FOLDER that has the program already, only measures."""
-import pathlib
 import re
 import resource
-import shutil
 import statistics
 import subprocess
 import sys
 import tempfile
 import time
 
-TOP = pathlib.Path(__file__).resolve().parent.parent
-LIBRARIES = "heap_lock heap_trail heap_pins heap_step heap_world hprof_text heap_mark heap_sweep heap_region heap_class atomic_table"
-ANSWER = """use Rattle.lock_bench.proofs.done.Given as goal
+from programs import built
 
-abbrev pub ghosts-all_acted : goal.ghosts-all_acted
-ghosts-all_acted g a = record { config = a.blank.config; tables = a.blank.tables }
-"""
 MILLION = 999_000
 RUNS = 11
-
-
-def built(folder):
-    """Builds the program in a copy of the repository. Returns its path."""
-    crate = folder / "crates/lock_bench"
-    program = crate / "out/lock_bench"
-    if not program.exists():
-        shutil.copytree(TOP / "crates", folder / "crates", dirs_exist_ok=True)
-        shutil.copy(TOP / "HANDLES", folder)
-        (folder / "crates.txt").write_text((TOP / "crates.txt").read_text() + f"lock_bench: {LIBRARIES}\n")
-        (crate / "src").mkdir(parents=True, exist_ok=True)
-        shutil.copy(TOP / "bench/lock_bench.rt.txt", crate / "src/main.rt")
-        (crate / "proofs/done").mkdir(parents=True, exist_ok=True)
-        (crate / "proofs/done/Invariants.antt").write_text(ANSWER)
-        subprocess.run(["rt", "run", "--", "act", "1", "1"], cwd=crate, check=True)
-    return program
 
 
 def instructions(program, way):
@@ -75,7 +52,7 @@ def peak(program, way, count):
 
 def main(folder):
     """Prints a line for each figure."""
-    program = built(folder)
+    program = built(folder, "lock_bench", "all_acted", "", ["act", "1", "1"])
     steps, acts = instructions(program, "step"), instructions(program, "act")
     print(f"instructions: step {steps:.1f}, act {acts:.1f}, more {acts - steps:.1f}")
     for name, place in ("wall", 0), ("user", 1), ("system", 2):
@@ -90,7 +67,7 @@ def main(folder):
 
 if __name__ == "__main__":
     if len(sys.argv) > 1:
-        main(pathlib.Path(sys.argv[1]))
+        main(sys.argv[1])
     else:
         with tempfile.TemporaryDirectory(prefix="lock-") as name:
-            main(pathlib.Path(name))
+            main(name)

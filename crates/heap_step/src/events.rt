@@ -15,7 +15,8 @@ use heap_class::{ClassNo, Fields, Kind, Name, Refusal};
 use heap_sweep::Reclaimed;
 use heap_world::{Created, Loaded, World};
 
-/// Applies an event by the function of its kind.
+/// Applies an event by the function of its kind. `load` and `store` stay calls: with them the function would be too large for
+/// the compiler to inline it into each caller, which knows the kind.
 #[inline(always)]
 pub fn dispatch(world: &mut World, event: &Event) -> Result<(Answer, Undo), Refusal>
     requires { IsLegal world.old }
@@ -116,7 +117,6 @@ fn create_prim(
 }
 
 /// Applies an event that reads a slot.
-#[inline(always)]
 fn load(world: &mut World, m: u64, to: u64, from: u64, slot: u64) -> Result<(Answer, Undo), Refusal>
     requires { IsLegal world.old }
     ensures { IsApplied (Event.Load m to from slot) world.old world.new result }
@@ -129,7 +129,6 @@ fn load(world: &mut World, m: u64, to: u64, from: u64, slot: u64) -> Result<(Ans
 }
 
 /// Applies an event that writes a reference slot.
-#[inline(always)]
 fn store(
     world: &mut World,
     m: u64,

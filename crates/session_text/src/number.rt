@@ -1,5 +1,5 @@
 //! Numbers in decimal.
-ghost use Rattle.std.specs.Prelude.{◌≡◌, ◌+◌, ◌≤◌, ◌<◌, length, drop, codes, IfSome};
+ghost use Rattle.std.specs.Prelude.{◌≡◌, ◌+◌, ◌^◌, ◌≤◌, ◌<◌, length, drop, codes, IfSome};
 ghost use Rattle.std.specs.Str.{bytes_eq};
 ghost use Rattle.session_text.specs.Grammar.{number, number_or_dash};
 ghost use Rattle.session_text.specs.Reads.{first_word, with_digit, with_size, IsReadTo, IsReadIn, IsNumberAt, IsNumberThen};
@@ -66,14 +66,37 @@ pub fn number_at(text: &[u8]) -> (u64, usize)
     last_digit(text, value)
 }
 
+/// Returns the value of the digits that stand at a place, read two by two while both are digits, and how many they are: at most
+/// `sure`.
+#[inline(always)]
+fn pairs_in(text: &[u8], at: usize, sure: usize) -> (u64, usize)
+    requires within { at + sure ≤ length text.now }
+    requires sure { sure ≤ 19 }
+    ensures read { IsReadIn text.now at result.0 result.1 }
+    ensures most { result.1 ≤ sure }
+    ensures small { result.0 < 10 ^ result.1 }
+{
+    let mut value: u64 = 0;
+    let mut size = 0;
+    while size + 2 <= sure {
+        let a = u64::from(text[at + size]);
+        let b = u64::from(text[at + size + 1]);
+        if a < 48 || a > 57 || b < 48 || b > 57 {
+            return (value, size);
+        }
+        value = (value * 10 + (a - 48)) * 10 + (b - 48);
+        size += 2;
+    }
+    (value, size)
+}
+
 /// The value of the digits that stand at a place, and how many they are: at most 20, with a value below 2^64.
 fn digits_in(text: &[u8], at: usize) -> (u64, usize)
     requires { at ≤ length text.now }
     ensures { IsReadIn text.now at result.0 result.1 }
 {
-    let mut value: u64 = 0;
-    let mut size = 0;
     let sure = (text.len() - at).min(SURE_DIGITS);
+    let (mut value, mut size) = pairs_in(text, at, sure);
     while size < sure {
         let b = u64::from(text[at + size]);
         if b < 48 || b > 57 {

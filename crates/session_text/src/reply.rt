@@ -183,7 +183,7 @@ fn add_answer_line(page: &mut Page, answer: Answer)
 }
 
 /// Adds what an event answers to a page, which is flushed first unless it has room for one more line.
-#[inline(never)]
+#[inline(always)]
 pub fn write_answer<O: Outlet>(page: &mut Page, outlet: &mut O, answer: Answer) -> bool
     ensures { IsAdded (reply_text (Answered answer)) page.old (O.seen outlet.old) page.new (O.seen outlet.new) result }
 {

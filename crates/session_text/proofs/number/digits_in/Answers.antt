@@ -1,10 +1,10 @@
 use Rattle.std.proofs.Common.{◌+◌, ◌-◌, ◌<◌, ◌≤◌, arith, get_or, length}
 use Rattle.session_text.proofs.Numbers.{sure_more}
-use Rattle.session_text.proofs.Reading.{read_in_none, read_in_sure, read_in_last}
+use Rattle.session_text.proofs.Reading.{read_in_sure, read_in_last}
 use Rattle.session_text.proofs.number.digits_in.Goals as goal
 
 pub loop-size-init : goal.loop-size-init
-loop-size-init c = (read_in_none c.args.text.now c.args.at c.requires, omega arith, omega arith)
+loop-size-init c = (c.pairs_in-value.ensures.read, c.pairs_in-value.ensures.most, c.pairs_in-value.ensures.small)
 
 pub overflow_mul-value : goal.overflow_mul-value
 overflow_mul-value c =

@@ -5,6 +5,7 @@ Usage: checks/cases.py [PROGRAM ..]
 A case is examples/cases/NAME.session with what it must be answered in NAME.expected, and words for `run` in NAME.args if it
 needs any; or it is long and made here. A program has each case at once, and a short one byte by byte too.
 Prints a line for each difference and ends with status 1 if there is one. Prints nothing where all is well."""
+import contextlib
 import os
 import pathlib
 import socket
@@ -29,6 +30,59 @@ def stored():
     for path in sorted(TOP.glob("examples/cases/*.session")):
         words = path.with_suffix(".args")
         yield path.stem, words.read_text().split() if words.exists() else [], path.read_bytes(), path.with_suffix(".expected").read_bytes()
+
+
+# ---- lines, each alone
+
+# Lines that define classes, and what each is answered.
+DEFINITIONS = (
+    (b"class A\x01 -", b"bad command"),
+    (b"class A - x\x7f:int", b"bad command"),
+    (b"class A - x:int\xff", b"bad command"),
+    (b"array A\t", b"bad command"),
+    (b"array", b"bad command"),
+    (b"array A B", b"bad command"),
+    (b"class A", b"bad command"),
+    (b"class A -x", b"bad command"),
+    (b"class A - x", b"bad command"),
+    (b"class A - x:", b"bad command"),
+    (b"class A - x: int", b"bad command"),
+    (b"class A 99 x:foo", b"bad command"),
+    (b"class A 99 x:int", b"no 2 NoClass"),
+    (b"class A - :int", b"no 4 BadName"),
+    (b"array a:b", b"no 4 BadName"),
+    (b"array A\r", b"ok class 0"),
+    (b"  class  A  -  x:int  y:object ", b"ok class 0"),
+    # The most fields that a line may have, all without a name, and one more.
+    (b"class A 9" + b" :int" * 817, b"no 2 NoClass"),
+    (b"class A 9" + b" :int" * 818, b"bad long"),
+)
+# Classes by how many fields they have, and which of these has the name of which earlier one, and what they are answered.
+MANY_FIELDS = (
+    (16, 0, 0, b"ok class 0"),
+    (16, 0, 15, b"no 5 DuplicateName"),
+    (17, 0, 0, b"ok class 0"),
+    (17, 0, 16, b"no 5 DuplicateName"),
+    (64, 0, 0, b"ok class 0"),
+    (64, 62, 63, b"no 5 DuplicateName"),
+    (65, 0, 0, b"no 6 FieldLimit"),
+    (65, 0, 1, b"no 5 DuplicateName"),
+    (583, 0, 0, b"no 6 FieldLimit"),
+    (583, 0, 582, b"no 5 DuplicateName"),
+    (583, 291, 292, b"no 5 DuplicateName"),
+    (583, 581, 582, b"no 5 DuplicateName"),
+)
+LETTERS = "abcdefghijklmnopqrstuvwxyz"
+
+
+def alone():
+    """Yields the lines as cases."""
+    for line, answer in DEFINITIONS:
+        yield f"the line {line!r:.60}", ["--regions", "1", "--keep", "1"], line + b"\n", answer + b"\n"
+    for count, earlier, later, answer in MANY_FIELDS:
+        named = [earlier if place == later else place for place in range(count)]
+        fields = "".join(f" {LETTERS[place // 26]}{LETTERS[place % 26]}:int" for place in named)
+        yield f"{count} fields, {earlier} and {later}", ["--keep", "1"], f"class A -{fields}\n".encode(), answer + b"\n"
 
 
 # ---- long cases, put together from the description of the format
@@ -233,32 +287,32 @@ def made():
 
 
 def of_model(words, lines):
-    """Returns what the model answers."""
+    """Returns what the model answers, and the status with which a program has to end."""
     options = dict(zip(words[::2], words[1::2]))
-    answers, _ = answers_of(lines, **{option[2:]: int(value) for option, value in options.items()})
-    return b"".join(answers)
+    answers, ending = answers_of(lines, **{option[2:]: int(value) for option, value in options.items()})
+    return b"".join(answers), int(ending in ("cut", "long"))
 
 
 def at_once(program, words, lines):
-    """Returns what a program answers to all lines at once."""
-    return subprocess.run([program, "run", *words], input=lines, capture_output=True, timeout=SECONDS).stdout
+    """Returns what a program answers to all lines at once, and its status."""
+    ran = subprocess.run([program, "run", *words], input=lines, capture_output=True, timeout=SECONDS)
+    return ran.stdout, ran.returncode
 
 
 def byte_by_byte(program, words, lines):
-    """Returns what a program answers that reads a byte at a time."""
+    """Returns what a program answers that reads a byte at a time, and its status."""
     ours, theirs = socket.socketpair(socket.AF_UNIX, socket.SOCK_SEQPACKET)
     with ours, subprocess.Popen([program, "run", *words], stdin=theirs, stdout=subprocess.PIPE, stderr=subprocess.DEVNULL) as child:
         theirs.close()
-        try:
+        with contextlib.suppress(OSError):
             for byte in lines:
                 ours.send(bytes([byte]))
-        except BrokenPipeError:
-            pass
         ours.close()
-        return child.communicate(timeout=SECONDS)[0]
+        out, _ = child.communicate(timeout=SECONDS)
+    return out, child.returncode
 
 
-def difference(lines, came, wanted):
+def difference(came, wanted):
     """Returns where answers differ first."""
     ours, theirs = came.split(b"\n"), wanted.split(b"\n")
     at = next((at for at, (one, other) in enumerate(zip(ours, theirs)) if one != other), min(len(ours), len(theirs)))
@@ -268,15 +322,18 @@ def difference(lines, came, wanted):
 
 def differences(programs):
     """Yields a line for each case that is answered otherwise than it must be."""
-    for name, words, lines, wanted in [*stored(), *made()]:
+    for name, words, lines, wanted in [*stored(), *alone(), *made()]:
         runs = [("the model", of_model(words, lines))]
         for program in programs:
             runs.append((program, at_once(program, words, lines)))
             if len(lines) + len(wanted) < SHORT:
                 runs.append((f"{program} byte by byte", byte_by_byte(program, words, lines)))
-        for who, came in runs:
+        status = int(wanted.endswith((b"bad cut\n", b"bad long\n")))
+        for who, (came, ended) in runs:
             if came != wanted:
-                yield f"{who}, {name}: {difference(lines, came, wanted)}"
+                yield f"{who}, {name}: {difference(came, wanted)}"
+            elif ended != status:
+                yield f"{who}, {name}: the status is {ended}, and must be {status}"
 
 
 def main(programs):

@@ -148,6 +148,8 @@ class Draw:
         lots = self.lots
         if lots.once_in(12):
             return lots.pick(["a+b", "a-b", "a:b", "x" * 64, "x" * 65, "é".encode().hex() + "!", "_$/[;.", "0"])
+        if self.machine.undone_names and lots.once_in(2):
+            return lots.pick(self.machine.undone_names).decode()
         return lots.pick(LETTERS) + (str(lots.below(10)) if lots.once_in(3) else "")
 
     def define(self):
@@ -162,7 +164,7 @@ class Draw:
         """Makes an object or a class."""
         lots = self.lots
         m, r = self.mutator(), self.register()
-        what = lots.weighed({"class": 2, "new": 12, "newarray": 6, "newprim": 4})
+        what = lots.weighed({"class": 4, "new": 12, "newarray": 6, "newprim": 4})
         if what == "class":
             return self.define()
         if what == "new":

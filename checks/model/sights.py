@@ -39,6 +39,7 @@ OTHERS = {
     "refused 6": 3,
     "a finish refused, something gray": 20,
     "a finish refused, something not drained": 20,
+    "a class named as one that was undone": 20,
     "a rewind of nothing": 10,
     "a rewind of one": 50,
     "a rewind of more than 12": 30,
@@ -160,8 +161,9 @@ class WatchedMachine(Machine):
         # What the retained steps came to, and what each open pin went through.
         self.past = []
         self.lots = {}
-        # The sizes of the cells that each region had last.
+        # The sizes of the cells that each region had last, and the names of classes that were undone.
         self.sizes = {}
+        self.undone_names = []
 
     def refusing(self, call, *arguments):
         """Makes a call, and notes if it is refused."""
@@ -189,6 +191,7 @@ class WatchedMachine(Machine):
         sight = sight_of(event, answer, before, self.state)
         self.sights.met[sight] += 1
         self.past = [*self.past, sight][-self.keep :]
+        self.sights.met["a class named as one that was undone"] += event[0] in ("class", "array") and event[1] in self.undone_names
         made = answer[1] if event[0] in ("new", "newarray", "newprim") else 0
         remade = made and self.is_remade(made, before)
         for pin, lots in self.readable():
@@ -216,7 +219,9 @@ class WatchedMachine(Machine):
         return had is not None
 
     def rewind(self, count):
+        before = self.state
         place = self.refusing(super().rewind, count)
+        self.undone_names += [each.name for each in before.classes[len(self.state.classes) :]]
         kept = len(self.past) - count
         undone, self.past = self.past[kept:], self.past[:kept]
         self.sights.undone.update(undone)

@@ -12,6 +12,8 @@ mod events;
 #[cfg(test)]
 mod marker;
 #[cfg(test)]
+mod reuse;
+#[cfg(test)]
 mod sweeper;
 #[cfg(test)]
 mod trail;

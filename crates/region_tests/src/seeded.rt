@@ -1,6 +1,5 @@
 //! The regions beside the plain ones, over seeded calls.
-use crate::observed::{pool_of, regions_of};
-use crate::plain::{PlainHeap, PlainObject};
+use crate::plain::{PlainObject, PlainRegions};
 use crate::readers::tell_the_same;
 use heap_class::{Kind, ObjKind, ObjRef, Refusal};
 use heap_region::Regions;
@@ -12,7 +11,7 @@ use std::test::Fail;
 /// More regions than the search for a free cell looks at at a time, which is 32.
 const REGIONS: u64 = 40;
 
-/// A length, mostly small.
+/// Returns a length, mostly a small one.
 fn drawn_len(random: &mut Pcg32) -> u64 {
     let most = match random.next_word() % 16 {
         0 => 1026,
@@ -23,6 +22,7 @@ fn drawn_len(random: &mut Pcg32) -> u64 {
     (random.next_word() % most) as u64
 }
 
+/// Returns a kind.
 fn drawn_kind(random: &mut Pcg32) -> ObjKind {
     match random.next_word() % 3 {
         0 => ObjKind::Prim(Kind::Int),
@@ -31,14 +31,14 @@ fn drawn_kind(random: &mut Pcg32) -> ObjKind {
     }
 }
 
-// Another object of the same region.
+/// Returns another object of the same region.
 fn neighbour(made: &[ObjRef], at: ObjRef) -> Option<ObjRef> {
     made.iter()
         .find(|other| other.region == at.region && **other != at)
         .copied()
 }
 
-// Frees an object beside which there is another, and says whether it could.
+/// Frees an object beside which there is another, and returns whether it could.
 fn free_beside(regions: &mut Regions, at: ObjRef, other: ObjRef) -> bool {
     if other.region != at.region || other == at {
         return false;
@@ -50,7 +50,7 @@ fn free_beside(regions: &mut Regions, at: ObjRef, other: ObjRef) -> bool {
     true
 }
 
-// Gives up a region in use, and says whether it was.
+/// Gives up a region in use, and returns whether it was.
 fn give_up(regions: &mut Regions, region: u64) -> bool {
     if regions.pending(region).is_none() {
         return false;
@@ -65,7 +65,7 @@ fn give_up(regions: &mut Regions, region: u64) -> bool {
 struct Pair {
     alloc: Global,
     regions: Regions,
-    plain: PlainHeap,
+    plain: PlainRegions,
     made: Vec<ObjRef>,
     refused: u64,
     far: u64,
@@ -76,14 +76,14 @@ impl Pair {
         Ok(Pair {
             alloc,
             regions: Regions::new(alloc, REGIONS)?,
-            plain: PlainHeap::new(alloc, REGIONS, 0)?,
+            plain: PlainRegions::new(alloc, REGIONS)?,
             made: Vec::new(alloc),
             refused: 0,
             far: 0,
         })
     }
 
-    // What the plain program answers.
+    /// Returns what the plain program answers.
     fn expected(
         &mut self,
         kind: ObjKind,
@@ -93,12 +93,7 @@ impl Pair {
         if len > 1024 {
             return Ok(Err(Refusal::TooLarge));
         }
-        let object = PlainObject {
-            kind,
-            words: vec![in self.alloc; 0; len as usize]?,
-            live: true,
-            mark,
-        };
+        let object = PlainObject { kind, len, mark };
         Ok(
             self.plain
                 .alloc(self.alloc, object)?
@@ -106,7 +101,7 @@ impl Pair {
         )
     }
 
-    // Makes an object with both, and says whether they answer the same.
+    /// Makes an object with both, and returns whether they answer the same.
     fn alloc(&mut self, kind: ObjKind, len: u64, mark: bool) -> Result<bool, Fail> {
         let expected = self.expected(kind, len, mark)?;
         let got = self.regions.alloc(kind, len, mark);
@@ -120,7 +115,7 @@ impl Pair {
         Ok(got == expected)
     }
 
-    // Takes an object away from both, with its region where it is the last.
+    /// Takes an object away from both, with its region if it is the last.
     fn free(&mut self, at: ObjRef) -> Result<bool, Fail> {
         match neighbour(&self.made, at) {
             Some(other) => {
@@ -134,7 +129,7 @@ impl Pair {
         }
     }
 
-    // One call of each, drawn by lot.
+    /// Makes one call of each by lot, and returns whether they answer the same.
     fn step(&mut self, random: &mut Pcg32) -> Result<bool, Fail> {
         let word = random.next_word();
         if word % 16 < 9 || self.made.is_empty() {
@@ -147,7 +142,7 @@ impl Pair {
         self.free(at)
     }
 
-    // So many calls, and whether all answers were the same.
+    /// Makes so many calls, and returns whether all answers were the same.
     fn steps(&mut self, random: &mut Pcg32, count: u64) -> Result<bool, Fail> {
         for _ in 0..count {
             if !self.step(random)? {
@@ -155,15 +150,6 @@ impl Pair {
             }
         }
         Ok(true)
-    }
-
-    // Whether both show the same regions, objects, free lists and pool.
-    fn same(&self) -> Result<bool, Fail> {
-        Ok(
-            regions_of(self.alloc, &self.regions)? == self.plain.regions
-                && pool_of(self.alloc, &self.regions)? == self.plain.pool
-                && tell_the_same(&self.regions, &self.plain),
-        )
     }
 }
 
@@ -173,7 +159,7 @@ fn regions_do_as_the_plain_program(rt: HostRuntime) -> Result<(), Fail> {
     let mut random = Pcg32::new(42, 54);
     for round in 0..100 {
         assert!(rt; pair.steps(&mut random, 100)?, "an answer of round {round}");
-        assert!(rt; pair.same()?, "the state after round {round}");
+        assert!(rt; tell_the_same(&pair.regions, &pair.plain), "the state after round {round}");
     }
     assert!(rt;
         pair.refused > 100 && pair.refused < 5000,

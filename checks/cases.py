@@ -267,6 +267,71 @@ def of_a_full_region():
     return "a_full_region_goes_and_comes_back", ["--regions", "1", "--keep", "16384"], script.lines, script.answers
 
 
+def tell_free_cells(script, place):
+    """Has nodes and arrays fill the free cells of the first two regions, of which each has all but its cell 0 free in order, and
+    no more; then all that is taken back."""
+    for index in range(1, 256):
+        script.add_object("new 0 3 0\n", index)
+    for index in range(1, 64):
+        script.add("newprim 0 3 long 5\n", f"ok object 0x{0x10002000 + 128 * index:08x}\n")
+    script.add("new 0 3 0\nnewprim 0 3 long 5\nnewprim 0 3 long 17\n", "no 13 HeapFull\n" * 3)
+    script.add("rewind 318\n", f"ok place {place}\n")
+
+
+def tell_cycle_end(script):
+    """Tells that no cycle runs, and that both regions wait to be swept: the node is dead, the array of five longs is live."""
+    script.add("clear 0 7\nload 0 0 0 0\nmark\nload 0 2 1 4\n", "ok\nno 8 NullRegister\nno 15 NotMarking\nok value 0\n")
+    script.add("sweep 1\nsweep 1\nsweep 0\n", "ok swept 0\nno 20 NothingToSweep 1\nok swept 1 empty\n")
+    script.add("rewind 4\n", "ok place 7\n")
+    tell_free_cells(script, 7)
+
+
+def tell_snapped(script):
+    """Tells that one object is gray, nothing is logged, and both regions still wait."""
+    script.add("finish\nmark\nmark\ndrain\n", "no 18 NotDone 1 0\nok pushed 0\nno 16 NothingToMark\nno 17 NothingToDrain\n")
+    script.add("finish\nrewind 1\n", "no 19 SweepPending 0\nok place 8\n")
+    tell_free_cells(script, 8)
+
+
+def tell_swept(script):
+    """Tells that the first region is empty, so that each cell size finds room there, and that the second waits."""
+    script.add("sweep 0\nmark\nfinish\n", "no 20 NothingToSweep 0\nok pushed 0\nno 19 SweepPending 1\n")
+    script.add("newprim 0 3 long 1024\n" * 2 + "rewind 1\n", "ok object 0x10000000\nno 13 HeapFull\nok place 10\n")
+    script.add("newprim 0 3 long 65\nrewind 1\n", "ok object 0x10000000\nok place 10\n")
+    script.add("new 0 3 0\nrewind 2\n", "ok object 0x10000000\nok place 9\n")
+
+
+def tell_taken(script):
+    """Tells that the array of 17 longs lies in the first region, which doesn't wait and has its other cells free in order."""
+    script.add("load 0 2 0 16\nload 0 2 0 17\nsweep 0\n", "ok value 0\nno 9 BadSlot\nno 20 NothingToSweep 0\n")
+    for index in range(1, 16):
+        script.add("newprim 0 3 long 17\n", f"ok object 0x{0x10000000 + 512 * index:08x}\n")
+    script.add("newprim 0 3 long 17\nnew 0 3 0\nrewind 16\n", "no 13 HeapFull\nno 13 HeapFull\nok place 10\n")
+
+
+def of_reuse():
+    """Returns the case of a region that a sweep empties and an array takes, and of all that taken back. What the heap holds is told
+    after each step, there and back, by steps that are then undone."""
+    script = Script()
+    script.add("class Node - next:object v:long\nnew 0 0 0\n", "ok class 0\nok object 0x10000000\n")
+    script.add("newprim 0 1 long 5\nclear 0 0\nsnap\nmark\n", "ok object 0x10002000\nok\nok pushed 1\nok pushed 0\n")
+    script.add("finish\n", "ok condemned 1\n")
+    tell_cycle_end(script)
+    script.add("snap\n", "ok pushed 1\n")
+    tell_snapped(script)
+    script.add("sweep 0\n", "ok swept 1 empty\n")
+    tell_swept(script)
+    script.add("newprim 0 0 long 17\n", "ok object 0x10000000\n")
+    tell_taken(script)
+    script.add("rewind 1\n", "ok place 9\n")
+    tell_swept(script)
+    script.add("rewind 1\n", "ok place 8\n")
+    tell_snapped(script)
+    script.add("rewind 1\n", "ok place 7\n")
+    tell_cycle_end(script)
+    return "sweep_and_reuse_told", ["--regions", "2"], script.lines, script.answers
+
+
 def made():
     """Yields the long cases as (name, words, lines, answers)."""
     cases = [
@@ -278,6 +343,7 @@ def made():
         of_names(),
         of_a_long_log(),
         of_a_full_region(),
+        of_reuse(),
     ]
     for name, words, lines, answers in cases:
         yield name, words, lines.encode(), answers.encode()

@@ -1,4 +1,4 @@
-//! The calls of each crate from classes to the machine, and worked examples by the events one by one.
+//! The calls of each crate from classes to the machine, and events that are taken back.
 #![tactic(auto)]
 
 #[cfg(test)]
@@ -11,8 +11,6 @@ mod dump_text;
 mod events;
 #[cfg(test)]
 mod marker;
-#[cfg(test)]
-mod reuse;
 #[cfg(test)]
 mod sweeper;
 #[cfg(test)]

@@ -28,8 +28,9 @@ SHORT = 4096
 def stored():
     """Yields the cases in files as (name, words, lines, answers)."""
     for path in sorted(TOP.glob("examples/cases/*.session")):
-        words = path.with_suffix(".args")
-        yield path.stem, words.read_text().split() if words.exists() else [], path.read_bytes(), path.with_suffix(".expected").read_bytes()
+        file = path.with_suffix(".args")
+        words = file.read_text().split() if file.exists() else []
+        yield path.stem, words, path.read_bytes(), path.with_suffix(".expected").read_bytes()
 
 
 # ---- lines, each alone
@@ -192,8 +193,8 @@ def of_names():
         bodies.append(body + b"".join(number(8, field + 1) + b"\x0b" for field in fields))
     bodies += [b"\x05" + number(8, 0x100000 + 8 * index) for index in range(18)]
     # A class has 647 bytes and its root 9, so six classes fit into a segment of 4,096, and all roots into the third.
-    segments = [b"".join(bodies[:6]), b"".join(bodies[6:12]), b"".join(bodies[12:])]
-    return "a_thousand_names", [], lines + "dump -\n", answers + dumped([opening + TRACE, *(record(0x1C, body) for body in segments), END])
+    segments = [record(0x1C, b"".join(part)) for part in (bodies[:6], bodies[6:12], bodies[12:])]
+    return "a_thousand_names", [], lines + "dump -\n", answers + dumped([opening + TRACE, *segments, END])
 
 
 class Script:

@@ -287,12 +287,11 @@ class Draw:
 
     def turn(self):
         """Takes a turn."""
-        lots = self.lots
-        what = lots.weighed({"rewind": 5, "look": 12, "cut": 5, "bad": 2, "link": 20, "event": 60})
-        if what == "link" and self.state.marking:
-            what = "event"
-        turns = {"rewind": self.rewind, "look": self.look, "cut": self.cut, "bad": self.say_bad, "link": self.link, "event": self.event}
-        return turns[what]()
+        turns = {self.rewind: 5, self.look: 12, self.cut: 5, self.say_bad: 2, self.link: 20, self.event: 60}
+        turn = self.lots.weighed(turns)
+        if turn == self.link and self.state.marking:
+            turn = self.event
+        return turn()
 
     def reveal(self):
         """Has the whole state told, by a dump and by steps that are then undone: how the cycle ends, what sweeps take out, which

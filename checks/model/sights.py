@@ -284,5 +284,7 @@ def is_in_image(old, new, word):
     """Returns whether a new object stands in a cell where a live object of an old state stood."""
     number, cell = new.place_of(word)
     region = old.regions[number]
-    return bool(region and region.cell_size == new.regions[number].cell_size and cell in region.objects and region.objects[cell].live)
+    if not region or region.cell_size != new.regions[number].cell_size:
+        return False
+    return cell in region.objects and region.objects[cell].live
 

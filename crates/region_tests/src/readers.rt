@@ -88,14 +88,12 @@ fn tells_region(regions: &Regions, plain: &PlainRegions, region: u64) -> bool {
         Some(used) => (tells_used(regions, region, used), used.cell_size),
         None => (regions.cell_size(region).is_none(), 0),
     };
-    told && (0..256).all(
-        |cell| tells_cell(
-            regions,
-            place(region, cell),
-            size,
-            plain.object_at(region, cell),
-        ),
-    )
+    told && (0..256).all(|cell| tells_cell(
+        regions,
+        place(region, cell),
+        size,
+        plain.object_at(region, cell),
+    ))
 }
 
 // ---- live objects

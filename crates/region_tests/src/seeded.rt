@@ -159,7 +159,10 @@ fn regions_do_as_the_plain_program(rt: HostRuntime) -> Result<(), Fail> {
     let mut random = Pcg32::new(42, 54);
     for round in 0..100 {
         assert!(rt; pair.steps(&mut random, 100)?, "an answer of round {round}");
-        assert!(rt; tell_the_same(&pair.regions, &pair.plain), "the state after round {round}");
+        assert!(rt;
+            tell_the_same(&pair.regions, &pair.plain),
+            "the state after round {round}"
+        );
     }
     assert!(rt;
         pair.refused > 100 && pair.refused < 5000,

@@ -1,7 +1,7 @@
 //! In which chunks bytes come and go doesn't show.
-use crate::cycles::{EMPTIED_REGION, SWEPT_POINTS, UNREADY_FINISHES};
-use crate::dumps::{DUMP_OF_ONE_POINT, ONE_POINT};
-use crate::mutators::REFUSED_LINES;
+use crate::examples::{
+    DUMP_OF_ONE_POINT, EMPTIED_REGION, ONE_POINT, REFUSED_LINES, SWEPT_POINTS, UNREADY_FINISHES,
+};
 use crate::sessions::{Outcome, machine, play};
 use crate::streams::{ByteWriter, Chunks, Spent};
 use session_text::Ended;

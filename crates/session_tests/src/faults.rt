@@ -1,6 +1,5 @@
 //! Readers and writers that fail.
-use crate::cycles::SWEPT_POINTS;
-use crate::dumps::ONE_POINT;
+use crate::examples::{ONE_POINT, SWEPT_POINTS};
 use crate::sessions::{Outcome, machine, play};
 use crate::streams::{ByteReader, ByteWriter, Chunks, Spent};
 use session_text::Ended;

@@ -1,5 +1,5 @@
 //! Streams that are interrupted. A hundred times in a row count as a fault.
-use crate::dumps::{DUMP_OF_ONE_POINT, ONE_POINT};
+use crate::examples::{DUMP_OF_ONE_POINT, ONE_POINT};
 use crate::faults::state_after;
 use crate::sessions::{Outcome, machine, play};
 use crate::streams::{Chunks, Interrupted};

@@ -1,6 +1,5 @@
 //! Sessions at size: a million reads, a million bytes, and a dump of several pages.
-use crate::dumps::{DUMP_OF_ONE_POINT, ONE_POINT};
-use crate::segments::dump_of_longs;
+use crate::examples::{DUMP_OF_ONE_POINT, ONE_POINT};
 use crate::sessions::{machine, play};
 use crate::streams::{Chunks, Repeated, Sips};
 use dump_pump::WriteOutlet;
@@ -55,25 +54,28 @@ fn a_million_bytes(rt: HostRuntime) -> Result<(), Fail> {
     Ok(())
 }
 
+/// Returns what a dump of an array of 1,024 longs writes to a writer that takes at most so many bytes a write. That it is the
+/// right text is a case of its own.
+fn dumped_by(alloc: Global, most: usize) -> Result<(Ended, Vec<u8>), Fail> {
+    let reader = Chunks {
+        rest: b"newprim 0 0 long 1024\ndump -\n",
+        size: 4096,
+    };
+    let writer = Sips {
+        taken: Vec::new(alloc),
+        most,
+    };
+    let outcome = play(alloc, machine(alloc, 16, 2, 1024)?, reader, writer)?;
+    Ok((outcome.ended, outcome.writer.taken))
+}
+
 #[test]
 fn a_dump_of_several_pages(rt: HostRuntime) -> Result<(), Fail> {
-    let alloc = rt.alloc();
-    let wanted = dump_of_longs(alloc)?;
-    for most in [1, 7, 4096, usize::MAX] {
-        let reader = Chunks {
-            rest: b"newprim 0 0 long 1024\ndump -\n",
-            size: 4096,
-        };
-        let writer = Sips {
-            taken: Vec::new(alloc),
-            most,
-        };
-        let outcome = play(alloc, machine(alloc, 16, 2, 1024)?, reader, writer)?;
-        assert_eq!(rt; outcome.ended, Ended::Eof);
-        assert!(rt;
-            outcome.writer.taken.as_slice() == wanted.as_slice(),
-            "at {most}"
-        );
+    let (ended, wanted) = dumped_by(rt.alloc(), usize::MAX)?;
+    assert!(rt; ended == Ended::Eof && wanted.len() == 17_422);
+    for most in [1, 7, 4096] {
+        let (ended, text) = dumped_by(rt.alloc(), most)?;
+        assert!(rt; ended == Ended::Eof && text == wanted, "at {most}");
     }
     Ok(())
 }

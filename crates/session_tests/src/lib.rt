@@ -1,4 +1,5 @@
-//! Tests of whole sessions: worked examples on `serve`, and streams that chop, are interrupted or fail.
+//! Tests of sessions over streams that chop, are interrupted or fail. What sessions are answered is looked at from outside, by
+//! `checks/cases.py` and `checks/model`.
 #![tactic(auto)]
 
 #[cfg(test)]
@@ -6,37 +7,15 @@ mod chunks;
 #[cfg(test)]
 mod cut_dumps;
 #[cfg(test)]
-mod cycles;
-#[cfg(test)]
-mod dumps;
-#[cfg(test)]
-mod expected;
+mod examples;
 #[cfg(test)]
 mod faults;
-#[cfg(test)]
-mod four_bytes;
-#[cfg(test)]
-mod growth;
 #[cfg(test)]
 mod interrupts;
 #[cfg(test)]
 mod large;
 #[cfg(test)]
-mod lines;
-#[cfg(test)]
-mod mutators;
-#[cfg(test)]
-mod names;
-#[cfg(test)]
 mod pages;
-#[cfg(test)]
-mod pins;
-#[cfg(test)]
-mod rewinds;
-#[cfg(test)]
-mod scripts;
-#[cfg(test)]
-mod segments;
 #[cfg(test)]
 mod sessions;
 #[cfg(test)]

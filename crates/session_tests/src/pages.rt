@@ -1,5 +1,5 @@
 //! Answers wait in a page until it is full, input is read again or the session ends.
-use crate::dumps::{DUMP_OF_ONE_POINT, ONE_POINT};
+use crate::examples::{DUMP_OF_ONE_POINT, ONE_POINT};
 use crate::faults::state_after;
 use crate::sessions::{machine, play, served};
 use crate::streams::{ByteWriter, Chunks, Counted, Spent};

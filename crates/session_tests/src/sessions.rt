@@ -1,5 +1,4 @@
 //! Playing sessions.
-use crate::streams::Chunks;
 use dump_pump::WriteOutlet;
 use heap_trail::Machine;
 use heap_world::Config;
@@ -33,59 +32,6 @@ pub fn served<R: Read + Drop, W: Write + Drop>(
 pub fn talk<R: Read + Drop>(alloc: Global, local: &mut Local, reader: R) -> (Ended, Vec<u8>) {
     let (ended, _, text) = served(alloc, local, reader, Vec::new(alloc));
     (ended, text)
-}
-
-/// The same over a heap of so many regions, read in chunks of a size.
-pub fn session_over(
-    alloc: Global,
-    regions: u64,
-    keep: u64,
-    size: usize,
-    text: &str,
-) -> Result<(Ended, Vec<u8>), Fail> {
-    let mut local = machine(alloc, regions, 2, keep)?;
-    let reader = Chunks {
-        rest: text.as_bytes(),
-        size,
-    };
-    Ok(talk(alloc, &mut local, reader))
-}
-
-/// The same with 16 regions.
-pub fn session(
-    alloc: Global,
-    keep: u64,
-    size: usize,
-    text: &str,
-) -> Result<(Ended, Vec<u8>), Fail> {
-    session_over(alloc, 16, keep, size, text)
-}
-
-/// Fails unless a session over so many regions runs all lines and writes this.
-pub fn answers_over(
-    alloc: Global,
-    regions: u64,
-    keep: u64,
-    size: usize,
-    lines: &str,
-    replies: &str,
-) -> Result<(), Fail> {
-    let (ended, text) = session_over(alloc, regions, keep, size, lines)?;
-    if ended == Ended::Eof && text.as_slice() == replies.as_bytes() {
-        return Ok(());
-    }
-    Err((ended, String::from_utf8(text)?).into())
-}
-
-/// The same with 16 regions.
-pub fn answers(
-    alloc: Global,
-    keep: u64,
-    size: usize,
-    lines: &str,
-    replies: &str,
-) -> Result<(), Fail> {
-    answers_over(alloc, 16, keep, size, lines, replies)
 }
 
 // ---- what is left behind

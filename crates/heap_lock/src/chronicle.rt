@@ -1,6 +1,6 @@
 //! What was done, in order.
 ghost use Rattle.std.specs.Prelude.{◌≡◌, ◌↔◌, ◌<◌, ◌++◌, ◌∷◌, [], true, length, slice_get, Some, IsTrue, OnOk};
-ghost use Rattle.heap_lock.specs.Chronicles.{HasPlace};
+ghost use Rattle.heap_lock.specs.Chronicles.{HasPlace, seat_and_answer, told_at};
 ghost use Rattle.heap_lock.specs.History.{entry};
 ghost use Rattle.heap_lock.specs.Packs.{entry_by, entry_in, Tells};
 
@@ -48,7 +48,7 @@ fn placed(place: u64) -> Pack
         deed: Deed::Snap,
         kind: Kind::Object,
         told: Told::Done,
-        reason: Reason::NoMemory,
+        reason: Reason::NoClass,
     }
 }
 
@@ -88,6 +88,19 @@ fn tells(whole: &[Entry], pack: &Pack, seat: u64, action: &Action, answer: Outco
     } else {
         is_of(&unpacked(pack), seat, action, answer)
     }
+}
+
+// Returns the seat and the answer of the entry that a pack tells.
+fn told(whole: &[Entry], pack: &Pack) -> (u64, Outcome)
+    requires { HasPlace (length whole.now) pack.now }
+    ensures { result ≡ seat_and_answer (entry_in whole.now pack.now) }
+{
+    if pack.is_whole {
+        let entry = &whole[pack.first as usize];
+        return (entry.seat, entry.answer);
+    }
+    let answer = outcome_in(pack.told, pack.reason, pack.told_first, pack.fourth);
+    (pack.seat as u64, answer)
 }
 
 impl Chronicle {
@@ -150,6 +163,17 @@ impl Chronicle {
             Some(pack) => self.push_pack(pack, &entry),
             None => self.push_whole(entry),
         }
+    }
+
+    /// Returns the seat and the answer of the entry at an index, or None if there is none. Takes no memory.
+    pub fn told_at(&self, at: usize) -> Option<(u64, Outcome)>
+        ensures { result ≡ told_at self.now.entries at }
+    {
+        if at >= self.packs.len() {
+            return None;
+        }
+        let pack = &self.packs[at];
+        Some(told(self.whole.as_slice(), pack))
     }
 
     /// Returns whether the entry at an index is that of the seat, the action and the answer. Returns false if there is none at

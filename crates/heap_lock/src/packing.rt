@@ -8,10 +8,10 @@ ghost use Rattle.heap_step.specs.declared.Answer.TheVariants.{Swept};
 ghost use Rattle.heap_step.specs.declared.Event.TheVariants.{NewPrim};
 ghost use Rattle.heap_trail.specs.declared.Action.TheVariants.{Step};
 ghost use Rattle.heap_lock.specs.declared.entry.Outcome.TheVariants.{Answered as Said, Refused as Denied};
-ghost use Rattle.heap_lock.specs.declared.pack.Reason.TheVariants.{NoMemory as AnyReason};
+ghost use Rattle.heap_lock.specs.declared.pack.Reason.TheVariants.{NoClass as AnyReason};
 ghost use Rattle.heap_lock.specs.declared.pack.Told.TheVariants.{Refused as Other};
 ghost use Rattle.heap_lock.specs.History.{entry};
-ghost use Rattle.heap_lock.specs.Packs.{action_by, action_with, outcome_by, outcome_with, Tells, has_fourth, has_second};
+ghost use Rattle.heap_lock.specs.Packs.{action_in, action_by, action_with, outcome_by, outcome_with, Tells, has_fourth, has_second};
 
 use crate::entry::{Entry, Outcome};
 use crate::pack::{AnswerPack, Deed, DeedPack, Pack, Reason, Told};
@@ -22,7 +22,7 @@ use heap_trail::Action;
 // Returns a deed of these numbers without a kind.
 #[inline(always)]
 fn numbered(deed: Deed, first: u64, second: u64, third: u64, fourth: u64) -> DeedPack
-    ensures { result ≡ record { deed = deed; kind = NoKind; first = first; second = second; third = third; fourth = fourth } }
+    ensures { action_by result ≡ action_in deed NoKind first second third fourth }
 {
     DeedPack {
         deed,
@@ -108,7 +108,7 @@ fn answered(told: Told, first: u64, second: u64) -> AnswerPack
 {
     AnswerPack {
         told,
-        reason: Reason::NoMemory,
+        reason: Reason::NoClass,
         first,
         second,
     }

@@ -1,4 +1,6 @@
 pub mod Parts
+pub mod Spare
+pub mod Places
 pub mod Plain
 pub mod Histories
 pub mod Making

@@ -1,6 +1,8 @@
 pub mod Limits
 pub mod History
 pub mod Tally
+pub mod Packs
+pub mod Chronicles
 pub mod Desks
 pub mod Roles
 pub mod Held

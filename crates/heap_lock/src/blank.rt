@@ -4,6 +4,7 @@ ghost use Rattle.heap_class.specs.declared.Refusal.TheVariants.{NoMemory};
 ghost use Rattle.heap_lock.specs.Limits.{seat_limit};
 ghost use Rattle.heap_lock.specs.Blanks.{chairs, chair_of, tables_of, AllFresh, AllStubs};
 
+use crate::chronicle::Chronicle;
 use crate::desk::Desk;
 use crate::entry::Role;
 use crate::heap::{Heap, Kept, Seat, Shared};
@@ -127,7 +128,7 @@ impl Blank {
             stubs,
             alloc,
         } = self;
-        let kept = Kept::of(machine, Vec::new(alloc), desks);
+        let kept = Kept::of(machine, Chronicle::new(alloc), desks);
         let stubs = VecDeque::from_vec(stubs);
         (
             Shared::of(config, kept),

@@ -10,6 +10,7 @@ ghost use Rattle.heap_lock.specs.History.{opening, Enters, IsLegalHistory};
 ghost use Rattle.heap_lock.specs.Roles.{is_of_mutator, is_of_marker, is_of_sweeper, may};
 ghost use Rattle.heap_lock.specs.Held.{AllSeated, Folds, Stands, IsMoved, IsAct, IsReceived, IsRefused, IsNoEntry, IsChair, IsKept};
 
+use crate::chronicle::Chronicle;
 use crate::desk::Desk;
 use crate::entry::{Entry, Outcome, Receipt, Role};
 use crate::view::View;
@@ -69,7 +70,7 @@ impl<L: Heap> Model for Seat<L> {
 #[derive(Drop)]
 pub struct Kept<L: Heap> {
     pub(crate) machine: Machine,
-    chronicle: Vec<Entry>,
+    chronicle: Chronicle,
     desks: Vec<Desk>,
     heap: PhantomData<L>,
 }
@@ -79,9 +80,9 @@ impl<L: Heap> Model for Kept<L> {
 
     ghost Value = { Held };
 
-    ghost view = { λ k. record { machine = k.machine; chronicle = k.chronicle.items } };
+    ghost view = { λ k. record { machine = k.machine; chronicle = k.chronicle.entries } };
 
-    ghost invariant = { λ k. IsKept L.config L.tables k.machine k.chronicle.items k.desks.items };
+    ghost invariant = { λ k. IsKept L.config L.tables k.machine k.chronicle.entries k.desks.items };
 }
 
 // Returns whether the event is one of this mutator's own.
@@ -188,9 +189,9 @@ impl<L: Heap> Seat<L> {
 }
 
 impl<L: Heap> Kept<L> {
-    pub(crate) fn of(machine: Machine, chronicle: Vec<Entry>, desks: Vec<Desk>) -> Kept<L>
-        requires { IsKept L.config L.tables machine chronicle.items desks.items }
-        ensures { result ≡ record { machine = machine; chronicle = chronicle.items } }
+    pub(crate) fn of(machine: Machine, chronicle: Chronicle, desks: Vec<Desk>) -> Kept<L>
+        requires { IsKept L.config L.tables machine chronicle.entries desks.items }
+        ensures { result ≡ record { machine = machine; chronicle = chronicle.entries } }
     {
         Kept {
             machine,
@@ -201,13 +202,13 @@ impl<L: Heap> Kept<L> {
     }
 
     /// Returns what was done. It is a legal history of the heap's seats, and the machine's trail is what it leaves.
-    pub fn chronicle(&self) -> &[Entry]
-        ensures entries { result.now ≡ self.now.chronicle }
+    pub fn chronicle(&self) -> &Chronicle
+        ensures entries { result.now.entries ≡ self.now.chronicle }
         ensures legal { IsLegalHistory L.config.keep (opening L.config) self.now.chronicle }
         ensures seated { AllSeated (length L.tables) self.now.chronicle }
         ensures folds { Folds L.config self.now }
     {
-        self.chronicle.as_slice()
+        &self.chronicle
     }
 
     /// Returns the machine.
@@ -235,7 +236,7 @@ impl<L: Heap> Kept<L> {
         if chronicle.len() >= CHRONICLE_LIMIT {
             return Err(Refusal::ChronicleFull);
         }
-        if chronicle.reserve(1).is_err() {
+        if chronicle.reserve().is_err() {
             return Err(Refusal::NoMemory);
         }
         let Some(answer) = moved(machine, &action) else {
@@ -251,7 +252,7 @@ impl<L: Heap> Kept<L> {
         let desk = &mut desks[number as usize];
         let share = replace(&mut seat.share, Badge::blank());
         seat.share = desk.gain(share, turn, &entry);
-        chronicle.push_reserved(entry);
+        chronicle.push(entry);
         Ok(Receipt {
             seat: number,
             turn,

@@ -3,17 +3,22 @@
 
 pub mod audits;
 pub mod blank;
+pub mod chronicle;
 pub mod desk;
 pub mod dumps;
 pub mod entry;
 pub mod heap;
+pub mod pack;
+pub mod packing;
 pub mod same;
 pub mod source;
 pub mod stub;
+pub mod unpacking;
 pub mod view;
 
 pub use audits::audit;
 pub use blank::{Blank, Seats};
+pub use chronicle::Chronicle;
 pub use entry::{Entry, Outcome, Receipt, Role};
 pub use heap::{Heap, Kept, Seat, Shared};
 pub use source::LockedSource;

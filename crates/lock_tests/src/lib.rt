@@ -6,6 +6,8 @@ mod acts;
 #[cfg(test)]
 mod live_dumps;
 #[cfg(test)]
+mod receipts;
+#[cfg(test)]
 mod threads;
 #[cfg(test)]
 mod workers;

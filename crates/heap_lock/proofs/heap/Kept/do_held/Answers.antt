@@ -13,8 +13,8 @@ use Rattle.heap_lock.proofs.heap.Kept.do_held.Goals as goal
 
 pub moved-requires-clause-place : goal.moved-requires-clause-place
 moved-requires-clause-place g c =
-    let lt : length c.self.inside.chronicle.items < 1000000 = omega (arith, c.len.ensures, c.if-len-ge-CHRONICLE_LIMIT.false) in
-    not_last g.L.Heap.config g.L.Heap.tables c.self.inside.machine c.self.inside.chronicle.items c.self.inside.desks.items c.self.invariant lt
+    let lt : length c.self.inside.chronicle.entries < 1000000 = omega (arith, c.len.ensures, c.if-len-ge-CHRONICLE_LIMIT.false) in
+    not_last g.L.Heap.config g.L.Heap.tables c.self.inside.machine c.self.inside.chronicle.entries c.self.inside.desks.items c.self.invariant lt
 
 pub gain-requires-clause-desk : goal.gain-requires-clause-desk
 gain-requires-clause-desk g c =
@@ -30,34 +30,34 @@ gain-requires-clause-share g c =
 pub invariant_of-self-2 : goal.invariant_of-self-2
 invariant_of-self-2 g c =
     let n = c.seat.inside.number in
-    let es = c.self.inside.chronicle.items in
+    let es = c.self.inside.chronicle.entries in
     let e = entry n c.args.action c.in-Some.answer in
     let d = desk_of _ _ _ _ _ n c.index_mut-desk.result.now c.self.invariant c.seat.invariant.0 c.index_mut-desk.ensures.value in
     let t = c.gain.ensures.desk in
-    let turn : 1 + length es ≡ c.len-2.result + 1 = omega (arith, c.len-2.ensures, ap length c.reserve.ensures.items) in
+    let turn : 1 + length es ≡ c.len-2.result + 1 = omega (arith, c.len-2.ensures, ap length c.reserve.ensures.entries) in
     let desk : IsDesk (table_at g.L.Heap.tables n) (tally n (es ++ e ∷ [])) c.gain.new.self = (
       ap (λ (z : TableId). z.words) t.0 ∙ d.0,
       t.0 ∙ d.1,
       t.1 ∙ d.2,
       t.2 ∙ (λ i. (Book (tally_of (d.3 i).0 ++ (sym turn i, e) ∷ []), [])) ∙ ap (λ l. (Book l, [])) (sym (tally_here n es e refl)),
     ) in
-    subst (λ (l : List Entry). IsKept g.L.Heap.config g.L.Heap.tables c.moved.new.machine l (set c.self.inside.desks.items n c.gain.new.self)) (sym (c.push_reserved.ensures.items ∙ ap (λ l. l ++ e ∷ []) c.reserve.ensures.items))
+    subst (λ (l : List Entry). IsKept g.L.Heap.config g.L.Heap.tables c.moved.new.machine l (set c.self.inside.desks.items n c.gain.new.self)) (sym (c.push.ensures ∙ ap (λ l. l ++ e ∷ []) c.reserve.ensures.entries))
     (kept_more _ _ _ _ es _ e c.gain.new.self c.self.invariant c.seat.invariant.0 c.requires c.in-Some.ensures.0 c.in-Some.ensures.1 desk)
 
 pub returns-clause-moves : goal.returns-clause-moves
 returns-clause-moves g c =
-    let m = moved_as g.L.Heap.config g.L.Heap.tables c.self.inside.machine c.moved.new.machine c.self.inside.chronicle.items c.self.inside.desks.items c.seat.inside.number c.args.action c.in-Some.answer c.self.invariant c.requires c.in-Some.ensures.0 c.in-Some.ensures.1 in
+    let m = moved_as g.L.Heap.config g.L.Heap.tables c.self.inside.machine c.moved.new.machine c.self.inside.chronicle.entries c.self.inside.desks.items c.seat.inside.number c.args.action c.in-Some.answer c.self.invariant c.requires c.in-Some.ensures.0 c.in-Some.ensures.1 in
     let r : Receipt = record { seat = c.seat.inside.number; turn = c.len-2.result + 1; answer = c.in-Some.answer } in
-    let after : Held = record { machine = c.moved.new.machine; chronicle = c.push_reserved.new.self.items } in
+    let after : Held = record { machine = c.moved.new.machine; chronicle = c.push.new.self.entries } in
     subst (λ (before : Held). IsMoved g.L.Heap.config c.args.action before r after) c.self.view_is (c.in-Some.ensures.0, m.0, m.1)
 
 pub returns-clause-stands : goal.returns-clause-stands
 returns-clause-stands g c =
     let n = c.seat.inside.number in
-    let es = c.self.inside.chronicle.items in
+    let es = c.self.inside.chronicle.entries in
     let e = entry n c.args.action c.in-Some.answer in
     let d = desk_of _ _ _ _ _ n c.index_mut-desk.result.now c.self.invariant c.seat.invariant.0 c.index_mut-desk.ensures.value in
-    let turn : 1 + length es ≡ c.len-2.result + 1 = omega (arith, c.len-2.ensures, ap length c.reserve.ensures.items) in
+    let turn : 1 + length es ≡ c.len-2.result + 1 = omega (arith, c.len-2.ensures, ap length c.reserve.ensures.entries) in
     let k = c.self.invariant in (
       es,
       goes_on g.L.Heap.config.keep (opening g.L.Heap.config) es e k.legal (is_due _ _ _ c.moved.new.machine es _ e k c.requires c.in-Some.ensures.0 c.in-Some.ensures.1),

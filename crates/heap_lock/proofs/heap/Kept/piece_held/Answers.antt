@@ -7,12 +7,12 @@ use Rattle.heap_lock.proofs.heap.Kept.piece_held.Goals as goal
 
 pub invariant_of-self : goal.invariant_of-self
 invariant_of-self g c =
-    dumped_keeps g.L.Heap.config g.L.Heap.tables c.self.inside.machine c.piece.new.self c.self.inside.chronicle.items c.self.inside.desks.items (NextPiece c.args.pin c.args.time) (λ p. Part p)
+    dumped_keeps g.L.Heap.config g.L.Heap.tables c.self.inside.machine c.piece.new.self c.self.inside.chronicle.entries c.self.inside.desks.items (NextPiece c.args.pin c.args.time) (λ p. Part p)
     c.piece.result c.self.invariant refl c.piece.ensures.done c.piece.ensures.unchanged
 
 pub returns-clause-done : goal.returns-clause-done
 returns-clause-done g c =
-    dumped_done c.args.self.now c.self.inside.machine c.piece.new.self c.self.inside.chronicle.items (NextPiece c.args.pin c.args.time) (λ p. Part p)
+    dumped_done c.args.self.now c.self.inside.machine c.piece.new.self c.self.inside.chronicle.entries (NextPiece c.args.pin c.args.time) (λ p. Part p)
     c.piece.result c.self.view_is c.piece.ensures.done
 
 pub returns-clause-legal : goal.returns-clause-legal
@@ -20,5 +20,5 @@ returns-clause-legal g c = subst (λ ids. IfOk c.piece.result (λ p. IsPieceOfLe
 
 pub returns-clause-refused : goal.returns-clause-refused
 returns-clause-refused g c =
-    dumped_refused c.args.self.now c.self.inside.machine c.piece.new.self c.self.inside.chronicle.items (NextPiece c.args.pin c.args.time) c.piece.result
+    dumped_refused c.args.self.now c.self.inside.machine c.piece.new.self c.self.inside.chronicle.entries (NextPiece c.args.pin c.args.time) c.piece.result
     c.self.view_is c.piece.ensures.refused c.piece.ensures.unchanged

@@ -1,0 +1,126 @@
+-- Entries in five numbers.
+use Rattle.std.specs.Prelude.{◌≡◌, ℕ, Bool, true, false, List, slice_index_or, if◌then◌else◌}
+use Rattle.heap_class.specs.declared.Kind.{Kind}
+use Rattle.heap_class.specs.declared.LostCause.TheVariants.{Rewound, Memory, Closed}
+use Rattle.heap_class.specs.declared.Refusal.{Refusal}
+use Rattle.heap_class.specs.declared.Refusal.TheVariants as No
+use Rattle.heap_step.specs.declared.Answer.TheVariants as Answers
+use Rattle.heap_step.specs.declared.Event.TheVariants as Events
+use Rattle.heap_trail.specs.declared.Action.{Action}
+use Rattle.heap_trail.specs.declared.Action.TheVariants.{Step, Rewind as Undo}
+use Rattle.heap_lock.specs.declared.entry.Entry.{Entry}
+use Rattle.heap_lock.specs.declared.entry.Outcome.{Outcome}
+use Rattle.heap_lock.specs.declared.entry.Outcome.TheVariants.{Answered, Place as At, Refused as Denied}
+use Rattle.heap_lock.specs.declared.pack.AnswerPack.{AnswerPack}
+use Rattle.heap_lock.specs.declared.pack.Deed.{Deed}
+use Rattle.heap_lock.specs.declared.pack.Deed.TheVariants.{New, NewArray, NewPrim, Load, Store, Put, Move, Clear, Snap, Mark, Drain, Finish, Sweep, Rewind}
+use Rattle.heap_lock.specs.declared.pack.DeedPack.{DeedPack}
+use Rattle.heap_lock.specs.declared.pack.Pack.{Pack}
+use Rattle.heap_lock.specs.declared.pack.Reason.{Reason}
+use Rattle.heap_lock.specs.declared.pack.Reason.TheVariants.{NoMemory, NoClass, ClassLimit, BadName, DuplicateName, FieldLimit, BadRegister, NullRegister, BadSlot, WrongKind, OutOfRange, TooLarge, HeapFull, AlreadyMarking, NotMarking, NothingToMark, NothingToDrain, SweepPending, NothingToSweep, NoPin, LostRewound, LostMemory, LostClosed, NotRetained, PinLimit, ChronicleFull}
+use Rattle.heap_lock.specs.declared.pack.Told.{Told}
+use Rattle.heap_lock.specs.declared.pack.Told.TheVariants.{Class, Object, Null, Value, Done, Pushed, Condemned, Swept, Emptied, Place, NotDone, TooFar, Refused}
+use Rattle.heap_lock.specs.History.{entry}
+
+-- the deed of this sort with these numbers
+unfoldable pub action_in : Deed → Kind → ℕ → ℕ → ℕ → ℕ → Action
+action_in New kind a b c d = Step (Events.New a b c)
+action_in NewArray kind a b c d = Step (Events.NewArray a b c d)
+action_in NewPrim kind a b c d = Step (Events.NewPrim a b kind c)
+action_in Load kind a b c d = Step (Events.Load a b c d)
+action_in Store kind a b c d = Step (Events.Store a b c d)
+action_in Put kind a b c d = Step (Events.Put a b c d)
+action_in Move kind a b c d = Step (Events.Move a b c d)
+action_in Clear kind a b c d = Step (Events.Clear a b)
+action_in Snap kind a b c d = Step Events.Snap
+action_in Mark kind a b c d = Step Events.Mark
+action_in Drain kind a b c d = Step Events.Drain
+action_in Finish kind a b c d = Step Events.Finish
+action_in Sweep kind a b c d = Step (Events.Sweep a)
+action_in Rewind kind a b c d = Undo a
+
+-- the refusal of this sort with this number
+unfoldable pub refusal_in : Reason → ℕ → Refusal
+refusal_in NoMemory n = No.NoMemory
+refusal_in NoClass n = No.NoClass
+refusal_in ClassLimit n = No.ClassLimit
+refusal_in BadName n = No.BadName
+refusal_in DuplicateName n = No.DuplicateName
+refusal_in FieldLimit n = No.FieldLimit
+refusal_in BadRegister n = No.BadRegister
+refusal_in NullRegister n = No.NullRegister
+refusal_in BadSlot n = No.BadSlot
+refusal_in WrongKind n = No.WrongKind
+refusal_in OutOfRange n = No.OutOfRange
+refusal_in TooLarge n = No.TooLarge
+refusal_in HeapFull n = No.HeapFull
+refusal_in AlreadyMarking n = No.AlreadyMarking
+refusal_in NotMarking n = No.NotMarking
+refusal_in NothingToMark n = No.NothingToMark
+refusal_in NothingToDrain n = No.NothingToDrain
+refusal_in SweepPending n = No.SweepPending n
+refusal_in NothingToSweep n = No.NothingToSweep n
+refusal_in NoPin n = No.NoPin
+refusal_in LostRewound n = No.Lost Rewound
+refusal_in LostMemory n = No.Lost Memory
+refusal_in LostClosed n = No.Lost Closed
+refusal_in NotRetained n = No.NotRetained
+refusal_in PinLimit n = No.PinLimit
+refusal_in ChronicleFull n = No.ChronicleFull
+
+-- the answer of this sort with these numbers
+unfoldable pub outcome_in : Told → Reason → ℕ → ℕ → Outcome
+outcome_in Class why n m = Answered (Answers.Class n)
+outcome_in Object why n m = Answered (Answers.Object n)
+outcome_in Null why n m = Answered Answers.Null
+outcome_in Value why n m = Answered (Answers.Value n)
+outcome_in Done why n m = Answered Answers.Done
+outcome_in Pushed why n m = Answered (Answers.Pushed n)
+outcome_in Condemned why n m = Answered (Answers.Condemned n)
+outcome_in Swept why n m = Answered (Answers.Swept n false)
+outcome_in Emptied why n m = Answered (Answers.Swept n true)
+outcome_in Place why n m = At n
+outcome_in NotDone why n m = Denied (No.NotDone n m)
+outcome_in TooFar why n m = Denied (No.TooFar n m)
+outcome_in Refused why n m = Denied (refusal_in why n)
+
+-- the deeds with a fourth number
+abbrev pub has_fourth : Deed → Bool
+has_fourth NewArray = true
+has_fourth Load = true
+has_fourth Store = true
+has_fourth Put = true
+has_fourth Move = true
+has_fourth d = false
+
+-- the answers with a second number
+abbrev pub has_second : Told → Bool
+has_second NotDone = true
+has_second TooFar = true
+has_second t = false
+
+-- the deed with this fourth number
+abbrev pub action_with : DeedPack → ℕ → Action
+action_with d fourth = action_in d.deed d.kind d.first d.second d.third fourth
+
+abbrev pub action_by : DeedPack → Action
+action_by d = action_with d d.fourth
+
+-- the answer with this second number
+abbrev pub outcome_with : AnswerPack → ℕ → Outcome
+outcome_with a second = outcome_in a.told a.reason a.first second
+
+abbrev pub outcome_by : AnswerPack → Outcome
+outcome_by a = outcome_with a a.second
+
+-- the entry that a pack tells by its numbers
+unfoldable pub entry_by : Pack → Entry
+entry_by p = entry p.seat (action_in p.deed p.kind p.first p.second p.third p.fourth) (outcome_in p.told p.reason p.told_first p.fourth)
+
+-- the pack tells this entry by its numbers
+abbrev pub Tells : Pack → Entry → Type 0
+Tells p e = (p.is_whole ≡ false) × (entry_by p ≡ e)
+
+-- the entry that a pack tells by its numbers, or by its place among whole ones
+unfoldable pub entry_in : List Entry → Pack → Entry
+entry_in whole p = if p.is_whole then slice_index_or whole p.first (entry_by p) else entry_by p

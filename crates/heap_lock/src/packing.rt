@@ -1,0 +1,281 @@
+//! The numbers of an entry.
+#![tactic(auto, unfolding(crate::specs::Packs::action_in, crate::specs::Packs::refusal_in, crate::specs::Packs::outcome_in, crate::specs::Packs::entry_by))]
+
+ghost use Rattle.std.specs.Prelude.{◌≡◌, IfSome};
+ghost use Rattle.heap_class.specs.declared.Kind.TheVariants.{Object as NoKind};
+ghost use Rattle.heap_class.specs.declared.Refusal.TheVariants.{Lost};
+ghost use Rattle.heap_step.specs.declared.Answer.TheVariants.{Swept};
+ghost use Rattle.heap_step.specs.declared.Event.TheVariants.{NewPrim};
+ghost use Rattle.heap_trail.specs.declared.Action.TheVariants.{Step};
+ghost use Rattle.heap_lock.specs.declared.entry.Outcome.TheVariants.{Answered as Said, Refused as Denied};
+ghost use Rattle.heap_lock.specs.declared.pack.Reason.TheVariants.{NoClass as AnyReason};
+ghost use Rattle.heap_lock.specs.declared.pack.Told.TheVariants.{Refused as Other};
+ghost use Rattle.heap_lock.specs.History.{entry};
+ghost use Rattle.heap_lock.specs.Packs.{action_in, action_by, action_with, outcome_by, outcome_with, Tells, has_fourth, has_second};
+
+use crate::entry::{Entry, Outcome};
+use crate::pack::{AnswerPack, Deed, DeedPack, Pack, Reason, Told};
+use heap_class::{Kind, LostCause, Refusal};
+use heap_step::{Answer, Event};
+use heap_trail::Action;
+
+// Returns a deed of these numbers without a kind.
+#[inline(always)]
+fn numbered(deed: Deed, first: u64, second: u64, third: u64, fourth: u64) -> DeedPack
+    ensures { action_by result ≡ action_in deed NoKind first second third fourth }
+{
+    DeedPack {
+        deed,
+        kind: Kind::Object,
+        first,
+        second,
+        third,
+        fourth,
+    }
+}
+
+// Returns a new array of values by its numbers.
+#[inline(always)]
+fn new_prim(m: u64, r: u64, kind: Kind, len: u64) -> DeedPack
+    ensures { action_by result ≡ Step (NewPrim m r kind len) }
+{
+    DeedPack {
+        deed: Deed::NewPrim,
+        kind,
+        first: m,
+        second: r,
+        third: len,
+        fourth: 0,
+    }
+}
+
+// Returns the numbers of an event, or None if it has lists.
+#[inline(always)]
+fn pack_event(event: &Event) -> Option<DeedPack>
+    ensures { IfSome result (λ d. action_by d ≡ Step event.now) }
+{
+    match event {
+        Event::New { m, r, class } => Some(numbered(Deed::New, *m, *r, *class, 0)),
+        Event::NewArray { m, r, class, len } => {
+            Some(numbered(Deed::NewArray, *m, *r, *class, *len))
+        }
+        Event::NewPrim { m, r, kind, len } => Some(new_prim(*m, *r, *kind, *len)),
+        Event::Load { m, to, from, slot } => Some(numbered(Deed::Load, *m, *to, *from, *slot)),
+        Event::Store {
+            m,
+            target,
+            slot,
+            source,
+        } => Some(numbered(Deed::Store, *m, *target, *slot, *source)),
+        Event::Put {
+            m,
+            target,
+            slot,
+            value,
+        } => Some(numbered(Deed::Put, *m, *target, *slot, *value)),
+        Event::Move {
+            m,
+            to,
+            from_m,
+            from,
+        } => Some(numbered(Deed::Move, *m, *to, *from_m, *from)),
+        Event::Clear { m, r } => Some(numbered(Deed::Clear, *m, *r, 0, 0)),
+        Event::Snap => Some(numbered(Deed::Snap, 0, 0, 0, 0)),
+        Event::Mark => Some(numbered(Deed::Mark, 0, 0, 0, 0)),
+        Event::Drain => Some(numbered(Deed::Drain, 0, 0, 0, 0)),
+        Event::Finish => Some(numbered(Deed::Finish, 0, 0, 0, 0)),
+        Event::Sweep { region } => Some(numbered(Deed::Sweep, *region, 0, 0, 0)),
+        Event::Class { .. } | Event::ArrayClass { .. } => None,
+    }
+}
+
+// Returns the numbers of a deed, or None if it has lists or is a dumper's.
+#[inline(always)]
+fn pack_action(action: &Action) -> Option<DeedPack>
+    ensures { IfSome result (λ d. action_by d ≡ action.now) }
+{
+    match action {
+        Action::Step(event) => pack_event(event),
+        Action::Rewind(n) => Some(numbered(Deed::Rewind, *n, 0, 0, 0)),
+        _ => None,
+    }
+}
+
+// Returns an answer of this sort.
+#[inline(always)]
+fn answered(told: Told, first: u64, second: u64) -> AnswerPack
+    ensures { result ≡ record { told = told; reason = AnyReason; first = first; second = second } }
+{
+    AnswerPack {
+        told,
+        reason: Reason::NoClass,
+        first,
+        second,
+    }
+}
+
+// Returns the numbers of what a step answers.
+#[inline(always)]
+fn pack_answer(answer: Answer) -> AnswerPack
+    ensures { outcome_by result ≡ Said answer }
+{
+    match answer {
+        Answer::Class(class) => answered(Told::Class, class, 0),
+        Answer::Object(id) => answered(Told::Object, id, 0),
+        Answer::Null => answered(Told::Null, 0, 0),
+        Answer::Value(value) => answered(Told::Value, value, 0),
+        Answer::Done => answered(Told::Done, 0, 0),
+        Answer::Pushed(count) => answered(Told::Pushed, count, 0),
+        Answer::Condemned(count) => answered(Told::Condemned, count, 0),
+        Answer::Swept { dead, emptied } => pack_swept(dead, emptied),
+    }
+}
+
+// Returns the numbers of what a sweep answers.
+fn pack_swept(dead: u64, emptied: bool) -> AnswerPack
+    ensures { outcome_by result ≡ Said (Swept dead emptied) }
+{
+    if emptied {
+        answered(Told::Emptied, dead, 0)
+    } else {
+        answered(Told::Swept, dead, 0)
+    }
+}
+
+// Returns a refusal of this sort.
+fn refused(reason: Reason, first: u64) -> AnswerPack
+    ensures { result ≡ record { told = Other; reason = reason; first = first; second = 0 } }
+{
+    AnswerPack {
+        told: Told::Refused,
+        reason,
+        first,
+        second: 0,
+    }
+}
+
+// Returns the numbers of a lost pin's refusal.
+fn pack_lost(cause: LostCause) -> AnswerPack
+    ensures { outcome_by result ≡ Denied (Lost cause) }
+{
+    match cause {
+        LostCause::Rewound => refused(Reason::LostRewound, 0),
+        LostCause::Memory => refused(Reason::LostMemory, 0),
+        LostCause::Closed => refused(Reason::LostClosed, 0),
+    }
+}
+
+// Returns the numbers of a refusal.
+fn pack_refusal(refusal: Refusal) -> AnswerPack
+    ensures { outcome_by result ≡ Denied refusal }
+{
+    match refusal {
+        Refusal::NoMemory => refused(Reason::NoMemory, 0),
+        Refusal::NoClass => refused(Reason::NoClass, 0),
+        Refusal::ClassLimit => refused(Reason::ClassLimit, 0),
+        Refusal::BadName => refused(Reason::BadName, 0),
+        Refusal::DuplicateName => refused(Reason::DuplicateName, 0),
+        Refusal::FieldLimit => refused(Reason::FieldLimit, 0),
+        Refusal::BadRegister => refused(Reason::BadRegister, 0),
+        Refusal::NullRegister => refused(Reason::NullRegister, 0),
+        Refusal::BadSlot => refused(Reason::BadSlot, 0),
+        Refusal::WrongKind => refused(Reason::WrongKind, 0),
+        Refusal::OutOfRange => refused(Reason::OutOfRange, 0),
+        Refusal::TooLarge => refused(Reason::TooLarge, 0),
+        Refusal::HeapFull => refused(Reason::HeapFull, 0),
+        Refusal::AlreadyMarking => refused(Reason::AlreadyMarking, 0),
+        Refusal::NotMarking => refused(Reason::NotMarking, 0),
+        Refusal::NothingToMark => refused(Reason::NothingToMark, 0),
+        Refusal::NothingToDrain => refused(Reason::NothingToDrain, 0),
+        Refusal::NotDone { gray, undrained } => answered(Told::NotDone, gray, undrained),
+        Refusal::SweepPending { region } => refused(Reason::SweepPending, region),
+        Refusal::NothingToSweep { region } => refused(Reason::NothingToSweep, region),
+        Refusal::TooFar { asked, retained } => answered(Told::TooFar, asked, retained),
+        Refusal::NoPin => refused(Reason::NoPin, 0),
+        Refusal::Lost { cause } => pack_lost(cause),
+        Refusal::NotRetained => refused(Reason::NotRetained, 0),
+        Refusal::PinLimit => refused(Reason::PinLimit, 0),
+        Refusal::ChronicleFull => refused(Reason::ChronicleFull, 0),
+    }
+}
+
+// Returns the numbers of an answer.
+#[inline(always)]
+fn pack_outcome(outcome: Outcome) -> AnswerPack
+    ensures { outcome_by result ≡ outcome }
+{
+    match outcome {
+        Outcome::Answered(answer) => pack_answer(answer),
+        Outcome::Place(place) => answered(Told::Place, place, 0),
+        Outcome::Refused(refusal) => pack_refusal(refusal),
+    }
+}
+
+// Returns whether the deed has a fourth number.
+#[inline(always)]
+fn has_fourth(deed: Deed) -> bool
+    ensures { result ≡ has_fourth deed }
+{
+    match deed {
+        Deed::NewArray | Deed::Load | Deed::Store | Deed::Put | Deed::Move => true,
+        _ => false,
+    }
+}
+
+// Returns whether the answer has a second number.
+#[inline(always)]
+fn has_second(told: Told) -> bool
+    ensures { result ≡ has_second told }
+{
+    match told {
+        Told::NotDone | Told::TooFar => true,
+        _ => false,
+    }
+}
+
+// Returns the pack of a deed and an answer with this number in the place that they share.
+#[inline(always)]
+fn joined(seat: u16, deed: DeedPack, answer: AnswerPack, fourth: u64) -> Pack
+    ensures { Tells result (entry seat (action_with deed fourth) (outcome_with answer fourth)) }
+{
+    Pack {
+        first: deed.first,
+        second: deed.second,
+        third: deed.third,
+        fourth,
+        told_first: answer.first,
+        seat,
+        is_whole: false,
+        deed: deed.deed,
+        kind: deed.kind,
+        told: answer.told,
+        reason: answer.reason,
+    }
+}
+
+// Returns the pack of a deed and an answer, or None if both have a number for the place that they share.
+#[inline(always)]
+fn pack_numbers(seat: u16, deed: DeedPack, answer: AnswerPack) -> Option<Pack>
+    ensures { IfSome result (λ p. Tells p (entry seat (action_by deed) (outcome_by answer))) }
+{
+    if !has_second(answer.told) {
+        return Some(joined(seat, deed, answer, deed.fourth));
+    }
+    if has_fourth(deed.deed) {
+        return None;
+    }
+    Some(joined(seat, deed, answer, answer.second))
+}
+
+/// Returns an entry by its numbers, or None if it has lists, too many numbers, or a seat above 65,535. Takes no memory.
+#[inline(always)]
+pub fn pack_of(entry: &Entry) -> Option<Pack>
+    ensures { IfSome result (λ p. Tells p entry.now) }
+{
+    let seat = entry.seat;
+    if seat > u16::MAX as u64 {
+        return None;
+    }
+    let deed = pack_action(&entry.action)?;
+    pack_numbers(seat as u16, deed, pack_outcome(entry.answer))
+}

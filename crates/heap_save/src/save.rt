@@ -40,14 +40,7 @@ fn dump_last<P: Place, G: Gauge, R: Threads + Wait + Sync>(
     let Some(outlet) = place.open() else {
         return (Pumped::OutletFailed { bytes: 0 }, None);
     };
-    let (pumped, taken) = stream_place(
-        rt,
-        alloc,
-        &mut local.machine,
-        time,
-        outlet,
-        gauge,
-    );
+    let (pumped, taken) = stream_place(rt, alloc, &mut local.machine, time, outlet, gauge);
     (pumped, Some(taken))
 }
 

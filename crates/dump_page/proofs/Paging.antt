@@ -1,116 +1,163 @@
--- Bytes that wait in a page, and are put out in the end.
-use Rattle.std.proofs.Common.{◌≡◌, ℕ, ◌+◌, ◌≤◌, List, [], ◌∷◌, ◌++◌, take, drop, length, Option, refl, ap, sym, ◌∙◌, subst, arith, append_assoc, length-append, inl, inr}
-use Rattle.std.proofs.lemmas.List.{append-nil, take-append-drop}
+-- What a stream of pages is of the parts.
+use Rattle.std.proofs.Common.{◌≡◌, ◌≢◌, ℕ, ◌+◌, ◌<◌, ◌≤◌, Bool, true, false, List, [], ◌∷◌, ◌++◌, length, Option, Some, None, if◌then◌else◌, refl, ap, sym, ◌∙◌, subst, arith, append_assoc, inl, inr}
+use Rattle.std.proofs.lemmas.List.{append-nil}
 use mathlib.Core.List.{IsPrefix}
-use Rattle.heap_class.specs.declared.LostCause.TheVariants.{Memory}
 use Rattle.hprof_text.specs.declared.Piece.{Piece}
 use Rattle.dump_pump.specs.declared.source.Ending.{Ending}
+use Rattle.dump_pump.specs.declared.source.Ending.TheVariants as End
+use Rattle.dump_pump.specs.declared.source.Next.{Next}
+use Rattle.dump_pump.specs.declared.source.Next.TheVariants as Given
 use Rattle.dump_pump.specs.declared.transfer.Pumped.{Pumped}
 use Rattle.dump_pump.specs.declared.transfer.Pumped.TheVariants.{Done, OutletFailed, Lost, Cancelled}
 use Rattle.dump_pump.specs.Outlets.{Outgoing}
-use Rattle.dump_pump.specs.Sources.{Supply}
-use Rattle.dump_pump.specs.Pumps.{Fits, IsPumped, bytes_of}
+use Rattle.dump_pump.specs.Sources.{Supply, IsNext, more}
+use Rattle.dump_pump.specs.Pumps.{joined, ends, Fits, IsPumped}
+use Rattle.dump_pump.proofs.Pumping.{more_nil, more_more, joined_push, ends_push}
 use Rattle.dump_pipe.specs.Streams.{IsStreamed}
-use Rattle.dump_page.specs.Pages.{Begins, HasFailed, EndsSo, Settles, IsSettled, paged}
+use Rattle.dump_page.specs.declared.surplus.Surplus.{Surplus}
+use Rattle.dump_page.specs.Pages.{left_of, supply_at, IsAhead, IsPaged, Says, Pages}
+use Rattle.dump_page.specs.Sources.{paged_supply, pages_in, given_with, ended_by, EndsAs, ArePages}
 
--- ---- what an outlet had put out
+-- ---- a page more
 
--- a longer text begins so too
-pub begins_on : (start a b : List ℕ) → Begins start a → IsPrefix a b → Begins start b
-begins_on [] a b h p = refl
-begins_on (x ∷ start) [] b h p = absurd cc
-begins_on (x ∷ start) (y ∷ a) b h (rest, e) =
-    let head : y ≡ x = cc in
-    let tail : take (length start) a ≡ start = cc in
-    let more : take (length start) (a ++ rest) ≡ start = begins_on start a (a ++ rest) tail (rest, refl) in
-    subst (λ l. Begins (x ∷ start) l) e (λ i. head i ∷ more i)
+pub pages_push : (entries : List (Piece × Unit {0})) (p : Piece) → pages_in (entries ++ (p, tt) ∷ []) ≡ pages_in entries ++ p ∷ []
+pages_push [] p = refl
+pages_push (e ∷ es) p = ap (λ l. e.0 ∷ l) (pages_push es p)
 
-goes_on : (start text : List ℕ) → Begins start text → text ≡ start ++ drop (length start) text
-goes_on start text h = sym (take-append-drop (length start) text) ∙ ap (λ l. l ++ drop (length start) text) h
+pub are_none : (start : Option (List Piece)) (s : Supply) → s.told ≡ start → ArePages start s [] None None
+are_none start s told = record { parts = []; same = refl; ends = refl; ahead = told ∙ more_nil start; whole = tt }
 
-cancel : (xs ys zs : List ℕ) → xs ++ ys ≡ xs ++ zs → ys ≡ zs
-cancel [] ys zs e = e
-cancel (x ∷ xs) ys zs e =
-    let rest : xs ++ ys ≡ xs ++ zs = cc in
-    cancel xs ys zs rest
+joined_append : (ps qs : List Piece) → joined (ps ++ qs) ≡ joined ps ++ joined qs
+joined_append [] qs = refl
+joined_append (p ∷ ps) qs = ap (λ l. p.bytes ++ l) (joined_append ps qs) ∙ sym (append_assoc p.bytes (joined ps) (joined qs))
 
--- ---- what waits is a part of what was drained
+ends_append : (ps qs : List Piece) → 0 < length qs → ends (ps ++ qs) ≡ ends qs
+ends_append [] qs some = refl
+ends_append (p ∷ []) [] some = absurd (omega (arith, some))
+ends_append (p ∷ []) (q ∷ qs) some = refl
+ends_append (p ∷ r ∷ ps) qs some = ends_append (r ∷ ps) qs some
 
--- what is out since, and then what waits
-drained_so : (w w1 : Outgoing) (page out : List ℕ) → w1.out ++ page ≡ (w.out ++ []) ++ out → Begins w.out w1.out → drop (length w.out) w1.out ++ page ≡ out
-drained_so w w1 page out grows begins =
-    let since : List ℕ = drop (length w.out) w1.out in
-    cancel w.out (since ++ page) out
-    (sym (append_assoc w.out since page) ∙ ap (λ l. l ++ page) (sym (goes_on w.out w1.out begins)) ∙ grows ∙ ap (λ l. l ++ out) (append-nil w.out))
+ended_whole : (s : Supply) (surplus : Option Surplus) (last : Bool) → (last ≡ true → (surplus ≡ None) × (s.ended ≡ Some End.Whole)) → EndsAs s surplus (if last then Some End.Whole else None)
+ended_whole s surplus true whole = whole refl
+ended_whole s surplus false whole = tt
 
-none_so : (w w1 : Outgoing) (page : List ℕ) → paged w1 page ≡ paged w [] → Begins w.out w1.out → drop (length w.out) w1.out ++ page ≡ []
-none_so w w1 page same begins = drained_so w w1 page [] (ap (λ (o : Outgoing). o.out) same ∙ sym (append-nil (w.out ++ []))) begins
+-- the pages with what is given next
+pub pages_more : (start : Option (List Piece)) (a b : Supply) (given : List Piece) (ended : Option Ending) (x x' : Option Surplus) (left : ℕ) (r : Next) → (h : ArePages start a given ended x) → Pages (more start h.parts) left b x' r
+    → ArePages start b (given_with given r) (ended_by r) x'
+pages_more start a b given ended x x' left (Given.Part q) h p = record {
+  parts = h.parts ++ p.parts;
+  same = joined_append h.parts p.parts ∙ (λ i. h.same i ++ sym p.says.0 i) ∙ sym (joined_push given q);
+  ends = ends_append h.parts p.parts p.says.2 ∙ sym p.says.1 ∙ sym (ends_push given q);
+  ahead = subst (λ t. IsAhead t b x') (more_more start h.parts p.parts) p.ahead;
+  whole = ended_whole b x' q.last p.says.6;
+}
+pages_more start a b given ended x x' left (Given.Lost cause) h p = record {
+  parts = h.parts;
+  same = h.same;
+  ends = h.ends;
+  ahead = subst (λ t. IsAhead t b x') (ap (λ l. more (more start h.parts) l) p.says.0 ∙ sym (more_nil (more start h.parts))) p.ahead;
+  whole = (p.says.1, p.says.2);
+}
+pages_more start a b given ended x x' left Given.Cancelled h p = record {
+  parts = h.parts;
+  same = h.same;
+  ends = h.ends;
+  ahead = subst (λ t. IsAhead t b x') (ap (λ l. more (more start h.parts) l) p.says.0 ∙ sym (more_nil (more start h.parts))) p.ahead;
+  whole = (p.says.1, p.says.2);
+}
 
-pub page_small : (a b : Supply) (w w1 : Outgoing) (page : List ℕ) (r : Pumped) → IsStreamed a b (paged w []) (paged w1 page) r → Begins w.out w1.out → length page ≤ bytes_of r
-page_small a b w w1 page r (inl p) begins =
-    omega (arith, p.counted, ap length (drained_so w w1 page p.out p.grows begins), length-append (drop (length w.out) w1.out) page)
-page_small a b w w1 page r (inr t) begins =
-    omega (arith, ap length (none_so w w1 page t.1 begins), length-append (drop (length w.out) w1.out) page)
+pub next_page : (told : Option (List Piece)) (a b : Supply) (given : List Piece) (ended : Option Ending) (x x' : Option Surplus) (r : Next) → Pages told (left_of x a.left) b x' r
+    → IsNext (paged_supply given ended x a.left) (paged_supply (given_with given r) (ended_by r) x' b.left) r
+next_page told a b given ended x x' (Given.Part q) p = (refl, p.says.3, p.says.4, p.says.5, λ last. ap (λ l. if l then Some End.Whole else None) last)
+next_page told a b given ended x x' (Given.Lost cause) p = (refl, refl)
+next_page told a b given ended x x' Given.Cancelled p = (refl, refl)
 
--- ---- what is out in the end
+-- the same, at values that are known
+pub pages_as : (start : Option (List Piece)) (a b : Supply) (given given2 : List Piece) (ended ended2 : Option Ending) (x x2 : Option Surplus) (r : Next) → given2 ≡ given_with given r → ended2 ≡ ended_by r
+    → ArePages start a given ended x → IsPaged a b x x2 r → ArePages start b given2 ended2 x2
+pages_as start a b given given2 ended ended2 x x2 r gives ends h p =
+    subst (λ (k : List Piece × Option Ending). ArePages start b k.0 k.1 x2) (λ i. (sym gives i, sym ends i))
+    (pages_more start a b given ended x x2 (left_of x a.left) r h (p (more start h.parts) h.ahead))
 
-failed_fits : (given : List Piece) (out : List ℕ) (ended : Option Ending) (f f2 : ℕ) (r : Pumped) → HasFailed r → f2 ≡ f + 1 → Fits given out ended f f2 r
-failed_fits given out ended f f2 (Done n) failed is = absurd failed
-failed_fits given out ended f f2 (OutletFailed n) failed is = is
-failed_fits given out ended f f2 (Lost cause n) failed is = absurd failed
-failed_fits given out ended f f2 (Cancelled n) failed is = absurd failed
+pub next_as : (start : Option (List Piece)) (a b : Supply) (given given2 : List Piece) (ended ended2 : Option Ending) (x x2 : Option Surplus) (r : Next) → given2 ≡ given_with given r → ended2 ≡ ended_by r
+    → ArePages start a given ended x → IsPaged a b x x2 r → IsNext (paged_supply given ended x a.left) (paged_supply given2 ended2 x2 b.left) r
+next_as start a b given given2 ended ended2 x x2 r gives ends h p =
+    subst (λ (k : List Piece × Option Ending). IsNext (paged_supply given ended x a.left) (paged_supply k.0 k.1 x2 b.left) r) (λ i. (sym gives i, sym ends i))
+    (next_page (more start h.parts) a b given ended x x2 r (p (more start h.parts) h.ahead))
 
-ends_so : (given : List Piece) (out out2 rest : List ℕ) (ended : Option Ending) (f f1 f2 : ℕ) (r r2 : Pumped) → out2 ++ rest ≡ out → f1 ≡ f → EndsSo rest f1 f2 r r2
-    → (out2 ≡ out → f2 ≡ f → Fits given out2 ended f f2 r) → Fits given out2 ended f f2 r2
-ends_so given out out2 rest ended f f1 f2 r r2 cut same (inl (none, is, kept)) fits =
-    subst (λ q. Fits given out2 ended f f2 q) (sym is) (fits (sym (append-nil out2) ∙ ap (λ l. out2 ++ l) (sym none) ∙ cut) (kept ∙ same))
-ends_so given out out2 rest ended f f1 f2 r r2 cut same (inr (failed, some, more)) fits = failed_fits given out2 ended f f2 r2 failed (more ∙ ap (λ n. n + 1) same)
+-- ---- a stream
 
-settled_fits : (given : List Piece) (out out2 rest : List ℕ) (ended : Option Ending) (f f1 f2 : ℕ) (r r2 : Pumped) → out2 ++ rest ≡ out → Fits given out ended f f1 r → Settles rest f1 f2 r r2 → Fits given out2 ended f f2 r2
-settled_fits given out out2 rest ended f f1 f2 (OutletFailed n) r2 cut fits s = failed_fits given out2 ended f f2 r2 s.0 (s.1 ∙ fits)
-settled_fits given out out2 rest ended f f1 f2 (Done n) r2 cut fits s =
-    ends_so given out out2 rest ended f f1 f2 (Done n) r2 cut fits.3 s (λ all kept. (all ∙ fits.0, fits.1, fits.2, kept))
-settled_fits given out out2 rest ended f f1 f2 (Lost cause n) r2 cut fits s =
-    ends_so given out out2 rest ended f f1 f2 (Lost cause n) r2 cut fits.2 s (λ all kept. (all ∙ fits.0, fits.1, kept))
-settled_fits given out out2 rest ended f f1 f2 (Cancelled n) r2 cut fits s =
-    ends_so given out out2 rest ended f f1 f2 (Cancelled n) r2 cut fits.2 s (λ all kept. (all ∙ fits.0, fits.1, kept))
+from_some : (a b : List Piece) → Some a ≡ Some b → a ≡ b
+from_some a b h = cc
 
-pumped_so : (a b : Supply) (w w1 w2 : Outgoing) (page : List ℕ) (r r2 : Pumped) → IsPumped a b (paged w []) (paged w1 page) r → Begins w.out w1.out → IsSettled page w1 w2 r r2 → IsPumped a b w w2 r2
-pumped_so a b w w1 w2 page r r2 p begins s =
-    let since : List ℕ = drop (length w.out) w1.out in
-    let out : List ℕ = since ++ s.put in
-    let cut : out ++ s.rest ≡ p.out = append_assoc since s.put s.rest ∙ ap (λ l. since ++ l) (sym s.cut) ∙ drained_so w w1 page p.out p.grows begins in
+-- what is said of pages is said of their parts
+fits_parts : (given parts : List Piece) (out : List ℕ) (e e2 : Option Ending) (f f2 : ℕ) (r : Pumped) → joined parts ≡ joined given → ends parts ≡ ends given → ((x : Ending) → e ≡ Some x → e2 ≡ Some x)
+    → Fits given out e f f2 r → Fits parts out e2 f f2 r
+fits_parts given parts out e e2 f f2 (Done n) same last so h = (h.0 ∙ sym same, last ∙ h.1, so End.Whole h.2, h.3)
+fits_parts given parts out e e2 f f2 (OutletFailed n) same last so h = h
+fits_parts given parts out e e2 f f2 (Lost cause n) same last so h = (h.0 ∙ sym same, so (End.Lost cause) h.1, h.2)
+fits_parts given parts out e e2 f f2 (Cancelled n) same last so h = (h.0 ∙ sym same, so End.Cancelled h.1, h.2)
+
+-- a stream that didn't end can only have failed
+fits_failed : (given parts : List Piece) (out : List ℕ) (e e2 : Option Ending) (f f2 : ℕ) (r : Pumped) → ((x : Ending) → e ≡ Some x → ⊥) → Fits given out e f f2 r → Fits parts out e2 f f2 r
+fits_failed given parts out e e2 f f2 (Done n) never h = absurd (never End.Whole h.2)
+fits_failed given parts out e e2 f f2 (OutletFailed n) never h = h
+fits_failed given parts out e e2 f f2 (Lost cause n) never h = absurd (never (End.Lost cause) h.1)
+fits_failed given parts out e e2 f f2 (Cancelled n) never h = absurd (never End.Cancelled h.1)
+
+ends_as : (s : Supply) (x : Option Surplus) (e : Option Ending) (y : Ending) → EndsAs s x e → e ≡ Some y → (x ≡ None) × (s.ended ≡ Some y)
+ends_as s x e y h is = subst (λ k. EndsAs s x k) is h
+
+begins_with : (out given : List ℕ) (rest : List ℕ) → IsPrefix out given → IsPrefix out (given ++ rest)
+begins_with out given rest (tail, e) = (tail ++ rest, sym (append_assoc out tail rest) ∙ ap (λ l. l ++ rest) e)
+
+none_left : (start : Option (List Piece)) (a b : Supply) (given : List Piece) (ended : Option Ending) (w w' : Outgoing) (r : Pumped) → a.told ≡ start → ArePages start b given ended None
+    → IsPumped (paged_supply [] None None a.left) (paged_supply given ended None b.left) w w' r → IsPumped a b w w' r
+none_left start a b given ended w w' r told h p =
+    let is : given ≡ p.given = from_some given p.given p.told in
+    let same : joined h.parts ≡ joined p.given = h.same ∙ ap joined is in
     record {
-      given = p.given;
-      out = out;
-      told = p.told;
-      grows = s.grows ∙ ap (λ l. l ++ s.put) (goes_on w.out w1.out begins) ∙ append_assoc w.out since s.put;
-      begins = (s.rest ++ p.begins.0, sym (append_assoc out s.rest p.begins.0) ∙ ap (λ l. l ++ p.begins.0) cut ∙ p.begins.1);
-      counted = omega (arith, s.counted, p.counted, ap length cut, length-append out s.rest);
-      fits = settled_fits p.given p.out out s.rest b.ended w.failures w1.failures w2.failures r r2 cut p.fits s.settles;
+      given = h.parts;
+      out = p.out;
+      told = h.ahead ∙ ap (λ t. more t h.parts) (sym told);
+      grows = p.grows;
+      begins = subst (λ l. IsPrefix p.out l) (sym same) p.begins;
+      counted = p.counted;
+      fits = fits_parts p.given h.parts p.out ended b.ended w.failures w'.failures r same (h.ends ∙ ap ends is) (λ y e. (ends_as b None ended y h.whole e).1) p.fits;
     }
 
-nothing : (xs ys : List ℕ) → xs ++ ys ≡ [] → (xs ≡ []) × (ys ≡ [])
-nothing [] ys e = (refl, e)
-nothing (x ∷ xs) ys e = absurd cc
+-- the parts of what a source gave
+given_next : (told : Option (List Piece)) (left : ℕ) (b : Supply) (r : Next) → IsNext (supply_at told left) b r → (extra : List Piece) × (b.told ≡ more told extra)
+given_next told left b (Given.Part q) n = (q ∷ [], n.0)
+given_next told left b (Given.Lost cause) n = ([], n.0 ∙ more_nil told)
+given_next told left b Given.Cancelled n = ([], n.0 ∙ more_nil told)
 
-lost_so : (w w1 w2 : Outgoing) (page : List ℕ) (r2 : Pumped) → paged w1 page ≡ paged w [] → Begins w.out w1.out → IsSettled page w1 w2 (Lost Memory 0) r2 → (r2 ≡ Lost Memory 0) × (w2 ≡ w)
-lost_so w w1 w2 page r2 same begins s =
-    let none = nothing (drop (length w.out) w1.out) page (none_so w w1 page same begins) in
-    let waits = nothing s.put s.rest (sym s.cut ∙ none.1) in
-    let out : w2.out ≡ w.out = s.grows ∙ ap (λ l. w1.out ++ l) waits.0 ∙ append-nil w1.out ∙ goes_on w.out w1.out begins ∙ ap (λ l. w.out ++ l) none.0 ∙ append-nil w.out in
-    go s.settles waits.1 out
+some_left : (start : Option (List Piece)) (a b : Supply) (given : List Piece) (ended : Option Ending) (x : Surplus) (w w' : Outgoing) (r : Pumped) → a.told ≡ start → ArePages start b given ended (Some x)
+    → IsPumped (paged_supply [] None None a.left) (paged_supply given ended (Some x) b.left) w w' r → IsPumped a b w w' r
+some_left start a b given ended x w w' r told h p =
+    let is : given ≡ p.given = from_some given p.given p.told in
+    let all = given_next (more start h.parts) x.left b x.next h.ahead.0 in
+    let same : joined (h.parts ++ all.0) ≡ joined p.given ++ joined all.0 = joined_append h.parts all.0 ∙ ap (λ l. l ++ joined all.0) (h.same ∙ ap joined is) in
+    record {
+      given = h.parts ++ all.0;
+      out = p.out;
+      told = all.1 ∙ more_more start h.parts all.0 ∙ ap (λ t. more t (h.parts ++ all.0)) (sym told);
+      grows = p.grows;
+      begins = subst (λ l. IsPrefix p.out l) (sym same) (begins_with p.out (joined p.given) (joined all.0) p.begins);
+      counted = p.counted;
+      fits = fits_failed p.given (h.parts ++ all.0) p.out ended b.ended w.failures w'.failures r (λ y e. never (ends_as b (Some x) ended y h.whole e).0) p.fits;
+    }
   where
-    go : EndsSo s.rest w1.failures w2.failures (Lost Memory 0) r2 → s.rest ≡ [] → w2.out ≡ w.out → (r2 ≡ Lost Memory 0) × (w2 ≡ w)
-    go (inl (none, is, kept)) empty out =
-        let failures : w2.failures ≡ w.failures = kept ∙ ap (λ (o : Outgoing). o.failures) same in
-        (is, λ i. record { out = out i; failures = failures i })
-    go (inr (failed, some, more)) empty out = absurd (omega (arith, some, ap length empty))
+    never : Some x ≡ None → ⊥
+    never e = absurd cc
 
-pub settled : (a b : Supply) (w w1 w2 : Outgoing) (page : List ℕ) (r r2 : Pumped) → IsStreamed a b (paged w []) (paged w1 page) r → Begins w.out w1.out → IsSettled page w1 w2 r r2 → IsStreamed a b w w2 r2
-settled a b w w1 w2 page r r2 (inl p) begins s = inl (pumped_so a b w w1 w2 page r r2 p begins s)
-settled a b w w1 w2 page r r2 (inr t) begins s = inr (lost_so w w1 w2 page r2 t.1 begins (subst (λ q. IsSettled page w1 w2 q r2) t.0 s))
+pumped_by : (start : Option (List Piece)) (a b : Supply) (given : List Piece) (ended : Option Ending) (x : Option Surplus) (w w' : Outgoing) (r : Pumped) → a.told ≡ start → ArePages start b given ended x
+    → IsPumped (paged_supply [] None None a.left) (paged_supply given ended x b.left) w w' r → IsPumped a b w w' r
+pumped_by start a b given ended None w w' r told h p = none_left start a b given ended w w' r told h p
+pumped_by start a b given ended (Some x) w w' r told h p = some_left start a b given ended x w w' r told h p
 
--- the page was empty at first
-pub from_empty : (a b : Supply) (w w1 : Outgoing) (page page1 : List ℕ) (r : Pumped) → page ≡ [] → IsStreamed a b (paged w page) (paged w1 page1) r → IsStreamed a b (paged w []) (paged w1 page1) r
-from_empty a b w w1 page page1 r none s = subst (λ l. IsStreamed a b (paged w l) (paged w1 page1) r) none s
+-- a stream of pages is one of their parts
+pub streamed_by : (start : Option (List Piece)) (a b : Supply) (given : List Piece) (ended : Option Ending) (x : Option Surplus) (w w' : Outgoing) (r : Pumped) → a.told ≡ start → ArePages start b given ended x
+    → IsStreamed (paged_supply [] None None a.left) (paged_supply given ended x b.left) w w' r → IsStreamed a b w w' r
+streamed_by start a b given ended x w w' r told h (inl p) = inl (pumped_by start a b given ended x w w' r told h p)
+streamed_by start a b given ended x w w' r told h (inr t) = inr t

@@ -1,52 +1,88 @@
--- What is put out by way of a page.
-use Rattle.std.specs.Prelude.{◌≡◌, ◌⊎◌, ℕ, ◌+◌, ◌<◌, Bool, true, false, List, [], ◌++◌, take, length}
-use Rattle.dump_pump.specs.declared.transfer.Pumped.{Pumped}
-use Rattle.dump_pump.specs.declared.transfer.Pumped.TheVariants.{Done, OutletFailed, Lost, Cancelled}
-use Rattle.dump_pump.specs.Outlets.{Outgoing}
-use Rattle.dump_pump.specs.Pumps.{bytes_of}
+-- Pages of the parts of a source.
+use Rattle.std.specs.Prelude.{◌≡◌, ℕ, ◌<◌, ◌≤◌, Bool, true, false, List, [], ◌∷◌, ◌++◌, length, Option, Some, None, if◌then◌else◌}
+use Rattle.hprof_text.specs.declared.Piece.{Piece}
+use Rattle.dump_pump.specs.declared.source.Ending.{Ending}
+use Rattle.dump_pump.specs.declared.source.Ending.TheVariants as End
+use Rattle.dump_pump.specs.declared.source.Next.{Next}
+use Rattle.dump_pump.specs.declared.source.Next.TheVariants.{Part, Lost, Cancelled}
+use Rattle.dump_pump.specs.Pumps.{joined, ends}
+use Rattle.dump_pump.specs.Sources.{Supply, IsNext, more, part_limit, part_size_limit}
+use Rattle.dump_page.specs.declared.surplus.Surplus.{Surplus}
 
--- what an outlet put out, and then what waits in the page before it
-abbrev pub paged : Outgoing → List ℕ → Outgoing
-paged w page = record { out = w.out ++ page; failures = w.failures }
+-- the most bytes of a page that has several parts
+abbrev pub page_room : ℕ
+page_room = 65536
 
--- a text begins so
-abbrev pub Begins : List ℕ → List ℕ → Type 0
-Begins start text = take (length start) text ≡ start
+-- ---- what a source gave that is in no page yet
 
--- nothing waits, or a put failed
-abbrev pub Leaves : List ℕ → ℕ → ℕ → Bool → Type 0
-Leaves rest failures failures' true = (rest ≡ []) × (failures' ≡ failures)
-Leaves rest failures failures' false = (0 < length rest) × (failures' ≡ failures + 1)
+-- how many parts are left at most
+abbrev pub left_of : Option Surplus → ℕ → ℕ
+left_of None left = left
+left_of (Some x) left = x.left
 
--- of a page `put` is out, and the rest waits
-pub record IsFlushed (page page' : List ℕ) (w w' : Outgoing) (ok : Bool) : Type 0 where
-  pub put : List ℕ
-  pub cut : page ≡ put ++ page'
-  pub grows : w'.out ≡ w.out ++ put
-  pub leaves : Leaves page' w.failures w'.failures ok
+-- a source that told these parts and has so many left
+abbrev pub supply_at : Option (List Piece) → ℕ → Supply
+supply_at told left = record { told = told; ended = None; left = left }
 
-abbrev pub HasFailed : Pumped → Type 0
-HasFailed (Done n) = ⊥
-HasFailed (OutletFailed n) = Unit {0}
-HasFailed (Lost cause n) = ⊥
-HasFailed (Cancelled n) = ⊥
+-- the source told these parts, and then the surplus
+abbrev pub IsAhead : Option (List Piece) → Supply → Option Surplus → Type 0
+IsAhead told s None = s.told ≡ told
+IsAhead told s (Some x) = IsNext (supply_at told x.left) s x.next × (x.left ≤ part_limit)
 
--- all that waited is out, or a put failed
-abbrev pub EndsSo : List ℕ → ℕ → ℕ → Pumped → Pumped → Type 0
-EndsSo rest failures failures' r r' = ((rest ≡ []) × (r' ≡ r) × (failures' ≡ failures)) ⊎ (HasFailed r' × (0 < length rest) × (failures' ≡ failures + 1))
+-- there are parts left
+abbrev pub IsReady : Supply → Option Surplus → Type 0
+IsReady s surplus = (told : Option (List Piece)) × IsAhead told s surplus × (0 < left_of surplus s.left)
 
--- no more is put out once a put failed
-abbrev pub Settles : List ℕ → ℕ → ℕ → Pumped → Pumped → Type 0
-Settles rest failures failures' (OutletFailed n) r' = HasFailed r' × (failures' ≡ failures)
-Settles rest failures failures' (Done n) r' = EndsSo rest failures failures' (Done n) r'
-Settles rest failures failures' (Lost cause n) r' = EndsSo rest failures failures' (Lost cause n) r'
-Settles rest failures failures' (Cancelled n) r' = EndsSo rest failures failures' (Cancelled n) r'
+-- the surplus was taken, or else what the source gave next
+abbrev pub IsDrawn : Supply → Supply → Option Surplus → Next → Type 0
+IsDrawn a b surplus r = (told : Option (List Piece)) → IsAhead told a surplus → IsNext (supply_at told (left_of surplus a.left)) b r
 
--- of what waited `put` is out, and the answer counts the rest no more
-pub record IsSettled (page : List ℕ) (w w' : Outgoing) (r r' : Pumped) : Type 0 where
-  pub put : List ℕ
-  pub rest : List ℕ
-  pub cut : page ≡ put ++ rest
-  pub grows : w'.out ≡ w.out ++ put
-  pub counted : bytes_of r' + length rest ≡ bytes_of r
-  pub settles : Settles rest w.failures w'.failures r r'
+-- ---- a page
+
+-- what is left after a page
+pub record IsLeft (told : Option (List Piece)) (most : ℕ) (b : Supply) (surplus : Option Surplus) (last : Bool) : Type 0 where
+  pub ahead : IsAhead told b surplus
+  pub less : left_of surplus b.left ≤ most
+  pub some : last ≡ false → 0 < left_of surplus b.left
+  pub whole : last ≡ true → (surplus ≡ None) × (b.ended ≡ Some End.Whole)
+
+-- a part was appended to a page, or nothing
+abbrev pub IsAppended : List ℕ → List ℕ → Next → Option Bool → Type 0
+IsAppended page page' next None = page' ≡ page
+IsAppended page page' (Part p) (Some last) = (page' ≡ page ++ p.bytes) × (length page' ≤ page_room) × (last ≡ p.last)
+IsAppended page page' (Lost cause) (Some last) = ⊥
+IsAppended page page' Cancelled (Some last) = ⊥
+
+-- parts of a source were appended to a page
+pub record IsFilled (a b : Supply) (page page' : List ℕ) (surplus : Option Surplus) (last : Bool) : Type 0 where
+  pub parts : List Piece
+  pub bytes : page' ≡ page ++ joined parts
+  pub room : length page' ≤ page_room
+  pub ends : ends parts ≡ last
+  pub rest : IsLeft (more a.told parts) a.left b surplus last
+
+-- a page of a part and of others that the source gave after it
+pub record IsPage (a b : Supply) (first page : Piece) (surplus : Option Surplus) : Type 0 where
+  pub parts : List Piece
+  pub bytes : page.bytes ≡ joined (first ∷ parts)
+  pub last : page.last ≡ ends (first ∷ parts)
+  pub small : length page.bytes ≤ part_size_limit
+  pub rest : IsLeft (more a.told parts) a.left b surplus page.last
+
+-- what the next page says of its parts, or why there is none
+abbrev pub Says : List Piece → ℕ → Supply → Option Surplus → Next → Type 0
+Says parts left b surplus (Part page) =
+    (page.bytes ≡ joined parts) × (page.last ≡ ends parts) × (0 < length parts) × (length page.bytes ≤ part_size_limit)
+    × (left_of surplus b.left < left) × (page.last ≡ false → 0 < left_of surplus b.left)
+    × (page.last ≡ true → (surplus ≡ None) × (b.ended ≡ Some End.Whole))
+Says parts left b surplus (Lost cause) = (parts ≡ []) × (surplus ≡ None) × (b.ended ≡ Some (End.Lost cause))
+Says parts left b surplus Cancelled = (parts ≡ []) × (surplus ≡ None) × (b.ended ≡ Some End.Cancelled)
+
+-- the next page of a source that told these parts and has so many left
+pub record Pages (told : Option (List Piece)) (left : ℕ) (b : Supply) (surplus : Option Surplus) (r : Next) : Type 0 where
+  pub parts : List Piece
+  pub ahead : IsAhead (more told parts) b surplus
+  pub says : Says parts left b surplus r
+
+abbrev pub IsPaged : Supply → Supply → Option Surplus → Option Surplus → Next → Type 0
+IsPaged a b surplus surplus' r = (told : Option (List Piece)) → IsAhead told a surplus → Pages told (left_of surplus a.left) b surplus' r

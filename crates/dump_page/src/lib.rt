@@ -1,7 +1,10 @@
-//! Dumps through a pipe, put out by way of a page.
+//! Dumps through a pipe, by pages: the bytes of several parts go as one message.
 #![tactic(auto)]
 
 pub mod page;
+pub mod source;
 pub mod streams;
+pub mod surplus;
 
+pub use page::PAGE_ROOM;
 pub use streams::stream_paged;

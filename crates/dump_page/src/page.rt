@@ -1,102 +1,133 @@
-//! Pages that stand before an outlet, so that it is asked seldom.
-ghost use Rattle.std.specs.Prelude.{◌≡◌, ◌<◌, ◌≤◌, ◌++◌, length, if◌then◌else◌};
-ghost use mathlib.Core.List.{IsPrefix};
-ghost use Rattle.dump_pump.specs.Outlets.{IsPut};
-ghost use Rattle.dump_pump.specs.Pumps.{bytes_of};
-ghost use Rattle.dump_page.specs.Pages.{Begins, IsFlushed, IsSettled, paged};
+//! Pages: the bytes of several parts of a dump, joined.
+ghost use Rattle.std.specs.Prelude.{◌≡◌, ◌<◌, ◌≤◌, length, false, true, None, Some, IfSome, if◌then◌else◌, ◌++◌};
+ghost use Rattle.dump_pump.specs.declared.source.Ending.TheVariants.{Whole};
+ghost use Rattle.dump_pump.specs.Sources.{part_size_limit};
+ghost use Rattle.dump_page.specs.Pages.{page_room, IsAppended, IsDrawn, IsFilled, IsPage, IsPaged, IsReady};
 
-use dump_pump::transfer::put_all;
-use dump_pump::{Outlet, Pumped, Put};
-use std::marker::{Brand, PhantomData};
+use crate::surplus::Surplus;
+use dump_pump::{Next, Source};
+use hprof_text::{Bytes, Piece};
+use std::alloc::Global;
 
-/// What an outlet had put out when a page was laid before it. Each call of a stream picks it.
-pub trait Start {
-    ghost use Rattle.std.specs.Prelude.{List, ℕ};
+/// The most bytes of a page that has several parts.
+pub const PAGE_ROOM: usize = 65_536;
 
-    ghost out: { List ℕ };
-}
-
-impl Start for Brand {
-    ghost use Rattle.std.specs.Prelude.{[]};
-
-    ghost out = { [] };
-}
-
-/// An outlet with a page before it: bytes wait in the page until it has no room for more. Contracts see what the outlet put out,
-/// and then what waits. What waits is not out: `settle` puts it out.
-pub(crate) struct Paged<O: Outlet, B: Start> {
-    pub(crate) page: Vec<u8>,
-    pub(crate) outlet: O,
-    pub(crate) of: PhantomData<B>,
-    pub(crate) ghost grown: { Begins B.out (O.seen outlet).out },
-}
-
-/// Adds bytes to a page if it has room for them.
+/// Appends bytes to a page if it has room for them.
 fn add(page: &mut Vec<u8>, bytes: &[u8]) -> bool
-    ensures { page.new.items ≡ (if result then page.old.items ++ bytes.now else page.old.items) }
+    requires { length page.old.items ≤ page_room }
+    ensures added { page.new.items ≡ (if result then page.old.items ++ bytes.now else page.old.items) }
+    ensures room { length page.new.items ≤ page_room }
 {
-    let room = page.capacity().saturating_sub(page.len());
-    bytes.len() <= room && page.extend_from_slice(bytes).is_ok()
+    bytes.len() <= PAGE_ROOM - page.len() && page.extend_from_slice(bytes).is_ok()
 }
 
-/// Puts out a page, unless a put fails. What is not out stays in it.
-fn flush<O: Outlet>(page: &mut Vec<u8>, outlet: &mut O) -> bool
-    ensures { IsFlushed page.old.items page.new.items (O.seen outlet.old) (O.seen outlet.new) result }
+/// Creates a page that begins with these bytes. Returns None if it has no room for them, or if there is no memory for it.
+fn page_of(alloc: Global, bytes: &[u8]) -> Option<Vec<u8>>
+    ensures bytes { IfSome result (λ page. page.items ≡ bytes.now) }
+    ensures room { IfSome result (λ page. length page.items ≤ page_room) }
 {
-    let size = page.len();
-    let put = put_all(outlet, page.as_slice());
-    page.rotate_left(put);
-    page.truncate(size - put);
-    put == size
-}
-
-/// Adds bytes to a page. If it has no room for them, it is put out first; bytes that an empty page has no room for are put out.
-fn put_by<O: Outlet>(page: &mut Vec<u8>, outlet: &mut O, given: &[u8]) -> Put
-    requires { 0 < length given.now }
-    ensures put { IsPut given.now (paged (O.seen outlet.old) page.old.items) (paged (O.seen outlet.new) page.new.items) result }
-    ensures grown { IsPrefix (O.seen outlet.old).out (O.seen outlet.new).out }
-{
-    if add(page, given) {
-        return Put::Took(given.len());
-    }
-    if !flush(page, outlet) {
-        return Put::Failed;
-    }
-    if add(page, given) {
-        return Put::Took(given.len());
-    }
-    outlet.put(given)
-}
-
-impl<O: Outlet, B: Start> Outlet for Paged<O, B> {
-    ghost use Rattle.dump_page.specs.Pages.{paged};
-
-    ghost seen = { λ p. paged (O.seen p.outlet) p.page.items };
-
-    fn put(&mut self, given: &[u8]) -> Put {
-        put_by(&mut self.page, &mut self.outlet, given)
-    }
-}
-
-/// Puts out what a drain that ended so left in a page, unless a put failed before or fails now. Returns how the drain ended, with
-/// as many bytes as are out.
-pub(crate) fn settle<O: Outlet>(page: &mut Vec<u8>, outlet: &mut O, drained: Pumped) -> Pumped
-    requires { length page.old.items ≤ bytes_of drained }
-    ensures { IsSettled page.old.items (O.seen outlet.old) (O.seen outlet.new) drained result }
-{
-    let bytes = match drained {
-        Pumped::OutletFailed { bytes } => {
-            return Pumped::OutletFailed {
-                bytes: bytes - page.len() as u64,
-            };
-        }
-        Pumped::Done { bytes } | Pumped::Cancelled { bytes } => bytes,
-        Pumped::Lost { cause: _, bytes } => bytes,
+    let Ok(mut page) = Vec::with_capacity(alloc, PAGE_ROOM) else {
+        return None;
     };
-    if flush(page, outlet) {
-        return drained;
+    if add(&mut page, bytes) {
+        Some(page)
+    } else {
+        None
     }
-    Pumped::OutletFailed {
-        bytes: bytes - page.len() as u64,
+}
+
+/// Appends a part to a page if it has room for it. Returns whether it is the last part, or None if nothing was appended.
+fn append(page: &mut Vec<u8>, next: &Next) -> Option<bool>
+    requires { length page.old.items ≤ page_room }
+    ensures { IsAppended page.old.items page.new.items next.now result }
+{
+    let Next::Part(piece) = next else {
+        return None;
+    };
+    if add(page, piece.bytes.as_slice()) {
+        Some(piece.last)
+    } else {
+        None
+    }
+}
+
+/// Appends the parts of a source to a page, until it has no room for the next one, the last part is in it, or the source ends.
+/// What the source gave and is not in the page is the surplus. Returns whether the last part is in the page.
+fn fill<S: Source>(source: &mut S, page: &mut Vec<u8>, surplus: &mut Option<Surplus>) -> bool
+    requires left { 0 < (S.seen source.old).left }
+    requires room { length page.old.items ≤ page_room }
+    requires empty { surplus.old ≡ None }
+    ensures filled { IsFilled (S.seen source.old) (S.seen source.new) page.old.items page.new.items surplus.new result }
+    ensures kept { S.kept source.new ≡ S.kept source.old }
+{
+    loop {
+        let left = source.left();
+        let next = source.next();
+        match append(page, &next) {
+            Some(true) => return true,
+            Some(false) => {}
+            None => {
+                *surplus = Some(Surplus { next, left });
+                return false;
+            }
+        }
+    }
+}
+
+/// Takes the surplus, or else what the source gives next.
+fn draw<S: Source>(source: &mut S, surplus: &mut Option<Surplus>) -> Next
+    requires { IsReady (S.seen source.old) surplus.old }
+    ensures drawn { IsDrawn (S.seen source.old) (S.seen source.new) surplus.old result }
+    ensures empty { surplus.new ≡ None }
+    ensures kept { S.kept source.new ≡ S.kept source.old }
+{
+    match surplus.take() {
+        Some(Surplus { next, left: _ }) => next,
+        None => source.next(),
+    }
+}
+
+/// Gives the page that begins with a part, or the part alone if it is the last, or if no page has room for it, or if there is no
+/// memory for one.
+fn page_from<S: Source>(
+    alloc: Global,
+    source: &mut S,
+    surplus: &mut Option<Surplus>,
+    first: Piece,
+) -> Piece
+    requires small { length first.bytes ≤ part_size_limit }
+    requires left { first.last ≡ false → 0 < (S.seen source.old).left }
+    requires whole { first.last ≡ true → (S.seen source.old).ended ≡ Some Whole }
+    requires empty { surplus.old ≡ None }
+    ensures page { IsPage (S.seen source.old) (S.seen source.new) first result surplus.new }
+    ensures kept { S.kept source.new ≡ S.kept source.old }
+{
+    if first.last {
+        return first;
+    }
+    let Some(mut page) = page_of(alloc, first.bytes.as_slice()) else {
+        return first;
+    };
+    let last = fill(source, &mut page, surplus);
+    Piece {
+        bytes: Bytes::from_vec(page),
+        last,
+    }
+}
+
+/// Gives the next page of a source's parts, or says why there is none.
+pub(crate) fn next_page<S: Source>(
+    alloc: Global,
+    source: &mut S,
+    surplus: &mut Option<Surplus>,
+) -> Next
+    requires { IsReady (S.seen source.old) surplus.old }
+    ensures page { IsPaged (S.seen source.old) (S.seen source.new) surplus.old surplus.new result }
+    ensures kept { S.kept source.new ≡ S.kept source.old }
+{
+    match draw(source, surplus) {
+        Next::Part(first) => Next::Part(page_from(alloc, source, surplus, first)),
+        Next::Lost(cause) => Next::Lost(cause),
+        Next::Cancelled => Next::Cancelled,
     }
 }

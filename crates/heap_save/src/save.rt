@@ -1,5 +1,5 @@
 //! Sessions that are saved.
-ghost use Rattle.std.specs.Prelude.{◌≡◌, [], None, option_map};
+ghost use Rattle.std.specs.Prelude.{◌≡◌, None, option_map};
 ghost use Rattle.session_text.specs.Local.{own_closed};
 ghost use Rattle.heap_save.specs.Saves.{IsEnded, IsSaved, Lands};
 
@@ -12,9 +12,6 @@ use std::alloc::Global;
 use std::sync::Wait;
 use std::thread::Threads;
 
-/// The bytes of a dump that wait until an outlet is asked, if there is memory for them.
-const PAGE_ROOM: usize = 65536;
-
 /// How a session and the dump after it ended.
 #[derive(Drop)]
 pub struct Saved<O> {
@@ -24,16 +21,6 @@ pub struct Saved<O> {
     pub pumped: Option<Pumped>,
     /// The outlet, or None if none was made.
     pub outlet: Option<O>,
-}
-
-/// Creates an empty page, without room if there is no memory.
-fn page(alloc: Global) -> Vec<u8>
-    ensures { result.items ≡ [] }
-{
-    match Vec::with_capacity(alloc, PAGE_ROOM) {
-        Ok(page) => page,
-        Err(_) => Vec::new(alloc),
-    }
 }
 
 /// Closes the pins that were opened through these commands, has the outlet made, and dumps the current state into it.
@@ -53,15 +40,7 @@ fn dump_last<P: Place, G: Gauge, R: Threads + Wait + Sync>(
     let Some(outlet) = place.open() else {
         return (Pumped::OutletFailed { bytes: 0 }, None);
     };
-    let (pumped, taken) = stream_place(
-        rt,
-        alloc,
-        &mut local.machine,
-        time,
-        page(alloc),
-        outlet,
-        gauge,
-    );
+    let (pumped, taken) = stream_place(rt, alloc, &mut local.machine, time, outlet, gauge);
     (pumped, Some(taken))
 }
 
@@ -70,8 +49,8 @@ fn dump_last<P: Place, G: Gauge, R: Threads + Wait + Sync>(
 /// `saved`, `failed` or `lost` with its cause, and how many bytes the outlet took. A dump is failed at 0 bytes if no outlet
 /// could be made. Otherwise no outlet is made, and no last line is written. `time`, in milliseconds, stands in the header of
 /// each dump. A thread of its own makes the pieces of the dump, and the caller's puts them out, which a gauge sees; without a
-/// thread, a pipe or a meter the dump is lost by Memory, at 0 bytes. The bytes of the dump wait for the outlet in a page of 65,536
-/// bytes; if there is no memory for it, they don't. May wait.
+/// thread, a pipe or a meter the dump is lost by Memory, at 0 bytes. The outlet is asked once for each page of at most 65,536 bytes;
+/// if there is no memory for pages, once for each piece. May wait.
 pub fn save_into<I: Inlet, O: Outlet, P: Place, G: Gauge, R: Threads + Wait + Sync>(
     rt: &R,
     alloc: Global,

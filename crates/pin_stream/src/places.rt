@@ -1,5 +1,5 @@
 //! Dumps of the current state through a pipe.
-ghost use Rattle.std.specs.Prelude.{◌≡◌, [], All, length};
+ghost use Rattle.std.specs.Prelude.{◌≡◌, All, length};
 ghost use Rattle.dump_meter.specs.Seats.{sum, seen};
 ghost use Rattle.heap_trail.specs.Pins.{pin_at};
 ghost use Rattle.heap_dump.specs.Handed.{given_of, ungiven};
@@ -24,7 +24,6 @@ fn stream_seen<'a, O: Outlet, G: Gauge, R: Threads + Wait + Sync>(
     machine: &mut Machine,
     pin: u64,
     time: u64,
-    page: Vec<u8>,
     outlet: O,
     gauge: &'a mut G,
     meter: &'a Meter,
@@ -32,26 +31,25 @@ fn stream_seen<'a, O: Outlet, G: Gauge, R: Threads + Wait + Sync>(
     seat: ReadSeat,
 ) -> (Pumped, O)
     requires fresh { given_of (pin_at pin machine.old.pins) ≡ 0 }
-    requires empty { page.items ≡ [] }
     requires out { out.old ≡ sum meter.now 0 }
     requires seat { seat.meter ≡ meter.now }
     ensures put { StreamsPin pin time machine.old (O.seen outlet) (O.seen result.1) result.0 }
     ensures same { ungiven pin machine.new ≡ ungiven pin machine.old }
 {
     let progress = meter.progress();
-    let shown = Shown {
+    let mut shown = Shown {
         outlet,
         gauge,
         progress: meter.progress(),
         seat,
     };
-    let (pumped, after) = stream_pin(rt, alloc, machine, pin, time, page, shown, &progress, out);
+    let pumped = stream_pin(rt, alloc, machine, pin, time, &mut shown, &progress, out);
     let Shown {
         outlet: taken,
         gauge: _gauge,
         progress: _,
         seat: _,
-    } = after;
+    } = shown;
     (pumped, taken)
 }
 
@@ -62,13 +60,11 @@ fn stream_metered<O: Outlet, G: Gauge, R: Threads + Wait + Sync>(
     machine: &mut Machine,
     pin: u64,
     time: u64,
-    page: Vec<u8>,
     outlet: O,
     gauge: &mut G,
     made: NewMeter,
 ) -> (Pumped, O)
     requires fresh { given_of (pin_at pin machine.old.pins) ≡ 0 }
-    requires empty { page.items ≡ [] }
     requires out { made.out ≡ sum made.meter 0 }
     requires reader_count { length made.readers.items ≡ 1 }
     requires readers { All (λ s. s ≡ seen made.meter 0) made.readers.items }
@@ -86,7 +82,7 @@ fn stream_metered<O: Outlet, G: Gauge, R: Threads + Wait + Sync>(
         unreachable!()
     };
     stream_seen(
-        rt, alloc, machine, pin, time, page, outlet, gauge, &meter, &mut out, seat,
+        rt, alloc, machine, pin, time, outlet, gauge, &meter, &mut out, seat,
     )
 }
 
@@ -97,12 +93,10 @@ fn stream_shown<O: Outlet, G: Gauge, R: Threads + Wait + Sync>(
     machine: &mut Machine,
     pin: u64,
     time: u64,
-    page: Vec<u8>,
     outlet: O,
     gauge: &mut G,
 ) -> (Pumped, O)
     requires fresh { given_of (pin_at pin machine.old.pins) ≡ 0 }
-    requires empty { page.items ≡ [] }
     ensures put { StreamsPin pin time machine.old (O.seen outlet) (O.seen result.1) result.0 }
     ensures same { ungiven pin machine.new ≡ ungiven pin machine.old }
 {
@@ -114,32 +108,30 @@ fn stream_shown<O: Outlet, G: Gauge, R: Threads + Wait + Sync>(
         return (lost, outlet);
     };
     gauge.begin(&*machine);
-    let streamed = stream_metered(rt, alloc, machine, pin, time, page, outlet, gauge, made);
+    let streamed = stream_metered(rt, alloc, machine, pin, time, outlet, gauge, made);
     gauge.end();
     streamed
 }
 
-/// Puts out the dump of the current state as `dump_place` does: opens a pin on it, streams its pieces by way of an empty page,
-/// and closes it. If the pin is refused, nothing is put out: the dump is lost for want of memory if that is why, and else because
-/// the pin is closed. Lost by Memory, with 0 bytes, if no meter, no pipe or no thread can be had. While it goes out, a gauge sees the
-/// progress. Returns the outlet, too. May wait.
+/// Puts out the dump of the current state as `dump_place` does: opens a pin on it, streams its pieces by pages, and closes it. If
+/// the pin is refused, nothing is put out: the dump is lost for want of memory if that is why, and else because the pin is closed.
+/// Lost by Memory, with 0 bytes, if no meter, no pipe or no thread can be had. While it goes out, a gauge sees the progress. Returns
+/// the outlet, too. May wait.
 pub fn stream_place<O: Outlet, G: Gauge, R: Threads + Wait + Sync>(
     rt: &R,
     alloc: Global,
     machine: &mut Machine,
     time: u64,
-    page: Vec<u8>,
     outlet: O,
     gauge: &mut G,
 ) -> (Pumped, O)
-    requires { page.items ≡ [] }
     ensures { IsDumped time machine.old machine.new (O.seen outlet) (O.seen result.1) result.0 }
 {
     // Its contract says that no open pin has the next number.
     machine.next_pin();
     match machine.open_pin(None) {
         Ok(opened) => {
-            let streamed = stream_shown(rt, alloc, machine, opened.pin, time, page, outlet, gauge);
+            let streamed = stream_shown(rt, alloc, machine, opened.pin, time, outlet, gauge);
             let _closed = machine.close_pin(opened.pin);
             streamed
         }

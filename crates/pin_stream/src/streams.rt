@@ -1,5 +1,5 @@
 //! Dumps of pins through a pipe.
-ghost use Rattle.std.specs.Prelude.{◌≡◌, ◌+◌, ◌<◌, ◌≤◌, ◌^◌, []};
+ghost use Rattle.std.specs.Prelude.{◌≡◌, ◌+◌, ◌<◌, ◌^◌};
 ghost use Rattle.dump_pump.specs.Pumps.{bytes_of};
 ghost use Rattle.dump_pipe.specs.Pipes.{byte_limit};
 ghost use Rattle.heap_trail.specs.Pins.{pin_at};
@@ -15,38 +15,36 @@ use std::alloc::Global;
 use std::sync::Wait;
 use std::thread::Threads;
 
-/// Puts out the pieces of a pin that has given none, as `dump_pin` does, by way of an empty page. A thread of its own asks
-/// for the pieces, and the caller's puts them out. Lost by Memory, with 0 bytes, if no pipe or no thread can be had. What is put
-/// out is added to the progress, and what waits in the page, too. Returns the outlet, too. May wait. The seat is one of the
-/// progress's meter, and its sum has room for the bytes of a dump.
+/// Puts out the pieces of a pin that has given none, as `dump_pin` does. A thread of its own asks for the pieces and joins them to
+/// pages, and the caller's puts each page out at once. Lost by Memory, with 0 bytes, if no pipe or no thread can be had. What is
+/// put out is added to the progress. May wait. The seat is one of the progress's meter, and its sum has room for the bytes of a
+/// dump.
 pub fn stream_pin<O: Outlet, R: Threads + Wait + Sync>(
     rt: &R,
     alloc: Global,
     machine: &mut Machine,
     pin: u64,
     time: u64,
-    page: Vec<u8>,
-    outlet: O,
+    outlet: &mut O,
     progress: &Progress<'_>,
     seat: &mut OutSeat,
-) -> (Pumped, O)
+) -> Pumped
     requires fresh { given_of (pin_at pin machine.old.pins) ≡ 0 }
-    requires empty { page.items ≡ [] }
     requires meter { seat.old.meter ≡ progress.now }
     requires room { seat.old.sum + byte_limit < 2 ^ 64 }
-    ensures put { StreamsPin pin time machine.old (O.seen outlet) (O.seen result.1) result.0 }
+    ensures put { StreamsPin pin time machine.old (O.seen outlet.old) (O.seen outlet.new) result }
     ensures same { ungiven pin machine.new ≡ ungiven pin machine.old }
     ensures meter { seat.new.meter ≡ progress.now }
-    ensures counted { seat.old.sum + bytes_of result.0 ≤ seat.new.sum }
+    ensures counted { seat.new.sum ≡ seat.old.sum + bytes_of result }
 {
-    let mut source = FreshSource::new(machine, pin, time);
-    let streamed = stream_paged(rt, alloc, &mut source, page, outlet, progress, seat);
+    let source = FreshSource::new(machine, pin, time);
+    let (pumped, after) = stream_paged(rt, alloc, source, outlet, progress, seat);
     let FreshSource {
         machine: _machine,
         pin: _,
         time: _,
         count: _,
         ended: _,
-    } = source;
-    streamed
+    } = after;
+    pumped
 }

@@ -4,9 +4,9 @@ use Rattle.pin_stream.proofs.streams.stream_pin.Goals as goal
 pub returns-clause-put : goal.returns-clause-put
 returns-clause-put g c =
     let s = c.new-source.result in
-    let t = c.stream_paged-streamed.new.source in
     let e = c.new-source.ensures in
-    let r = c.stream_paged-streamed.result in
+    let p = c.stream_paged-pumped in
+    let t = p.result.1 in
     streams c.args.machine.ghost_name s.machine.ghost_name t.machine.ghost_name c.args.pin c.args.time s.pin s.time s.count t.pin t.time t.count
-    c.args.machine.now s.machine.now t.machine.now s.ended t.ended (g.O.Outlet.seen c.args.outlet) (g.O.Outlet.seen r.1) r.0
-    c.requires.fresh e.now e.pin e.time e.count e.ended c.stream_paged-streamed.ensures.streamed c.stream_paged-streamed.ensures.kept t.caused
+    c.args.machine.now s.machine.now t.machine.now s.ended t.ended (g.O.Outlet.seen c.args.outlet.now) (g.O.Outlet.seen p.new.outlet) p.result.0
+    c.requires.fresh e.now e.pin e.time e.count e.ended p.ensures.streamed p.ensures.kept t.caused

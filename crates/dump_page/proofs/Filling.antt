@@ -1,5 +1,5 @@
 -- A page that is being filled.
-use Rattle.std.proofs.Common.{◌≡◌, ℕ, ◌+◌, ◌<◌, ◌≤◌, Bool, true, false, List, [], ◌∷◌, ◌++◌, length, Option, Some, None, refl, ap, sym, ◌∙◌, subst, arith, append_assoc}
+use Rattle.std.proofs.Common.{◌≡◌, ℕ, ◌<◌, ◌≤◌, Bool, true, false, List, [], ◌∷◌, ◌++◌, length, Option, Some, None, refl, ap, sym, ◌∙◌, subst, arith, append_assoc}
 use Rattle.std.proofs.lemmas.List.{append-nil}
 use Rattle.heap_class.specs.declared.LostCause.{LostCause}
 use Rattle.hprof_text.specs.declared.Piece.{Piece}
@@ -10,7 +10,7 @@ use Rattle.dump_pump.specs.Sources.{Supply, IsNext, more, part_limit, part_size_
 use Rattle.dump_pump.specs.Pumps.{joined, ends}
 use Rattle.dump_pump.proofs.Pumping.{more_nil, more_more, joined_push, ends_push}
 use Rattle.dump_page.specs.declared.surplus.Surplus.{Surplus}
-use Rattle.dump_page.specs.Pages.{page_room, left_of, supply_at, IsAhead, IsAppended, IsLeft, IsFilled, IsPage, Pages}
+use Rattle.dump_page.specs.Pages.{page_room, supply_at, IsAhead, IsAppended, IsFilled, IsPage, Pages}
 
 -- parts were appended to a page, and there may be more
 pub record IsFilling (a b : Supply) (page page' : List ℕ) : Type 0 where

@@ -1,6 +1,5 @@
 -- What a stream of pages is of the parts.
-use Rattle.std.proofs.Common.{◌≡◌, ◌≢◌, ℕ, ◌+◌, ◌<◌, ◌≤◌, Bool, true, false, List, [], ◌∷◌, ◌++◌, length, Option, Some, None, if◌then◌else◌, refl, ap, sym, ◌∙◌, subst, arith, append_assoc, inl, inr}
-use Rattle.std.proofs.lemmas.List.{append-nil}
+use Rattle.std.proofs.Common.{◌≡◌, ℕ, ◌<◌, Bool, true, false, List, [], ◌∷◌, ◌++◌, length, Option, Some, None, if◌then◌else◌, refl, ap, sym, ◌∙◌, subst, arith, append_assoc, inl, inr}
 use mathlib.Core.List.{IsPrefix}
 use Rattle.hprof_text.specs.declared.Piece.{Piece}
 use Rattle.dump_pump.specs.declared.source.Ending.{Ending}
@@ -15,7 +14,7 @@ use Rattle.dump_pump.specs.Pumps.{joined, ends, Fits, IsPumped}
 use Rattle.dump_pump.proofs.Pumping.{more_nil, more_more, joined_push, ends_push}
 use Rattle.dump_pipe.specs.Streams.{IsStreamed}
 use Rattle.dump_page.specs.declared.surplus.Surplus.{Surplus}
-use Rattle.dump_page.specs.Pages.{left_of, supply_at, IsAhead, IsPaged, Says, Pages}
+use Rattle.dump_page.specs.Pages.{left_of, supply_at, IsAhead, IsPaged, Pages}
 use Rattle.dump_page.specs.Sources.{paged_supply, pages_in, given_with, ended_by, EndsAs, ArePages}
 
 -- ---- a page more

@@ -1,7 +1,6 @@
 -- Pages of the parts of a source.
-use Rattle.std.specs.Prelude.{◌≡◌, ℕ, ◌<◌, ◌≤◌, Bool, true, false, List, [], ◌∷◌, ◌++◌, length, Option, Some, None, if◌then◌else◌}
+use Rattle.std.specs.Prelude.{◌≡◌, ℕ, ◌<◌, ◌≤◌, Bool, true, false, List, [], ◌∷◌, ◌++◌, length, Option, Some, None}
 use Rattle.hprof_text.specs.declared.Piece.{Piece}
-use Rattle.dump_pump.specs.declared.source.Ending.{Ending}
 use Rattle.dump_pump.specs.declared.source.Ending.TheVariants as End
 use Rattle.dump_pump.specs.declared.source.Next.{Next}
 use Rattle.dump_pump.specs.declared.source.Next.TheVariants.{Part, Lost, Cancelled}

@@ -1,10 +1,8 @@
 -- What a stream of a pin's source puts out.
-use Rattle.std.proofs.Common.{◌≡◌, ℕ, ◌+◌, ◌<◌, true, false, [], Option, Some, None, refl, sym, ap, ◌∙◌, subst, arith, inl, inr}
+use Rattle.std.proofs.Common.{◌≡◌, ℕ, ◌<◌, true, false, [], Option, Some, None, refl, sym, ap, ◌∙◌, subst, arith, inl, inr}
 use Rattle.std.proofs.lemmas.List.{append-nil}
-use mathlib.Core.List.{IsPrefix}
 use Rattle.heap_class.specs.declared.LostCause.TheVariants.{Memory}
 use Rattle.heap_class.specs.declared.Refusal.{Refusal}
-use Rattle.hprof_text.specs.Image.{Image}
 use Rattle.hprof_text.specs.Segments.{dump_text}
 use Rattle.heap_pins.specs.Images.{image_of}
 use Rattle.heap_trail.specs.declared.Action.TheVariants.{ClosePin}
@@ -22,7 +20,7 @@ use Rattle.dump_pipe.specs.Streams.{IsStreamed}
 use Rattle.heap_dump.specs.Handed.{given_of, pieces_at, ungiven}
 use Rattle.heap_dump.specs.Endings.{HandsOut, is_whole, left_of, may_end}
 use Rattle.heap_dump.specs.Pinned.{Pinned}
-use Rattle.heap_dump.specs.Dumped.{PutsPin, PutsText, IsDumped, DumpsUnless, with_number_used}
+use Rattle.heap_dump.specs.Dumped.{PutsText, IsDumped, DumpsUnless, with_number_used}
 use Rattle.heap_dump.proofs.Handing.{next_is}
 use Rattle.heap_dump.proofs.Pumping.{puts}
 use Rattle.heap_dump.proofs.Placing.{Opens, opens_at, placed, number_used}

@@ -1,5 +1,4 @@
-use Rattle.std.proofs.Common.{subst, sym}
-use Rattle.dump_page.specs.Pages.{Pages, left_of}
+use Rattle.dump_page.specs.Pages.{left_of}
 use Rattle.dump_page.proofs.Filling.{paged_so, lost_so, cancelled_so}
 use Rattle.dump_page.proofs.page.next_page.Goals as goal
 

@@ -77,9 +77,10 @@ read_in_pair t at size value lt few low high low2 high2 h less =
     let v = value * 10 + (get_or t (at + size) 0 - 48) in
     let here : at + (size + 1) ≡ at + size + 1 = omega arith in
     let two : size + 1 + 1 ≡ size + 2 = omega arith in
-    let second = read_in_sure t at (size + 1) v (omega (arith, lt)) (omega (arith, few)) (subst (λ k. 48 ≤ get_or t k 0) (sym here) low2) (subst (λ k. get_or t k 0 ≤ 57) (sym here) high2) first.0 first.1 in
-    (subst (λ n. IsReadIn t at (v * 10 + (get_or t (at + size + 1) 0 - 48)) n) two (subst (λ k. IsReadIn t at (v * 10 + (get_or t k 0 - 48)) (size + 1 + 1)) here second.0),
-     subst (λ n. v * 10 + (get_or t (at + size + 1) 0 - 48) < 10 ^ n) two (subst (λ k. v * 10 + (get_or t k 0 - 48) < 10 ^ (size + 1 + 1)) here second.1))
+    let second = read_in_sure t at (size + 1) v (omega (arith, lt)) (omega (arith, few)) (subst (λ k. 48 ≤ get_or t k 0) (sym here) low2) (subst (λ k. get_or t k 0 ≤ 57) (sym here) high2) first.0 first.1 in (
+      subst (λ n. IsReadIn t at (v * 10 + (get_or t (at + size + 1) 0 - 48)) n) two (subst (λ k. IsReadIn t at (v * 10 + (get_or t k 0 - 48)) (size + 1 + 1)) here second.0),
+      subst (λ n. v * 10 + (get_or t (at + size + 1) 0 - 48) < 10 ^ n) two (subst (λ k. v * 10 + (get_or t k 0 - 48) < 10 ^ (size + 1 + 1)) here second.1),
+    )
 
 digit_low : (value b whole : ℕ) → Some whole ≡ with_digit value b → 48 ≤ b
 digit_low value b whole h = go (is_ascii_digit b) refl (h)

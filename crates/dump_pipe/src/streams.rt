@@ -56,7 +56,7 @@ fn drain_begun<O: Outlet, R: Wait>(
     ensures meter { seat.new.meter ≡ progress.now }
     ensures counted { seat.new.sum ≡ seat.old.sum + drained_bytes result }
 {
-    if !start.is_begun() {
+    if !start.is_begun(rt) {
         return None;
     }
     Some(drain_pipe(rt, receiver, end, outlet, progress, seat))

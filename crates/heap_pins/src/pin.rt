@@ -271,6 +271,7 @@ impl Pin {
     }
 
     /// The words of the object here, in slot order.
+    #[inline(always)]
     pub fn words<'b>(&'b self, world: &'b World, at: ObjRef) -> &'b [u64]
         requires { IsSeen self.now world.now.regions at }
         ensures { IfSome (object_seen self.now world.now.regions at) (λ o. result.now ≡ o.words) }

@@ -79,6 +79,7 @@ impl<'a> View for PinView<'a> {
         pin.id(self.world, at)
     }
 
+    #[inline(always)]
     fn words(&self, at: ObjRef) -> &[u64] {
         let pin: &Pin = self.pin;
         pin.words(self.world, at)

@@ -1,5 +1,5 @@
 -- Identifiers with equal bytes are equal.
-use Rattle.std.proofs.Common.{◌≡◌, ℕ, sym, ap, ◌∙◌}
+use Rattle.std.proofs.Common.{ℕ, sym, ap, ◌∙◌}
 use Rattle.std.specs.Int.{from_be_bytes, w32, w64}
 use Rattle.std.proofs.lemmas.Nat.{from_be_bytes-to_be_bytes_4, from_be_bytes-to_be_bytes_8}
 use Rattle.heap_class.specs.declared.IdSize.{IdSize}

@@ -31,6 +31,10 @@ class_counts size fields = u4 size ++ u2 0 ++ u2 0 ++ u2 fields
 abbrev pub sticky_root : IdSize → ℕ → List ℕ
 sticky_root ids k = u1 0x05 ++ id ids (class_id k)
 
+-- what stands before the values of an instance of class k: its id, the class's id, and how many bytes the values have
+abbrev pub instance_head : IdSize → ℕ → ℕ → ℕ → List ℕ
+instance_head ids x k size = u1 0x21 ++ id ids x ++ u4 1 ++ id ids (class_id k) ++ u4 size
+
 -- what stands before the segments, by the classes alone
 abbrev pub opening_of : IdSize → List Class → ℕ → List ℕ
 opening_of ids classes time = header ids time ++ flat_map (utf8 ids) (enumerate_from 1 (name_table classes)) ++ flat_map (load_class ids classes) (enumerate_from 0 classes) ++ trace

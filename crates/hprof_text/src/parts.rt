@@ -33,6 +33,23 @@ impl Buffer {
         }
     }
 
+    // Appends a word in as many bytes as its kind has.
+    #[inline(always)]
+    #[tactic(auto, unfolding(crate::specs::Text::value_bytes))]
+    fn value(&mut self, ids: IdSize, kind: Kind, word: u64)
+        requires { HasRoom self.old (value_bytes ids (kind, word)) }
+        ensures written { self.new.written ≡ self.old.written ++ value_bytes ids (kind, word) }
+        ensures limit { self.new.limit ≡ self.old.limit }
+    {
+        match kind {
+            Kind::Object => self.id(ids, word),
+            Kind::Boolean | Kind::Byte => self.number(1, word),
+            Kind::Char | Kind::Short => self.number(2, word),
+            Kind::Int | Kind::Float => self.number(4, word),
+            Kind::Long | Kind::Double => self.number(8, word),
+        }
+    }
+
     /// Appends the words of an instance, each in as many bytes as its slot's kind has.
     pub fn values(&mut self, ids: IdSize, kinds: &[Kind], words: &[u64])
         requires room { HasRoom self.old (flat_map (value_bytes ids) (zip kinds.now words.now)) }
@@ -41,7 +58,7 @@ impl Buffer {
         ensures limit { self.new.limit ≡ self.old.limit }
     {
         for (slot, kind) in kinds.iter().enumerate() {
-            self.number(kind.width(ids) as usize, words[slot]);
+            self.value(ids, *kind, words[slot]);
         }
     }
 

@@ -5,12 +5,14 @@ ghost use Rattle.heap_class.specs.Classes.{sup_of};
 ghost use Rattle.heap_class.specs.Limits.{class_limit, name_limit, slot_limit, array_limit};
 ghost use Rattle.hprof_text.specs.Buffered.{HasRoom};
 ghost use Rattle.hprof_text.specs.Image.{IsKnown};
-ghost use Rattle.hprof_text.specs.Records.{class_at, record_head, field_bytes, class_ids, class_counts, sticky_root};
+ghost use Rattle.hprof_text.specs.Records.{class_at, record_head, field_bytes, class_ids, class_counts, instance_head, sticky_root};
+ghost use Rattle.heap_class.specs.declared.IdSize.TheVariants.{Eight};
 ghost use Rattle.heap_class.specs.declared.ObjKind.TheVariants.{Instance, Array, Prim};
 ghost use Rattle.hprof_text.specs.Text.{class_id, header, utf8, load_class, trace, class_dump, root_unknown, dump_of};
 
 use crate::buffer::Buffer;
 use crate::sizes::instance_size;
+use byteorder::{BigEndian, ByteOrder};
 use heap_class::{ClassNo, FirstClasses, IdSize, Kind};
 
 /// The id of a class.
@@ -31,6 +33,24 @@ pub fn super_id(classes: &FirstClasses<'_>, class: ClassNo) -> u64
         Some(sup) => class_id(sup),
         None => 0,
     }
+}
+
+/// The bytes before the values of an INSTANCE DUMP with ids of eight bytes.
+const HEAD_OF_EIGHT: usize = 25;
+
+// Returns what stands before the values of an INSTANCE DUMP with ids of eight bytes.
+#[inline(always)]
+fn head_of_eight(object: u64, class: ClassNo, size: u32) -> [u8; HEAD_OF_EIGHT]
+    requires { class < class_limit }
+    ensures { result ≡ instance_head Eight object class size }
+{
+    let mut head = [0; HEAD_OF_EIGHT];
+    head[0] = 0x21;
+    BigEndian::write_u64(&mut head[1..], object);
+    BigEndian::write_u32(&mut head[9..], 1);
+    BigEndian::write_u64(&mut head[13..], class_id(class));
+    BigEndian::write_u32(&mut head[21..], size);
+    head
 }
 
 impl Buffer {
@@ -179,6 +199,27 @@ impl Buffer {
         self.id(ids, object);
     }
 
+    // Appends what stands before the values of an INSTANCE DUMP. Ids of eight bytes are usual, so with them it is appended at
+    // once.
+    #[inline(always)]
+    fn instance_head(&mut self, ids: IdSize, object: u64, class: ClassNo, size: u32)
+        requires room { HasRoom self.old (instance_head ids object class size) }
+        requires few { class < class_limit }
+        ensures written { self.new.written ≡ self.old.written ++ instance_head ids object class size }
+        ensures limit { self.new.limit ≡ self.old.limit }
+    {
+        match ids {
+            IdSize::Eight => self.bytes(&head_of_eight(object, class, size)),
+            IdSize::Four => {
+                self.u1(0x21);
+                self.id(ids, object);
+                self.u4(1);
+                self.id(ids, class_id(class));
+                self.u4(size);
+            }
+        }
+    }
+
     /// Appends an INSTANCE DUMP: own fields first, then the super's.
     #[tactic(auto, unfolding(crate::specs::Text::dump_of))]
     pub fn instance_dump(
@@ -195,11 +236,7 @@ impl Buffer {
         ensures written { self.new.written ≡ self.old.written ++ dump_of ids classes.now object (Instance class) words.now }
         ensures limit { self.new.limit ≡ self.old.limit }
     {
-        self.u1(0x21);
-        self.id(ids, object);
-        self.u4(1);
-        self.id(ids, class_id(class));
-        self.u4(instance_size(ids, classes, class));
+        self.instance_head(ids, object, class, instance_size(ids, classes, class));
         self.values(ids, classes.slots(class), words);
     }
 

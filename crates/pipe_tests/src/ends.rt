@@ -151,19 +151,19 @@ fn outlets_that_fail(rt: HostRuntime) -> Result<(), Fail> {
 }
 
 /// Returns what a start that nobody makes is told, and then one that somebody made.
-fn starts() -> (bool, bool, bool, bool) {
+fn starts<R: Wait>(rt: &R) -> (bool, bool, bool, bool) {
     let late = Start::new();
     let early = Start::new();
     (
-        late.is_begun(),
+        late.is_begun(rt),
         late.begin(),
         early.begin(),
-        early.is_begun(),
+        early.is_begun(rt),
     )
 }
 
 #[test]
 fn a_thread_that_never_begins_is_given_up(rt: HostRuntime) -> Result<(), Fail> {
-    assert!(rt; starts() == (false, false, true, true));
+    assert!(rt; starts(&rt) == (false, false, true, true));
     Ok(())
 }

@@ -1,15 +1,13 @@
-use Rattle.std.proofs.Common.{◌≡◌, ◌<◌, ◌++◌, ℕ, length, get_or, ◌∙◌, ap, arith}
+use Rattle.std.proofs.Common.{◌≡◌, ◌<◌, ℕ, length, get_or, ◌∙◌, arith}
 use Rattle.std.specs.Prelude.{zip}
 use Rattle.std.proofs.lemmas.Slice.Zip.{length-zip}
-use Rattle.byteorder.specs.Endian.{big_bytes}
 use Rattle.heap_class.specs.declared.Kind.{Kind}
 use Rattle.hprof_text.specs.Text.{value_bytes}
 use Rattle.hprof_text.proofs.Loops.{so_far_room, so_far_more, so_far_all, item_at, item_zipped}
 use Rattle.hprof_text.proofs.buffer.Buffer.values.Goals as goal
 
-pub number-requires-clause-room : goal.number-requires-clause-room
-unfolding value_bytes
-number-requires-clause-room c =
+pub value-requires : goal.value-requires
+value-requires c =
     let i = c.loop-slot.slot in
     let ks = c.args.kinds.now in
     let ws = c.args.words.now in
@@ -21,11 +19,9 @@ number-requires-clause-room c =
     let x : Kind × ℕ = (k, w) in
     let e = item_zipped ks ws i k w h g (item_at ks i Kind.Object h) (item_at ws i 0 g) in
     let r = so_far_room (value_bytes c.args.ids) (zip ks ws) c.args.self.now.written c.loop-slot.self.written i c.args.self.now.limit x t e c.loop-slot.invariant.0 c.requires.room in
-    let d = ap (λ n. length (big_bytes n w)) c.width.ensures in
-    omega (arith, r, d, c.loop-slot.invariant.1)
+    omega (arith, r, c.loop-slot.invariant.1)
 
 pub loop-slot-preserved : goal.loop-slot-preserved
-unfolding value_bytes
 loop-slot-preserved c =
     let i = c.loop-slot.slot in
     let ks = c.args.kinds.now in
@@ -37,8 +33,7 @@ loop-slot-preserved c =
     let t : i < length (zip ks ws) = omega (arith, length-zip ks ws) in
     let x : Kind × ℕ = (k, w) in
     let e = item_zipped ks ws i k w h g (item_at ks i Kind.Object h) (item_at ws i 0 g) in
-    let d = c.number.ensures.written ∙ ap (λ n. c.loop-slot.self.written ++ big_bytes n w) c.width.ensures in
-    (so_far_more (value_bytes c.args.ids) (zip ks ws) c.args.self.now.written c.loop-slot.self.written c.number.new.self.written i x t e c.loop-slot.invariant.0 d, c.number.ensures.limit ∙ c.loop-slot.invariant.1)
+    (so_far_more (value_bytes c.args.ids) (zip ks ws) c.args.self.now.written c.loop-slot.self.written c.value.new.self.written i x t e c.loop-slot.invariant.0 c.value.ensures.written, c.value.ensures.limit ∙ c.loop-slot.invariant.1)
 
 pub returns-clause-written : goal.returns-clause-written
 returns-clause-written c =

@@ -4,6 +4,9 @@
 # How many crates `make prove` checks side by side. Each takes up to 6 GB of memory.
 JOBS ?= 3
 
+# How many provers the gate runs side by side, one a processor. Each takes 1 to 5 GB of memory.
+export RT_JOBS ?= $(shell nproc)
+
 run:
 	@echo "The example runs as it stands, with nothing proved: make test proves it."
 	cd crates/heapdbg && rt try -- run < stdin
@@ -24,6 +27,7 @@ test:
 	rt ci
 	@python3 checks/growths.py crates/growths/out/growths crates/growths/stdout crates/heapdbg/out/heapdbg
 	@python3 checks/cases.py crates/heapdbg/out/heapdbg crates/heapdbg/out/heapdbg.by-rattle
+	@python3 checks/streams.py crates/heapdbg/out/heapdbg crates/heapdbg/out/heapdbg.by-rattle
 	@python3 checks/model crates/heapdbg/out/heapdbg crates/heapdbg/out/heapdbg.by-rattle
 	@python3 checks/program.py crates/heapdbg/out/heapdbg crates/heapdbg/out/heapdbg.by-rattle
 	@python3 checks/sockets.py crates/heapdbg/out/heapdbg

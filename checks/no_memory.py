@@ -8,7 +8,8 @@ import re
 import sys
 
 TESTS = (
-    "dump_tests", "growths", "heap_scripts", "heap_tests", "lock_tests", "pipe_tests", "region_tests", "server_tests", "session_tests",
+    "dump_tests", "growths", "heap_scripts", "heap_tests", "lock_tests", "pipe_tests", "region_tests", "save_tests",
+    "session_tests",
 )
 MAKES = re.compile(r"\b(NoMemory|Memory)\b|\(AllocError\)|\bAllocError\.|\bAllocFailed \{")
 PLACES = pathlib.Path(__file__).with_suffix(".txt")

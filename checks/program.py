@@ -17,6 +17,9 @@ import time
 TOP = pathlib.Path(__file__).resolve().parent.parent
 EXAMPLE = (TOP / "examples/point.session").read_bytes()
 EXAMPLE_REPLIES = (TOP / "crates/heapdbg/stdout").read_bytes()
+# The lines of the example that make the point, and what they are answered.
+POINT = b"".join(EXAMPLE.splitlines(keepends=True)[:3])
+POINT_MADE = b"".join(EXAMPLE_REPLIES.splitlines(keepends=True)[:3])
 OUT_OF_RANGE = b"""error: a value is in digits alone: --regions 1 to 256, --mutators 1 to 16, --keep 1 to 65536, \
 --time below 2^64, --ids 4 or 8, --port and --to 1 to 65535, --sessions 1 to 1000; \
 save takes one of --out and --to
@@ -269,6 +272,28 @@ def never_reading(port):
         return got, rest_of(second, b"end\n")
 
 
+DUMPS = 30
+PUTS = 300
+
+
+def dumping_beside_writes(port):
+    """The first client dumps the place behind the point's lines again and again, while the second writes to the point."""
+    with connected(port) as first, connected(port) as second:
+        dumps, writes = [answered(first, POINT, len(POINT_MADE))], []
+        writer = threading.Thread(target=lambda: writes.extend(answered(second, b"put 0 0 0 8\n", 3) for _ in range(PUTS)))
+        writer.start()
+        for pin in range(1, DUMPS + 1):
+            lines = b"open 3\ndump %d\nclose %d\n" % (pin, pin)
+            dumps.append(answered(first, lines, len(dump_answers(pin))))
+        writer.join()
+        return b"".join(dumps), b"".join(writes), rest_of(second, b"end\n") + rest_of(first, b"end\n")
+
+
+def dump_answers(pin):
+    """Returns what a dump of the point by a pin of this number is answered, with the lines that open the pin and close it."""
+    return b"ok pin %d at 3\n" % pin + EXAMPLE_REPLIES[len(POINT_MADE) :] + b"ok\n"
+
+
 def ended(lines):
     """Returns clients: one, which sends these lines and returns what comes until its session has ended."""
 
@@ -288,6 +313,9 @@ def served_sessions(program):
     yield "a client that closes in a line", served(program, closing_in_a_line, two), cut
     slow = (0, b"session 1 write\nsession 2 quit\n", b"", b"\n" + b"ok\n" * WRITES, b"")
     yield "a client that never reads", served(program, never_reading, two), slow
+    beside = served(program, dumping_beside_writes, two)
+    dumps = POINT_MADE + b"".join(map(dump_answers, range(1, DUMPS + 1)))
+    yield "dumps beside writes", beside, (0, quits, b"", dumps, b"ok\n" * PUTS, b"")
     long = served(program, ended(b"a" * 4097))
     yield "a line too long", long, (0, b"session 1 long\n", b"", b"bad long\n")
     ids = served(program, ended(b"newprim 0 0 long 1\ndump -\nend\n"), ["--ids", "4", "--time=7"])
@@ -376,9 +404,6 @@ def served_faults(program):
 
 
 # ---- saves
-
-POINT = b"".join(EXAMPLE.splitlines(keepends=True)[:3])
-POINT_MADE = b"".join(EXAMPLE_REPLIES.splitlines(keepends=True)[:3])
 
 
 def bytes_of(replies):

@@ -6,17 +6,18 @@ use Rattle.std.proofs.lemmas.List.{get_or-set_other, drop_all}
 use Rattle.std.proofs.lemmas.Grind.{get_or-set_at}
 use Rattle.std.proofs.lemmas.Bool.{eq-eqb, ne_eqb}
 use Rattle.heap_class.specs.declared.ObjRef.{ObjRef}
-use Rattle.heap_region.specs.Regions.{Object, UsedRegion, Region, used_at, object_at, slot_object}
+use Rattle.heap_region.specs.Regions.{Object, UsedRegion, Region, cell_object, used_at, object_at, slot_object}
 use Rattle.heap_region.specs.Pool.{RegionPool}
 use Rattle.heap_region.specs.Legal.{IsRegionPool}
 use Rattle.heap_region.specs.Live.{cells_of}
-use Rattle.heap_region.proofs.Shown.{object_of_used}
+use Rattle.heap_region.proofs.Shown.{object_here, object_of_used}
 use Rattle.heap_region.proofs.Looked.{same_or_not}
 use Rattle.heap_step.specs.declared.Undo.TheVariants.{New, Sweep}
 use Rattle.heap_pins.specs.Pin.{Pinned, place}
 use Rattle.heap_pins.specs.States.{HasBytesBefore, HasRegion, IsSetFrom, IsWritten, byte_before}
 use Rattle.heap_pins.specs.Walk.{cell_state, dead_state, states_before}
 use Rattle.heap_pins.proofs.Counted.{few_cells}
+use Rattle.heap_pins.proofs.LiveBytes.{place_is}
 use Rattle.heap_pins.proofs.Keeping.{drop_here}
 
 pub none_set : (f : ℕ → ℕ) (start : ℕ) (old : List ℕ) → IsSetFrom f start 0 old old
@@ -146,6 +147,17 @@ region_written regions r old bytes h w few = record {
         w.others k (inr past) ∙ h.rest k from ∙ ap cell_state (sym (none_past regions (place k) (subst (λ j. length (cells_of (used_at regions j)) ≤ k % 256) (sym region) (omega (arith, past, from, lt)))))
 
 -- or of which there are none
+-- the bytes of a region in use are those of its cells
+pub written_in : (regions : List Region) (r : ℕ) (u : UsedRegion) (old bytes : List ℕ) → used_at regions r ≡ Some u → length u.cells ≤ 256 → IsSetFrom (λ cell. cell_state (cell_object u cell)) (256 * r) (length u.cells) old bytes → IsWritten regions r old bytes
+written_in regions r u old bytes used few set =
+    subst (λ n. IsSetFrom (λ cell. cell_state (object_at regions (place (256 * r + cell)))) (256 * r) n old bytes) (sym (ap (λ s. length (cells_of s)) used)) (record {
+      within = λ c lt. set.within c lt ∙ sym (ap cell_state (here c lt));
+      others = set.others;
+    })
+  where
+    here : (c : ℕ) → c < length u.cells → object_at regions (place (256 * r + c)) ≡ cell_object u c
+    here c lt = ap (object_at regions) (place_is r c (256 * r + c) (omega (arith, lt, few)) refl) ∙ object_here regions (record { region = r; cell = c }) u used
+
 pub region_empty : (regions : List Region) (r : ℕ) (bytes : List ℕ) → AreWritten regions r bytes → used_at regions r ≡ None → AreWritten regions (r + 1) bytes
 region_empty regions r bytes h e = region_written regions r bytes bytes h
     (record { within = λ c lt. absurd (omega (arith, lt, none)); others = λ k out. refl }) (omega (arith, none))

@@ -23,7 +23,7 @@ bytes_from regions k (suc n) = live_byte (object_at regions (place k)) ∷ bytes
 unfoldable pub live_bytes : List Region → List ℕ
 live_bytes regions = bytes_from regions 0 (256 * length regions)
 
-place_is : (r c k : ℕ) → c < 256 → k ≡ 256 * r + c → place k ≡ record { region = r; cell = c }
+pub place_is : (r c k : ℕ) → c < 256 → k ≡ 256 * r + c → place k ≡ record { region = r; cell = c }
 place_is r c k few e =
     let d : k / 256 ≡ r = ap (λ n. n / 256) (e ∙ omega arith) ∙ div-mul-add r 256 c few in
     let m : k % 256 ≡ c = ap (λ n. n % 256) (e ∙ omega arith) ∙ mod-mul-add r 256 c few in

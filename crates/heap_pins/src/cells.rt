@@ -1,14 +1,13 @@
 //! The bytes of the cells: each says whether its cell is empty, has a live object, or has one that is not live.
-ghost use Rattle.std.specs.Prelude.{◌≡◌, ℕ, ◌<◌, ◌*◌, List, length, IsSome, if◌then◌else◌, All, IfOk, IfErr};
+ghost use Rattle.std.specs.Prelude.{◌≡◌, ℕ, ◌<◌, ◌*◌, List, length, if◌then◌else◌, All, IfOk, IfErr};
 ghost use Rattle.heap_class.specs.declared.Refusal.TheVariants.{NoMemory};
 ghost use Rattle.heap_region.specs.Limits.{region_limit};
-ghost use Rattle.heap_region.specs.Regions.{cell_object, object_at, used_at};
+ghost use Rattle.heap_region.specs.Regions.{cell_object};
 ghost use Rattle.heap_step.specs.declared.Undo.TheVariants.{Finish, Reclaim, Sweep};
-ghost use Rattle.heap_pins.specs.Pin.{place};
 ghost use Rattle.heap_pins.specs.Walk.{cell_state};
-ghost use Rattle.heap_pins.specs.States.{AreBefore, AreStates, HasNoLive, HasRegion, AreEmpty, IsCleared, IsWritten};
+ghost use Rattle.heap_pins.specs.States.{AreBefore, AreStates, HasNoLive, HasRegion, AreEmpty, IsCleared, IsSetFrom};
 
-use heap_class::{ObjRef, Refusal};
+use heap_class::Refusal;
 use heap_region::{ObjectCopy, Regions, Storage};
 use std::alloc::Global;
 
@@ -21,34 +20,27 @@ const LIVE: u8 = 1;
 /// The byte of the cell of an object that is not live.
 const DEAD: u8 = 2;
 
-// Returns the byte of the cell with this number, 256 times its region plus its place in the region.
-fn cell_state(regions: &Regions, number: u64) -> u8
-    requires { number < 65536 }
-    ensures { result ≡ cell_state (object_at regions.now.regions (place number)) }
+// Returns the byte of a cell of a region in use.
+#[inline(always)]
+fn cell_state(storage: &Storage, cell: u64) -> u8
+    ensures { result ≡ cell_state (cell_object storage.now cell) }
 {
-    let at = ObjRef {
-        region: (number / 256) as u16,
-        cell: (number % 256) as u16,
-    };
-    if !regions.has_object(at) {
-        EMPTY
-    } else if regions.bits(at).0 {
-        LIVE
-    } else {
-        DEAD
+    match storage.liveness(cell) {
+        Some(true) => LIVE,
+        Some(false) => DEAD,
+        None => EMPTY,
     }
 }
 
 // Writes the bytes of a region in use.
-fn write_region(states: &mut [u8], regions: &Regions, region: u64)
-    requires used { IsSome (used_at regions.now.regions region) }
+fn write_region(states: &mut [u8], storage: &Storage, region: u64)
     requires within { region < region_limit }
     requires bytes { HasRegion states.old region }
-    ensures { IsWritten regions.now.regions region states.old states.new }
+    ensures { IsSetFrom (λ cell. cell_state (cell_object storage.now cell)) (256 * region) (length storage.now.cells) states.old states.new }
 {
     let first = 256 * region;
-    for cell in 0..regions.cell_count(region) as u64 {
-        states[(first + cell) as usize] = cell_state(regions, first + cell);
+    for cell in 0..storage.cells() {
+        states[(first + cell) as usize] = cell_state(storage, cell);
     }
 }
 
@@ -59,8 +51,8 @@ fn write_regions(states: &mut [u8], regions: &Regions)
     ensures { AreStates states.new regions.now.regions }
 {
     for region in 0..regions.count() {
-        if regions.cell_size(region).is_some() {
-            write_region(states, regions, region);
+        if let Some(storage) = regions.region(region) {
+            write_region(states, storage, region);
         }
     }
 }

@@ -235,6 +235,13 @@ impl Regions {
         }
     }
 
+    /// Returns what is in a region. None if it is empty, or the heap doesn't have it.
+    pub fn region(&self, region: u64) -> Option<&Storage>
+        ensures { MatchOption result (used_at self.now.regions region ≡ None) (λ s. used_at self.now.regions region ≡ Some s.now) }
+    {
+        self.used(region as usize)
+    }
+
     /// How many cells a region in use has.
     pub fn cell_count(&self, region: u64) -> u16
         requires { IsSome (used_at self.now.regions region) }

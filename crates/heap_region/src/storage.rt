@@ -1,5 +1,5 @@
 //! A region in use: 1,024 words, cut into cells of one size, with the free cells in a list that lies in them.
-ghost use Rattle.std.specs.Prelude.{◌≡◌, ℕ, ◌+◌, ◌-◌, ◌*◌, ◌/◌, ◌<◌, ◌≤◌, List, [], ◌∷◌, length, ◌↔◌, IsTrue, IfOk, IsSome, IfSome, slice_index, slice_index_or, replicate, take, drop, Some, None, is_some, slice_get, slice_set};
+ghost use Rattle.std.specs.Prelude.{◌≡◌, ℕ, ◌+◌, ◌-◌, ◌*◌, ◌/◌, ◌<◌, ◌≤◌, List, [], ◌∷◌, length, ◌↔◌, IsTrue, IfOk, IsSome, IfSome, slice_index, slice_index_or, replicate, take, drop, Some, None, is_some, option_map, slice_get, slice_set};
 ghost use Rattle.heap_region.specs.Regions.{FitsWords, cell_object};
 ghost use Rattle.heap_region.specs.Pool.{blank_object, cell_freed, fresh_region};
 ghost use Rattle.heap_region.specs.Layout.{next_link, IsCellSize, IsWhole, words_at, changed_at, word_set, mark_set, live_set, filled, Heads, overwritten, header_live};
@@ -134,6 +134,20 @@ fn is_live(header: &Option<Header>) -> bool
     match header {
         Some(header) => header.live,
         None => false,
+    }
+}
+
+// Tells whether the object of a cell is live. None if the cell has no object.
+#[inline(always)]
+fn liveness_at(headers: &[Option<Header>], cell: usize) -> Option<bool>
+    ensures { result ≡ option_map (λ h. h.live) (slice_index_or headers.now cell None) }
+{
+    if cell >= headers.len() {
+        return None;
+    }
+    match &headers[cell] {
+        Some(header) => Some(header.live),
+        None => None,
     }
 }
 
@@ -317,6 +331,14 @@ impl Storage {
         ensures { result ≡ is_some (slice_index_or self.now.cells cell None) }
     {
         is_taken(&self.block.headers, cell as usize)
+    }
+
+    /// Tells whether the object in the cell is live. None if there is no object in it, or the region doesn't have the cell.
+    #[inline(always)]
+    pub fn liveness(&self, cell: u64) -> Option<bool>
+        ensures { result ≡ option_map (λ o. o.live) (cell_object self.now cell) }
+    {
+        liveness_at(&self.block.headers, cell as usize)
     }
 
     /// The first cell from this one on that has a live object.

@@ -1,13 +1,9 @@
 //! What the barrier logs, step by step and back.
 use heap_class::ObjRef;
-use heap_scripts::{
-    FIRST, SECOND, heap_after, machine_after, new, settings, store, there_and_back,
-};
+use heap_scripts::{FIRST, SECOND, heap_after, new, settings, store, there_and_back};
 use heap_step::Event;
-use heap_trail::Machine;
 use heap_world::World;
 use std::alloc::{AllocError, Global};
-use std::process::Abort;
 use std::test::Fail;
 
 /// Returns the eight steps after the class. They make the objects a and b.
@@ -105,33 +101,4 @@ fn seen(alloc: Global) -> Result<String, Fail> {
 fn barrier_logs_old_values(rt: HostRuntime) -> Result<(), Fail> {
     assert_eq!(rt; seen(rt.alloc())?.as_str(), THERE_AND_BACK);
     Ok(())
-}
-
-/// Returns whether a rewind of so many steps leads to a place where this is seen.
-fn leads_to(
-    alloc: Global,
-    machine: &mut Machine,
-    steps: u64,
-    place: u64,
-    sight: &str,
-) -> Result<bool, AllocError> {
-    Ok(machine.rewind(steps) == Ok(place) && shown(alloc, machine.world())?.as_str() == sight)
-}
-
-fn barrier_logs_old_values_rewound_in(
-    rt: &impl Abort,
-    alloc: Global,
-    machine: &mut Machine,
-) -> Result<(), Fail> {
-    assert!(rt; leads_to(alloc, machine, 0, 9, "2 a a a b\n")?);
-    assert!(rt; leads_to(alloc, machine, 1, 8, "1 a - a a\n")?);
-    assert!(rt; leads_to(alloc, machine, 3, 5, "0 - - a -\n")?);
-    assert!(rt; leads_to(alloc, machine, 2, 3, "0 - - 0 -\n")?);
-    Ok(())
-}
-
-#[test]
-fn barrier_logs_old_values_rewound(rt: HostRuntime) -> Result<(), Fail> {
-    let mut machine = machine_after(rt.alloc(), settings(16, 2, 1024)?, &steps())?;
-    barrier_logs_old_values_rewound_in(&rt, rt.alloc(), &mut machine)
 }

@@ -1,4 +1,4 @@
-//! The calls of each crate from classes to the machine, and worked examples by the events one by one.
+//! The calls of each crate from classes to the machine, and events that are taken back.
 #![tactic(auto)]
 
 #[cfg(test)]

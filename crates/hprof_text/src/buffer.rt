@@ -81,6 +81,10 @@ impl Buffer {
         ensures written { self.new.written ≡ self.old.written ++ bytes.now }
         ensures limit { self.new.limit ≡ self.old.limit }
     {
+        // Tells the compiler that the vector doesn't grow.
+        if self.bytes.capacity() - self.bytes.len() < bytes.len() {
+            unreachable!()
+        }
         if self.bytes.extend_from_slice(bytes).is_err() {
             unreachable!()
         }

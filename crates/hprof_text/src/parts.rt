@@ -51,6 +51,7 @@ impl Buffer {
     }
 
     /// Appends the words of an instance, each in as many bytes as its slot's kind has.
+    #[inline(always)]
     pub fn values(&mut self, ids: IdSize, kinds: &[Kind], words: &[u64])
         requires room { HasRoom self.old (flat_map (value_bytes ids) (zip kinds.now words.now)) }
         requires same { length words.now ≡ length kinds.now }

@@ -221,6 +221,7 @@ impl Buffer {
     }
 
     /// Appends an INSTANCE DUMP: own fields first, then the super's.
+    #[inline(always)]
     #[tactic(auto, unfolding(crate::specs::Text::dump_of))]
     pub fn instance_dump(
         &mut self,
@@ -236,8 +237,9 @@ impl Buffer {
         ensures written { self.new.written ≡ self.old.written ++ dump_of ids classes.now object (Instance class) words.now }
         ensures limit { self.new.limit ≡ self.old.limit }
     {
+        let kinds = classes.slots(class);
         self.instance_head(ids, object, class, instance_size(ids, classes, class));
-        self.values(ids, classes.slots(class), words);
+        self.values(ids, kinds, words);
     }
 
     /// Appends an OBJECT ARRAY DUMP.

@@ -1,17 +1,12 @@
-//! Tests of sessions that are saved: into outlets in memory that are sound or fail, over streams that fail, and to a listener.
+//! Tests of what a save leaves of its machine, and of what its gauge sees. Saves into files and to listeners that are sound or fail are
+//! looked at from outside, by `checks/program.py` and `checks/streams.py`.
 #![tactic(auto)]
 
-#[cfg(test)]
-mod faults;
 #[cfg(test)]
 mod pins;
 #[cfg(test)]
 mod pipes;
 #[cfg(test)]
-mod places;
-#[cfg(test)]
 mod point;
 #[cfg(test)]
 mod saves;
-#[cfg(test)]
-mod sockets;

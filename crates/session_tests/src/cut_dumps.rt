@@ -1,6 +1,6 @@
 //! A dump in the middle of which a write fails.
 use crate::sessions::{machine, served, talk};
-use crate::streams::{ByteWriter, Spent};
+use crate::streams::ByteWriter;
 use session_text::Ended;
 use std::test::*;
 
@@ -19,7 +19,6 @@ fn pin_of_a_cut_dump_is_closed(rt: HostRuntime) -> Result<(), Fail> {
     let writer = ByteWriter {
         taken: Vec::new(alloc),
         writes_left: 42,
-        spent: Spent::Fails,
     };
     let (ended, _, writer) = served(alloc, &mut local, DUMP.as_bytes(), writer);
     assert_eq!(rt; ended, Ended::WriteFault);

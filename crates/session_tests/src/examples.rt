@@ -17,46 +17,6 @@ data 2c0000000000000000\n\
 ok dump 301\n\
 ";
 
-/// The lines of a few refusals.
-pub const REFUSED_LINES: &str = "\
-class A - x:int x:int\n\
-class a+b -\n\
-class A 3\n\
-class Point - x:int y:int\n\
-new 0 0 0\n\
-put 0 0 0 4294967296\n\
-load 0 1 0 2\n\
-load 0 1 1 0\n\
-store 0 0 0 1\n\
-put 0 0 1 5\n\
-load 0 1 0 1\n\
-";
-
-/// The lines of two cycles, the first of which is asked to end too early, and the second before all regions are swept.
-pub const UNREADY_FINISHES: &str = "\
-class Node - next:object v:long\n\
-new 0 0 0\n\
-new 0 1 0\n\
-newprim 0 2 long 5\n\
-store 0 0 0 1\n\
-snap\n\
-store 0 0 0 0\n\
-store 0 0 0 1\n\
-mark\n\
-mark\n\
-mark\n\
-finish\n\
-drain\n\
-drain\n\
-finish\n\
-sweep 0\n\
-snap\n\
-mark\n\
-mark\n\
-mark\n\
-finish\n\
-";
-
 /// The lines of a sweep that leaves one of three points, and of new points in the cells of the others.
 pub const SWEPT_POINTS: &str = "\
 class Point - x:int y:int\n\
@@ -75,19 +35,4 @@ rewind 1\n\
 new 0 4 0\n\
 new 0 5 0\n\
 sweep 0\n\
-";
-
-/// The lines of a region that a sweep empties, and that is used again.
-pub const EMPTIED_REGION: &str = "\
-class Node - next:object v:long\n\
-new 0 0 0\n\
-newprim 0 1 long 5\n\
-clear 0 0\n\
-snap\n\
-mark\n\
-finish\n\
-snap\n\
-sweep 0\n\
-newprim 0 0 long 17\n\
-rewind 3\n\
 ";

@@ -1,7 +1,7 @@
 //! Readers and writers that fail.
 use crate::examples::{ONE_POINT, SWEPT_POINTS};
 use crate::sessions::{Outcome, machine, play};
-use crate::streams::{ByteReader, ByteWriter, Chunks, Spent};
+use crate::streams::{ByteReader, ByteWriter, Chunks};
 use session_text::Ended;
 use std::alloc::Global;
 use std::test::Fail;
@@ -22,7 +22,6 @@ fn session<'a>(
     bytes: &'a [u8],
     reads_left: usize,
     writes_left: usize,
-    spent: Spent,
 ) -> Result<Outcome<ByteReader<'a>, ByteWriter>, Fail> {
     let reader = ByteReader {
         rest: bytes,
@@ -31,16 +30,13 @@ fn session<'a>(
     let writer = ByteWriter {
         taken: Vec::new(alloc),
         writes_left,
-        spent,
     };
     play(alloc, machine(alloc, 1, 1, 64)?, reader, writer)
 }
 
 /// The text of some bytes' session that ends at the end of input, without what that ending adds to the replies.
 fn replies(alloc: Global, bytes: &[u8]) -> Result<Vec<u8>, Fail> {
-    let mut text = session(alloc, bytes, usize::MAX, usize::MAX, Spent::Fails)?
-        .writer
-        .taken;
+    let mut text = session(alloc, bytes, usize::MAX, usize::MAX)?.writer.taken;
     if text.ends_with(b"bad cut\n".as_slice()) {
         text.truncate(text.len() - 8);
     }
@@ -110,7 +106,7 @@ impl Example<'_> {
     /// `bad read`, and the machine that is after those lines.
     fn fails_after(&self, alloc: Global, count: usize) -> Result<bool, Fail> {
         let given = &self.bytes[..count.min(self.bytes.len())];
-        let failed = session(alloc, self.bytes, count, usize::MAX, Spent::Fails)?;
+        let failed = session(alloc, self.bytes, count, usize::MAX)?;
         let text = failed.writer.taken.as_slice();
         let before = text.strip_suffix(b"bad read\n".as_slice());
         Ok(
@@ -134,8 +130,8 @@ impl Example<'_> {
 
     /// Whether a writer that takes so many bytes takes a beginning of the text, the machine is that after the lines up
     /// to the one that was being answered, and nothing after that line was read.
-    fn stops_after(&self, alloc: Global, count: usize, spent: Spent) -> Result<bool, Fail> {
-        let stopped = session(alloc, self.bytes, usize::MAX, count, spent)?;
+    fn stops_after(&self, alloc: Global, count: usize) -> Result<bool, Fail> {
+        let stopped = session(alloc, self.bytes, usize::MAX, count)?;
         let text = stopped.writer.taken.as_slice();
         let answering = lines_in(text).saturating_add(1).min(lines_in(self.bytes));
         Ok(
@@ -148,27 +144,11 @@ impl Example<'_> {
     }
 }
 
-/// A half of a text.
-#[derive(Clone, Copy, PartialEq, Eq)]
-enum Half {
-    Early,
-    Late,
-}
-
-/// Returns where a half of a text of so many bytes begins and ends.
-fn bounds(half: Half, size: usize) -> (usize, usize) {
-    match half {
-        Half::Early => (0, size / 2),
-        Half::Late => (size / 2, size),
-    }
-}
-
-/// Returns whether each writer that takes less than an example's text, and ends in this half of it, stops so.
-fn stop_at_each_byte(alloc: Global, lines: &str, spent: Spent, half: Half) -> Result<bool, Fail> {
+/// Returns whether each writer that takes less than an example's text stops so.
+fn stop_at_each_byte(alloc: Global, lines: &str) -> Result<bool, Fail> {
     let example = Example::new(alloc, lines.as_bytes())?;
-    let (first, end) = bounds(half, example.text.len());
-    for count in first..end {
-        if !example.stops_after(alloc, count, spent)? {
+    for count in 0..example.text.len() {
+        if !example.stops_after(alloc, count)? {
             return Ok(false);
         }
     }
@@ -202,45 +182,41 @@ fn readers_that_fail(rt: HostRuntime) -> Result<(), Fail> {
 }
 
 #[test]
-fn writers_that_fail_early(rt: HostRuntime) -> Result<(), Fail> {
+fn writers_that_fail(rt: HostRuntime) -> Result<(), Fail> {
     for lines in EXAMPLES {
-        assert!(rt;
-            stop_at_each_byte(rt.alloc(), lines, Spent::Fails, Half::Early)?,
-            "in {lines}"
-        );
+        assert!(rt; stop_at_each_byte(rt.alloc(), lines)?, "in {lines}");
     }
     Ok(())
 }
 
-#[test]
-fn writers_that_fail_late(rt: HostRuntime) -> Result<(), Fail> {
-    for lines in EXAMPLES {
-        assert!(rt;
-            stop_at_each_byte(rt.alloc(), lines, Spent::Fails, Half::Late)?,
-            "in {lines}"
-        );
-    }
-    Ok(())
+// ---- lines that are read at once
+
+/// Returns whether a writer that takes so many bytes of an example's answers, where its lines are read at once, takes a beginning
+/// of their text, and the machine is that after all lines.
+fn is_cut(alloc: Global, example: &Example<'_>, count: usize) -> Result<bool, Fail> {
+    let reader = Chunks {
+        rest: example.bytes,
+        size: example.bytes.len(),
+    };
+    let writer = ByteWriter {
+        taken: Vec::new(alloc),
+        writes_left: count,
+    };
+    let stopped = play(alloc, machine(alloc, 1, 1, 64)?, reader, writer)?;
+    let text = stopped.writer.taken.as_slice();
+    Ok(
+        stopped.ended == Ended::WriteFault
+            && text.len() == count
+            && example.text.starts_with(text)
+            && example.is_after(lines_in(example.bytes), stopped.state.as_slice()),
+    )
 }
 
 #[test]
-fn writers_that_take_nothing_early(rt: HostRuntime) -> Result<(), Fail> {
-    for lines in EXAMPLES {
-        assert!(rt;
-            stop_at_each_byte(rt.alloc(), lines, Spent::TakesNothing, Half::Early)?,
-            "in {lines}"
-        );
-    }
-    Ok(())
-}
-
-#[test]
-fn writers_that_take_nothing_late(rt: HostRuntime) -> Result<(), Fail> {
-    for lines in EXAMPLES {
-        assert!(rt;
-            stop_at_each_byte(rt.alloc(), lines, Spent::TakesNothing, Half::Late)?,
-            "in {lines}"
-        );
+fn lines_read_at_once_are_acted_on(rt: HostRuntime) -> Result<(), Fail> {
+    let example = Example::new(rt.alloc(), ONE_POINT.as_bytes())?;
+    for count in [0, 1, 11, 600] {
+        assert!(rt; is_cut(rt.alloc(), &example, count)?, "at {count} bytes");
     }
     Ok(())
 }

@@ -1,9 +1,7 @@
-//! Tests of sessions over streams that chop, are interrupted or fail. What sessions are answered is looked at from outside, by
-//! `checks/cases.py` and `checks/model`.
+//! Tests of what a session leaves of its machine where a reader or a writer fails. What sessions are answered, also over streams that
+//! chop, are interrupted or fail, is looked at from outside, by `checks/cases.py`, `checks/streams.py` and `checks/model`.
 #![tactic(auto)]
 
-#[cfg(test)]
-mod chunks;
 #[cfg(test)]
 mod cut_dumps;
 #[cfg(test)]
@@ -11,11 +9,7 @@ mod examples;
 #[cfg(test)]
 mod faults;
 #[cfg(test)]
-mod interrupts;
-#[cfg(test)]
-mod large;
-#[cfg(test)]
-mod pages;
+mod local;
 #[cfg(test)]
 mod sessions;
 #[cfg(test)]

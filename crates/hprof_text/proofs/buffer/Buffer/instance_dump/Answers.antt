@@ -10,6 +10,6 @@ pub returns-clause-written : goal.returns-clause-written
 returns-clause-written c =
     let o = c.args.self.now.written in
     let h = instance_head c.args.ids c.args.object c.args.class c.instance_size.result in
-    let v = flat_map (value_bytes c.args.ids) (zip c.slots.result.now c.args.words.now) in
+    let v = flat_map (value_bytes c.args.ids) (zip c.slots-kinds.result.now c.args.words.now) in
     appended_2 o c.instance_head.new.self.written c.values.new.self.written h v c.instance_head.ensures.written c.values.ensures.written
-    ∙ ap (λ l. o ++ l) (instance_parts c.args.ids c.args.classes.now c.args.object c.args.class c.instance_size.result c.slots.result.now c.args.words.now c.requires.known.1 c.instance_size.ensures.value c.slots.ensures.value)
+    ∙ ap (λ l. o ++ l) (instance_parts c.args.ids c.args.classes.now c.args.object c.args.class c.instance_size.result c.slots-kinds.result.now c.args.words.now c.requires.known.1 c.instance_size.ensures.value c.slots-kinds.ensures.value)

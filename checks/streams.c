@@ -1,0 +1,132 @@
+/* Cuts, interrupts and fails the streams of the program that it is loaded into (LD_PRELOAD): standard input, standard output, and the
+   files that the program opens for writing. Variables say how, each with the prefix IN_, OUT_ or FILE_:
+
+   MOST    the most bytes that a read or a write takes
+   TIMES   how often each of them is interrupted before it is done
+   LEFT    after how many bytes all further ones fail
+   NOTHING 1 if a write that fails takes nothing and says no error
+
+   The file that the variable COUNTS names, of 32 bytes, gets four numbers: the bytes read, the reads and the writes of standard streams,
+   interrupted and failed ones included, and the reads that came after a write that failed. */
+#define _GNU_SOURCE
+#include <errno.h>
+#include <fcntl.h>
+#include <limits.h>
+#include <stdarg.h>
+#include <stdio.h>
+#include <stdlib.h>
+#include <sys/mman.h>
+#include <sys/syscall.h>
+#include <unistd.h>
+
+struct stream {
+    const char *name;
+    long most, times, left, nothing, interrupted;
+};
+
+struct counts {
+    long bytes, reads, writes, late;
+};
+
+static struct stream in = {"IN"}, out = {"OUT"}, file = {"FILE"};
+static int file_number = -1;
+static int has_failed;
+static struct counts own, *counts = &own;
+
+static long told(const char *stream, const char *what, long otherwise) {
+    char name[32];
+    snprintf(name, sizeof name, "%s_%s", stream, what);
+    const char *value = getenv(name);
+    return value ? atol(value) : otherwise;
+}
+
+static void ask(struct stream *stream) {
+    stream->most = told(stream->name, "MOST", LONG_MAX);
+    stream->times = told(stream->name, "TIMES", 0);
+    stream->left = told(stream->name, "LEFT", LONG_MAX);
+    stream->nothing = told(stream->name, "NOTHING", 0);
+}
+
+__attribute__((constructor)) static void begin(void) {
+    ask(&in);
+    ask(&out);
+    ask(&file);
+    const char *path = getenv("COUNTS");
+    if (path) {
+        int number = syscall(SYS_openat, AT_FDCWD, path, O_RDWR, 0);
+        void *shared = mmap(NULL, sizeof own, PROT_READ | PROT_WRITE, MAP_SHARED, number, 0);
+        if (number < 0 || shared == MAP_FAILED) {
+            abort();
+        }
+        counts = shared;
+        syscall(SYS_close, number);
+    }
+}
+
+/* Returns how many of so many bytes a call may have; -1 if it is interrupted. */
+static long room(struct stream *stream, size_t size) {
+    if (stream->interrupted < stream->times) {
+        stream->interrupted++;
+        errno = EINTR;
+        return -1;
+    }
+    stream->interrupted = 0;
+    long most = stream->most < stream->left ? stream->most : stream->left;
+    return size < (size_t)most ? (long)size : most;
+}
+
+ssize_t read(int number, void *bytes, size_t size) {
+    if (number != 0) {
+        return syscall(SYS_read, number, bytes, size);
+    }
+    counts->reads++;
+    counts->late += has_failed;
+    long most = room(&in, size);
+    if (most < 0) {
+        return -1;
+    }
+    if (in.left == 0) {
+        errno = EIO;
+        return -1;
+    }
+    ssize_t done = syscall(SYS_read, number, bytes, (size_t)most);
+    if (done > 0) {
+        in.left -= done;
+        counts->bytes += done;
+    }
+    return done;
+}
+
+ssize_t write(int number, const void *bytes, size_t size) {
+    struct stream *stream = number == 1 ? &out : number == file_number ? &file : NULL;
+    if (!stream) {
+        return syscall(SYS_write, number, bytes, size);
+    }
+    counts->writes += stream == &out;
+    long most = room(stream, size);
+    if (most < 0) {
+        return -1;
+    }
+    if (stream->left == 0) {
+        has_failed = 1;
+        errno = EIO;
+        return stream->nothing ? 0 : -1;
+    }
+    ssize_t done = syscall(SYS_write, number, bytes, (size_t)most);
+    if (done > 0) {
+        stream->left -= done;
+    }
+    return done;
+}
+
+int open(const char *path, int flags, ...) {
+    va_list rest;
+    va_start(rest, flags);
+    mode_t mode = flags & O_CREAT ? va_arg(rest, mode_t) : 0;
+    va_end(rest);
+    int number = syscall(SYS_openat, AT_FDCWD, path, flags, mode);
+    if (number >= 0 && (flags & O_ACCMODE) != O_RDONLY) {
+        file_number = number;
+    }
+    return number;
+}

@@ -1,0 +1,246 @@
+#!/usr/bin/env python3
+"""Runs the built program over streams that cut, are interrupted or fail, and compares what comes with what must come.
+
+Usage: checks/streams.py PROGRAM ..
+The streams are those of checks/streams.c. Sessions that are read and written in parts are answered as ever; a read that fails ends a
+session behind the answers to the lines read whole, and a write that fails behind the bytes that are out. A save goes into files that
+fail. Prints a line for each difference and ends with status 1 if there is one. Prints nothing where all is well."""
+import concurrent.futures
+import os
+import pathlib
+import struct
+import subprocess
+import sys
+import tempfile
+
+TOP = pathlib.Path(__file__).resolve().parent.parent
+sys.path[:0] = [str(TOP / "checks"), str(TOP / "checks/model")]
+
+from cases import stored  # noqa: E402
+from program import ARRAY, EXAMPLE, EXAMPLE_REPLIES, POINT, POINT_DUMP, POINT_MADE, dump_of_longs  # noqa: E402
+from session import answers_of  # noqa: E402
+
+SOURCE = TOP / "checks/streams.c"
+SECONDS = 60
+# How often in a row a stream may be interrupted.
+INTERRUPTIONS = 99
+# A session whose lines change the state in many ways, and have an answer of one line each.
+SWEPT = b"""class Point - x:int y:int
+new 0 0 0
+new 0 1 0
+new 0 2 0
+clear 0 0
+clear 0 1
+snap
+mark
+finish
+new 0 3 0
+sweep 0
+new 0 4 0
+rewind 1
+new 0 4 0
+new 0 5 0
+sweep 0
+"""
+MANY_POINTS = b"class Point - x:int y:int\n" + b"new 0 0 0\n" * 2000
+
+
+class Ran:
+    """What came of a run: status, standard output and error, how many bytes were read, how many reads and writes there were, and how
+    many reads came after a write that failed."""
+
+    def __init__(self, status, out, error, counts):
+        self.status, self.out, self.error = status, out, error
+        self.bytes, self.reads, self.writes, self.late = counts
+
+    def told(self):
+        return self.status, self.out, self.error
+
+
+class Program:
+    """A program whose streams go by the library."""
+
+    def __init__(self, program, library):
+        self.program, self.library = program, library
+
+    def run(self, given, words=("run",), **rules):
+        """Runs the program over an input, by rules as IN_MOST=1."""
+        with tempfile.TemporaryFile() as lines, tempfile.NamedTemporaryFile() as counts:
+            lines.write(given)
+            lines.seek(0)
+            counts.write(bytes(32))
+            counts.flush()
+            variables = {"LD_PRELOAD": self.library, "COUNTS": counts.name, **{name: str(value) for name, value in rules.items()}}
+            how = {"stdin": lines, "capture_output": True, "timeout": SECONDS, "env": variables}
+            ran = subprocess.run(["heapdbg", *words], executable=self.program, **how)
+            counts.seek(0)
+            return Ran(ran.returncode, ran.stdout, ran.stderr, struct.unpack("4q", counts.read(32)))
+
+    def save(self, given, **rules):
+        """Saves a session to a file. Returns what came of the run, and what the file has, None if there is none."""
+        with tempfile.TemporaryDirectory() as folder:
+            path = pathlib.Path(folder, "heap.hprof")
+            ran = self.run(given, ["save", "--out", str(path)], **rules)
+            return ran, path.read_bytes() if path.exists() else None
+
+
+def library_in(folder):
+    """Builds the library of streams. Returns its path."""
+    library = os.path.join(folder, "streams.so")
+    subprocess.run(["cc", "-shared", "-fPIC", "-O1", "-o", library, SOURCE], check=True)
+    return library
+
+
+def replies(lines):
+    """Returns the answers to the lines of a text that are whole, by the model."""
+    answers, _ = answers_of(lines[: lines.rfind(b"\n") + 1])
+    return b"".join(answers)
+
+
+# ---- streams that cut
+
+
+def in_parts(program):
+    """Yields the worked sessions, read and written in parts of several sizes, as (name, what came, what must come)."""
+    for name, words, lines, answers in stored():
+        for read, write in ((1, 1), (2, 7), (7, 64), (64, 1)):
+            ran = program.run(lines, ["run", *words], IN_MOST=read, OUT_MOST=write)
+            status = 1 if answers.endswith((b"bad cut\n", b"bad long\n")) else 0
+            yield f"{name} by {read} and {write} bytes", (ran.status, ran.out), (status, answers)
+    for letters, ending in ((4096, b"bad command\nno 15 NotMarking\n"), (4097, b"bad long\n")):
+        for count in (0, 819, 2000):
+            lines = b"clear 0 0\n" * count + b"a" * letters + b"\nmark\n"
+            for read in (1, 7, 4096):
+                ran = program.run(lines, IN_MOST=read, OUT_MOST=1)
+                yield f"{count} lines and {letters} letters by {read}", ran.out, b"ok\n" * count + ending
+    for write in (1, 7, 4096):
+        ran = program.run(ARRAY + b"dump -\n", OUT_MOST=write)
+        yield f"a dump of several pages by {write}", ran.told(), (0, dump_of_longs(1024), b"")
+
+
+def pages(program):
+    """Yields sessions whose answers are out before the next read, in as few writes as that allows."""
+    for lines, read, writes in ((3, 1, 3), (3, 10, 3), (3, 15, 2), (3, 30, 1), (3000, 30_000, 2)):
+        ran = program.run(b"clear 0 0\n" * lines, IN_MOST=read)
+        yield f"writes for {lines} lines by {read}", (ran.out, ran.writes), (b"ok\n" * lines, writes)
+
+
+# ---- streams that are interrupted
+
+
+def interrupted(program):
+    """Yields sessions whose reads or writes are interrupted: a hundred times in a row is a fault."""
+    most = INTERRUPTIONS
+    for reads, writes in ((0, 0), (1, 0), (0, 1), (3, 5), (most, most)):
+        ran = program.run(EXAMPLE, IN_TIMES=reads, OUT_TIMES=writes, IN_MOST=1)
+        yield f"{reads} and {writes} interruptions", ran.told(), (0, EXAMPLE_REPLIES, b"")
+        ran, dump = program.save(POINT, IN_TIMES=reads, OUT_TIMES=writes, FILE_TIMES=writes, FILE_MOST=7)
+        yield f"saved with {reads} and {writes}", (*ran.told(), dump), (0, POINT_MADE + b"saved 301\n", b"", POINT_DUMP)
+    for times in (most + 1, most + 2, 10**9):
+        ran = program.run(EXAMPLE, IN_TIMES=times)
+        yield f"reads interrupted {times} times", (*ran.told(), ran.reads), (1, b"bad read\n", b"heapdbg: read\n", most + 1)
+        ran = program.run(EXAMPLE, OUT_TIMES=times)
+        yield f"writes interrupted {times} times", (*ran.told(), ran.writes), (1, b"", b"heapdbg: write\n", most + 1)
+        ran, dump = program.save(POINT, FILE_TIMES=times)
+        yield f"a file interrupted {times} times", (*ran.told(), dump), (1, POINT_MADE + b"failed 0\n", b"heapdbg: out\n", b"")
+
+
+# ---- streams that fail
+
+
+def failing_reads(program):
+    """Yields sessions whose reads fail after each number of bytes: the lines before are answered."""
+    for lines in (EXAMPLE, SWEPT):
+        for count in range(len(lines) + 1):
+            wanted = (1, replies(lines[:count]) + b"bad read\n", b"heapdbg: read\n")
+            for read in (1, 4096):
+                ran = program.run(lines, IN_LEFT=count, IN_MOST=read)
+                yield f"a read that fails after {count} bytes", ran.told(), wanted
+
+
+def line_behind(lines, text, out):
+    """Returns how many bytes of the lines are read by one a read when so many bytes of their answers are out and the next can't be:
+    those up to the line that is being answered."""
+    at = 0
+    for line in lines.splitlines(keepends=True):
+        at += len(line)
+        if len(replies(lines[:at])) > out:
+            return at
+    raise ValueError(text)
+
+
+def failing_writes(program):
+    """Yields sessions whose writes fail after each number of bytes: these are out, and no line is read after that."""
+    for lines in (EXAMPLE, SWEPT):
+        text = replies(lines)
+        behind = {len(text[:count]): line_behind(lines, text, count) for count in range(len(text))}
+        for count in range(len(text)):
+            wanted = (1, text[:count], b"heapdbg: write\n", 0)
+            for nothing in (0, 1):
+                by_one = program.run(lines, OUT_LEFT=count, OUT_NOTHING=nothing, OUT_MOST=1, IN_MOST=1)
+                told = (*by_one.told(), by_one.late, by_one.bytes)
+                yield f"a write that fails after {count} bytes", told, (*wanted, behind[count])
+                ran = program.run(lines, OUT_LEFT=count, OUT_NOTHING=nothing)
+                yield f"a write that fails after {count} bytes, lines at once", (*ran.told(), ran.late), wanted
+
+
+# ---- saves
+
+
+def failing_files(program):
+    """Yields saves into files that fail after each number of bytes: these are in the file."""
+    for count in range(len(POINT_DUMP)):
+        wanted = (1, POINT_MADE + b"failed %d\n" % count, b"heapdbg: out\n", POINT_DUMP[:count])
+        for most in (1, 4096):
+            ran, dump = program.save(POINT, FILE_LEFT=count, FILE_MOST=most)
+            yield f"a file that fails after {count} bytes", (*ran.told(), dump), wanted
+    ran, dump = program.save(POINT, FILE_LEFT=len(POINT_DUMP), FILE_MOST=1)
+    yield "a file with just enough room", (*ran.told(), dump), (0, POINT_MADE + b"saved 301\n", b"", POINT_DUMP)
+    ran, whole = program.save(MANY_POINTS)
+    whole = whole or b""
+    yield "a dump of two pages", (ran.status, len(whole)), (0, 66_412)
+    # The first page has the opening and 15 segments, 61,657 bytes.
+    for count in (0, 1, 4096, 61_656, 61_657, 61_658, 66_000, 66_411):
+        ran, dump = program.save(MANY_POINTS, FILE_LEFT=count)
+        told = (ran.status, ran.out.splitlines()[-1:], ran.error, dump)
+        yield f"two pages, {count} bytes", told, (1, [b"failed %d" % count], b"heapdbg: out\n", whole[:count])
+
+
+def failing_saves(program):
+    """Yields saves whose session can't be read or answered. There is no file then, but if the last line alone can't be written."""
+    for count in range(len(POINT) + 1):
+        ran, dump = program.save(POINT, IN_LEFT=count, IN_MOST=1)
+        wanted = (1, replies(POINT[:count]) + b"bad read\n", b"heapdbg: read\n", None)
+        yield f"a saved session whose read fails after {count} bytes", (*ran.told(), dump), wanted
+    text = POINT_MADE + b"saved 301\n"
+    for count in range(len(text)):
+        ran, dump = program.save(POINT, OUT_LEFT=count, OUT_MOST=1)
+        wanted = (1, text[:count], b"heapdbg: write\n", None if count < len(POINT_MADE) else POINT_DUMP)
+        yield f"a saved session whose write fails after {count} bytes", (*ran.told(), dump), wanted
+
+
+CHECKS = (in_parts, pages, interrupted, failing_reads, failing_writes, failing_files, failing_saves)
+
+
+def differences(program, check):
+    """Returns a line for each run of a check that went otherwise than it must."""
+    runs = [(name, came, wanted) for name, came, wanted in check(program)]
+    lines = [f"{program.program}, {name}: {came!r:.400}, and must be {wanted!r:.400}" for name, came, wanted in runs if came != wanted]
+    return lines or ([] if runs else [f"{check.__name__}: no run"])
+
+
+def main(programs):
+    """Returns the exit status: 0 where every run of every program went as it must."""
+    if not programs:
+        print("usage: checks/streams.py PROGRAM ..")
+        return 2
+    with tempfile.TemporaryDirectory() as folder, concurrent.futures.ThreadPoolExecutor() as pool:
+        library = library_in(folder)
+        asked = [(Program(os.path.abspath(it), library), check) for it in programs for check in CHECKS]
+        found = [line for lines in pool.map(lambda one: differences(*one), asked) for line in lines]
+    print("\n".join(found), end="\n" if found else "")
+    return 1 if found else 0
+
+
+if __name__ == "__main__":
+    sys.exit(main(sys.argv[1:]))

@@ -1,0 +1,9 @@
+use Rattle.std.proofs.Common.{sym, ◌∙◌, ap}
+use Rattle.heap_region.proofs.Cells.{liveness_shown}
+use Rattle.heap_region.proofs.storage.Storage.liveness.Goals as goal
+
+pub returns : goal.returns
+returns c =
+    let i = c.self.inside in
+    let is = rw (c.deref-2.ensures.0 ∙ ap (λ b. b.headers.items) c.deref.ensures) at c.liveness_at.ensures in
+    rw (← c.self.view_is) (is ∙ sym (liveness_shown i.cell_size i.block.value.words i.block.value.headers.items c.args.cell))

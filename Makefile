@@ -4,9 +4,6 @@
 # How many crates `make prove` checks side by side. Each takes up to 6 GB of memory.
 JOBS ?= 3
 
-# How many provers the gate runs side by side, one a processor. Each takes 1 to 5 GB of memory.
-export RT_JOBS ?= $(shell nproc)
-
 run:
 	@echo "The example runs as it stands, with nothing proved: make test proves it."
 	cd crates/heapdbg && rt try -- run < stdin

@@ -2,9 +2,10 @@
 """Times the dump of a session that is saved to a file: `saves.py [PROGRAM ..]`.
 
 PROGRAM is `bin/heapdbg` if none is given. Sessions that make 65,536 objects and 256 arrays are saved and run in turn, 100 times
-each, by each program. What the dump costs is the difference of the means of user and system time, which the kernel counts in ticks
-of some milliseconds, so that a single run tells little; and the difference of the medians of the time on the clock."""
+each, by each program; each save makes its file anew. What the dump costs is the difference of the medians: of user and system time
+together, and of the time on the clock. Two programs that are named together are timed in turn, under the same noise."""
 import os
+import pathlib
 import statistics
 import subprocess
 import sys
@@ -29,16 +30,21 @@ def seconds(words, path):
     return used.ru_utime + used.ru_stime, time.monotonic() - begin
 
 
-def costs(program, session, out):
-    """Returns the user and system time of a dump, and the time that passes, in seconds."""
+def medians(times):
+    """Returns the median of each of the columns."""
+    return [statistics.median(column) for column in zip(*times)]
+
+
+def costs(programs, session, out):
+    """Returns for each program the user and system time of a dump, and the time that passes, in seconds."""
     heap = ["--regions", "256"]
-    saved, ran = [], []
+    saved, ran = {program: [] for program in programs}, {program: [] for program in programs}
     for _ in range(TIMES):
-        saved.append(seconds([program, "save", "--out", out, *heap], session))
-        ran.append(seconds([program, "run", *heap], session))
-    (saved_cpu, saved_clock), (ran_cpu, ran_clock) = zip(*saved), zip(*ran)
-    cpu = statistics.mean(saved_cpu) - statistics.mean(ran_cpu)
-    return cpu, statistics.median(saved_clock) - statistics.median(ran_clock)
+        for program in programs:
+            pathlib.Path(out).unlink(missing_ok=True)
+            saved[program].append(seconds([program, "save", "--out", out, *heap], session))
+            ran[program].append(seconds([program, "run", *heap], session))
+    return {program: [more - less for more, less in zip(medians(saved[program]), medians(ran[program]))] for program in programs}
 
 
 def main(programs):
@@ -48,8 +54,7 @@ def main(programs):
         for name, (count, first, line) in HEAPS.items():
             with open(session, "w") as file:
                 file.write(first + line * count)
-            for program in programs:
-                cpu, clock = costs(program, session, out)
+            for program, (cpu, clock) in costs(programs, session, out).items():
                 size = os.path.getsize(out)
                 print(f"{program}: save of {count} {name}, {size} bytes: {cpu / count * 1e9:.0f} ns each of user and system time, "
                       f"{clock * 1e3:.2f} ms on the clock, {size / clock / 1e6:.0f} MB/s")

@@ -1,7 +1,6 @@
 //! Classes, their slots and names, and which names a thousand fields may have.
 use heap_class::{ClassNo, Classes, Field, Fields, IdSize, Kind, Name, Refusal};
 use std::alloc::{AllocError, Global};
-use std::process::Abort;
 use std::test::Fail;
 
 // A class Point with the fields x and next, and Sub below it with a field x of its own.
@@ -71,53 +70,56 @@ fn kinds_have_their_words(rt: HostRuntime) {
     assert!(rt; Kind::Object.is_reference() && Kind::Char.holds(65535) && !Kind::Char.holds(65536));
 }
 
-fn slots_are_own_then_inherited_in(rt: &impl Abort, classes: &Classes) {
-    assert_eq!(rt; classes.len(), 2);
-    assert_eq!(rt;
-        classes.slots(1),
-        [Kind::Long, Kind::Int, Kind::Object].as_slice()
-    );
-    assert_eq!(rt;
-        (classes.instance_size(IdSize::Four, 1), classes.sup(1)),
-        (16, Some(0))
-    );
-    assert_eq!(rt; classes.name(1), b"Sub".as_slice());
+/// Returns whether the second class has its own slot and then those of the first, and what else is told of it.
+fn second_has_slots(classes: &Classes) -> bool {
+    if classes.len() != 2 {
+        return false;
+    }
+    let slots = [Kind::Long, Kind::Int, Kind::Object];
+    let size = classes.instance_size(IdSize::Four, 1);
+    classes.slots(1) == slots.as_slice()
+        && (size, classes.sup(1)) == (16, Some(0))
+        && classes.name(1) == b"Sub".as_slice()
 }
 
 #[test]
 fn slots_are_own_then_inherited(rt: HostRuntime) -> Result<(), Fail> {
     let classes = two_classes(rt.alloc())?;
-    slots_are_own_then_inherited_in(&rt, &classes);
+    assert!(rt; second_has_slots(&classes));
     Ok(())
 }
 
-fn names_have_ids_in(rt: &impl Abort, classes: &Classes) {
-    assert_eq!(rt; classes.len(), 2);
-    assert_eq!(rt; classes.field_count(0), 2);
-    assert_eq!(rt; classes.field_kind(0, 1), Kind::Object);
-    assert_eq!(rt;
-        (classes.field_name_id(0, 1), classes.class_name_id(1)),
-        (3, 4)
-    );
+/// Returns whether the second field of the first class and the name of the second class are told.
+fn names_have_ids(classes: &Classes) -> bool {
+    if classes.len() != 2 || classes.field_count(0) != 2 {
+        return false;
+    }
+    let ids = (classes.field_name_id(0, 1), classes.class_name_id(1));
+    classes.field_kind(0, 1) == Kind::Object && ids == (3, 4)
 }
 
-fn names_are_counted_in(rt: &impl Abort, classes: &Classes) {
-    assert_eq!(rt; classes.name_count(), 4);
-    assert_eq!(rt; classes.name_at(3), b"Sub".as_slice());
+fn four_names(classes: &Classes) -> bool {
+    if classes.name_count() != 4 {
+        return false;
+    }
+    classes.name_at(3) == b"Sub".as_slice()
 }
 
-fn names_go_with_their_class_in(rt: &impl Abort, classes: &mut Classes) {
-    assert_eq!(rt; classes.len(), 2);
+/// Returns how many names are left once the last of two classes is undefined.
+fn names_left(classes: &mut Classes) -> usize {
+    if classes.len() != 2 {
+        return 0;
+    }
     classes.undefine_last();
-    assert_eq!(rt; classes.name_table().len(), 3);
+    classes.name_table().len()
 }
 
 #[test]
 fn names_have_ids_by_first_use(rt: HostRuntime) -> Result<(), Fail> {
     let mut classes = two_classes(rt.alloc())?;
-    names_have_ids_in(&rt, &classes);
-    names_are_counted_in(&rt, &classes);
-    names_go_with_their_class_in(&rt, &mut classes);
+    let told = names_have_ids(&classes) && four_names(&classes);
+    let left = names_left(&mut classes);
+    assert!(rt; told && left == 3);
     Ok(())
 }
 

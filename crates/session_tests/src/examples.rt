@@ -1,9 +1,26 @@
-//! The sessions that are read and written in many ways.
+//! Worked sessions, and the dump of a point by hand from the format.
 
-/// The lines of one point, which `DUMP_OF_ONE_POINT` answers.
-pub const ONE_POINT: &str = "class Point - x:int y:int\nnew 0 0 0\nput 0 0 0 7\ndump -\n";
+/// Lines that make a point with x 7, at place 3.
+pub const POINT: &str = "class Point - x:int y:int\nnew 0 0 0\nput 0 0 0 7\n";
 
+/// What they are answered.
+pub const POINT_MADE: &str = "ok class 0\nok object 0x10000000\nok\n";
+
+/// The digits of its dump, which has 301 bytes.
 pub const DUMP_OF_ONE_POINT: &str = "\
+    4a4156412050524f46494c4520312e302e320000000008000000000000000001000000000000000d0000000000000001506f\
+    696e740100000000000000090000000000000002780100000000000000090000000000000003790200000000000000180000\
+    0001000000000010000000000001000000000000000105000000000000000c0000000100000000000000001c000000000000\
+    008c200000000000100000000000010000000000000000000000000000000000000000000000000000000000000000000000\
+    000000000000000000000000000000000800000000000200000000000000020a00000000000000030a050000000000100000\
+    210000000010000000000000010000000000100000000000080000000700000000ff00000000100000002c00000000000000\
+    00";
+
+/// The lines of a point and its dump.
+pub const POINT_AND_DUMP: &str = "class Point - x:int y:int\nnew 0 0 0\nput 0 0 0 7\ndump -\n";
+
+/// What they are answered.
+pub const POINT_DUMPED: &str = "\
 ok class 0\n\
 ok object 0x10000000\n\
 ok\n\

@@ -1,13 +1,10 @@
 //! Readers and writers that fail.
-use crate::examples::{ONE_POINT, SWEPT_POINTS};
-use crate::sessions::{Outcome, machine, play};
-use crate::streams::{ByteReader, ByteWriter, Chunks};
+use crate::examples::{POINT_AND_DUMP, SWEPT_POINTS};
+use crate::sessions::{Outcome, local, play};
+use crate::streams::{ByteReader, Sips, byte_writer};
 use session_text::Ended;
 use std::alloc::Global;
 use std::test::Fail;
-
-/// Lines that have one line of answer each, but for a dump at the end.
-const EXAMPLES: [&str; 2] = [ONE_POINT, SWEPT_POINTS];
 
 /// How many lines a text has whole.
 fn lines_in(text: &[u8]) -> usize {
@@ -22,16 +19,13 @@ fn session<'a>(
     bytes: &'a [u8],
     reads_left: usize,
     writes_left: usize,
-) -> Result<Outcome<ByteReader<'a>, ByteWriter>, Fail> {
+) -> Result<Outcome<ByteReader<'a>, Sips>, Fail> {
     let reader = ByteReader {
         rest: bytes,
         reads_left,
     };
-    let writer = ByteWriter {
-        taken: Vec::new(alloc),
-        writes_left,
-    };
-    play(alloc, machine(alloc, 1, 1, 64)?, reader, writer)
+    let writer = byte_writer(alloc, writes_left);
+    play(alloc, local(alloc, 1, 1, 64)?, reader, writer)
 }
 
 /// The text of some bytes' session that ends at the end of input, without what that ending adds to the replies.
@@ -45,11 +39,7 @@ fn replies(alloc: Global, bytes: &[u8]) -> Result<Vec<u8>, Fail> {
 
 /// What the machine answers to the questions after the lines of a text, read and written at once.
 pub fn state_after(alloc: Global, bytes: &[u8]) -> Result<Vec<u8>, Fail> {
-    let reader = Chunks {
-        rest: bytes,
-        size: bytes.len(),
-    };
-    let outcome = play(alloc, machine(alloc, 1, 1, 64)?, reader, Vec::new(alloc))?;
+    let outcome = play(alloc, local(alloc, 1, 1, 64)?, bytes, Vec::new(alloc))?;
     Ok(outcome.state)
 }
 
@@ -168,24 +158,24 @@ fn fail_at_each_read(alloc: Global, lines: &str) -> Result<bool, Fail> {
 
 #[test]
 fn each_line_but_the_dump_changes_the_state(rt: HostRuntime) -> Result<(), Fail> {
-    let point = Example::new(rt.alloc(), ONE_POINT.as_bytes())?;
+    let point = Example::new(rt.alloc(), POINT_AND_DUMP.as_bytes())?;
     assert!(rt; point.changes_but_by_the_dump());
     Ok(())
 }
 
 #[test]
 fn readers_that_fail(rt: HostRuntime) -> Result<(), Fail> {
-    for lines in EXAMPLES {
-        assert!(rt; fail_at_each_read(rt.alloc(), lines)?, "in {lines}");
-    }
+    let all = fail_at_each_read(rt.alloc(), POINT_AND_DUMP)?
+        && fail_at_each_read(rt.alloc(), SWEPT_POINTS)?;
+    assert!(rt; all);
     Ok(())
 }
 
 #[test]
 fn writers_that_fail(rt: HostRuntime) -> Result<(), Fail> {
-    for lines in EXAMPLES {
-        assert!(rt; stop_at_each_byte(rt.alloc(), lines)?, "in {lines}");
-    }
+    let all = stop_at_each_byte(rt.alloc(), POINT_AND_DUMP)?
+        && stop_at_each_byte(rt.alloc(), SWEPT_POINTS)?;
+    assert!(rt; all);
     Ok(())
 }
 
@@ -194,15 +184,8 @@ fn writers_that_fail(rt: HostRuntime) -> Result<(), Fail> {
 /// Returns whether a writer that takes so many bytes of an example's answers, where its lines are read at once, takes a beginning
 /// of their text, and the machine is that after all lines.
 fn is_cut(alloc: Global, example: &Example<'_>, count: usize) -> Result<bool, Fail> {
-    let reader = Chunks {
-        rest: example.bytes,
-        size: example.bytes.len(),
-    };
-    let writer = ByteWriter {
-        taken: Vec::new(alloc),
-        writes_left: count,
-    };
-    let stopped = play(alloc, machine(alloc, 1, 1, 64)?, reader, writer)?;
+    let writer = byte_writer(alloc, count);
+    let stopped = play(alloc, local(alloc, 1, 1, 64)?, example.bytes, writer)?;
     let text = stopped.writer.taken.as_slice();
     Ok(
         stopped.ended == Ended::WriteFault
@@ -212,11 +195,20 @@ fn is_cut(alloc: Global, example: &Example<'_>, count: usize) -> Result<bool, Fa
     )
 }
 
+/// Returns whether writers that take 0, 1, 11 and 600 bytes do so.
+fn each_is_cut(alloc: Global) -> Result<bool, Fail> {
+    let example = Example::new(alloc, POINT_AND_DUMP.as_bytes())?;
+    for count in [0, 1, 11, 600] {
+        if !is_cut(alloc, &example, count)? {
+            return Ok(false);
+        }
+    }
+    Ok(true)
+}
+
 #[test]
 fn lines_read_at_once_are_acted_on(rt: HostRuntime) -> Result<(), Fail> {
-    let example = Example::new(rt.alloc(), ONE_POINT.as_bytes())?;
-    for count in [0, 1, 11, 600] {
-        assert!(rt; is_cut(rt.alloc(), &example, count)?, "at {count} bytes");
-    }
+    let all = each_is_cut(rt.alloc())?;
+    assert!(rt; all);
     Ok(())
 }

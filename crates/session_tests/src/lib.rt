@@ -1,15 +1,27 @@
-//! Tests of what a session leaves of its machine where a reader or a writer fails. What sessions are answered, also over streams that
-//! chop, are interrupted or fail, is looked at from outside, by `checks/cases.py`, `checks/streams.py` and `checks/model`.
+//! Tests of what can't be seen from outside of sessions, dumps and saves: what they leave of their machine where a reader, a writer or an
+//! outlet fails, what dumps and saves put out by way of pages, and what a gauge sees. What sessions are answered, also over streams
+//! that chop, are interrupted or fail, and saves into files and to listeners, are looked at by `checks/cases.py`, `checks/streams.py`,
+//! `checks/model` and `checks/program.py`.
 #![tactic(auto)]
 
 #[cfg(test)]
 mod cut_dumps;
 #[cfg(test)]
+mod dumps;
+#[cfg(test)]
 mod examples;
+#[cfg(test)]
+mod failures;
 #[cfg(test)]
 mod faults;
 #[cfg(test)]
 mod local;
+#[cfg(test)]
+mod pins;
+#[cfg(test)]
+mod pipes;
+#[cfg(test)]
+mod saves;
 #[cfg(test)]
 mod sessions;
 #[cfg(test)]

@@ -1,21 +1,23 @@
 //! A session over a machine of its own.
-use crate::examples::{DUMP_OF_ONE_POINT, ONE_POINT};
-use crate::sessions::machine;
+use crate::examples::{POINT_AND_DUMP, POINT_DUMPED};
+use crate::sessions::local;
 use dump_pump::WriteOutlet;
-use session_text::{Ended, ReadInlet, serve_local};
+use session_text::{Ended, Local, ReadInlet, serve_local};
+use std::alloc::Global;
 use std::test::*;
+
+/// Returns whether a machine of its own answers the lines of one point.
+fn is_answered(alloc: Global, local: &mut Local) -> bool {
+    let mut reader = ReadInlet::new(POINT_AND_DUMP.as_bytes());
+    let mut writer = WriteOutlet::new(Vec::new(alloc));
+    let ended = serve_local(alloc, &mut reader, &mut writer, local, 0);
+    ended == Ended::Eof && writer.into_writer().as_slice() == POINT_DUMPED.as_bytes()
+}
 
 #[test]
 fn dump_of_one_point_by_a_machine_of_its_own(rt: HostRuntime) -> Result<(), Fail> {
-    let alloc = rt.alloc();
-    let mut local = machine(alloc, 16, 2, 1024)?;
-    let mut reader = ReadInlet::new(ONE_POINT.as_bytes());
-    let mut writer = WriteOutlet::new(Vec::new(alloc));
-    let ended = serve_local(alloc, &mut reader, &mut writer, &mut local, 0);
-    assert_eq!(rt; ended, Ended::Eof);
-    assert_eq!(rt;
-        writer.into_writer().as_slice(),
-        DUMP_OF_ONE_POINT.as_bytes()
-    );
+    let mut local = local(rt.alloc(), 16, 2, 1024)?;
+    let as_it_must = is_answered(rt.alloc(), &mut local);
+    assert!(rt; as_it_must);
     Ok(())
 }

@@ -7,8 +7,8 @@ use std::alloc::Global;
 use std::io::{Read, Write};
 use std::test::Fail;
 
-/// A machine at place 0.
-pub fn machine(alloc: Global, regions: u64, mutators: u64, keep: u64) -> Result<Local, Fail> {
+/// Creates the commands of a machine at place 0.
+pub fn local(alloc: Global, regions: u64, mutators: u64, keep: u64) -> Result<Local, Fail> {
     let config = Config::new(regions, mutators, keep).ok_or("settings out of range")?;
     Ok(Local::new(Machine::new(alloc, config)?))
 }
@@ -40,13 +40,14 @@ pub fn talk<R: Read + Drop>(alloc: Global, local: &mut Local, reader: R) -> (End
 const QUESTIONS: &str =
     "rewind 0\nrewind 65537\ndump -\nmark\ndrain\nfinish\nsweep 0\nsnap\nrewind 2\ndump -\n";
 
-/// What a machine answers to the questions.
-fn state_of(alloc: Global, local: &mut Local) -> Result<Vec<u8>, Fail> {
+/// Returns what a machine answers to the questions, or None if it doesn't answer all.
+fn state_of(alloc: Global, local: &mut Local) -> Option<Vec<u8>> {
     let (ended, text) = talk(alloc, local, QUESTIONS.as_bytes());
-    if ended != Ended::Eof {
-        return Err("the questions have no answer".into());
+    if ended == Ended::Eof {
+        Some(text)
+    } else {
+        None
     }
-    Ok(text)
 }
 
 /// What came of a session.
@@ -67,7 +68,7 @@ pub fn play<R: Read + Drop, W: Write + Drop>(
     writer: W,
 ) -> Result<Outcome<R, W>, Fail> {
     let (ended, reader, writer) = served(alloc, &mut local, reader, writer);
-    let state = state_of(alloc, &mut local)?;
+    let state = state_of(alloc, &mut local).ok_or("the questions have no answer")?;
     Ok(Outcome {
         ended,
         reader,

@@ -1,23 +1,7 @@
-//! Readers and writers that chop or fail.
+//! A reader that gives a byte a read, and writers that take some bytes a write, which fail where no read, write or room is left.
+use std::alloc::Global;
 use std::io;
 use std::io::{ErrorKind, Read, Write};
-
-/// Gives a text in chunks of one size.
-#[derive(Drop)]
-pub struct Chunks<'a> {
-    pub rest: &'a [u8],
-    pub size: usize,
-}
-
-impl Read for Chunks<'_> {
-    fn read(&mut self, room: &mut [u8]) -> io::Result<usize> {
-        let most = room.len().min(self.size).min(self.rest.len());
-        let (now, later) = self.rest.split_at(most);
-        room[..most].copy_from_slice(now);
-        self.rest = later;
-        Ok(most)
-    }
-}
 
 /// Gives a text byte by byte, and fails where no read is left.
 #[derive(Drop)]
@@ -43,29 +27,40 @@ impl Read for ByteReader<'_> {
     }
 }
 
-/// Takes a byte a write, and fails where no write is left.
+/// Takes at most `most` bytes a write, while writes and room are left to it.
 #[derive(Drop)]
-pub struct ByteWriter {
+pub struct Sips {
     pub taken: Vec<u8>,
+    pub most: usize,
     pub writes_left: usize,
+    pub room: usize,
 }
 
-impl Write for ByteWriter {
+impl Write for Sips {
     fn write(&mut self, given: &[u8]) -> io::Result<usize> {
-        if self.writes_left == 0 {
+        let size = given.len().min(self.most).min(self.room);
+        if self.writes_left == 0 || size == 0 {
             return Err(ErrorKind::BrokenPipe.into());
         }
-        let Some(byte) = given.first() else {
-            return Ok(0);
-        };
-        if self.taken.push(*byte).is_err() {
-            return Ok(0);
-        }
         self.writes_left -= 1;
-        Ok(1)
+        self.room -= size;
+        if self.taken.extend_from_slice(&given[..size]).is_err() {
+            return Err(ErrorKind::OutOfMemory.into());
+        }
+        Ok(size)
     }
 
     fn flush(&mut self) -> io::Result<()> {
         Ok(())
+    }
+}
+
+/// Creates a writer that takes a byte a write, and fails where no write is left.
+pub fn byte_writer(alloc: Global, writes_left: usize) -> Sips {
+    Sips {
+        taken: Vec::new(alloc),
+        most: 1,
+        writes_left,
+        room: usize::MAX,
     }
 }

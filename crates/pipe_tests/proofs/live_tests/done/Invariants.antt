@@ -1,4 +1,0 @@
-use Rattle.pipe_tests.proofs.live_tests.done.Given as goal
-
-abbrev pub ghosts-opened : goal.ghosts-opened
-ghosts-opened g a = record { config = a.blank.config; tables = a.blank.tables }

@@ -1,0 +1,99 @@
+//! Sessions that are saved into memory.
+use crate::examples::{DUMP_OF_ONE_POINT, POINT, POINT_MADE};
+use crate::sessions::local;
+use dump_pump::{Pumped, WriteOutlet};
+use heap_save::{Place, Saved, save_into};
+use pin_stream::{Gauge, Silent};
+use session_text::{Ended, Local, ReadInlet};
+use std::alloc::Global;
+use std::sync::Wait;
+use std::test::*;
+use std::thread::Threads;
+
+/// Makes an outlet that takes all bytes.
+#[derive(Drop)]
+struct Memory {
+    alloc: Global,
+}
+
+impl Place for Memory {
+    type Out = WriteOutlet<Vec<u8>>;
+
+    ghost makes = { λ place outlet. Unit {0} };
+
+    fn open(&mut self) -> Option<WriteOutlet<Vec<u8>>> {
+        Some(WriteOutlet::new(Vec::new(self.alloc)))
+    }
+}
+
+/// What came of a session that was saved.
+#[derive(Drop)]
+pub struct Outcome {
+    pub ended: Ended,
+    pub pumped: Option<Pumped>,
+    /// What the outlet took.
+    pub taken: Vec<u8>,
+    pub text: Vec<u8>,
+}
+
+/// Saves a session of these lines, which a gauge sees.
+pub fn saved<G: Gauge, R: Threads + Wait + Sync>(
+    rt: &R,
+    alloc: Global,
+    local: &mut Local,
+    lines: &str,
+    gauge: &mut G,
+) -> Outcome {
+    let mut inlet = ReadInlet::new(lines.as_bytes());
+    let mut outlet = WriteOutlet::new(Vec::new(alloc));
+    let mut place = Memory { alloc };
+    let Saved {
+        ended,
+        pumped,
+        outlet: made,
+    } = save_into(
+        rt,
+        alloc,
+        local,
+        &mut inlet,
+        &mut outlet,
+        &mut place,
+        gauge,
+        0,
+    );
+    let taken = match made {
+        Some(made) => made.into_writer(),
+        None => Vec::new(alloc),
+    };
+    Outcome {
+        ended,
+        pumped,
+        taken,
+        text: outlet.into_writer(),
+    }
+}
+
+/// Returns whether the session of a point was answered line by line, and dumped whole.
+fn is_of_the_point(alloc: Global, whole: &Outcome) -> Result<bool, Fail> {
+    let text = format!(in alloc; "{POINT_MADE}saved 301\n")?;
+    let digits = hex::encode(alloc, whole.taken.as_slice())?;
+    Ok(
+        whole.ended == Ended::Eof
+            && whole.pumped == Some(Pumped::Done { bytes: 301 })
+            && whole.text.as_slice() == text.as_bytes()
+            && digits.as_str() == DUMP_OF_ONE_POINT,
+    )
+}
+
+fn is_saved<R: Threads + Wait + Sync>(rt: &R, alloc: Global) -> Result<bool, Fail> {
+    let mut local = local(alloc, 16, 2, 1024)?;
+    let whole = saved(rt, alloc, &mut local, POINT, &mut Silent);
+    is_of_the_point(alloc, &whole)
+}
+
+#[test]
+fn save_pumps_the_heap(rt: HostRuntime) -> Result<(), Fail> {
+    let as_it_must = is_saved(&rt, rt.alloc())?;
+    assert!(rt; as_it_must);
+    Ok(())
+}

@@ -1,0 +1,28 @@
+//! The heap under its lock: seats in one thread and in several, workers, and audits. Dumps through the pipe, beside the meter and of a
+//! shared heap's pins: worked examples, outlets that fail or are held, and streams that are cancelled.
+#![tactic(auto)]
+
+#[cfg(test)]
+mod acts;
+#[cfg(test)]
+mod cancelling;
+#[cfg(test)]
+mod ends;
+#[cfg(test)]
+mod live;
+#[cfg(test)]
+mod live_tests;
+#[cfg(test)]
+mod parts;
+#[cfg(test)]
+mod receipts;
+#[cfg(test)]
+mod shared;
+#[cfg(test)]
+mod sinks;
+#[cfg(test)]
+mod streaming;
+#[cfg(test)]
+mod threads;
+#[cfg(test)]
+mod workers;

@@ -4,7 +4,8 @@ ghost use Rattle.heap_region.specs.Regions.{FitsWords};
 ghost use Rattle.heap_region.specs.Layout.{IsCellSize};
 ghost use Rattle.heap_region.specs.Frozen.{frozen, frozen_object, frozen_with, frozen_word_set, frozen_words};
 
-use crate::storage::{Block, Header, ObjectCopy, Storage, header_at, overwrite, part, set_header};
+use crate::cell::Header;
+use crate::storage::{Block, ObjectCopy, Storage, header_at, overwrite, part, set_header};
 use arrayvec::ArrayVec;
 use heap_class::ObjKind;
 use std::alloc::{AllocError, Global};
@@ -111,6 +112,6 @@ impl FrozenRegion {
             live: object.live,
             mark: object.mark,
         };
-        set_header(&mut block.headers, cell as usize, Some(header));
+        set_header(&mut block.headers, cell as usize, header);
     }
 }

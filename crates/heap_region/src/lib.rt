@@ -16,6 +16,7 @@ ghost use Rattle.heap_region.specs.Layout.{IsCellSize};
 ghost use Rattle.heap_region.specs.Changes.{with_live, with_pending};
 ghost use Rattle.heap_region.specs.Live.{cells_of, live_in, live_from};
 
+mod cell;
 mod frozen_region;
 mod lists;
 mod slots;

@@ -5,26 +5,19 @@ ghost use Rattle.heap_region.specs.Pool.{blank_object, cell_freed, fresh_region}
 ghost use Rattle.heap_region.specs.Layout.{next_link, IsCellSize, IsWhole, words_at, changed_at, word_set, mark_set, live_set, filled, Heads, overwritten, header_live};
 ghost use Rattle.heap_region.specs.Live.{IsNextLive};
 
+use crate::cell::{Cell, Header};
 use crate::lists::FreeCells;
 use arrayvec::ArrayVec;
 use heap_class::ObjKind;
 use std::alloc::{AllocError, Global};
 use std::marker::Model;
 
-#[derive(Clone, Copy)]
-pub(crate) struct Header {
-    pub(crate) kind: ObjKind,
-    pub(crate) len: usize,
-    pub(crate) live: bool,
-    pub(crate) mark: bool,
-}
-
 // What one region takes of the memory.
 #[derive(Drop)]
 pub(crate) struct Block {
     pub(crate) words: [u64; 1024],
-    // What is in each cell; none where it is free.
-    pub(crate) headers: ArrayVec<Option<Header>, 256>,
+    // What is in each cell beside its words.
+    pub(crate) headers: ArrayVec<Cell, 256>,
 }
 
 /// A region in use.
@@ -110,42 +103,41 @@ impl ObjectCopy {
 
 // The header of a cell that has an object.
 #[inline(always)]
-pub(crate) fn header_at(headers: &[Option<Header>], cell: usize) -> Header
+pub(crate) fn header_at(headers: &[Cell], cell: usize) -> Header
     requires { IsSome (slice_index_or headers.now cell None) }
     ensures { slice_index_or headers.now cell None ≡ Some result }
 {
-    match headers[cell] {
+    match headers[cell].header() {
         Some(header) => header,
         None => unreachable!(),
     }
 }
 
 // Whether a cell has an object.
-fn is_taken(headers: &[Option<Header>], cell: usize) -> bool
+fn is_taken(headers: &[Cell], cell: usize) -> bool
     ensures { result ≡ is_some (slice_index_or headers.now cell None) }
 {
-    cell < headers.len() && headers[cell].is_some()
+    cell < headers.len() && headers[cell].header().is_some()
 }
 
-// Whether this is the header of a live object.
-fn is_live(header: &Option<Header>) -> bool
-    ensures { result ≡ header_live header.now }
+// Tells whether a cell has a live object.
+#[inline(always)]
+fn is_live_at(headers: &[Cell], cell: usize) -> bool
+    requires { cell < length headers.now }
+    ensures { result ≡ header_live (slice_index_or headers.now cell None) }
 {
-    match header {
-        Some(header) => header.live,
-        None => false,
-    }
+    headers[cell].is_live()
 }
 
 // Tells whether the object of a cell is live. None if the cell has no object.
 #[inline(always)]
-fn liveness_at(headers: &[Option<Header>], cell: usize) -> Option<bool>
+fn liveness_at(headers: &[Cell], cell: usize) -> Option<bool>
     ensures { result ≡ option_map (λ h. h.live) (slice_index_or headers.now cell None) }
 {
     if cell >= headers.len() {
         return None;
     }
-    match &headers[cell] {
+    match headers[cell].header() {
         Some(header) => Some(header.live),
         None => None,
     }
@@ -187,26 +179,31 @@ fn link_cells(words: &mut [u64], cell_size: usize, count: usize)
     }
 }
 
-// Writes what is in a cell.
-pub(crate) fn set_header(
-    headers: &mut ArrayVec<Option<Header>, 256>,
-    cell: usize,
-    header: Option<Header>,
-)
-    requires { cell < length headers.old.items }
-    ensures { headers.new.items ≡ slice_set headers.old.items cell header }
+// Writes the header of the object in a cell.
+pub(crate) fn set_header(headers: &mut ArrayVec<Cell, 256>, cell: usize, header: Header)
+    requires within { cell < length headers.old.items }
+    requires fits { header.len ≤ 1024 }
+    ensures { headers.new.items ≡ slice_set headers.old.items cell (Some header) }
 {
-    headers[cell] = header;
+    headers[cell] = Cell::taken(header);
+}
+
+// Makes a cell free.
+fn set_free(headers: &mut ArrayVec<Cell, 256>, cell: usize)
+    requires { cell < length headers.old.items }
+    ensures { headers.new.items ≡ slice_set headers.old.items cell None }
+{
+    headers[cell] = Cell::default();
 }
 
 // Adds so many cells, all of them free.
-fn add_vacant(headers: &mut ArrayVec<Option<Header>, 256>, count: usize)
+fn add_vacant(headers: &mut ArrayVec<Cell, 256>, count: usize)
     requires none { headers.old.items ≡ [] }
     requires few { count ≤ 256 }
     ensures { headers.new.items ≡ replicate count None }
 {
     for _ in 0..count {
-        headers.push(None);
+        headers.push(Cell::default());
     }
 }
 
@@ -346,9 +343,9 @@ impl Storage {
         ensures value { IsNextLive self.now from result }
         ensures limit { IfSome result (λ cell. cell < 256) }
     {
-        let headers: &[Option<Header>] = &self.block.headers;
+        let headers: &[Cell] = &self.block.headers;
         for cell in from..headers.len() {
-            if is_live(&headers[cell]) {
+            if is_live_at(headers, cell) {
                 return Some(cell);
             }
         }
@@ -393,7 +390,7 @@ impl Storage {
     {
         let block = &mut *self.block;
         let header = header_at(&block.headers, cell);
-        set_header(&mut block.headers, cell, Some(Header { mark, ..header }));
+        set_header(&mut block.headers, cell, Header { mark, ..header });
     }
 
     /// Writes the `live` bit of the object in the cell.
@@ -404,7 +401,7 @@ impl Storage {
     {
         let block = &mut *self.block;
         let header = header_at(&block.headers, cell);
-        set_header(&mut block.headers, cell, Some(Header { live, ..header }));
+        set_header(&mut block.headers, cell, Header { live, ..header });
     }
 
     /// A copy of the object in the cell.
@@ -432,7 +429,7 @@ impl Storage {
         let start = cell * self.cell_size as usize;
         let block = &mut *self.block;
         block.words[start] = self.head as u64;
-        set_header(&mut block.headers, cell, None);
+        set_free(&mut block.headers, cell);
         self.head = (cell + 1) as u16;
     }
 
@@ -452,7 +449,7 @@ impl Storage {
             live: true,
             mark,
         };
-        set_header(&mut block.headers, cell, Some(header));
+        set_header(&mut block.headers, cell, header);
     }
 
     /// Puts an object back into the cell, which heads the free list.
@@ -471,6 +468,6 @@ impl Storage {
             live: object.live,
             mark: object.mark,
         };
-        set_header(&mut block.headers, cell, Some(header));
+        set_header(&mut block.headers, cell, header);
     }
 }

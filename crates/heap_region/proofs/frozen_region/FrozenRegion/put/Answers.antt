@@ -1,5 +1,6 @@
-use Rattle.std.proofs.Common.{◌≡◌, ◌*◌, ◌+◌, ◌<◌, ◌≤◌, length, refl, sym, subst, ap, ◌∙◌, arith}
-use Rattle.heap_region.specs.declared.storage.Header.{Header}
+use Rattle.std.proofs.Common.{◌≡◌, ◌<◌, length, arith}
+use Rattle.heap_region.specs.declared.cell.Header.{Header}
+use Rattle.heap_region.proofs.Sound.{size_few}
 use Rattle.heap_region.proofs.Cells.{cell_lies, length-cells_from}
 use Rattle.heap_region.proofs.Frozen.{laid_put}
 use Rattle.heap_region.proofs.frozen_region.FrozenRegion.put.Goals as goal
@@ -19,11 +20,18 @@ overwrite-requires c =
     let short = rw (← c.self.view_is, ← c.object.view_is) at c.requires.fits in
     rw (c.deref.ensures.value, c.deref_mut-block.ensures.value) (omega (arith, lies, c.self.invariant.words, short.0))
 
-pub set_header-requires : goal.set_header-requires
-set_header-requires c =
+pub set_header-requires-clause-within : goal.set_header-requires-clause-within
+set_header-requires-clause-within c =
     let i = c.self.inside in
     let lt : c.args.cell < length i.block.value.headers.items = omega (arith, (rw (← c.self.view_is) at c.requires.within), length-cells_from i.cell_size i.block.value.words 0 i.block.value.headers.items) in
     rw c.deref_mut-block.ensures.value lt
+
+pub set_header-requires-clause-fits : goal.set_header-requires-clause-fits
+set_header-requires-clause-fits c =
+    let o = c.object.inside in
+    let long : c.len.result ≡ length o.words.items = omega (arith, c.len.ensures, o.words.ok.0) in
+    let short = rw (← c.self.view_is, ← c.object.view_is) at c.requires.fits in
+    omega (arith, long, short.0, size_few _ c.self.invariant.sized)
 
 pub invariant_of-self : goal.invariant_of-self
 invariant_of-self c =

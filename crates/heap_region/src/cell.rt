@@ -1,0 +1,124 @@
+//! What is in a cell beside its words, in sixteen bytes.
+ghost use Rattle.std.specs.Prelude.{◌≡◌, ◌≤◌, Some, None};
+ghost use Rattle.heap_region.specs.Layout.{header_live};
+
+use heap_class::{ClassNo, Kind, ObjKind};
+use std::marker::Model;
+use std::mem::size_of;
+
+/// What an object is, how many slots it has, and its two bits.
+#[derive(Clone, Copy)]
+pub(crate) struct Header {
+    pub(crate) kind: ObjKind,
+    pub(crate) len: usize,
+    pub(crate) live: bool,
+    pub(crate) mark: bool,
+}
+
+/// What stands in a cell.
+#[derive(Clone, Copy)]
+pub(crate) enum Sort {
+    Free,
+    Instance,
+    Array,
+    Prim,
+}
+
+/// A cell: the header of the object in it, or nothing where it is free. Contracts see the header.
+#[derive(Clone, Copy)]
+pub(crate) struct Cell {
+    // The class of an instance or of an array of references, else 0.
+    class: ClassNo,
+    len: u16,
+    sort: Sort,
+    // The kind of an array's values, else Object.
+    kind: Kind,
+    live: bool,
+    mark: bool,
+}
+
+// A region has up to 256 of them.
+const _: () = prove!(size_of::<Cell>() <= 16);
+
+impl Model for Cell {
+    ghost use Rattle.std.specs.Prelude.{◌≡◌, Option};
+    ghost use Rattle.heap_region.specs.declared.cell.Header.{Header};
+
+    ghost Value = { Option Header };
+
+    ghost use Rattle.heap_region.specs.Cell.{header_in, packed};
+
+    ghost view = { header_in };
+
+    ghost inverse = { packed };
+
+    ghost invariant = { λ c. packed (header_in c) ≡ c };
+
+    ghost inverse_ok = { λ a h. h };
+}
+
+impl Default for Cell {
+    ghost is_default = { λ c. c ≡ None };
+
+    // Returns a free cell.
+    fn default() -> Cell {
+        Cell {
+            class: 0,
+            len: 0,
+            sort: Sort::Free,
+            kind: Kind::Object,
+            live: false,
+            mark: false,
+        }
+    }
+}
+
+impl Cell {
+    /// Returns a cell with an object of this header.
+    #[inline(always)]
+    pub(crate) fn taken(header: Header) -> Cell
+        requires { header.len ≤ 1024 }
+        ensures { result ≡ Some header }
+    {
+        let (sort, class, kind) = match header.kind {
+            ObjKind::Instance(class) => (Sort::Instance, class, Kind::Object),
+            ObjKind::Array(class) => (Sort::Array, class, Kind::Object),
+            ObjKind::Prim(kind) => (Sort::Prim, 0, kind),
+        };
+        Cell {
+            class,
+            len: header.len as u16,
+            sort,
+            kind,
+            live: header.live,
+            mark: header.mark,
+        }
+    }
+
+    /// Returns the header of the object in the cell. None if the cell is free.
+    #[inline(always)]
+    pub(crate) fn header(&self) -> Option<Header>
+        ensures { result ≡ self.now }
+    {
+        let kind = match self.sort {
+            Sort::Free => return None,
+            Sort::Instance => ObjKind::Instance(self.class),
+            Sort::Array => ObjKind::Array(self.class),
+            Sort::Prim => ObjKind::Prim(self.kind),
+        };
+        Some(Header {
+            kind,
+            len: self.len as usize,
+            live: self.live,
+            mark: self.mark,
+        })
+    }
+
+    /// Tells whether the object in the cell is live. False if the cell is free.
+    #[inline(always)]
+    pub(crate) fn is_live(&self) -> bool
+        ensures { result ≡ header_live self.now }
+    {
+        self.live
+    }
+}

@@ -26,7 +26,7 @@ pub record Class : Type 0 where
 unfoldable pub slots_under : List (List Kind) → Class → List Kind
 slots_under above c = map (λ f. f.kind) c.fields ++ option_map_or (λ s. unwrap_or (slice_get above s) []) c.sup []
 
--- the slots of each class, in order of definition, after those of the classes before them
+-- the slots of each class, in order of definition, after `above`, those of the classes before them
 unfoldable pub slot_table_after : List (List Kind) → List Class → List (List Kind)
 slot_table_after above [] = above
 slot_table_after above (c ∷ cs) = slot_table_after (above ++ slots_under above c ∷ []) cs
@@ -35,13 +35,13 @@ slot_table_after above (c ∷ cs) = slot_table_after (above ++ slots_under above
 unfoldable pub slots_of : List Class → ℕ → List Kind
 slots_of classes k = unwrap_or (slice_get (slot_table_after [] classes) k) []
 
--- the kinds of the n slots of an object of this kind; an instance has as many as its class
+-- the kinds of the n slots of an object of this kind; an instance has as many slots as its class, whatever n is
 unfoldable pub slot_kinds_of : List Class → ObjKind → ℕ → List Kind
 slot_kinds_of classes (Instance k) n = slots_of classes k
 slot_kinds_of classes (Array k) n = replicate n Kind.Object
 slot_kinds_of classes (Prim kind) n = replicate n kind
 
--- the widths of all of a class's slots, inherited ones included
+-- the sizes of all of a class's slots together in a dump, inherited ones included
 unfoldable pub instance_size : IdSize → List Class → ℕ → ℕ
 instance_size ids classes k = sum_by (width_of ids) (slots_of classes k)
 
@@ -49,43 +49,45 @@ instance_size ids classes k = sum_by (width_of ids) (slots_of classes k)
 unfoldable pub names_in : Class → List (List ℕ)
 names_in c = c.name ∷ map (λ f. f.name) c.fields
 
--- each item where it stands first
+-- the list without the items that stand further up in it
 unfoldable pub first_uses : List (List ℕ) → List (List ℕ)
 first_uses [] = []
 first_uses (x ∷ xs) = x ∷ filter (λ y. not (bytes_eq x y)) (first_uses xs)
 
--- the distinct names in order of first use
+-- the distinct names of classes and fields, in order of first use
 unfoldable pub name_table : List Class → List (List ℕ)
 name_table classes = first_uses (flat_map names_in classes)
 
--- no item stands twice
+-- whether no item stands twice
 unfoldable pub all_distinct : List (List ℕ) → Bool
 all_distinct [] = true
 all_distinct (x ∷ xs) = not (list_any (bytes_eq x) xs) && all_distinct xs
 
--- a letter, a digit or one of _ $ / [ ; .
+-- whether a byte is a letter, a digit or one of _ $ / [ ; .
 unfoldable pub is_name_byte : ℕ → Bool
 is_name_byte b = is_ascii_alphanumeric b || list_any (λ c. b == c) (codes "_$/[;.")
 
--- a name has such bytes, at least one and few enough
+-- whether this is a name: 1 to `name_limit` bytes, each of them allowed
 unfoldable pub is_name : List ℕ → Bool
 is_name n = nat_le 1 (length n) && nat_le (length n) name_limit && list_all is_name_byte n
 
--- k is the number of an instance class
+-- whether k is the number of an instance class
 unfoldable pub is_instance_class : List Class → ℕ → Bool
 is_instance_class classes k = option_map_or (λ c. not c.is_array) (slice_get classes k) false
 
+-- whether k is the number of an array class
 unfoldable pub is_array_class : List Class → ℕ → Bool
 is_array_class classes k = option_map_or (λ c. c.is_array) (slice_get classes k) false
 
--- an instance class, and an array class
+-- an instance class with this name, super and own fields
 abbrev pub instance_class : List ℕ → Option ℕ → List Field → Class
 instance_class name sup fields = record { name = name; sup = sup; fields = fields; is_array = false }
 
+-- an array class with this name, which has no super and no fields
 abbrev pub array_class : List ℕ → Class
 array_class name = record { name = name; sup = None; fields = []; is_array = true }
 
--- why a new class is refused, for an instance class and an array class alike
+-- the first refusal of a new class, be it an instance class or an array class
 unfoldable pub class_refusal : List Class → Class → Option Refusal
 class_refusal classes c = first_refusal
     ((not (option_map_or (is_instance_class classes) c.sup true), NoClass)
@@ -95,21 +97,24 @@ class_refusal classes c = first_refusal
     ∷ (nat_lt slot_limit (length (slots_under (slot_table_after [] classes) c)), FieldLimit)
     ∷ [])
 
--- the classes are defined one after another, none refused, and an array class has no super and no field
+-- the classes are defined after those of `before`, one after another: none is refused, and an array class has no super and no
+-- field
 abbrev pub IsClassTable : List Class → List Class → Type 0
 IsClassTable before [] = Unit {0}
 IsClassTable before (c ∷ cs) = (class_refusal before c ≡ None) × (c.is_array ≡ true → (c.sup ≡ None) × (c.fields ≡ [])) × IsClassTable (before ++ c ∷ []) cs
 
--- the name, its super, own fields and slots of class k, and what k is; of a class that is there
+-- the name of class k, which must be there
 unfoldable pub name_of : List Class → ℕ → List ℕ
 name_of classes k = option_map_or (λ c. c.name) (slice_get classes k) []
 
+-- the own fields of class k, which must be there
 unfoldable pub fields_of : List Class → ℕ → List Field
 fields_of classes k = option_map_or (λ c. c.fields) (slice_get classes k) []
 
+-- the super of class k, which must be there
 unfoldable pub sup_of : List Class → ℕ → Option ℕ
 sup_of classes k = option_map_or (λ c. c.sup) (slice_get classes k) None
 
--- names have 1, 2, 3, .. in order of first use
+-- the id of a name: names have 1, 2, 3, .. in order of first use
 unfoldable pub name_id : List Class → List ℕ → ℕ
 name_id classes name = 1 + position_or_len (bytes_eq name) (name_table classes)

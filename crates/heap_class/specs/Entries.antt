@@ -1,4 +1,5 @@
--- How the classes are kept: their distinct names in order of first use, and entries that say names by their places.
+-- For proofs: how the classes are kept, as their distinct names in order of first use, and entries that give names by their
+-- places.
 use Rattle.std.specs.Prelude.{◌≡◌, ℕ, ◌<◌, ◌≤◌, List, [], ◌∷◌, map, length, take, reverse, slice_index_or}
 use Rattle.std.specs.List.{All, sum_by}
 use Rattle.std.specs.Str.{bytes_eq}
@@ -13,10 +14,11 @@ use Rattle.heap_class.specs.Kinds.{width_of}
 use Rattle.heap_class.specs.Classes.{Class, names_in, slot_table_after, IsClassTable}
 use Rattle.heap_class.specs.Limits.{class_limit, slot_limit, name_limit}
 
--- the field and the class that these stand for
+-- the field that an entry's field stands for
 abbrev pub field_of : List (List ℕ) → OwnField → Field
 field_of names f = record { name = slice_index_or names f.name []; kind = f.kind }
 
+-- the class that an entry stands for
 abbrev pub class_of : List (List ℕ) → Entry → Class
 class_of names e = record {
   name = slice_index_or names e.name [];
@@ -30,31 +32,31 @@ pub record IsWithin (n : ℕ) (e : Entry) : Type 0 where
   pub own : e.name < n
   pub each : All (λ (f : OwnField). f.name < n) e.fields.items
 
--- the place of a name, and a class's fields, by the names
+-- `at` is the place of the name among the names, and `own` stands for the fields
 pub record AreNamed (names : List (List ℕ)) (name : List ℕ) (fields : List Field) (at : ℕ) (own : List OwnField) : Type 0 where
   pub name_within : at < length names
   pub name_is : slice_index_or names at [] ≡ name
   pub fields_within : All (λ (f : OwnField). f.name < length names) own
   pub fields_are : map (field_of names) own ≡ fields
 
--- the names are those of the entries, newest first, each of which put in what was missing of its names
+-- the names are those of the entries, newest first, each of which appended those of its names that were new
 abbrev pub IsPlaced : List (List ℕ) → List Entry → Type 0
 IsPlaced names [] = names ≡ []
 IsPlaced names (e ∷ es) = IsWithin (length names) e × (e.names_before ≤ length names)
     × (names ≡ insert_all bytes_eq (take e.names_before names) (names_in (class_of names e)))
     × IsPlaced (take e.names_before names) es
 
--- few fields, and few slots
+-- the class has at most `slot_limit` fields and slots
 pub record IsRoomy (e : Entry) : Type 0 where
   pub few_fields : length e.fields.items ≤ slot_limit
   pub few_slots : length e.slots.items ≤ slot_limit
 
--- the widths of the slots together, by the size of identifiers
+-- the sizes of instances with these slots, for both sizes of identifiers
 pub record AreSizes (slots : List Kind) (sizes : Sizes) : Type 0 where
   pub of_four : sizes.of_four ≡ sum_by (width_of Four) slots
   pub of_eight : sizes.of_eight ≡ sum_by (width_of Eight) slots
 
--- what is true of the names and the entries
+-- the names and the entries fit together, and stand for a list of classes
 pub record IsTable (names : List (List ℕ)) (entries : List Entry) : Type 0 where
   pub placed : IsPlaced names (reverse entries)
   pub classes : IsClassTable [] (map (class_of names) entries)

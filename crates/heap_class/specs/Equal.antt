@@ -1,4 +1,4 @@
--- When fields are equal.
+-- Equality of fields.
 use Rattle.std.specs.Prelude.{Bool, ◌&&◌, ◌==◌, List}
 use Rattle.std.specs.Str.{bytes_eq}
 use Rattle.std.specs.Cmp.{IsEquivalence, and_equiv, on_equiv, nat_eq_equiv}
@@ -6,11 +6,11 @@ use Rattle.std.specs.Cmp.Lexicographic.{pointwise, lists_equiv, nat_list_eq_equi
 use Rattle.heap_class.specs.Kinds.{type_code}
 use Rattle.heap_class.specs.declared.Field.{Field}
 
--- the same name and the same kind
+-- whether two fields have the same name and the same kind
 abbrev pub field_eq : Field → Field → Bool
 field_eq a b = bytes_eq a.name b.name && (type_code a.kind == type_code b.kind)
 
--- as many, and each equal to the other in its place
+-- whether two lists of fields have one length, and equal fields in each place
 abbrev pub fields_eq : List Field → List Field → Bool
 fields_eq = pointwise field_eq
 

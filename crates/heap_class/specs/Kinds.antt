@@ -1,16 +1,16 @@
--- The kinds of slots, and how many bytes their values take.
+-- The kinds of slots, and the sizes of their values in bytes.
 use Rattle.std.specs.Prelude.{ℕ, ◌^◌, ◌*◌, Bool, true, false, List, codes}
 use Rattle.heap_class.specs.declared.IdSize.{IdSize}
 use Rattle.heap_class.specs.declared.IdSize.TheVariants.{Four, Eight}
 use Rattle.heap_class.specs.declared.Kind.{Kind}
 use Rattle.heap_class.specs.declared.Kind.TheVariants.{Boolean, Char, Float, Double, Byte, Short, Int, Long}
 
--- the bytes of an identifier
+-- the size of an identifier in bytes
 abbrev pub id_bytes : IdSize → ℕ
 id_bytes Four = 4
 id_bytes Eight = 8
 
--- the bytes that a value of the kind takes in a dump
+-- the size of a value of the kind in a dump, in bytes
 abbrev pub width_of : IdSize → Kind → ℕ
 width_of ids Kind.Object = id_bytes ids
 width_of ids Boolean = 1
@@ -22,11 +22,12 @@ width_of ids Short = 2
 width_of ids Int = 4
 width_of ids Long = 8
 
--- the values of a kind are the numbers below this; identifiers, of which this isn't asked, take no part in it
+-- the values of a kind are the numbers below this; of no use for references
 abbrev pub value_limit : Kind → ℕ
 value_limit Boolean = 2
 value_limit k = 2 ^ (8 * width_of Eight k)
 
+-- whether slots of the kind hold references
 abbrev pub is_reference : Kind → Bool
 is_reference Kind.Object = true
 is_reference k = false

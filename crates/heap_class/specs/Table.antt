@@ -3,6 +3,7 @@ use Rattle.std.specs.Prelude.{ℕ, List, codes}
 use Rattle.heap_class.specs.declared.Refusal.{Refusal}
 use Rattle.heap_class.specs.declared.Refusal.TheVariants.{NoMemory, NoClass, ClassLimit, BadName, DuplicateName, FieldLimit, BadRegister, NullRegister, BadSlot, WrongKind, OutOfRange, TooLarge, HeapFull, AlreadyMarking, NotMarking, NothingToMark, NothingToDrain, NotDone, SweepPending, NothingToSweep, TooFar, NoPin, Lost, NotRetained, PinLimit, ChronicleFull}
 
+-- the number of a refusal in replies
 abbrev pub refusal_number : Refusal → ℕ
 refusal_number NoMemory = 1
 refusal_number NoClass = 2
@@ -31,6 +32,7 @@ refusal_number NotRetained = 24
 refusal_number PinLimit = 25
 refusal_number ChronicleFull = 26
 
+-- the name of a refusal in replies
 abbrev pub refusal_name : Refusal → List ℕ
 refusal_name NoMemory = codes "NoMemory"
 refusal_name NoClass = codes "NoClass"

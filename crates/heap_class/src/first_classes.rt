@@ -1,4 +1,4 @@
-//! The first classes of a heap, lent to be read.
+//! The first classes of a heap, lent for reading.
 ghost use Rattle.std.specs.Prelude.{◌≡◌, ◌<◌, ◌≤◌, [], length, take, Some, IfSome, slice_get};
 ghost use Rattle.heap_class.specs.Limits.{class_limit, name_limit, slot_limit};
 ghost use Rattle.heap_class.specs.Classes.{IsClassTable, slots_of, instance_size, name_of, fields_of, sup_of, name_id, name_table};
@@ -25,7 +25,7 @@ impl<'a> Model for FirstClasses<'a> {
 }
 
 impl Classes {
-    /// All classes, lent.
+    /// Returns all classes.
     pub fn all(&self) -> FirstClasses<'_>
         ensures { result ≡ self.now }
     {
@@ -35,7 +35,7 @@ impl Classes {
         }
     }
 
-    /// So many classes, from the first.
+    /// Returns the first `count` classes. `count` must be at most `len`.
     pub fn first(&self, count: u64) -> FirstClasses<'_>
         requires { count ≤ length self.now }
         ensures { result ≡ take count self.now }
@@ -48,7 +48,7 @@ impl Classes {
 }
 
 impl<'a> FirstClasses<'a> {
-    /// How many classes there are: at most 256.
+    /// Returns the number of classes: at most 256.
     pub fn len(&self) -> u64
         ensures value { result ≡ length self.now }
         ensures table { IsClassTable [] self.now }
@@ -58,7 +58,7 @@ impl<'a> FirstClasses<'a> {
         self.count
     }
 
-    /// The kinds of a class's slots: its own fields', then its super's slots'.
+    /// Returns the kinds of a class's slots: those of its own fields, then its super's slots. The class must be below `len`.
     pub fn slots(&self, class: ClassNo) -> &[Kind]
         requires { class < length self.now }
         ensures value { result.now ≡ slots_of self.now class }
@@ -67,7 +67,7 @@ impl<'a> FirstClasses<'a> {
         self.classes.slots(class)
     }
 
-    /// The bytes of the class's instances in a dump.
+    /// Returns the size of the class's instances in a dump, in bytes. The class must be below `len`.
     pub fn instance_size(&self, ids: IdSize, class: ClassNo) -> u64
         requires { class < length self.now }
         ensures { result ≡ instance_size ids self.now class }
@@ -75,7 +75,7 @@ impl<'a> FirstClasses<'a> {
         self.classes.instance_size(ids, class)
     }
 
-    /// The name of a class, of 1 to 64 bytes.
+    /// Returns the name of a class, of 1 to 64 bytes. The class must be below `len`.
     pub fn name(&self, class: ClassNo) -> &[u8]
         requires { class < length self.now }
         ensures value { result.now ≡ name_of self.now class }
@@ -84,7 +84,7 @@ impl<'a> FirstClasses<'a> {
         self.classes.name(class)
     }
 
-    /// The super of a class.
+    /// Returns the super of a class, or None if it has none. The class must be below `len`.
     pub fn sup(&self, class: ClassNo) -> Option<ClassNo>
         requires { class < length self.now }
         ensures value { result ≡ sup_of self.now class }
@@ -93,7 +93,7 @@ impl<'a> FirstClasses<'a> {
         self.classes.sup(class)
     }
 
-    /// How many fields of its own a class has: at most 64.
+    /// Returns the number of a class's own fields: at most 64. The class must be below `len`.
     pub fn field_count(&self, class: ClassNo) -> u64
         requires { class < length self.now }
         ensures value { result ≡ length (fields_of self.now class) }
@@ -102,7 +102,7 @@ impl<'a> FirstClasses<'a> {
         self.classes.field_count(class)
     }
 
-    /// The kind of an own field of a class.
+    /// Returns the kind of an own field of a class. The class must have the field.
     pub fn field_kind(&self, class: ClassNo, field: u64) -> Kind
         requires { field < length (fields_of self.now class) }
         ensures { IfSome (slice_get (fields_of self.now class) field) (λ f. result ≡ f.kind) }
@@ -110,7 +110,7 @@ impl<'a> FirstClasses<'a> {
         self.classes.field_kind(class, field)
     }
 
-    /// How many distinct names there are, of these classes and their fields.
+    /// Returns the number of distinct names of these classes and their fields.
     pub fn name_count(&self) -> u64
         ensures value { result ≡ length (name_table self.now) }
         ensures limit { result ≤ 16640 }
@@ -118,7 +118,7 @@ impl<'a> FirstClasses<'a> {
         self.classes.name_count_of_first(self.count)
     }
 
-    /// The name that has the id `index + 1`: names have ids in order of first use.
+    /// Returns the name with the id `index + 1`. Names have ids in order of first use. `index` must be below `name_count`.
     pub fn name_at(&self, index: u64) -> &[u8]
         requires { index < length (name_table self.now) }
         ensures value { slice_get (name_table self.now) index ≡ Some result.now }
@@ -127,7 +127,7 @@ impl<'a> FirstClasses<'a> {
         self.classes.name_at(index)
     }
 
-    /// The id of the name of a class.
+    /// Returns the id of a class's name. The class must be below `len`.
     pub fn class_name_id(&self, class: ClassNo) -> u64
         requires { class < length self.now }
         ensures { result ≡ name_id self.now (name_of self.now class) }
@@ -135,7 +135,7 @@ impl<'a> FirstClasses<'a> {
         self.classes.class_name_id(class)
     }
 
-    /// The id of the name of an own field of a class.
+    /// Returns the id of the name of an own field of a class. The class must have the field.
     pub fn field_name_id(&self, class: ClassNo, field: u64) -> u64
         requires { field < length (fields_of self.now class) }
         ensures { IfSome (slice_get (fields_of self.now class) field) (λ f. result ≡ name_id self.now f.name) }

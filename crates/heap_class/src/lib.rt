@@ -23,95 +23,140 @@ use std::alloc::{AllocError, AllocFailed, Global};
 use std::hash::{Hash, Hasher};
 use std::marker::Model;
 
-/// How many classes there may be.
+/// The largest number of classes.
 pub const CLASS_LIMIT: usize = 256;
 
-/// How many slots a class may have, inherited ones included.
+/// The largest number of slots of a class, inherited ones included.
 pub const SLOT_LIMIT: usize = 64;
 
-/// How many bytes a name may have.
+/// The largest number of bytes of a name.
 pub const NAME_LIMIT: usize = 64;
 
-/// What a slot holds.
+/// The kind of a slot.
 #[derive(Clone, Copy, PartialEq, Eq, Debug)]
 pub enum Kind {
+    /// A reference to an object, or null.
     Object,
+    /// A truth value: 0 or 1. One byte in a dump.
     Boolean,
+    /// A character of 16 bits.
     Char,
+    /// The bits of a floating-point number of 32 bits.
     Float,
+    /// The bits of a floating-point number of 64 bits.
     Double,
+    /// A number of 8 bits.
     Byte,
+    /// A number of 16 bits.
     Short,
+    /// A number of 32 bits.
     Int,
+    /// A number of 64 bits.
     Long,
 }
 
-/// How many bytes an identifier takes in a dump.
+/// The size of an identifier in a dump.
 #[derive(Clone, Copy, PartialEq, Eq, Debug)]
 pub enum IdSize {
+    /// Four bytes.
     Four,
+    /// Eight bytes.
     Eight,
 }
 
 /// The number of a class, in order of definition from 0.
 pub type ClassNo = u64;
 
-/// What an object is: an instance of a class, an array of references, or an array of values.
+/// The kind of an object.
 #[derive(Clone, Copy, PartialEq, Eq, Debug)]
 pub enum ObjKind {
+    /// An instance of this class.
     Instance(ClassNo),
+    /// An array of references, of this array class.
     Array(ClassNo),
+    /// An array of values of this kind, which isn't Object.
     Prim(Kind),
 }
 
-/// Where an object stands: a region and a cell of it.
+/// The place of an object: a region and a cell of it.
 #[derive(Clone, Copy, PartialEq, Eq, Debug)]
 pub struct ObjRef {
+    /// The number of the region, from 0.
     pub region: u16,
+    /// The number of the cell in its region, from 0.
     pub cell: u16,
 }
 
-/// Why a pin is lost.
+/// The reason why a pin is lost.
 #[derive(Clone, Copy, PartialEq, Eq, Debug)]
 pub enum LostCause {
+    /// A rewind went behind the place of the pin.
     Rewound,
+    /// An allocation for the pin failed.
     Memory,
+    /// The pin isn't open, or all numbers of pins are used.
     Closed,
 }
 
-/// Why a call was refused.
+/// The reason why a call was refused.
 #[derive(Clone, Copy, PartialEq, Eq, Debug)]
 pub enum Refusal {
+    /// An allocation failed.
     NoMemory,
+    /// There is no such class, or the super is an array class.
     NoClass,
+    /// The heap has 256 classes.
     ClassLimit,
+    /// A name is empty, has more than 64 bytes, or has a byte that no name may have.
     BadName,
+    /// A class has this name, or two of the fields have one name.
     DuplicateName,
+    /// The class would have more than 64 slots, inherited ones included.
     FieldLimit,
+    /// There is no such mutator or register.
     BadRegister,
+    /// The register is null.
     NullRegister,
+    /// The object has no such slot.
     BadSlot,
+    /// The class, slot or kind is of the wrong kind for this call.
     WrongKind,
+    /// The value isn't one of the slot's kind.
     OutOfRange,
+    /// An array would have more than 1,024 elements.
     TooLarge,
+    /// No region has a free cell of the size, and the pool is empty.
     HeapFull,
+    /// A cycle runs already.
     AlreadyMarking,
+    /// No cycle runs.
     NotMarking,
+    /// No object is gray.
     NothingToMark,
+    /// No entry of the log is left to drain.
     NothingToDrain,
+    /// The cycle can't finish: this many objects are gray, and this many entries of the log are left to drain.
     NotDone { gray: u64, undrained: u64 },
+    /// The cycle can't finish: this region, the lowest such, waits to be swept.
     SweepPending { region: u64 },
+    /// There is no region of this number, or it doesn't wait to be swept.
     NothingToSweep { region: u64 },
+    /// More steps were to be undone than are retained.
     TooFar { asked: u64, retained: u64 },
+    /// There is no such pin.
     NoPin,
+    /// The pin is lost, for this cause.
     Lost { cause: LostCause },
+    /// The place isn't retained.
     NotRetained,
+    /// Four pins are open, or all numbers of pins are used.
     PinLimit,
+    /// The chronicle has 1,000,000 entries.
     ChronicleFull,
 }
 
 impl Refusal {
-    /// The number of the refusal, 1 to 26.
+    /// Returns the number of the refusal, 1 to 26.
     pub fn number(self) -> u64
         ensures { result ≡ refusal_number self }
     {
@@ -145,7 +190,7 @@ impl Refusal {
         }
     }
 
-    /// The name of the refusal.
+    /// Returns the name of the refusal, as replies have it.
     pub fn name(self) -> &'static str
         ensures { result.now ≡ refusal_name self }
     {
@@ -202,7 +247,7 @@ impl<T: Drop> From<AllocFailed<T>> for Refusal {
     }
 }
 
-/// The bytes of a name. Contracts see the list.
+/// A name. Contracts see the list of its bytes.
 #[derive(Drop)]
 pub struct Name {
     bytes: Vec<u8>,
@@ -217,14 +262,14 @@ impl Model for Name {
 }
 
 impl Name {
-    /// The name of these bytes.
+    /// Returns the name with these bytes. Any bytes are taken: `define` checks them.
     pub fn from_vec(bytes: Vec<u8>) -> Name
         ensures { result ≡ bytes.items }
     {
         Name { bytes }
     }
 
-    /// A copy of these bytes as a name.
+    /// Returns a name with a copy of these bytes. Fails if the allocation fails.
     pub fn new(alloc: Global, bytes: &[u8]) -> Result<Name, AllocError>
         ensures { IfOk result (λ n. n ≡ bytes.now) }
     {
@@ -232,14 +277,14 @@ impl Name {
         Ok(Name { bytes })
     }
 
-    /// The bytes.
+    /// Returns the bytes of the name.
     pub fn as_bytes(&self) -> &[u8]
         ensures { result.now ≡ self.now }
     {
         self.bytes.as_slice()
     }
 
-    /// A copy.
+    /// Returns a copy of the name. Fails if the allocation fails.
     pub fn copied(&self, alloc: Global) -> Result<Name, AllocError>
         ensures { IfOk result (λ n. n ≡ self.now) }
     {
@@ -284,7 +329,9 @@ impl Hash for Name {
 /// A named slot of a class.
 #[derive(Drop)]
 pub struct Field {
+    /// The name of the field.
     pub name: Name,
+    /// The kind of its slot.
     pub kind: Kind,
 }
 
@@ -342,14 +389,14 @@ impl Eq for Fields {
 }
 
 impl Fields {
-    /// These fields.
+    /// Returns these fields as a class's own.
     pub fn from_vec(fields: Vec<Field>) -> Fields
         ensures { result ≡ fields.items }
     {
         Fields { fields }
     }
 
-    /// The fields, in order.
+    /// Returns the fields, in order.
     pub fn as_slice(&self) -> &[Field]
         ensures { result.now ≡ self.now }
     {
@@ -358,7 +405,7 @@ impl Fields {
 }
 
 impl IdSize {
-    /// The bytes of an identifier.
+    /// Returns the size of an identifier in bytes: 4 or 8.
     pub fn bytes(self) -> u64
         ensures { result ≡ id_bytes self }
     {
@@ -370,7 +417,7 @@ impl IdSize {
 }
 
 impl Kind {
-    /// The bytes that a value takes in a dump.
+    /// Returns the size of a value in a dump, in bytes: 1 to 8.
     pub fn width(self, ids: IdSize) -> u64
         ensures { result ≡ width_of ids self }
     {
@@ -383,7 +430,7 @@ impl Kind {
         }
     }
 
-    /// The byte that names the kind in a dump.
+    /// Returns the byte that names the kind in a dump.
     pub fn type_code(self) -> u8
         ensures { result ≡ type_code self }
     {
@@ -400,7 +447,7 @@ impl Kind {
         }
     }
 
-    /// The word that names the kind in a session.
+    /// Returns the word that names the kind in a session.
     pub fn word(self) -> &'static str
         ensures { result.now ≡ kind_word self }
     {
@@ -417,7 +464,7 @@ impl Kind {
         }
     }
 
-    /// Whether the value is one of the kind's.
+    /// Tells whether the number is a value of the kind. Kinds of n bytes have the values below 2^(8n), Boolean has 0 and 1.
     pub fn holds(self, value: u64) -> bool
         ensures { result ≡ nat_lt value (value_limit self) }
     {
@@ -430,7 +477,7 @@ impl Kind {
         }
     }
 
-    /// Whether slots of this kind hold references.
+    /// Tells whether slots of this kind hold references.
     pub fn is_reference(self) -> bool
         ensures { result ≡ is_reference self }
     {
@@ -441,14 +488,14 @@ impl Kind {
     }
 }
 
-// An own field of a class, its name as a place among the names.
+// An own field of a class. Its name is kept as a place among the names.
 #[derive(Clone, Copy)]
 struct OwnField {
     name: usize,
     kind: Kind,
 }
 
-// The bytes of a class's instances, for identifiers of four bytes and of eight.
+// The sizes of a class's instances in bytes, for identifiers of four bytes and of eight.
 #[derive(Clone, Copy)]
 struct Sizes {
     of_four: u16,
@@ -456,7 +503,7 @@ struct Sizes {
 }
 
 impl Sizes {
-    // The sizes of instances with these slots.
+    // Returns the sizes of instances with these slots.
     fn of(slots: &[Kind]) -> Sizes
         requires { length slots.now ≤ slot_limit }
         ensures { AreSizes slots.now result }
@@ -468,21 +515,21 @@ impl Sizes {
     }
 }
 
-// A class, its names as places among the names.
+// A class. Names are kept as places among the names.
 #[derive(Drop)]
 struct Entry {
     name: usize,
     sup: Option<ClassNo>,
     fields: Vec<OwnField>,
     is_array: bool,
-    // its own fields' kinds, then its super's slots
+    // The kinds of its own fields, then its super's slots.
     slots: Vec<Kind>,
     sizes: Sizes,
-    // how many names there were before the class
+    // The number of names before the class was defined.
     names_before: usize,
 }
 
-// Whether one of the classes has its name at the place.
+// Tells whether one of the classes has its name at the place.
 fn has_name_at(entries: &[Entry], place: usize) -> bool
     ensures { result ≡ list_any (λ e. e.name == place) entries.now }
 {
@@ -493,7 +540,7 @@ fn has_name_at(entries: &[Entry], place: usize) -> bool
 #[derive(Drop)]
 pub struct Classes {
     alloc: Global,
-    // the distinct names of classes and fields, in order of first use
+    // The distinct names of classes and fields, in order of first use.
     names: IndexSet<Name>,
     entries: Vec<Entry>,
 }
@@ -512,7 +559,7 @@ impl Model for Classes {
 }
 
 impl Classes {
-    /// No classes. Takes no memory.
+    /// Creates an empty list of classes. Takes no memory.
     pub fn new(alloc: Global) -> Classes
         ensures { result ≡ [] }
     {
@@ -523,7 +570,7 @@ impl Classes {
         }
     }
 
-    /// How many classes there are: at most 256.
+    /// Returns the number of classes: at most 256.
     pub fn len(&self) -> u64
         ensures value { result ≡ length self.now }
         ensures table { IsClassTable [] self.now }
@@ -532,7 +579,7 @@ impl Classes {
         self.entries.len() as u64
     }
 
-    // Whether the super, if there is one, is an instance class.
+    // Tells whether the super, if there is one, is an instance class.
     fn has_super(&self, sup: Option<ClassNo>) -> bool
         ensures { result ≡ option_map_or (is_instance_class self.now) sup true }
     {
@@ -542,7 +589,7 @@ impl Classes {
         }
     }
 
-    // Whether a class has the name.
+    // Tells whether a class has the name.
     fn has_class(&self, name: &Name) -> bool
         ensures { result ≡ list_any (λ d. bytes_eq d.name name.now) self.now }
     {
@@ -552,14 +599,14 @@ impl Classes {
         }
     }
 
-    // Whether a class has the name, or two of the fields share one.
+    // Tells whether a class has the name, or two of the fields share one.
     fn has_duplicate(&self, name: &Name, fields: &[Field]) -> bool
         ensures { result ≡ (list_any (λ d. bytes_eq d.name name.now) self.now || not (all_distinct (map (λ f. f.name) fields.now))) }
     {
         self.has_class(name) || !are_distinct(fields)
     }
 
-    // The slots that a class with this super inherits.
+    // Returns the slots that a class with this super inherits.
     fn slots_above(&self, sup: Option<ClassNo>) -> &[Kind]
         requires { option_map_or (is_instance_class self.now) sup true ≡ true }
         ensures value { result.now ≡ option_map_or (slots_of self.now) sup [] }
@@ -571,7 +618,7 @@ impl Classes {
         }
     }
 
-    // Why a class is refused, if it is.
+    // Returns the first refusal of a new class, or None if it is accepted.
     fn refusal(&self, name: &Name, sup: Option<ClassNo>, fields: &[Field]) -> Option<Refusal>
         ensures { (is_array : Bool) → result ≡ class_refusal self.now (record { name = name.now; sup = sup; fields = fields.now; is_array = is_array }) }
     {
@@ -593,7 +640,7 @@ impl Classes {
         None
     }
 
-    // Puts in a class that isn't refused, and grows all that it wants before anything changes.
+    // Adds a class, unless it is refused. Makes each growth before anything changes.
     fn add(
         &mut self,
         name: &Name,
@@ -628,7 +675,8 @@ impl Classes {
         Ok(number)
     }
 
-    /// Defines an instance class, and answers its number.
+    /// Defines an instance class, and returns its number. Fails with NoClass, ClassLimit, BadName, DuplicateName or FieldLimit,
+    /// in this order, and then with NoMemory if an allocation fails.
     pub fn define(
         &mut self,
         name: &Name,
@@ -643,7 +691,8 @@ impl Classes {
         self.add(name, sup, fields.as_slice(), false)
     }
 
-    /// Defines an array class, and answers its number.
+    /// Defines an array class, and returns its number. Fails with ClassLimit, BadName or DuplicateName, in this order, and then
+    /// with NoMemory if an allocation fails.
     pub fn define_array(&mut self, name: &Name) -> Result<ClassNo, Refusal>
         ensures answered { IsAnswered (class_refusal self.old (array_class name.now)) true result }
         ensures defined { OnOk result (self.new ≡ self.old ++ array_class name.now ∷ []) }
@@ -653,7 +702,7 @@ impl Classes {
         self.add(name, None, &[], true)
     }
 
-    /// Takes back the last definition. Takes no memory.
+    /// Undoes the last definition, which must be there. Takes no memory.
     pub fn undefine_last(&mut self)
         requires { 0 < length self.old }
         ensures { self.new ≡ take (length self.old - 1) self.old }
@@ -663,7 +712,7 @@ impl Classes {
         }
     }
 
-    /// Whether the number is that of an instance class.
+    /// Tells whether the number is that of an instance class.
     pub fn is_instance(&self, class: ClassNo) -> bool
         ensures { result ≡ is_instance_class self.now class }
     {
@@ -673,7 +722,7 @@ impl Classes {
         }
     }
 
-    /// Whether the number is that of an array class.
+    /// Tells whether the number is that of an array class.
     pub fn is_array(&self, class: ClassNo) -> bool
         ensures { result ≡ is_array_class self.now class }
     {
@@ -683,7 +732,7 @@ impl Classes {
         }
     }
 
-    /// The kinds of a class's slots: its own fields', then its super's slots'.
+    /// Returns the kinds of a class's slots: those of its own fields, then its super's slots. The class must be below `len`.
     pub fn slots(&self, class: ClassNo) -> &[Kind]
         requires { class < length self.now }
         ensures value { result.now ≡ slots_of self.now class }
@@ -692,7 +741,7 @@ impl Classes {
         self.entries[class as usize].slots.as_slice()
     }
 
-    /// The bytes of the class's instances in a dump.
+    /// Returns the size of the class's instances in a dump, in bytes. The class must be below `len`.
     pub fn instance_size(&self, ids: IdSize, class: ClassNo) -> u64
         requires { class < length self.now }
         ensures { result ≡ instance_size ids self.now class }
@@ -704,7 +753,7 @@ impl Classes {
         }
     }
 
-    /// The name of a class, of 1 to 64 bytes.
+    /// Returns the name of a class, of 1 to 64 bytes. The class must be below `len`.
     pub fn name(&self, class: ClassNo) -> &[u8]
         requires { class < length self.now }
         ensures value { result.now ≡ name_of self.now class }
@@ -713,7 +762,7 @@ impl Classes {
         name_in(&self.names, self.entries[class as usize].name)
     }
 
-    /// The super of a class.
+    /// Returns the super of a class, or None if it has none. The class must be below `len`.
     pub fn sup(&self, class: ClassNo) -> Option<ClassNo>
         requires { class < length self.now }
         ensures value { result ≡ sup_of self.now class }
@@ -722,7 +771,7 @@ impl Classes {
         self.entries[class as usize].sup
     }
 
-    /// How many fields of its own a class has: at most 64.
+    /// Returns the number of a class's own fields: at most 64. The class must be below `len`.
     pub fn field_count(&self, class: ClassNo) -> u64
         requires { class < length self.now }
         ensures value { result ≡ length (fields_of self.now class) }
@@ -731,7 +780,7 @@ impl Classes {
         self.entries[class as usize].fields.len() as u64
     }
 
-    /// The kind of an own field of a class.
+    /// Returns the kind of an own field of a class. The class must have the field.
     pub fn field_kind(&self, class: ClassNo, field: u64) -> Kind
         requires { field < length (fields_of self.now class) }
         ensures { IfSome (slice_get (fields_of self.now class) field) (λ f. result ≡ f.kind) }
@@ -739,15 +788,15 @@ impl Classes {
         self.entries[class as usize].fields[field as usize].kind
     }
 
-    /// The distinct names of classes and fields, in order of first use: class by class the class name, then its own
-    /// fields' names. Takes no memory.
+    /// Returns the distinct names of classes and fields, in order of first use: for each class its own name, then the names of
+    /// its own fields. Takes no memory.
     pub fn name_table(&self) -> &IndexSet<Name>
         ensures { result.now.keys ≡ name_table self.now }
     {
         &self.names
     }
 
-    /// How many distinct names there are, of classes and fields.
+    /// Returns the number of distinct names of classes and fields.
     pub fn name_count(&self) -> u64
         ensures value { result ≡ length (name_table self.now) }
         ensures limit { result ≤ 16640 }
@@ -755,7 +804,7 @@ impl Classes {
         self.names.len() as u64
     }
 
-    // How many distinct names the first classes have.
+    // Returns the number of distinct names of the first `count` classes.
     pub(crate) fn name_count_of_first(&self, count: u64) -> u64
         requires { count ≤ length self.now }
         ensures value { result ≡ length (name_table (take count self.now)) }
@@ -767,7 +816,7 @@ impl Classes {
         }
     }
 
-    /// The name that has the id `index + 1`: names have ids in order of first use.
+    /// Returns the name with the id `index + 1`. Names have ids in order of first use. `index` must be below `name_count`.
     pub fn name_at(&self, index: u64) -> &[u8]
         requires { index < length (name_table self.now) }
         ensures value { slice_get (name_table self.now) index ≡ Some result.now }
@@ -776,7 +825,7 @@ impl Classes {
         name_in(&self.names, index as usize)
     }
 
-    /// The id of the name of a class.
+    /// Returns the id of a class's name. The class must be below `len`.
     pub fn class_name_id(&self, class: ClassNo) -> u64
         requires { class < length self.now }
         ensures { result ≡ name_id self.now (name_of self.now class) }
@@ -784,7 +833,7 @@ impl Classes {
         self.entries[class as usize].name as u64 + 1
     }
 
-    /// The id of the name of an own field of a class.
+    /// Returns the id of the name of an own field of a class. The class must have the field.
     pub fn field_name_id(&self, class: ClassNo, field: u64) -> u64
         requires { field < length (fields_of self.now class) }
         ensures { IfSome (slice_get (fields_of self.now class) field) (λ f. result ≡ name_id self.now f.name) }

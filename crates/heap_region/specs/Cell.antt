@@ -1,4 +1,4 @@
--- Headers in sixteen bytes.
+-- For proofs: headers in sixteen bytes.
 use Rattle.std.specs.Prelude.{ℕ, false, Option, Some, None, option_map}
 use Rattle.heap_class.specs.declared.Kind.{Kind}
 use Rattle.heap_class.specs.declared.Kind.TheVariants as Kinds
@@ -9,7 +9,7 @@ use Rattle.heap_region.specs.declared.cell.Sort.{Sort}
 use Rattle.heap_region.specs.declared.cell.Sort.TheVariants as Sorts
 use Rattle.heap_region.specs.declared.cell.Cell.TheInside.{Inside}
 
--- what an object of this sort is
+-- the kind of an object of this sort, with this class or this kind of values
 abbrev pub kind_in : Sort → ℕ → Kind → Option ObjKind
 kind_in Sorts.Free class kind = None
 kind_in Sorts.Instance class kind = Some (Objects.Instance class)
@@ -20,16 +20,19 @@ kind_in Sorts.Prim class kind = Some (Objects.Prim kind)
 abbrev pub header_in : Inside → Option Header
 header_in c = option_map (λ kind. record { kind = kind; len = c.len; live = c.live; mark = c.mark }) (kind_in c.sort c.class c.kind)
 
+-- the sort of an object of this kind
 abbrev pub sort_of : ObjKind → Sort
 sort_of (Objects.Instance class) = Sorts.Instance
 sort_of (Objects.Array class) = Sorts.Array
 sort_of (Objects.Prim kind) = Sorts.Prim
 
+-- the class that a cell keeps of this kind, 0 if it has none
 abbrev pub class_of : ObjKind → ℕ
 class_of (Objects.Instance class) = class
 class_of (Objects.Array class) = class
 class_of (Objects.Prim kind) = 0
 
+-- the kind of values that a cell keeps of this kind, Object if it has none
 abbrev pub kind_of : ObjKind → Kind
 kind_of (Objects.Instance class) = Kinds.Object
 kind_of (Objects.Array class) = Kinds.Object

@@ -1,4 +1,4 @@
-//! What is in a cell beside its words, in sixteen bytes.
+//! Headers of cells, in sixteen bytes each.
 ghost use Rattle.std.specs.Prelude.{◌≡◌, ◌≤◌, Some, None};
 ghost use Rattle.heap_region.specs.Layout.{header_live};
 
@@ -6,7 +6,7 @@ use heap_class::{ClassNo, Kind, ObjKind};
 use std::marker::Model;
 use std::mem::size_of;
 
-/// What an object is, how many slots it has, and its two bits.
+// The header of an object: its kind, its number of slots, and its two bits.
 #[derive(Clone, Copy)]
 pub(crate) struct Header {
     pub(crate) kind: ObjKind,
@@ -15,7 +15,7 @@ pub(crate) struct Header {
     pub(crate) mark: bool,
 }
 
-/// What stands in a cell.
+// The sort of a cell: free, or the sort of the object in it.
 #[derive(Clone, Copy)]
 pub(crate) enum Sort {
     Free,
@@ -24,7 +24,7 @@ pub(crate) enum Sort {
     Prim,
 }
 
-/// A cell: the header of the object in it, or nothing where it is free. Contracts see the header.
+// A cell: the header of the object in it, or none if it is free. Contracts see the header.
 #[derive(Clone, Copy)]
 pub(crate) struct Cell {
     // The class of an instance or of an array of references, else 0.
@@ -74,7 +74,7 @@ impl Default for Cell {
 }
 
 impl Cell {
-    /// Returns a cell with an object of this header.
+    // Returns a cell with an object of this header.
     #[inline(always)]
     pub(crate) fn taken(header: Header) -> Cell
         requires { header.len ≤ 1024 }
@@ -95,7 +95,7 @@ impl Cell {
         }
     }
 
-    /// Returns the header of the object in the cell. None if the cell is free.
+    // Returns the header of the object in the cell, or None if the cell is free.
     #[inline(always)]
     pub(crate) fn header(&self) -> Option<Header>
         ensures { result ≡ self.now }
@@ -114,7 +114,7 @@ impl Cell {
         })
     }
 
-    /// Tells whether the object in the cell is live. False if the cell is free.
+    // Tells whether the object in the cell is live. False if the cell is free.
     #[inline(always)]
     pub(crate) fn is_live(&self) -> bool
         ensures { result ≡ header_live self.now }

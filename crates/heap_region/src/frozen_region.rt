@@ -32,7 +32,7 @@ impl Model for FrozenRegion {
 }
 
 impl Block {
-    // Copies the words and the headers. It stays a call, so that no other function has a block on its stack.
+    // Copies the words and the headers. It is never inlined, so that no other function has a block on its stack.
     #[inline(never)]
     fn copied(&self, alloc: Global) -> Result<Box<Block>, AllocError>
         ensures { IfOk result (λ b. (b.value.words ≡ self.now.words) × (b.value.headers.items ≡ self.now.headers.items)) }
@@ -50,7 +50,7 @@ impl Block {
 }
 
 impl Storage {
-    /// Returns a copy of the region. Fails if there is no memory for it.
+    /// Returns a copy of the region. Fails if the allocation fails.
     pub fn freeze(&self, alloc: Global) -> Result<FrozenRegion, AllocError>
         ensures { IfOk result (λ f. f ≡ frozen self.now) }
     {
@@ -62,7 +62,7 @@ impl Storage {
 }
 
 impl FrozenRegion {
-    /// Returns the number of words of each cell: at most 1,024.
+    /// Returns the size of each cell in words: at most 1,024.
     pub fn cell_size(&self) -> u64
         ensures value { result ≡ self.now.cell_size }
         ensures limit { result ≤ 1024 }
@@ -70,7 +70,7 @@ impl FrozenRegion {
         self.cell_size as u64
     }
 
-    /// Returns the kind of the object in the cell.
+    /// Returns the kind of the object in the cell, which must have one.
     pub fn kind(&self, cell: u64) -> ObjKind
         requires { IsSome (frozen_object self.now cell) }
         ensures { IfSome (frozen_object self.now cell) (λ o. result ≡ o.kind) }
@@ -78,7 +78,7 @@ impl FrozenRegion {
         header_at(&self.block.headers, cell as usize).kind
     }
 
-    /// Returns the words of the object in the cell, in slot order.
+    /// Returns the words of the object in the cell, in slot order. The cell must have one.
     pub fn words(&self, cell: u64) -> &[u64]
         requires { IsSome (frozen_object self.now cell) }
         ensures { IfSome (frozen_object self.now cell) (λ o. result.now ≡ o.words) }
@@ -88,7 +88,7 @@ impl FrozenRegion {
         part(&block.words, cell as usize * self.cell_size as usize, len)
     }
 
-    /// Writes a word of the object in the cell.
+    /// Writes a word of the object in the cell, which must have the slot. Takes no memory.
     pub fn set_word(&mut self, cell: u64, slot: u64, value: u64)
         requires { slot < length (frozen_words self.old cell) }
         ensures { self.new ≡ frozen_word_set cell slot value self.old }
@@ -97,7 +97,8 @@ impl FrozenRegion {
         self.block.words[at] = value;
     }
 
-    /// Puts an object into the cell, whatever was there.
+    /// Puts an object into the cell, whether or not the cell had one. The cells must have the least size that holds it. Takes
+    /// no memory.
     pub fn put(&mut self, cell: u64, object: &ObjectCopy)
         requires within { cell < length self.old.cells }
         requires fits { FitsWords self.old.cell_size (length object.now.words) }

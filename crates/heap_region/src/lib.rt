@@ -44,7 +44,7 @@ pub struct Regions {
     slots: Vec<Option<Storage>>,
     // For each region the number of its cell size if one of its cells is free, else 0.
     rooms: Vec<u8>,
-    // The empty regions, the head last; it has room for all.
+    // The empty regions, the head last. It has room for all regions.
     pool: Vec<usize>,
 }
 
@@ -61,8 +61,8 @@ impl Model for Regions {
     ghost invariant = { λ h. IsTable h.slots.items h.rooms.items (reverse h.pool.items) (vec_capacity h.pool) };
 }
 
-/// The cell size for an object of this many slots: the least of 4, 16, 64, 256 and 1,024 words that holds them.
-/// For more than 1,024 slots, of which `alloc` makes no object, it is 1,024, too.
+/// Returns the cell size for an object of `slots` slots: the least of 4, 16, 64, 256 and 1,024 words that holds them. It is
+/// 1,024 too for more than 1,024 slots, of which `alloc` makes no object.
 #[tactic(auto, unfolding(crate::specs::Regions::cell_size_for))]
 pub fn cell_size_for(slots: u64) -> u64
     ensures { result ≡ cell_size_for slots }
@@ -81,8 +81,8 @@ pub fn cell_size_for(slots: u64) -> u64
 }
 
 impl Regions {
-    /// So many empty regions, 1 to 256. It makes three allocations, one of them the pool's, which has room for all regions.
-    /// Refused NoMemory where one can't be had.
+    /// Creates `count` empty regions, 1 to 256. Fails with NoMemory if one of its three allocations fails. One of these is the
+    /// pool, which has room for all regions.
     pub fn new(alloc: Global, count: u64) -> Result<Regions, Refusal>
         requires { (1 ≤ count) × (count ≤ region_limit) }
         ensures opened { IfOk result (λ s. s ≡ opening_pool count) }
@@ -94,7 +94,7 @@ impl Regions {
         }
     }
 
-    /// How many regions there are.
+    /// Returns the number of regions.
     pub fn count(&self) -> u64
         ensures value { result ≡ length self.now.regions }
         ensures limit { (1 ≤ result) × (result ≤ region_limit) }
@@ -103,15 +103,16 @@ impl Regions {
         self.slots.len() as u64
     }
 
-    /// The allocator from which regions and copies of objects are taken. Every `Global` is the same.
+    /// Returns the allocator of regions and of copies of objects. Every `Global` is the same.
     pub fn allocator(&self) -> Global
         ensures { (other : Global) → result ≡ other }
     {
         self.alloc
     }
 
-    /// Makes an object of `len` slots, each 0, and answers its place and whether its region was taken from the pool.
-    /// Refused TooLarge, HeapFull, or NoMemory where a region's storage can't be had.
+    /// Makes an object of `len` slots, each 0, and returns its place and whether its region was taken from the pool. Fails with
+    /// TooLarge if `len` is more than 1,024, with HeapFull if no region has a free cell of its size and the pool is empty, and
+    /// with NoMemory if a region's storage can't be allocated.
     pub fn alloc(&mut self, kind: ObjKind, len: u64, mark: bool) -> Result<(ObjRef, bool), Refusal>
         ensures answered { IsAnswered (alloc_refusal len self.old) (is_fresh len self.old) result }
         ensures placed { IfOk result (λ p. new_place len self.old ≡ Some p) }
@@ -141,7 +142,8 @@ impl Regions {
         Ok((at, true))
     }
 
-    /// Takes back an allocation. Takes no memory.
+    /// Undoes `alloc`, given the place and the flag that it returned. If the flag is false, another object must be in the
+    /// region. Takes no memory.
     pub fn unalloc(&mut self, at: ObjRef, fresh: bool)
         requires there { IsSome (object_at self.old.regions at) }
         requires another { fresh ≡ false → (other : ObjRef) × (other.region ≡ at.region) × (other ≢ at) × IsSome (object_at self.old.regions other) }
@@ -155,7 +157,7 @@ impl Regions {
         }
     }
 
-    /// Whether there is an object in the cell.
+    /// Tells whether there is an object in the cell. False if the heap doesn't have the cell.
     pub fn has_object(&self, at: ObjRef) -> bool
         ensures { result ≡ is_some (object_at self.now.regions at) }
     {
@@ -165,7 +167,7 @@ impl Regions {
         }
     }
 
-    /// What the object in the cell is.
+    /// Returns the kind of the object in the cell, which must have one.
     #[inline(always)]
     pub fn kind(&self, at: ObjRef) -> ObjKind
         requires { IsSome (object_at self.now.regions at) }
@@ -174,7 +176,7 @@ impl Regions {
         self.storage(at.region as usize).kind(at.cell as usize)
     }
 
-    /// How many slots the object in the cell has: at most 1,024.
+    /// Returns the number of slots of the object in the cell, which must have one: at most 1,024.
     #[inline(always)]
     pub fn len(&self, at: ObjRef) -> u64
         requires { IsSome (object_at self.now.regions at) }
@@ -184,7 +186,7 @@ impl Regions {
         self.storage(at.region as usize).len(at.cell as usize) as u64
     }
 
-    /// The two bits of the object in the cell, `live` and `mark`.
+    /// Returns the two bits of the object in the cell, `live` and `mark`. The cell must have one.
     pub fn bits(&self, at: ObjRef) -> (bool, bool)
         requires { IsSome (object_at self.now.regions at) }
         ensures { IfSome (object_at self.now.regions at) (λ o. (result.0 ≡ o.live) × (result.1 ≡ o.mark)) }
@@ -192,7 +194,7 @@ impl Regions {
         self.storage(at.region as usize).bits(at.cell as usize)
     }
 
-    /// A word of the object in the cell.
+    /// Returns a word of the object in the cell. The object must have the slot.
     #[inline(always)]
     pub fn word(&self, at: ObjRef, slot: u64) -> u64
         requires there { IsSome (object_at self.now.regions at) }
@@ -203,7 +205,7 @@ impl Regions {
             .word(at.cell as usize, slot as usize)
     }
 
-    /// The words of the object in the cell, in slot order.
+    /// Returns the words of the object in the cell, in slot order. The cell must have one.
     pub fn words(&self, at: ObjRef) -> &[u64]
         requires { IsSome (object_at self.now.regions at) }
         ensures { IfSome (object_at self.now.regions at) (λ o. result.now ≡ o.words) }
@@ -211,7 +213,7 @@ impl Regions {
         self.storage(at.region as usize).words(at.cell as usize)
     }
 
-    /// Writes a word of the object in the cell.
+    /// Writes a word of the object in the cell. The object must have the slot. Takes no memory.
     #[inline(always)]
     pub fn set_word(&mut self, at: ObjRef, slot: u64, value: u64)
         requires there { IsSome (object_at self.old.regions at) }
@@ -226,7 +228,7 @@ impl Regions {
         );
     }
 
-    /// The words of each cell of a region; none where it is empty or there is no such region.
+    /// Returns the size of each cell of a region in words, or None if it is empty or there is no such region.
     pub fn cell_size(&self, region: u64) -> Option<u64>
         ensures { result ≡ option_map (λ u. u.cell_size) (used_at self.now.regions region) }
     {
@@ -236,14 +238,14 @@ impl Regions {
         }
     }
 
-    /// Returns what is in a region. None if it is empty, or the heap doesn't have it.
+    /// Returns the storage of a region, or None if it is empty or there is no such region.
     pub fn region(&self, region: u64) -> Option<&Storage>
         ensures { MatchOption result (used_at self.now.regions region ≡ None) (λ s. used_at self.now.regions region ≡ Some s.now) }
     {
         self.used(region as usize)
     }
 
-    /// How many cells a region in use has.
+    /// Returns the number of cells of a region, which must be in use.
     pub fn cell_count(&self, region: u64) -> u16
         requires { IsSome (used_at self.now.regions region) }
         ensures value { result ≡ length (cells_of (used_at self.now.regions region)) }
@@ -252,7 +254,7 @@ impl Regions {
         self.storage(region as usize).cells() as u16
     }
 
-    /// The number of a region in use, as the places of its cells have it.
+    /// Returns the number of a region in use, as the places of its cells have it.
     pub fn region_number(&self, region: u64) -> u16
         requires { IsSome (used_at self.now.regions region) }
         ensures { result ≡ region }
@@ -261,7 +263,7 @@ impl Regions {
         region as u16
     }
 
-    /// Whether a region is yet to be swept; none where it is empty or there is no such region.
+    /// Tells whether a region waits to be swept. None if it is empty or there is no such region.
     pub fn pending(&self, region: u64) -> Option<bool>
         ensures { result ≡ option_map (λ u. u.pending) (used_at self.now.regions region) }
     {
@@ -271,7 +273,7 @@ impl Regions {
         }
     }
 
-    /// The id of a cell: the address of its first word.
+    /// Returns the id of a cell: the address of its first word.
     pub fn id(&self, at: ObjRef) -> u64
         ensures value { result ≡ id_of self.now.regions at }
     {
@@ -279,7 +281,7 @@ impl Regions {
         OBJECT_BASE + 8 * (REGION_WORDS * at.region as u64 + at.cell as u64 * size)
     }
 
-    /// The place of the object that an id names; none where it names no object. It costs a constant.
+    /// Returns the place of the object that an id names, or None if it names none. Takes constant time.
     pub fn find(&self, id: u64) -> Option<ObjRef>
         ensures { MatchOption result (object_of self.now.regions id ≡ None) (λ at. (ref_of self.now.regions id ≡ Some at) × IsSome (object_at self.now.regions at)) }
     {
@@ -301,7 +303,7 @@ impl Regions {
         }
     }
 
-    /// The place of the object that an id names. Whether it names one `find` tells.
+    /// Returns the place of the object that an id names. The id must name one; `find` checks.
     #[inline(always)]
     pub fn place(&self, id: u64) -> ObjRef
         requires { IsSome (object_of self.now.regions id) }
@@ -316,14 +318,14 @@ impl Regions {
         }
     }
 
-    /// The first live object by region and cell.
+    /// Returns the place of the first live object, by region and cell.
     pub fn first_live(&self) -> Option<ObjRef>
         ensures { result ≡ slice_get (live_places self.now.regions) 0 }
     {
         self.live_from(0)
     }
 
-    /// The next live object after a live one, by region and cell.
+    /// Returns the place of the next live object after a place, by region and cell.
     pub fn next_live(&self, at: ObjRef) -> Option<ObjRef>
         ensures { (i : ℕ) → slice_get (live_places self.now.regions) i ≡ Some at → result ≡ slice_get (live_places self.now.regions) (i + 1) }
     {
@@ -333,7 +335,7 @@ impl Regions {
         }
     }
 
-    /// Writes the `mark` bit of an object. A second such call can take the first back.
+    /// Writes the `mark` bit of an object, which must be there. A call with the old bit undoes it. Takes no memory.
     pub fn set_mark(&mut self, at: ObjRef, mark: bool)
         requires { IsSome (object_at self.old.regions at) }
         ensures state { self.new ≡ record self.old { regions = with_mark mark at self.old.regions } }
@@ -342,7 +344,7 @@ impl Regions {
         set_mark_in(&mut self.slots[at.region as usize], at.cell as usize, mark);
     }
 
-    /// Writes the `live` bit of an object. A second such call can take the first back.
+    /// Writes the `live` bit of an object, which must be there. A call with the old bit undoes it. Takes no memory.
     pub fn set_live(&mut self, at: ObjRef, live: bool)
         requires { IsSome (object_at self.old.regions at) }
         ensures state { self.new ≡ record self.old { regions = with_live live at self.old.regions } }
@@ -351,7 +353,7 @@ impl Regions {
         set_live_in(&mut self.slots[at.region as usize], at.cell as usize, live);
     }
 
-    /// Says whether a region in use is yet to be swept. A second such call can take the first back.
+    /// Sets whether a region in use waits to be swept. A call with the old flag undoes it. Takes no memory.
     pub fn set_pending(&mut self, region: u64, pending: bool)
         requires { IsSome (used_at self.old.regions region) }
         ensures state { self.new ≡ record self.old { regions = with_pending pending region self.old.regions } }
@@ -360,7 +362,7 @@ impl Regions {
         set_pending_in(&mut self.slots[region as usize], pending);
     }
 
-    /// A copy of the object in the cell. Refused NoMemory where there is no room for its words.
+    /// Returns a copy of the object in the cell, which must have one. Fails with NoMemory if its words can't be allocated.
     pub fn object(&self, at: ObjRef) -> Result<ObjectCopy, Refusal>
         requires { IsSome (object_at self.now.regions at) }
         ensures copied { IfOk result (λ o. object_at self.now.regions at ≡ Some o) }
@@ -373,8 +375,8 @@ impl Regions {
         }
     }
 
-    /// Takes an object out of its cell, which then heads the free list; another object of the region stays.
-    /// It takes an `unfree` back.
+    /// Takes an object out of its cell, which then heads the free list. Another object must be in the region. Undoes `unfree`.
+    /// Takes no memory.
     pub fn free(&mut self, at: ObjRef)
         requires there { IsSome (object_at self.old.regions at) }
         requires another { (other : ObjRef) × (other.region ≡ at.region) × (other ≢ at) × IsSome (object_at self.old.regions other) }
@@ -386,8 +388,8 @@ impl Regions {
         self.rooms[region] = room(&self.slots[region]);
     }
 
-    /// Puts an object into the cell, which heads its region's free list, of cells of the least size that holds it.
-    /// It takes a `free` back. Takes no memory.
+    /// Puts an object into the cell that heads its region's free list. The cells must have the least size that holds it. Undoes
+    /// `free`. Takes no memory.
     pub fn unfree(&mut self, at: ObjRef, object: &ObjectCopy)
         requires { IsSomeAnd (used_at self.old.regions at.region) (λ u. (slice_get u.free 0 ≡ Some at.cell) × FitsWords u.cell_size (length object.now.words)) }
         ensures state { self.new ≡ taken at object.now self.old }
@@ -398,7 +400,7 @@ impl Regions {
         self.rooms[region] = room(&self.slots[region]);
     }
 
-    /// Moves a region's storage out; the region is then empty and heads the pool. It takes a `restore` back.
+    /// Moves the storage out of a region in use, which is then empty and heads the pool. Undoes `restore`. Takes no memory.
     pub fn release(&mut self, region: u64) -> Storage
         requires { IsSome (used_at self.old.regions region) }
         ensures storage { used_at self.old.regions region ≡ Some result }
@@ -416,8 +418,8 @@ impl Regions {
         }
     }
 
-    /// Moves a storage with an object, of which `Storage::has_object` tells, into the region that heads the pool.
-    /// It takes a `release` back. Takes no memory.
+    /// Moves a storage into the region that heads the pool. The storage must have an object; `Storage::has_object` checks.
+    /// Undoes `release`. Takes no memory.
     pub fn restore(&mut self, region: u64, storage: Storage)
         requires head { slice_get self.old.pool 0 ≡ Some region }
         requires inhabited { (cell : ℕ) × (o : Object) × (slice_get storage.cells cell ≡ Some (Some o)) }
@@ -430,7 +432,7 @@ impl Regions {
         self.rooms[region] = room(&self.slots[region]);
     }
 
-    /// Returns a copy of a region in use. Fails with NoMemory.
+    /// Returns a copy of a region in use. Fails with NoMemory if the allocation fails.
     pub fn freeze(&self, region: u64) -> Result<FrozenRegion, Refusal>
         requires { IsSome (used_at self.now.regions region) }
         ensures copied { IfOk result (λ f. region_frozen self.now.regions region ≡ Some f) }
@@ -442,7 +444,7 @@ impl Regions {
         }
     }
 
-    /// The free cells of a region in use, head first.
+    /// Returns the free cells of a region in use, head first.
     pub fn free_list(&self, region: u64) -> FreeCells<'_>
         requires { IsSome (used_at self.now.regions region) }
         ensures { IfSome (used_at self.now.regions region) (λ u. result ≡ u.free) }
@@ -450,7 +452,7 @@ impl Regions {
         self.storage(region as usize).free_list()
     }
 
-    /// The empty regions, in the order in which they are taken.
+    /// Returns the empty regions, in the order in which they are taken.
     pub fn pool(&self) -> PoolRegions<'_>
         ensures { result ≡ self.now.pool }
     {
@@ -459,7 +461,7 @@ impl Regions {
         }
     }
 
-    // So many empty regions.
+    // Creates `count` empty regions. Fails if an allocation fails.
     fn open(alloc: Global, count: usize) -> Result<Regions, AllocError>
         requires { (1 ≤ count) × (count ≤ region_limit) }
         ensures { IfOk result (λ s. s ≡ opening_pool count) }
@@ -480,7 +482,7 @@ impl Regions {
         })
     }
 
-    // A region, if it is in use.
+    // Returns the storage of a region if it is in use.
     #[inline(always)]
     fn used(&self, region: usize) -> Option<&Storage>
         ensures value { MatchOption result (used_at self.now.regions region ≡ None) (λ s. used_at self.now.regions region ≡ Some s.now) }
@@ -489,7 +491,7 @@ impl Regions {
         slot_at(&self.slots, region)
     }
 
-    // A region in use.
+    // Returns the storage of a region in use.
     #[inline(always)]
     fn storage(&self, region: usize) -> &Storage
         requires { IsSome (used_at self.now.regions region) }
@@ -502,7 +504,7 @@ impl Regions {
         }
     }
 
-    // The words of each cell of a region, or 0 where it is empty.
+    // Returns the size of each cell of a region in words, or 0 if it is empty.
     fn size_of(&self, region: usize) -> u64
         ensures value { result ≡ option_map_or (λ u. u.cell_size) (used_at self.now.regions region) 0 }
         ensures limit { result ≤ 1024 }
@@ -513,7 +515,7 @@ impl Regions {
         }
     }
 
-    // The head of the free list of the lowest region that has a free cell of this size.
+    // Returns the head of the free list of the lowest region that has a free cell of this size.
     fn place_for(&self, size: usize) -> Option<ObjRef>
         requires { IsCellSize size }
         ensures { result ≡ slice_get (filter_map (free_place size) (enumerate_from 0 self.now.regions)) 0 }
@@ -526,7 +528,7 @@ impl Regions {
         })
     }
 
-    // The head of the pool.
+    // Returns the region at the head of the pool.
     fn spare(&self) -> Option<usize>
         ensures value { result ≡ slice_get self.now.pool 0 }
         ensures limit { IfSome result (λ region. region < region_limit) }
@@ -534,7 +536,7 @@ impl Regions {
         pool_head(&self.pool)
     }
 
-    // Puts a new object into the cell, which heads its region's free list.
+    // Puts a new object into the cell that heads its region's free list.
     fn take_at(&mut self, at: ObjRef, kind: ObjKind, len: usize, mark: bool)
         requires { IsSomeAnd (used_at self.old.regions at.region) (λ u. (slice_get u.free 0 ≡ Some at.cell) × FitsWords u.cell_size len) }
         ensures { self.new ≡ taken at (blank_object kind len mark) self.old }
@@ -544,7 +546,7 @@ impl Regions {
         self.rooms[region] = room(&self.slots[region]);
     }
 
-    // The first live object of a region from a cell on.
+    // Returns the place of the first live object of a region from a cell on.
     fn next_live_in(&self, region: usize, from: usize) -> Option<ObjRef>
         ensures { result ≡ slice_get (live_in self.now.regions region from) 0 }
     {
@@ -556,7 +558,7 @@ impl Regions {
         })
     }
 
-    // The first live object from a region on.
+    // Returns the place of the first live object from a region on.
     fn live_from(&self, first: usize) -> Option<ObjRef>
         ensures { result ≡ slice_get (live_from self.now.regions first) 0 }
     {

@@ -1,4 +1,4 @@
-//! A region in use: 1,024 words, cut into cells of one size, with the free cells in a list that lies in them.
+//! A region in use: 1,024 words, cut into cells of one size, with a free list that lies in the free cells.
 ghost use Rattle.std.specs.Prelude.{◌≡◌, ℕ, ◌+◌, ◌-◌, ◌*◌, ◌/◌, ◌<◌, ◌≤◌, List, [], ◌∷◌, length, ◌↔◌, IsTrue, IfOk, IsSome, IfSome, slice_index, slice_index_or, replicate, take, drop, Some, None, is_some, option_map, slice_get, slice_set};
 ghost use Rattle.heap_region.specs.Regions.{FitsWords, cell_object};
 ghost use Rattle.heap_region.specs.Pool.{blank_object, cell_freed, fresh_region};
@@ -12,11 +12,11 @@ use heap_class::ObjKind;
 use std::alloc::{AllocError, Global};
 use std::marker::Model;
 
-// What one region takes of the memory.
+// The words and the headers of one region, allocated together.
 #[derive(Drop)]
 pub(crate) struct Block {
     pub(crate) words: [u64; 1024],
-    // What is in each cell beside its words.
+    // The headers of the cells.
     pub(crate) headers: ArrayVec<Cell, 256>,
 }
 
@@ -25,7 +25,7 @@ pub(crate) struct Block {
 pub struct Storage {
     pub(crate) block: Box<Block>,
     pub(crate) cell_size: u16,
-    // The number of the cell that heads the free list, and one; 0 where there is none.
+    // The number of the cell that heads the free list plus one, or 0 if there is none.
     // The first word of each free cell has the next such number.
     head: u16,
     pending: bool,
@@ -72,28 +72,28 @@ impl Model for ObjectCopy {
 }
 
 impl ObjectCopy {
-    /// What the object is.
+    /// Returns the kind of the object.
     pub fn kind(&self) -> ObjKind
         ensures { result ≡ self.now.kind }
     {
         self.kind
     }
 
-    /// How many slots the object has.
+    /// Returns the number of slots of the object.
     pub fn len(&self) -> u64
         ensures { result ≡ length self.now.words }
     {
         self.words.len() as u64
     }
 
-    /// The words of the object, in slot order.
+    /// Returns the words of the object, in slot order.
     pub fn words(&self) -> &[u64]
         ensures { result.now ≡ self.now.words }
     {
         &self.words
     }
 
-    /// The two bits of the object, `live` and `mark`.
+    /// Returns the two bits of the object, `live` and `mark`.
     pub fn bits(&self) -> (bool, bool)
         ensures { (result.0 ≡ self.now.live) × (result.1 ≡ self.now.mark) }
     {
@@ -101,7 +101,7 @@ impl ObjectCopy {
     }
 }
 
-// The header of a cell that has an object.
+// Returns the header of the object in a cell, which must have one.
 #[inline(always)]
 pub(crate) fn header_at(headers: &[Cell], cell: usize) -> Header
     requires { IsSome (slice_index_or headers.now cell None) }
@@ -113,7 +113,7 @@ pub(crate) fn header_at(headers: &[Cell], cell: usize) -> Header
     }
 }
 
-// Whether a cell has an object.
+// Tells whether a cell has an object.
 fn is_taken(headers: &[Cell], cell: usize) -> bool
     ensures { result ≡ is_some (slice_index_or headers.now cell None) }
 {
@@ -143,7 +143,7 @@ fn liveness_at(headers: &[Cell], cell: usize) -> Option<bool>
     }
 }
 
-// So many words from `start` on.
+// Returns the `len` words from `start` on.
 pub(crate) fn part(words: &[u64], start: usize, len: usize) -> &[u64]
     requires { start + len ≤ length words.now }
     ensures { result.now ≡ take len (drop start words.now) }
@@ -151,7 +151,7 @@ pub(crate) fn part(words: &[u64], start: usize, len: usize) -> &[u64]
     &words[start..start + len]
 }
 
-// Makes so many words from `start` on 0.
+// Sets the `len` words from `start` on to 0.
 fn clear(words: &mut [u64], start: usize, len: usize)
     requires { start + len ≤ length words.old }
     ensures { words.new ≡ overwritten words.old start (replicate len 0) }
@@ -159,7 +159,7 @@ fn clear(words: &mut [u64], start: usize, len: usize)
     words[start..start + len].fill(0);
 }
 
-// Copies the words in from `start` on.
+// Copies words over those from `start` on.
 pub(crate) fn overwrite(words: &mut [u64], start: usize, from: &[u64])
     requires { start + length from.now ≤ length words.old }
     ensures { words.new ≡ overwritten words.old start from.now }
@@ -196,7 +196,7 @@ fn set_free(headers: &mut ArrayVec<Cell, 256>, cell: usize)
     headers[cell] = Cell::default();
 }
 
-// Adds so many cells, all of them free.
+// Adds `count` cells to none, all of them free.
 fn add_vacant(headers: &mut ArrayVec<Cell, 256>, count: usize)
     requires none { headers.old.items ≡ [] }
     requires few { count ≤ 256 }
@@ -208,7 +208,7 @@ fn add_vacant(headers: &mut ArrayVec<Cell, 256>, count: usize)
 }
 
 impl Block {
-    // Words that are all 0, and no cells. It stays a call, so that no other function has a block on its stack.
+    // Returns words that are all 0, and no cells. It is never inlined, so that no other function has a block on its stack.
     #[inline(never)]
     fn blank(alloc: Global) -> Result<Box<Block>, AllocError>
         ensures { IfOk result (λ b. (b.value.words ≡ replicate 1024 0) × (b.value.headers.items ≡ [])) }
@@ -222,7 +222,7 @@ impl Block {
 }
 
 impl Storage {
-    /// A region with cells of this size, all of them free.
+    // Creates a region with cells of this size, all of them free. Fails if the allocation fails.
     pub(crate) fn new(alloc: Global, cell_size: usize) -> Result<Storage, AllocError>
         requires { IsCellSize cell_size }
         ensures { IfOk result (λ s. s ≡ fresh_region cell_size) }
@@ -239,7 +239,7 @@ impl Storage {
         })
     }
 
-    /// How many cells the region has.
+    /// Returns the number of cells of the region: at most 256.
     pub fn cells(&self) -> u64
         ensures value { result ≡ length self.now.cells }
         ensures limit { result ≤ 256 }
@@ -247,7 +247,7 @@ impl Storage {
         self.block.headers.len() as u64
     }
 
-    /// The words of each cell.
+    // Returns the size of each cell in words.
     #[inline(always)]
     pub(crate) fn cell_size(&self) -> usize
         ensures value { result ≡ self.now.cell_size }
@@ -256,21 +256,21 @@ impl Storage {
         self.cell_size as usize
     }
 
-    /// Whether the region is yet to be swept.
+    // Tells whether the region waits to be swept.
     pub(crate) fn pending(&self) -> bool
         ensures { result ≡ self.now.pending }
     {
         self.pending
     }
 
-    /// Says whether the region is yet to be swept.
+    // Sets whether the region waits to be swept.
     pub(crate) fn set_pending(&mut self, pending: bool)
         ensures { self.new ≡ record self.old { pending = pending } }
     {
         self.pending = pending;
     }
 
-    /// The cell that heads the free list.
+    // Returns the cell that heads the free list.
     pub(crate) fn first_free(&self) -> Option<usize>
         ensures value { result ≡ slice_get self.now.free 0 }
         ensures limit { IfSome result (λ cell. cell < 256) }
@@ -282,7 +282,7 @@ impl Storage {
         }
     }
 
-    /// The free cells, head first.
+    // Returns the free cells, head first.
     pub(crate) fn free_list(&self) -> FreeCells<'_>
         ensures { result ≡ self.now.free }
     {
@@ -295,7 +295,7 @@ impl Storage {
         }
     }
 
-    /// How many slots the object in the cell has.
+    // Returns the number of slots of the object in the cell.
     #[inline(always)]
     pub(crate) fn len(&self, cell: usize) -> usize
         requires { IsSome (cell_object self.now cell) }
@@ -305,7 +305,7 @@ impl Storage {
         header_at(&self.block.headers, cell).len
     }
 
-    /// What the object in the cell is.
+    // Returns the kind of the object in the cell.
     #[inline(always)]
     pub(crate) fn kind(&self, cell: usize) -> ObjKind
         requires { IsSome (cell_object self.now cell) }
@@ -314,7 +314,7 @@ impl Storage {
         header_at(&self.block.headers, cell).kind
     }
 
-    /// The two bits of the object in the cell, `live` and `mark`.
+    // Returns the two bits of the object in the cell, `live` and `mark`.
     pub(crate) fn bits(&self, cell: usize) -> (bool, bool)
         requires { IsSome (cell_object self.now cell) }
         ensures { IfSome (cell_object self.now cell) (λ o. (result.0 ≡ o.live) × (result.1 ≡ o.mark)) }
@@ -323,14 +323,14 @@ impl Storage {
         (header.live, header.mark)
     }
 
-    /// Whether there is an object in the cell; none is in a cell that the region doesn't have.
+    /// Tells whether there is an object in the cell. False if the region doesn't have the cell.
     pub fn has_object(&self, cell: u64) -> bool
         ensures { result ≡ is_some (slice_index_or self.now.cells cell None) }
     {
         is_taken(&self.block.headers, cell as usize)
     }
 
-    /// Tells whether the object in the cell is live. None if there is no object in it, or the region doesn't have the cell.
+    /// Tells whether the object in the cell is live. None if there is no object in it or the region doesn't have the cell.
     #[inline(always)]
     pub fn liveness(&self, cell: u64) -> Option<bool>
         ensures { result ≡ option_map (λ o. o.live) (cell_object self.now cell) }
@@ -338,7 +338,7 @@ impl Storage {
         liveness_at(&self.block.headers, cell as usize)
     }
 
-    /// The first cell from this one on that has a live object.
+    // Returns the first cell from this one on that has a live object.
     pub(crate) fn next_live(&self, from: usize) -> Option<usize>
         ensures value { IsNextLive self.now from result }
         ensures limit { IfSome result (λ cell. cell < 256) }
@@ -352,7 +352,7 @@ impl Storage {
         None
     }
 
-    /// A word of the object in the cell.
+    // Returns a word of the object in the cell.
     #[inline(always)]
     pub(crate) fn word(&self, cell: usize, slot: usize) -> u64
         requires { slot < length (words_at self.now cell) }
@@ -361,7 +361,7 @@ impl Storage {
         self.block.words[cell * self.cell_size as usize + slot]
     }
 
-    /// The words of the object in the cell, in slot order.
+    // Returns the words of the object in the cell, in slot order.
     pub(crate) fn words(&self, cell: usize) -> &[u64]
         requires { IsSome (cell_object self.now cell) }
         ensures { IfSome (cell_object self.now cell) (λ o. result.now ≡ o.words) }
@@ -371,7 +371,7 @@ impl Storage {
         part(&block.words, cell * self.cell_size as usize, len)
     }
 
-    /// Writes a word of the object in the cell.
+    // Writes a word of the object in the cell.
     #[inline(always)]
     pub(crate) fn set_word(&mut self, cell: usize, slot: usize, value: u64)
         requires { slot < length (words_at self.old cell) }
@@ -382,7 +382,7 @@ impl Storage {
         self.block.words[at] = value;
     }
 
-    /// Writes the `mark` bit of the object in the cell.
+    // Writes the `mark` bit of the object in the cell.
     pub(crate) fn set_mark(&mut self, cell: usize, mark: bool)
         requires { IsSome (cell_object self.old cell) }
         ensures value { self.new ≡ changed_at self.old cell (mark_set mark) }
@@ -393,7 +393,7 @@ impl Storage {
         set_header(&mut block.headers, cell, Header { mark, ..header });
     }
 
-    /// Writes the `live` bit of the object in the cell.
+    // Writes the `live` bit of the object in the cell.
     pub(crate) fn set_live(&mut self, cell: usize, live: bool)
         requires { IsSome (cell_object self.old cell) }
         ensures value { self.new ≡ changed_at self.old cell (live_set live) }
@@ -404,7 +404,7 @@ impl Storage {
         set_header(&mut block.headers, cell, Header { live, ..header });
     }
 
-    /// A copy of the object in the cell.
+    // Returns a copy of the object in the cell. Fails if the allocation fails.
     pub(crate) fn object(&self, alloc: Global, cell: usize) -> Result<ObjectCopy, AllocError>
         requires { IsSome (cell_object self.now cell) }
         ensures { IfOk result (λ o. cell_object self.now cell ≡ Some o) }
@@ -421,7 +421,7 @@ impl Storage {
         })
     }
 
-    /// Takes the object out of the cell, which then heads the free list.
+    // Takes the object out of the cell, which then heads the free list.
     pub(crate) fn free(&mut self, cell: usize)
         requires { IsSome (cell_object self.old cell) }
         ensures { self.new ≡ cell_freed self.old cell }
@@ -433,7 +433,7 @@ impl Storage {
         self.head = (cell + 1) as u16;
     }
 
-    /// Puts a new object into the cell, which heads the free list.
+    // Puts a new object into the cell, which heads the free list.
     pub(crate) fn take(&mut self, cell: usize, kind: ObjKind, len: usize, mark: bool)
         requires head { Heads cell self.old.free }
         requires fits { FitsWords self.old.cell_size len }
@@ -452,7 +452,7 @@ impl Storage {
         set_header(&mut block.headers, cell, header);
     }
 
-    /// Puts an object back into the cell, which heads the free list.
+    // Puts an object back into the cell, which heads the free list.
     pub(crate) fn unfree(&mut self, cell: usize, object: &ObjectCopy)
         requires head { Heads cell self.old.free }
         requires fits { FitsWords self.old.cell_size (length object.now.words) }

@@ -1,4 +1,4 @@
--- What the marker keeps, and what it asks of the regions that it works on.
+-- The state of the marker, and its demands on the regions that it works on.
 use Rattle.std.specs.Prelude.{◌≡◌, ◌≢◌, ℕ, ◌*◌, ◌<◌, ◌≤◌, true, false, List, [], length, map, filter, zip, not, ◌==◌, Some, Contains, IsSome, nat_eq}
 use Rattle.std.specs.List.{IsDistinct}
 use Rattle.heap_class.specs.declared.Kind.{Kind}
@@ -12,12 +12,12 @@ use Rattle.heap_mark.specs.declared.Phase.{Phase}
 use Rattle.heap_mark.specs.declared.Phase.TheVariants.{Idle}
 use Rattle.heap_mark.specs.Marking.{MarkState}
 
--- cells of a region at most
+-- the largest number of cells of a region
 abbrev pub cells_each : ℕ
 cells_each = 256
 
--- what the marker keeps beside the objects' bits: the gray stack by ids, its top first, and how many ids it has room
--- for; the log by ids, its oldest entry first; how many of its entries were drained; and whether a cycle runs
+-- the state of the marker beside the objects' bits: the gray stack by ids, its top first, and its room in ids; the log by ids,
+-- its oldest entry first; the number of its entries that were drained; and the phase
 pub record MarkerState : Type 0 where
   pub gray : List ℕ
   pub room : ℕ
@@ -25,7 +25,7 @@ pub record MarkerState : Type 0 where
   pub drained : ℕ
   pub phase : Phase
 
--- a marker as it begins
+-- a new marker
 abbrev pub idle_marker : ℕ → MarkerState
 idle_marker room = record { gray = []; room = room; log = []; drained = 0; phase = Idle }
 
@@ -37,11 +37,11 @@ at_work regions m = record { regions = regions; gray = m.gray; log = m.log; drai
 abbrev pub after_work : MarkState → MarkerState → MarkerState
 after_work s m = record { gray = s.gray; room = m.room; log = s.log; drained = s.drained; phase = s.phase }
 
--- the id names a marked object
+-- x is the id of a marked object
 abbrev pub NamesMarked : List Region → ℕ → Type 0
 NamesMarked regions x = (o : Object) × (object_of regions x ≡ Some o) × (o.mark ≡ true)
 
--- the id is null or names an object
+-- x is null or the id of an object
 abbrev pub IsNullOrNames : List Region → ℕ → Type 0
 IsNullOrNames regions x = x ≢ 0 → IsSome (object_of regions x)
 
@@ -51,7 +51,7 @@ pub record IsGraySound (regions : List Region) (m : MarkerState) : Type 0 where
   pub marked : (x : ℕ) → Contains m.gray x → NamesMarked regions x
   pub ids : cells_each * length regions ≤ m.room
 
--- the kind exists, with this many slots where it says how many; values aren't of the kind of references
+-- objects of the kind may have n slots: an instance as many as its class, which exists; values aren't of the kind Object
 abbrev pub HasSlots : List Class → ObjKind → ℕ → Type 0
 HasSlots classes (Instance k) n = (k < length classes) × (n ≡ length (slots_of classes k))
 HasSlots classes (Array k) n = Unit {0}
@@ -63,6 +63,6 @@ pub record IsUnmarked (s : MarkState) : Type 0 where
   pub gray : s.gray ≡ []
   pub unmarked : EachObject s.regions (λ at o. o.mark ≡ false)
 
--- the words of reference slots, without null, where slots have these kinds
+-- the words of the reference slots among slots of these kinds, without null
 unfoldable pub references_among : List Kind → List ℕ → List ℕ
 references_among kinds words = filter (λ w. not (w == 0)) (map (λ p. p.1) (filter (λ p. is_reference p.0) (zip kinds words)))

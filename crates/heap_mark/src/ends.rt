@@ -1,4 +1,4 @@
-//! What the end of a cycle does to the bits of every object, and what takes that back.
+//! The end of a cycle, as it changes the bits of every object, and its undoing.
 ghost use Rattle.std.specs.Prelude.{◌≡◌, ◌≤◌, length, IsSome, slice_get};
 ghost use Rattle.heap_region.specs.Regions.{object_at, used_at, with_object, with_region};
 ghost use Rattle.heap_region.specs.Live.{cells_of};
@@ -9,7 +9,7 @@ ghost use Rattle.heap_mark.specs.Ends.{finished_object, unfinished_object, is_un
 use heap_class::ObjRef;
 use heap_region::Regions;
 
-// The lowest region that is yet to be swept.
+/// Returns the lowest region that waits to be swept.
 pub fn first_pending(regions: &Regions) -> Option<u64>
     ensures { result ≡ slice_get (pending_regions regions.now.regions) 0 }
 {
@@ -21,7 +21,7 @@ pub fn first_pending(regions: &Regions) -> Option<u64>
     None
 }
 
-// Ends the cycle for every object. Answers how many aren't live then.
+/// Ends the cycle for every object. Returns the number of objects that aren't live then.
 pub fn finish_all(regions: &mut Regions) -> u64
     ensures regions { regions.new ≡ record regions.old { regions = each_region finished_region regions.old.regions } }
     ensures condemned { result ≡ dead_count regions.new.regions }
@@ -35,7 +35,7 @@ pub fn finish_all(regions: &mut Regions) -> u64
     condemned
 }
 
-// Takes the end of a cycle back for every object.
+/// Undoes the end of a cycle for every object.
 pub fn unfinish_all(regions: &mut Regions)
     ensures { regions.new ≡ record regions.old { regions = each_region unfinished_region regions.old.regions } }
 {
@@ -46,7 +46,8 @@ pub fn unfinish_all(regions: &mut Regions)
     }
 }
 
-// Ends the cycle for the objects of a region in use, which is then yet to be swept. Answers how many weren't marked.
+// Ends the cycle for the objects of a region in use, which then waits to be swept. Returns the number of objects that weren't
+// marked.
 fn finish_region(regions: &mut Regions, region: u64) -> u64
     requires { IsSome (used_at regions.old.regions region) }
     ensures regions { regions.new ≡ record regions.old { regions = with_region region finished_region regions.old.regions } }
@@ -68,7 +69,7 @@ fn finish_region(regions: &mut Regions, region: u64) -> u64
     unmarked
 }
 
-// Takes the end of a cycle back for the objects of a region in use.
+// Undoes the end of a cycle for the objects of a region in use.
 fn unfinish_region(regions: &mut Regions, region: u64)
     requires { IsSome (used_at regions.old.regions region) }
     ensures { regions.new ≡ record regions.old { regions = with_region region unfinished_region regions.old.regions } }
@@ -84,8 +85,8 @@ fn unfinish_region(regions: &mut Regions, region: u64)
     regions.set_pending(region, false);
 }
 
-// Where there is an object in the cell, it is live if it was marked, and no longer marked. Answers whether there is one
-// that wasn't.
+// Makes the object in the cell live if it was marked, else dead, and unmarks it. Does nothing if there is none. Tells whether
+// there is an object that wasn't marked.
 fn finish_cell(regions: &mut Regions, at: ObjRef) -> bool
     ensures regions { regions.new ≡ record regions.old { regions = with_object at finished_object regions.old.regions } }
     ensures unmarked { result ≡ is_unmarked (object_at regions.old.regions at) }
@@ -99,7 +100,7 @@ fn finish_cell(regions: &mut Regions, at: ObjRef) -> bool
     !is_marked
 }
 
-// Where there is an object in the cell, it is marked if it was live, and live.
+// Marks the object in the cell if it was live, else unmarks it, and makes it live. Does nothing if there is none.
 fn unfinish_cell(regions: &mut Regions, at: ObjRef)
     ensures { regions.new ≡ record regions.old { regions = with_object at unfinished_object regions.old.regions } }
 {

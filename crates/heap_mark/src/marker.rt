@@ -1,4 +1,4 @@
-//! The marker's calls, and what takes each back.
+//! The calls of the marker, and the undoing of each.
 ghost use Rattle.std.specs.Prelude.{ℕ, take, false, IsTrue, ◌≡◌, ◌+◌, ◌-◌, ◌<◌, ◌≤◌, ◌++◌, ◌∷◌, ◌==◌, ◌&&◌, [], not, length, reverse, slice_get, slice_index, List, None, Some, true, Contains, IsSome, IfSome, IsSomeAnd, fold, IfOk, IfErr, OnOk, OnErr, if◌then◌else◌};
 ghost use Rattle.heap_class.specs.Refusals.{IsAnswered};
 ghost use Rattle.heap_class.specs.Classes.{Class};
@@ -18,10 +18,12 @@ use std::alloc::Global;
 use std::marker::Model;
 use std::mem;
 
-/// What a mark did: the id of the object that was taken off the gray stack, and how many of its children were pushed.
+/// The outcome of `mark`, as `unmark` needs it.
 #[derive(Clone, Copy, PartialEq, Eq, Debug)]
 pub struct Marked {
+    /// The id of the object that was taken off the gray stack.
     pub parent: u64,
+    /// The number of its children that were marked and pushed.
     pub pushed: u64,
 }
 
@@ -40,7 +42,7 @@ impl Model for Log {
 }
 
 impl Log {
-    /// How many entries it has.
+    /// Returns the number of entries.
     pub fn len(&self) -> u64
         ensures { result ≡ length self.now }
     {
@@ -48,15 +50,17 @@ impl Log {
     }
 }
 
-/// What a finish did: how many objects aren't live now, and the cycle's log.
+/// The outcome of `finish`.
 #[derive(Drop)]
 pub struct Finished {
+    /// The number of objects that aren't live now.
     pub condemned: u64,
+    /// The log of the cycle, as `unfinish` needs it.
     pub log: Log,
 }
 
-/// The marker: a stack of gray ids with room for every object, a log of overwritten references of which a beginning was
-/// drained, and the phase. The marks themselves are bits of the objects.
+/// The marker: a stack of gray ids with room for every object, a log of overwritten references with the number of its entries
+/// that were drained, and the phase. The marks themselves are bits of the objects.
 #[derive(Drop)]
 pub struct Marker {
     alloc: Global,
@@ -79,7 +83,7 @@ impl Model for Marker {
 }
 
 impl Marker {
-    /// A marker at rest, with room for so many gray ids. Refused NoMemory where that room can't be had.
+    /// Creates an idle marker with room for `room` gray ids. Fails with NoMemory if that room can't be reserved.
     pub fn new(alloc: Global, room: u64) -> Result<Marker, Refusal>
         ensures idle { IfOk result (λ m. m ≡ idle_marker room) }
         ensures refused { IfErr result (λ e. e ≡ NoMemory) }
@@ -93,7 +97,7 @@ impl Marker {
         })
     }
 
-    /// Whether a cycle is running.
+    /// Returns the phase: whether a cycle runs.
     #[inline(always)]
     pub fn phase(&self) -> Phase
         ensures { result ≡ self.now.phase }
@@ -101,21 +105,21 @@ impl Marker {
         self.phase
     }
 
-    /// The ids of the gray objects, the next to be marked last.
+    /// Returns the ids of the gray objects. The last is the next to be marked.
     pub fn gray(&self) -> &[u64]
         ensures { reverse result.now ≡ self.now.gray }
     {
         &self.gray
     }
 
-    /// The ids that the barrier logged, the oldest first.
+    /// Returns the ids that the barrier logged, the oldest first.
     pub fn log(&self) -> &[u64]
         ensures { result.now ≡ self.now.log }
     {
         &self.log
     }
 
-    /// How many entries of the log were drained.
+    /// Returns the number of entries of the log that were drained.
     pub fn drained(&self) -> u64
         ensures value { result ≡ self.now.drained }
         ensures limit { result ≤ length self.now.log }
@@ -123,8 +127,8 @@ impl Marker {
         self.drained
     }
 
-    /// Begins a cycle: the objects that the roots name, null passed over, are marked and pushed in order, each once.
-    /// Answers how many. Refused AlreadyMarking. Takes no memory.
+    /// Begins a cycle: marks and pushes the objects that the roots name, in order, each once. Skips null; each other root must
+    /// name an object. Returns the number of objects. Fails with AlreadyMarking if a cycle runs. Takes no memory.
     pub fn snap(&mut self, regions: &mut Regions, roots: &[u64]) -> Result<u64, Refusal>
         requires sound { IsGraySound regions.old.regions self.old }
         requires roots { (x : ℕ) → Contains roots.now x → IsNullOrNames regions.old.regions x }
@@ -142,7 +146,7 @@ impl Marker {
         Ok(self.gray.len() as u64)
     }
 
-    /// Takes a snap back: no object is marked, nothing is gray and no cycle runs. Takes no memory.
+    /// Undoes `snap`: no object is marked, nothing is gray and no cycle runs. Takes no memory.
     pub fn unsnap(&mut self, regions: &mut Regions)
         requires snapped { (before : MarkState) × (roots : List ℕ) × IsUnmarked before × (at_work regions.old.regions self.old ≡ snapped roots before) }
         ensures marker { self.new ≡ after_work (unsnapped (at_work regions.old.regions self.old)) self.old }
@@ -154,8 +158,8 @@ impl Marker {
         self.phase = Phase::Idle;
     }
 
-    /// Takes the object at the top of the gray stack off it, and marks and pushes its unmarked children in slot order.
-    /// Refused NotMarking or NothingToMark. Takes no memory.
+    /// Pops the object at the top of the gray stack, and marks and pushes its unmarked children in slot order. Fails with
+    /// NotMarking if no cycle runs, or with NothingToMark if nothing is gray. Takes no memory.
     pub fn mark(&mut self, regions: &mut Regions, classes: &Classes) -> Result<Marked, Refusal>
         requires sound { IsGraySound regions.old.regions self.old }
         requires slots { (x : ℕ) → Contains self.old.gray x → IfSome (object_of regions.old.regions x) (λ o. HasSlots classes.now o.kind (length o.words)) }
@@ -179,8 +183,8 @@ impl Marker {
         Ok(Marked { parent, pushed })
     }
 
-    /// Takes a mark back: the `pushed` newest gray objects are unmarked and leave the stack, and the parent heads it again.
-    /// Takes no memory.
+    /// Undoes `mark`: unmarks the `pushed` newest gray objects and takes them off the stack, and pushes the parent again. Takes
+    /// no memory.
     pub fn unmark(&mut self, regions: &mut Regions, parent: u64, pushed: u64)
         requires sound { IsGraySound regions.old.regions self.old }
         requires within { pushed ≤ length self.old.gray }
@@ -194,8 +198,8 @@ impl Marker {
         self.gray.push_reserved(parent);
     }
 
-    /// Marks and pushes the object that the next entry of the log names, where it is unmarked. Answers how many were
-    /// pushed, 0 or 1. Refused NotMarking or NothingToDrain. Takes no memory.
+    /// Marks and pushes the object that the next entry of the log names, if it is unmarked. Returns the number of objects
+    /// pushed, 0 or 1. Fails with NotMarking if no cycle runs, or with NothingToDrain if no entry is left. Takes no memory.
     pub fn drain(&mut self, regions: &mut Regions) -> Result<u64, Refusal>
         requires sound { IsGraySound regions.old.regions self.old }
         requires entries { (x : ℕ) → Contains self.old.log x → IsSome (object_of regions.old.regions x) }
@@ -218,8 +222,8 @@ impl Marker {
         Ok((self.gray.len() - before) as u64)
     }
 
-    /// Takes a drain back: the `pushed` newest gray objects are unmarked and leave the stack, and the last drained entry is
-    /// to be drained again. Takes no memory.
+    /// Undoes `drain`: unmarks the `pushed` newest gray objects and takes them off the stack, and makes the last drained entry
+    /// the next one again. An entry must have been drained. Takes no memory.
     pub fn undrain(&mut self, regions: &mut Regions, pushed: u64)
         requires sound { IsGraySound regions.old.regions self.old }
         requires within { pushed ≤ length self.old.gray }
@@ -232,9 +236,10 @@ impl Marker {
         self.drained -= 1;
     }
 
-    /// Ends the cycle: an object is live now where it was marked, none is marked, the log is handed out, and every region in
-    /// use is yet to be swept. Answers how many objects aren't live. Refused NotMarking, NotDone while something is gray or
-    /// in the log undrained, or SweepPending with the lowest region that is yet to be swept. Takes no memory.
+    /// Ends the cycle: the marked objects are live, the others aren't, none is marked, and every region in use waits to be
+    /// swept. Returns the number of objects that aren't live, and the log. Fails with NotMarking if no cycle runs, with NotDone
+    /// if an object is gray or an entry of the log is left, or with SweepPending and the lowest region that waits to be swept,
+    /// if one does. Takes no memory.
     pub fn finish(&mut self, regions: &mut Regions) -> Result<Finished, Refusal>
         ensures answered { IsAnswered (finish_refusal (at_work regions.old.regions self.old)) false result }
         ensures marker { OnOk result (self.new ≡ after_work (finished (at_work regions.old.regions self.old)) self.old) }
@@ -263,8 +268,8 @@ impl Marker {
         })
     }
 
-    /// Takes a finish back, with the log that it handed out: what is live was marked, all was live, no region was yet to be
-    /// swept, and the log was drained. Takes no memory.
+    /// Undoes `finish`, given the log that it returned: marks the objects that are live, makes all of them live, lets no region
+    /// wait to be swept, and has the log drained. Takes no memory.
     pub fn unfinish(&mut self, regions: &mut Regions, log: Log)
         ensures marker { self.new ≡ after_work (unfinished log (at_work regions.old.regions self.old)) self.old }
         ensures regions { regions.new ≡ record regions.old { regions = (unfinished log (at_work regions.old.regions self.old)).regions } }
@@ -276,8 +281,8 @@ impl Marker {
         self.phase = Phase::Marking;
     }
 
-    /// The barrier: while a cycle runs, a reference that is overwritten goes to the log if it isn't null. Answers whether it
-    /// did. Refused NoMemory where the log can't grow; then nothing has changed.
+    /// Appends an overwritten reference to the log if a cycle runs and the reference isn't null. Tells whether it did. Fails
+    /// with NoMemory if the log can't grow, and changes nothing then.
     #[inline(always)]
     pub fn log_old(&mut self, old: u64) -> Result<bool, Refusal>
         ensures logged { IfOk result (λ b. b ≡ (is_marking self.old.phase && not (old == 0))) }
@@ -292,7 +297,7 @@ impl Marker {
         Ok(true)
     }
 
-    /// Takes the entry of a barrier back, where there was one. Takes no memory.
+    /// Undoes `log_old`, given the flag that it returned. Takes no memory.
     pub fn unlog_old(&mut self, logged: bool)
         requires entry { IsTrue logged → self.old.drained < length self.old.log }
         ensures log { self.new ≡ (if logged then record self.old { log = take (length self.old.log - 1) self.old.log } else self.old) }
@@ -303,7 +308,7 @@ impl Marker {
         }
     }
 
-    // Marks and pushes the object that the id names, where it is unmarked; null is passed over.
+    // Marks and pushes the object that the id names, if it is unmarked. Skips null.
     fn shade(&mut self, regions: &mut Regions, id: u64)
         requires sound { IsGraySound regions.old.regions self.old }
         requires names { IsNullOrNames regions.old.regions id }
@@ -324,7 +329,7 @@ impl Marker {
         self.gray.push_reserved(id);
     }
 
-    // Shades what the ids name, one after another.
+    // Shades the objects that the ids name, one after another.
     fn shade_all(&mut self, regions: &mut Regions, ids: &[u64])
         requires sound { IsGraySound regions.old.regions self.old }
         requires names { (x : ℕ) → Contains ids.now x → IsNullOrNames regions.old.regions x }
@@ -336,7 +341,7 @@ impl Marker {
         }
     }
 
-    // Shades what the references of an object name, in slot order.
+    // Shades the objects that the references of an object name, in slot order.
     fn shade_children(&mut self, regions: &mut Regions, classes: &Classes, parent: u64)
         requires sound { IsGraySound regions.old.regions self.old }
         requires slots { IsSomeAnd (object_of regions.old.regions parent) (λ o. HasSlots classes.now o.kind (length o.words)) }
@@ -352,7 +357,7 @@ impl Marker {
         }
     }
 
-    // Shades what the reference slots of an object name, by the kinds of its slots.
+    // Shades the objects that the reference slots of an object name, by the kinds of its slots.
     fn shade_fields(&mut self, regions: &mut Regions, at: ObjRef, kinds: &[Kind])
         requires sound { IsGraySound regions.old.regions self.old }
         requires slots { IsSomeAnd (object_at regions.old.regions at) (λ o. length o.words ≡ length kinds.now) }
@@ -367,7 +372,7 @@ impl Marker {
         }
     }
 
-    // Shades what the slots of an array of references name.
+    // Shades the objects that the slots of an array of references name.
     fn shade_elements(&mut self, regions: &mut Regions, at: ObjRef)
         requires sound { IsGraySound regions.old.regions self.old }
         requires names { IsSomeAnd (object_at regions.old.regions at) (λ o. (y : ℕ) → Contains o.words y → IsNullOrNames regions.old.regions y) }
@@ -391,7 +396,7 @@ impl Marker {
         }
     }
 
-    // Unmarks the object at the top of the gray stack and takes it off.
+    // Unmarks the object at the top of the gray stack and pops it.
     fn unshade_top(&mut self, regions: &mut Regions)
         requires within { 0 < length self.old.gray }
         requires names { IsSome (object_of regions.old.regions (slice_index self.old.gray 0)) }

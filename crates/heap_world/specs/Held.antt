@@ -1,4 +1,4 @@
--- What the fields of a heap hold.
+-- For proofs: the state that the fields of a heap hold.
 use Rattle.std.specs.Prelude.{ℕ, ◌*◌, ◌≤◌, List, length}
 use Rattle.heap_class.specs.Classes.{Class}
 use Rattle.heap_region.specs.Pool.{RegionPool}
@@ -6,11 +6,11 @@ use Rattle.heap_mark.specs.Marker.{MarkerState, cells_each}
 use Rattle.heap_world.specs.State.{HeapState}
 use Rattle.heap_world.specs.Legal.{IsLegal}
 
--- the state
+-- the state with these parts
 abbrev pub held : List Class → RegionPool → List ℕ → MarkerState → HeapState
 held classes pool registers marker = record { classes = classes; regions = pool.regions; pool = pool.pool; registers = registers; gray = marker.gray; log = marker.log; drained = marker.drained; phase = marker.phase }
 
--- the state is legal, and so many ids of room hold each object's once
+-- the state is legal, and `room` ids are as many as all regions can have cells
 pub record IsHeld (state : HeapState) (room : ℕ) : Type 0 where
   pub legal : IsLegal state
   pub ids : cells_each * length state.regions ≤ room

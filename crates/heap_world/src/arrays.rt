@@ -12,7 +12,8 @@ use super::{ARRAY_LIMIT, Created, World};
 use heap_class::{ClassNo, Kind, Name, ObjKind, Refusal};
 
 impl World {
-    /// Defines a class of object arrays, and answers its number. Refused ClassLimit, BadName, DuplicateName or NoMemory.
+    /// Defines a class of object arrays, and returns its number. Fails with ClassLimit, BadName or DuplicateName, in this
+    /// order, and then with NoMemory if an allocation fails.
     pub fn define_array_class(&mut self, name: &Name) -> Result<ClassNo, Refusal>
         ensures answered { IsAnswered (class_refusal self.old.classes (array_class name.now)) true result }
         ensures defined { OnOk result (self.new ≡ after_class (array_class name.now) self.old) }
@@ -22,8 +23,9 @@ impl World {
         self.classes.define_array(name)
     }
 
-    /// Makes an object array of a class in register `r` of mutator `m`, its elements null. Refused BadRegister, NoClass,
-    /// WrongKind, TooLarge over 1,024 elements, HeapFull, or NoMemory where a region's storage can't be had.
+    /// Makes an object array of a class in register `r` of mutator `m`, its elements null. Fails with BadRegister, NoClass,
+    /// WrongKind (the class isn't an array class), TooLarge (more than 1,024 elements) or HeapFull, in this order, and then
+    /// with NoMemory if a region's storage can't be allocated.
     pub fn new_array(
         &mut self,
         m: u64,
@@ -42,8 +44,9 @@ impl World {
         self.make(m, r, ObjKind::Array(class), len)
     }
 
-    /// Makes an array of values of a kind in register `r` of mutator `m`, its elements 0. Refused BadRegister, WrongKind for
-    /// the kind object, TooLarge over 1,024 elements, HeapFull, or NoMemory where a region's storage can't be had.
+    /// Makes an array of values of a kind in register `r` of mutator `m`, its elements 0. Fails with BadRegister, WrongKind
+    /// (the kind is Object), TooLarge (more than 1,024 elements) or HeapFull, in this order, and then with NoMemory if a
+    /// region's storage can't be allocated.
     pub fn new_prim(&mut self, m: u64, r: u64, kind: Kind, len: u64) -> Result<Created, Refusal>
         ensures answered { IsAnswered (new_prim_refusal m r kind len self.old) (is_fresh len (pool_of self.old)) result }
         ensures made { OnOk result (self.new ≡ after_new m r (Prim kind) len self.old) }
@@ -56,7 +59,7 @@ impl World {
         self.make(m, r, ObjKind::Prim(kind), len)
     }
 
-    // Whether such an object array may be made where there is room.
+    // Checks that such an object array may be made if there is room. Fails with BadRegister, NoClass, WrongKind or TooLarge.
     fn allow_array(&self, m: u64, r: u64, class: ClassNo, len: u64) -> Result<(), Refusal>
         ensures register { OnOk result (IsTrue (is_register self.now m r)) }
         ensures kind { OnOk result (HasKind self.now.classes (Array class) len) }
@@ -77,7 +80,7 @@ impl World {
         Ok(())
     }
 
-    // Whether such an array of values may be made where there is room.
+    // Checks that such an array of values may be made if there is room. Fails with BadRegister, WrongKind or TooLarge.
     fn allow_prim(&self, m: u64, r: u64, kind: Kind, len: u64) -> Result<(), Refusal>
         ensures register { OnOk result (IsTrue (is_register self.now m r)) }
         ensures kind { OnOk result (HasKind self.now.classes (Prim kind) len) }

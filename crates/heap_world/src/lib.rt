@@ -1,4 +1,4 @@
-//! The whole state of the heap, its rule, and what each event does to it.
+//! The whole state of the heap, the rules that it keeps, and the effect of each event.
 #![tactic(auto)]
 
 ghost use Rattle.std.specs.Prelude.{◌≡◌, ◌≢◌, ◌⊎◌, ◌+◌, ◌-◌, ◌*◌, ◌<◌, ◌≤◌, ◌↔◌, ◌&&◌, nat_lt, length, reverse, take, replicate, Some, None, true, false, IsTrue, Contains, IsSome, IfSome, IfOk, IfErr, OnOk, OnErr, slice_get, slice_set};
@@ -25,26 +25,26 @@ use heap_region::Regions;
 use std::alloc::Global;
 use std::marker::Model;
 
-/// Regions of a heap at most.
+/// The largest number of regions of a heap.
 pub const REGION_LIMIT: u64 = 256;
 
-/// Mutators of a heap at most.
+/// The largest number of mutators of a heap.
 pub const MUTATOR_LIMIT: u64 = 16;
 
-/// Registers of each mutator.
+/// The number of registers of each mutator.
 pub const REGISTERS_EACH: u64 = 8;
 
-/// Elements of an array at most.
+/// The largest number of elements of an array.
 pub const ARRAY_LIMIT: u64 = 1024;
 
-/// Steps that can be undone at most.
+/// The largest number of steps that can be undone.
 pub const KEEP_LIMIT: u64 = 65536;
 
-// Cells of a region at most.
+// The largest number of cells of a region.
 const CELLS_EACH: u64 = 256;
 
-/// What a heap is made with: 1 to 256 regions, 1 to 16 mutators, 1 to 65,536 steps that can be undone, and the size of
-/// the ids in its dumps.
+/// The settings of a heap: 1 to 256 regions, 1 to 16 mutators, 1 to 65,536 steps that can be undone, and the size of the ids in
+/// its dumps.
 #[derive(Clone, Copy)]
 pub struct Config {
     regions: u64,
@@ -66,7 +66,7 @@ impl Model for Config {
 }
 
 impl Config {
-    /// These settings, with ids of 8 bytes; None where one is outside its limits.
+    /// Creates settings with ids of 8 bytes. None if a number is outside its limits.
     pub fn new(regions: u64, mutators: u64, keep: u64) -> Option<Config>
         ensures given { IfSome result (λ c. c ≡ record { regions = regions; mutators = mutators; keep = keep; ids = Eight }) }
         ensures within { IsSome result ↔ AreSettings regions mutators keep }
@@ -86,14 +86,14 @@ impl Config {
         })
     }
 
-    /// The same settings with ids of that size.
+    /// Returns the same settings with ids of another size.
     pub fn with_ids(self, ids: IdSize) -> Config
         ensures { result ≡ record self { ids = ids } }
     {
         Config { ids, ..self }
     }
 
-    /// The number of regions, 1 to 256.
+    /// Returns the number of regions, 1 to 256.
     pub fn regions(&self) -> u64
         ensures value { result ≡ self.now.regions }
         ensures limits { AreSettings self.now.regions self.now.mutators self.now.keep }
@@ -101,14 +101,14 @@ impl Config {
         self.regions
     }
 
-    /// The number of mutators, 1 to 16.
+    /// Returns the number of mutators, 1 to 16.
     pub fn mutators(&self) -> u64
         ensures value { result ≡ self.now.mutators }
     {
         self.mutators
     }
 
-    /// How many steps can be undone, 1 to 65,536.
+    /// Returns the number of steps that can be undone, 1 to 65,536.
     pub fn keep(&self) -> u64
         ensures value { result ≡ self.now.keep }
         ensures limits { AreSettings self.now.regions self.now.mutators self.now.keep }
@@ -116,7 +116,7 @@ impl Config {
         self.keep
     }
 
-    /// The size of the ids in dumps.
+    /// Returns the size of the ids in dumps.
     pub fn ids(&self) -> IdSize
         ensures { result ≡ self.now.ids }
     {
@@ -124,40 +124,51 @@ impl Config {
     }
 }
 
-/// What a new object's register and its undoing need: its id, its place, whether its region was taken from the pool,
-/// and what the register held.
+/// The outcome of making an object, as `unmake` needs it.
 #[derive(Clone, Copy, PartialEq, Eq, Debug)]
 pub struct Created {
+    /// The id of the object.
     pub id: u64,
+    /// The place of the object.
     pub at: ObjRef,
+    /// Whether its region was taken from the pool.
     pub fresh: bool,
+    /// The old word of the register.
     pub old: u64,
 }
 
-/// Where a word was written, and what stood there.
+/// The outcome of writing a value, as `unput` needs it.
 #[derive(Clone, Copy, PartialEq, Eq, Debug)]
 pub struct Overwritten {
+    /// The place of the object.
     pub at: ObjRef,
+    /// The old word of the slot.
     pub old: u64,
 }
 
-/// Where a reference was written, what stood there, and whether that went to the log.
+/// The outcome of writing a reference, as `unstore` needs it.
 #[derive(Clone, Copy, PartialEq, Eq, Debug)]
 pub struct Replaced {
+    /// The place of the object.
     pub at: ObjRef,
+    /// The old word of the slot.
     pub old: u64,
+    /// Whether the old word was logged.
     pub logged: bool,
 }
 
-/// What a slot holds, whether it is a reference, and what the register held to which it would go.
+/// The outcome of reading a slot.
 #[derive(Clone, Copy, PartialEq, Eq, Debug)]
 pub struct Loaded {
+    /// The word of the slot.
     pub word: u64,
+    /// Whether the word is a reference, which went to the register.
     pub reference: bool,
+    /// The old word of that register.
     pub old: u64,
 }
 
-// So many null registers.
+// Returns `count` null registers. Fails with NoMemory if the allocation fails.
 fn nulls(alloc: Global, count: usize) -> Result<Vec<u64>, Refusal>
     ensures null { IfOk result (λ v. v.items ≡ replicate count 0) }
     ensures refused { IfErr result (λ e. e ≡ NoMemory) }
@@ -168,7 +179,7 @@ fn nulls(alloc: Global, count: usize) -> Result<Vec<u64>, Refusal>
     }
 }
 
-// Whether mutator m has a register r.
+// Tells whether mutator `m` has a register `r`.
 #[inline(always)]
 fn is_register(registers: &[u64], m: u64, r: u64) -> bool
     requires { length registers.now ≤ 128 }
@@ -177,7 +188,7 @@ fn is_register(registers: &[u64], m: u64, r: u64) -> bool
     r < REGISTERS_EACH && m < MUTATOR_LIMIT && REGISTERS_EACH * m + r < registers.len() as u64
 }
 
-// Writes a word to register r of mutator m.
+// Writes a word to register `r` of mutator `m`.
 #[inline(always)]
 fn write_register(registers: &mut Vec<u64>, m: u64, r: u64, word: u64)
     requires { IsTrue (nat_lt r 8 && nat_lt (8 * m + r) (length registers.old.items)) }
@@ -186,7 +197,7 @@ fn write_register(registers: &mut Vec<u64>, m: u64, r: u64, word: u64)
     registers[(REGISTERS_EACH * m + r) as usize] = word;
 }
 
-// The kind of a slot among these; none where there is no such slot.
+// Returns the kind of a slot among these kinds, or None if there is no such slot.
 #[inline(always)]
 fn kind_at(kinds: &[Kind], slot: u64) -> Option<Kind>
     ensures { result ≡ slice_get kinds.now slot }
@@ -194,7 +205,7 @@ fn kind_at(kinds: &[Kind], slot: u64) -> Option<Kind>
     kinds.get(slot as usize).copied()
 }
 
-// The kind of a slot where all of so many have it; none where there is no such slot.
+// Returns the kind of a slot if all `len` slots have one kind, or None if there is no such slot.
 #[inline(always)]
 fn kind_within(kind: Kind, len: u64, slot: u64) -> Option<Kind>
     ensures { result ≡ slice_get (replicate len kind) slot }
@@ -208,7 +219,7 @@ pub struct World {
     classes: Classes,
     regions: Regions,
     registers: Vec<u64>,
-    // Its stack has room for the ids of all objects.
+    // The stack of the marker has room for the ids of all objects.
     marker: Marker,
 }
 
@@ -224,7 +235,8 @@ impl Model for World {
 }
 
 impl World {
-    /// A heap as it begins: no class, each region empty, each register null. Room for the gray stack is reserved.
+    /// Creates a heap: no class, each region empty, each register null. Reserves room for the gray stack. Fails with NoMemory
+    /// if an allocation fails.
     pub fn new(alloc: Global, config: Config) -> Result<World, Refusal>
         ensures opened { IfOk result (λ w. w ≡ opening_state config.regions config.mutators) }
         ensures refused { IfErr result (λ e. e ≡ NoMemory) }
@@ -242,7 +254,7 @@ impl World {
         })
     }
 
-    /// Whether a cycle is running.
+    /// Returns the phase: whether a cycle runs.
     #[inline(always)]
     pub fn phase(&self) -> Phase
         ensures value { result ≡ self.now.phase }
@@ -251,21 +263,21 @@ impl World {
         self.marker.phase()
     }
 
-    /// The classes.
+    /// Returns the classes.
     pub fn classes(&self) -> &Classes
         ensures { result.now ≡ self.now.classes }
     {
         &self.classes
     }
 
-    /// The regions and the pool.
+    /// Returns the regions and the pool.
     pub fn regions(&self) -> &Regions
         ensures { result.now ≡ pool_of self.now }
     {
         &self.regions
     }
 
-    /// The registers, mutator by mutator, 8 each.
+    /// Returns the registers, mutator by mutator, 8 each.
     pub fn registers(&self) -> &[u64]
         ensures value { result.now ≡ self.now.registers }
         ensures limit { length self.now.registers ≤ 128 }
@@ -274,7 +286,7 @@ impl World {
         &self.registers
     }
 
-    /// Whether mutator `m` has a register `r`.
+    /// Tells whether mutator `m` has a register `r`.
     #[inline(always)]
     pub fn has_register(&self, m: u64, r: u64) -> bool
         ensures { result ≡ is_register self.now m r }
@@ -282,7 +294,7 @@ impl World {
         is_register(&self.registers, m, r)
     }
 
-    /// What register `r` of mutator `m` holds.
+    /// Returns the word of register `r` of mutator `m`, which must be there.
     #[inline(always)]
     pub fn register(&self, m: u64, r: u64) -> u64
         requires { IsTrue (is_register self.now m r) }
@@ -291,21 +303,21 @@ impl World {
         self.registers[(REGISTERS_EACH * m + r) as usize]
     }
 
-    /// The ids of the gray objects, the next to be marked last.
+    /// Returns the ids of the gray objects. The last is the next to be marked.
     pub fn gray(&self) -> &[u64]
         ensures { reverse result.now ≡ self.now.gray }
     {
         self.marker.gray()
     }
 
-    /// The ids that the barrier logged, the oldest first.
+    /// Returns the ids that the barrier logged, the oldest first.
     pub fn log(&self) -> &[u64]
         ensures { result.now ≡ self.now.log }
     {
         self.marker.log()
     }
 
-    /// How many entries of the log were drained.
+    /// Returns the number of entries of the log that were drained.
     pub fn drained(&self) -> u64
         ensures value { result ≡ self.now.drained }
         ensures limit { result ≤ length self.now.log }
@@ -313,8 +325,8 @@ impl World {
         self.marker.drained()
     }
 
-    /// Defines an instance class, and answers its number. Refused NoClass, ClassLimit, BadName, DuplicateName,
-    /// FieldLimit or NoMemory.
+    /// Defines an instance class, and returns its number. Fails with NoClass, ClassLimit, BadName, DuplicateName or FieldLimit,
+    /// in this order, and then with NoMemory if an allocation fails.
     pub fn define_class(
         &mut self,
         name: &Name,
@@ -329,7 +341,7 @@ impl World {
         self.classes.define(name, sup, fields)
     }
 
-    /// Takes back the last definition of a class. Takes no memory.
+    /// Undoes the last definition of a class. Takes no memory.
     pub fn undefine_class(&mut self)
         requires there { 0 < length self.old.classes }
         requires legal { IsLegal (record self.old { classes = take (length self.old.classes - 1) self.old.classes }) }
@@ -338,8 +350,8 @@ impl World {
         self.classes.undefine_last()
     }
 
-    /// Makes an instance of a class in register `r` of mutator `m`. Refused BadRegister, NoClass, WrongKind, HeapFull, or
-    /// NoMemory where a region's storage can't be had.
+    /// Makes an instance of a class in register `r` of mutator `m`. Fails with BadRegister, NoClass, WrongKind (an array class)
+    /// or HeapFull, in this order, and then with NoMemory if a region's storage can't be allocated.
     pub fn new_instance(&mut self, m: u64, r: u64, class: ClassNo) -> Result<Created, Refusal>
         ensures answered { IsAnswered (new_refusal m r class self.old) (is_fresh (length (slots_of self.old.classes class)) (pool_of self.old)) result }
         ensures made { OnOk result (self.new ≡ after_new m r (Instance class) (length (slots_of self.old.classes class)) self.old) }
@@ -352,7 +364,7 @@ impl World {
         self.make(m, r, ObjKind::Instance(class), len)
     }
 
-    /// Takes back the making of an object, and gives register `r` of mutator `m` its old word. Takes no memory.
+    /// Undoes the making of an object: frees its cell and writes the old word to register `r` of mutator `m`. Takes no memory.
     pub fn unmake(&mut self, at: ObjRef, fresh: bool, m: u64, r: u64, old: u64)
         requires there { IsSome (object_at self.old.regions at) }
         requires register { IsTrue (is_register self.old m r) }
@@ -363,8 +375,8 @@ impl World {
         write_register(&mut self.registers, m, r, old);
     }
 
-    /// Writes a value slot of the object that register `target` of mutator `m` names. Refused BadRegister, NullRegister,
-    /// BadSlot, WrongKind or OutOfRange. Takes no memory.
+    /// Writes a value slot of the object in register `target` of mutator `m`. Fails with BadRegister, NullRegister, BadSlot,
+    /// WrongKind (a reference slot) or OutOfRange, in this order. Takes no memory.
     #[inline(always)]
     pub fn put(
         &mut self,
@@ -386,7 +398,7 @@ impl World {
         Ok(Overwritten { at, old })
     }
 
-    /// Gives a slot its old word. Takes no memory.
+    /// Undoes `put`: writes the old word to the slot. Takes no memory.
     pub fn unput(&mut self, at: ObjRef, slot: u64, old: u64)
         requires there { IsSome (object_at self.old.regions at) }
         requires within { IfSome (object_at self.old.regions at) (λ o. slot < length o.words) }
@@ -396,7 +408,7 @@ impl World {
         self.regions.set_word(at, slot, old)
     }
 
-    // How many slots an instance of the class has, where there are the register and such a class.
+    // Returns the number of slots of an instance of the class. Fails with BadRegister, NoClass or WrongKind.
     fn instance_len(&self, m: u64, r: u64, class: ClassNo) -> Result<u64, Refusal>
         ensures register { OnOk result (IsTrue (is_register self.now m r)) }
         ensures class { OnOk result (is_instance_class self.now.classes class ≡ true) }
@@ -415,7 +427,7 @@ impl World {
         Ok(self.classes.slots(class).len() as u64)
     }
 
-    // Makes an object of a kind that exists, with so many slots, in a register.
+    // Makes an object of a kind that exists, with `len` slots, in a register. Fails with HeapFull or NoMemory.
     fn make(&mut self, m: u64, r: u64, kind: ObjKind, len: u64) -> Result<Created, Refusal>
         requires register { IsTrue (is_register self.old m r) }
         requires kind { HasKind self.old.classes kind len }
@@ -434,7 +446,7 @@ impl World {
         Ok(Created { id, at, fresh, old })
     }
 
-    // The kind of a slot of the object in the cell; none where it has no such slot.
+    // Returns the kind of a slot of the object in the cell, or None if it has no such slot.
     #[inline(always)]
     fn slot_kind_at(&self, at: ObjRef, slot: u64) -> Option<Kind>
         requires { IsSome (object_at self.now.regions at) }
@@ -447,7 +459,8 @@ impl World {
         }
     }
 
-    // Where the object stands that an id in a register names, and the kind of a slot of it.
+    // Returns the place of the object with an id that a register holds, and the kind of a slot of it. Fails with NullRegister
+    // or BadSlot.
     #[inline(always)]
     fn slot_named(&self, id: u64, slot: u64) -> Result<(ObjRef, Kind), Refusal>
         requires { Contains self.now.registers id }
@@ -465,7 +478,7 @@ impl World {
         }
     }
 
-    // Where the object stands whose slot may be given the value.
+    // Returns the place of the object whose slot may be given the value. Fails as `put` does.
     #[inline(always)]
     fn put_place(&self, m: u64, target: u64, slot: u64, value: u64) -> Result<ObjRef, Refusal>
         ensures accepted { OnOk result (put_refusal m target slot value self.now ≡ None) }

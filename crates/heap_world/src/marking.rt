@@ -1,4 +1,4 @@
-//! The marker's steps on the heap, and what takes each back.
+//! The marker's steps on the heap, and the undoing of each.
 ghost use Rattle.std.specs.Prelude.{◌≡◌, ◌+◌, ◌-◌, ◌<◌, ◌≤◌, length, slice_index, None, false, IfOk, OnOk, OnErr};
 ghost use Rattle.heap_class.specs.Refusals.{IsAnswered};
 ghost use Rattle.heap_mark.specs.Marking.{snap_refusal, unsnapped, mark_refusal, unmarked, drain_refusal, undrained, finish_refusal, unfinished, dead_count};
@@ -11,8 +11,8 @@ use heap_class::Refusal;
 use heap_mark::{Finished, Log, Marked};
 
 impl World {
-    /// Begins a cycle: each object that a register names is marked and pushed on the gray stack, once, in the order of the
-    /// registers. Answers how many. Refused AlreadyMarking. Takes no memory.
+    /// Begins a cycle: marks and pushes each object that a register names, once, in the order of the registers. Returns the
+    /// number of objects. Fails with AlreadyMarking if a cycle runs. Takes no memory.
     pub fn snap(&mut self) -> Result<u64, Refusal>
         ensures answered { IsAnswered (snap_refusal (marking_of self.old)) false result }
         ensures snapped { OnOk result (self.new ≡ after_snap self.old) }
@@ -22,7 +22,7 @@ impl World {
         self.marker.snap(&mut self.regions, &self.registers)
     }
 
-    /// Takes a snap back. Takes no memory.
+    /// Undoes `snap`. Takes no memory.
     pub fn unsnap(&mut self)
         requires snapped { (before : HeapState) × IsLegal before × (snap_refusal (marking_of before) ≡ None) × (self.old ≡ after_snap before) }
         ensures unsnapped { self.new ≡ with_marking (unsnapped (marking_of self.old)) self.old }
@@ -32,8 +32,9 @@ impl World {
         self.marker.unsnap(&mut self.regions)
     }
 
-    /// Takes the newest object off the gray stack, and marks and pushes its unmarked children in slot order. Answers which
-    /// object it was, and how many children were pushed. Refused NotMarking or NothingToMark. Takes no memory.
+    /// Pops the newest gray object, and marks and pushes its unmarked children in slot order. Returns the object and the number
+    /// of children that were pushed. Fails with NotMarking if no cycle runs, or with NothingToMark if nothing is gray. Takes no
+    /// memory.
     pub fn mark(&mut self) -> Result<Marked, Refusal>
         ensures answered { IsAnswered (mark_refusal (marking_of self.old)) false result }
         ensures marked { OnOk result (self.new ≡ after_mark self.old) }
@@ -44,7 +45,7 @@ impl World {
         self.marker.mark(&mut self.regions, &self.classes)
     }
 
-    /// Takes a mark back: the newest `pushed` gray objects are unmarked and taken off, and the parent is gray again. Takes
+    /// Undoes `mark`: unmarks the `pushed` newest gray objects and takes them off the stack, and pushes the parent again. Takes
     /// no memory.
     pub fn unmark(&mut self, parent: u64, pushed: u64)
         requires within { pushed ≤ length self.old.gray }
@@ -54,8 +55,8 @@ impl World {
         self.marker.unmark(&mut self.regions, parent, pushed)
     }
 
-    /// Marks and pushes the object that the next entry of the log names, where it is unmarked. Answers how many were
-    /// pushed, 0 or 1. Refused NotMarking or NothingToDrain. Takes no memory.
+    /// Marks and pushes the object that the next entry of the log names, if it is unmarked. Returns the number of objects
+    /// pushed, 0 or 1. Fails with NotMarking if no cycle runs, or with NothingToDrain if no entry is left. Takes no memory.
     pub fn drain(&mut self) -> Result<u64, Refusal>
         ensures answered { IsAnswered (drain_refusal (marking_of self.old)) false result }
         ensures drained { OnOk result (self.new ≡ after_drain self.old) }
@@ -65,8 +66,8 @@ impl World {
         self.marker.drain(&mut self.regions)
     }
 
-    /// Takes a drain back: the newest `pushed` gray objects are unmarked and taken off, and the log's entry is to be
-    /// drained again. Takes no memory.
+    /// Undoes `drain`: unmarks the `pushed` newest gray objects and takes them off the stack, and makes the last drained entry
+    /// the next one again. Takes no memory.
     pub fn undrain(&mut self, pushed: u64)
         requires within { pushed ≤ length self.old.gray }
         requires drained { 0 < self.old.drained }
@@ -76,9 +77,10 @@ impl World {
         self.marker.undrain(&mut self.regions, pushed)
     }
 
-    /// Ends the cycle: an object is live now where it was marked, none is marked, the log is handed out, and every region in
-    /// use is yet to be swept. Answers how many objects aren't live. Refused NotMarking, NotDone while something is gray or
-    /// in the log undrained, or SweepPending with the lowest region that is yet to be swept. Takes no memory.
+    /// Ends the cycle: the marked objects are live, the others aren't, none is marked, and every region in use waits to be
+    /// swept. Returns the number of objects that aren't live, and the log. Fails with NotMarking if no cycle runs, with NotDone
+    /// if an object is gray or an entry of the log is left, or with SweepPending and the lowest region that waits to be swept,
+    /// if one does. Takes no memory.
     pub fn finish(&mut self) -> Result<Finished, Refusal>
         ensures answered { IsAnswered (finish_refusal (marking_of self.old)) false result }
         ensures finished { OnOk result (self.new ≡ after_finish self.old) }
@@ -89,7 +91,7 @@ impl World {
         self.marker.finish(&mut self.regions)
     }
 
-    /// Takes a finish back, with the log that it handed out. Takes no memory.
+    /// Undoes `finish`, given the log that it returned. Takes no memory.
     pub fn unfinish(&mut self, log: Log)
         requires legal { IsLegal (with_marking (unfinished log (marking_of self.old)) self.old) }
         ensures { self.new ≡ with_marking (unfinished log (marking_of self.old)) self.old }

@@ -10,8 +10,8 @@ use super::{Loaded, Replaced, World, write_register};
 use heap_class::{ObjRef, Refusal};
 
 impl World {
-    /// Reads a slot of the object that register `from` of mutator `m` names; a reference goes to register `to`. Refused
-    /// BadRegister, NullRegister or BadSlot. Takes no memory.
+    /// Reads a slot of the object in register `from` of mutator `m`, and writes a reference to register `to`. Fails with
+    /// BadRegister, NullRegister or BadSlot, in this order. Takes no memory.
     #[inline(always)]
     pub fn load(&mut self, m: u64, to: u64, from: u64, slot: u64) -> Result<Loaded, Refusal>
         ensures answered { IsAnswered (load_refusal m to from slot self.old) false result }
@@ -39,9 +39,9 @@ impl World {
         })
     }
 
-    /// Writes what register `source` of mutator `m` holds to a reference slot of the object that register `target` names;
-    /// while a cycle runs, an old reference goes to the log. Refused BadRegister, NullRegister, BadSlot, WrongKind, or
-    /// NoMemory where the log can't grow.
+    /// Writes the word of register `source` of mutator `m` to a reference slot of the object in register `target`. Logs the old
+    /// reference, if it isn't null, while a cycle runs. Fails with BadRegister, NullRegister, BadSlot or WrongKind (a value
+    /// slot), in this order, and then with NoMemory if the log can't grow.
     #[inline(always)]
     pub fn store(
         &mut self,
@@ -66,7 +66,8 @@ impl World {
         Ok(Replaced { at, old, logged })
     }
 
-    /// Gives a reference slot its old word, and takes the log's last entry off where that was logged. Takes no memory.
+    /// Undoes `store`: writes the old word to the slot, and takes the last entry off the log if the old word was logged. Takes
+    /// no memory.
     pub fn unstore(&mut self, at: ObjRef, slot: u64, old: u64, logged: bool)
         requires there { IsSome (object_at self.old.regions at) }
         requires within { IfSome (object_at self.old.regions at) (λ o. slot < length o.words) }
@@ -78,7 +79,7 @@ impl World {
         self.regions.set_word(at, slot, old)
     }
 
-    /// Copies register `from` of mutator `from_m` to register `to` of mutator `m`, and answers what stood there. Refused
+    /// Copies register `from` of mutator `from_m` to register `to` of mutator `m`, and returns its old word. Fails with
     /// BadRegister. Takes no memory.
     #[inline(always)]
     pub fn move_register(&mut self, m: u64, to: u64, from_m: u64, from: u64) -> Result<u64, Refusal>
@@ -97,7 +98,7 @@ impl World {
         Ok(old)
     }
 
-    /// Makes register `r` of mutator `m` null, and answers what stood there. Refused BadRegister. Takes no memory.
+    /// Makes register `r` of mutator `m` null, and returns its old word. Fails with BadRegister. Takes no memory.
     #[inline(always)]
     pub fn clear_register(&mut self, m: u64, r: u64) -> Result<u64, Refusal>
         ensures answered { IsAnswered (clear_refusal m r self.old) false result }
@@ -114,7 +115,8 @@ impl World {
         Ok(old)
     }
 
-    /// Gives register `r` of mutator `m` its old word. Takes no memory.
+    /// Writes the old word to register `r` of mutator `m`: undoes `load`, `move_register` and `clear_register`. Takes no
+    /// memory.
     pub fn unregister(&mut self, m: u64, r: u64, old: u64)
         requires register { IsTrue (is_register self.old m r) }
         requires legal { IsLegal (with_register m r old self.old) }
@@ -123,7 +125,7 @@ impl World {
         self.set_register(m, r, old)
     }
 
-    // Writes a word to a register, which keeps a legal heap legal.
+    // Writes a word to a register. The heap must stay legal.
     #[inline(always)]
     fn set_register(&mut self, m: u64, r: u64, word: u64)
         requires register { IsTrue (is_register self.old m r) }
@@ -133,7 +135,8 @@ impl World {
         write_register(&mut self.registers, m, r, word);
     }
 
-    // Where the object stands whose slot may be given what the source holds.
+    // Returns the place of the object whose slot may be given the reference in the source register. Fails with BadRegister,
+    // NullRegister, BadSlot or WrongKind.
     #[inline(always)]
     fn store_place(&self, m: u64, target: u64, slot: u64, source: u64) -> Result<ObjRef, Refusal>
         ensures accepted { OnOk result (store_refusal m target slot source self.now ≡ None) }

@@ -1,4 +1,4 @@
-//! Sweeping on the heap, and what takes it back.
+//! Sweeping on the heap, and its undoing.
 ghost use Rattle.std.specs.Prelude.{◌≡◌, ℕ, slice_get, None, Some, false, IfOk, OnOk, OnErr};
 ghost use Rattle.heap_class.specs.Refusals.{IsAnswered};
 ghost use Rattle.heap_region.specs.Regions.{Object};
@@ -14,9 +14,9 @@ use heap_region::Storage;
 use heap_sweep::{DeadCells, Reclaimed};
 
 impl World {
-    /// Removes a region's objects that aren't live; their cells head its free list, the highest first. A region left without
-    /// objects becomes empty and heads the pool. Answers what was removed. Refused NothingToSweep, or NoMemory where the
-    /// dead objects of a region in which others stay can't be copied.
+    /// Removes a region's objects that aren't live. Their cells head its free list, the highest first. A region left without
+    /// objects becomes empty and heads the pool. Returns what was removed. Fails with NothingToSweep if the region doesn't wait
+    /// to be swept, and with NoMemory if the region keeps objects and the dead ones can't be copied.
     pub fn sweep(&mut self, region: u64) -> Result<Reclaimed, Refusal>
         ensures answered { IsAnswered (sweep_refusal region (pool_of self.old)) (copies_dead region (pool_of self.old)) result }
         ensures swept { OnOk result (self.new ≡ after_sweep region self.old) }
@@ -26,7 +26,7 @@ impl World {
         heap_sweep::sweep(&mut self.regions, region)
     }
 
-    /// Takes a sweep back that left objects in its region, with what it removed. Takes no memory.
+    /// Undoes a sweep that left objects in its region, given the objects that it removed. Takes no memory.
     pub fn unsweep(&mut self, region: u16, dead: DeadCells)
         requires swept { (before : HeapState) × IsLegal before × (sweep_refusal region (pool_of before) ≡ None) × (is_emptied region (pool_of before) ≡ false) × (dead ≡ dead_at region (pool_of before)) × (self.old ≡ after_sweep region before) }
         ensures unswept { self.new ≡ with_pool (unswept region dead (pool_of self.old)) self.old }
@@ -37,7 +37,7 @@ impl World {
         heap_sweep::unsweep(&mut self.regions, Reclaimed::Swept { region, dead })
     }
 
-    /// Takes a sweep back that emptied its region, with the region's storage. Takes no memory.
+    /// Undoes a sweep that emptied its region, given the storage of the region. Takes no memory.
     pub fn unreclaim(&mut self, region: u16, storage: Storage)
         requires head { slice_get self.old.pool 0 ≡ Some region }
         requires inhabited { (cell : ℕ) × (o : Object) × (slice_get storage.cells cell ≡ Some (Some o)) }

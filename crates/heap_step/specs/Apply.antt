@@ -1,4 +1,4 @@
--- What an event does: one function, with a case for each event.
+-- The effect of an event: one function, with a case for each event.
 use Rattle.std.specs.Prelude.{ℕ, ◌+◌, ◌-◌, Bool, true, false, ◌==◌, length, Option, Some, None, Result, Ok, Err, if◌then◌else◌}
 use Rattle.heap_class.specs.declared.Refusal.{Refusal}
 use Rattle.heap_class.specs.declared.ObjKind.TheVariants.{Instance, Array, Prim}
@@ -13,7 +13,7 @@ use Rattle.heap_step.specs.declared.Event.TheVariants.{ArrayClass, New, NewArray
 use Rattle.heap_step.specs.declared.Answer.{Answer}
 use Rattle.heap_step.specs.declared.Answer.TheVariants.{Object, Null, Value, Done, Pushed, Condemned, Swept}
 
--- the first refusal of the event that holds
+-- the refusal of an event, or None if it is accepted
 unfoldable pub refusal_of : Event → HeapState → Option Refusal
 refusal_of (Event.Class name sup fields) w = class_refusal w.classes (instance_class name sup fields)
 refusal_of (ArrayClass name) w = class_refusal w.classes (array_class name)
@@ -31,7 +31,7 @@ refusal_of Drain w = drain_refusal (marking_of w)
 refusal_of Finish w = finish_refusal (marking_of w)
 refusal_of (Sweep region) w = sweep_refusal region (pool_of w)
 
--- the state after an event that isn't refused
+-- the state after an accepted event
 unfoldable pub state_after : Event → HeapState → HeapState
 state_after (Event.Class name sup fields) w = after_class (instance_class name sup fields) w
 state_after (ArrayClass name) w = after_class (array_class name) w
@@ -53,7 +53,7 @@ state_after (Sweep region) w = after_sweep region w
 unfoldable pub object_or_null : ℕ → Answer
 object_or_null x = if x == 0 then Null else Object x
 
--- the answer of an event that isn't refused, from the states before and after it
+-- the answer of an accepted event, from the states before and after it
 unfoldable pub answer_of : Event → HeapState → HeapState → Answer
 answer_of (Event.Class name sup fields) w v = Answer.Class (length w.classes)
 answer_of (ArrayClass name) w v = Answer.Class (length w.classes)
@@ -71,15 +71,16 @@ answer_of Drain w v = Pushed (length v.gray - length w.gray)
 answer_of Finish w v = Condemned (dead_count v.regions)
 answer_of (Sweep region) w v = Swept (length (dead_at region (pool_of w))) (is_emptied region (pool_of w))
 
--- the refusal, if there is one, and else the new state and the answer
+-- the refusal if there is one, else the new state and the answer
 unfoldable pub applied_unless : Option Refusal → Event → HeapState → Result (HeapState × Answer) Refusal
 applied_unless None e w = let v = state_after e w in Ok (v, answer_of e w v)
 applied_unless (Some r) e w = Err r
 
+-- the new state and the answer of an event, or its refusal
 unfoldable pub applied : Event → HeapState → Result (HeapState × Answer) Refusal
 applied e w = applied_unless (refusal_of e w) e w
 
--- the event of this state may want memory
+-- whether the event may take memory in this state
 unfoldable pub event_may_grow : Event → HeapState → Bool
 event_may_grow (Event.Class name sup fields) w = true
 event_may_grow (ArrayClass name) w = true

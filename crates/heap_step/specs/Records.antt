@@ -1,4 +1,4 @@
--- The record that an event leaves, its weight, and what it takes back.
+-- The record that an event leaves, its weight, and its undoing.
 use Rattle.std.specs.Prelude.{ℕ, ◌+◌, ◌-◌, length, take, slice_index, sum_by, unwrap_or, if◌then◌else◌}
 use Rattle.std.specs.Option.{option_map_or}
 use Rattle.heap_class.specs.Classes.{slots_of}
@@ -14,15 +14,15 @@ use Rattle.heap_step.specs.declared.Event.TheVariants.{ArrayClass, NewArray, New
 use Rattle.heap_step.specs.declared.Undo.{Undo}
 use Rattle.heap_step.specs.declared.Undo.TheVariants.{Put, Store, Reg, New, Class, Snap, Mark, Drain, Finish, Sweep, Reclaim}
 
--- the register's old word
+-- the record of a register, with its old word
 unfoldable pub reg_record : ℕ → ℕ → HeapState → Undo
 reg_record m r w = Reg m r (register w m r)
 
--- where a new object of n slots went, and its register's old word
+-- the record of a new object of n slots, with its place and its register's old word
 unfoldable pub new_record : ℕ → ℕ → ℕ → HeapState → Undo
 new_record m r n w = option_map_or (λ p. New p.0 p.1 m r (register w m r)) (new_place n (pool_of w)) (reg_record m r w)
 
--- the region, where nothing of it is left, and else its dead cells
+-- the record of a sweep: the region if it is emptied, else its dead objects
 unfoldable pub sweep_record : ℕ → HeapState → Undo
 sweep_record region w = if is_emptied region (pool_of w) then Reclaim region (unwrap_or (used_at w.regions region) (fresh_region 4)) else Sweep region (dead_at region (pool_of w))
 
@@ -44,7 +44,7 @@ undo_record Event.Drain w = Drain (length (after_drain w).gray - length w.gray)
 undo_record Event.Finish w = Finish w.log
 undo_record (Event.Sweep region) w = sweep_record region w
 
--- what the record keeps besides its fixed fields
+-- the entries and words that a record keeps besides its fixed fields
 unfoldable pub weight : Undo → ℕ
 weight (Put at slot old) = 1
 weight (Store at slot old logged) = 1
@@ -58,7 +58,7 @@ weight (Finish log) = length log
 weight (Sweep region dead) = sum_by (λ d. 1 + length d.1.words) dead
 weight (Reclaim region storage) = region_words + length storage.cells
 
--- the state before the step that left this record and the state
+-- the state before the step that left this record and this state
 unfoldable pub undone : Undo → HeapState → HeapState
 undone (Put at slot old) w = record w { regions = with_word at slot old w.regions }
 undone (Store at slot old logged) w = record w { regions = with_word at slot old w.regions; log = if logged then without_last w.log else w.log }

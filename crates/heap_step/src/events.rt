@@ -1,4 +1,4 @@
-//! What each event does to the heap, with its answer and its record.
+//! The effect of each event on the heap, with its answer and its record.
 ghost use Rattle.std.specs.Prelude.{◌≡◌, ℕ, List, if◌then◌else◌};
 ghost use Rattle.heap_region.specs.Regions.{Object, UsedRegion};
 ghost use Rattle.heap_sweep.specs.declared.Reclaimed.TheVariants.{Swept, Emptied};
@@ -15,8 +15,8 @@ use heap_class::{ClassNo, Fields, Kind, Name, Refusal};
 use heap_sweep::Reclaimed;
 use heap_world::{Created, Loaded, World};
 
-/// Applies an event by the function of its kind. `load` and `store` stay calls: with them the function would be too large for
-/// the compiler to inline it into each caller, which knows the kind.
+/// Applies an event by the function of its kind. `load` and `store` are never inlined: with them the function would be too
+/// large for the compiler to inline it into each caller, which knows the kind.
 #[inline(always)]
 pub fn dispatch(world: &mut World, event: &Event) -> Result<(Answer, Undo), Refusal>
     requires { IsLegal world.old }
@@ -56,7 +56,7 @@ pub fn dispatch(world: &mut World, event: &Event) -> Result<(Answer, Undo), Refu
     }
 }
 
-/// Applies an event that defines an instance class.
+// Applies an event that defines an instance class.
 fn define(
     world: &mut World,
     name: &Name,
@@ -69,7 +69,7 @@ fn define(
     Ok((Answer::Class(class), Undo::Class))
 }
 
-/// Applies an event that defines a class of object arrays.
+// Applies an event that defines a class of object arrays.
 fn define_array(world: &mut World, name: &Name) -> Result<(Answer, Undo), Refusal>
     ensures { IsApplied (Event.ArrayClass name.now) world.old world.new result }
 {
@@ -77,7 +77,7 @@ fn define_array(world: &mut World, name: &Name) -> Result<(Answer, Undo), Refusa
     Ok((Answer::Class(class), Undo::Class))
 }
 
-/// Applies an event that makes an instance of a class.
+// Applies an event that makes an instance of a class.
 fn create(world: &mut World, m: u64, r: u64, class: ClassNo) -> Result<(Answer, Undo), Refusal>
     requires { IsLegal world.old }
     ensures { IsApplied (Event.New m r class) world.old world.new result }
@@ -86,7 +86,7 @@ fn create(world: &mut World, m: u64, r: u64, class: ClassNo) -> Result<(Answer, 
     Ok(made(m as u8, r as u8, created))
 }
 
-/// Applies an event that makes an object array.
+// Applies an event that makes an object array.
 fn create_array(
     world: &mut World,
     m: u64,
@@ -101,7 +101,7 @@ fn create_array(
     Ok(made(m as u8, r as u8, created))
 }
 
-/// Applies an event that makes an array of values.
+// Applies an event that makes an array of values.
 fn create_prim(
     world: &mut World,
     m: u64,
@@ -116,7 +116,7 @@ fn create_prim(
     Ok(made(m as u8, r as u8, created))
 }
 
-/// Applies an event that reads a slot.
+// Applies an event that reads a slot.
 fn load(world: &mut World, m: u64, to: u64, from: u64, slot: u64) -> Result<(Answer, Undo), Refusal>
     requires { IsLegal world.old }
     ensures { IsApplied (Event.Load m to from slot) world.old world.new result }
@@ -128,7 +128,7 @@ fn load(world: &mut World, m: u64, to: u64, from: u64, slot: u64) -> Result<(Ans
     ))
 }
 
-/// Applies an event that writes a reference slot.
+// Applies an event that writes a reference slot.
 fn store(
     world: &mut World,
     m: u64,
@@ -148,7 +148,7 @@ fn store(
     Ok((Answer::Done, record))
 }
 
-/// Applies an event that writes a value slot.
+// Applies an event that writes a value slot.
 #[inline(always)]
 fn put(
     world: &mut World,
@@ -168,7 +168,7 @@ fn put(
     Ok((Answer::Done, record))
 }
 
-/// Applies an event that copies a register.
+// Applies an event that copies a register.
 #[inline(always)]
 fn copy(
     world: &mut World,
@@ -184,7 +184,7 @@ fn copy(
     Ok((Answer::Done, reg_record(m as u8, to as u8, held)))
 }
 
-/// Applies an event that makes a register null.
+// Applies an event that makes a register null.
 #[inline(always)]
 fn clear(world: &mut World, m: u64, r: u64) -> Result<(Answer, Undo), Refusal>
     requires { IsLegal world.old }
@@ -194,7 +194,7 @@ fn clear(world: &mut World, m: u64, r: u64) -> Result<(Answer, Undo), Refusal>
     Ok((Answer::Done, reg_record(m as u8, r as u8, held)))
 }
 
-/// Applies an event that begins a marking cycle.
+// Applies an event that begins a marking cycle.
 fn snap(world: &mut World) -> Result<(Answer, Undo), Refusal>
     ensures { IsApplied Event.Snap world.old world.new result }
 {
@@ -202,7 +202,7 @@ fn snap(world: &mut World) -> Result<(Answer, Undo), Refusal>
     Ok((Answer::Pushed(pushed), Undo::Snap))
 }
 
-/// Applies an event that marks the children of the newest gray object.
+// Applies an event that marks the children of the newest gray object.
 fn mark(world: &mut World) -> Result<(Answer, Undo), Refusal>
     ensures { IsApplied Event.Mark world.old world.new result }
 {
@@ -214,7 +214,7 @@ fn mark(world: &mut World) -> Result<(Answer, Undo), Refusal>
     Ok((Answer::Pushed(marked.pushed), record))
 }
 
-/// Applies an event that marks what the next entry of the log names.
+// Applies an event that marks the object that the next entry of the log names.
 fn drain(world: &mut World) -> Result<(Answer, Undo), Refusal>
     ensures { IsApplied Event.Drain world.old world.new result }
 {
@@ -222,7 +222,7 @@ fn drain(world: &mut World) -> Result<(Answer, Undo), Refusal>
     Ok((Answer::Pushed(pushed), Undo::Drain { pushed }))
 }
 
-/// Applies an event that ends a marking cycle.
+// Applies an event that ends a marking cycle.
 fn finish(world: &mut World) -> Result<(Answer, Undo), Refusal>
     ensures { IsApplied Event.Finish world.old world.new result }
 {
@@ -231,7 +231,7 @@ fn finish(world: &mut World) -> Result<(Answer, Undo), Refusal>
     Ok((Answer::Condemned(finished.condemned), record))
 }
 
-/// Applies an event that removes the objects of a region that aren't live.
+// Applies an event that removes the objects of a region that aren't live.
 fn sweep(world: &mut World, region: u64) -> Result<(Answer, Undo), Refusal>
     ensures { IsApplied (Event.Sweep region) world.old world.new result }
 {
@@ -243,7 +243,7 @@ fn sweep(world: &mut World, region: u64) -> Result<(Answer, Undo), Refusal>
     Ok((answer, sweep_record(reclaimed)))
 }
 
-/// The record of a sweep that took this out.
+// Returns the record of a sweep with this outcome.
 fn sweep_record(reclaimed: Reclaimed) -> Undo
     ensures swept { (region : ℕ) (dead : List (ℕ × Object)) → reclaimed ≡ Swept region dead → result ≡ Undo.Sweep region dead }
     ensures emptied { (region : ℕ) (storage : UsedRegion) (dead : ℕ) → reclaimed ≡ Emptied region storage dead → result ≡ Undo.Reclaim region storage }
@@ -258,7 +258,7 @@ fn sweep_record(reclaimed: Reclaimed) -> Undo
     }
 }
 
-/// What a load answers: of a reference the object or null, of a value the value.
+// Returns the answer of a load: the object for a reference, or the value.
 #[inline(always)]
 #[tactic(auto, unfolding(crate::specs::Apply::object_or_null))]
 fn slot_answer(loaded: Loaded) -> Answer
@@ -273,7 +273,7 @@ fn slot_answer(loaded: Loaded) -> Answer
     Answer::Object(loaded.word)
 }
 
-/// What a new object in register `r` of mutator `m` answers, and its record.
+// Returns the answer and the record of a new object in register `r` of mutator `m`.
 fn made(m: u8, r: u8, created: Created) -> (Answer, Undo)
     ensures answer { result.0 ≡ Answer.Object created.id }
     ensures record { result.1 ≡ Undo.New created.at created.fresh m r created.old }
@@ -288,7 +288,7 @@ fn made(m: u8, r: u8, created: Created) -> (Answer, Undo)
     (Answer::Object(created.id), record)
 }
 
-/// The record of register `r` of mutator `m` that held `old`.
+// Returns the record of register `r` of mutator `m`, with its old word.
 #[inline(always)]
 fn reg_record(m: u8, r: u8, old: u64) -> Undo
     ensures { result ≡ Undo.Reg m r old }

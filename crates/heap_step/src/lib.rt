@@ -1,4 +1,4 @@
-//! The events, their answers, and the records by which each is taken back.
+//! The events, their answers, and the records by which each is undone.
 #![tactic(auto)]
 
 ghost use Rattle.std.specs.Prelude.{◌≡◌, ℕ, None};
@@ -18,7 +18,7 @@ use heap_sweep::DeadCells;
 use std::mem::size_of;
 pub use step::{apply, weight};
 
-/// One step that is asked for. Numbers of mutators, registers, classes and slots may be any 64-bit numbers.
+/// An event: one step that is asked for. Numbers of mutators, registers, classes and slots may be any 64-bit numbers.
 #[derive(PartialEq, Eq, Drop)]
 pub enum Event {
     /// Defines an instance class.
@@ -51,14 +51,14 @@ pub enum Event {
         kind: Kind,
         len: u64,
     },
-    /// Reads a slot of the object in register `from`: a reference goes to register `to`.
+    /// Reads a slot of the object in register `from`. A reference goes to register `to`.
     Load {
         m: u64,
         to: u64,
         from: u64,
         slot: u64,
     },
-    /// Writes what register `source` holds to a reference slot of the object in register `target`.
+    /// Writes the word of register `source` to a reference slot of the object in register `target`.
     Store {
         m: u64,
         target: u64,
@@ -84,13 +84,13 @@ pub enum Event {
         m: u64,
         r: u64,
     },
-    /// Begins a marking cycle with what the registers name.
+    /// Begins a marking cycle with the objects that the registers name.
     Snap,
     /// Marks the unmarked children of the newest gray object.
     Mark,
-    /// Marks what the next entry of the log names.
+    /// Marks the object that the next entry of the log names.
     Drain,
-    /// Ends the cycle: what isn't marked is no longer live.
+    /// Ends the cycle: objects that aren't marked are no longer live.
     Finish,
     /// Removes the objects of a region that aren't live.
     Sweep {
@@ -98,7 +98,7 @@ pub enum Event {
     },
 }
 
-/// What an accepted event answers.
+/// The answer of an accepted event.
 #[derive(Clone, Copy, PartialEq, Eq, Debug)]
 pub enum Answer {
     /// The number of the new class.
@@ -107,36 +107,42 @@ pub enum Answer {
     Object(u64),
     /// The null reference.
     Null,
-    /// What a value slot holds.
+    /// The value of a slot.
     Value(u64),
+    /// Nothing but that it is done.
     Done,
-    /// How many objects were marked and pushed on the gray stack.
+    /// The number of objects that were marked and pushed on the gray stack.
     Pushed(u64),
-    /// How many objects of the heap aren't live.
+    /// The number of objects of the heap that aren't live.
     Condemned(u64),
-    /// How many objects were removed, and whether that left the region empty.
+    /// The number of objects that were removed, and whether that left the region empty.
     Swept { dead: u64, emptied: bool },
 }
 
-/// What takes an accepted event back.
+/// The record of an accepted event, by which it is undone.
 #[derive(Drop)]
 pub enum Undo {
+    /// A value was written: the place of the object, the slot, and its old word.
     Put {
         at: ObjRef,
         slot: u16,
         old: u64,
     },
+    /// A reference was written: the place of the object, the slot, its old word, and whether that was logged.
     Store {
         at: ObjRef,
         slot: u16,
         old: u64,
         logged: bool,
     },
+    /// Register `r` of mutator `m` was written: its old word.
     Reg {
         m: u8,
         r: u8,
         old: u64,
     },
+    /// An object was made: its place, whether its region was taken from the pool, and register `r` of mutator `m` with its old
+    /// word.
     New {
         at: ObjRef,
         fresh: bool,
@@ -144,62 +150,71 @@ pub enum Undo {
         r: u8,
         old: u64,
     },
+    /// A class was defined.
     Class,
+    /// A cycle was begun.
     Snap,
+    /// An object was marked: its id, and the number of its children that were pushed.
     Mark {
         parent: u64,
         pushed: u64,
     },
+    /// An entry of the log was drained: the number of objects that were pushed, 0 or 1.
     Drain {
         pushed: u64,
     },
+    /// A cycle was ended: its log.
     Finish {
         log: Log,
     },
+    /// A region was swept that keeps objects: its dead objects.
     Sweep {
         region: u16,
         dead: DeadCells,
     },
+    /// A region was swept that is empty now: its storage.
     Reclaim {
         region: u16,
         storage: Storage,
     },
 }
 
-// The ring has one for each step that can be taken back.
+// The ring has one for each step that can be undone.
 const _: () = prove!(size_of::<Undo>() <= 32);
 
-/// The law that each event that a legal heap accepts keeps it legal.
+/// States that each event that a legal heap accepts keeps it legal.
 pub fn keeps_legal()
     ensures { (e : Event) (w : HeapState) → KeepsLegal e w }
 {}
 
-/// The law that the record of each event that a legal heap accepts takes it back.
+/// States that the record of each event that a legal heap accepts undoes it.
 pub fn undo_takes_back()
     ensures { (e : Event) (w : HeapState) → IsTakenBack e w }
 {}
 
-/// The law that while a cycle runs each accepted event of a legal heap leaves what is marked or sheltered so.
+/// States that while a cycle runs each accepted event of a legal heap keeps the marked and sheltered objects marked or
+/// sheltered.
 pub fn stays_found()
     ensures { (e : Event) (w : HeapState) → IsLegal w → refusal_of e w ≡ None → StaysFound w (state_after e w) }
 {}
 
-/// The law that while a cycle runs in a legal heap all that the registers reach is marked or sheltered.
+/// States that while a cycle runs in a legal heap each object that the registers reach is marked or sheltered.
 pub fn finds_reached()
     ensures { (w : HeapState) → FindsReached w }
 {}
 
-/// The law that a sweep of a legal heap leaves each object that the registers reach.
+/// States that a sweep of a legal heap leaves each object that the registers reach.
 pub fn sweep_spares()
     ensures { (region : ℕ) (w : HeapState) → SweepSpares region w }
 {}
 
-/// The law that after a finish of a legal heap all that the registers reach is live.
+/// States that after a finish of a legal heap each object that the registers reach is live.
 pub fn finish_spares()
     ensures { (w : HeapState) → FinishSpares w }
 {}
 
-/// The law that in a legal heap each object's id is below 2^32, and so are registers, references, gray and log entries.
+/// States that in a legal heap the ids of objects, the registers, the references and the entries of gray stack and log are
+/// below 2^32.
 pub fn ids_fit()
     ensures { (w : HeapState) → IsLegal w → IdsFit w }
 {}

@@ -1,4 +1,4 @@
-//! Applying events and taking them back.
+//! Applying events and undoing them.
 ghost use Rattle.std.specs.Prelude.{◌≡◌, ◌⊎◌, None, Ok, Err, true, IfOk, IfErr, OnOk, OnErr};
 ghost use Rattle.heap_class.specs.Refusals.{IsAnswered};
 ghost use Rattle.heap_class.specs.declared.Refusal.TheVariants.{NoMemory};
@@ -14,8 +14,9 @@ use crate::{Answer, Event, Undo};
 use heap_class::Refusal;
 use heap_world::World;
 
-/// Applies an event: at Ok its answer and the record that takes it back; refused, nothing has changed. NoMemory comes
-/// only where the event may grow and nothing else refuses it. While a cycle runs, what is marked or sheltered stays so.
+/// Applies an event, and returns its answer and the record that undoes it. Fails as the event's own call does, and changes
+/// nothing then. Fails with NoMemory only if the event may grow and nothing else refuses it. While a cycle runs, marked and
+/// sheltered objects stay marked or sheltered.
 #[inline(always)]
 pub fn apply(world: &mut World, event: &Event) -> Result<(Answer, Undo), Refusal>
     ensures answered { IsAnswered (refusal_of event.now world.old) (event_may_grow event.now world.old) result }
@@ -31,7 +32,7 @@ pub fn apply(world: &mut World, event: &Event) -> Result<(Answer, Undo), Refusal
     dispatch(world, event)
 }
 
-/// Takes back the step that left this record and this state. Takes no memory.
+/// Undoes the step that left this record and this state. Takes no memory.
 #[tactic(auto, using(crate::proofs::Steps::taken_back))]
 pub fn undo(world: &mut World, left: Undo)
     requires { (e : Event) × (before : HeapState) × IsStep e before world.old left }
@@ -63,7 +64,8 @@ pub fn undo(world: &mut World, left: Undo)
     }
 }
 
-/// What a record keeps besides its fixed fields: at most 2,048, or as many entries as its log has for a Finish.
+/// Returns the weight of a record, the entries and words that it keeps besides its fixed fields: at most 2,048, or the number
+/// of entries of the log for a Finish.
 #[tactic(auto, unfolding(crate::specs::Records::weight))]
 pub fn weight(left: &Undo) -> u64
     ensures value { result ≡ weight left.now }

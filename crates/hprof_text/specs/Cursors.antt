@@ -1,4 +1,4 @@
--- Where a cursor stands.
+-- The places of cursors.
 use Rattle.std.specs.Prelude.{◌≡◌, ℕ, ◌+◌, ◌≤◌, not, ◌==◌, List, [], ◌++◌, length, map, drop, filter, slice_get, Some}
 use Rattle.std.specs.List.{enumerate_from}
 use Rattle.heap_class.specs.declared.IdSize.{IdSize}
@@ -11,29 +11,29 @@ use Rattle.hprof_text.specs.Segments.{records_from}
 
 -- ---- the sub-records from one on, to the last
 
--- from register n's root, if it isn't null
+-- the roots of the registers from number n on that aren't null
 abbrev pub from_register : IdSize → List ℕ → ℕ → List (List ℕ)
 from_register ids registers n = map (root_unknown ids) (filter (λ x. not (x == 0)) (drop n registers))
 
--- from object n's
+-- the sub-records from that of object n on
 abbrev pub from_object : IdSize → Image → ℕ → List (List ℕ)
 from_object ids image n = drop n (object_records ids image) ++ from_register ids image.registers 0
 
--- from the root of class n
+-- the sub-records from the root of class n on
 abbrev pub from_root : IdSize → Image → ℕ → List (List ℕ)
 from_root ids image n = drop n (map (root_sticky_class ids) (enumerate_from 0 image.classes)) ++ from_object ids image 0
 
--- from class n's
+-- the sub-records from that of class n on
 abbrev pub from_class : IdSize → Image → ℕ → List (List ℕ)
 from_class ids image n = drop n (map (class_dump ids image.classes) (enumerate_from 0 image.classes)) ++ from_root ids image 0
 
 -- ---- cursors
 
--- piece i is the first of those that hold these sub-records, and the end
+-- piece i is the first of those that have these sub-records, and the end
 abbrev pub IsBefore : IdSize → Image → List (List ℕ) → ℕ → Type 0
 IsBefore ids image rest i = (m : ℕ) × (i ≡ m + 1) × (drop m (records_from (sub_records ids image)) ≡ records_from rest)
 
--- the cursor stands at piece i, where the objects stand in these places
+-- the cursor is before piece i, of a view whose objects have these places
 abbrev pub IsAt : IdSize → Image → List ObjRef → Cursor → ℕ → Type 0
 IsAt ids image places Start i = i ≡ 0
 IsAt ids image places (ClassDump n) i = IsBefore ids image (from_class ids image n) i

@@ -1,4 +1,4 @@
--- How a segment is filled.
+-- For proofs: the filling of a segment.
 use Rattle.std.specs.Prelude.{◌≡◌, ℕ, ◌+◌, nat_le, Bool, true, false, List, [], ◌∷◌, ◌++◌, length, drop, slice_get, Option, Some, None}
 use Rattle.heap_class.specs.declared.IdSize.{IdSize}
 use Rattle.heap_class.specs.declared.ObjRef.{ObjRef}
@@ -8,12 +8,12 @@ use Rattle.hprof_text.specs.Image.{Image}
 use Rattle.hprof_text.specs.Cursors.{from_class, from_root, from_object, from_register}
 use Rattle.hprof_text.specs.Segments.{segment_limit}
 
--- whether a body takes a sub-record of n bytes: an empty one takes any
+-- whether a body takes a sub-record of n bytes; an empty body takes any
 abbrev pub takes : List ℕ → ℕ → Bool
 takes [] n = true
 takes (b ∷ bs) n = nat_le (length (b ∷ bs) + n) segment_limit
 
--- a body after it took what it takes of the sub-records, and those that are left
+-- a body with the sub-records that it takes of these, from the front, and those that are left
 unfoldable pub filled : List ℕ → List (List ℕ) → List ℕ × List (List ℕ)
 filled body [] = (body, [])
 filled body (x ∷ xs) = elim (takes body (length x)) [ true ↦ filled (body ++ x) xs | false ↦ (body, x ∷ xs) ]
@@ -23,22 +23,22 @@ pub record IsOffered (x old new : List ℕ) (taken : Bool) : Type 0 where
   pub by_room : taken ≡ takes old (length x)
   pub body : new ≡ elim taken [ true ↦ old ++ x | false ↦ old ]
 
--- items from number n on were offered, which others follow: where one wasn't taken, that one and all after it are left
+-- the items from number n on were offered, and others may follow them: from the first that wasn't taken on, all are left
 abbrev pub IsFilledFrom : List (List ℕ) → ℕ → Option ℕ → List ℕ → List ℕ → Type 0
 IsFilledFrom items n (Some m) old new = (more : List (List ℕ)) → filled old (drop n items ++ more) ≡ (new, drop m items ++ more)
 IsFilledFrom items n None old new = (more : List (List ℕ)) → filled old (drop n items ++ more) ≡ filled new more
 
--- the same of objects, the first of which that wasn't taken stands at this place
+-- the same for objects: the first that wasn't taken has this place
 abbrev pub IsFilledBefore : List ObjRef → List (List ℕ) → ℕ → Option ObjRef → List ℕ → List ℕ → Type 0
 IsFilledBefore places items n (Some at) old new = (m : ℕ) × (slice_get places m ≡ Some at) × IsFilledFrom items n (Some m) old new
 IsFilledBefore places items n None old new = IsFilledFrom items n None old new
 
--- the same of the roots of the registers, which nothing follows
+-- the same for the roots of the registers, which nothing follows
 abbrev pub IsFilledRoots : IdSize → List ℕ → ℕ → Option ℕ → List ℕ → List ℕ → Type 0
 IsFilledRoots ids registers n (Some m) old new = filled old (from_register ids registers n) ≡ (new, from_register ids registers m)
 IsFilledRoots ids registers n None old new = filled old (from_register ids registers n) ≡ (new, [])
 
--- the sub-records from a cursor on
+-- these are the sub-records from the cursor on
 abbrev pub IsRest : IdSize → Image → List ObjRef → Cursor → List (List ℕ) → Type 0
 IsRest ids image places Start rest = ⊥
 IsRest ids image places (ClassDump n) rest = rest ≡ from_class ids image n
@@ -48,6 +48,6 @@ IsRest ids image places (RegisterRoot n) rest = rest ≡ from_register ids image
 IsRest ids image places End rest = rest ≡ []
 IsRest ids image places Past rest = ⊥
 
--- the cursor after a body took what it takes of these sub-records
+-- the body took of these sub-records those that it takes, and the cursor is before those that are left
 abbrev pub IsFilledTo : IdSize → Image → List ObjRef → List (List ℕ) → Cursor → List ℕ → List ℕ → Type 0
 IsFilledTo ids image places rest cursor old new = (new ≡ (filled old rest).0) × IsRest ids image places cursor (filled old rest).1

@@ -1,36 +1,37 @@
--- What a dump shows of a heap.
+-- The image of a heap in a dump.
 use Rattle.std.specs.Prelude.{◌≡◌, ℕ, ◌<◌, ◌≤◌, List, [], length, All}
 use Rattle.heap_class.specs.declared.ObjKind.{ObjKind}
 use Rattle.heap_class.specs.declared.ObjKind.TheVariants.{Instance, Array, Prim}
 use Rattle.heap_class.specs.Classes.{Class, IsClassTable, slots_of}
 use Rattle.heap_class.specs.Limits.{class_limit, array_limit}
 
--- an object of a dump: its id, its kind and its slots' words
+-- an object of a dump: its id, its kind and the words of its slots
 pub record DumpedObject : Type 0 where
   pub id : ℕ
   pub kind : ObjKind
   pub words : List ℕ
 
--- the classes, the registers, and the live objects by region and cell
+-- an image: the classes, the registers, and the live objects by region and cell
 pub record Image : Type 0 where
   pub classes : List Class
   pub registers : List ℕ
   pub objects : List DumpedObject
 
--- the kind exists, with this many slots
+-- the kind exists, and objects of it may have n slots
 abbrev pub IsKnown : List Class → ObjKind → ℕ → Type 0
 IsKnown classes (Instance k) n = (k < length classes) × (n ≡ length (slots_of classes k))
 IsKnown classes (Array k) n = k < length classes
 IsKnown classes (Prim kind) n = Unit {0}
 
--- objects and registers of a dump at most
+-- the largest number of objects of a dump
 abbrev pub object_limit : ℕ
 object_limit = 65536
 
+-- the largest number of registers of a dump
 abbrev pub register_limit : ℕ
 register_limit = 128
 
--- within these limits no length in a dump is cut off
+-- the image is within the limits of a dump, so that no length is cut off
 pub record IsDumpable (image : Image) : Type 0 where
   pub classes : IsClassTable [] image.classes
   pub few_classes : length image.classes ≤ class_limit

@@ -1,4 +1,4 @@
--- What holds of every text.
+-- The laws of every text.
 use Rattle.std.specs.Prelude.{◌≡◌, ℕ, ◌^◌, ◌<◌, ◌≤◌, List, length}
 use Rattle.std.specs.List.{concat}
 use Rattle.heap_class.specs.declared.IdSize.{IdSize}
@@ -11,19 +11,19 @@ use Rattle.hprof_text.specs.Fits.{FitsId, HoldsWhole}
 abbrev pub PiecesJoin : IdSize → Image → ℕ → Type 0
 PiecesJoin ids image time = concat (pieces_of ids image time) ≡ dump_text ids image time
 
--- the cutting is what a cutting into segments is
+-- the sub-records are cut into segments as they should be
 abbrev pub IsCut : ℕ → List (List ℕ) → Type 0
 IsCut limit subs = AreSegments limit subs (segments_of limit subs)
 
--- within the limits of a dump, each number of the text is below what the bytes that it has there hold
+-- within the limits of a dump, each number of the text fits in the bytes that it has there
 abbrev pub NumbersFit : IdSize → Image → ℕ → Type 0
 NumbersFit ids image time = IsDumpable image → time < 2 ^ 64 → HoldsWhole ids image time
 
--- the pieces of a dump are few: one for each of 65,536 objects, 256 classes, their roots and 128 registers at most, the
--- opening records and the end
+-- a dump has few pieces: one for each of at most 65,536 objects, 256 classes, their roots and 128 registers, the opening
+-- records and the end
 abbrev pub PiecesFew : IdSize → Image → ℕ → Type 0
 PiecesFew ids image time = IsDumpable image → length (pieces_of ids image time) ≤ 66178
 
--- identifiers that fit, and whose bytes are equal, are equal
+-- identifiers that fit are equal if their bytes are
 abbrev pub EqualIds : IdSize → ℕ → ℕ → Type 0
 EqualIds ids a b = FitsId ids a → FitsId ids b → id ids a ≡ id ids b → a ≡ b

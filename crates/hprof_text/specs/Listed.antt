@@ -7,7 +7,7 @@ use Rattle.heap_class.specs.Limits.{array_limit}
 use Rattle.hprof_text.specs.declared.list_view.ListedObject.{ListedObject}
 use Rattle.hprof_text.specs.Image.{Image, DumpedObject, IsKnown}
 
--- a size of identifiers, and what is shown
+-- the size of identifiers, and the image that is shown
 pub record Listed : Type 0 where
   pub ids : IdSize
   pub image : Image
@@ -16,10 +16,11 @@ pub record Listed : Type 0 where
 abbrev pub dumped : ListedObject → DumpedObject
 dumped o = record { id = o.id; kind = o.kind; words = o.words.items }
 
+-- the image of these classes, registers and objects
 abbrev pub image_of : List Class → List ℕ → List ListedObject → Image
 image_of classes registers objects = record { classes = classes; registers = registers; objects = map dumped objects }
 
--- an object whose kind is known, with few words
+-- the object's kind is known, and its words are few enough
 abbrev pub IsShown : List Class → ListedObject → Type 0
 IsShown classes o = IsKnown classes o.kind (length o.words.items) × (length o.words.items ≤ array_limit)
 

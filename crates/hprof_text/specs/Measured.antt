@@ -1,12 +1,13 @@
--- What has been added up.
+-- For proofs: sums of sizes of segments.
 use Rattle.std.specs.Prelude.{◌≡◌, ℕ, ◌+◌, List, [], ◌++◌}
 use Rattle.hprof_text.specs.declared.measure.Measure.{Measure}
 use Rattle.hprof_text.specs.Sizes.{records_size_after}
 
--- the bytes of all segments where sub-records of these sizes follow
+-- the size of all segments if sub-records of these sizes follow, in bytes
 abbrev pub total_with : Measure → List ℕ → ℕ
 total_with m more = m.closed + records_size_after m.body more
 
+-- the size of all segments, in bytes
 abbrev pub total : Measure → ℕ
 total m = total_with m []
 

@@ -1,4 +1,4 @@
--- What the writers of records speak of.
+-- The parts of records that their writers append.
 use Rattle.std.specs.Prelude.{ℕ, List, [], ◌++◌, slice_index_or, flat_map}
 use Rattle.std.specs.List.{enumerate_from}
 use Rattle.heap_class.specs.declared.IdSize.{IdSize}
@@ -7,7 +7,7 @@ use Rattle.heap_class.specs.Kinds.{type_code}
 use Rattle.heap_class.specs.Classes.{Class, array_class, name_table}
 use Rattle.hprof_text.specs.Text.{u1, u2, u4, id, class_id, header, utf8, load_class, trace}
 
--- class k, where it is there
+-- class k, which must be there
 abbrev pub class_at : List Class → ℕ → Class
 class_at classes k = slice_index_or classes k (array_class [])
 
@@ -15,15 +15,15 @@ class_at classes k = slice_index_or classes k (array_class [])
 abbrev pub record_head : ℕ → ℕ → List ℕ
 record_head tag n = u1 tag ++ u4 0 ++ u4 n
 
--- an own field: its name's id and its kind
+-- an own field: the id of its name, and its kind
 abbrev pub field_bytes : IdSize → ℕ → Kind → List ℕ
 field_bytes ids name kind = id ids name ++ u1 (type_code kind)
 
--- a class's ids: its own, its super's and five that are null
+-- the ids of a class: its own, its super's and five that are null
 abbrev pub class_ids : IdSize → ℕ → ℕ → List ℕ
 class_ids ids k sup = u1 0x20 ++ id ids (class_id k) ++ u4 1 ++ id ids sup ++ id ids 0 ++ id ids 0 ++ id ids 0 ++ id ids 0 ++ id ids 0
 
--- its numbers: the size of its instances, no constants, no static fields, and how many own fields
+-- the numbers of a class: the size of its instances, no constants, no static fields, and the number of its own fields
 abbrev pub class_counts : ℕ → ℕ → List ℕ
 class_counts size fields = u4 size ++ u2 0 ++ u2 0 ++ u2 fields
 
@@ -31,10 +31,10 @@ class_counts size fields = u4 size ++ u2 0 ++ u2 0 ++ u2 fields
 abbrev pub sticky_root : IdSize → ℕ → List ℕ
 sticky_root ids k = u1 0x05 ++ id ids (class_id k)
 
--- what stands before the values of an instance of class k: its id, the class's id, and how many bytes the values have
+-- the bytes before the values of an instance of class k: its id, the class's id, and the size of the values
 abbrev pub instance_head : IdSize → ℕ → ℕ → ℕ → List ℕ
 instance_head ids x k size = u1 0x21 ++ id ids x ++ u4 1 ++ id ids (class_id k) ++ u4 size
 
--- what stands before the segments, by the classes alone
+-- the records before the segments, by the classes alone
 abbrev pub opening_of : IdSize → List Class → ℕ → List ℕ
 opening_of ids classes time = header ids time ++ flat_map (utf8 ids) (enumerate_from 1 (name_table classes)) ++ flat_map (load_class ids classes) (enumerate_from 0 classes) ++ trace

@@ -1,4 +1,4 @@
--- How many bytes the parts of a dump have.
+-- The sizes of the parts of a dump in bytes.
 use Rattle.std.specs.Prelude.{ℕ, zero, suc, ◌+◌, ◌*◌, not, ◌==◌, List, ◌++◌, length, map, replicate, count_by, sum_by}
 use Rattle.heap_class.specs.declared.IdSize.{IdSize}
 use Rattle.heap_class.specs.declared.ObjKind.{ObjKind}
@@ -8,34 +8,37 @@ use Rattle.heap_class.specs.Classes.{Class, name_table, instance_size}
 use Rattle.hprof_text.specs.Image.{Image, DumpedObject}
 use Rattle.hprof_text.specs.Segments.{segment_limit, sizes_at, segment_sizes}
 
+-- the size of the UTF8 record of a name
 abbrev pub utf8_size : IdSize → List ℕ → ℕ
 utf8_size ids n = 9 + id_bytes ids + length n
 
--- the UTF8 records
+-- the size of the UTF8 records of these names
 unfoldable pub names_size : IdSize → List (List ℕ) → ℕ
 names_size ids names = sum_by (utf8_size ids) names
 
--- what stands before the segments
+-- the size of the records before the segments
 unfoldable pub opening_size : IdSize → List Class → ℕ
 opening_size ids classes = 52 + names_size ids (name_table classes) + (17 + 2 * id_bytes ids) * length classes
 
+-- the size of the sub-record of a class
 abbrev pub class_size : IdSize → Class → ℕ
 class_size ids c = 15 + 7 * id_bytes ids + (1 + id_bytes ids) * length c.fields
 
--- a root, of a class or of a register that isn't null
+-- the size of a root, of a class or of a register that isn't null
 abbrev pub root_size : IdSize → ℕ
 root_size ids = 1 + id_bytes ids
 
--- the sub-record of an object of this kind with n words
+-- the size of the sub-record of an object of this kind with n words
 unfoldable pub dump_size : IdSize → List Class → ObjKind → ℕ → ℕ
 dump_size ids classes (Instance k) n = 9 + 2 * id_bytes ids + instance_size ids classes k
 dump_size ids classes (Array k) n = 9 + 2 * id_bytes ids + id_bytes ids * n
 dump_size ids classes (Prim kind) n = 10 + id_bytes ids + width_of ids kind * n
 
+-- the size of the sub-record of an object
 abbrev pub object_size : IdSize → List Class → DumpedObject → ℕ
 object_size ids classes o = dump_size ids classes o.kind (length o.words)
 
--- the sub-records, in order
+-- the sizes of the sub-records, in order
 unfoldable pub sub_sizes : IdSize → Image → List ℕ
 sub_sizes ids image =
     map (class_size ids) image.classes
@@ -43,21 +46,21 @@ sub_sizes ids image =
     ++ map (object_size ids image.classes) image.objects
     ++ replicate (count_by (λ x. not (x == 0)) image.registers) (root_size ids)
 
--- ---- the segments' records
+-- ---- the records of the segments
 
--- those of segments whose sub-records have these sizes
+-- the size of the records of segments whose sub-records have these sizes
 unfoldable pub records_size : List ℕ → ℕ
 records_size sizes = sum_by (λ n. 9 + n) (segment_sizes segment_limit sizes)
 
--- the same where the first segment has so many bytes already
+-- the same if the first segment has `body` bytes already
 unfoldable pub records_size_at : ℕ → List ℕ → ℕ
 records_size_at body sizes = sum_by (λ n. 9 + n) (sizes_at segment_limit body sizes)
 
--- the same of a segment that is open, or of none
+-- the same after an open segment with this many bytes, or after none if it is 0
 abbrev pub records_size_after : ℕ → List ℕ → ℕ
 records_size_after zero sizes = records_size sizes
 records_size_after (suc n) sizes = records_size_at (suc n) sizes
 
--- the whole text
+-- the size of the whole text
 unfoldable pub text_size : IdSize → Image → ℕ
 text_size ids image = opening_size ids image.classes + records_size (sub_sizes ids image) + 9

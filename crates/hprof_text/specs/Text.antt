@@ -14,57 +14,67 @@ use Rattle.hprof_text.specs.Image.{Image, DumpedObject}
 
 -- ---- numbers
 
--- unsigned numbers of 1, 2 and 4 bytes, and identifiers
+-- the byte of a number below 256
 abbrev pub u1 : ℕ → List ℕ
 u1 n = big_bytes 1 n
 
+-- the two bytes of a number, the highest first
 abbrev pub u2 : ℕ → List ℕ
 u2 n = big_bytes 2 n
 
+-- the four bytes of a number, the highest first
 abbrev pub u4 : ℕ → List ℕ
 u4 n = big_bytes 4 n
 
+-- the bytes of an identifier, the highest first
 abbrev pub id : IdSize → ℕ → List ℕ
 id ids n = big_bytes (id_bytes ids) n
 
 -- ---- ids
 
+-- the id of class k
 abbrev pub class_id : ℕ → ℕ
 class_id k = 0x00100000 + 8 * k
 
 -- ---- records: tag, time 0, length of the body, body
 
+-- a record with this tag and body
 unfoldable pub record_of : ℕ → List ℕ → List ℕ
 record_of tag body = u1 tag ++ u4 0 ++ u4 (length body) ++ body
 
+-- the header: the format's name, the size of identifiers, and the time in milliseconds since 1970
 unfoldable pub header : IdSize → ℕ → List ℕ
 header ids time = codes "JAVA PROFILE 1.0.2" ++ u1 0 ++ u4 (id_bytes ids) ++ u4 (time / 2 ^ 32) ++ u4 (time % 2 ^ 32)
 
--- UTF8: a name with its id
+-- the UTF8 record of a name with its id
 unfoldable pub utf8 : IdSize → ℕ × List ℕ → List ℕ
 utf8 ids n = record_of 0x01 (id ids n.0 ++ n.1)
 
--- LOAD CLASS of class k: its serial is k + 1
+-- the LOAD CLASS record of class k, whose serial is k + 1
 unfoldable pub load_class : IdSize → List Class → ℕ × Class → List ℕ
 load_class ids classes c = record_of 0x02 (u4 (c.0 + 1) ++ id ids (class_id c.0) ++ u4 1 ++ id ids (name_id classes c.1.name))
 
--- TRACE: serial 1, thread 0, no frames
+-- the TRACE record: serial 1, thread 0, no frames
 unfoldable pub trace : List ℕ
 trace = record_of 0x05 (u4 1 ++ u4 0 ++ u4 0)
 
 -- ---- sub-records
 
+-- an own field in a CLASS DUMP: the id of its name, and its kind
 unfoldable pub field_entry : IdSize → List Class → Field → List ℕ
 field_entry ids classes f = id ids (name_id classes f.name) ++ u1 (type_code f.kind)
 
--- CLASS DUMP: super; no loader, signers, protection domain; no constants and no static fields; the own fields
+-- the CLASS DUMP of a class: its super; no loader, signers or protection domain; no constants and no static fields; its own
+-- fields
 unfoldable pub class_dump : IdSize → List Class → ℕ × Class → List ℕ
 class_dump ids classes c = u1 0x20 ++ id ids (class_id c.0) ++ u4 1 ++ id ids (option_map_or class_id c.1.sup 0) ++ id ids 0 ++ id ids 0 ++ id ids 0 ++ id ids 0 ++ id ids 0
     ++ u4 (instance_size ids classes c.0) ++ u2 0 ++ u2 0 ++ u2 (length c.1.fields) ++ flat_map (field_entry ids classes) c.1.fields
 
+-- the root of a class
 unfoldable pub root_sticky_class : IdSize → ℕ × Class → List ℕ
 root_sticky_class ids c = u1 0x05 ++ id ids (class_id c.0)
 
+-- the root of an object, of an unknown kind of root
 unfoldable pub root_unknown : IdSize → ℕ → List ℕ
 root_unknown ids x = u1 0xff ++ id ids x
 
@@ -72,30 +82,31 @@ root_unknown ids x = u1 0xff ++ id ids x
 unfoldable pub value_bytes : IdSize → Kind × ℕ → List ℕ
 value_bytes ids v = big_bytes (width_of ids v.0) v.1
 
--- INSTANCE DUMP, OBJECT ARRAY DUMP or PRIMITIVE ARRAY DUMP, by the object's kind
+-- the INSTANCE DUMP, OBJECT ARRAY DUMP or PRIMITIVE ARRAY DUMP of an object, by its kind
 unfoldable pub dump_of : IdSize → List Class → ℕ → ObjKind → List ℕ → List ℕ
 dump_of ids classes x (Instance k) words = let values = flat_map (value_bytes ids) (zip (slots_of classes k) words) in u1 0x21 ++ id ids x ++ u4 1 ++ id ids (class_id k) ++ u4 (length values) ++ values
 dump_of ids classes x (Array k) words = u1 0x22 ++ id ids x ++ u4 1 ++ u4 (length words) ++ id ids (class_id k) ++ flat_map (id ids) words
 dump_of ids classes x (Prim kind) words = u1 0x23 ++ id ids x ++ u4 1 ++ u4 (length words) ++ u1 (type_code kind) ++ flat_map (λ w. value_bytes ids (kind, w)) words
 
+-- the sub-record of an object
 unfoldable pub object_dump : IdSize → List Class → DumpedObject → List ℕ
 object_dump ids classes o = dump_of ids classes o.id o.kind o.words
 
 -- ---- the parts of the text
 
--- what stands before the segments
+-- the records before the segments: header, names, classes, and the empty trace
 unfoldable pub opening_records : IdSize → Image → ℕ → List ℕ
 opening_records ids image time = header ids time ++ flat_map (utf8 ids) (enumerate_from 1 (name_table image.classes)) ++ flat_map (load_class ids image.classes) (enumerate_from 0 image.classes) ++ trace
 
--- the sub-records of the classes, then of their roots
+-- the sub-records of the classes, then their roots
 unfoldable pub class_records : IdSize → Image → List (List ℕ)
 class_records ids image = map (class_dump ids image.classes) (enumerate_from 0 image.classes) ++ map (root_sticky_class ids) (enumerate_from 0 image.classes)
 
--- those of the objects
+-- the sub-records of the objects
 unfoldable pub object_records : IdSize → Image → List (List ℕ)
 object_records ids image = map (object_dump ids image.classes) image.objects
 
--- and the roots of the registers that aren't null
+-- the roots of the registers that aren't null
 unfoldable pub register_roots : IdSize → Image → List (List ℕ)
 register_roots ids image = map (root_unknown ids) (filter (λ x. not (x == 0)) image.registers)
 

@@ -1,4 +1,4 @@
-//! Bytes as they are written, into room that was reserved before.
+//! A buffer for bytes, in room that is reserved at once.
 ghost use Rattle.std.specs.Prelude.{◌≡◌, ◌≤◌, ◌++◌, length, drop, [], IfOk};
 ghost use Rattle.hprof_text.specs.Records.{record_head};
 ghost use Rattle.hprof_text.specs.Buffered.{HasRoom};
@@ -10,8 +10,7 @@ use heap_class::IdSize;
 use std::alloc::{AllocError, Global};
 use std::marker::Model;
 
-/// Bytes written one after another, into room for a number of bytes that is set when it is made. Contracts see
-/// the bytes written, and that number.
+/// A buffer with room for a number of bytes that is set when it is made. Contracts see the bytes written, and that number.
 #[derive(Drop)]
 pub struct Buffer {
     bytes: Vec<u8>,
@@ -30,7 +29,7 @@ impl Model for Buffer {
     ghost invariant = { λ b. b.limit ≤ vec_capacity b.bytes };
 }
 
-// Writes a record's head over the first nine bytes.
+// Writes the head of a record over the first nine bytes.
 fn write_head(bytes: &mut [u8], tag: u8, size: u32)
     requires { 9 ≤ length bytes.old }
     ensures { bytes.new ≡ record_head tag size ++ drop 9 bytes.old }
@@ -42,7 +41,7 @@ fn write_head(bytes: &mut [u8], tag: u8, size: u32)
 }
 
 impl Buffer {
-    /// An empty buffer with room for `limit` bytes, which are reserved at once.
+    /// Creates an empty buffer with room for `limit` bytes, which are reserved at once. Fails if the allocation fails.
     pub fn new(alloc: Global, limit: usize) -> Result<Buffer, AllocError>
         ensures { IfOk result (λ b. b ≡ record { written = []; limit = limit }) }
     {
@@ -50,7 +49,7 @@ impl Buffer {
         Ok(Buffer { bytes, limit })
     }
 
-    /// The bytes written.
+    /// Returns the bytes written.
     pub fn into_vec(self) -> Vec<u8>
         ensures { result.items ≡ self.written }
     {
@@ -58,14 +57,14 @@ impl Buffer {
         bytes
     }
 
-    /// How many bytes have been written.
+    /// Returns the number of bytes written.
     pub fn len(&self) -> usize
         ensures { result ≡ length self.now.written }
     {
         self.bytes.len()
     }
 
-    /// Writes the head of a record whose body has `size` bytes over the first nine.
+    /// Writes the head of a record whose body has `size` bytes over the first nine bytes, which must be written.
     pub fn set_head(&mut self, tag: u8, size: u32)
         requires { 9 ≤ length self.old.written }
         ensures written { self.new.written ≡ record_head tag size ++ drop 9 self.old.written }
@@ -74,7 +73,7 @@ impl Buffer {
         write_head(&mut self.bytes, tag, size);
     }
 
-    /// Appends bytes. Takes no memory.
+    /// Appends bytes, for which there must be room. Takes no memory.
     #[inline(always)]
     pub fn bytes(&mut self, bytes: &[u8])
         requires { HasRoom self.old bytes.now }
@@ -90,7 +89,7 @@ impl Buffer {
         }
     }
 
-    /// Appends the low `width` bytes of a number, 1 to 8, the highest first.
+    /// Appends the low `width` bytes of a number, at most 8, the highest first. Takes no memory.
     #[inline(always)]
     pub fn number(&mut self, width: usize, value: u64)
         requires width { width ≤ 8 }
@@ -109,7 +108,7 @@ impl Buffer {
         }
     }
 
-    /// Appends a number of 1 byte.
+    /// Appends a number of 1 byte. Takes no memory.
     #[inline(always)]
     pub fn u1(&mut self, value: u8)
         requires { HasRoom self.old (u1 value) }
@@ -119,7 +118,7 @@ impl Buffer {
         self.bytes(&[value]);
     }
 
-    /// Appends a number of 2 bytes.
+    /// Appends a number of 2 bytes. Takes no memory.
     #[inline(always)]
     pub fn u2(&mut self, value: u16)
         requires { HasRoom self.old (u2 value) }
@@ -131,7 +130,7 @@ impl Buffer {
         self.bytes(&bytes);
     }
 
-    /// Appends a number of 4 bytes.
+    /// Appends a number of 4 bytes. Takes no memory.
     #[inline(always)]
     pub fn u4(&mut self, value: u32)
         requires { HasRoom self.old (u4 value) }
@@ -143,7 +142,7 @@ impl Buffer {
         self.bytes(&bytes);
     }
 
-    /// Appends an identifier, of which the low bytes are written.
+    /// Appends an identifier, of which the low bytes are written. Takes no memory.
     #[inline(always)]
     pub fn id(&mut self, ids: IdSize, value: u64)
         requires { HasRoom self.old (id ids value) }

@@ -47,21 +47,21 @@ impl Model for Bytes {
 }
 
 impl Bytes {
-    /// The bytes, in order.
+    /// Returns the bytes, in order.
     pub fn as_slice(&self) -> &[u8]
         ensures { result.now ≡ self.now }
     {
         self.bytes.as_slice()
     }
 
-    /// A piece's bytes from a vector.
+    /// Returns the bytes of a vector as those of a piece.
     pub fn from_vec(bytes: Vec<u8>) -> Bytes
         ensures { result ≡ bytes.items }
     {
         Bytes { bytes }
     }
 
-    /// The bytes as a vector.
+    /// Returns the bytes as a vector.
     pub fn into_vec(self) -> Vec<u8>
         ensures { result.items ≡ self }
     {
@@ -70,27 +70,35 @@ impl Bytes {
     }
 }
 
-/// A piece of a dump, and whether it is the last.
+/// A piece of a dump.
 #[derive(Drop)]
 pub struct Piece {
+    /// The bytes of the piece.
     pub bytes: Bytes,
+    /// Whether it is the last piece.
     pub last: bool,
 }
 
-/// Where a dump stands: before its first piece, before the sub-record that begins the next segment (of a class, a
-/// class's root, an object, a register's root), before the end, or past all.
+/// The place in a dump at which its next piece begins.
 #[derive(Clone, Copy, PartialEq, Eq, Debug)]
 pub enum Cursor {
+    /// Before the first piece.
     Start,
+    /// Before the sub-record of a class, which begins the next segment.
     ClassDump(ClassNo),
+    /// Before the root of a class, which begins the next segment.
     ClassRoot(ClassNo),
+    /// Before the sub-record of the object at a place, which begins the next segment.
     Object(ObjRef),
+    /// Before the roots of the registers from this number on that aren't null. The first of them begins the next segment.
     RegisterRoot(u64),
+    /// Before the end.
     End,
+    /// Past the last piece.
     Past,
 }
 
-/// What a dump shows of a heap: by `image`, the size of its identifiers, and the places of its objects, in order.
+/// A heap as a dump shows it: its `image`, the size of its identifiers, and the places of its objects, in order.
 pub trait View {
     ghost use Rattle.std.specs.Prelude.{◌≡◌, ◌+◌, ℕ, List, length, Some, IfSome, Contains, slice_get};
     ghost use Rattle.heap_class.specs.declared.IdSize.{IdSize};
@@ -103,45 +111,45 @@ pub trait View {
 
     ghost places: { Self → List ObjRef };
 
-    /// The classes. They, the registers and the objects are within a dump's limits.
+    /// Returns the classes. Classes, registers and objects are within the limits of a dump.
     fn classes(&self) -> FirstClasses<'_>
         ensures value { result ≡ (image self.now).classes }
         ensures limits { IsDumpable (image self.now) }
         ensures placed { length (places self.now) ≡ length (image self.now).objects };
 
-    /// The size of identifiers.
+    /// Returns the size of identifiers.
     fn id_size(&self) -> IdSize
         ensures { result ≡ ids self.now };
 
-    /// The registers, mutator by mutator.
+    /// Returns the registers, mutator by mutator.
     fn registers(&self) -> &[u64]
         ensures { result.now ≡ (image self.now).registers };
 
-    /// The place of the first object.
+    /// Returns the place of the first object.
     fn first(&self) -> Option<ObjRef>
         ensures { result ≡ slice_get (places self.now) 0 };
 
-    /// The place of the object after the one here.
+    /// Returns the place of the object after the one at this place.
     fn next(&self, at: ObjRef) -> Option<ObjRef>
         ensures { (i : ℕ) → slice_get (places self.now) i ≡ Some at → result ≡ slice_get (places self.now) (i + 1) };
 
-    /// What the object here is.
+    /// Returns the kind of the object at this place, which must have one.
     fn kind(&self, at: ObjRef) -> ObjKind
         requires { Contains (places self.now) at }
         ensures { (i : ℕ) → slice_get (places self.now) i ≡ Some at → IfSome (slice_get (image self.now).objects i) (λ o. result ≡ o.kind) };
 
-    /// The id of the object here.
+    /// Returns the id of the object at this place, which must have one.
     fn id(&self, at: ObjRef) -> u64
         requires { Contains (places self.now) at }
         ensures { (i : ℕ) → slice_get (places self.now) i ≡ Some at → IfSome (slice_get (image self.now).objects i) (λ o. result ≡ o.id) };
 
-    /// The words of the object here, in slot order.
+    /// Returns the words of the object at this place, which must have one, in slot order.
     fn words(&self, at: ObjRef) -> &[u64]
         requires { Contains (places self.now) at }
         ensures { (i : ℕ) → slice_get (places self.now) i ≡ Some at → IfSome (slice_get (image self.now).objects i) (λ o. result.now ≡ o.words) };
 }
 
-/// Tells how many bytes the dump of a view has, whatever its time.
+/// Returns the length of a view's dump in bytes. It doesn't depend on the time.
 pub fn text_len<V: View>(view: &V) -> u64
     ensures { (time : ℕ) → result ≡ length (dump_text (V.ids view.now) (V.image view.now) time) }
 {
@@ -155,7 +163,7 @@ pub fn text_len<V: View>(view: &V) -> u64
     opening_size(ids, &classes) + measure.total() + 9
 }
 
-/// Gives piece `index` of a view's dump, from 0; past the last it is empty. Fails with NoMemory.
+/// Returns piece `index` of a view's dump, from 0. It is empty past the last. Fails with NoMemory if an allocation fails.
 pub fn piece_of<V: View>(alloc: Global, view: &V, index: u64, time: u64) -> Result<Piece, Refusal>
     ensures piece { IfOk result (λ p. p ≡ piece_of (V.ids view.now) (V.image view.now) time index) }
     ensures refused { IfErr result (λ e. e ≡ NoMemory) }
@@ -172,8 +180,8 @@ pub fn piece_of<V: View>(alloc: Global, view: &V, index: u64, time: u64) -> Resu
     Ok(piece)
 }
 
-/// Gives the piece at the cursor, and the cursor of the piece after it. Reads each object of the piece once. Fails with
-/// NoMemory.
+/// Returns the piece at the cursor, and the cursor of the piece after it. Fails with NoMemory if an allocation fails. Reads
+/// each object of the piece once.
 pub fn piece_from<V: View>(
     alloc: Global,
     view: &V,
@@ -193,29 +201,29 @@ pub fn piece_from<V: View>(
     }
 }
 
-/// The law that the pieces of each dump, joined, are its text.
+/// States that the pieces of each dump, joined, are its text.
 pub fn pieces_join()
     ensures { (ids : IdSize) (image : Image) (time : ℕ) → PiecesJoin ids image time }
 {}
 
-/// The law that the sub-records are cut into segments in order: none is empty, none has a body of more than so many bytes
-/// unless it is a single sub-record, and none could take the next sub-record.
+/// States that the sub-records are cut into segments in order: none is empty, none has a body of more than `limit` bytes unless
+/// it is a single sub-record, and none could take the next sub-record.
 pub fn segments_are_cut()
     ensures { (limit : ℕ) (subs : List (List ℕ)) → IsCut limit subs }
 {}
 
-/// The law that a dump has at most 66,178 pieces.
+/// States that a dump has at most 66,178 pieces.
 pub fn pieces_few()
     ensures { (ids : IdSize) (image : Image) (time : ℕ) → PiecesFew ids image time }
 {}
 
-/// The law that each number of a dump fits in the bytes that it has there: lengths, counts, serials, the ids of classes
-/// and names, type codes and the time.
+/// States that each number of a dump fits in the bytes that it has there: lengths, counts, serials, the ids of classes and
+/// names, type codes and the time.
 pub fn numbers_fit()
     ensures { (ids : IdSize) (image : Image) (time : ℕ) → NumbersFit ids image time }
 {}
 
-/// The law that two identifiers that fit and have equal bytes are equal.
+/// States that two identifiers that fit and have equal bytes are equal.
 pub fn equal_ids()
     ensures { (ids : IdSize) (a b : ℕ) → EqualIds ids a b }
 {}

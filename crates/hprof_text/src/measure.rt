@@ -7,7 +7,7 @@ use crate::sizes::{class_size, dump_size};
 use crate::{SEGMENT_LIMIT, View};
 use heap_class::{FirstClasses, IdSize};
 
-/// The bytes of the segments so far: of those that are closed, with their heads, and of the body of the open one, if
+/// The sizes of the segments so far, in bytes: of those that are closed, with their heads, and of the body of the open one, if
 /// there is one.
 #[derive(Clone, Copy)]
 pub struct Measure {
@@ -16,7 +16,7 @@ pub struct Measure {
 }
 
 impl Measure {
-    /// No segment.
+    /// Creates a measure of no segments.
     pub fn new() -> Measure
         ensures none { (result.closed ≡ 0) × (result.body ≡ 0) }
     {
@@ -79,7 +79,7 @@ impl Measure {
         }
     }
 
-    /// The bytes of all segments, with their heads.
+    /// Returns the size of all segments, with their heads, in bytes.
     pub fn total(self) -> u64
         requires { self.closed + self.body < 2 ^ 40 }
         ensures { result ≡ total self }

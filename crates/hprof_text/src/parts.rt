@@ -13,7 +13,7 @@ use crate::buffer::Buffer;
 use byteorder::{BigEndian, ByteOrder};
 use heap_class::{ClassNo, FirstClasses, IdSize, Kind, ObjKind};
 
-/// How many words are put in order before they are appended.
+// The number of words that are put in order before they are appended.
 const WORDS_AT_ONCE: usize = 32;
 
 impl Buffer {
@@ -117,7 +117,7 @@ impl Buffer {
         }
     }
 
-    /// Appends what stands before the heap dump: header, names, classes, and the empty trace.
+    /// Appends the records before the segments: header, names, classes, and the empty trace.
     pub fn opening_records(&mut self, ids: IdSize, classes: &FirstClasses<'_>, time: u64)
         requires { HasRoom self.old (opening_of ids classes.now time) }
         ensures written { self.new.written ≡ self.old.written ++ opening_of ids classes.now time }

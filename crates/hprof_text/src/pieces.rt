@@ -16,14 +16,14 @@ use crate::{Bytes, Cursor, Piece, View};
 use heap_class::{ClassNo, FirstClasses, IdSize, ObjRef, Refusal};
 use std::alloc::Global;
 
-/// The tag of a HEAP DUMP SEGMENT record.
+// The tag of a HEAP DUMP SEGMENT record.
 const HEAP_DUMP_SEGMENT: u8 = 0x1c;
 
-/// The tag of the HEAP DUMP END record.
+// The tag of the HEAP DUMP END record.
 const HEAP_DUMP_END: u8 = 0x2c;
 
 impl Segment {
-    // Offers the sub-records of the classes from number `from` on. Gives the first that wasn't taken.
+    // Offers the sub-records of the classes from number `from` on. Returns the first that wasn't taken.
     fn fill_class_dumps(
         &mut self,
         ids: IdSize,
@@ -40,7 +40,7 @@ impl Segment {
         None
     }
 
-    // Offers the roots of the classes from number `from` on. Gives the first whose root wasn't taken.
+    // Offers the roots of the classes from number `from` on. Returns the first whose root wasn't taken.
     fn fill_class_roots(
         &mut self,
         ids: IdSize,
@@ -57,7 +57,7 @@ impl Segment {
         None
     }
 
-    // Offers the sub-records of a view's objects from the one here on. Gives the first that wasn't taken.
+    // Offers the sub-records of a view's objects from a place on. Returns the place of the first that wasn't taken.
     fn fill_objects<V: View>(&mut self, view: &V, from: Option<ObjRef>) -> Option<ObjRef>
         requires { (n : ℕ) × (from ≡ slice_get (V.places view.now) n) × (n ≤ length (V.places view.now)) }
         ensures { (n : ℕ) → from ≡ slice_get (V.places view.now) n → n ≤ length (V.places view.now) → IsFilledBefore (V.places view.now) (object_records (V.ids view.now) (V.image view.now)) n result self.old self.new }
@@ -76,7 +76,7 @@ impl Segment {
         None
     }
 
-    // Offers the roots of the registers from number `from` on that aren't null. Gives the first whose root wasn't taken.
+    // Offers the roots of the registers from number `from` on that aren't null. Returns the first whose root wasn't taken.
     fn fill_register_roots(&mut self, ids: IdSize, registers: &[u64], from: u64) -> Option<u64>
         ensures { IsFilledRoots ids registers.now from result self.old self.new }
     {
@@ -89,7 +89,7 @@ impl Segment {
         None
     }
 
-    // Fills the segment from a register's root on. Gives the cursor at what is left.
+    // Fills the segment from a register's root on. Returns the cursor at the first sub-record that is left.
     fn fill_from_register<V: View>(&mut self, view: &V, from: u64) -> Cursor
         ensures { IsFilledTo (V.ids view.now) (V.image view.now) (V.places view.now) (from_register (V.ids view.now) (V.image view.now).registers from) result self.old self.new }
     {
@@ -99,7 +99,7 @@ impl Segment {
         }
     }
 
-    // Fills the segment from an object on, or from the first register's root.
+    // Fills the segment from an object on, or from the first register's root if there is no object.
     fn fill_from_object<V: View>(&mut self, view: &V, from: Option<ObjRef>) -> Cursor
         requires { (n : ℕ) × (from ≡ slice_get (V.places view.now) n) × (n ≤ length (V.places view.now)) }
         ensures { (n : ℕ) → from ≡ slice_get (V.places view.now) n → n ≤ length (V.places view.now) → IsFilledTo (V.ids view.now) (V.image view.now) (V.places view.now) (from_object (V.ids view.now) (V.image view.now) n) result self.old self.new }
@@ -147,7 +147,7 @@ impl Segment {
     }
 }
 
-// The first piece.
+// Returns the first piece.
 #[tactic(auto, using(crate::proofs::Lengths::opening_length))]
 fn opening_bytes(
     alloc: Global,
@@ -168,7 +168,7 @@ fn opening_bytes(
     }
 }
 
-/// Gives the first piece, and the cursor after it. Fails with NoMemory.
+/// Returns the first piece, and the cursor after it. Fails with NoMemory if an allocation fails.
 pub fn start_from<V: View>(alloc: Global, view: &V, time: u64) -> Result<(Piece, Cursor), Refusal>
     ensures piece { IfOk result (λ p. p.0 ≡ piece_of (V.ids view.now) (V.image view.now) time 0) }
     ensures next { IfOk result (λ p. IsAt (V.ids view.now) (V.image view.now) (V.places view.now) p.1 1) }
@@ -179,8 +179,8 @@ pub fn start_from<V: View>(alloc: Global, view: &V, time: u64) -> Result<(Piece,
     Ok((Piece { bytes, last: false }, Cursor::ClassDump(0)))
 }
 
-/// Gives the piece of the segment at the cursor, or of the end where no sub-record is left, and the cursor after it. Fails
-/// with NoMemory.
+/// Returns the piece of the segment at the cursor, or of the end if no sub-record is left, and the cursor after it. Fails with
+/// NoMemory if an allocation fails.
 pub fn segment_from<V: View>(
     alloc: Global,
     view: &V,
@@ -202,7 +202,7 @@ pub fn segment_from<V: View>(
     Ok((Piece { bytes, last: false }, next))
 }
 
-/// Gives the empty piece past the last.
+/// Returns the empty piece past the last.
 pub fn past_from<V: View>(alloc: Global, view: &V) -> (Piece, Cursor)
     ensures piece { (time i : ℕ) → IsAt (V.ids view.now) (V.image view.now) (V.places view.now) Past i → result.0 ≡ piece_of (V.ids view.now) (V.image view.now) time i }
     ensures next { result.1 ≡ Past }

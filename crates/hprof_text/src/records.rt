@@ -15,7 +15,7 @@ use crate::sizes::instance_size;
 use byteorder::{BigEndian, ByteOrder};
 use heap_class::{ClassNo, FirstClasses, IdSize, Kind};
 
-/// The id of a class.
+/// Returns the id of a class.
 pub fn class_id(class: ClassNo) -> u64
     requires { class < class_limit }
     ensures { result ≡ class_id class }
@@ -23,7 +23,7 @@ pub fn class_id(class: ClassNo) -> u64
     0x0010_0000 + 8 * class
 }
 
-/// The id of a class's super, or 0.
+/// Returns the id of a class's super, or 0.
 pub fn super_id(classes: &FirstClasses<'_>, class: ClassNo) -> u64
     requires known { class < length classes.now }
     requires few { length classes.now ≤ class_limit }
@@ -35,10 +35,10 @@ pub fn super_id(classes: &FirstClasses<'_>, class: ClassNo) -> u64
     }
 }
 
-/// The bytes before the values of an INSTANCE DUMP with ids of eight bytes.
+// The number of bytes before the values of an INSTANCE DUMP with ids of eight bytes.
 const HEAD_OF_EIGHT: usize = 25;
 
-// Returns what stands before the values of an INSTANCE DUMP with ids of eight bytes.
+// Returns the bytes before the values of an INSTANCE DUMP with ids of eight bytes.
 #[inline(always)]
 fn head_of_eight(object: u64, class: ClassNo, size: u32) -> [u8; HEAD_OF_EIGHT]
     requires { class < class_limit }
@@ -120,7 +120,7 @@ impl Buffer {
         self.u4(0);
     }
 
-    // The ids of a CLASS DUMP: the class's, its super's, and five that are null.
+    // Appends the ids of a CLASS DUMP: the class's, its super's, and five that are null.
     fn class_ids(&mut self, ids: IdSize, class: ClassNo, sup: u64)
         requires room { HasRoom self.old (class_ids ids class sup) }
         requires few { class < class_limit }
@@ -138,7 +138,8 @@ impl Buffer {
         self.id(ids, 0);
     }
 
-    // The numbers of a CLASS DUMP: the size of its instances, no constants, no static fields, its own fields.
+    // Appends the numbers of a CLASS DUMP: the size of its instances, no constants, no static fields, and the number of its own
+    // fields.
     fn class_counts(&mut self, size: u32, fields: u16)
         requires { HasRoom self.old (class_counts size fields) }
         ensures written { self.new.written ≡ self.old.written ++ class_counts size fields }
@@ -188,7 +189,7 @@ impl Buffer {
         self.id(ids, class_id(class));
     }
 
-    /// Appends a root of which no more is known than the object's id.
+    /// Appends the root of an object, of an unknown kind of root.
     #[tactic(auto, unfolding(crate::specs::Text::root_unknown))]
     pub fn root_unknown(&mut self, ids: IdSize, object: u64)
         requires { HasRoom self.old (root_unknown ids object) }
@@ -199,7 +200,7 @@ impl Buffer {
         self.id(ids, object);
     }
 
-    // Appends what stands before the values of an INSTANCE DUMP. Ids of eight bytes are usual, so with them it is appended at
+    // Appends the bytes before the values of an INSTANCE DUMP. Ids of eight bytes are usual, so with them all is appended at
     // once.
     #[inline(always)]
     fn instance_head(&mut self, ids: IdSize, object: u64, class: ClassNo, size: u32)

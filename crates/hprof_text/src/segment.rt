@@ -15,10 +15,10 @@ use heap_class::{ClassNo, FirstClasses, IdSize, ObjKind, Refusal};
 use std::alloc::Global;
 use std::marker::Model;
 
-/// The bytes of a record's head.
+// The size of a record's head in bytes.
 const HEAD: usize = 9;
 
-/// The most bytes of a sub-record: an array of 1,024 elements of 8 bytes.
+// The largest size of a sub-record in bytes: that of an array of 1,024 elements of 8 bytes.
 const LONGEST: usize = 8217;
 
 /// A segment that is being filled. Contracts see its body.
@@ -38,7 +38,7 @@ impl Model for Segment {
 }
 
 impl Segment {
-    /// Reserves room for the longest segment. Fails with NoMemory if there is none.
+    /// Creates an empty segment with room for the longest. Fails with NoMemory if that room can't be reserved.
     pub fn new(alloc: Global) -> Result<Segment, Refusal>
         ensures empty { IfOk result (λ s. s ≡ []) }
         ensures refused { IfErr result (λ e. e ≡ NoMemory) }
@@ -52,7 +52,7 @@ impl Segment {
         }
     }
 
-    /// The bytes of the body.
+    /// Returns the size of the body in bytes.
     pub fn len(&self) -> u64
         ensures value { result ≡ length self.now }
         ensures limit { result ≤ 8217 }
@@ -60,7 +60,7 @@ impl Segment {
         (self.buffer.len() - HEAD) as u64
     }
 
-    // Whether the body takes a sub-record of `size` bytes.
+    // Tells whether the body takes a sub-record of `size` bytes.
     fn takes(&self, size: u64) -> bool
         requires { size ≤ 8217 }
         ensures { result ≡ takes self.now size }
@@ -143,8 +143,8 @@ impl Segment {
         taken
     }
 
-    /// Offers the sub-record of an object, and tells whether it was taken. Most objects are instances, which the compiler is given
-    /// apart.
+    /// Offers the sub-record of an object, and tells whether it was taken. Offers an instance by a call of its own, since most
+    /// objects are instances.
     #[inline(always)]
     pub fn offer_object(
         &mut self,
@@ -175,7 +175,7 @@ impl Segment {
         taken
     }
 
-    /// Gives the record with this tag that has the body. Takes no memory.
+    /// Returns the record with this tag and the body. Takes no memory.
     pub fn into_record(self, tag: u8) -> Bytes
         ensures value { result ≡ record_of tag self }
         ensures limit { length result ≤ 8226 }

@@ -1,5 +1,4 @@
-//! How many bytes the parts of a dump have. Each is known from the classes and the number of words, before
-//! a byte is written.
+//! The sizes of the parts of a dump in bytes. Each is known from the classes and the number of words, before a byte is written.
 ghost use Rattle.std.specs.Prelude.{◌≡◌, ◌<◌, ◌≤◌, ◌==◌, not, count_by, length};
 ghost use Rattle.heap_class.specs.Classes.{instance_size, name_table};
 ghost use Rattle.heap_class.specs.Limits.{array_limit};
@@ -9,7 +8,7 @@ ghost use Rattle.hprof_text.specs.Sizes.{names_size, opening_size, class_size, d
 
 use heap_class::{ClassNo, FirstClasses, IdSize, ObjKind};
 
-/// The bytes of a class's instances: at most 64 slots of 8 bytes.
+/// Returns the size of a class's instances: at most 64 slots of 8 bytes.
 #[tactic(auto, using(crate::proofs::Bounds::instance_small))]
 pub fn instance_size(ids: IdSize, classes: &FirstClasses<'_>, class: ClassNo) -> u32
     requires { class < length classes.now }
@@ -20,7 +19,7 @@ pub fn instance_size(ids: IdSize, classes: &FirstClasses<'_>, class: ClassNo) ->
     classes.instance_size(ids, class) as u32
 }
 
-/// The bytes of the UTF8 records.
+/// Returns the size of the UTF8 records.
 pub fn names_size(ids: IdSize, classes: &FirstClasses<'_>) -> u64
     ensures value { result ≡ names_size ids (name_table classes.now) }
     ensures limit { result ≤ 1347840 }
@@ -32,7 +31,7 @@ pub fn names_size(ids: IdSize, classes: &FirstClasses<'_>) -> u64
     size
 }
 
-/// The bytes of what stands before the heap dump.
+/// Returns the size of the records before the segments.
 #[tactic(auto, unfolding(crate::specs::Sizes::opening_size))]
 pub fn opening_size(ids: IdSize, classes: &FirstClasses<'_>) -> u64
     ensures value { result ≡ opening_size ids classes.now }
@@ -41,7 +40,7 @@ pub fn opening_size(ids: IdSize, classes: &FirstClasses<'_>) -> u64
     52 + names_size(ids, classes) + (17 + 2 * ids.bytes()) * classes.len()
 }
 
-/// The bytes of a class's sub-record.
+/// Returns the size of a class's sub-record.
 pub fn class_size(ids: IdSize, classes: &FirstClasses<'_>, class: ClassNo) -> u64
     requires { class < length classes.now }
     ensures value { result ≡ class_size ids (class_at classes.now class) }
@@ -51,7 +50,7 @@ pub fn class_size(ids: IdSize, classes: &FirstClasses<'_>, class: ClassNo) -> u6
     15 + 7 * ids.bytes() + (1 + ids.bytes()) * classes.field_count(class)
 }
 
-/// The bytes of a root: of a class, or of a register that isn't null.
+/// Returns the size of a root, of a class or of a register that isn't null.
 pub fn root_size(ids: IdSize) -> u64
     ensures value { result ≡ root_size ids }
     ensures limit { result ≤ 9 }
@@ -59,7 +58,7 @@ pub fn root_size(ids: IdSize) -> u64
     1 + ids.bytes()
 }
 
-/// The bytes of the sub-record of an object with so many words.
+/// Returns the size of the sub-record of an object with `words` words.
 #[tactic(auto, using(crate::proofs::Bounds::width_small), unfolding(crate::specs::Sizes::dump_size))]
 pub fn dump_size(ids: IdSize, classes: &FirstClasses<'_>, kind: ObjKind, words: u64) -> u64
     requires known { IsKnown classes.now kind words }

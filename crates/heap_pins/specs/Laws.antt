@@ -1,4 +1,4 @@
--- What holds of every step.
+-- The laws of every step and every pin.
 use Rattle.std.specs.Prelude.{◌≡◌, ◌≢◌, ℕ, ◌+◌, List, ◌∷◌, length, take, None, Some}
 use Rattle.heap_world.specs.State.{HeapState}
 use Rattle.heap_world.specs.Legal.{IsLegal}
@@ -27,7 +27,7 @@ RecordExtends left v = take (length (undone left v).classes) v.classes ≡ (undo
 abbrev pub EventKeeps : Event → HeapState → Type 0
 EventKeeps e w = IsLegal w → refusal_of e w ≡ None → (r : ℕ) → touched (undo_record e w) ≢ Some r → Covers (region_frozen w.regions r) (region_frozen (state_after e w).regions r)
 
--- and it leaves the classes, to which it may add one
+-- an accepted event leaves the classes, to which it may add one
 abbrev pub EventExtends : Event → HeapState → Type 0
 EventExtends e w = IsLegal w → refusal_of e w ≡ None → take (length w.classes) (state_after e w).classes ≡ w.classes
 
@@ -39,10 +39,10 @@ IsTold left before x = (e : Event) → IsStep e before x left → TellsBefore le
 abbrev pub HoldsOn : Undo → HeapState → Pinned → HeapState → Type 0
 HoldsOn left v p u = (n k : ℕ) (past : List HeapState) → Holds p u n (undone left v ∷ past) → Holds (kept left v p) u (n + 1) (v ∷ take k (undone left v ∷ past))
 
--- it shows the image of its state
+-- a pin that holds a state shows its image
 abbrev pub HoldsImage : HeapState → Pinned → HeapState → Type 0
 HoldsImage w p u = (n : ℕ) (past : List HeapState) → Holds p u n (w ∷ past) → pin_image p w ≡ image_of u
 
--- it holds its state after a rewind that isn't below it
+-- a pin that holds a state still holds it after a rewind to a place that isn't before the pin's
 abbrev pub HoldsBack : Pinned → HeapState → Type 0
 HoldsBack p u = (n : ℕ) (w v : HeapState) (past : List HeapState) → Holds p u (n + 1) (w ∷ v ∷ past) → Holds p u n (v ∷ past)

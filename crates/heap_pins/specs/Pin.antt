@@ -1,4 +1,4 @@
--- A pin: what it keeps of the state that it shows, and what it shows beside a state that came later.
+-- Pins: their contents, and what they show beside a state that came later.
 use Rattle.std.specs.Prelude.{◌≡◌, ℕ, ◌+◌, ◌*◌, ◌/◌, ◌%◌, ◌==◌, List, [], ◌∷◌, take, Option, Some, None, option_map, option_and_then, slice_get, slice_index_or, if◌then◌else◌}
 use Rattle.std.specs.List.{filter_map}
 use Rattle.heap_class.specs.declared.ObjRef.{ObjRef}
@@ -7,8 +7,9 @@ use Rattle.heap_region.specs.Frozen.{Frozen, frozen_object, region_frozen}
 use Rattle.heap_world.specs.State.{HeapState}
 use Rattle.hprof_text.specs.Image.{Image, DumpedObject}
 
--- how many classes there were, the registers, a byte for each of 256 cells of each region, 1 where a live object stood,
--- and the copies of the regions that were overwritten since
+-- the contents of a pin: the number of classes, the registers, a byte for each of 256 cells of each region, 1 for that of a
+-- live
+-- object, and the copies of the regions that were overwritten since
 pub record Pinned : Type 0 where
   pub classes : ℕ
   pub registers : List ℕ
@@ -21,6 +22,7 @@ pub record Pinned : Type 0 where
 abbrev pub place : ℕ → ObjRef
 place k = record { region = k / 256; cell = k % 256 }
 
+-- the number of a cell's byte
 abbrev pub number_of : ObjRef → ℕ
 number_of at = 256 * at.region + at.cell
 
@@ -29,13 +31,14 @@ unfoldable pub places_from : ℕ → List ℕ → List ObjRef
 places_from k [] = []
 places_from k (b ∷ bs) = if b == 1 then place k ∷ places_from (k + 1) bs else places_from (k + 1) bs
 
--- ---- what it shows
+-- ---- the objects that a pin shows
 
--- the copy, where there is one, and else the region as it is
+-- the copy if there is one, else the region as it is
 abbrev pub seen : Option Frozen → Option Frozen → Option Frozen
 seen (Some f) now = Some f
 seen None now = now
 
+-- region r as the pin shows it
 unfoldable pub region_seen : Pinned → List Region → ℕ → Option Frozen
 region_seen p regions r = seen (slice_index_or p.copies r None) (region_frozen regions r)
 
@@ -43,12 +46,14 @@ region_seen p regions r = seen (slice_index_or p.copies r None) (region_frozen r
 abbrev pub cell_dumped : ObjRef → Frozen → Option DumpedObject
 cell_dumped at f = option_map (λ o. record { id = object_base + 8 * (1024 * at.region + at.cell * f.cell_size); kind = o.kind; words = o.words }) (frozen_object f at.cell)
 
+-- the object at this place as the pin shows it
 unfoldable pub object_seen : Pinned → List Region → ObjRef → Option DumpedObject
 object_seen p regions at = option_and_then (cell_dumped at) (region_seen p regions at.region)
 
+-- the image that the pin shows beside a state
 unfoldable pub pin_image : Pinned → HeapState → Image
 pin_image p w = record { classes = take p.classes w.classes; registers = p.registers; objects = filter_map (object_seen p w.regions) (places_from 0 p.live) }
 
--- what follows a place among those with byte 1
+-- `next` is the place after this one among those with byte 1
 abbrev pub IsPlaceAfter : List ℕ → ObjRef → Option ObjRef → Type 0
 IsPlaceAfter bytes at next = (i : ℕ) → slice_get (places_from 0 bytes) i ≡ Some at → next ≡ slice_get (places_from 0 bytes) (i + 1)

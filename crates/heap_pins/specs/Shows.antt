@@ -1,4 +1,4 @@
--- When a pin shows a state.
+-- Pins that show a state.
 use Rattle.std.specs.Prelude.{◌≡◌, ◌⊎◌, ℕ, zero, suc, ◌*◌, ◌<◌, length, take, List, [], ◌∷◌, Option, Some, None, IsSome, slice_index_or}
 use Rattle.heap_class.specs.declared.ObjRef.{ObjRef}
 use Rattle.heap_region.specs.Regions.{Object, Region, FitsWords, live_places}
@@ -26,11 +26,11 @@ pub record Shows (p : Pinned) (u v : HeapState) : Type 0 where
   pub classes : take (length u.classes) v.classes ≡ u.classes
   pub objects : (r : ℕ) → Covers (region_frozen u.regions r) (region_seen p v.regions r)
 
--- of the region r of the state w the pin may have a copy now, if it had none
+-- of region r, q has the same copy as p, or p has none and q has one with all that the region has in the state w
 abbrev pub KeepsRegion : Pinned → Pinned → HeapState → ℕ → Type 0
 KeepsRegion p q w r = (slice_index_or q.copies r None ≡ slice_index_or p.copies r None) ⊎ ((slice_index_or p.copies r None ≡ None) × Covers (region_frozen w.regions r) (slice_index_or q.copies r None))
 
--- before the step that left this record and the state v, p shows what q shows after it: q has a copy of the region that was touched
+-- p shows before the step that left this record and the state v what q shows after it: q has a copy of the touched region
 pub record KeepsFor (left : Undo) (v : HeapState) (p q : Pinned) : Type 0 where
   pub classes : q.classes ≡ p.classes
   pub registers : q.registers ≡ p.registers
@@ -39,26 +39,28 @@ pub record KeepsFor (left : Undo) (v : HeapState) (p q : Pinned) : Type 0 where
   pub each : (r : ℕ) → KeepsRegion p q (undone left v) r
   pub done : (r : ℕ) → touched left ≡ Some r → slice_index_or q.copies r None ≡ None → region_frozen (undone left v).regions r ≡ None
 
--- each object is within the cells and fits into its cell
+-- each object's cell is one of the `count` cells, and has the least size that holds it
 abbrev pub AreFit : ℕ → ℕ → List (ℕ × Object) → Type 0
 AreFit size count [] = Unit {0}
 AreFit size count (d ∷ dead) = (d.0 < count) × FitsWords size (length d.1.words) × AreFit size count dead
 
+-- the dead objects fit into the cells of the copy, if there is one
 abbrev pub FitIn : Option Frozen → List (ℕ × Object) → Type 0
 FitIn x dead = (f : Frozen) → x ≡ Some f → AreFit f.cell_size (length f.cells) dead
 
--- P of the first n + 1 of these states
+-- P holds of the first n + 1 of these states
 abbrev pub OfFirst : (HeapState → Type 0) → ℕ → List HeapState → Type 0
 OfFirst P n [] = Unit {0}
 OfFirst P zero (x ∷ xs) = P x
 OfFirst P (suc n) (x ∷ xs) = P x × OfFirst P n xs
 
--- The pin was taken n steps ago of the legal state u, and it shows u beside the current state and beside each state since that is
--- retained; the current state is the first.
+-- the pin was taken n steps ago of the legal state u, and it shows u beside the current state and beside each state since that
+-- is
+-- retained; the current state is the first
 pub record Holds (p : Pinned) (u : HeapState) (n : ℕ) (states : List HeapState) : Type 0 where
   pub pin : IsPinOf p u
   pub shows : OfFirst (Shows p u) n states
 
--- the pin finds an object here
+-- the pin shows an object at this place
 abbrev pub IsSeen : Pinned → List Region → ObjRef → Type 0
 IsSeen p regions at = (at.region < length p.copies) × (f : Frozen) × (region_seen p regions at.region ≡ Some f) × IsSome (frozen_object f at.cell)

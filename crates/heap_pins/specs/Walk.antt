@@ -1,4 +1,4 @@
--- Walking back along the records: what was there, and whether it was live.
+-- Walking back along the records: which objects a cell had, and whether they were live.
 use Rattle.std.specs.Prelude.{◌≡◌, ◌≢◌, ℕ, ◌+◌, ◌-◌, ◌*◌, Bool, true, false, ◌&&◌, ◌==◌, List, [], ◌∷◌, length, Option, Some, None, option_map, slice_index_or, slice_set, if◌then◌else◌}
 use Rattle.heap_class.specs.declared.ObjRef.{ObjRef}
 use Rattle.heap_region.specs.Regions.{Object, cell_object, object_at}
@@ -10,20 +10,21 @@ use Rattle.heap_pins.specs.Pin.{Pinned, region_seen}
 use Rattle.heap_step.specs.declared.Undo.{Undo}
 use Rattle.heap_step.specs.declared.Undo.TheVariants.{Reg, New, Class, Finish, Sweep, Reclaim}
 
--- of a cell: 0 for nothing, 1 for a live object, 2 for one that isn't live
+-- the state of a cell: 0 for nothing, 1 for a live object, 2 for one that isn't live
 abbrev pub cell_state : Option Object → ℕ
 cell_state None = 0
 cell_state (Some o) = if o.live then 1 else 2
 
--- of each place, from what the state after the step has there
+-- whether two places are the same
 abbrev pub same_place : ObjRef → ObjRef → Bool
 same_place a b = (a.region == b.region) && (a.cell == b.cell)
 
--- what the dead objects say of a cell, the last of them for it, and else what was there
+-- the state of a cell by the last of the dead objects in it, or its old state if there is none
 unfoldable pub dead_state : List (ℕ × Object) → ℕ → ℕ → ℕ
 dead_state [] cell old = old
 dead_state (d ∷ dead) cell old = dead_state dead cell (if d.0 == cell then cell_state (Some d.1) else old)
 
+-- the state of each cell before the step, from the states of all cells after it
 unfoldable pub states_before : Undo → (ObjRef → ℕ) → ObjRef → ℕ
 states_before (New at true m r old) f b = if b.region == at.region then 0 else f b
 states_before (New at false m r old) f b = if same_place b at then 0 else f b
@@ -32,24 +33,26 @@ states_before (Sweep region dead) f b = if b.region == region then dead_state de
 states_before (Reclaim region storage) f b = if b.region == region then cell_state (cell_object storage b.cell) else f b
 states_before left f b = f b
 
--- the registers and the number of classes
+-- the registers before the step, from those after it
 unfoldable pub registers_before : Undo → List ℕ → List ℕ
 registers_before (Reg m r old) rs = slice_set rs (8 * m + r) old
 registers_before (New at fresh m r old) rs = slice_set rs (8 * m + r) old
 registers_before left rs = rs
 
+-- the number of classes before the step, from that after it
 unfoldable pub classes_before : Undo → ℕ → ℕ
 classes_before Class n = n - 1
 classes_before left n = n
 
--- what the pin has of the touched region, with what the record has put back; or what the record has of it
+-- the copy of the touched region before the step, from one after it: the record's own, or that one with what the record has put
+-- back
 unfoldable pub walked_copy : Undo → Option Frozen → Option Frozen
 walked_copy (Reclaim region storage) g = Some (frozen storage)
 walked_copy left g = option_map (patched left) g
 
--- What a record tells of the state before its step: the registers, how many classes, of each place whether a live object stands
--- there, or one that isn't live, or none; and that a copy which has all of the touched region has all of what it was, once it is
--- patched. (A region that isn't touched has all that it had.)
+-- the record tells of the state before its step the registers, the number of classes and the state of each cell; and a copy
+-- that
+-- has all of the touched region has all of what it was, once it is patched (a region that isn't touched has all that it had)
 pub record TellsBefore (left : Undo) (before x : HeapState) : Type 0 where
   pub registers : before.registers ≡ registers_before left x.registers
   pub classes : length before.classes ≡ classes_before left (length x.classes)
@@ -57,8 +60,8 @@ pub record TellsBefore (left : Undo) (before x : HeapState) : Type 0 where
   pub others : (r : ℕ) → touched left ≢ Some r → Covers (region_frozen before.regions r) (region_frozen x.regions r)
   pub touched_region : (r : ℕ) (g : Option Frozen) → touched left ≡ Some r → Covers (region_frozen x.regions r) g → Covers (region_frozen before.regions r) (walked_copy left g)
 
--- One record further back, from the state x to the state before it, beside the current state w: the touched region gets a copy, or its
--- copy is patched; the others stay.
+-- q is p one record further back, beside the current state w: the touched region has a copy, or its copy is patched; the others
+-- stay
 pub record WalksFor (left : Undo) (w : HeapState) (p q : Pinned) : Type 0 where
   pub others : (r : ℕ) → touched left ≢ Some r → slice_index_or q.copies r None ≡ slice_index_or p.copies r None
   pub patched_region : (r : ℕ) → touched left ≡ Some r → slice_index_or q.copies r None ≡ walked_copy left (region_seen p w.regions r)

@@ -1,4 +1,4 @@
--- A pin that was walked back to a past state.
+-- Pins that were walked back to a past state.
 use Rattle.std.specs.Prelude.{◌≡◌, ℕ, ◌+◌, ◌<◌, List, ◌∷◌, length, Option, Some, option_map, slice_get, slice_set}
 use Rattle.heap_class.specs.declared.ObjRef.{ObjRef}
 use Rattle.heap_region.specs.Regions.{Object, UsedRegion, Region}
@@ -24,8 +24,9 @@ pub record IsPinAt (p : Pinned) (x : HeapState) : Type 0 where
   pub states : AreStates p.live x.regions
   pub copies : length p.copies ≡ length x.regions
 
--- The pin was walked n records back to the state x, which is the last of the first n + 1 of these, and it shows x beside each of
--- them; the current state is the first.
+-- the pin was walked n records back to the state x, which is the last of the first n + 1 of these, and it shows x beside each
+-- of
+-- them; the current state is the first
 pub record IsWalked (p : Pinned) (x : HeapState) (n : ℕ) (states : List HeapState) : Type 0 where
   pub pin : IsPinAt p x
   pub last : slice_get states n ≡ Some x
@@ -44,7 +45,7 @@ pub record IsWalkedBack (left : Undo) (w : HeapState) (p q : Pinned) : Type 0 wh
   pub as_many : length q.copies ≡ length p.copies
   pub copies : WalksFor left w p q
 
--- a pin that is walked one record further back is walked to the state before it, which is the next of those that are retained
+-- a pin that is walked one record further back is walked to the state before it, which is the next of the retained ones
 abbrev pub WalksOn : Undo → HeapState → HeapState → Pinned → Pinned → Type 0
 WalksOn left x w p q = (e : Event) (n : ℕ) (past : List HeapState) → IsStep e (undone left x) x left → IsWalkedBack left w p q
     → slice_get (w ∷ past) (n + 1) ≡ Some (undone left x) → IsWalked p x n (w ∷ past) → IsWalked q (undone left x) (n + 1) (w ∷ past)
@@ -59,33 +60,34 @@ IsOpened p w = (past : List HeapState) → IsWalked p w 0 (w ∷ past)
 
 -- ---- its parts
 
--- the region as the pin sees it
+-- f is region r as the pin shows it
 abbrev pub Sees : Pinned → List Region → ℕ → Frozen → Type 0
 Sees p regions r f = region_seen p regions r ≡ Some f
 
--- the pin finds this slot of an object here
+-- the pin shows an object at this place with this slot
 abbrev pub SeesSlot : Pinned → List Region → ObjRef → ℕ → Type 0
 SeesSlot p regions at slot = (f : Frozen) × Sees p regions at.region f × (slot < length (frozen_words f at.cell))
 
--- it finds the region, and cells into which the dead objects fit
+-- the pin shows region r, with cells into which the dead objects fit
 abbrev pub SeesRoom : Pinned → List Region → ℕ → List (ℕ × Object) → Type 0
 SeesRoom p regions r dead = (f : Frozen) × Sees p regions r f × AreFit f.cell_size (length f.cells) dead
 
+-- the pin with this copy of region r
 abbrev pub with_copy : ℕ → Option Frozen → Pinned → Pinned
 with_copy r copy p = record p { copies = slice_set p.copies r copy }
 
--- the old word is back in its register
+-- the pin with the old word in its register
 abbrev pub with_old_register : ℕ → ℕ → ℕ → Pinned → Pinned
 with_old_register m r old p = record p { registers = slice_set p.registers (register_index m r) old }
 
--- the old word is back in its slot, in a copy of the region
+-- the pin with the old word in its slot, in a copy of the region
 abbrev pub with_old_word : HeapState → ObjRef → ℕ → ℕ → Pinned → Pinned
 with_old_word w at slot old p = with_copy at.region (option_map (frozen_word_set at.cell slot old) (region_seen p w.regions at.region)) p
 
--- the dead objects are back, in a copy of the region and in the bytes
+-- q is p with the dead objects back, in a copy of the region and in the bytes
 abbrev pub IsUnswept : HeapState → ℕ → List (ℕ × Object) → Pinned → Pinned → Type 0
 IsUnswept w r dead p q = HasBytesBefore (Sweep r dead) (with_copy r (option_map (with_dead dead) (region_seen p w.regions r)) p) q
 
--- so is the region that was moved out
+-- q is p with the region back that was moved out, in a copy and in the bytes
 abbrev pub IsUnreclaimed : ℕ → UsedRegion → Pinned → Pinned → Type 0
 IsUnreclaimed r storage p q = HasBytesBefore (Reclaim r storage) (with_copy r (Some (frozen storage)) p) q

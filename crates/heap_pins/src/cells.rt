@@ -11,13 +11,13 @@ use heap_class::Refusal;
 use heap_region::{ObjectCopy, Regions, Storage};
 use std::alloc::Global;
 
-/// The byte of an empty cell.
+// The byte of an empty cell.
 const EMPTY: u8 = 0;
 
-/// The byte of a live object's cell.
+// The byte of a live object's cell.
 const LIVE: u8 = 1;
 
-/// The byte of the cell of an object that is not live.
+// The byte of the cell of an object that is not live.
 const DEAD: u8 = 2;
 
 // Returns the byte of a cell of a region in use.
@@ -57,7 +57,8 @@ fn write_regions(states: &mut [u8], regions: &Regions)
     }
 }
 
-/// Returns the bytes of all cells, 256 for each region. Fails with NoMemory. Looks only at the cells of regions in use.
+// Returns the bytes of all cells, 256 for each region. Fails with NoMemory if the allocation fails. Reads only the cells of
+// regions in use.
 pub(crate) fn cell_states(alloc: Global, regions: &Regions) -> Result<Vec<u8>, Refusal>
     ensures made { IfOk result (λ v. AreStates v.items regions.now.regions) }
     ensures refused { IfErr result (λ e. e ≡ NoMemory) }
@@ -68,7 +69,7 @@ pub(crate) fn cell_states(alloc: Global, regions: &Regions) -> Result<Vec<u8>, R
     Ok(states)
 }
 
-/// Empties the cells of a region.
+// Empties the cells of a region.
 pub(crate) fn clear_region(states: &mut [u8], region: u16)
     requires { HasRegion states.old region }
     ensures { IsCleared region states.old states.new }
@@ -79,7 +80,7 @@ pub(crate) fn clear_region(states: &mut [u8], region: u16)
     }
 }
 
-/// Makes all objects live.
+// Makes all objects live.
 #[tactic(auto, unfolding(crate::specs::Walk::states_before))]
 pub(crate) fn make_live(states: &mut [u8])
     ensures { (log : List ℕ) → AreBefore (Finish log) states.old states.new }
@@ -98,7 +99,7 @@ fn object_state(object: &ObjectCopy) -> u8
     if object.bits().0 { LIVE } else { DEAD }
 }
 
-/// Puts dead objects of a region back.
+// Writes the bytes of dead objects that are back in a region.
 pub(crate) fn restore_dead(states: &mut [u8], region: u16, dead: &[(u64, ObjectCopy)])
     requires region { HasRegion states.old region }
     requires within { All (λ d. d.0 < 256) dead.now }
@@ -122,7 +123,7 @@ fn dead_state(storage: &Storage, cell: u64) -> u8
     }
 }
 
-/// Puts a region back that had no live object.
+// Writes the bytes of a region that is back, and had no live object.
 pub(crate) fn restore_region(states: &mut [u8], region: u16, storage: &Storage)
     requires region { HasRegion states.old region }
     requires dead { HasNoLive storage.now }

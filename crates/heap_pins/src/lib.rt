@@ -17,13 +17,13 @@ use heap_step::undo_takes_back;
 pub use pin::{Pin, touched_region};
 pub use view::PinView;
 
-/// The law that a region that a record doesn't name still has all that it had before the step.
+/// States that a region that a record doesn't name still has all that it had before the step.
 pub fn keeps_others()
     ensures { (left : Undo) (v : HeapState) → KeepsOthers left v }
 {}
 
-/// The laws that an accepted event leaves the kind and the words of each object, but for the region that a put, a store or
-/// a sweep touches, and that it leaves the classes.
+/// States that an accepted event leaves the kind and the words of each object, but for the region that a put, a store or a
+/// sweep touches, and that it leaves the classes.
 pub fn event_keeps()
     ensures objects { (e : Event) (w : HeapState) → EventKeeps e w }
     ensures classes { (e : Event) (w : HeapState) → EventExtends e w }
@@ -31,23 +31,23 @@ pub fn event_keeps()
     undo_takes_back();
 }
 
-/// The law that the record of a step tells of the state before it the registers, the classes, what is there and live, and the
-/// words that it overwrote or took out.
+/// States that the record of a step tells the registers, the classes and the sorts of all cells before it, and the words that
+/// it overwrote or took out.
 pub fn tells_before()
     ensures { (left : Undo) (before x : HeapState) → IsTold left before x }
 {
     undo_takes_back();
 }
 
-/// The laws that a pin that is walked one record further back is walked to the state before that step, and that a pin that
-/// was walked to a state holds it.
+/// States that a pin that is walked one record further back is walked to the state before that step, and that a pin that was
+/// walked to a state holds it.
 pub fn walks_back()
     ensures further { (left : Undo) (x w : HeapState) (p q : Pinned) → WalksOn left x w p q }
     ensures holds { (p : Pinned) (u : HeapState) → WalkHolds p u }
 {}
 
-/// The laws that a pin which keeps what a step overwrote holds its state after the step, with the same image, and after a rewind
-/// that isn't below it.
+/// States that a pin that keeps what a step overwrote holds its state after the step, with the same image, and after a rewind
+/// to a place that isn't before the pin's.
 pub fn pins_hold()
     ensures stepped { (left : Undo) (v : HeapState) (p : Pinned) (u : HeapState) → HoldsOn left v p u }
     ensures image { (w : HeapState) (p : Pinned) (u : HeapState) → HoldsImage w p u }

@@ -1,4 +1,4 @@
-//! A pin: what a dump needs of a state, kept beside the heap that goes on.
+//! A pin: a past state as a dump needs it, kept beside the heap that goes on.
 ghost use Rattle.std.specs.Prelude.{◌≡◌, ◌<◌, ◌≤◌, length, replicate, None, Some, IsSome, IfSome, IfOk, IfErr, OnOk, OnErr, slice_get, slice_index_or, is_some, drop};
 ghost use Rattle.heap_class.specs.declared.Refusal.TheVariants.{NoMemory};
 ghost use Rattle.memchr.specs.Find.{IsFirstByte, is_byte};
@@ -22,14 +22,14 @@ use memchr::memchr;
 use std::alloc::Global;
 use std::marker::Model;
 
-/// The address of the first word of region 0.
+// The address of the first word of region 0.
 const OBJECT_BASE: u64 = 0x1000_0000;
 
-/// Words of a region.
+// The number of words of a region.
 const REGION_WORDS: u64 = 1024;
 
-/// A state as a dump shows it. It has the registers, the number of classes and a byte for each cell, 1 for that of a live
-/// object, and copies of the regions that were overwritten since; what is not overwritten yet is read where it is.
+/// A past state as a dump shows it. It has the registers, the number of classes, a byte for each cell, 1 for that of a live
+/// object, and copies of the regions that were overwritten since. A region that isn't overwritten yet is read from the heap.
 #[derive(Drop)]
 pub struct Pin {
     pub(crate) classes: u64,
@@ -46,7 +46,7 @@ impl Model for Pin {
     ghost view = { λ p. record { classes = p.classes; registers = p.registers.items; live = p.live.items; copies = p.copies.items } };
 }
 
-// Returns so many regions without a copy. Fails with NoMemory.
+// Returns a list of `count` regions without a copy. Fails with NoMemory if the allocation fails.
 fn no_copies(alloc: Global, count: u64) -> Result<Vec<Option<FrozenRegion>>, Refusal>
     ensures made { IfOk result (λ v. v.items ≡ replicate count None) }
     ensures refused { IfErr result (λ e. e ≡ NoMemory) }
@@ -58,7 +58,8 @@ fn no_copies(alloc: Global, count: u64) -> Result<Vec<Option<FrozenRegion>>, Ref
     Ok(copies)
 }
 
-/// Returns the region of which a step with this record overwrote a word or removed an object.
+/// Returns the region of which a step with this record overwrote a word or removed an object, or None if there is none. Takes
+/// no memory.
 #[inline(always)]
 #[tactic(auto, unfolding(crate::specs::Kept::touched))]
 pub fn touched_region(left: &Undo) -> Option<u64>
@@ -71,7 +72,7 @@ pub fn touched_region(left: &Undo) -> Option<u64>
     }
 }
 
-// Finds the first byte of a live object. That is often the first of all, which is looked at before any search.
+// Finds the first byte of a live object. Looks at the first byte before any search, since it often is the one.
 #[inline]
 fn first_live(bytes: &[u8]) -> Option<usize>
     ensures { IsFirstByte (is_byte 1) bytes.now result }
@@ -83,7 +84,7 @@ fn first_live(bytes: &[u8]) -> Option<usize>
 }
 
 impl Pin {
-    /// Returns a pin on the current state, from which it can be walked back. Fails with NoMemory.
+    /// Creates a pin on the current state, from which it can be walked back. Fails with NoMemory if an allocation fails.
     pub fn open(alloc: Global, world: &World) -> Result<Pin, Refusal>
         ensures opened { IfOk result (λ p. IsOpened p world.now) }
         ensures refused { IfErr result (λ e. e ≡ NoMemory) }
@@ -100,7 +101,7 @@ impl Pin {
         })
     }
 
-    /// Tells whether it has a copy of a region of the heap.
+    /// Tells whether the pin has a copy of a region of the heap.
     #[inline(always)]
     pub fn has_copy(&self, region: u64) -> bool
         requires { region < length self.now.copies }
@@ -109,8 +110,9 @@ impl Pin {
         self.copies[region as usize].is_some()
     }
 
-    /// Keeps what the step that left this record and led to this state overwrote or reclaimed, unless there is a copy of its
-    /// region. Refused NoMemory; then the pin is as it was.
+    /// Copies the region that a step overwrote or reclaimed, unless the pin has a copy, and puts back into the copy what the
+    /// step's record has of it. The step must have left this record and led to this state. Fails with NoMemory if the copy
+    /// can't be allocated, and the pin is unchanged then.
     pub fn keep(&mut self, world: &World, left: &Undo) -> Result<(), Refusal>
         requires step { (e : Event) × (before : HeapState) × IsStep e before world.now left.now }
         requires sized { length self.old.copies ≡ length world.now.regions }
@@ -128,7 +130,7 @@ impl Pin {
         }
     }
 
-    // Keeps a region of which a word was overwritten.
+    // Copies a region of which a word was overwritten, with the old word.
     fn keep_word(&mut self, world: &World, at: ObjRef, slot: u64, old: u64) -> Result<(), Refusal>
         requires there { IsSome (object_at world.now.regions at) }
         requires within { IfSome (object_at world.now.regions at) (λ o. slot < length o.words) }
@@ -147,7 +149,7 @@ impl Pin {
         Ok(())
     }
 
-    // Keeps a region that lost these dead objects.
+    // Copies a region that lost these dead objects, with them.
     fn keep_dead(&mut self, world: &World, region: u16, dead: &DeadCells) -> Result<(), Refusal>
         requires used { IsSome (used_at world.now.regions region) }
         requires fit { FitIn (region_frozen world.now.regions region) dead.now }
@@ -165,7 +167,7 @@ impl Pin {
         Ok(())
     }
 
-    // Keeps a region that was moved out.
+    // Copies a region that was moved out.
     fn keep_region(&mut self, world: &World, region: u16, storage: &Storage) -> Result<(), Refusal>
         requires sized { region < length self.old.copies }
         ensures kept { OnOk result (self.new ≡ kept_copy region (Some (frozen storage.now)) self.old) }
@@ -181,7 +183,7 @@ impl Pin {
     }
 }
 
-/// Puts the dead objects into their cells.
+// Puts the dead objects into their cells.
 pub(crate) fn put_dead(copy: &mut FrozenRegion, dead: &[(u64, ObjectCopy)])
     requires { AreFit copy.old.cell_size (length copy.old.cells) dead.now }
     ensures { copy.new ≡ with_dead dead.now copy.old }
@@ -191,23 +193,23 @@ pub(crate) fn put_dead(copy: &mut FrozenRegion, dead: &[(u64, ObjectCopy)])
     }
 }
 
-// What a dump reads of a pin beside the current state.
+// The readers that a dump needs of a pin, beside the current state.
 impl Pin {
-    /// How many classes there were.
+    /// Returns the number of classes that the state had.
     pub fn classes(&self) -> u64
         ensures { result ≡ self.now.classes }
     {
         self.classes
     }
 
-    /// The registers, mutator by mutator.
+    /// Returns the registers, mutator by mutator.
     pub fn registers(&self) -> &[u64]
         ensures { result.now ≡ self.now.registers }
     {
         &self.registers
     }
 
-    // The first place from a byte on.
+    // Returns the place of the first live object from a byte on.
     fn from(&self, number: usize) -> Option<ObjRef>
         requires within { number ≤ length self.now.live }
         requires few { length self.now.live ≤ 65536 }
@@ -225,7 +227,7 @@ impl Pin {
         }
     }
 
-    /// The place of the first object.
+    /// Returns the place of the first object.
     pub fn first(&self) -> Option<ObjRef>
         requires { length self.now.live ≤ 65536 }
         ensures { result ≡ slice_get (places_from 0 self.now.live) 0 }
@@ -233,7 +235,7 @@ impl Pin {
         self.from(0)
     }
 
-    /// The place of the object after the one here.
+    /// Returns the place of the object after the one at this place.
     pub fn next(&self, at: ObjRef) -> Option<ObjRef>
         requires { length self.now.live ≤ 65536 }
         ensures { IsPlaceAfter self.now.live at result }
@@ -245,7 +247,7 @@ impl Pin {
         self.from(number)
     }
 
-    /// What the object here is.
+    /// Returns the kind of the object at this place, which must have one.
     pub fn kind(&self, world: &World, at: ObjRef) -> ObjKind
         requires { IsSeen self.now world.now.regions at }
         ensures { IfSome (object_seen self.now world.now.regions at) (λ o. result ≡ o.kind) }
@@ -256,7 +258,7 @@ impl Pin {
         }
     }
 
-    /// The id of the object here: the address of its first word.
+    /// Returns the id of the object at this place, which must have one: the address of its first word.
     pub fn id(&self, world: &World, at: ObjRef) -> u64
         requires { IsSeen self.now world.now.regions at }
         ensures { IfSome (object_seen self.now world.now.regions at) (λ o. result ≡ o.id) }
@@ -270,7 +272,7 @@ impl Pin {
         }
     }
 
-    /// The words of the object here, in slot order.
+    /// Returns the words of the object at this place, which must have one, in slot order.
     #[inline(always)]
     pub fn words<'b>(&'b self, world: &'b World, at: ObjRef) -> &'b [u64]
         requires { IsSeen self.now world.now.regions at }

@@ -1,4 +1,4 @@
-//! What a dump shows of a pin.
+//! The view of a pin, of which a dump is made.
 ghost use Rattle.std.specs.Prelude.{◌≡◌};
 ghost use Rattle.heap_pins.specs.View.{ShowsSome};
 
@@ -27,7 +27,7 @@ impl<'a> Model for PinView<'a> {
 }
 
 impl<'a> PinView<'a> {
-    /// Shows the pin beside that state.
+    /// Creates the view of a pin beside a state. The pin must show some legal state beside it.
     pub fn new(pin: &'a Pin, world: &'a World, ids: IdSize) -> PinView<'a>
         requires { ShowsSome pin.now world.now }
         ensures { result ≡ record { pin = pin.now; state = world.now; ids = ids } }

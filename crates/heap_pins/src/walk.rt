@@ -17,8 +17,9 @@ use heap_sweep::DeadCells;
 use heap_world::World;
 
 impl Pin {
-    /// Takes the pin from the state after the step that left this record to the state before it; `world` is the current
-    /// state. Fails with NoMemory; then the pin is of no use. Copies the region that the step overwrote or reclaimed.
+    /// Takes the pin from the state after the step that left this record to the state before it; `world` is the current state.
+    /// Copies the region that the step overwrote or reclaimed. Fails with NoMemory if the copy can't be allocated, and the pin
+    /// is of no use then.
     pub fn walk_back(&mut self, world: &World, left: &Undo) -> Result<(), Refusal>
         requires { CanWalk left.now world.now self.old }
         ensures walked { OnOk result (IsWalkedBack left.now world.now self.old self.new) }
@@ -56,7 +57,8 @@ impl Pin {
         }
     }
 
-    // Takes out the copy of a region, or copies it if the pin has no copy of it. Fails with NoMemory.
+    // Takes the copy of a region out of the pin, or copies the region if the pin has no copy of it. Fails with NoMemory if the
+    // allocation fails.
     fn take_copy(&mut self, world: &World, region: u16) -> Result<FrozenRegion, Refusal>
         requires sized { region < length self.old.copies }
         requires there { IsSome (region_seen self.old world.now.regions region) }
@@ -70,7 +72,7 @@ impl Pin {
         }
     }
 
-    // Puts the old word back into a slot, in a copy of its region. Fails with NoMemory.
+    // Writes the old word to a slot, in a copy of its region. Fails with NoMemory if the copy can't be allocated.
     fn unwrite(&mut self, world: &World, at: ObjRef, slot: u64, old: u64) -> Result<(), Refusal>
         requires sized { at.region < length self.old.copies }
         requires there { SeesSlot self.old world.now.regions at slot }
@@ -83,7 +85,7 @@ impl Pin {
         Ok(())
     }
 
-    // Puts the old word back into a register.
+    // Writes the old word to a register.
     fn set_register(&mut self, m: u8, r: u8, old: u64)
         requires { register_index m r < length self.old.registers }
         ensures { self.new ≡ with_old_register m r old self.old }
@@ -91,7 +93,7 @@ impl Pin {
         self.registers[8 * m as usize + r as usize] = old;
     }
 
-    // Removes a new object; if a region was taken for it, removes that region's objects.
+    // Removes a new object, or all objects of its region if the region was taken from the pool for it.
     fn remove_new(&mut self, at: ObjRef, fresh: bool)
         requires within { at.cell < 256 }
         requires region { HasRegion self.old.live at.region }
@@ -111,7 +113,7 @@ impl Pin {
         make_live(&mut self.live);
     }
 
-    // Puts back the dead objects of a region. Fails with NoMemory.
+    // Puts back the dead objects of a region. Fails with NoMemory if a copy of the region can't be allocated.
     fn unsweep(&mut self, world: &World, region: u16, dead: &DeadCells) -> Result<(), Refusal>
         requires sized { region < length self.old.copies }
         requires there { SeesRoom self.old world.now.regions region dead.now }
@@ -127,7 +129,7 @@ impl Pin {
         Ok(())
     }
 
-    // Puts back a region that was moved out. Fails with NoMemory.
+    // Puts back a region that was moved out. Fails with NoMemory if a copy of the region can't be allocated.
     fn unreclaim(&mut self, world: &World, region: u16, storage: &Storage) -> Result<(), Refusal>
         requires sized { region < length self.old.copies }
         requires dead { HasNoLive storage.now }

@@ -1,4 +1,4 @@
--- What a pump does.
+-- The effect of a pump.
 use Rattle.std.specs.Prelude.{◌≡◌, ℕ, ◌+◌, ◌<◌, ◌≤◌, Bool, true, false, List, [], ◌∷◌, ◌++◌, take, length, Option, Some}
 use mathlib.Core.List.{IsPrefix}
 use Rattle.hprof_text.specs.declared.Piece.{Piece}
@@ -14,25 +14,26 @@ abbrev pub joined : List Piece → List ℕ
 joined [] = []
 joined (p ∷ parts) = p.bytes ++ joined parts
 
--- whether the last of the parts is marked so
+-- whether the last of the parts is marked as the last
 abbrev pub ends : List Piece → Bool
 ends [] = false
 ends (p ∷ []) = p.last
 ends (p ∷ q ∷ parts) = ends (q ∷ parts)
 
+-- the number of bytes that a pump put out
 abbrev pub bytes_of : Pumped → ℕ
 bytes_of (Done n) = n
 bytes_of (OutletFailed n) = n
 bytes_of (Lost cause n) = n
 bytes_of (Cancelled n) = n
 
--- so many of the bytes, from the front, were put out: fewer than all only if a put failed
+-- n of the bytes, from the front, were put out: fewer than all only if a put failed
 abbrev pub PutsAll : List ℕ → Outgoing → Outgoing → ℕ → Type 0
 PutsAll bytes w w' n =
     (n ≤ length bytes) × (w'.out ≡ w.out ++ take n bytes)
     × (n ≡ length bytes → w'.failures ≡ w.failures) × (n < length bytes → w'.failures ≡ w.failures + 1)
 
--- what an answer says of the parts given, of the bytes put out, of how the source ended and of the failures
+-- an outcome fits the parts given, the bytes put out, the end of the source, and the failures before and after
 abbrev pub Fits : List Piece → List ℕ → Option Ending → ℕ → ℕ → Pumped → Type 0
 Fits given out ended failures failures' (Done n) =
     (out ≡ joined given) × (ends given ≡ true) × (ended ≡ Some End.Whole) × (failures' ≡ failures)
@@ -42,7 +43,8 @@ Fits given out ended failures failures' (Lost cause n) =
 Fits given out ended failures failures' (Cancelled n) =
     (out ≡ joined given) × (ended ≡ Some End.Cancelled) × (failures' ≡ failures)
 
--- the source gave these parts; a beginning of their bytes was put out, as many as the answer says, and all of them unless a
+-- the source gave these parts, and a beginning of their bytes was put out, as many as the outcome says, and all of them unless
+-- a
 -- put failed
 pub record IsPumped (a b : Supply) (w w' : Outgoing) (r : Pumped) : Type 0 where
   pub given : List Piece

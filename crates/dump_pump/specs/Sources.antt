@@ -1,4 +1,4 @@
--- What a source gives.
+-- The parts that a source gives.
 use Rattle.std.specs.Prelude.{◌≡◌, ℕ, ◌<◌, ◌≤◌, ◌^◌, true, false, List, [], ◌∷◌, ◌++◌, length, Option, Some, None}
 use Rattle.hprof_text.specs.declared.Piece.{Piece}
 use Rattle.dump_pump.specs.declared.source.Ending.{Ending}
@@ -6,11 +6,11 @@ use Rattle.dump_pump.specs.declared.source.Ending.TheVariants as End
 use Rattle.dump_pump.specs.declared.source.Next.{Next}
 use Rattle.dump_pump.specs.declared.source.Next.TheVariants.{Part, Lost, Cancelled}
 
--- the most parts that a source has left
+-- the largest number of parts that a source has left
 abbrev pub part_limit : ℕ
 part_limit = 66178
 
--- the most bytes of a part
+-- the largest size of a part in bytes
 abbrev pub part_size_limit : ℕ
 part_size_limit = 2 ^ 24
 
@@ -20,11 +20,12 @@ pub record Supply : Type 0 where
   pub ended : Option Ending
   pub left : ℕ
 
--- what is told, with these parts more
+-- the parts told before, if any are, and then these
 abbrev pub more : Option (List Piece) → List Piece → Option (List Piece)
 more (Some before) parts = Some (before ++ parts)
 more None parts = None
 
+-- a source in the state a gave this answer, and is in the state b
 abbrev pub IsNext : Supply → Supply → Next → Type 0
 IsNext a b (Part p) =
     (b.told ≡ more a.told (p ∷ [])) × (length p.bytes ≤ part_size_limit) × (b.left < a.left)

@@ -1,10 +1,10 @@
-//! What happened at an end so far, for contracts alone.
+//! A ghost log of what happened at an end, for contracts alone.
 ghost use Rattle.std.specs.Prelude.{◌≡◌, ◌++◌};
 ghost use Rattle.dump_pump.specs.Outlets.{bytes_of};
 
 use http_server::Log;
 
-/// Bytes more. It takes no memory, and nothing is kept at run time.
+/// Appends bytes to a ghost log. Does nothing at run time. Takes no memory.
 pub fn note_bytes(log: &mut Log<u8, ()>, bytes: &[u8])
     ensures { bytes_of log.new.items ≡ bytes_of log.old.items ++ bytes.now }
 {

@@ -1,4 +1,4 @@
-//! Where the bytes of a dump and the lines of a session go.
+//! Outlets for the bytes of a dump and the lines of a session, and sources of a dump's parts.
 #![tactic(auto)]
 
 pub mod ledger;
@@ -12,11 +12,11 @@ pub use source::{Ending, Next, Source};
 pub use transfer::{Pumped, pump};
 pub use write_outlet::WriteOutlet;
 
-/// What a put took.
+/// The outcome of a put.
 #[derive(Clone, Copy, PartialEq, Eq, Debug)]
 pub enum Put {
-    /// So many bytes from the front, at least one.
+    /// This many bytes were taken from the front, at least one.
     Took(usize),
-    /// Nothing.
+    /// Nothing was taken.
     Failed,
 }

@@ -1,14 +1,15 @@
-//! The trait of what takes bytes.
+//! The trait of outlets, which take bytes.
 use crate::Put;
 
-/// What takes bytes. Contracts see it as the bytes that were put out so far and the number of puts that failed.
+/// An outlet, which takes bytes. Contracts see the bytes that were put out so far and the number of puts that failed.
 pub trait Outlet {
     ghost use Rattle.std.specs.Prelude.{◌<◌, length};
     ghost use Rattle.dump_pump.specs.Outlets.{Outgoing, IsPut};
 
     ghost seen: { Self → Outgoing };
 
-    /// Puts out some of the bytes given, from the front.
+    /// Puts out some of the bytes given, from the front. At least one must be given. Returns how many were taken, or Failed if
+    /// none was.
     fn put(&mut self, given: &[u8]) -> Put
         requires { 0 < length given.now }
         ensures { IsPut given.now (seen self.old) (seen self.new) result };

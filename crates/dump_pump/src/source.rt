@@ -1,11 +1,11 @@
-//! The trait of what gives the parts of a dump.
+//! The trait of sources, which give the parts of a dump.
 use heap_class::LostCause;
 use hprof_text::Piece;
 
-/// The most parts that a source has left.
+/// The largest number of parts that a source has left.
 pub const PART_LIMIT: u64 = 66_178;
 
-/// What a source gives next.
+/// The answer of a source that is asked for its next part.
 #[derive(Drop)]
 pub enum Next {
     /// A part of the dump, of at most 2^24 bytes.
@@ -16,10 +16,10 @@ pub enum Next {
     Cancelled,
 }
 
-/// How a source ended.
+/// The way in which a source ended.
 #[derive(Clone, Copy, PartialEq, Eq, Debug)]
 pub enum Ending {
-    /// With the part that is the last.
+    /// It gave the part that is the last.
     Whole,
     /// The dump is lost.
     Lost(LostCause),
@@ -27,27 +27,27 @@ pub enum Ending {
     Cancelled,
 }
 
-/// What gives the parts of a dump, in order. Contracts see the parts that it gave since it was made, if it tells them, how it
-/// ended, how many parts are left at most, and what stays as it was.
+/// A source, which gives the parts of a dump, in order. Contracts see the parts that it gave since it was made, if it tells
+/// them, how it ended, how many parts are left at most, and what stays as it was.
 pub trait Source {
     ghost use Rattle.std.specs.Prelude.{◌≡◌, ◌<◌, ◌≤◌};
     ghost use Rattle.dump_pump.specs.Sources.{Supply, IsNext, part_limit};
 
-    // What no call of `next` changes.
+    // The type of what no call of `next` changes.
     ghost Kept: { Type 0 } = { Unit {0} };
 
     ghost kept: { Self → Self.Kept };
 
     ghost seen: { Self → Supply };
 
-    /// Gives the next part, or says why there is none. Each part lowers the number of parts left, and one that is not the
-    /// last leaves it above 0.
+    /// Returns the next part, or the reason why there is none. A part must be left. Each part lowers the number of parts left,
+    /// and one that isn't the last leaves it above 0.
     fn next(&mut self) -> Next
         requires { 0 < (Self.seen self.old).left }
         ensures next { IsNext (Self.seen self.old) (Self.seen self.new) result }
         ensures kept { Self.kept self.new ≡ Self.kept self.old };
 
-    /// Returns how many parts are left at most.
+    /// Returns the largest number of parts that may be left, at most PART_LIMIT.
     fn left(&self) -> u64
         ensures left { result ≡ (Self.seen self.now).left }
         ensures most { result ≤ part_limit };

@@ -6,7 +6,7 @@ use crate::source::{Next, Source};
 use crate::{Outlet, Put};
 use heap_class::LostCause;
 
-/// How a pump ended, and how many bytes it put out.
+/// The outcome of a pump, with the number of bytes that it put out.
 #[derive(Clone, Copy, PartialEq, Eq, Debug)]
 pub enum Pumped {
     /// All bytes of the dump are out.
@@ -19,7 +19,7 @@ pub enum Pumped {
     Cancelled { bytes: u64 },
 }
 
-/// Puts out all bytes, unless a put fails. Returns how many are out.
+/// Puts out all bytes, unless a put fails. Returns the number of bytes that are out.
 pub fn put_all<O: Outlet>(outlet: &mut O, bytes: &[u8]) -> usize
     ensures { PutsAll bytes.now (O.seen outlet.old) (O.seen outlet.new) result }
 {

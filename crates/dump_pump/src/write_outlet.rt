@@ -10,12 +10,12 @@ use std::io::{ErrorKind, Write};
 use std::marker::Model;
 use std::snapshot::Snapshot;
 
-/// How often an interrupted write is made again.
+/// The number of times that an interrupted write is tried.
 pub const INTERRUPT_LIMIT: u32 = 100;
 
-/// An outlet of a writer. A write that takes nothing is a failure, and so is one that stays interrupted. Contracts see the
-/// writer, what it told that it held when the outlet was made, the bytes put out since, and the number of puts that failed.
-/// Where the writer told what it held, it holds that and then all that was put out.
+/// An outlet over a writer. A write that takes nothing is a failure, and so is one that stays interrupted. Contracts see the
+/// writer, the bytes that it told that it held when the outlet was made, the bytes put out since, and the number of puts that
+/// failed. If the writer told what it held, it holds that and then all that was put out.
 #[derive(Drop)]
 pub struct WriteOutlet<W: Write> {
     writer: W,
@@ -37,7 +37,7 @@ impl<W: Write> Model for WriteOutlet<W> {
 }
 
 impl<W: Write> WriteOutlet<W> {
-    /// Returns an outlet that has put out nothing yet.
+    /// Creates an outlet that has put out nothing yet.
     pub fn new(writer: W) -> WriteOutlet<W>
         ensures { result ≡ record { writer = writer; held = W.contents writer; put = []; failures = 0 } }
     {
@@ -49,7 +49,7 @@ impl<W: Write> WriteOutlet<W> {
         }
     }
 
-    /// Returns the writer. Where it told what it held when the outlet was made, it holds that and then all that was put out.
+    /// Returns the writer. If it told what it held when the outlet was made, it holds that and then all that was put out.
     pub fn into_writer(self) -> W
         ensures writer { result ≡ self.writer }
         ensures held { Appends self.held (W.contents result) self.put }
@@ -64,7 +64,7 @@ impl<W: Write> WriteOutlet<W> {
     }
 }
 
-/// Writes once, and again where it is interrupted. None where it took nothing.
+// Writes once, and again if it is interrupted, at most INTERRUPT_LIMIT times in all. None if nothing was taken.
 fn write_once<W: Write>(writer: &mut W, given: &[u8]) -> Option<usize>
     requires { 0 < length given.now }
     ensures { IsTriedWrite (W.contents writer.old) (W.contents writer.new) result given.now }

@@ -8,7 +8,7 @@ use crate::view::View;
 use atomic_table::Shared;
 use std::marker::Model;
 
-/// The cancel word of a meter: whether one of its askers asked. Contracts see which meter's it is.
+/// The cancel word of a meter: whether one of its askers asked. Contracts see the meter.
 #[derive(Drop)]
 pub struct Cancel<'a> {
     pub(crate) table: &'a Shared<(), View, (), Counts>,
@@ -28,7 +28,7 @@ impl<'a> Model for Cancel<'a> {
 }
 
 impl<'a> Cancel<'a> {
-    /// Asks to cancel, by a seat of this meter. It can't be taken back. Waits for nothing.
+    /// Asks to cancel, by a seat of this meter. The request can't be withdrawn. Waits for nothing.
     pub fn ask(&self, seat: &mut AskSeat)
         requires { seat.old.meter ≡ self.now }
         ensures { seat.new ≡ asking self.now true }
@@ -36,7 +36,7 @@ impl<'a> Cancel<'a> {
         let _ = self.table.fetch_or::<Asks>(&mut seat.seat, 1, 1);
     }
 
-    /// Returns whether anybody asked, by a seat of this meter. What was found stays so. Waits for nothing.
+    /// Tells whether anybody asked, by a seat of this meter. Once it is true it stays so. Waits for nothing.
     pub fn asked(&self, seat: &mut FeedSeat) -> bool
         requires { seat.old.meter ≡ self.now }
         ensures found { seat.new ≡ finding self.now result }

@@ -1,4 +1,4 @@
-//! A dump's progress and its cancelling, in two words that no lock guards.
+//! The progress of a dump and its cancelling, in two words that no lock guards.
 #![tactic(auto)]
 
 pub mod cancel;

@@ -1,4 +1,4 @@
-//! Meters.
+//! Meters, and the making of one with its seats.
 ghost use Rattle.std.specs.Prelude.{◌≡◌, ◌+◌, ◌<◌, ◌≤◌, All, length, IfOk, false};
 ghost use Rattle.dump_meter.specs.Seats.{sum, seen, asking, finding, seat_limit};
 
@@ -11,7 +11,7 @@ use atomic_table::{Seat, Shared, Table};
 use std::alloc::{AllocError, Global};
 use std::marker::Model;
 
-/// The most seats that read or ask, together.
+/// The largest number of seats that read or ask, together.
 pub const SEAT_LIMIT: usize = 16;
 
 /// A progress word and a cancel word. Contracts see which meter it is.
@@ -36,14 +36,19 @@ impl Model for Meter {
 /// A meter with its seats: one that adds, those that read, those that ask, and one that looks whether they did.
 #[derive(Drop)]
 pub struct NewMeter {
+    /// The meter.
     pub meter: Meter,
+    /// The seat that adds.
     pub out: OutSeat,
+    /// The seats that read.
     pub readers: Vec<ReadSeat>,
+    /// The seats that ask.
     pub askers: Vec<AskSeat>,
+    /// The seat that looks whether any of them asked.
     pub feed: FeedSeat,
 }
 
-/// Creates so many seats that read. Fails if memory is refused.
+// Creates `count` seats that read. Fails if an allocation fails.
 fn new_readers(
     alloc: Global,
     table: &Shared<(), View, (), Counts>,
@@ -63,7 +68,7 @@ fn new_readers(
     Ok(seats)
 }
 
-/// Creates so many seats that ask. Fails if memory is refused.
+// Creates `count` seats that ask. Fails if an allocation fails.
 fn new_askers(
     alloc: Global,
     table: &Shared<(), View, (), Counts>,
@@ -84,8 +89,8 @@ fn new_askers(
 }
 
 impl Meter {
-    /// Creates a meter at 0 that nobody asked to cancel, with so many seats that read and so many that ask, together at most
-    /// 16. Fails if memory is refused.
+    /// Creates a meter at 0 that nobody asked to cancel, with `readers` seats that read and `askers` seats that ask, together
+    /// at most 16. Fails if an allocation fails.
     pub fn new(alloc: Global, readers: usize, askers: usize) -> Result<NewMeter, AllocError>
         requires { readers + askers ≤ seat_limit }
         ensures out { IfOk result (λ m. m.out ≡ sum m.meter 0) }
@@ -108,7 +113,7 @@ impl Meter {
         })
     }
 
-    /// Lends the progress word.
+    /// Returns the progress word, lent.
     pub fn progress(&self) -> Progress<'_>
         ensures { result ≡ self.now }
     {
@@ -117,7 +122,7 @@ impl Meter {
         }
     }
 
-    /// Lends the cancel word.
+    /// Returns the cancel word, lent.
     pub fn cancel(&self) -> Cancel<'_>
         ensures { result ≡ self.now }
     {

@@ -8,7 +8,7 @@ use crate::view::View;
 use atomic_table::Shared;
 use std::marker::Model;
 
-/// The progress word of a meter: the bytes that its out seat added. Contracts see which meter's it is.
+/// The progress word of a meter: the bytes that its out seat added. Contracts see the meter.
 #[derive(Drop)]
 pub struct Progress<'a> {
     pub(crate) table: &'a Shared<(), View, (), Counts>,
@@ -28,7 +28,7 @@ impl<'a> Model for Progress<'a> {
 }
 
 impl<'a> Progress<'a> {
-    /// Adds n bytes to the sum of a seat of this meter, which stays below 2^64. Waits for nothing.
+    /// Adds `n` bytes to the sum of a seat of this meter. The sum must stay below 2^64. Waits for nothing.
     pub fn add(&self, seat: &mut OutSeat, n: u64)
         requires meter { seat.old.meter ≡ self.now }
         requires fits { seat.old.sum + n < 2 ^ 64 }
@@ -37,7 +37,7 @@ impl<'a> Progress<'a> {
         let _ = self.table.fetch_add::<Adds>(&mut seat.seat, 0, n);
     }
 
-    /// Returns the bytes added so far, no fewer than this seat of this meter read before. Waits for nothing.
+    /// Returns the bytes added so far, by a seat of this meter: no fewer than it read before. Waits for nothing.
     pub fn read(&self, seat: &mut ReadSeat) -> u64
         requires { seat.old.meter ≡ self.now }
         ensures seen { seat.new ≡ seen self.now result }

@@ -1,4 +1,4 @@
-//! The rule of the two words, and what each step tells its seat.
+//! The rule of the two words, and the effect of each step on its seat.
 use crate::view::View;
 use atomic_table::{Play, Split, TableRule};
 
@@ -50,7 +50,7 @@ impl Split<View> for NewFeeder {
     ghost right = { λ _. Feed false };
 }
 
-/// The out seat adds.
+/// The step of the out seat, which adds.
 pub struct Adds;
 
 impl Play<(), View> for Adds {
@@ -59,7 +59,7 @@ impl Play<(), View> for Adds {
     ghost then = { Added };
 }
 
-/// A reader reads.
+/// The step of a reader, which reads.
 pub struct Reads;
 
 impl Play<(), View> for Reads {
@@ -68,7 +68,7 @@ impl Play<(), View> for Reads {
     ghost then = { WasRead };
 }
 
-/// An asker asks.
+/// The step of an asker, which asks.
 pub struct Asks;
 
 impl Play<(), View> for Asks {
@@ -77,7 +77,7 @@ impl Play<(), View> for Asks {
     ghost then = { Asked };
 }
 
-/// A feeder looks.
+/// The step of a feeder, which looks.
 pub struct Looks;
 
 impl Play<(), View> for Looks {

@@ -3,7 +3,7 @@ use crate::view::View;
 use atomic_table::Seat;
 use std::marker::Model;
 
-/// The seat that adds bytes. A meter has one. Contracts see its meter and the sum of what it added.
+/// The seat that adds bytes. A meter has one. Contracts see its meter and the sum of the bytes that it added.
 #[derive(Drop)]
 pub struct OutSeat {
     pub(crate) seat: Seat<(), View>,
@@ -21,7 +21,7 @@ impl Model for OutSeat {
     ghost invariant = { λ s. s.seat.me ≡ (Out (number s.seat.me.0), []) };
 }
 
-/// A seat that reads the sum. Contracts see its meter and what it read last, 0 at first.
+/// A seat that reads the sum. Contracts see its meter and the sum that it read last, 0 at first.
 #[derive(Drop)]
 pub struct ReadSeat {
     pub(crate) seat: Seat<(), View>,

@@ -1,10 +1,13 @@
-//! What the seats know.
+//! The knowledge of the seats.
 
-/// What a seat of a meter knows: the bytes that it added, the sum that it read last, whether it asked, whether it found that
-/// somebody had. No value of it is made.
+/// The knowledge of a seat of a meter, for contracts alone. No value of it is made.
 pub enum View {
+    /// The bytes that the out seat added.
     Out(u64),
+    /// The sum that a reader read last.
     Read(u64),
+    /// Whether an asker asked.
     Ask(bool),
+    /// Whether a feeder found that somebody had asked.
     Feed(bool),
 }

@@ -146,7 +146,8 @@ impl Marker {
         Ok(self.gray.len() as u64)
     }
 
-    /// Undoes `snap`: no object is marked, nothing is gray and no cycle runs. Takes no memory.
+    /// Undoes `snap`, which must have led to this state: no object is marked, nothing is gray and no cycle runs. Takes no
+    /// memory.
     pub fn unsnap(&mut self, regions: &mut Regions)
         requires snapped { (before : MarkState) × (roots : List ℕ) × IsUnmarked before × (at_work regions.old.regions self.old ≡ snapped roots before) }
         ensures marker { self.new ≡ after_work (unsnapped (at_work regions.old.regions self.old)) self.old }
@@ -158,8 +159,9 @@ impl Marker {
         self.phase = Phase::Idle;
     }
 
-    /// Pops the object at the top of the gray stack, and marks and pushes its unmarked children in slot order. Fails with
-    /// NotMarking if no cycle runs, or with NothingToMark if nothing is gray. Takes no memory.
+    /// Pops the object at the top of the gray stack, and marks and pushes its unmarked children in slot order. Gray ids and the
+    /// references of their objects must name objects. Fails with NotMarking if no cycle runs, or with NothingToMark if nothing
+    /// is gray. Takes no memory.
     pub fn mark(&mut self, regions: &mut Regions, classes: &Classes) -> Result<Marked, Refusal>
         requires sound { IsGraySound regions.old.regions self.old }
         requires slots { (x : ℕ) → Contains self.old.gray x → IfSome (object_of regions.old.regions x) (λ o. HasSlots classes.now o.kind (length o.words)) }
@@ -183,8 +185,8 @@ impl Marker {
         Ok(Marked { parent, pushed })
     }
 
-    /// Undoes `mark`: unmarks the `pushed` newest gray objects and takes them off the stack, and pushes the parent again. Takes
-    /// no memory.
+    /// Undoes `mark`: unmarks the `pushed` newest gray objects and takes them off the stack, and pushes the parent again. At
+    /// least `pushed` objects must be gray. Takes no memory.
     pub fn unmark(&mut self, regions: &mut Regions, parent: u64, pushed: u64)
         requires sound { IsGraySound regions.old.regions self.old }
         requires within { pushed ≤ length self.old.gray }
@@ -198,8 +200,9 @@ impl Marker {
         self.gray.push_reserved(parent);
     }
 
-    /// Marks and pushes the object that the next entry of the log names, if it is unmarked. Returns the number of objects
-    /// pushed, 0 or 1. Fails with NotMarking if no cycle runs, or with NothingToDrain if no entry is left. Takes no memory.
+    /// Marks and pushes the object that the next entry of the log names, if it is unmarked. Each entry must name an object.
+    /// Returns the number of objects pushed, 0 or 1. Fails with NotMarking if no cycle runs, or with NothingToDrain if no entry
+    /// is left. Takes no memory.
     pub fn drain(&mut self, regions: &mut Regions) -> Result<u64, Refusal>
         requires sound { IsGraySound regions.old.regions self.old }
         requires entries { (x : ℕ) → Contains self.old.log x → IsSome (object_of regions.old.regions x) }
@@ -223,7 +226,7 @@ impl Marker {
     }
 
     /// Undoes `drain`: unmarks the `pushed` newest gray objects and takes them off the stack, and makes the last drained entry
-    /// the next one again. An entry must have been drained. Takes no memory.
+    /// the next one again. An entry must have been drained, and at least `pushed` objects must be gray. Takes no memory.
     pub fn undrain(&mut self, regions: &mut Regions, pushed: u64)
         requires sound { IsGraySound regions.old.regions self.old }
         requires within { pushed ≤ length self.old.gray }
@@ -297,7 +300,7 @@ impl Marker {
         Ok(true)
     }
 
-    /// Undoes `log_old`, given the flag that it returned. Takes no memory.
+    /// Undoes `log_old`, given the flag that it returned. If it is true, an entry must be left to drain. Takes no memory.
     pub fn unlog_old(&mut self, logged: bool)
         requires entry { IsTrue logged → self.old.drained < length self.old.log }
         ensures log { self.new ≡ (if logged then record self.old { log = take (length self.old.log - 1) self.old.log } else self.old) }

@@ -341,7 +341,7 @@ impl World {
         self.classes.define(name, sup, fields)
     }
 
-    /// Undoes the last definition of a class. Takes no memory.
+    /// Undoes the last definition of a class, which must be there. The heap must be legal afterwards. Takes no memory.
     pub fn undefine_class(&mut self)
         requires there { 0 < length self.old.classes }
         requires legal { IsLegal (record self.old { classes = take (length self.old.classes - 1) self.old.classes }) }
@@ -364,7 +364,8 @@ impl World {
         self.make(m, r, ObjKind::Instance(class), len)
     }
 
-    /// Undoes the making of an object: frees its cell and writes the old word to register `r` of mutator `m`. Takes no memory.
+    /// Undoes the making of an object: frees its cell and writes the old word to register `r` of mutator `m`. Object and
+    /// register must be there. The heap must be legal afterwards. Takes no memory.
     pub fn unmake(&mut self, at: ObjRef, fresh: bool, m: u64, r: u64, old: u64)
         requires there { IsSome (object_at self.old.regions at) }
         requires register { IsTrue (is_register self.old m r) }
@@ -398,7 +399,7 @@ impl World {
         Ok(Overwritten { at, old })
     }
 
-    /// Undoes `put`: writes the old word to the slot. Takes no memory.
+    /// Undoes `put`: writes the old word to the slot, which must be there. The heap must be legal afterwards. Takes no memory.
     pub fn unput(&mut self, at: ObjRef, slot: u64, old: u64)
         requires there { IsSome (object_at self.old.regions at) }
         requires within { IfSome (object_at self.old.regions at) (λ o. slot < length o.words) }

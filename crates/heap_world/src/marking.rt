@@ -22,7 +22,7 @@ impl World {
         self.marker.snap(&mut self.regions, &self.registers)
     }
 
-    /// Undoes `snap`. Takes no memory.
+    /// Undoes `snap`, which must have led to this state. Takes no memory.
     pub fn unsnap(&mut self)
         requires snapped { (before : HeapState) × IsLegal before × (snap_refusal (marking_of before) ≡ None) × (self.old ≡ after_snap before) }
         ensures unsnapped { self.new ≡ with_marking (unsnapped (marking_of self.old)) self.old }
@@ -45,8 +45,8 @@ impl World {
         self.marker.mark(&mut self.regions, &self.classes)
     }
 
-    /// Undoes `mark`: unmarks the `pushed` newest gray objects and takes them off the stack, and pushes the parent again. Takes
-    /// no memory.
+    /// Undoes `mark`: unmarks the `pushed` newest gray objects and takes them off the stack, and pushes the parent again. At
+    /// least `pushed` objects must be gray. The heap must be legal afterwards. Takes no memory.
     pub fn unmark(&mut self, parent: u64, pushed: u64)
         requires within { pushed ≤ length self.old.gray }
         requires legal { IsLegal (with_marking (unmarked parent pushed (marking_of self.old)) self.old) }
@@ -67,7 +67,8 @@ impl World {
     }
 
     /// Undoes `drain`: unmarks the `pushed` newest gray objects and takes them off the stack, and makes the last drained entry
-    /// the next one again. Takes no memory.
+    /// the next one again. An entry must have been drained, and at least `pushed` objects must be gray. The heap must be legal
+    /// afterwards. Takes no memory.
     pub fn undrain(&mut self, pushed: u64)
         requires within { pushed ≤ length self.old.gray }
         requires drained { 0 < self.old.drained }
@@ -91,7 +92,7 @@ impl World {
         self.marker.finish(&mut self.regions)
     }
 
-    /// Undoes `finish`, given the log that it returned. Takes no memory.
+    /// Undoes `finish`, given the log that it returned. The heap must be legal afterwards. Takes no memory.
     pub fn unfinish(&mut self, log: Log)
         requires legal { IsLegal (with_marking (unfinished log (marking_of self.old)) self.old) }
         ensures { self.new ≡ with_marking (unfinished log (marking_of self.old)) self.old }

@@ -66,8 +66,8 @@ impl World {
         Ok(Replaced { at, old, logged })
     }
 
-    /// Undoes `store`: writes the old word to the slot, and takes the last entry off the log if the old word was logged. Takes
-    /// no memory.
+    /// Undoes `store`: writes the old word to the slot, and takes the last entry off the log if the old word was logged. Slot
+    /// and entry must be there. The heap must be legal afterwards. Takes no memory.
     pub fn unstore(&mut self, at: ObjRef, slot: u64, old: u64, logged: bool)
         requires there { IsSome (object_at self.old.regions at) }
         requires within { IfSome (object_at self.old.regions at) (λ o. slot < length o.words) }
@@ -115,8 +115,8 @@ impl World {
         Ok(old)
     }
 
-    /// Writes the old word to register `r` of mutator `m`: undoes `load`, `move_register` and `clear_register`. Takes no
-    /// memory.
+    /// Undoes `load`, `move_register` or `clear_register`: writes the old word to register `r` of mutator `m`, which must be
+    /// there. The heap must be legal afterwards. Takes no memory.
     pub fn unregister(&mut self, m: u64, r: u64, old: u64)
         requires register { IsTrue (is_register self.old m r) }
         requires legal { IsLegal (with_register m r old self.old) }

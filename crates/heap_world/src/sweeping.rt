@@ -26,7 +26,8 @@ impl World {
         heap_sweep::sweep(&mut self.regions, region)
     }
 
-    /// Undoes a sweep that left objects in its region, given the objects that it removed. Takes no memory.
+    /// Undoes a sweep that left objects in its region, given the objects that it removed. The sweep must have led to this
+    /// state. Takes no memory.
     pub fn unsweep(&mut self, region: u16, dead: DeadCells)
         requires swept { (before : HeapState) × IsLegal before × (sweep_refusal region (pool_of before) ≡ None) × (is_emptied region (pool_of before) ≡ false) × (dead ≡ dead_at region (pool_of before)) × (self.old ≡ after_sweep region before) }
         ensures unswept { self.new ≡ with_pool (unswept region dead (pool_of self.old)) self.old }
@@ -37,7 +38,8 @@ impl World {
         heap_sweep::unsweep(&mut self.regions, Reclaimed::Swept { region, dead })
     }
 
-    /// Undoes a sweep that emptied its region, given the storage of the region. Takes no memory.
+    /// Undoes a sweep that emptied its region, given the storage of the region. The region must head the pool, and the storage
+    /// must have an object. The heap must be legal afterwards. Takes no memory.
     pub fn unreclaim(&mut self, region: u16, storage: Storage)
         requires head { slice_get self.old.pool 0 ≡ Some region }
         requires inhabited { (cell : ℕ) × (o : Object) × (slice_get storage.cells cell ≡ Some (Some o)) }

@@ -32,7 +32,7 @@ pub fn apply(world: &mut World, event: &Event) -> Result<(Answer, Undo), Refusal
     dispatch(world, event)
 }
 
-/// Undoes the step that left this record and this state. Takes no memory.
+/// Undoes the step that left this record and this state. There must be such a step. Takes no memory.
 #[tactic(auto, using(crate::proofs::Steps::taken_back))]
 pub fn undo(world: &mut World, left: Undo)
     requires { (e : Event) × (before : HeapState) × IsStep e before world.old left }

@@ -89,7 +89,7 @@ impl Buffer {
         }
     }
 
-    /// Appends the low `width` bytes of a number, at most 8, the highest first. Takes no memory.
+    /// Appends the low `width` bytes of a number, at most 8, the highest first. There must be room. Takes no memory.
     #[inline(always)]
     pub fn number(&mut self, width: usize, value: u64)
         requires width { width ≤ 8 }
@@ -108,7 +108,7 @@ impl Buffer {
         }
     }
 
-    /// Appends a number of 1 byte. Takes no memory.
+    /// Appends a number of 1 byte. There must be room. Takes no memory.
     #[inline(always)]
     pub fn u1(&mut self, value: u8)
         requires { HasRoom self.old (u1 value) }
@@ -118,7 +118,7 @@ impl Buffer {
         self.bytes(&[value]);
     }
 
-    /// Appends a number of 2 bytes. Takes no memory.
+    /// Appends a number of 2 bytes. There must be room. Takes no memory.
     #[inline(always)]
     pub fn u2(&mut self, value: u16)
         requires { HasRoom self.old (u2 value) }
@@ -130,7 +130,7 @@ impl Buffer {
         self.bytes(&bytes);
     }
 
-    /// Appends a number of 4 bytes. Takes no memory.
+    /// Appends a number of 4 bytes. There must be room. Takes no memory.
     #[inline(always)]
     pub fn u4(&mut self, value: u32)
         requires { HasRoom self.old (u4 value) }
@@ -142,7 +142,7 @@ impl Buffer {
         self.bytes(&bytes);
     }
 
-    /// Appends an identifier, of which the low bytes are written. Takes no memory.
+    /// Appends an identifier, of which the low bytes are written. There must be room. Takes no memory.
     #[inline(always)]
     pub fn id(&mut self, ids: IdSize, value: u64)
         requires { HasRoom self.old (id ids value) }

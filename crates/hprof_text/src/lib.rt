@@ -180,8 +180,8 @@ pub fn piece_of<V: View>(alloc: Global, view: &V, index: u64, time: u64) -> Resu
     Ok(piece)
 }
 
-/// Returns the piece at the cursor, and the cursor of the piece after it. Fails with NoMemory if an allocation fails. Reads
-/// each object of the piece once.
+/// Returns the piece at the cursor, and the cursor of the piece after it. The cursor must be one of the view's. Fails with
+/// NoMemory if an allocation fails. Reads each object of the piece once.
 pub fn piece_from<V: View>(
     alloc: Global,
     view: &V,

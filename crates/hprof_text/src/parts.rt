@@ -17,7 +17,7 @@ use heap_class::{ClassNo, FirstClasses, IdSize, Kind, ObjKind};
 const WORDS_AT_ONCE: usize = 32;
 
 impl Buffer {
-    /// Appends the own fields of a class, in order.
+    /// Appends the own fields of a class, in order. There must be room.
     pub fn fields(&mut self, ids: IdSize, classes: &FirstClasses<'_>, class: ClassNo)
         requires room { HasRoom self.old (flat_map (field_entry ids classes.now) (fields_of classes.now class)) }
         requires known { class < length classes.now }
@@ -50,7 +50,8 @@ impl Buffer {
         }
     }
 
-    /// Appends the words of an instance, each in as many bytes as its slot's kind has.
+    /// Appends the words of an instance, each in as many bytes as its slot's kind has. There must be a kind for each word, and
+    /// room.
     #[inline(always)]
     pub fn values(&mut self, ids: IdSize, kinds: &[Kind], words: &[u64])
         requires room { HasRoom self.old (flat_map (value_bytes ids) (zip kinds.now words.now)) }
@@ -63,7 +64,7 @@ impl Buffer {
         }
     }
 
-    /// Appends the low `width` bytes of each word, 1 to 8.
+    /// Appends the low `width` bytes of each word, 1 to 8. There must be room.
     pub fn numbers(&mut self, width: u64, words: &[u64])
         requires width { width ≤ 8 }
         requires room { HasRoom self.old (flat_map (big_bytes width) words.now) }
@@ -95,7 +96,7 @@ impl Buffer {
         }
     }
 
-    /// Appends a UTF8 record for each distinct name, in order of first use.
+    /// Appends a UTF8 record for each distinct name, in order of first use. There must be room.
     pub fn names(&mut self, ids: IdSize, classes: &FirstClasses<'_>)
         requires { HasRoom self.old (flat_map (utf8 ids) (enumerate_from 1 (name_table classes.now))) }
         ensures written { self.new.written ≡ self.old.written ++ flat_map (utf8 ids) (enumerate_from 1 (name_table classes.now)) }
@@ -106,7 +107,7 @@ impl Buffer {
         }
     }
 
-    /// Appends a LOAD CLASS record for each class, in order.
+    /// Appends a LOAD CLASS record for each class, in order. There must be room.
     pub fn load_classes(&mut self, ids: IdSize, classes: &FirstClasses<'_>)
         requires { HasRoom self.old (flat_map (load_class ids classes.now) (enumerate_from 0 classes.now)) }
         ensures written { self.new.written ≡ self.old.written ++ flat_map (load_class ids classes.now) (enumerate_from 0 classes.now) }
@@ -117,7 +118,7 @@ impl Buffer {
         }
     }
 
-    /// Appends the records before the segments: header, names, classes, and the empty trace.
+    /// Appends the records before the segments: header, names, classes, and the empty trace. There must be room.
     pub fn opening_records(&mut self, ids: IdSize, classes: &FirstClasses<'_>, time: u64)
         requires { HasRoom self.old (opening_of ids classes.now time) }
         ensures written { self.new.written ≡ self.old.written ++ opening_of ids classes.now time }
@@ -129,7 +130,7 @@ impl Buffer {
         self.trace();
     }
 
-    /// Appends the sub-record of an object.
+    /// Appends the sub-record of an object of at most 1,024 words. There must be room.
     #[tactic(auto, unfolding(crate::specs::Text::dump_of))]
     pub fn object_dump(
         &mut self,

@@ -15,7 +15,7 @@ use crate::sizes::instance_size;
 use byteorder::{BigEndian, ByteOrder};
 use heap_class::{ClassNo, FirstClasses, IdSize, Kind};
 
-/// Returns the id of a class.
+/// Returns the id of a class, whose number must be below 256.
 pub fn class_id(class: ClassNo) -> u64
     requires { class < class_limit }
     ensures { result ≡ class_id class }
@@ -54,7 +54,8 @@ fn head_of_eight(object: u64, class: ClassNo, size: u32) -> [u8; HEAD_OF_EIGHT]
 }
 
 impl Buffer {
-    /// Appends the header: the format's name, the size of identifiers, and the time in milliseconds since 1970.
+    /// Appends the header: the format's name, the size of identifiers, and the time in milliseconds since 1970. There must be
+    /// room.
     #[tactic(auto, unfolding(crate::specs::Text::header))]
     pub fn header(&mut self, ids: IdSize, time: u64)
         requires { HasRoom self.old (header ids time) }
@@ -67,7 +68,7 @@ impl Buffer {
         self.u4((time % (1 << 32)) as u32);
     }
 
-    /// Appends the head of a record whose body has `length` bytes.
+    /// Appends the head of a record whose body has `length` bytes. There must be room.
     pub fn record_head(&mut self, tag: u8, length: u32)
         requires { HasRoom self.old (record_head tag length) }
         ensures written { self.new.written ≡ self.old.written ++ record_head tag length }
@@ -78,7 +79,7 @@ impl Buffer {
         self.u4(length);
     }
 
-    /// Appends a UTF8 record: a name with its id.
+    /// Appends a UTF8 record: a name of at most 64 bytes with its id. There must be room.
     #[tactic(auto, using(crate::proofs::Written::utf8_body), unfolding(crate::specs::Text::utf8, crate::specs::Text::record_of))]
     pub fn utf8(&mut self, ids: IdSize, number: u64, name: &[u8])
         requires room { HasRoom self.old (utf8 ids (number, name.now)) }
@@ -91,7 +92,7 @@ impl Buffer {
         self.bytes(name);
     }
 
-    /// Appends a LOAD CLASS record. The serial of class k is k + 1.
+    /// Appends a LOAD CLASS record. The serial of class k is k + 1. There must be room.
     #[tactic(auto, using(crate::proofs::Written::load_body, crate::proofs::Written::name_at), unfolding(crate::specs::Text::load_class, crate::specs::Text::record_of))]
     pub fn load_class(&mut self, ids: IdSize, classes: &FirstClasses<'_>, class: ClassNo)
         requires room { HasRoom self.old (load_class ids classes.now (class, class_at classes.now class)) }
@@ -107,7 +108,7 @@ impl Buffer {
         self.id(ids, classes.class_name_id(class));
     }
 
-    /// Appends the TRACE record: serial 1, thread 0, no frames.
+    /// Appends the TRACE record: serial 1, thread 0, no frames. There must be room.
     #[tactic(auto, unfolding(crate::specs::Text::trace, crate::specs::Text::record_of))]
     pub fn trace(&mut self)
         requires { HasRoom self.old trace }
@@ -151,7 +152,7 @@ impl Buffer {
         self.u2(fields);
     }
 
-    /// Appends an own field in a CLASS DUMP: the id of its name, and its kind.
+    /// Appends an own field in a CLASS DUMP: the id of its name, and its kind. There must be room.
     pub fn field(&mut self, ids: IdSize, name: u64, kind: Kind)
         requires { HasRoom self.old (field_bytes ids name kind) }
         ensures written { self.new.written ≡ self.old.written ++ field_bytes ids name kind }
@@ -161,8 +162,8 @@ impl Buffer {
         self.u1(kind.type_code());
     }
 
-    /// Appends a CLASS DUMP: super, size of instances and own fields. There is no loader, signer, protection
-    /// domain, constant or static field.
+    /// Appends a CLASS DUMP: super, size of instances and own fields. There is no loader, signer, protection domain, constant
+    /// or static field. There must be room.
     pub fn class_dump(&mut self, ids: IdSize, classes: &FirstClasses<'_>, class: ClassNo)
         requires room { HasRoom self.old (class_dump ids classes.now (class, class_at classes.now class)) }
         requires known { class < length classes.now }
@@ -178,7 +179,7 @@ impl Buffer {
         self.fields(ids, classes, class);
     }
 
-    /// Appends the root of a class.
+    /// Appends the root of a class. There must be room.
     pub fn root_sticky_class(&mut self, ids: IdSize, class: ClassNo)
         requires room { HasRoom self.old (sticky_root ids class) }
         requires few { class < class_limit }
@@ -189,7 +190,7 @@ impl Buffer {
         self.id(ids, class_id(class));
     }
 
-    /// Appends the root of an object, of an unknown kind of root.
+    /// Appends the root of an object, of an unknown kind of root. There must be room.
     #[tactic(auto, unfolding(crate::specs::Text::root_unknown))]
     pub fn root_unknown(&mut self, ids: IdSize, object: u64)
         requires { HasRoom self.old (root_unknown ids object) }
@@ -221,7 +222,7 @@ impl Buffer {
         }
     }
 
-    /// Appends an INSTANCE DUMP: own fields first, then the super's.
+    /// Appends an INSTANCE DUMP: own fields first, then the super's. There must be room.
     #[inline(always)]
     #[tactic(auto, unfolding(crate::specs::Text::dump_of))]
     pub fn instance_dump(
@@ -243,7 +244,7 @@ impl Buffer {
         self.values(ids, kinds, words);
     }
 
-    /// Appends an OBJECT ARRAY DUMP.
+    /// Appends an OBJECT ARRAY DUMP of at most 1,024 words. There must be room.
     #[tactic(auto, unfolding(crate::specs::Text::dump_of))]
     pub fn object_array_dump(&mut self, ids: IdSize, object: u64, class: ClassNo, words: &[u64])
         requires room { HasRoom self.old (dump_of ids [] object (Array class) words.now) }
@@ -261,7 +262,7 @@ impl Buffer {
         self.numbers(ids.bytes(), words);
     }
 
-    /// Appends a PRIMITIVE ARRAY DUMP.
+    /// Appends a PRIMITIVE ARRAY DUMP of at most 1,024 words. There must be room.
     #[tactic(auto, unfolding(crate::specs::Text::dump_of, crate::specs::Text::value_bytes))]
     pub fn primitive_array_dump(&mut self, ids: IdSize, object: u64, kind: Kind, words: &[u64])
         requires room { HasRoom self.old (dump_of ids [] object (Prim kind) words.now) }

@@ -101,7 +101,7 @@ impl Pin {
         })
     }
 
-    /// Tells whether the pin has a copy of a region of the heap.
+    /// Tells whether the pin has a copy of a region, which must be one of the heap's.
     #[inline(always)]
     pub fn has_copy(&self, region: u64) -> bool
         requires { region < length self.now.copies }
@@ -227,7 +227,7 @@ impl Pin {
         }
     }
 
-    /// Returns the place of the first object.
+    /// Returns the place of the first object. The pin must have at most 65,536 cells.
     pub fn first(&self) -> Option<ObjRef>
         requires { length self.now.live ≤ 65536 }
         ensures { result ≡ slice_get (places_from 0 self.now.live) 0 }
@@ -235,7 +235,7 @@ impl Pin {
         self.from(0)
     }
 
-    /// Returns the place of the object after the one at this place.
+    /// Returns the place of the object after the one at this place. The pin must have at most 65,536 cells.
     pub fn next(&self, at: ObjRef) -> Option<ObjRef>
         requires { length self.now.live ≤ 65536 }
         ensures { IsPlaceAfter self.now.live at result }

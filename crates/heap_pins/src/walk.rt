@@ -17,9 +17,9 @@ use heap_sweep::DeadCells;
 use heap_world::World;
 
 impl Pin {
-    /// Takes the pin from the state after the step that left this record to the state before it; `world` is the current state.
-    /// Copies the region that the step overwrote or reclaimed. Fails with NoMemory if the copy can't be allocated, and the pin
-    /// is of no use then.
+    /// Takes the pin from the state after the step that left this record to the state before it; `world` is the current state,
+    /// beside which the pin must show the state after the step. Copies the region that the step overwrote or reclaimed. Fails
+    /// with NoMemory if the copy can't be allocated, and the pin is of no use then.
     pub fn walk_back(&mut self, world: &World, left: &Undo) -> Result<(), Refusal>
         requires { CanWalk left.now world.now self.old }
         ensures walked { OnOk result (IsWalkedBack left.now world.now self.old self.new) }

@@ -33,8 +33,8 @@ pub fn put_all<O: Outlet>(outlet: &mut O, bytes: &[u8]) -> usize
     at
 }
 
-/// Puts out the parts of a source, each whole and in order, until one is the last, the source ends otherwise, or a put fails.
-/// Takes no memory of its own.
+/// Puts out the parts of a source, each whole and in order, until one is the last, the source ends otherwise, or a put fails. A
+/// part must be left. Takes no memory of its own.
 pub fn pump<S: Source, O: Outlet>(source: &mut S, outlet: &mut O) -> Pumped
     requires { 0 < (S.seen source.old).left }
     ensures pumped { IsPumped (S.seen source.old) (S.seen source.new) (O.seen outlet.old) (O.seen outlet.new) result }

@@ -12,6 +12,7 @@ ghost use Rattle.heap_world.specs.State.{HeapState};
 ghost use Rattle.heap_world.specs.Legal.{IsLegal};
 ghost use Rattle.heap_trail.specs.declared.Action.TheVariants.{OpenPin, Step, Rewind};
 ghost use Rattle.heap_trail.specs.declared.Reply.TheVariants.{Answered, Pinned, Place, Refused};
+ghost use Rattle.heap_trail.specs.Headline.{Headline};
 ghost use Rattle.heap_trail.specs.Laws.{FindsSnapshot, IsTrail, GivesText, KeepsImage, DumpIsWhole, LeadsBack, LeavesTrail, ReachesLive, SparesReached};
 ghost use Rattle.heap_trail.specs.Machine.{IsSmall, Machine, Mark, MayFail, MayReply, acted, is_dump_action, opening_machine};
 ghost use Rattle.heap_trail.specs.Slots.{AreAllBelow, EachMayKeep, EachSized, slot_after_rewind};
@@ -363,4 +364,12 @@ pub fn dump_is_whole()
 /// its image, and all of it once the last piece was given.
 pub fn dumps_are_text()
     ensures { (m : Machine) (actions : List (Action × Mark)) (pin time : ℕ) → GivesText m actions pin time }
+{}
+
+/// The headline, over every list of actions: after it, undoing the last step restores the whole state before it, and rewinding n
+/// retained steps gives the state n steps ago, at once or in parts; its steps and rewinds go as without its dumps; and what a
+/// pin gives, finished or cut off, is a beginning of the text of its image, which it keeps, and all of it once the last piece was
+/// given.
+pub fn headline()
+    ensures { (m : Machine) (actions : List (Action × Mark)) → Headline m actions }
 {}

@@ -1,0 +1,66 @@
+-- What holds over every list of actions, in one statement.
+use Rattle.std.specs.Prelude.{◌≡◌, ℕ, ◌+◌, ◌-◌, ◌<◌, ◌≤◌, not, List, ◌∷◌, drop, map, filter, zip, slice_get, Some}
+use Rattle.heap_step.specs.declared.Event.{Event}
+use Rattle.heap_step.specs.declared.Answer.{Answer}
+use Rattle.hprof_text.specs.Image.{Image}
+use Rattle.heap_trail.specs.declared.Action.{Action}
+use Rattle.heap_trail.specs.declared.Action.TheVariants.{Step, Rewind}
+use Rattle.heap_trail.specs.declared.Reply.{Reply}
+use Rattle.heap_trail.specs.declared.Reply.TheVariants.{Answered, Place}
+use Rattle.heap_trail.specs.Trail.{retained}
+use Rattle.heap_trail.specs.Pins.{Kept, pin_at}
+use Rattle.heap_trail.specs.Machine.{Machine, Mark, AreMarks, acted, acted_under, machine_after, replies_of, is_dump_action, without_dumps}
+use Rattle.heap_trail.specs.Laws.{GivesText, LeavesTrail}
+
+-- ---- steps and rewinds
+
+-- after a rewind of n: the state of n steps ago is the current one, what was retained before it stays, and the place is n less
+pub record IsRewound (n : ℕ) (m : Machine) (r : Machine × Reply) : Type 0 where
+  pub state : slice_get (m.trail.current ∷ m.trail.past) n ≡ Some r.0.trail.current
+  pub past : r.0.trail.past ≡ drop n m.trail.past
+  pub place : r.0.trail.place ≡ m.trail.place - n
+  pub reply : r.1 ≡ Place (m.trail.place - n)
+
+-- a step that is answered, under any mark, and a rewind of one lead back to the state and the place before
+abbrev pub UndoesStep : Machine → Type 0
+UndoesStep m = (e : Event) (mark : Mark) (n : Machine) (a : Answer) → 1 ≤ m.keep → acted_under m (Step e, mark) ≡ (n, Answered a)
+    → let r = acted n (Rewind 1) in (r.0.trail.current ≡ m.trail.current) × (r.0.trail.place ≡ m.trail.place) × (r.1 ≡ Place m.trail.place)
+
+-- each rewind of retained steps gives the state of so many steps ago
+abbrev pub RewindsRetained : Machine → Type 0
+RewindsRetained m = (n : ℕ) → n ≤ retained m.trail → IsRewound n m (acted m (Rewind n))
+
+-- to rewind a + b retained steps is to rewind a and then b: the same machine, pins included, and the same reply
+abbrev pub RewindsInParts : Machine → Type 0
+RewindsInParts m = (a b : ℕ) → a + b ≤ retained m.trail → acted (acted m (Rewind a)).0 (Rewind b) ≡ acted m (Rewind (a + b))
+
+-- ---- a list with and without its dumps
+
+-- the replies to the steps and rewinds among these actions, in order
+unfoldable pub replies_beside_dumps : Machine → List (Action × Mark) → List Reply
+replies_beside_dumps m actions = map (λ p. p.1) (filter (λ p. not (is_dump_action p.0.0)) (zip actions (replies_of m actions)))
+
+-- steps and rewinds are answered as without the dumps, and lead to the same trail; the marks may stand there too if they may here
+abbrev pub GoesAsWithoutDumps : Machine → List (Action × Mark) → Type 0
+GoesAsWithoutDumps m actions =
+    let others = without_dumps actions in
+    (replies_beside_dumps m actions ≡ replies_of m others) × LeavesTrail m actions × (AreMarks m actions → AreMarks m others)
+
+-- ---- a pin over a list
+
+-- a pin that was opened before, and isn't lost before the list nor after it, has the place and the image that it had
+abbrev pub KeepsPin : Machine → List (Action × Mark) → ℕ → Type 0
+KeepsPin m actions pin = pin < m.pins.next → (p q : ℕ) (i j : Image) (g h : ℕ)
+    → pin_at pin m.pins ≡ Some (Kept p i g) → pin_at pin (machine_after m actions).pins ≡ Some (Kept q j h) → (q ≡ p) × (j ≡ i)
+
+-- ---- the headline
+
+-- after the list, undoing the last step restores the state before it, and rewinding n retained steps gives the state of n steps
+-- ago; in the list, steps and rewinds go as without its dumps, and what a pin gives is a beginning of the text of the image that
+-- it keeps, all of it once the last piece was given
+pub record Headline (m : Machine) (actions : List (Action × Mark)) : Type 0 where
+  pub undone : UndoesStep (machine_after m actions)
+  pub rewound : RewindsRetained (machine_after m actions) × RewindsInParts (machine_after m actions)
+  pub alike : GoesAsWithoutDumps m actions
+  pub text : (pin time : ℕ) → GivesText m actions pin time
+  pub kept : (pin : ℕ) → KeepsPin m actions pin

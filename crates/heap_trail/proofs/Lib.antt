@@ -30,3 +30,5 @@ pub mod Rewinds
 pub mod Undisturbed
 pub mod PinsKept
 pub mod Together
+pub mod Retracing
+pub mod PinOpened

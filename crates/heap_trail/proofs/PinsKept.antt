@@ -1,7 +1,6 @@
 -- Over a list of actions a pin that isn't lost keeps its place and its image.
 use Rattle.std.proofs.Common.{◌≡◌, ◌⊎◌, ℕ, ◌<◌, List, [], ◌∷◌, sym, ◌∙◌, Some}
 use mathlib.Core.Logic.{inl, inr}
-use Rattle.hprof_text.specs.Image.{Image}
 use Rattle.heap_trail.specs.declared.Action.{Action}
 use Rattle.heap_trail.specs.declared.Action.TheVariants.{Step, Rewind, OpenPin, NextPiece, ClosePin}
 use Rattle.heap_trail.specs.Pins.{Kept, pin_at}

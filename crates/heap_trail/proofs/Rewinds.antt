@@ -12,7 +12,7 @@ use Rattle.heap_trail.specs.declared.Reply.{Reply}
 use Rattle.heap_trail.specs.declared.Reply.TheVariants.{Answered, Place, Refused}
 use Rattle.heap_trail.specs.Trail.{Trail, retained, rewound, state_ago, rewind_refusal}
 use Rattle.heap_trail.specs.Pins.{Pins, PinState, Kept, Gone, if_kept, each_kept, after_rewind, with_lost}
-use Rattle.heap_trail.specs.Machine.{Machine, Mark, Fine, Refusing, Losing, acted, acted_under, unless, after_rewind_by}
+use Rattle.heap_trail.specs.Machine.{Machine, Fine, Refusing, Losing, acted, acted_under, unless, after_rewind_by}
 use Rattle.heap_trail.specs.Headline.{IsRewound, UndoesStep, RewindsRetained, RewindsInParts}
 use Rattle.heap_trail.proofs.Alone.{alike}
 use Rattle.heap_trail.proofs.Back.{leads_back}

@@ -1,10 +1,8 @@
 -- Steps and rewinds of a list are answered as without its dumps.
-use Rattle.std.proofs.Common.{◌≡◌, Bool, true, false, List, [], ◌∷◌, refl, sym, ap, ◌∙◌}
-use Rattle.heap_world.specs.State.{HeapState}
+use Rattle.std.proofs.Common.{◌≡◌, false, List, [], ◌∷◌, refl, sym, ap, ◌∙◌}
 use Rattle.heap_step.specs.Apply.{event_may_grow}
 use Rattle.heap_trail.specs.declared.Action.{Action}
 use Rattle.heap_trail.specs.declared.Action.TheVariants.{Step, Rewind, OpenPin, NextPiece, ClosePin}
-use Rattle.heap_trail.specs.declared.Reply.{Reply}
 use Rattle.heap_trail.specs.Machine.{Machine, Mark, Fine, Refusing, Losing, acted, acted_under, replies_of, is_dump_action, without_dumps, may_grow, is_accepted, MayStand, AreMarks}
 use Rattle.heap_trail.specs.Headline.{replies_beside_dumps, GoesAsWithoutDumps}
 use Rattle.heap_trail.proofs.Alone.{Core, core, bare, alike, core_after, under_core, leaves_trail}

@@ -1,5 +1,5 @@
 -- A rewind over the steps of a list that rewinds nothing leads back to where the list began.
-use Rattle.std.proofs.Common.{◌≡◌, ◌⊎◌, ℕ, zero, suc, ◌+◌, ◌<◌, ◌≤◌, Bool, true, false, List, [], ◌∷◌, length, take, refl, sym, ap, subst, ◌∙◌, Some, None, Result, Ok, Err, arith}
+use Rattle.std.proofs.Common.{◌≡◌, ◌⊎◌, ℕ, zero, suc, ◌+◌, ◌-◌, ◌<◌, ◌≤◌, Bool, true, false, List, [], ◌∷◌, length, take, refl, sym, ap, subst, ◌∙◌, Some, None, Result, Ok, Err, arith}
 use Rattle.std.specs.Prelude.{nat_le, slice_get}
 use Rattle.std.proofs.lemmas.List.Elements.{All-head, All-tail}
 use mathlib.Core.Logic.{inl, inr}
@@ -10,6 +10,7 @@ use Rattle.heap_step.specs.declared.Answer.{Answer}
 use Rattle.heap_step.specs.Apply.{applied}
 use Rattle.heap_trail.specs.declared.Action.{Action}
 use Rattle.heap_trail.specs.declared.Action.TheVariants.{Step, Rewind, OpenPin, NextPiece, ClosePin}
+use Rattle.heap_trail.specs.declared.Reply.TheVariants.{Place}
 use Rattle.heap_trail.specs.Limits.{last_place}
 use Rattle.heap_trail.specs.Trail.{Trail, stepped}
 use Rattle.heap_trail.specs.Machine.{Machine, Mark, Fine, Refusing, Losing, after_result, after_step_at, acted, acted_under, machine_after}
@@ -130,4 +131,5 @@ rewinds_over m later none n few there =
     let r = rewinds_retained after n (omega (arith, within n (after.trail.current ∷ after.trail.past) m.trail.current was)) in
     let same : Some (acted after (Rewind n)).0.trail.current ≡ Some m.trail.current = sym r.state ∙ was in
     let back : (acted after (Rewind n)).0.trail.current ≡ m.trail.current = cc in
-    (back, omega (arith, r.place, there))
+    let place : after.trail.place - n ≡ m.trail.place = omega (arith, there) in
+    (back, r.place ∙ place, r.reply ∙ ap Place place)

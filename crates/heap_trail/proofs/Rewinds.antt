@@ -13,7 +13,7 @@ use Rattle.heap_trail.specs.declared.Reply.TheVariants.{Answered, Place, Refused
 use Rattle.heap_trail.specs.Trail.{Trail, retained, rewound, state_ago, rewind_refusal}
 use Rattle.heap_trail.specs.Pins.{Pins, PinState, Kept, Gone, if_kept, each_kept, after_rewind, with_lost}
 use Rattle.heap_trail.specs.Machine.{Machine, Fine, Refusing, Losing, acted, acted_under, unless, after_rewind_by}
-use Rattle.heap_trail.specs.Headline.{IsRewound, UndoesStep, RewindsRetained, RewindsInParts}
+use Rattle.heap_trail.specs.Headline.{IsRewound, IsBackAt, UndoesStep, RewindsRetained, RewindsInParts}
 use Rattle.heap_trail.proofs.Alone.{alike}
 use Rattle.heap_trail.proofs.Back.{leads_back}
 use Rattle.heap_trail.proofs.Rewinding.{rewound_none, rewound_more, rewind_done}
@@ -35,17 +35,13 @@ place_told : (n : ℕ) (m : Machine) (place : ℕ) → (acted m (Rewind n)).1 �
 unfolding acted
 place_told n m place h = unless_told (rewind_refusal n m.trail) n m place h
 
--- what a rewind of one has to give of n
-abbrev Restores : Machine → Machine → Type 0
-Restores m n = let r = acted n (Rewind 1) in (r.0.trail.current ≡ m.trail.current) × (r.0.trail.place ≡ m.trail.place) × (r.1 ≡ Place m.trail.place)
-
-restored : (m : Machine) (e : Event) (n : Machine) (a : Answer) → 1 ≤ m.keep → acted m (Step e) ≡ (n, Answered a) → Restores m n
+restored : (m : Machine) (e : Event) (n : Machine) (a : Answer) → 1 ≤ m.keep → acted m (Step e) ≡ (n, Answered a) → IsBackAt m (acted n (Rewind 1))
 restored m e n a some done =
     let b = leads_back m e n a some done in
     (b.0, place_told 1 n m.trail.place b.1, b.1)
 
 -- pins that are lost change nothing of it
-restored_losing : (m n : Machine) (pins : Pins) → Restores m n → Restores m (record n { pins = pins })
+restored_losing : (m n : Machine) (pins : Pins) → IsBackAt m (acted n (Rewind 1)) → IsBackAt m (acted (record n { pins = pins }) (Rewind 1))
 restored_losing m n pins r =
     let with_pins : Machine = record n { pins = pins } in
     let x = alike n.ids with_pins (Rewind 1) refl in
@@ -64,7 +60,7 @@ undoes_step m e (Losing pins) n a some done =
     let r = acted m (Step e) in
     let answered : r.1 ≡ Answered a = ap (λ (p : Machine × Reply). p.1) done in
     let is : record r.0 { pins = with_lost pins r.0.pins } ≡ n = ap (λ (p : Machine × Reply). p.0) done in
-    subst (Restores m) is (restored_losing m r.0 (with_lost pins r.0.pins) (restored m e r.0 a some (λ i. (r.0, answered i))))
+    subst (λ x. IsBackAt m (acted x (Rewind 1))) is (restored_losing m r.0 (with_lost pins r.0.pins) (restored m e r.0 a some (λ i. (r.0, answered i))))
 
 -- ---- several steps
 

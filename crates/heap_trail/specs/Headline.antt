@@ -3,12 +3,12 @@ use Rattle.std.specs.Prelude.{◌≡◌, ℕ, ◌+◌, ◌-◌, ◌<◌, ◌≤�
 use Rattle.heap_step.specs.declared.Event.{Event}
 use Rattle.heap_step.specs.declared.Answer.{Answer}
 use Rattle.hprof_text.specs.Image.{Image}
+use Rattle.heap_pins.specs.Images.{image_of}
 use Rattle.heap_trail.specs.declared.Action.{Action}
 use Rattle.heap_trail.specs.declared.Action.TheVariants.{Step, Rewind, OpenPin}
 use Rattle.heap_trail.specs.declared.Reply.{Reply}
 use Rattle.heap_trail.specs.declared.Reply.TheVariants.{Answered, Place, Pinned}
 use Rattle.heap_trail.specs.Trail.{retained, state_ago}
-use Rattle.heap_pins.specs.Images.{image_of}
 use Rattle.heap_trail.specs.Pins.{Kept, AreNumbered, pin_at}
 use Rattle.heap_trail.specs.Machine.{Machine, Mark, AreMarks, acted, acted_under, machine_after, replies_of, is_dump_action, without_dumps}
 use Rattle.heap_trail.specs.Laws.{GivesText, LeavesTrail}
@@ -22,10 +22,14 @@ pub record IsRewound (n : ℕ) (m : Machine) (r : Machine × Reply) : Type 0 whe
   pub place : r.0.trail.place ≡ m.trail.place - n
   pub reply : r.1 ≡ Place (m.trail.place - n)
 
+-- this machine and this reply are back at the state and the place of m
+abbrev pub IsBackAt : Machine → Machine × Reply → Type 0
+IsBackAt m r = (r.0.trail.current ≡ m.trail.current) × (r.0.trail.place ≡ m.trail.place) × (r.1 ≡ Place m.trail.place)
+
 -- a step that is answered, under any mark, and a rewind of one lead back to the state and the place before
 abbrev pub UndoesStep : Machine → Type 0
-UndoesStep m = (e : Event) (mark : Mark) (n : Machine) (a : Answer) → 1 ≤ m.keep → acted_under m (Step e, mark) ≡ (n, Answered a)
-    → let r = acted n (Rewind 1) in (r.0.trail.current ≡ m.trail.current) × (r.0.trail.place ≡ m.trail.place) × (r.1 ≡ Place m.trail.place)
+UndoesStep m = (e : Event) (mark : Mark) (n : Machine) (a : Answer)
+    → 1 ≤ m.keep → acted_under m (Step e, mark) ≡ (n, Answered a) → IsBackAt m (acted n (Rewind 1))
 
 -- each rewind of retained steps gives the state of so many steps ago
 abbrev pub RewindsRetained : Machine → Type 0
@@ -42,10 +46,12 @@ is_rewind a = false
 abbrev pub HasNoRewind : List (Action × Mark) → Type 0
 HasNoRewind actions = All (λ a. is_rewind a.0 ≡ false) actions
 
--- actions that rewind nothing, and lead n places on, at most `keep`: a rewind of n leads back to the state and the place before them
+-- after actions that rewind nothing and lead n places on, at most `keep`, a rewind of n leads back to the state and the place
+-- before them
 abbrev pub RewindsOver : Machine → List (Action × Mark) → Type 0
-RewindsOver m later = HasNoRewind later → (n : ℕ) → n ≤ m.keep → (machine_after m later).trail.place ≡ m.trail.place + n
-    → let r = acted (machine_after m later) (Rewind n) in (r.0.trail.current ≡ m.trail.current) × (r.0.trail.place ≡ m.trail.place)
+RewindsOver m later = HasNoRewind later → (n : ℕ)
+    → n ≤ m.keep → (machine_after m later).trail.place ≡ m.trail.place + n
+    → IsBackAt m (acted (machine_after m later) (Rewind n))
 
 -- ---- a list with and without its dumps
 
@@ -53,7 +59,8 @@ RewindsOver m later = HasNoRewind later → (n : ℕ) → n ≤ m.keep → (mach
 unfoldable pub replies_beside_dumps : Machine → List (Action × Mark) → List Reply
 replies_beside_dumps m actions = map (λ p. p.1) (filter (λ p. not (is_dump_action p.0.0)) (zip actions (replies_of m actions)))
 
--- steps and rewinds are answered as without the dumps, and lead to the same trail; the marks may stand there too if they may here
+-- steps and rewinds are answered as without the dumps, and lead to the same trail; marks that may stand with them may stand
+-- without them
 abbrev pub GoesAsWithoutDumps : Machine → List (Action × Mark) → Type 0
 GoesAsWithoutDumps m actions =
     let others = without_dumps actions in
@@ -74,7 +81,7 @@ KeepsPin m actions pin = pin < m.pins.next → (p q : ℕ) (i j : Image) (g h : 
 
 -- ---- the headline
 
--- after the list, undoing the last step restores the state before it, rewinding n retained steps gives the state of n steps ago,
+-- after the list, undoing the last step restores the state before it, rewinding n retained steps gives the state n steps ago,
 -- and a pin that is opened shows the state at its place; in the list, steps and rewinds go as without its dumps, and what a pin
 -- gives is a beginning of the text of the image that it keeps, all of it once the last piece was given
 pub record Headline (m : Machine) (actions : List (Action × Mark)) : Type 0 where

@@ -367,9 +367,9 @@ pub fn dumps_are_text()
 {}
 
 /// States that after every list of actions undoing the last retained step restores the whole state before it, rewinding n
-/// retained steps, at once or in parts, gives the state n steps ago, and a pin that is opened shows the state at its place; that
-/// in the list steps and rewinds go as without its dumps; and that what a pin gives, also if it is closed, lost or left in the
-/// middle, is a beginning of the text of its image, which it keeps, and all of it once its last piece was given.
+/// retained steps, at once or in parts, gives the state n steps ago, and a pin that is opened shows the state at its place;
+/// that in the list steps and rewinds go as without its dumps; and that what a pin gives, also if it is closed, lost or left in
+/// the middle, is a beginning of the text of its image, which it keeps, and all of it once its last piece was given.
 pub fn headline()
     ensures { (m : Machine) (actions : List (Action × Mark)) → Headline m actions }
 {}

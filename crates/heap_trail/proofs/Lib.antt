@@ -26,3 +26,9 @@ pub mod PieceGiven
 pub mod ByTrail
 pub mod TextGiven
 pub mod Numbered
+pub mod Rewinds
+pub mod Undisturbed
+pub mod PinsKept
+pub mod Together
+pub mod Retracing
+pub mod PinOpened

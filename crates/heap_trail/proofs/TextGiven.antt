@@ -85,7 +85,7 @@ opened_list pin (x ∷ xs) y ne = go (x.0 == pin) (opened_list pin xs y ne)
 
 -- ---- a pin is as it was, or it is no longer kept
 
-abbrev NotKept : Option PinState → Type 0
+abbrev pub NotKept : Option PinState → Type 0
 NotKept x = (p : ℕ) (i : Image) (g : ℕ) → x ≡ Some (Kept p i g) → ⊥
 
 abbrev Fate : Option PinState → Option PinState → Type 0
@@ -356,7 +356,7 @@ own_moves pin time m (Losing pins) place image g here =
     let f : Fate (pin_at pin (acted m (NextPiece pin time)).0.pins) (pin_at pin (with_lost pins (acted m (NextPiece pin time)).0.pins)) = lost_pins_fate pins pin (acted m (NextPiece pin time)).0.pins in
     record { given = o.0; after = kept_or_not _ _ place image o.0 f o.1; bytes = o.2; last = o.3 }
 
-moves : (pin time : ℕ) (m : Machine) (a : Action) (k : Mark) (place : ℕ) (image : Image) (g : ℕ) → pin < m.pins.next → AsksAt pin time a → pin_at pin m.pins ≡ Some (Kept place image g) → Moves pin time m (a, k) place image g
+pub moves : (pin time : ℕ) (m : Machine) (a : Action) (k : Mark) (place : ℕ) (image : Image) (g : ℕ) → pin < m.pins.next → AsksAt pin time a → pin_at pin m.pins ≡ Some (Kept place image g) → Moves pin time m (a, k) place image g
 moves pin time m (NextPiece n t) k place image g lt asks here = go (same_or_not n pin)
   where
     go : (n ≡ pin) ⊎ (n ≢ pin) → Moves pin time m (NextPiece n t, k) place image g
@@ -414,7 +414,7 @@ own_silent pin time m (Losing pins) n =
     let g = refused_none pin time (acted m (NextPiece pin time)).1 r.1 r.2 in
     record { bytes = g.0; last = g.1; after = still_not _ _ (subst (λ (x : Machine). NotKept (pin_at pin x.pins)) (sym r.0) n) (lost_pins_fate pins pin (acted m (NextPiece pin time)).0.pins) }
 
-silent : (pin : ℕ) (m : Machine) (a : Action) (k : Mark) → pin < m.pins.next → NotKept (pin_at pin m.pins) → Silent pin m (a, k)
+pub silent : (pin : ℕ) (m : Machine) (a : Action) (k : Mark) → pin < m.pins.next → NotKept (pin_at pin m.pins) → Silent pin m (a, k)
 silent pin m (NextPiece n t) k lt not = go (same_or_not n pin)
   where
     go : (n ≡ pin) ⊎ (n ≢ pin) → Silent pin m (NextPiece n t, k)
@@ -427,7 +427,7 @@ silent pin m (ClosePin n) k lt not = other_silent pin m (ClosePin n) k lt tt not
 
 -- ---- a list of actions
 
-rises : (pin : ℕ) (m : Machine) (a : Action) (k : Mark) → pin < m.pins.next → pin < (acted_under m (a, k)).0.pins.next
+pub rises : (pin : ℕ) (m : Machine) (a : Action) (k : Mark) → pin < m.pins.next → pin < (acted_under m (a, k)).0.pins.next
 rises pin m a k lt = omega (arith, lt, (marked_goes m a k).next)
 
 all_silent : (pin : ℕ) (m : Machine) (actions : List (Action × Mark)) → pin < m.pins.next → NotKept (pin_at pin m.pins) → (bytes_given pin m actions ≡ []) × (gave_last pin m actions ≡ false)

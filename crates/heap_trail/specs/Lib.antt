@@ -8,3 +8,4 @@ pub mod Records
 pub mod Past
 pub mod Examples
 pub mod Opened
+pub mod Headline

@@ -12,6 +12,7 @@ ghost use Rattle.heap_world.specs.State.{HeapState};
 ghost use Rattle.heap_world.specs.Legal.{IsLegal};
 ghost use Rattle.heap_trail.specs.declared.Action.TheVariants.{OpenPin, Step, Rewind};
 ghost use Rattle.heap_trail.specs.declared.Reply.TheVariants.{Answered, Pinned, Place, Refused};
+ghost use Rattle.heap_trail.specs.Headline.{Headline};
 ghost use Rattle.heap_trail.specs.Laws.{FindsSnapshot, IsTrail, GivesText, KeepsImage, DumpIsWhole, LeadsBack, LeavesTrail, ReachesLive, SparesReached};
 ghost use Rattle.heap_trail.specs.Machine.{IsSmall, Machine, Mark, MayFail, MayReply, acted, is_dump_action, opening_machine};
 ghost use Rattle.heap_trail.specs.Slots.{AreAllBelow, EachMayKeep, EachSized, slot_after_rewind};
@@ -363,4 +364,12 @@ pub fn dump_is_whole()
 /// its image, and all of it once the last piece was given.
 pub fn dumps_are_text()
     ensures { (m : Machine) (actions : List (Action × Mark)) (pin time : ℕ) → GivesText m actions pin time }
+{}
+
+/// States that after every list of actions undoing the last retained step restores the whole state before it, rewinding n
+/// retained steps, at once or in parts, gives the state n steps ago, and a pin that is opened shows the state at its place;
+/// that in the list steps and rewinds go as without its dumps; and that what a pin gives, also if it is closed, lost or left in
+/// the middle, is a beginning of the text of its image, which it keeps, and all of it once its last piece was given.
+pub fn headline()
+    ensures { (m : Machine) (actions : List (Action × Mark)) → Headline m actions }
 {}

@@ -39,10 +39,10 @@ use Rattle.session_text.proofs.Talking.{served_fails}
 abbrev is_lf : ℕ → Bool
 is_lf b = b == 10
 
-abbrev parts : List ℕ → List (List ℕ)
+abbrev pub parts : List ℕ → List (List ℕ)
 parts bytes = slice_split (λ b. b == 10) bytes
 
-abbrev talk : Machine → List Mark → List ℕ → Talk
+abbrev pub talk : Machine → List Mark → List ℕ → Talk
 talk m marks w = record { machine = m; marks = marks; written = w }
 
 -- what a machine of one's own may do
@@ -184,7 +184,7 @@ goes_on time k c text d f ms w more =
     let t = talk c.machine (f.found ++ ms) w in
     ap (λ b. if b then (t, Quit) else more (after_command time k t)) f.no_end ∙ ap more (f.after ms w)
 
-is_refused : (m : Machine) (a : Action) → acted_under m (a, Refusing) ≡ (m, Refused NoMemory)
+pub is_refused : (m : Machine) (a : Action) → acted_under m (a, Refusing) ≡ (m, Refused NoMemory)
 unfolding acted_under
 is_refused m a = refl
 
@@ -238,7 +238,7 @@ follows time End c text d h = absurd h
 
 -- ---- lines
 
-not_long : (n : ℕ) → n ≤ 4096 → nat_lt 4096 n ≡ false
+pub not_long : (n : ℕ) → n ≤ 4096 → nat_lt 4096 n ≡ false
 not_long n h = grind (arith, nat_tests)
 
 long : (n : ℕ) → 4096 < n → nat_lt 4096 n ≡ true
@@ -251,7 +251,7 @@ more_parts : (time : ℕ) (e : ReadEnd) (l : List ℕ) (ls : List (List ℕ)) (t
 more_parts time e l [] t some h = absurd (omega arith)
 more_parts time e l (m ∷ ms) t some h = ap (λ b. if b then at_long t else go_on (talked time e (m ∷ ms)) time (command_of l) t) (not_long (length l) h)
 
-line_then : (time : ℕ) (e : ReadEnd) (l ys : List ℕ) (t : Talk) → IsLine l → talked time e (parts (l ++ 10 ∷ ys)) t ≡ go_on (talked time e (parts ys)) time (command_of l) t
+pub line_then : (time : ℕ) (e : ReadEnd) (l ys : List ℕ) (t : Talk) → IsLine l → talked time e (parts (l ++ 10 ∷ ys)) t ≡ go_on (talked time e (parts ys)) time (command_of l) t
 line_then time e l ys t h = ap (λ ls. talked time e ls t) (slice_split_at is_lf l 10 ys h.no_lf refl) ∙ more_parts time e l (parts ys) t (omega (arith, length-slice_split is_lf ys)) h.most
 
 more_fit : (time : ℕ) (l : List ℕ) (ls : List (List ℕ)) (t : Talk) → FitsCommand time (command_of l) t → FitLines time ls (after_command time (command_of l) t) → FitLines time (l ∷ ls) t
@@ -295,7 +295,7 @@ passes time (l ∷ ls) c text d t =
 
 -- ---- endings
 
-alone : (time : ℕ) (e : ReadEnd) (rest : List ℕ) (t : Talk) → IsLine rest → talked time e (parts rest) t ≡ at_end e (length rest == 0) t
+pub alone : (time : ℕ) (e : ReadEnd) (rest : List ℕ) (t : Talk) → IsLine rest → talked time e (parts rest) t ≡ at_end e (length rest == 0) t
 alone time e rest t h = ap (λ ls. talked time e ls t) (slice_split_none is_lf rest h.no_lf) ∙ ap (λ b. if b then at_long t else at_end e (length rest == 0) t) (not_long (length rest) h.most)
 
 -- the first part, and the others
@@ -326,12 +326,12 @@ long_first : (time : ℕ) (e : ReadEnd) (l : List ℕ) (ls : List (List ℕ)) (t
 long_first time e l [] t h = ap (λ b. if b then at_long t else at_end e (length l == 0) t) (long (length l) h)
 long_first time e l (m ∷ ms) t h = ap (λ b. if b then at_long t else go_on (talked time e (m ∷ ms)) time (command_of l) t) (long (length l) h)
 
-too_long : (time : ℕ) (e : ReadEnd) (rest : List ℕ) (t : Talk) → IsLong rest → talked time e (parts rest) t ≡ at_long t
+pub too_long : (time : ℕ) (e : ReadEnd) (rest : List ℕ) (t : Talk) → IsLong rest → talked time e (parts rest) t ≡ at_long t
 too_long time e rest t h =
     let f = first_part 4097 rest (omega (arith, h.0)) h.1 in
     ap (λ ls. talked time e ls t) f.are ∙ long_first time e f.first f.others t (omega (arith, f.least))
 
-quits : (time : ℕ) (e : ReadEnd) (rest : List ℕ) (t : Talk) → IsQuit rest → talked time e (parts rest) t ≡ (t, Quit)
+pub quits : (time : ℕ) (e : ReadEnd) (rest : List ℕ) (t : Talk) → IsQuit rest → talked time e (parts rest) t ≡ (t, Quit)
 quits time e rest t q = ap (λ bs. talked time e (parts bs) t) q.1.2 ∙ line_then time e q.0 q.1.1 t q.1.0 ∙ ap (λ k. go_on (talked time e (parts q.1.1)) time k t) q.2
 
 -- how reading ended, where an ending says it

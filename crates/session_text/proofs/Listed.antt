@@ -27,7 +27,7 @@ use Rattle.session_text.specs.Lines.{NoLf}
 use Rattle.session_text.specs.Replies.{reply_text, data_lines, piece_in, pin_in}
 use Rattle.session_text.specs.Session.{Talk, wrote, mark_of, done_quietly, after_reply, dumped, closed, after_open, after_up_to, after_command, is_end, FitsRest, FitsDump, FitsOpen, FitsCommand, FitLines, MarksFit, at_end, at_long, talked, session_of, CutsLine, CutsEnd, CutsPage, StopsAfter}
 use Rattle.session_text.specs.Talks.{IsLine, IsLong, Talks, stream, IsTalk, IsQuit, BeginsWith}
-use Rattle.session_text.proofs.Sessions.{parts, talk, is_refused, not_long, line_then, alone, too_long, quits}
+use Rattle.session_text.proofs.Sessions.{parts, talk, is_refused, not_zero, line_then, alone, too_long, quits}
 
 -- ---- one action more
 
@@ -391,3 +391,116 @@ session_listed m marks time bytes e fit =
     let t = talk m marks [] in
     let g : LinesListed time bytes m [] t (talked time e (parts bytes) t) = subst (λ x. LinesListed time x m [] t (talked time e (parts x) t)) (sym u.are) (lines_listed time e u.lines u.rest u.each u.none m [] t (none_lead m) (subst (λ x. FitLines time (parts x) t) u.are fit)) in
     (g.text, record { actions = g.after; marks = g.leads.1; rest = g.rest; talk = record { lines = g.lines; are = g.are; talks = g.talks }; stop = g.stop; machine = g.leads.0 }, g.written)
+
+-- ---- where a write failed
+
+abbrev is_eof : Ended → Bool
+is_eof Eof = true
+is_eof Quit = false
+is_eof CutLine = false
+is_eof TooLong = false
+is_eof ReadFault = false
+is_eof TooManyReads = false
+is_eof WriteFault = false
+is_eof NoRoom = false
+
+-- an ending that isn't Eof
+other_end : {A : Type 0} (t : Talk) (s : Talk × Ended) → s ≡ (t, Eof) → is_eof s.1 ≡ false → A
+other_end t s eof other = absurd (true≢false (sym (ap (λ (x : Talk × Ended). is_eof x.1) eof) ∙ other))
+
+-- all lines were answered, and left t
+record WholeListed (time : ℕ) (bytes rest : List ℕ) (m : Machine) (before : List (Action × Mark)) (t : Talk) : Type 0 where
+  lines : List (List ℕ)
+  text : List ℕ
+  after : List (Action × Mark)
+  are : bytes ≡ stream lines
+  talks : Talks (Answers (InTurn m) time) lines before text after
+  leads : Leads m t.machine after
+  fit : FitLines time (parts rest) t
+
+-- nothing is left before the rest
+end_whole : (time : ℕ) (left rest : List ℕ) (m : Machine) (before : List (Action × Mark)) (u t : Talk) → Leads m u.machine before → FitLines time (parts (left ++ rest)) u → at_end Over (length left == 0) u ≡ (t, Eof) → WholeListed time left rest m before t
+end_whole time [] rest m before u t lead h eof =
+    let same : u ≡ t = ap (λ (x : Talk × Ended). x.0) eof in
+    record { lines = []; text = []; after = before; are = refl; talks = (refl, refl); leads = subst (λ (x : Talk). Leads m x.machine before) same lead; fit = subst (λ x. FitLines time (parts rest) x) same h }
+end_whole time (b ∷ bs) rest m before u t lead h eof = other_end t (at_end Over (length (b ∷ bs) == 0) u) eof (ap (λ x. is_eof (at_end Over x u).1) (not_zero (length (b ∷ bs)) (omega arith)))
+
+rest_whole : (time : ℕ) (left rest : List ℕ) (m : Machine) (before : List (Action × Mark)) (u t : Talk) → NoLf left → Leads m u.machine before → FitLines time (parts (left ++ rest)) u → talked time Over (parts left) u ≡ (t, Eof) → (b : Bool) → nat_lt 4096 (length left) ≡ b
+    → WholeListed time left rest m before t
+rest_whole time left rest m before u t none lead h eof true is = other_end t (at_long u) (sym (too_long time Over left u (long_rest left (is_long (length left) is) none)) ∙ eof) refl
+rest_whole time left rest m before u t none lead h eof false is = end_whole time left rest m before u t lead h (sym (alone time Over left u (record { most = is_short (length left) is; no_lf = none })) ∙ eof)
+
+line_whole : (time : ℕ) (l ys rest : List ℕ) (m : Machine) (before : List (Action × Mark)) (u t : Talk) → IsLine l → Leads m u.machine before → FitLines time (parts (l ++ 10 ∷ (ys ++ rest))) u → talked time Over (parts (l ++ 10 ∷ ys)) u ≡ (t, Eof)
+    → ((after : List (Action × Mark)) (v : Talk) → Leads m v.machine after → FitLines time (parts (ys ++ rest)) v → talked time Over (parts ys) v ≡ (t, Eof) → WholeListed time ys rest m after t)
+    → (b : Bool) → is_end (command_of l) ≡ b → WholeListed time (l ++ 10 ∷ ys) rest m before t
+line_whole time l ys rest m before u t line lead h eof ih true end =
+    other_end t (u, Quit) (sym (quits time Over (l ++ 10 ∷ ys) u (l, (line, ys, refl), ends (command_of l) end)) ∙ eof) refl
+line_whole time l ys rest m before u t line lead h eof ih false isnt =
+    let fit = line_fits time l (ys ++ rest) u line.no_lf h in
+    let a = answer_listed time (command_of l) m before u isnt lead fit.0 in
+    let g = ih a.after (after_command time (command_of l) u) a.leads fit.1 (sym (goes_on time Over l ys u line isnt) ∙ eof) in
+    record {
+      lines = l ∷ g.lines;
+      text = a.text ++ g.text;
+      after = g.after;
+      are = ap (λ x. l ++ 10 ∷ x) g.are ∙ sym (append_assoc l (10 ∷ []) (stream g.lines));
+      talks = (a.text, a.after, g.text, line, a.answers, g.talks, refl);
+      leads = g.leads;
+      fit = g.fit;
+    }
+
+any_line_whole : (time : ℕ) (l ys rest : List ℕ) (m : Machine) (before : List (Action × Mark)) (u t : Talk) → NoLf l → Leads m u.machine before → FitLines time (parts (l ++ 10 ∷ (ys ++ rest))) u → talked time Over (parts (l ++ 10 ∷ ys)) u ≡ (t, Eof)
+    → ((after : List (Action × Mark)) (v : Talk) → Leads m v.machine after → FitLines time (parts (ys ++ rest)) v → talked time Over (parts ys) v ≡ (t, Eof) → WholeListed time ys rest m after t)
+    → (b : Bool) → nat_lt 4096 (length l) ≡ b → WholeListed time (l ++ 10 ∷ ys) rest m before t
+any_line_whole time l ys rest m before u t none lead h eof ih true is = other_end t (at_long u) (sym (too_long time Over (l ++ 10 ∷ ys) u (long_line l ys (is_long (length l) is) none)) ∙ eof) refl
+any_line_whole time l ys rest m before u t none lead h eof ih false is = line_whole time l ys rest m before u t (record { most = is_short (length l) is; no_lf = none }) lead h eof ih (is_end (command_of l)) refl
+
+whole_listed : (time : ℕ) (ls : List (List ℕ)) (left rest : List ℕ) → All NoLf ls → NoLf left → (m : Machine) (before : List (Action × Mark)) (u t : Talk) → Leads m u.machine before → FitLines time (parts ((stream ls ++ left) ++ rest)) u
+    → talked time Over (parts (stream ls ++ left)) u ≡ (t, Eof) → WholeListed time (stream ls ++ left) rest m before t
+whole_listed time [] left rest each none m before u t lead h eof = rest_whole time left rest m before u t none lead h eof (nat_lt 4096 (length left)) refl
+whole_listed time (l ∷ ls) left rest each none m before u t lead h eof =
+    let ys = stream ls ++ left in
+    let is = apart l ls left in
+    let all : (stream (l ∷ ls) ++ left) ++ rest ≡ l ++ 10 ∷ (ys ++ rest) = ap (λ x. x ++ rest) is ∙ append_assoc l (10 ∷ ys) rest in
+    subst (λ x. WholeListed time x rest m before t) (sym is)
+    (any_line_whole time l ys rest m before u t (All-head NoLf l ls each) lead (subst (λ x. FitLines time (parts x) u) all h) (subst (λ x. talked time Over (parts x) u ≡ (t, Eof)) is eof)
+      (λ after v s f g. whole_listed time ls left rest (All-tail NoLf l ls each) none m after v t s f g) (nat_lt 4096 (length l)) refl)
+
+-- the machine after the lines that were answered, and after one that was begun
+record StopListed (time : ℕ) (rest : List ℕ) (m : Machine) (before : List (Action × Mark)) (m' : Machine) : Type 0 where
+  after : List (Action × Mark)
+  begun : (after ≡ before) ⊎ ((l : List ℕ) × (tail : List ℕ) × BeginsWith l rest × Begins (InTurn m) time (command_of l) before tail after)
+  leads : Leads m m' after
+
+line_begun : (time : ℕ) (l rest : List ℕ) (m : Machine) (before after : List (Action × Mark)) → BeginsWith l rest → (after ≡ before) ⊎ ((tail : List ℕ) × Begins (InTurn m) time (command_of l) before tail after)
+    → (after ≡ before) ⊎ ((l : List ℕ) × (tail : List ℕ) × BeginsWith l rest × Begins (InTurn m) time (command_of l) before tail after)
+line_begun time l rest m before after starts (inl same) = inl same
+line_begun time l rest m before after starts (inr (tail, begins)) = inr (l, tail, starts, begins)
+
+cut_listed : (time : ℕ) (rest : List ℕ) (m start : Machine) (marks : List Mark) (bytes : List ℕ) (e : ReadEnd) (before : List (Action × Mark)) (t : Talk) (out : List ℕ) (m' : Machine) → Leads m t.machine before → FitLines time (parts rest) t
+    → CutsLine time rest t out m' ⊎ (CutsEnd start marks time bytes e t out m' ⊎ CutsPage rest t out m') → StopListed time rest m before m'
+cut_listed time rest m start marks bytes e before t out m' lead h (inl (l, starts, pieces, le, is, cut)) =
+    let fit = line_fits time l starts.1 t starts.0.no_lf (subst (λ x. FitLines time (parts x) t) starts.2 h) in
+    let g = begun_listed pieces time (command_of l) m before t le lead fit.0 in
+    record { after = g.after; begun = line_begun time l rest m before g.after starts g.begun; leads = subst (λ (x : Machine). Leads m x g.after) (sym is) g.leads }
+cut_listed time rest m start marks bytes e before t out m' lead h (inr (inl (whole, ended, shows, is, cut))) = record { after = before; begun = inl refl; leads = subst (λ (x : Machine). Leads m x before) (sym is) lead }
+cut_listed time rest m start marks bytes e before t out m' lead h (inr (inr (line, is, cut))) = record { after = before; begun = inl refl; leads = subst (λ (x : Machine). Leads m x before) (sym is) lead }
+
+pub cut_session_listed : (m : Machine) (marks : List Mark) (time : ℕ) (bytes : List ℕ) (e : ReadEnd) (out : List ℕ) (m' : Machine) → IsCutListed m marks time bytes e out m'
+unfolding session_of
+cut_session_listed m marks time bytes e out m' fit (lines, rest, t, are, eof, stops) =
+    let u = unsplit lines in
+    let start = talk m marks [] in
+    let h = subst (λ x. FitLines time (parts (x ++ rest)) start) u.are (subst (λ x. FitLines time (parts x) start) are fit) in
+    let g = whole_listed time u.lines u.rest rest u.each u.none m [] start t (none_lead m) h (subst (λ x. talked time Over (parts x) start ≡ (t, Eof)) u.are eof) in
+    let c = cut_listed time rest m m marks bytes e g.after t out m' g.leads g.fit stops in
+    record {
+      actions = c.after;
+      marks = c.leads.1;
+      answered = g.after;
+      rest = rest;
+      text = g.text;
+      talk = record { lines = g.lines; are = are ∙ ap (λ x. x ++ rest) (u.are ∙ g.are); talks = g.talks };
+      begun = c.begun;
+      machine = c.leads.0;
+    }

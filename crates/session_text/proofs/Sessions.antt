@@ -238,13 +238,13 @@ follows time End c text d h = absurd h
 
 -- ---- lines
 
-pub not_long : (n : ℕ) → n ≤ 4096 → nat_lt 4096 n ≡ false
+not_long : (n : ℕ) → n ≤ 4096 → nat_lt 4096 n ≡ false
 not_long n h = grind (arith, nat_tests)
 
 long : (n : ℕ) → 4096 < n → nat_lt 4096 n ≡ true
 long n h = grind (arith, nat_tests)
 
-not_zero : (n : ℕ) → 0 < n → (n == 0) ≡ false
+pub not_zero : (n : ℕ) → 0 < n → (n == 0) ≡ false
 not_zero n h = grind (arith, nat_tests)
 
 more_parts : (time : ℕ) (e : ReadEnd) (l : List ℕ) (ls : List (List ℕ)) (t : Talk) → 0 < length ls → length l ≤ 4096 → talked time e (l ∷ ls) t ≡ go_on (talked time e ls) time (command_of l) t

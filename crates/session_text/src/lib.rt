@@ -4,7 +4,7 @@
 ghost use Rattle.std.specs.Prelude.{◌≡◌, ℕ, List};
 ghost use Rattle.heap_trail.specs.Machine.{Machine, Mark};
 ghost use Rattle.session_text.specs.declared.ReadEnd.{ReadEnd};
-ghost use Rattle.session_text.specs.Laws.{IsListed};
+ghost use Rattle.session_text.specs.Laws.{IsListed, IsCutListed};
 ghost use Rattle.session_text.specs.Limits.{is_whole};
 
 mod answer;
@@ -82,4 +82,10 @@ impl Ended {
 /// machine that they lead to, and it writes their replies and what its ending prints.
 pub fn session_is_list()
     ensures { (m : Machine) (marks : List Mark) (time : ℕ) (bytes : List ℕ) (e : ReadEnd) → IsListed m marks time bytes e }
+{}
+
+/// The law that such a session in which a write failed leaves the machine of a list of actions too: those of the lines before one,
+/// and some of that one's, in the order in which it asks for them. A dump of the current state has closed its pin.
+pub fn cut_session_is_list()
+    ensures { (m : Machine) (marks : List Mark) (time : ℕ) (bytes : List ℕ) (e : ReadEnd) (out : List ℕ) (left : Machine) → IsCutListed m marks time bytes e out left }
 {}

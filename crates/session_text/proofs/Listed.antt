@@ -1,5 +1,5 @@
 -- The actions of a session, in turn.
-use Rattle.std.proofs.Common.{◌≡◌, ℕ, zero, suc, ◌+◌, ◌<◌, ◌≤◌, ◌⊎◌, inl, inr, Bool, true, false, List, [], ◌∷◌, ◌++◌, take, length, refl, ap, sym, ◌∙◌, subst, arith, append_assoc, length-append, Option, Some, None, true≢false}
+use Rattle.std.proofs.Common.{◌≡◌, ℕ, zero, suc, ◌+◌, ◌<◌, ◌≤◌, ◌⊎◌, inl, inr, Bool, true, false, List, [], ◌∷◌, ◌++◌, length, refl, ap, sym, ◌∙◌, subst, arith, append_assoc, length-append, Option, Some, None, true≢false}
 use Rattle.std.specs.Prelude.{codes, nat_lt, All, if◌then◌else◌}
 use Rattle.std.specs.Bool.{◌==◌}
 use Rattle.std.proofs.lemmas.List.{append-nil, take-append-le}
@@ -22,11 +22,11 @@ use Rattle.session_text.specs.declared.command.Command.TheVariants.{Blank, Bad, 
 use Rattle.session_text.specs.Answers.{Answers, Begins}
 use Rattle.session_text.specs.Dumps.{Goes, Dumps, ClosesAfter, total_line, piece_limit}
 use Rattle.session_text.specs.Grammar.{command_of}
-use Rattle.session_text.specs.Laws.{InTurn, IsStop, ending_line, IsList, IsListed, IsCutList, IsCutListed}
+use Rattle.session_text.specs.Laws.{InTurn, IsStop, ending_line, IsBegun, IsListed, IsCutListed}
 use Rattle.session_text.specs.Lines.{NoLf}
 use Rattle.session_text.specs.Replies.{reply_text, data_lines, piece_in, pin_in}
-use Rattle.session_text.specs.Session.{Talk, wrote, mark_of, done_quietly, after_reply, dumped, closed, after_open, after_up_to, after_command, is_end, FitsRest, FitsDump, FitsOpen, FitsCommand, FitLines, MarksFit, at_end, at_long, talked, session_of, CutsLine, CutsEnd, CutsPage, StopsAfter}
-use Rattle.session_text.specs.Talks.{IsLine, IsLong, Talks, stream, IsTalk, IsQuit, BeginsWith}
+use Rattle.session_text.specs.Session.{Talk, wrote, mark_of, done_quietly, after_reply, dumped, after_open, after_up_to, after_command, is_end, FitsRest, FitsDump, FitsOpen, FitsCommand, FitLines, at_end, at_long, talked, session_of, CutsLine, CutsEnd, CutsPage}
+use Rattle.session_text.specs.Talks.{IsLine, IsLong, Talks, stream, IsQuit, BeginsWith}
 use Rattle.session_text.proofs.Sessions.{parts, talk, is_refused, not_zero, line_then, alone, too_long, quits}
 
 -- ---- one action more
@@ -464,16 +464,16 @@ whole_listed time (l ∷ ls) left rest each none m before u t lead h eof =
     let all : (stream (l ∷ ls) ++ left) ++ rest ≡ l ++ 10 ∷ (ys ++ rest) = ap (λ x. x ++ rest) is ∙ append_assoc l (10 ∷ ys) rest in
     subst (λ x. WholeListed time x rest m before t) (sym is)
     (any_line_whole time l ys rest m before u t (All-head NoLf l ls each) lead (subst (λ x. FitLines time (parts x) u) all h) (subst (λ x. talked time Over (parts x) u ≡ (t, Eof)) is eof)
-      (λ after v s f g. whole_listed time ls left rest (All-tail NoLf l ls each) none m after v t s f g) (nat_lt 4096 (length l)) refl)
+    (λ after v s f g. whole_listed time ls left rest (All-tail NoLf l ls each) none m after v t s f g) (nat_lt 4096 (length l)) refl)
 
 -- the machine after the lines that were answered, and after one that was begun
 record StopListed (time : ℕ) (rest : List ℕ) (m : Machine) (before : List (Action × Mark)) (m' : Machine) : Type 0 where
   after : List (Action × Mark)
-  begun : (after ≡ before) ⊎ ((l : List ℕ) × (tail : List ℕ) × BeginsWith l rest × Begins (InTurn m) time (command_of l) before tail after)
+  begun : IsBegun m time rest before after
   leads : Leads m m' after
 
 line_begun : (time : ℕ) (l rest : List ℕ) (m : Machine) (before after : List (Action × Mark)) → BeginsWith l rest → (after ≡ before) ⊎ ((tail : List ℕ) × Begins (InTurn m) time (command_of l) before tail after)
-    → (after ≡ before) ⊎ ((l : List ℕ) × (tail : List ℕ) × BeginsWith l rest × Begins (InTurn m) time (command_of l) before tail after)
+    → IsBegun m time rest before after
 line_begun time l rest m before after starts (inl same) = inl same
 line_begun time l rest m before after starts (inr (tail, begins)) = inr (l, tail, starts, begins)
 
@@ -486,9 +486,9 @@ cut_listed time rest m start marks bytes e before t out m' lead h (inl (l, start
 cut_listed time rest m start marks bytes e before t out m' lead h (inr (inl (whole, ended, shows, is, cut))) = record { after = before; begun = inl refl; leads = subst (λ (x : Machine). Leads m x before) (sym is) lead }
 cut_listed time rest m start marks bytes e before t out m' lead h (inr (inr (line, is, cut))) = record { after = before; begun = inl refl; leads = subst (λ (x : Machine). Leads m x before) (sym is) lead }
 
-pub cut_session_listed : (m : Machine) (marks : List Mark) (time : ℕ) (bytes : List ℕ) (e : ReadEnd) (out : List ℕ) (m' : Machine) → IsCutListed m marks time bytes e out m'
+pub cut_session_listed : (m : Machine) (marks : List Mark) (time : ℕ) (bytes : List ℕ) (e : ReadEnd) → IsCutListed m marks time bytes e
 unfolding session_of
-cut_session_listed m marks time bytes e out m' fit (lines, rest, t, are, eof, stops) =
+cut_session_listed m marks time bytes e fit out m' (lines, rest, t, are, eof, stops) =
     let u = unsplit lines in
     let start = talk m marks [] in
     let h = subst (λ x. FitLines time (parts (x ++ rest)) start) u.are (subst (λ x. FitLines time (parts x) start) are fit) in

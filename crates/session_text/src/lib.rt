@@ -87,5 +87,5 @@ pub fn session_is_list()
 /// The law that such a session in which a write failed leaves the machine of a list of actions too: those of the lines before one,
 /// and some of that one's, in the order in which it asks for them. A dump of the current state has closed its pin.
 pub fn cut_session_is_list()
-    ensures { (m : Machine) (marks : List Mark) (time : ℕ) (bytes : List ℕ) (e : ReadEnd) (out : List ℕ) (left : Machine) → IsCutListed m marks time bytes e out left }
+    ensures { (m : Machine) (marks : List Mark) (time : ℕ) (bytes : List ℕ) (e : ReadEnd) → IsCutListed m marks time bytes e }
 {}

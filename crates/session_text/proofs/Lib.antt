@@ -15,3 +15,4 @@ pub mod Dumping
 pub mod Hexadecimal
 pub mod Reading
 pub mod Mutating
+pub mod Listed

@@ -15,7 +15,7 @@ use Rattle.heap_trail.specs.declared.Action.{Action}
 use Rattle.heap_trail.specs.declared.Action.TheVariants.{OpenPin, NextPiece, ClosePin}
 use Rattle.heap_trail.specs.declared.Reply.{Reply}
 use Rattle.heap_trail.specs.declared.Reply.TheVariants.{Refused}
-use Rattle.heap_trail.specs.Machine.{Machine, Mark, Fine, Refusing, Losing, MayStand, acted_under, may_grow, may_overwrite}
+use Rattle.heap_trail.specs.Machine.{Machine, Mark, Fine, Refusing, Losing, MayStand, acted, acted_under, may_grow, may_overwrite}
 use Rattle.hprof_text.specs.declared.Piece.{Piece as GivenPiece}
 use Rattle.session_text.specs.declared.Ended.{Ended}
 use Rattle.session_text.specs.declared.Ended.TheVariants.{Quit, Eof, CutLine, TooLong, ReadFault, TooManyReads, WriteFault, NoMemory as NoRoom}
@@ -31,7 +31,7 @@ use Rattle.session_text.specs.Inlets.{Incoming, whole}
 use Rattle.session_text.specs.Lines.{NoLf}
 use Rattle.session_text.specs.Local.{LocalActs}
 use Rattle.session_text.specs.Replies.{reply_text, data_lines, piece_in, pin_in}
-use Rattle.session_text.specs.Session.{Talk, wrote, mark_of, marks_after, done_quietly, done, after_reply, dumped, after_open, after_up_to, after_command, is_end, go_on, Fits, FitsRest, FitsDump, FitsOpen, FitsCommand, FitLines, MarksFit, at_end, at_long, talked, session_of, Shows, CutsLine, CutsEnd, CutsPage, IsSession}
+use Rattle.session_text.specs.Session.{Talk, wrote, mark_of, marks_after, done_quietly, done, after_reply, dumped, closed, after_open, after_up_to, after_command, is_end, go_on, Fits, FitsRest, FitsDump, FitsOpen, FitsCommand, FitLines, MarksFit, at_end, at_long, talked, session_of, Shows, CutsLine, CutsEnd, CutsPage, IsSession}
 use Rattle.session_text.specs.Talks.{IsLine, IsLong, Talks, stream, IsTalk, IsQuit, Closes, Breaks, Fails, Serves}
 use Rattle.session_text.specs.Writes.{IsCutShort, IsWritten}
 use Rattle.session_text.proofs.Talking.{served_fails}
@@ -39,10 +39,10 @@ use Rattle.session_text.proofs.Talking.{served_fails}
 abbrev is_lf : ℕ → Bool
 is_lf b = b == 10
 
-abbrev parts : List ℕ → List (List ℕ)
+abbrev pub parts : List ℕ → List (List ℕ)
 parts bytes = slice_split (λ b. b == 10) bytes
 
-abbrev talk : Machine → List Mark → List ℕ → Talk
+abbrev pub talk : Machine → List Mark → List ℕ → Talk
 talk m marks w = record { machine = m; marks = marks; written = w }
 
 -- what a machine of one's own may do
@@ -138,12 +138,16 @@ dumps_so (suc n) pin time c so_far text d (r, next, ((mark, may, e), kept), goes
 
 -- ---- dumps of the current state
 
--- the close of a pin may have no other mark
-close_fine : (m : Machine) (pin : ℕ) (mark : Mark) → MayStand m (ClosePin pin, mark) → mark ≡ Fine
-unfolding may_grow may_overwrite
-close_fine m pin Fine h = refl
-close_fine m pin Refusing h = absurd (true≢false (sym h.0))
-close_fine m pin (Losing pins) h = absurd (true≢false (sym h.0))
+-- the close of a pin may have no mark but Fine
+close_so : (m m' : Machine) (pin : ℕ) (mark : Mark) (r : Reply) → MayStand m (ClosePin pin, mark) → acted_under m (ClosePin pin, mark) ≡ (m', r) → acted m (ClosePin pin) ≡ (m', r)
+unfolding acted_under may_grow may_overwrite
+close_so m m' pin Fine r h e = e
+close_so m m' pin Refusing r h e = absurd (true≢false (sym h.0))
+close_so m m' pin (Losing pins) r h e = absurd (true≢false (sym h.0))
+
+-- a pin is closed, whatever marks are left
+closed_at : (m m' : Machine) (pin : ℕ) (r : Reply) (ms : List Mark) (w : List ℕ) → acted m (ClosePin pin) ≡ (m', r) → closed pin (talk m ms w) ≡ talk m' ms w
+closed_at m m' pin r ms w e = ap (λ (x : Machine × Reply). talk x.0 ms w) e
 
 -- the marks under which a dump of the current state has this text after the reply to OpenPin
 record OpenSo (time : ℕ) (m : Machine) (r : Reply) (o : Option ℕ) (text : List ℕ) (m' : Machine) : Type 0 where
@@ -159,12 +163,11 @@ open_so time c r None text d h = record {
 }
 open_so time c r (Some pin) text d (between, closing, h, ((mark, may, e), kept)) =
     let f = dumps_so piece_limit pin time c 0 text between h in
-    let apart : (ms : List Mark) → (f.found ++ mark ∷ []) ++ ms ≡ f.found ++ (mark ∷ ms) = λ ms. append_assoc f.found (mark ∷ []) ms in
-    let dump : (ms : List Mark) (w : List ℕ) → dumped piece_limit pin time (talk c.machine ((f.found ++ mark ∷ []) ++ ms) w) 0 ≡ talk between.machine (mark ∷ ms) (w ++ text) = λ ms w. ap (λ l. dumped piece_limit pin time (talk c.machine l w) 0) (apart ms) ∙ f.so (mark ∷ ms) w in
+    let is = close_so between.machine d.machine pin mark closing may e in
     record {
-      found = f.found ++ mark ∷ [];
-      so = λ ms w. ap (λ x. (done_quietly (ClosePin pin) x).0) (dump ms w) ∙ ap (λ (x : Talk × Reply). x.0) (done_so (ClosePin pin) between.machine mark ms (w ++ text) d.machine closing e);
-      fit = λ ms w. (subst (λ l. FitsDump piece_limit pin time (talk c.machine l w) 0) (sym (apart ms)) (f.fit (mark ∷ ms) w), subst (λ x. Fits (ClosePin pin) x) (sym (dump ms w)) may);
+      found = f.found;
+      so = λ ms w. ap (λ x. closed pin x) (f.so ms w) ∙ closed_at between.machine d.machine pin closing ms (w ++ text) is;
+      fit = λ ms w. f.fit ms w;
     }
 
 -- ---- one command
@@ -181,7 +184,7 @@ goes_on time k c text d f ms w more =
     let t = talk c.machine (f.found ++ ms) w in
     ap (λ b. if b then (t, Quit) else more (after_command time k t)) f.no_end ∙ ap more (f.after ms w)
 
-is_refused : (m : Machine) (a : Action) → acted_under m (a, Refusing) ≡ (m, Refused NoMemory)
+pub is_refused : (m : Machine) (a : Action) → acted_under m (a, Refusing) ≡ (m, Refused NoMemory)
 unfolding acted_under
 is_refused m a = refl
 
@@ -212,7 +215,7 @@ follows time (Ask a) c text d (r, inr (takes, refused, same), is) = record {
   found = Refusing ∷ [];
   no_end = refl;
   after = λ ms w. replied_so a c.machine Refusing ms w d.machine (Refused NoMemory) text (is_refused c.machine a ∙ ap (λ (x : Local). (x.machine, Refused NoMemory)) (sym same)) (is ∙ ap (λ x. reply_text x) refused);
-  fit = λ ms w. inr takes;
+  fit = λ ms w. inr (takes, refl);
 }
 follows time (Piece pin) c text d (r, ((mark, may, e), kept), is) = record {
   found = mark ∷ [];
@@ -241,14 +244,14 @@ not_long n h = grind (arith, nat_tests)
 long : (n : ℕ) → 4096 < n → nat_lt 4096 n ≡ true
 long n h = grind (arith, nat_tests)
 
-not_zero : (n : ℕ) → 0 < n → (n == 0) ≡ false
+pub not_zero : (n : ℕ) → 0 < n → (n == 0) ≡ false
 not_zero n h = grind (arith, nat_tests)
 
 more_parts : (time : ℕ) (e : ReadEnd) (l : List ℕ) (ls : List (List ℕ)) (t : Talk) → 0 < length ls → length l ≤ 4096 → talked time e (l ∷ ls) t ≡ go_on (talked time e ls) time (command_of l) t
 more_parts time e l [] t some h = absurd (omega arith)
 more_parts time e l (m ∷ ms) t some h = ap (λ b. if b then at_long t else go_on (talked time e (m ∷ ms)) time (command_of l) t) (not_long (length l) h)
 
-line_then : (time : ℕ) (e : ReadEnd) (l ys : List ℕ) (t : Talk) → IsLine l → talked time e (parts (l ++ 10 ∷ ys)) t ≡ go_on (talked time e (parts ys)) time (command_of l) t
+pub line_then : (time : ℕ) (e : ReadEnd) (l ys : List ℕ) (t : Talk) → IsLine l → talked time e (parts (l ++ 10 ∷ ys)) t ≡ go_on (talked time e (parts ys)) time (command_of l) t
 line_then time e l ys t h = ap (λ ls. talked time e ls t) (slice_split_at is_lf l 10 ys h.no_lf refl) ∙ more_parts time e l (parts ys) t (omega (arith, length-slice_split is_lf ys)) h.most
 
 more_fit : (time : ℕ) (l : List ℕ) (ls : List (List ℕ)) (t : Talk) → FitsCommand time (command_of l) t → FitLines time ls (after_command time (command_of l) t) → FitLines time (l ∷ ls) t
@@ -292,7 +295,7 @@ passes time (l ∷ ls) c text d t =
 
 -- ---- endings
 
-alone : (time : ℕ) (e : ReadEnd) (rest : List ℕ) (t : Talk) → IsLine rest → talked time e (parts rest) t ≡ at_end e (length rest == 0) t
+pub alone : (time : ℕ) (e : ReadEnd) (rest : List ℕ) (t : Talk) → IsLine rest → talked time e (parts rest) t ≡ at_end e (length rest == 0) t
 alone time e rest t h = ap (λ ls. talked time e ls t) (slice_split_none is_lf rest h.no_lf) ∙ ap (λ b. if b then at_long t else at_end e (length rest == 0) t) (not_long (length rest) h.most)
 
 -- the first part, and the others
@@ -323,12 +326,12 @@ long_first : (time : ℕ) (e : ReadEnd) (l : List ℕ) (ls : List (List ℕ)) (t
 long_first time e l [] t h = ap (λ b. if b then at_long t else at_end e (length l == 0) t) (long (length l) h)
 long_first time e l (m ∷ ms) t h = ap (λ b. if b then at_long t else go_on (talked time e (m ∷ ms)) time (command_of l) t) (long (length l) h)
 
-too_long : (time : ℕ) (e : ReadEnd) (rest : List ℕ) (t : Talk) → IsLong rest → talked time e (parts rest) t ≡ at_long t
+pub too_long : (time : ℕ) (e : ReadEnd) (rest : List ℕ) (t : Talk) → IsLong rest → talked time e (parts rest) t ≡ at_long t
 too_long time e rest t h =
     let f = first_part 4097 rest (omega (arith, h.0)) h.1 in
     ap (λ ls. talked time e ls t) f.are ∙ long_first time e f.first f.others t (omega (arith, f.least))
 
-quits : (time : ℕ) (e : ReadEnd) (rest : List ℕ) (t : Talk) → IsQuit rest → talked time e (parts rest) t ≡ (t, Quit)
+pub quits : (time : ℕ) (e : ReadEnd) (rest : List ℕ) (t : Talk) → IsQuit rest → talked time e (parts rest) t ≡ (t, Quit)
 quits time e rest t q = ap (λ bs. talked time e (parts bs) t) q.1.2 ∙ line_then time e q.0 q.1.1 t q.1.0 ∙ ap (λ k. go_on (talked time e (parts q.1.1)) time k t) q.2
 
 -- how reading ended, where an ending says it
@@ -388,11 +391,11 @@ dump_fits (suc n) pin time t so_far e =
 
 open_fine : (time : ℕ) (r : Reply) (o : Option ℕ) (t : Talk) → t.marks ≡ [] → (after_open piece_limit time r o t).marks ≡ []
 open_fine time r None t e = e
-open_fine time r (Some pin) t e = ap marks_after (dump_fine piece_limit pin time t 0 e)
+open_fine time r (Some pin) t e = dump_fine piece_limit pin time t 0 e
 
 open_fits : (time : ℕ) (o : Option ℕ) (t : Talk) → t.marks ≡ [] → FitsOpen time o t
 open_fits time None t e = tt
-open_fits time (Some pin) t e = (dump_fits piece_limit pin time t 0 e, any_fits (ClosePin pin) (dumped piece_limit pin time t 0) (dump_fine piece_limit pin time t 0 e))
+open_fits time (Some pin) t e = dump_fits piece_limit pin time t 0 e
 
 command_fine : (time : ℕ) (k : Command) (t : Talk) → t.marks ≡ [] → (after_command time k t).marks ≡ []
 command_fine time Blank t e = e
@@ -564,13 +567,13 @@ open_begins k time c r None text d le h =
     }
 open_begins k time c r (Some pin) text d le (between, closing, h, ((mark, may, e), kept)) =
     let f = dump_begins k pin time c text between le h in
-    let is : acted_under between.machine (ClosePin pin, Fine) ≡ (d.machine, closing) = ap (λ x. acted_under between.machine (ClosePin pin, x)) (sym (close_fine between.machine pin mark may)) ∙ e in
+    let is = close_so between.machine d.machine pin mark closing may e in
     record {
       found = f.found;
-      here = λ w. ap (λ x. (done_quietly (ClosePin pin) x).0) (f.here w) ∙ ap (λ (x : Machine × Reply). talk x.0 [] (w ++ text)) is;
+      here = λ w. ap (λ x. closed pin x) (f.here w) ∙ closed_at between.machine d.machine pin closing [] (w ++ text) is;
       so = λ w. f.so w;
-      spent = λ w. ap marks_after (f.spent w);
-      fit = λ w. (f.fit w, any_fits (ClosePin pin) (dumped piece_limit pin time (talk c.machine f.found w) 0) (f.spent w));
+      spent = λ w. f.spent w;
+      fit = λ w. f.fit w;
     }
 
 -- the marks under which a line's answer begins with this text and leaves this machine
@@ -692,7 +695,7 @@ cut_in text full a b h p = record {
 -- where the text was cut short, told of the rest of a session
 abbrev Stops : ℕ → ReadEnd → List ℕ → Talk → List ℕ → List ℕ → Machine → Type 0
 Stops time e rest t full out left =
-    CutsLine time rest t out left ⊎ (((ended : Ended) × (talked time e (parts rest) t ≡ (talk t.machine [] full, ended)) × (left ≡ t.machine)) ⊎ CutsPage t out left)
+    CutsLine time rest t out left ⊎ (((ended : Ended) × (talked time e (parts rest) t ≡ (talk t.machine [] full, ended)) × (left ≡ t.machine)) ⊎ CutsPage rest t out left)
 
 -- the marks and the text of what was cut short
 record CutTail (time : ℕ) (rest : List ℕ) (c : Local) (text : List ℕ) (d : Local) (w w' : Outgoing) : Type 0 where
@@ -715,7 +718,7 @@ broken_tail time a b rest c text d w w' (inl ((l, tail, starts, h, cut), same)) 
       so = subst (λ r. IsPrefix (text ++ tail) r.0.written) (sym (ap (λ bs. talked time Over (parts bs) t) starts.2 ∙ line_then time Over l starts.1 t starts.0)) g.so;
       fit = subst (λ bs. FitLines time (parts bs) t) (sym starts.2) (line_fit time l starts.1 t starts.0 g.fit (fine time (parts starts.1) (after_command time (command_of l) t) g.spent));
       cut = cut;
-      stops = inl (l, starts.1, starts.2, g.pieces, g.most, g.machine, cut_in (text ++ tail) (after_up_to g.pieces time (command_of l) t).written w.out w'.out cut.0 g.here);
+      stops = inl (l, starts, g.pieces, g.most, g.machine, cut_in (text ++ tail) (after_up_to g.pieces time (command_of l) t).written w.out w'.out cut.0 g.here);
     }
 broken_tail time a b rest c text d w w' (inr (inl (ended, tail, closes, same, cut))) =
     let shows = closes_so time (end_for ended) rest a b ended tail c.machine [] text (fits ended) closes in
@@ -738,12 +741,12 @@ broken_tail time a b rest c text d w w' (inr (inr (line, none, same, cut))) =
       so = subst (λ l. IsPrefix l (talked time Over (parts rest) t).0.written) (sym (append-nil text)) (stays time Over (parts rest) t);
       fit = fine time (parts rest) t refl;
       cut = all;
-      stops = inr (inr (ap (λ (x : Local). x.machine) same, cut_in (text ++ []) text w.out w'.out all.0 (subst (λ l. IsPrefix l text) (sym (append-nil text)) (begins_itself text))));
+      stops = inr (inr (line, ap (λ (x : Local). x.machine) same, cut_in (text ++ []) text w.out w'.out all.0 (subst (λ l. IsPrefix l text) (sym (append-nil text)) (begins_itself text))));
     }
 
 -- where the text of a whole session was cut
 stops_so : (time : ℕ) (bytes rest : List ℕ) (start : Machine) (marks : List Mark) (e : ReadEnd) (t : Talk) (full out : List ℕ) (left : Machine) → session_of start marks time bytes e ≡ talked time e (parts rest) t → IsCutShort full [] out
-    → Stops time e rest t full out left → CutsLine time rest t out left ⊎ (CutsEnd start marks time bytes e t out left ⊎ CutsPage t out left)
+    → Stops time e rest t full out left → CutsLine time rest t out left ⊎ (CutsEnd start marks time bytes e t out left ⊎ CutsPage rest t out left)
 stops_so time bytes rest start marks e t full out left lines cut (inl h) = inl h
 stops_so time bytes rest start marks e t full out left lines cut (inr (inl (ended, shows, same))) = inr (inl (full, ended, lines ∙ shows ∙ ap (λ m. (talk m [] full, ended)) (sym same), same, cut))
 stops_so time bytes rest start marks e t full out left lines cut (inr (inr h)) = inr (inr h)

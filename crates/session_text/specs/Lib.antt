@@ -12,3 +12,4 @@ pub mod Answers
 pub mod Talks
 pub mod Endings
 pub mod Session
+pub mod Laws

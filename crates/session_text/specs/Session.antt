@@ -6,7 +6,7 @@ use Rattle.dump_pump.specs.Outlets.{Outgoing}
 use Rattle.heap_trail.specs.declared.Action.{Action}
 use Rattle.heap_trail.specs.declared.Action.TheVariants.{OpenPin, NextPiece, ClosePin}
 use Rattle.heap_trail.specs.declared.Reply.{Reply}
-use Rattle.heap_trail.specs.Machine.{Machine, Mark, Fine, MayStand, acted_under}
+use Rattle.heap_trail.specs.Machine.{Machine, Mark, Fine, Refusing, MayStand, acted, acted_under}
 use Rattle.hprof_text.specs.declared.Piece.{Piece as GivenPiece}
 use Rattle.session_text.specs.declared.Ended.{Ended}
 use Rattle.session_text.specs.declared.Ended.TheVariants.{Quit, Eof, CutLine, TooLong, ReadFault, TooManyReads, WriteFault, NoMemory as NoRoom}
@@ -19,6 +19,7 @@ use Rattle.session_text.specs.Grammar.{command_of}
 use Rattle.session_text.specs.Inlets.{Incoming, whole}
 use Rattle.session_text.specs.Reads.{ActionTakesMemory}
 use Rattle.session_text.specs.Replies.{reply_text, data_lines, piece_in, pin_in}
+use Rattle.session_text.specs.Talks.{IsLine, BeginsWith}
 use Rattle.session_text.specs.Writes.{IsCutShort}
 
 -- a session between two lines: the machine, the marks of what is to come (none: fine), and what was written
@@ -61,9 +62,13 @@ unfoldable pub dumped : ℕ → ℕ → ℕ → Talk → ℕ → Talk
 dumped zero pin time t so_far = t
 dumped (suc n) pin time t so_far = let r = done_quietly (NextPiece pin time) t in after_reply (dumped n pin time) so_far r.1 (piece_in r.1) r.0
 
+-- the close of a pin, which takes no memory and so no mark
+abbrev pub closed : ℕ → Talk → Talk
+closed pin t = record { machine = (acted t.machine (ClosePin pin)).0; marks = t.marks; written = t.written }
+
 -- a dump of the current state after the reply to OpenPin
 abbrev pub after_open : ℕ → ℕ → Reply → Option ℕ → Talk → Talk
-after_open most time r (Some pin) t = (done_quietly (ClosePin pin) (dumped most pin time t 0)).0
+after_open most time r (Some pin) t = closed pin (dumped most pin time t 0)
 after_open most time r None t = wrote (reply_text r) t
 
 -- after a command other than `end`, of a dump at most so many pieces
@@ -133,14 +138,14 @@ FitsDump (suc n) pin time t so_far = let r = done_quietly (NextPiece pin time) t
 
 -- in a dump of the current state, after the reply to OpenPin
 abbrev pub FitsOpen : ℕ → Option ℕ → Talk → Type 0
-FitsOpen time (Some pin) t = FitsDump piece_limit pin time t 0 × Fits (ClosePin pin) (dumped piece_limit pin time t 0)
+FitsOpen time (Some pin) t = FitsDump piece_limit pin time t 0
 FitsOpen time None t = Unit {0}
 
--- the mark of an action refuses only where the machine may find no memory for it, or where its line's reading takes memory
+-- the mark of an action may stand beside it, or it refuses a line whose reading takes memory
 abbrev pub FitsCommand : ℕ → Command → Talk → Type 0
 FitsCommand time Blank t = Unit {0}
 FitsCommand time Bad t = Unit {0}
-FitsCommand time (Ask a) t = Fits a t ⊎ ActionTakesMemory a
+FitsCommand time (Ask a) t = Fits a t ⊎ (ActionTakesMemory a × (mark_of t.marks ≡ Refusing))
 FitsCommand time (Piece pin) t = Fits (NextPiece pin time) t
 FitsCommand time (Dump pin) t = FitsDump piece_limit pin time t 0
 FitsCommand time DumpNow t = let r = done_quietly (OpenPin None) t in Fits (OpenPin None) t × FitsOpen time (pin_in r.1) r.0
@@ -164,22 +169,22 @@ Shows m marks time bytes e out m' ended = session_of m marks time bytes e ≡ (r
 -- the next line was acted on, a dump up to some piece, and the text with its answer was cut short
 abbrev pub CutsLine : ℕ → List ℕ → Talk → List ℕ → Machine → Type 0
 CutsLine time rest t out m' =
-    (l : List ℕ) × (more : List ℕ) × (rest ≡ l ++ 10 ∷ more) × (pieces : ℕ) × (pieces ≤ piece_limit)
+    (l : List ℕ) × BeginsWith l rest × (pieces : ℕ) × (pieces ≤ piece_limit)
     × (m' ≡ (after_up_to pieces time (command_of l) t).machine) × IsCutShort (after_up_to pieces time (command_of l) t).written [] out
 
 -- all lines were answered, and the text with what the ending prints was cut short
 abbrev pub CutsEnd : Machine → List Mark → ℕ → List ℕ → ReadEnd → Talk → List ℕ → Machine → Type 0
 CutsEnd m marks time bytes e t out m' = (whole : List ℕ) × (ended : Ended) × Shows m marks time bytes e whole m' ended × (m' ≡ t.machine) × IsCutShort whole [] out
 
--- the text was cut short before a read
-abbrev pub CutsPage : Talk → List ℕ → Machine → Type 0
-CutsPage t out m' = (m' ≡ t.machine) × IsCutShort t.written [] out
+-- no whole line was left, and the text was cut short before a read
+abbrev pub CutsPage : List ℕ → Talk → List ℕ → Machine → Type 0
+CutsPage rest t out m' = IsLine rest × (m' ≡ t.machine) × IsCutShort t.written [] out
 
 -- the lines at the front of the bytes were acted on and left t, and the text was cut in their answers or behind them
 abbrev pub StopsAfter : Machine → List Mark → ℕ → List ℕ → ReadEnd → List ℕ → Machine → Type 0
 StopsAfter m marks time bytes e out m' =
     (lines : List ℕ) × (rest : List ℕ) × (t : Talk) × (bytes ≡ lines ++ rest) × (session_of m marks time lines Over ≡ (t, Eof))
-    × (CutsLine time rest t out m' ⊎ (CutsEnd m marks time bytes e t out m' ⊎ CutsPage t out m'))
+    × (CutsLine time rest t out m' ⊎ (CutsEnd m marks time bytes e t out m' ⊎ CutsPage rest t out m'))
 
 abbrev pub IsShown : Machine → List Mark → ℕ → List ℕ → List ℕ → Machine → Ended → Type 0
 IsShown m marks time bytes out m' Quit = (e : ReadEnd) → Shows m marks time bytes e out m' Quit

@@ -37,7 +37,7 @@ pub fn users(alloc: Global, config: Config, sessions: u64) -> Result<Blank, Refu
     Blank::new(alloc, config, roles.as_slice())
 }
 
-/// Serves one client between its socket and the heap. Closes no pin at its end. May wait.
+// Serves one client between its socket and the heap. Each part of an answer goes out at once. Closes no pin at its end. May wait.
 fn session<L: Heap, R: Wait>(
     rt: &R,
     alloc: Global,
@@ -48,13 +48,14 @@ fn session<L: Heap, R: Wait>(
 ) -> Ended
     requires { seat.role ≡ User }
 {
+    let _ = stream.set_nodelay(true);
     let mut reader = ReadInlet::new(&stream);
     let mut writer = WriteOutlet::new(&stream);
     let mut joined = Joined::new(shared, rt, seat);
     serve(alloc, &mut reader, &mut writer, &mut joined, time)
 }
 
-/// Waits for each session in turn. One for which no thread could be had ended by NoMemory.
+// Waits for each session in turn. One for which no thread could be had ended by NoMemory.
 fn await_all<R: Threads>(
     rt: &R,
     running: &mut Vec<Option<JoinHandle<Ended>>>,
@@ -71,16 +72,17 @@ fn await_all<R: Threads>(
     }
 }
 
-/// Accepts as many clients as there are seats, in turn, and serves each in a thread of its own. After an accept that failed no
-/// more are accepted. Returns once all sessions have ended; that of a client for which no thread could be had ends by
-/// NoMemory. Fails if there is no memory for `most` endings, and accepts nothing. May wait.
+/// Accepts as many clients as there are seats, in turn, and serves each in a thread of its own. After the last of them, or after
+/// an accept that failed, it stops listening, so that a further client is refused at once. Returns once all sessions have ended;
+/// that of a client for which no thread could be had ends by NoMemory. Fails if there is no memory for `most` endings, and
+/// accepts nothing. May wait.
 pub fn serve_clients<L: Heap + Send + Sync, R: Threads + Wait + Sync>(
     rt: &R,
     alloc: Global,
     shared: &Shared<L>,
     seats: Seats<L>,
     most: usize,
-    listener: &TcpListener,
+    listener: TcpListener,
     time: u64,
 ) -> Result<Served, AllocError>
     requires users { AreUsers seats }
@@ -103,6 +105,7 @@ pub fn serve_clients<L: Heap + Send + Sync, R: Threads + Wait + Sync>(
             let mut seats = seats;
             let mut running = running;
             let mut ends = ends;
+            let listener = listener;
             let mut refused = false;
             while let Some(seat) = seats.take() {
                 let Ok((stream, _)) = listener.accept() else {
@@ -112,6 +115,7 @@ pub fn serve_clients<L: Heap + Send + Sync, R: Threads + Wait + Sync>(
                 let thread = scope.spawn(move || session(rt, alloc, shared, seat, stream, time));
                 running.push_reserved(thread.ok());
             }
+            drop(listener);
             await_all(rt, &mut running, &mut ends);
             Served { ends, refused }
         },
@@ -124,7 +128,7 @@ pub fn serve_heap<R: Threads + Wait + Sync>(
     alloc: Global,
     blank: Blank,
     most: usize,
-    listener: &TcpListener,
+    listener: TcpListener,
     time: u64,
 ) -> Result<Served, AllocError>
     requires users { AreUsers blank.seats }
@@ -140,7 +144,7 @@ fn serve_opened<L: Heap + Send + Sync, R: Threads + Wait + Sync>(
     alloc: Global,
     blank: Blank,
     most: usize,
-    listener: &TcpListener,
+    listener: TcpListener,
     time: u64,
 ) -> Result<Served, AllocError>
     requires named { (blank.config ≡ L.config) × (blank.tables ≡ L.tables) }

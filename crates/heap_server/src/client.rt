@@ -34,9 +34,9 @@ struct Connection {
 }
 
 /// Sends all input and then an empty line and the line `end` in a thread of its own, and copies to the output what comes from
-/// the socket until it ends or a read or a write fails. Then it returns at once, also while that thread still waits for input or
-/// for the socket: the thread ends with its input, with the connection or with the program. Of two faults the input's is named, if
-/// it came before the session ended. May wait.
+/// the socket until it ends or a read or a write fails. Returns then, even if that thread still waits for input or for the socket:
+/// it is not joined, and ends with its input, with the connection or with the program. Of two faults the input's is named, if it
+/// came before the session ended. May wait.
 pub fn ask<R, I: Inlet + Send + Drop + 'static, O: Outlet>(
     rt: &R,
     alloc: Global,
@@ -67,7 +67,7 @@ where
     receive(rt, &mut socket, output, &shared.input_failed)
 }
 
-// Sends all input to the socket of a connection, as `send_all` does. Its socket takes no part in what the other thread reads.
+// Sends all input over a connection, as `send_all` does.
 fn send_to<R: Wait, I: Inlet + Drop>(rt: &R, connection: &Connection, input: I) {
     let mut input = input;
     let mut socket = WriteOutlet::new(&connection.stream);

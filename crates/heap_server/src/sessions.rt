@@ -2,7 +2,7 @@
 ghost use Rattle.std.specs.Prelude.{◌≡◌, ◌+◌, ◌≤◌, IfOk, IfErr, length, vec_len, vec_capacity};
 ghost use Rattle.heap_class.specs.declared.Refusal.TheVariants.{NoMemory};
 ghost use Rattle.heap_lock.specs.declared.entry.Role.TheVariants.{User};
-ghost use Rattle.heap_server.specs.Seating.{AreUsers, IsFor, session_limit};
+ghost use Rattle.heap_server.specs.Seating.{AreUsers, IsFor, IsOver, session_limit};
 
 use crate::joined::Joined;
 use dump_pump::WriteOutlet;
@@ -13,6 +13,7 @@ use session_text::{Ended, ReadInlet, serve};
 use std::alloc::{AllocError, Global};
 use std::marker::Brand;
 use std::net::{TcpListener, TcpStream};
+use std::snapshot::Snapshot;
 use std::sync::Wait;
 use std::thread;
 use std::thread::{JoinHandle, Threads};
@@ -22,6 +23,14 @@ use std::thread::{JoinHandle, Threads};
 pub struct Served {
     pub ends: Vec<Ended>,
     pub refused: bool,
+}
+
+/// How the sessions over a heap ended. Contracts see the heap as it was made, and the time in the headers of its dumps.
+#[derive(Drop)]
+pub struct ServedHeap {
+    pub served: Served,
+    pub made: Snapshot<Blank>,
+    pub time: u64,
 }
 
 /// Creates a heap of these settings with a user's seat for each of 1 to 1,000 sessions. Fails with NoMemory.
@@ -122,7 +131,8 @@ pub fn serve_clients<L: Heap + Send + Sync, R: Threads + Wait + Sync>(
     ))
 }
 
-/// Opens a heap, and serves as many clients as it has seats, as `serve_clients` does. May wait.
+/// Opens a heap, and serves as many clients as it has seats, as `serve_clients` does, with this time in the headers of its
+/// dumps. May wait.
 pub fn serve_heap<R: Threads + Wait + Sync>(
     rt: &R,
     alloc: Global,
@@ -130,10 +140,10 @@ pub fn serve_heap<R: Threads + Wait + Sync>(
     most: usize,
     listener: TcpListener,
     time: u64,
-) -> Result<Served, AllocError>
+) -> Result<ServedHeap, AllocError>
     requires users { AreUsers blank.seats }
     requires most { length blank.seats ≡ most }
-    ensures { IfOk result (IsFor most) }
+    ensures { IfOk result (IsOver blank time most) }
 {
     serve_opened::<Brand, R>(rt, alloc, blank, most, listener, time)
 }
@@ -146,12 +156,14 @@ fn serve_opened<L: Heap + Send + Sync, R: Threads + Wait + Sync>(
     most: usize,
     listener: TcpListener,
     time: u64,
-) -> Result<Served, AllocError>
+) -> Result<ServedHeap, AllocError>
     requires named { (blank.config ≡ L.config) × (blank.tables ≡ L.tables) }
     requires users { AreUsers blank.seats }
     requires most { length blank.seats ≡ most }
-    ensures { IfOk result (IsFor most) }
+    ensures { IfOk result (IsOver blank time most) }
 {
+    let made = Snapshot::of(&blank);
     let (shared, seats) = blank.open::<L>();
-    serve_clients(rt, alloc, &shared, seats, most, listener, time)
+    let served = serve_clients(rt, alloc, &shared, seats, most, listener, time)?;
+    Ok(ServedHeap { served, made, time })
 }

@@ -2,8 +2,8 @@
 """Serves hostile clients with the built program, and asks hostile servers.
 
 Usage: checks/sockets.py [--step N] PROGRAM ..
-A connection is closed after each N bytes, 1 if that isn't given. Nothing may hang: each wait has a limit. Prints a line for each difference and ends with status 1 if there is one. Prints nothing
-where all is well."""
+A connection is closed after each N bytes, 1 if that isn't given. Nothing may hang: each wait has a limit. Prints a line for each
+difference and ends with status 1 if there is one. Prints nothing where all is well."""
 import contextlib
 import os
 import pathlib

@@ -1,4 +1,4 @@
-use Rattle.std.proofs.Common.{◌∙◌, ap, subst, sym}
+use Rattle.std.proofs.Common.{◌∙◌, ap, sym}
 use Rattle.std.specs.Prelude.{option_map}
 use Rattle.clap.specs.Words.{found_of, rows_of}
 use Rattle.heapdbg.specs.declared.settings.Task.TheVariants.{Save}

@@ -20,16 +20,15 @@ EXAMPLE_REPLIES = (TOP / "crates/heapdbg/stdout").read_bytes()
 # The lines of the example that make the point, and what they are answered.
 POINT = b"".join(EXAMPLE.splitlines(keepends=True)[:3])
 POINT_MADE = b"".join(EXAMPLE_REPLIES.splitlines(keepends=True)[:3])
-OUT_OF_RANGE = b"""error: a value is in digits alone: --regions 1 to 256, --mutators 1 to 16, --keep 1 to 65536, \
---time below 2^64, --ids 4 or 8, --port and --to 1 to 65535, --sessions 1 to 1000; \
-save takes one of --out and --to
-
-For more information, try 'heapdbg --help'.
-"""
+MISTAKE = b"error: %s\n\nFor more information, try 'heapdbg --help'.\n"
 NOT_UTF8 = b"error: a word of the command line is not UTF-8\n"
 USAGE = b"Usage: heapdbg <COMMAND>\n"
 RUN_ABOUT = b"Reads commands from standard input and writes replies to standard output\n"
-SAVE_ABOUT = b"Runs a session, and dumps the state that it leaves\n"
+SAVE_ABOUT = b"""Runs a session, and dumps the state that it leaves; one of --out and --to is required
+
+Usage: heapdbg save [OPTIONS] <--out <PATH>|--to <N>>
+"""
+VERSION = b"heapdbg 1.0.0 (logic dac8208d650f15bf)\n"
 SERVE_ABOUT = b"Serves sessions over one heap to clients on 127.0.0.1, and tells how each ended\n"
 ASK_ABOUT = b"Sends standard input to a session that is served, and copies what comes back to standard output\n"
 MEBIBYTE = 1 << 20
@@ -62,11 +61,15 @@ def dump_of_longs(count, size=8, time=0):
 
 
 def run(program, words, given=b"", **how):
-    """Returns status, standard output and standard error of the program, which is told its name."""
+    """Returns status, standard output and standard error of the program, which is told its name. The status is None if it takes
+    too long."""
     if "stdin" not in how:
         how["input"] = given
     how.setdefault("stdout", subprocess.PIPE)
-    ran = subprocess.run(["heapdbg", *words], executable=program, stderr=subprocess.PIPE, timeout=SECONDS, **how)
+    try:
+        ran = subprocess.run(["heapdbg", *words], executable=program, stderr=subprocess.PIPE, timeout=SECONDS, **how)
+    except subprocess.TimeoutExpired:
+        return None, b"", b""
     return ran.returncode, ran.stdout or b"", ran.stderr
 
 
@@ -378,6 +381,34 @@ def asking(program):
     yield "ask nobody", run(program, ["ask", "--port", str(free_port())], EXAMPLE), (1, b"", b"heapdbg: connect\n")
 
 
+# More bytes than the queues of a connection take, on its way there and back.
+MANY_DUMPS = b"dump -\n" * 3_000_000
+
+
+def listening_on_a_terminal(program):
+    """Returns what `serve` says on a terminal that is its standard error, with PORT for its port, and its status."""
+    terminal, error = os.openpty()
+    port = free_port()
+    words = ["heapdbg", "serve", "--port", str(port)]
+    with subprocess.Popen(words, executable=program, stdout=subprocess.DEVNULL, stderr=error) as child:
+        with connected(port) as client:
+            rest_of(client, b"end\n")
+        status = child.wait(SECONDS)
+    os.set_blocking(terminal, False)
+    try:
+        shown = os.read(terminal, 65536)
+    except OSError:
+        shown = b""
+    os.close(error)
+    os.close(terminal)
+    return shown.replace(b"%d" % port, b"PORT"), status
+
+
+def served_on_terminals(program):
+    """Yields a server whose standard error is a terminal as (name, what happened, what must happen)."""
+    yield "served beside a terminal", listening_on_a_terminal(program), (b"heapdbg: listening on 127.0.0.1:PORT\r\n", 0)
+
+
 def served_faults(program):
     """Yields faults of `serve` and `ask` as (name, what happened, what must happen)."""
     with socket.create_server(("127.0.0.1", 0)) as server:
@@ -392,6 +423,8 @@ def served_faults(program):
         yield "a full output of serve", happened, (1, b"", b"heapdbg: write\n", b"")
         happened = served(program, lambda port: asked(program, port, EXAMPLE, stdout=full))
         yield "a full output of ask", happened[3:], (1, b"", b"heapdbg: write\n")
+        happened = served(program, lambda port: asked(program, port, MANY_DUMPS, stdout=full))
+        yield "a full output of ask with a large input", happened[3:], (1, b"", b"heapdbg: write\n")
         folder = os.open("/", os.O_RDONLY)
         happened = served(program, lambda port: asked(program, port, b"", stdin=folder))
         yield "a folder as input of ask", happened, (0, b"session 1 quit\n", b"", 1, b"", b"heapdbg: read\n")
@@ -424,6 +457,22 @@ def saved(program, path, given=POINT, words=(), **how):
         return (*ran, file.read())
 
 
+def saved_unread(program, path):
+    """Returns what happened to a run of `save` to a path whose input never comes, and then what the file has."""
+    reading, writing = os.pipe()
+    try:
+        return saved(program, path, stdin=reading)
+    finally:
+        os.close(reading)
+        os.close(writing)
+
+
+def saved_by_name(program, folder):
+    """Returns what happened to a run of `save` in a folder to a file of it by its name alone, and then what the file has."""
+    ran = run(program, ["save", "--out", "bare.hprof"], POINT, cwd=folder)
+    return (*ran, pathlib.Path(folder, "bare.hprof").read_bytes())
+
+
 def saved_files(program):
     """Yields sessions that are saved to files as (name, what happened, what must happen)."""
     with tempfile.TemporaryDirectory() as folder:
@@ -431,6 +480,7 @@ def saved_files(program):
         yield "a cut session saved", saved(program, path, b"clear 0"), (1, b"bad cut\n", b"heapdbg: cut\n", None)
         done = (0, POINT_MADE + b"saved 301\n", b"", POINT_DUMP)
         yield "saved", saved(program, path), done
+        yield "saved by name", saved_by_name(program, folder), done
         pathlib.Path(path).write_bytes(bytes(1000))
         yield "saved over a file", saved(program, path, POINT + b"end\nclear"), done
         pins = b"ok pin 1 at 3\nok pin 2 at 3\nok pin 3 at 3\nok pin 4 at 3\n"
@@ -454,7 +504,10 @@ def saved_faults(program):
     with tempfile.TemporaryDirectory() as folder:
         path = os.path.join(folder, "heap.hprof")
         missing = os.path.join(folder, "none", "heap.hprof")
-        yield "saved to no folder", saved(program, missing), out
+        early = (1, b"", b"heapdbg: out\n", None)
+        yield "saved to no folder", saved(program, missing), early
+        yield "saved below a file", saved(program, os.path.join(os.path.abspath(__file__), "heap.hprof")), early
+        yield "saved to no folder, with an input that never comes", saved_unread(program, missing), early
         yield "saved to a folder", saved(program, folder), out
         yield "saved to a full file", saved(program, "/dev/full"), out
         yield "saved to no name", saved(program, ""), out
@@ -463,7 +516,7 @@ def saved_faults(program):
             last = (1, b"", b"heapdbg: write\n", EMPTY_DUMP)
             yield "a last line to a full output", saved(program, path, b"", stdout=full), last
             both = (1, b"", b"heapdbg: write\n", None)
-            yield "no outlet and a full output", saved(program, missing, b"", stdout=full), both
+            yield "no outlet and a full output", saved(program, folder, b"", stdout=full), both
     enough = next(n for n in range(1, 64) if run(program, ["run"], preexec_fn=limited(n * MEBIBYTE))[0] == 0)
     large = ["save", "--to", str(free_port()), "--regions", "256", "--keep", "65536"]
     ran = run(program, large, EXAMPLE, preexec_fn=limited(enough * MEBIBYTE))
@@ -547,26 +600,33 @@ def saved_on_terminals(program):
     yield "saved beside a terminal", told, (0, [2_104_143], b"\n", True, True, True)
 
 
-# Values that are out of range, or are not in digits alone.
-VALUES = """
---regions 0, --regions 257, --regions=, --regions +4, --regions=-4, --regions 4k, --mutators 0, --mutators 17, --keep 0, --keep 65537, --keep +4,
---time 1x, --time 18446744073709551616, --ids 0, --ids 3, --ids 5, --ids 6, --ids 7, --ids 9, --ids eight
-"""
-
-SAVED_VALUES = """
-save, save --out x --to 7000, save --regions 4, save --to 0, save --to 65536, save --to +80, save --to=, save --to 4k, save --to 7000 --keep 0
-"""
-
-SERVED_VALUES = """
-serve --port 0, serve --port 65536, serve --port +80, serve --port=, serve --port 4k, serve --port 7000 --sessions 0, serve --port 7000 --sessions 1001,
-serve --port 7000 --sessions x, serve --port 7000 --regions 257, serve --port 7000 --ids 5, ask --port 0, ask --port 65536, ask --port=-1x
-"""
+# What is said of a value that is out of its range or is not in digits alone, and command lines with one.
+MISTAKES = {
+    b"--regions takes 1 to 256": """run --regions 0, run --regions 257, run --regions=, run --regions +4, run --regions=-4,
+        run --regions 4k, run --regions 0 --keep 4, serve --port 7000 --regions 257, save --out x --regions 257""",
+    b"--mutators takes 1 to 16": """run --mutators 0, run --mutators 17, run --regions 4 --mutators 0,
+        serve --port 7000 --mutators 17""",
+    b"--keep takes 1 to 65536": """run --keep 0, run --keep 65537, run --keep +4, run --keep 0 --regions 4,
+        save --to 7000 --keep 0""",
+    b"--time takes 0 to 18446744073709551615": """run --time 1x, run --time 18446744073709551616, run --time= --keep 4,
+        serve --port 7000 --time=-1""",
+    b"--ids takes 4 or 8": """run --ids 0, run --ids 3, run --ids 5, run --ids 6, run --ids 7, run --ids 9, run --ids eight,
+        serve --port 7000 --ids 5, save --out x --ids 16""",
+    b"--port takes 1 to 65535": """serve --port 0, serve --port 65536, serve --port +80, serve --port=, serve --port 4k,
+        serve --sessions 2 --port 0, ask --port 0, ask --port 65536, ask --port=-1x""",
+    b"--sessions takes 1 to 1000": """serve --port 7000 --sessions 0, serve --port 7000 --sessions 1001,
+        serve --port 7000 --sessions x""",
+    b"--to takes 1 to 65535": """save --to 0, save --to 65536, save --to +80, save --to=, save --to 4k,
+        save --to 0 --keep 4""",
+    b"save takes one of --out and --to": "save, save --out x --to 7000, save --regions 4, save --to 0 --out x",
+}
 
 # Command lines that clap refuses, and the first line of what it says.
 REFUSED = {
     "": b"'heapdbg' requires a subcommand but one was not provided",
     "go": b"unrecognized subcommand 'go'",
     "--regions 4 run": b"unexpected argument '--regions' found",
+    "run --version": b"unexpected argument '--version' found",
     "run four": b"unexpected argument 'four' found",
     "run --region 4": b"unexpected argument '--region' found",
     "run --regions": b"a value is required for '--regions <N>' but none was supplied",
@@ -593,10 +653,11 @@ REFUSED = {
 
 def bad_lines(program):
     """Yields bad command lines as (name, what happened, what must happen). Only the first line of a text of clap's is looked at."""
-    for words in VALUES.replace("\n", " ").split(","):
-        yield words, run(program, ["run", *words.split()], EXAMPLE), (2, b"", OUT_OF_RANGE)
-    for words in (SAVED_VALUES + "," + SERVED_VALUES).replace("\n", " ").split(","):
-        yield words, run(program, words.split(), EXAMPLE), (2, b"", OUT_OF_RANGE)
+    for text, lines in MISTAKES.items():
+        for words in map(str.split, lines.split(",")):
+            yield " ".join(words), run(program, words, EXAMPLE), (2, b"", MISTAKE % text)
+    for words in ("--version", "-V"):
+        yield words, run(program, [words], EXAMPLE), (2, b"", VERSION)
     for words in (["\udcff"], ["run", "--regions", "\udcff"]):
         yield "a word that is not UTF-8", run(program, words, EXAMPLE), (2, b"", NOT_UTF8)
     firsts = {words: b"error: %s\n" % text for words, text in REFUSED.items()}
@@ -610,7 +671,8 @@ def differences(program):
     """Yields a line for each run that went otherwise than it must."""
     parts = ("status", "standard output", "standard error", "first of the clients or the dump", "second", "third")
     saves = (saved_files, saved_faults, saved_to_listeners, saved_on_terminals)
-    for cases in (sessions, lines_at_the_limits, faults, bad_lines, *saves, served_sessions, worked, asking, served_faults):
+    serves = (served_sessions, served_on_terminals, worked, asking, served_faults)
+    for cases in (sessions, lines_at_the_limits, faults, bad_lines, *saves, *serves):
         for name, happened, wanted in cases(program):
             if len(happened) != len(wanted):
                 yield f"{program}, {name}: {len(happened)} facts, and must be {len(wanted)}"

@@ -2,8 +2,8 @@
 """Serves hostile clients with the built program, and asks hostile servers.
 
 Usage: checks/sockets.py [--step N] PROGRAM ..
-A connection is closed after each N bytes, 1 if that isn't given. Nothing may hang: each wait has a limit. Prints a line for each difference and ends with status 1 if there is one. Prints nothing
-where all is well."""
+A connection is closed after each N bytes, 1 if that isn't given. Nothing may hang: each wait has a limit. Prints a line for each
+difference and ends with status 1 if there is one. Prints nothing where all is well."""
 import contextlib
 import os
 import pathlib
@@ -12,7 +12,9 @@ import socket
 import struct
 import subprocess
 import sys
+import tempfile
 import threading
+import time
 
 TOP = pathlib.Path(__file__).resolve().parent.parent
 EXAMPLE = (TOP / "examples/point.session").read_bytes()
@@ -155,6 +157,19 @@ def taken_port(program):
     yield "no server", (ran.returncode, ran.stdout, ran.stderr), (1, b"", b"heapdbg: connect\n")
 
 
+@contextlib.contextmanager
+def asking(program, server, **how):
+    """Has `ask` run against a server, by default with its input and output in the hands of the caller, and ends it."""
+    pipes = {"stdin": subprocess.PIPE, "stdout": subprocess.PIPE, "stderr": subprocess.PIPE, "bufsize": 0}
+    words = ["heapdbg", "ask", "--port", str(server.port)]
+    child = subprocess.Popen(words, executable=program, **{**pipes, **how})
+    try:
+        yield child
+    finally:
+        child.kill()
+        child.communicate()
+
+
 def closing_server(listener, answers, read):
     """Accepts a client, reads all that it sends if it is asked to, sends these answers and closes."""
     client, _ = listener.accept()
@@ -188,7 +203,83 @@ def closing_servers(program):
         yield f"the server closes after {length} bytes, and reads nothing", fits, True
 
 
-CASES = closing_clients, resetting_clients, silent_reader, endless_line, many_sessions, taken_port, closing_servers
+def answers_one_by_one(program):
+    """Yields whether a hundred dumps of several pages come whole, each asked for once the one before has come, and in less than a
+    second."""
+    made, dumped = b"newprim 0 0 long 1024\n", b"dump -\n"
+    answer = replies(program, made + dumped)[len(replies(program, made)) :]
+    with Server(program, 1) as server, server.client() as client, client.makefile("rb") as come:
+        client.sendall(made)
+        come.readline()
+        begin = time.monotonic()
+        found = []
+        for _ in range(100):
+            client.sendall(dumped)
+            found.append(come.read(len(answer)))
+        seconds = time.monotonic() - begin
+    yield "a hundred dumps, one by one", (found == [answer] * 100, seconds < 1), (True, True)
+
+
+def lines_in_parts(program):
+    """Yields whether sixty lines that `ask` is given in two parts each, and that are answered one by one, take less than a
+    second."""
+    with Server(program, 2) as server:
+        exchanged(server, b"end\n")
+        with asking(program, server) as client:
+            begin = time.monotonic()
+            for _ in range(60):
+                for part in (b"clear 0", b" 0\n"):
+                    client.stdin.write(part)
+                    time.sleep(0.001)
+                client.stdout.readline()
+            yield "sixty lines in two parts each", time.monotonic() - begin < 1, True
+
+
+def open_input(program):
+    """Yields what `ask` does after a line `end` while its input stays open."""
+    with Server(program, 2) as server:
+        exchanged(server, b"end\n")
+        with asking(program, server) as client:
+            client.stdin.write(b"clear 0 0\nend\n")
+            with contextlib.suppress(subprocess.TimeoutExpired):
+                client.wait(2)
+            found = client.poll(), client.stdout.read() if client.poll() == 0 else None
+    yield "the input stays open after the end", found, (0, b"ok\n")
+
+
+def full_output(program):
+    """Yields what `ask` does with more input than a connection holds if its output takes nothing."""
+    with Server(program, 2) as server, open("/dev/full", "wb") as full, tempfile.TemporaryFile() as lines:
+        exchanged(server, b"end\n")
+        lines.write(b"dump -\n" * 3_000_000)
+        lines.seek(0)
+        with asking(program, server, stdin=lines, stdout=full) as client:
+            with contextlib.suppress(subprocess.TimeoutExpired):
+                client.wait(LIMIT)
+            found = client.poll()
+    yield "the output is full", found, 1
+
+
+def one_client_more(program):
+    """Yields whether a client beyond the last session is refused, while that session still runs."""
+    with Server(program, 1) as server, server.client() as client:
+        client.sendall(b"clear 0 0\n")
+        found = [client.recv(3), False]
+        for _ in range(100):
+            try:
+                socket.create_connection(("127.0.0.1", server.port), LIMIT).close()
+            except ConnectionError:
+                found[1] = True
+                break
+            time.sleep(0.01)
+        found.append(server.run.poll())
+        client.sendall(b"end\n")
+        found += all_of(client), server.ended()
+    yield "one client more", found, [b"ok\n", True, None, b"", (0, ["quit"], b"")]
+
+
+HOSTILE = closing_clients, resetting_clients, silent_reader, endless_line, many_sessions, taken_port, closing_servers
+CASES = (*HOSTILE, answers_one_by_one, lines_in_parts, open_input, full_output, one_client_more)
 
 
 def differences(program):

@@ -1,10 +1,10 @@
 -- What a client sends, and how it ends.
-use Rattle.std.specs.Prelude.{◌≡◌, ℕ, Bool, true, false, codes}
+use Rattle.std.specs.Prelude.{◌≡◌, ◌⊎◌, ℕ, [], Bool, true, false, codes}
 use Rattle.dump_pump.specs.Outlets.{Outgoing}
 use Rattle.dump_pump.specs.Pumps.{PutsAll}
 use Rattle.session_text.specs.Inlets.{Incoming}
 use Rattle.heap_server.specs.declared.client.Asked.{Asked}
-use Rattle.heap_server.specs.declared.client.Asked.TheVariants.{Done, ReadFault as Unread, WriteFault as Unwritten}
+use Rattle.heap_server.specs.declared.client.Asked.TheVariants.{Done, ReadFault as Unread, WriteFault as Unwritten, NoMemory}
 use Rattle.heap_server.specs.declared.copy.Copied.{Copied}
 use Rattle.heap_server.specs.declared.copy.Copied.TheVariants.{Whole, ReadFault, WriteFault}
 use Rattle.heap_server.specs.Copies.{Copies}
@@ -28,3 +28,12 @@ end_of true copied = Unread
 end_of false Whole = Done
 end_of false ReadFault = Unread
 end_of false WriteFault = Unwritten
+
+-- what came from the socket was put out as its copy says
+abbrev pub Receives : Incoming → Incoming → Outgoing → Outgoing → Asked → Type 0
+Receives a b w w' result = (copied : Copied) × (failed : Bool) × Copies a b w w' copied × (result ≡ end_of failed copied)
+
+-- a socket that had given nothing before was received from; or there was no memory, and nothing was put out
+abbrev pub Asks : Outgoing → Outgoing → Asked → Type 0
+Asks w w' result =
+    ((a : Incoming) × (b : Incoming) × (a.taken ≡ []) × Receives a b w w' result) ⊎ ((result ≡ NoMemory) × (w' ≡ w))

@@ -11,4 +11,4 @@ pub use client::{Asked, ask};
 pub use copy::{Copied, copy_all};
 pub use joined::Joined;
 pub use report::{tell_sessions, word};
-pub use sessions::{Served, serve_clients, serve_heap, users};
+pub use sessions::{Served, ServedHeap, serve_clients, serve_heap, users};

@@ -2,7 +2,7 @@
 ghost use Rattle.std.specs.Prelude.{◌≡◌, ◌+◌, ◌≤◌, IfOk, IfErr, length, vec_len, vec_capacity};
 ghost use Rattle.heap_class.specs.declared.Refusal.TheVariants.{NoMemory};
 ghost use Rattle.heap_lock.specs.declared.entry.Role.TheVariants.{User};
-ghost use Rattle.heap_server.specs.Seating.{AreUsers, IsFor, session_limit};
+ghost use Rattle.heap_server.specs.Seating.{AreUsers, IsFor, IsOver, session_limit};
 
 use crate::joined::Joined;
 use dump_pump::WriteOutlet;
@@ -13,6 +13,7 @@ use session_text::{Ended, ReadInlet, serve};
 use std::alloc::{AllocError, Global};
 use std::marker::Brand;
 use std::net::{TcpListener, TcpStream};
+use std::snapshot::Snapshot;
 use std::sync::Wait;
 use std::thread;
 use std::thread::{JoinHandle, Threads};
@@ -22,6 +23,14 @@ use std::thread::{JoinHandle, Threads};
 pub struct Served {
     pub ends: Vec<Ended>,
     pub refused: bool,
+}
+
+/// How the sessions over a heap ended. Contracts see the heap as it was made, and the time in the headers of its dumps.
+#[derive(Drop)]
+pub struct ServedHeap {
+    pub served: Served,
+    pub made: Snapshot<Blank>,
+    pub time: u64,
 }
 
 /// Creates a heap of these settings with a user's seat for each of 1 to 1,000 sessions. Fails with NoMemory.
@@ -37,7 +46,7 @@ pub fn users(alloc: Global, config: Config, sessions: u64) -> Result<Blank, Refu
     Blank::new(alloc, config, roles.as_slice())
 }
 
-/// Serves one client between its socket and the heap. Closes no pin at its end. May wait.
+// Serves one client between its socket and the heap. Each part of an answer goes out at once. Closes no pin at its end. May wait.
 fn session<L: Heap, R: Wait>(
     rt: &R,
     alloc: Global,
@@ -48,13 +57,14 @@ fn session<L: Heap, R: Wait>(
 ) -> Ended
     requires { seat.role ≡ User }
 {
+    let _ = stream.set_nodelay(true);
     let mut reader = ReadInlet::new(&stream);
     let mut writer = WriteOutlet::new(&stream);
     let mut joined = Joined::new(shared, rt, seat);
     serve(alloc, &mut reader, &mut writer, &mut joined, time)
 }
 
-/// Waits for each session in turn. One for which no thread could be had ended by NoMemory.
+// Waits for each session in turn. One for which no thread could be had ended by NoMemory.
 fn await_all<R: Threads>(
     rt: &R,
     running: &mut Vec<Option<JoinHandle<Ended>>>,
@@ -71,16 +81,17 @@ fn await_all<R: Threads>(
     }
 }
 
-/// Accepts as many clients as there are seats, in turn, and serves each in a thread of its own. After an accept that failed no
-/// more are accepted. Returns once all sessions have ended; that of a client for which no thread could be had ends by
-/// NoMemory. Fails if there is no memory for `most` endings, and accepts nothing. May wait.
+/// Accepts as many clients as there are seats, in turn, and serves each in a thread of its own. After the last of them, or after
+/// an accept that failed, it stops listening, so that a further client is refused at once. Returns once all sessions have ended;
+/// that of a client for which no thread could be had ends by NoMemory. Fails if there is no memory for `most` endings, and
+/// accepts nothing. May wait.
 pub fn serve_clients<L: Heap + Send + Sync, R: Threads + Wait + Sync>(
     rt: &R,
     alloc: Global,
     shared: &Shared<L>,
     seats: Seats<L>,
     most: usize,
-    listener: &TcpListener,
+    listener: TcpListener,
     time: u64,
 ) -> Result<Served, AllocError>
     requires users { AreUsers seats }
@@ -103,6 +114,7 @@ pub fn serve_clients<L: Heap + Send + Sync, R: Threads + Wait + Sync>(
             let mut seats = seats;
             let mut running = running;
             let mut ends = ends;
+            let listener = listener;
             let mut refused = false;
             while let Some(seat) = seats.take() {
                 let Ok((stream, _)) = listener.accept() else {
@@ -112,24 +124,26 @@ pub fn serve_clients<L: Heap + Send + Sync, R: Threads + Wait + Sync>(
                 let thread = scope.spawn(move || session(rt, alloc, shared, seat, stream, time));
                 running.push_reserved(thread.ok());
             }
+            drop(listener);
             await_all(rt, &mut running, &mut ends);
             Served { ends, refused }
         },
     ))
 }
 
-/// Opens a heap, and serves as many clients as it has seats, as `serve_clients` does. May wait.
+/// Opens a heap, and serves as many clients as it has seats, as `serve_clients` does, with this time in the headers of its
+/// dumps. May wait.
 pub fn serve_heap<R: Threads + Wait + Sync>(
     rt: &R,
     alloc: Global,
     blank: Blank,
     most: usize,
-    listener: &TcpListener,
+    listener: TcpListener,
     time: u64,
-) -> Result<Served, AllocError>
+) -> Result<ServedHeap, AllocError>
     requires users { AreUsers blank.seats }
     requires most { length blank.seats ≡ most }
-    ensures { IfOk result (IsFor most) }
+    ensures { IfOk result (IsOver blank time most) }
 {
     serve_opened::<Brand, R>(rt, alloc, blank, most, listener, time)
 }
@@ -140,14 +154,16 @@ fn serve_opened<L: Heap + Send + Sync, R: Threads + Wait + Sync>(
     alloc: Global,
     blank: Blank,
     most: usize,
-    listener: &TcpListener,
+    listener: TcpListener,
     time: u64,
-) -> Result<Served, AllocError>
+) -> Result<ServedHeap, AllocError>
     requires named { (blank.config ≡ L.config) × (blank.tables ≡ L.tables) }
     requires users { AreUsers blank.seats }
     requires most { length blank.seats ≡ most }
-    ensures { IfOk result (IsFor most) }
+    ensures { IfOk result (IsOver blank time most) }
 {
+    let made = Snapshot::of(&blank);
     let (shared, seats) = blank.open::<L>();
-    serve_clients(rt, alloc, &shared, seats, most, listener, time)
+    let served = serve_clients(rt, alloc, &shared, seats, most, listener, time)?;
+    Ok(ServedHeap { served, made, time })
 }

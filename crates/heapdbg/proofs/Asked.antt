@@ -14,7 +14,7 @@ use Rattle.heap_class.specs.declared.IdSize.{IdSize}
 use Rattle.heap_class.specs.declared.IdSize.TheVariants.{Eight}
 use Rattle.heap_world.specs.Limits.{AreSettings}
 use Rattle.heap_server.specs.Seating.{session_limit}
-use Rattle.heapdbg.specs.CommandLine.{AreWithin, HasDefaults, IsTask, ask_in, heapdbg_line, id_size_in, id_size_of, is_given, number_in, number_or, port_in, port_limit, save_in, serve_in, sessions_in, sessions_of, settings_in, settings_under, settings_with, target_in, task_in, value_of}
+use Rattle.heapdbg.specs.CommandLine.{AreWithin, HasDefaults, IsTask, ask_in, heapdbg_line, id_size_in, id_size_of, is_given, is_task, number_in, number_or, port_in, port_limit, save_in, serve_in, sessions_in, sessions_of, settings_in, settings_under, settings_with, target_in, task_in, value_of}
 use Rattle.heapdbg.specs.declared.settings.Settings.{Settings}
 use Rattle.heapdbg.specs.declared.settings.Task.{Task}
 use Rattle.heapdbg.specs.declared.settings.Task.TheVariants.{Run, Save, Serve, Ask}
@@ -79,10 +79,6 @@ all_there task (Some r) (Some m) None t i s e = cc
 all_there task (Some r) (Some m) (Some k) None i s e = cc
 all_there task (Some r) (Some m) (Some k) (Some t) None s e = cc
 all_there task (Some r) (Some m) (Some k) (Some t) (Some i) s e = (cc, cc, cc, cc, cc, cc)
-
--- a task has this name
-abbrev pub is_task : Text → Bool
-is_task name = bytes_eq name (codes "run") || (bytes_eq name (codes "save") || (bytes_eq name (codes "serve") || bytes_eq name (codes "ask")))
 
 abbrev task_by : Bool → Bool → Bool → Bool → List Row → Option Task
 task_by runs saves serves asks rows = cond runs (Some Run) (cond saves (save_in rows) (cond serves (serve_in rows) (cond asks (ask_in rows) None)))

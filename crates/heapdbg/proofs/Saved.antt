@@ -1,5 +1,5 @@
 -- A session that is saved is a run of the program.
-use Rattle.std.proofs.Common.{◌≡◌, ℕ, inl, refl, ap, sym, ◌∙◌, subst, Bool, true, List, Option, Some, None, Result, Ok, Err, IfOk, codes}
+use Rattle.std.proofs.Common.{◌≡◌, ℕ, inl, inr, refl, ap, sym, ◌∙◌, subst, Bool, true, List, Option, Some, None, Result, Ok, Err, IfOk, codes}
 use Rattle.std.specs.Borrow.{Bor}
 use Rattle.std.specs.Prelude.{IfSome, is_some, option_and_then, option_map}
 use Rattle.clap.proofs.WalkLemmas.{first_value-rows}
@@ -19,6 +19,8 @@ use Rattle.heap_save.proofs.Saving.{saved_anywhere}
 use Rattle.heapdbg.specs.declared.failure.Fault.{Fault}
 use Rattle.heapdbg.specs.declared.settings.Settings.{Settings}
 use Rattle.heapdbg.specs.CommandLine.{heapdbg_line, path_of, target_in}
+use Rattle.heapdbg.specs.Refusals.{IsMistakeIn, IsTargetMistake}
+use Rattle.heapdbg.specs.declared.refusal.Mistake.{Mistake}
 use Rattle.heapdbg.specs.Saving.{IsSavedTo, any_outlet, save_outcome}
 
 -- the first pin of a heap as it begins
@@ -40,6 +42,18 @@ saved_to unmade s makes first m left a b w w' outlet made ended pumped result op
 pub given_target : (found : Found) (path port : Option (Bor Text)) → option_map (λ s. s.now) path ≡ first_value found (codes "out") → option_map (λ s. s.now) port ≡ first_value found (codes "to")
     → target_in (option_map (λ s. s.now) path) (option_map (λ s. s.now) port) ≡ target_in (first_of (codes "out") (rows_of found)) (first_of (codes "to") (rows_of found))
 given_target found path port one other = λ i. target_in ((one ∙ first_value-rows found (codes "out")) i) ((other ∙ first_value-rows found (codes "to")) i)
+
+-- so is a mistake in them
+pub given_mistake : (m : Mistake) (found : Found) (path port : Option (Bor Text)) → option_map (λ s. s.now) path ≡ first_value found (codes "out") → option_map (λ s. s.now) port ≡ first_value found (codes "to")
+    → IsTargetMistake m (option_map (λ s. s.now) path) (option_map (λ s. s.now) port) → IsTargetMistake m (first_of (codes "out") (rows_of found)) (first_of (codes "to") (rows_of found))
+given_mistake m found path port one other h =
+    subst (λ o. IsTargetMistake m o (first_of (codes "to") (rows_of found))) (one ∙ first_value-rows found (codes "out"))
+    (subst (λ o. IsTargetMistake m (option_map (λ s. s.now) path) o) (other ∙ first_value-rows found (codes "to")) h)
+
+-- a mistake in the two places is one of the options
+pub of_places : (m : Mistake) (rows : List Row) → IsTargetMistake m (first_of (codes "out") rows) (first_of (codes "to") rows) → IsMistakeIn m rows
+of_places m rows (inl h) = subst (λ x. IsMistakeIn x rows) (sym h.0) (inl (refl, h.1))
+of_places m rows (inr h) = subst (λ x. IsMistakeIn x rows) (sym h.0) (inr (refl, h.1))
 
 -- an outlet is there however it is seen
 pub still_some : {A B : Type 0} (f : A → B) (o : Option A) → is_some o ≡ is_some (option_map f o)

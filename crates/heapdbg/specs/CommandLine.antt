@@ -1,6 +1,6 @@
 -- The command line: which settings a list of words asks for.
-use Rattle.std.specs.Prelude.{◌≡◌, ◌≤◌, ◌==◌, ◌&&◌, ℕ, List, Option, Some, None, Bool, ⊤, true, false, codes}
-use Rattle.std.specs.Prelude.{[], length, map, nat_le, nat_lt, option_and_then, option_map, string_bytes, if◌then◌else◌}
+use Rattle.std.specs.Prelude.{◌≡◌, ◌≤◌, ◌==◌, ◌&&◌, ◌||◌, ℕ, List, Option, Some, None, Bool, ⊤, true, false, codes}
+use Rattle.std.specs.Prelude.{length, map, nat_le, nat_lt, option_and_then, option_map, string_bytes, if◌then◌else◌}
 use Rattle.std.specs.List.{list_all, list_any}
 use Rattle.std.specs.Option.{option_map_or}
 use Rattle.clap.specs.Lexer.{long_of}
@@ -14,7 +14,6 @@ use Rattle.heap_class.specs.declared.IdSize.{IdSize}
 use Rattle.heap_class.specs.declared.IdSize.TheVariants.{Four, Eight}
 use Rattle.heap_server.specs.Seating.{session_limit}
 use Rattle.heap_world.specs.Limits.{AreSettings}
-use Rattle.heapdbg.specs.declared.command_line.TheConstants.{OUT_OF_RANGE}
 use Rattle.heapdbg.specs.declared.settings.Task.{Task}
 use Rattle.heapdbg.specs.declared.settings.Task.TheVariants.{Run, Save, Serve, Ask}
 use Rattle.heapdbg.specs.declared.settings.Target.{Target}
@@ -58,11 +57,13 @@ serve_line = with_rule (with_rule (session_line (codes "serve")) port_option) (v
 abbrev pub ask_line : App
 ask_line = with_rule (new_app (codes "ask")) port_option
 
--- the program's name, and a command that has to follow, of those that need nobody else
+-- the program's name and `--version`, and a command that has to follow, of those that need nobody else
 abbrev pub local_line : App
 local_line =
     let named = new_app (codes "heapdbg") in
-    with_subcommand (with_subcommand (record named { top = record named.top { subcommand_required = true } }) run_line.top) save_line.top
+    with_subcommand
+    (with_subcommand (record named { top = record named.top { subcommand_required = true; has_version = true } }) run_line.top)
+    save_line.top
 
 -- all commands
 abbrev pub heapdbg_line : App
@@ -138,6 +139,10 @@ serve_in rows = option_and_then (λ port. option_map (λ sessions. Serve port se
 abbrev pub ask_in : List Row → Option Task
 ask_in rows = option_map (λ port. Ask port) (port_in rows)
 
+-- a task has this name
+abbrev pub is_task : Text → Bool
+is_task name = bytes_eq name (codes "run") || (bytes_eq name (codes "save") || (bytes_eq name (codes "serve") || bytes_eq name (codes "ask")))
+
 -- the task of a command's name and options
 abbrev pub task_in : Text → List Row → Option Task
 task_in name rows =
@@ -199,9 +204,3 @@ pub record HasDefaults (words : List Text) (s : Settings) : Type 0 where
 abbrev pub IsBadWith : Text → LineFault → Type 0
 IsBadWith text (Bad shown) = string_bytes shown ≡ text
 IsBadWith text Memory = ⊤
-
--- what a refusal says of the words: they ask for no settings, and where the parser finds no fault in them the text is that of
--- a value out of its range
-abbrev pub IsRefusalOf : List Text → LineFault → Type 0
-IsRefusalOf words (Bad text) = (settings_of words ≡ None) × (fault_of heapdbg_line words ≡ [] → string_bytes text ≡ OUT_OF_RANGE.now)
-IsRefusalOf words Memory = ⊤

@@ -1,5 +1,6 @@
 -- What the program's command line means, and how the program ends.
 pub mod CommandLine
+pub mod Refusals
 pub mod Endings
 pub mod Serving
 pub mod Saving

@@ -15,8 +15,9 @@ use Rattle.heapdbg.specs.declared.settings.Task.{Task}
 use Rattle.heapdbg.specs.declared.failure.Fault.TheVariants as fault
 use Rattle.heapdbg.specs.declared.settings.Task.TheVariants.{Run, Save, Serve, Ask}
 use Rattle.heapdbg.specs.declared.settings.Target.TheVariants.{Out, To}
-use Rattle.heapdbg.specs.CommandLine.{IsRefusalOf, settings_of}
+use Rattle.heapdbg.specs.CommandLine.{settings_of}
 use Rattle.heapdbg.specs.Endings.{failure_of, outcome_of, work_of}
+use Rattle.heapdbg.specs.Refusals.{IsRefusalOf}
 use Rattle.heapdbg.specs.Saving.{IsSavedTo}
 use Rattle.heapdbg.specs.Serving.{IsAsked, IsServed}
 
@@ -27,13 +28,17 @@ IsRun s a b w w' result =
     ((ended : Ended) × (left : Machine) × IsSession (opening_machine s.ids s.regions s.mutators s.keep) s.time a b w w' left ended × Ends a b w w' ended × (result ≡ outcome_of ended))
     ⊎ ((result ≡ Err Memory) × (b ≡ a) × (w' ≡ w))
 
+-- a session that was saved to a file; or the folder of its path was not there, and nothing was read or written
+abbrev pub IsSavedOut : Settings → Incoming → Incoming → Outgoing → Outgoing → Result (Unit {0}) Fault → Type 0
+IsSavedOut s a b w w' result = IsSavedTo fault.Out s a b w w' result ⊎ ((result ≡ Err fault.Out) × (b ≡ a) × (w' ≡ w))
+
 -- the task of the settings was done
 abbrev pub IsDone : Task → Settings → Incoming → Incoming → Outgoing → Outgoing → Result (Unit {0}) Fault → Type 0
 IsDone Run s a b w w' result = IsRun s a b w w' result
-IsDone (Save Out) s a b w w' result = IsSavedTo fault.Out s a b w w' result
+IsDone (Save Out) s a b w w' result = IsSavedOut s a b w w' result
 IsDone (Save (To port)) s a b w w' result = IsSavedTo fault.Connect s a b w w' result
-IsDone (Serve port sessions) s a b w w' result = (b ≡ a) × IsServed sessions w w' result
-IsDone (Ask port) s a b w w' result = IsAsked a b w w' result
+IsDone (Serve port sessions) s a b w w' result = (b ≡ a) × IsServed s sessions w w' result
+IsDone (Ask port) s a b w w' result = (b ≡ a) × IsAsked w w' result
 
 -- the settings that the words ask for, and their task done; or a refusal of the words, and then nothing is read or written
 abbrev pub IsPerformed : List (List ℕ) → Incoming → Incoming → Outgoing → Outgoing → Result (Unit {0}) Failure → Type 0

@@ -3,31 +3,31 @@ ghost use Rattle.std.specs.Prelude.{◌≡◌};
 ghost use Rattle.heapdbg.specs.Serving.{IsAsked, asked_outcome};
 
 use crate::failure::Fault;
-use crate::lent::{LentInlet, LentOutlet};
 use dump_pump::Outlet;
 use heap_server::{Asked, ask};
 use session_text::Inlet;
+use std::alloc::Global;
 use std::net::{Ipv4Addr, Net, TcpStream};
 use std::sync::Wait;
 use std::thread::Threads;
 
-/// Sends all input to the session on a port, and puts out what comes back. Fails with Connect if no connection can be had, and
-/// then reads and writes nothing. May wait.
-pub fn ask_port<R: Net<Stream = TcpStream> + Threads + Wait + Sync, I: Inlet + Send, O: Outlet>(
+/// Sends all input to the session on a port, and puts out what comes back, until the session has ended. Fails with Connect if no
+/// connection can be had, and then writes nothing. May wait.
+pub fn ask_port<R, I: Inlet + Send + Drop + 'static, O: Outlet>(
     rt: &R,
+    alloc: Global,
     port: u16,
-    reader: &mut I,
+    input: I,
     writer: &mut O,
 ) -> Result<(), Fault>
-    ensures { IsAsked (I.seen reader.old) (I.seen reader.new) (O.seen writer.old) (O.seen writer.new) result }
+where
+    R: Net<Stream = TcpStream> + Threads + Wait + Copy + Send + Sync + Drop + 'static,
+    ensures { IsAsked (O.seen writer.old) (O.seen writer.new) result }
 {
     let Ok(stream) = TcpStream::connect(rt, (Ipv4Addr::LOCALHOST, port)) else {
         return Err(Fault::Connect);
     };
-    let input = LentInlet { inlet: reader };
-    let output = LentOutlet { outlet: writer };
-    let (ended, _output) = ask(rt, &stream, input, output);
-    outcome(ended)
+    outcome(ask(rt, alloc, stream, input, writer))
 }
 
 /// What an ended client is for the program.

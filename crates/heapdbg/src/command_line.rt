@@ -1,15 +1,17 @@
 //! Reads the command line.
-ghost use Rattle.std.specs.Prelude.{◌≡◌, Some, codes, false, IfOk, IfErr, IfSome};
+ghost use Rattle.std.specs.Prelude.{◌≡◌, None, Some, codes, false, IfOk, IfErr, IfSome};
 ghost use Rattle.std.specs.List.{list_all};
 ghost use Rattle.std.specs.Prelude.{option_and_then};
 ghost use Rattle.std.specs.Char.{is_ascii_digit};
 ghost use Rattle.clap.specs.Words.{FailsBy, app_of, fault_of, found_of, kind_of, rows_of};
 ghost use Rattle.clap.specs.declared.builder.Command.TheViews.{out-Command};
 ghost use Rattle.clap.specs.Words.{rule_of, subcommand_of, subcommand_rows_of};
-ghost use Rattle.heapdbg.specs.CommandLine.{AreWithin, HasDefaults, IsBadWith, IsRefusalOf, heap_line, heapdbg_line, local_line, number_in, run_line};
+ghost use Rattle.heapdbg.specs.CommandLine.{AreWithin, HasDefaults, IsBadWith, heap_line, heapdbg_line, local_line, number_in, run_line};
 ghost use Rattle.heapdbg.specs.CommandLine.{settings_in, settings_of, settings_under, texts, value_of};
-ghost use Rattle.heapdbg.specs.CommandLine.{id_size_of, path_of, session_line, task_in, value_option};
+ghost use Rattle.heapdbg.specs.CommandLine.{id_size_in, id_size_of, path_of, session_line, task_in, value_option};
+ghost use Rattle.heapdbg.specs.Refusals.{IsMistake, IsMistakeIn, IsRefusalOf, version_text};
 
+use crate::refusal::{Mistake, VERSION, version};
 use crate::save_options::{save_parser, save_task};
 use crate::settings::{LineFault, Settings, Task};
 use crate::socket_options::{ask_parser, ask_task, serve_parser, serve_task};
@@ -18,8 +20,8 @@ use clap::{Arg, ArgAction, ArgMatches, Command, Error};
 use heap_class::IdSize;
 use std::alloc::{AllocError, Global};
 
-/// The settings that the words ask for, the first of which is the program's name. Bad where they are
-/// no command line of this program or ask for help, and Memory only where memory ran out.
+/// The settings that the words ask for, the first of which is the program's name. Bad where they are no command line of this
+/// program or ask for help or for the version, and Memory only where memory ran out.
 pub fn settings(alloc: Global, words: &[&str]) -> Result<Settings, LineFault>
     ensures ok { IfOk result (λ s. settings_of (texts words.now) ≡ Some s) }
     ensures refused { IfErr result (IsRefusalOf (texts words.now)) }
@@ -31,8 +33,8 @@ pub fn settings(alloc: Global, words: &[&str]) -> Result<Settings, LineFault>
         Err(error) => return Err(refusal(alloc, &error)),
     };
     match asked(&matches) {
-        Some(settings) => Ok(settings),
-        None => Err(bad(alloc, OUT_OF_RANGE)),
+        Ok(settings) => Ok(settings),
+        Err(mistake) => Err(mistake.refusal(alloc)),
     }
 }
 
@@ -48,11 +50,6 @@ pub fn out_path<'a>(alloc: Global, words: &'a [&'a str]) -> Option<&'a str>
         Err(_) => None,
     }
 }
-
-const OUT_OF_RANGE: &str =
-    "error: a value is in digits alone: --regions 1 to 256, --mutators 1 to 16, --keep 1 to 65536, \
-    --time below 2^64, --ids 4 or 8, --port and --to 1 to 65535, --sessions 1 to 1000; \
-    save takes one of --out and --to\n\nFor more information, try 'heapdbg --help'.\n";
 
 /// What clap makes of the words.
 fn parsed<'a>(alloc: Global, words: &'a [&'a str]) -> Result<ArgMatches<'a>, Error>
@@ -79,6 +76,7 @@ fn local_parser<'a>(alloc: Global) -> Result<Command<'a>, AllocError>
     let run = run_parser(alloc)?;
     let save = save_parser(alloc)?;
     Command::new(alloc, "heapdbg")
+        .version(VERSION)
         .subcommand_required(true)
         .subcommand(run)?
         .subcommand(save)
@@ -158,20 +156,26 @@ pub(crate) fn value_arg<'a>(alloc: Global, name: &'a str, help: &'a str) -> Arg<
 }
 
 /// The settings that the matches ask for.
-fn asked(matches: &ArgMatches<'_>) -> Option<Settings>
-    ensures { result ≡ option_and_then settings_under (subcommand_rows_of matches.now) }
+fn asked(matches: &ArgMatches<'_>) -> Result<Settings, Mistake>
+    ensures ok { IfOk result (λ s. option_and_then settings_under (subcommand_rows_of matches.now) ≡ Some s) }
+    ensures none { IfErr result (λ m. option_and_then settings_under (subcommand_rows_of matches.now) ≡ None) }
+    ensures mistake { IfErr result (λ m. IsMistake m (subcommand_rows_of matches.now)) }
 {
-    let (name, options) = matches.subcommand()?;
+    let Some((name, options)) = matches.subcommand() else {
+        return Err(Mistake::Command);
+    };
     let task = task_of(name, options)?;
     settings_from(task, options)
 }
 
 /// The task of a command's name and options.
-fn task_of(name: &str, options: &ArgMatches<'_>) -> Option<Task>
-    ensures { result ≡ task_in name.now (rows_of (found_of options.now)) }
+fn task_of(name: &str, options: &ArgMatches<'_>) -> Result<Task, Mistake>
+    ensures ok { IfOk result (λ task. task_in name.now (rows_of (found_of options.now)) ≡ Some task) }
+    ensures none { IfErr result (λ m. task_in name.now (rows_of (found_of options.now)) ≡ None) }
+    ensures mistake { IfErr result (λ m. IsMistake m (Some (name.now, rows_of (found_of options.now)))) }
 {
     if name == "run" {
-        return Some(Task::Run);
+        return Ok(Task::Run);
     }
     if name == "save" {
         return save_task(options);
@@ -182,21 +186,32 @@ fn task_of(name: &str, options: &ArgMatches<'_>) -> Option<Task>
     if name == "ask" {
         ask_task(options)
     } else {
-        None
+        Err(Mistake::Command)
     }
 }
 
 /// The settings that a task's options give, where each has a value in its range.
-fn settings_from(task: Task, options: &ArgMatches<'_>) -> Option<Settings>
-    ensures { result ≡ settings_in task (rows_of (found_of options.now)) }
+fn settings_from(task: Task, options: &ArgMatches<'_>) -> Result<Settings, Mistake>
+    ensures ok { IfOk result (λ s. settings_in task (rows_of (found_of options.now)) ≡ Some s) }
+    ensures none { IfErr result (λ m. settings_in task (rows_of (found_of options.now)) ≡ None) }
+    ensures mistake { IfErr result (λ m. IsMistakeIn m (rows_of (found_of options.now))) }
 {
-    let regions = option_value(options, "regions", 16, 1, 256)?;
-    let mutators = option_value(options, "mutators", 2, 1, 16)?;
-    let keep = option_value(options, "keep", 1024, 1, 65536)?;
-    let time = option_value(options, "time", 0, 0, u64::MAX)?;
-    let bytes = option_value(options, "ids", 8, 4, 8)?;
-    let ids = id_size(bytes)?;
-    Some(Settings {
+    let Some(regions) = option_value(options, "regions", 16, 1, 256) else {
+        return Err(Mistake::Regions);
+    };
+    let Some(mutators) = option_value(options, "mutators", 2, 1, 16) else {
+        return Err(Mistake::Mutators);
+    };
+    let Some(keep) = option_value(options, "keep", 1024, 1, 65536) else {
+        return Err(Mistake::Keep);
+    };
+    let Some(time) = option_value(options, "time", 0, 0, u64::MAX) else {
+        return Err(Mistake::Time);
+    };
+    let Some(ids) = id_size_from(options) else {
+        return Err(Mistake::Ids);
+    };
+    Ok(Settings {
         task,
         regions,
         mutators,
@@ -204,6 +219,14 @@ fn settings_from(task: Task, options: &ArgMatches<'_>) -> Option<Settings>
         time,
         ids,
     })
+}
+
+/// The size of identifiers that the options give.
+fn id_size_from(options: &ArgMatches<'_>) -> Option<IdSize>
+    ensures { result ≡ id_size_in (rows_of (found_of options.now)) }
+{
+    let bytes = option_value(options, "ids", 8, 4, 8)?;
+    id_size(bytes)
 }
 
 /// Returns the size of an identifier of so many bytes, or None if they are neither 4 nor 8.
@@ -254,24 +277,18 @@ fn is_digits(text: &str) -> bool
     text.bytes().all(|byte| byte.is_ascii_digit())
 }
 
-/// The refusal that an error of clap stands for, with clap's text; no contract tells that text.
+/// The refusal that an error of clap stands for: the version if that is asked for, and else clap's text, which no contract tells.
 fn refusal(alloc: Global, error: &Error) -> LineFault
-    ensures { kind_of error.now ≡ ErrorKind.OutOfMemory → result ≡ LineFault.Memory }
+    ensures memory { kind_of error.now ≡ ErrorKind.OutOfMemory → result ≡ LineFault.Memory }
+    ensures version { kind_of error.now ≡ ErrorKind.DisplayVersion → IsBadWith version_text result }
 {
     if error.kind() == ErrorKind::OutOfMemory {
         return LineFault::Memory;
     }
-    match error.to_string(alloc) {
-        Ok(text) => LineFault::Bad(text),
-        Err(_) => LineFault::Memory,
+    if error.kind() == ErrorKind::DisplayVersion {
+        return version(alloc);
     }
-}
-
-/// A refusal with this text, or Memory where there is none for it.
-pub fn bad(alloc: Global, text: &str) -> LineFault
-    ensures { IsBadWith text.now result }
-{
-    match String::from_str(alloc, text) {
+    match error.to_string(alloc) {
         Ok(text) => LineFault::Bad(text),
         Err(_) => LineFault::Memory,
     }

@@ -5,8 +5,9 @@
 mod ask;
 mod command_line;
 mod failure;
-mod lent;
+mod folder;
 mod progress;
+mod refusal;
 mod save;
 mod save_options;
 mod serve;

@@ -1,11 +1,12 @@
 //! The command line of a session that is saved.
-ghost use Rattle.std.specs.Prelude.{◌≡◌, codes, false, option_map, IfOk};
+ghost use Rattle.std.specs.Prelude.{◌≡◌, None, Some, codes, false, option_map, IfErr, IfOk};
 ghost use Rattle.clap.specs.Words.{app_of, found_of, rows_of, rule_of};
 ghost use Rattle.clap.specs.declared.builder.Command.TheViews.{out-Command};
-ghost use Rattle.heapdbg.specs.CommandLine.{number_in, port_limit, save_in, save_line, target_in, value_option};
-ghost use Rattle.heapdbg.specs.declared.settings.Target.TheVariants.{To};
+ghost use Rattle.heapdbg.specs.CommandLine.{save_in, save_line, target_in, value_option};
+ghost use Rattle.heapdbg.specs.Refusals.{IsMistakeIn, IsTargetMistake};
 
 use crate::command_line::{session_parser, value_arg};
+use crate::refusal::Mistake;
 use crate::settings::{Target, Task};
 use crate::socket_options::port_of;
 use clap::{Arg, ArgAction, ArgMatches, Command};
@@ -20,10 +21,13 @@ pub(crate) fn save_parser<'a>(alloc: Global) -> Result<Command<'a>, AllocError>
     let to = value_arg(
         alloc,
         "to",
-        "Port on 127.0.0.1 that it is dumped to, 1 to 65535",
+        "Port on 127.0.0.1 that the last state is dumped to, 1 to 65535; if not given, --out is required",
     );
-    let about = "Runs a session, and dumps the state that it leaves";
-    session_parser(alloc, "save", about)?.arg(out)?.arg(to)
+    let about =
+        "Runs a session, and dumps the state that it leaves; one of --out and --to is required";
+    let usage = "heapdbg save [OPTIONS] <--out <PATH>|--to <N>>";
+    let parser = session_parser(alloc, "save", about)?.override_usage(usage);
+    parser.arg(out)?.arg(to)
 }
 
 /// The option `--out PATH`.
@@ -35,41 +39,40 @@ fn path_arg<'a>(alloc: Global) -> Arg<'a>
         .long("out")
         .action(ArgAction::Set)
         .value_name("PATH")
-        .help("File that the last state is dumped to")
+        .help("File that the last state is dumped to; if not given, --to is required")
 }
 
 /// The task of the options of `save`: one of the two places has to be given.
-pub(crate) fn save_task(options: &ArgMatches<'_>) -> Option<Task>
-    ensures { result ≡ save_in (rows_of (found_of options.now)) }
+pub(crate) fn save_task(options: &ArgMatches<'_>) -> Result<Task, Mistake>
+    ensures ok { IfOk result (λ task. save_in (rows_of (found_of options.now)) ≡ Some task) }
+    ensures none { IfErr result (λ m. save_in (rows_of (found_of options.now)) ≡ None) }
+    ensures mistake { IfErr result (λ m. IsMistakeIn m (rows_of (found_of options.now))) }
 {
     let path = options.get_str("out");
     let port = options.get_str("to");
     match target(path, port) {
-        Some(target) => Some(Task::Save(target)),
-        None => None,
+        Ok(target) => Ok(Task::Save(target)),
+        Err(mistake) => Err(mistake),
     }
 }
 
 /// Where a dump goes whose path or port is given.
-fn target(path: Option<&str>, port: Option<&str>) -> Option<Target>
-    ensures { result ≡ target_in (option_map (λ s. s.now) path.entry) (option_map (λ s. s.now) port.entry) }
+fn target(path: Option<&str>, port: Option<&str>) -> Result<Target, Mistake>
+    ensures ok { IfOk result (λ t. target_in (option_map (λ s. s.now) path.entry) (option_map (λ s. s.now) port.entry) ≡ Some t) }
+    ensures none { IfErr result (λ m. target_in (option_map (λ s. s.now) path.entry) (option_map (λ s. s.now) port.entry) ≡ None) }
+    ensures mistake { IfErr result (λ m. IsTargetMistake m (option_map (λ s. s.now) path.entry) (option_map (λ s. s.now) port.entry)) }
 {
     match path {
         Some(_) => match port {
-            Some(_) => None,
-            None => Some(Target::Out),
+            Some(_) => Err(Mistake::Place),
+            None => Ok(Target::Out),
         },
         None => match port {
-            Some(text) => port_target(text),
-            None => None,
+            Some(text) => match port_of(text) {
+                Some(port) => Ok(Target::To(port)),
+                None => Err(Mistake::To),
+            },
+            None => Err(Mistake::Place),
         },
     }
-}
-
-/// The port that a text writes.
-fn port_target(text: &str) -> Option<Target>
-    ensures { result ≡ option_map (λ port. To port) (number_in 1 port_limit text.now) }
-{
-    let port = port_of(text)?;
-    Some(Target::To(port))
 }

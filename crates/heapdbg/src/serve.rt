@@ -20,7 +20,7 @@ const LINE: usize = 20;
 
 /// Serves so many sessions to clients of a port, and puts out how each ended. Fails with Memory if there is none for the heap,
 /// with Listen if the port can't be listened on, with Accept if a client could not be accepted, and else with Write if a write
-/// failed. May wait.
+/// failed. Says on standard error that it listens, if that is a terminal. May wait.
 pub fn serve_port<R, O: Outlet>(
     rt: &R,
     alloc: Global,
@@ -28,12 +28,13 @@ pub fn serve_port<R, O: Outlet>(
     port: u16,
     sessions: u64,
     writer: &mut O,
+    is_terminal: bool,
 ) -> Result<(), Fault>
 where
-    R: Net<Listener = TcpListener, Stream = TcpStream> + Threads + Wait + Sync,
+    R: Net<Listener = TcpListener, Stream = TcpStream> + Eprint + Threads + Wait + Sync,
     requires heap { AreSettings settings.now.regions settings.now.mutators settings.now.keep }
     requires sessions { (1 ≤ sessions) × (sessions ≤ session_limit) }
-    ensures { IsServed sessions (O.seen writer.old) (O.seen writer.new) result }
+    ensures { IsServed settings.now sessions (O.seen writer.old) (O.seen writer.new) result }
 {
     let Ok(blank) = users(alloc, config(settings), sessions) else {
         return Err(Fault::Memory);
@@ -45,8 +46,11 @@ where
     let Ok(listener) = TcpListener::bind(rt, (Ipv4Addr::LOCALHOST, port)) else {
         return Err(Fault::Listen);
     };
-    match serve_heap(rt, alloc, blank, most, &listener, settings.time) {
-        Ok(served) => tell(&served, report, writer),
+    if is_terminal {
+        let _ = eprintln!(rt; "heapdbg: listening on 127.0.0.1:{port}");
+    }
+    match serve_heap(rt, alloc, blank, most, listener, settings.time) {
+        Ok(heap) => tell(&heap.served, report, writer),
         Err(_) => Err(Fault::Memory),
     }
 }

@@ -1,10 +1,12 @@
 //! The command lines of the tasks over sockets.
-ghost use Rattle.std.specs.Prelude.{◌≡◌, false, IfOk};
+ghost use Rattle.std.specs.Prelude.{◌≡◌, None, Some, false, IfErr, IfOk};
 ghost use Rattle.clap.specs.Words.{app_of, found_of, rows_of, rule_of};
 ghost use Rattle.clap.specs.declared.builder.Command.TheViews.{out-Command};
 ghost use Rattle.heapdbg.specs.CommandLine.{ask_in, ask_line, number_in, port_in, port_limit, port_option, serve_in, serve_line};
+ghost use Rattle.heapdbg.specs.Refusals.{IsMistakeIn};
 
 use crate::command_line::{number, option_value, session_parser, value_arg};
+use crate::refusal::Mistake;
 use crate::settings::Task;
 use clap::{Arg, ArgMatches, Command};
 use std::alloc::{AllocError, Global};
@@ -52,20 +54,30 @@ fn port_arg<'a>(alloc: Global) -> Arg<'a>
 }
 
 /// The task of the options of `serve`.
-pub(crate) fn serve_task(options: &ArgMatches<'_>) -> Option<Task>
-    ensures { result ≡ serve_in (rows_of (found_of options.now)) }
+pub(crate) fn serve_task(options: &ArgMatches<'_>) -> Result<Task, Mistake>
+    ensures ok { IfOk result (λ task. serve_in (rows_of (found_of options.now)) ≡ Some task) }
+    ensures none { IfErr result (λ m. serve_in (rows_of (found_of options.now)) ≡ None) }
+    ensures mistake { IfErr result (λ m. IsMistakeIn m (rows_of (found_of options.now))) }
 {
-    let port = port(options)?;
-    let sessions = option_value(options, "sessions", 1, 1, SESSION_LIMIT)?;
-    Some(Task::Serve { port, sessions })
+    let Some(port) = port(options) else {
+        return Err(Mistake::Port);
+    };
+    let Some(sessions) = option_value(options, "sessions", 1, 1, SESSION_LIMIT) else {
+        return Err(Mistake::Sessions);
+    };
+    Ok(Task::Serve { port, sessions })
 }
 
 /// The task of the options of `ask`.
-pub(crate) fn ask_task(options: &ArgMatches<'_>) -> Option<Task>
-    ensures { result ≡ ask_in (rows_of (found_of options.now)) }
+pub(crate) fn ask_task(options: &ArgMatches<'_>) -> Result<Task, Mistake>
+    ensures ok { IfOk result (λ task. ask_in (rows_of (found_of options.now)) ≡ Some task) }
+    ensures none { IfErr result (λ m. ask_in (rows_of (found_of options.now)) ≡ None) }
+    ensures mistake { IfErr result (λ m. IsMistakeIn m (rows_of (found_of options.now))) }
 {
-    let port = port(options)?;
-    Some(Task::Ask { port })
+    match port(options) {
+        Some(port) => Ok(Task::Ask { port }),
+        None => Err(Mistake::Port),
+    }
 }
 
 /// The port that is given.

@@ -1,14 +1,16 @@
 //! The tasks, from the words of the command line on.
 ghost use Rattle.std.specs.Prelude.{◌≡◌, Some, IfOk, IfErr, map, string_bytes};
 ghost use Rattle.std.specs.IoError.{error_kind};
-ghost use Rattle.heapdbg.specs.CommandLine.{AreWithin, IsBadWith, IsRefusalOf, settings_of, texts};
-ghost use Rattle.heapdbg.specs.Runs.{IsDone, IsRun, IsPerformed};
-ghost use Rattle.heapdbg.specs.Saving.{IsSavedTo};
+ghost use Rattle.heapdbg.specs.CommandLine.{AreWithin, IsBadWith, settings_of, texts};
+ghost use Rattle.heapdbg.specs.Refusals.{IsRefusalOf};
+ghost use Rattle.heapdbg.specs.Runs.{IsDone, IsRun, IsPerformed, IsSavedOut};
 ghost use Rattle.heap_world.specs.Limits.{AreSettings};
 
 use crate::ask::ask_port;
-use crate::command_line::{bad, out_path, settings};
+use crate::command_line::{out_path, settings};
 use crate::failure::{Failure, Fault, outcome};
+use crate::folder::has_folder;
+use crate::refusal::bad;
 use crate::save::{save_out, save_to};
 use crate::serve::serve_port;
 use crate::settings::{LineFault, Settings, Target, Task, config};
@@ -29,9 +31,10 @@ use std::{env, io};
 /// standard error is one.
 pub fn perform<R>(rt: &R, is_terminal: bool) -> Result<(), Failure>
 where
-    R: AllocGlobal + Clock + Env + Eprint + Files + Input + Print + Sync,
+    R: AllocGlobal + Clock + Env + Eprint + Files + Input + Print,
     R: Net<Listener = TcpListener, Stream = TcpStream> + Threads + Wait,
-    R::Reader: Send,
+    R: Copy + Send + Sync + Drop + 'static,
+    R::Reader: Send + 'static,
 {
     let words: Vec<String> = match env::args(rt) {
         Ok(words) => words.collect(rt.alloc()).map_err(|_| Fault::Memory)?,
@@ -44,54 +47,48 @@ where
         rt.alloc(),
         words.as_slice(),
         &mut reader,
+        ReadInlet::new(rt.reader()),
         &mut writer,
         is_terminal,
     )
 }
 
-/// Does what the words ask for between a reader and a writer. Where they ask for nothing, or there is no memory to read
+/// Does what the words ask for: a session of the program's own between a reader and a writer, and a client's between `input`,
+/// which a thread takes that may outlive this call, and the writer. Where they ask for nothing, or there is no memory to read
 /// them, nothing is read or written.
-fn perform_words<R, I: Inlet + Send, O: Outlet>(
+fn perform_words<R, I: Inlet + Send, J: Inlet + Send + Drop + 'static, O: Outlet>(
     rt: &R,
     alloc: Global,
     words: &[String],
     reader: &mut I,
+    input: J,
     writer: &mut O,
     is_terminal: bool,
 ) -> Result<(), Failure>
 where
-    R: Net<Listener = TcpListener, Stream = TcpStream>
-        + Clock
-        + Eprint
-        + Files
-        + Threads
-        + Wait
-        + Sync,
+    R: Net<Listener = TcpListener, Stream = TcpStream> + Threads + Wait,
+    R: Clock + Eprint + Files + Copy + Send + Sync + Drop + 'static,
     ensures { IsPerformed (map string_bytes words.now) (I.seen reader.old) (I.seen reader.new) (O.seen writer.old) (O.seen writer.new) result }
 {
     let asked = asked(alloc, words)?;
-    work(rt, alloc, words, &asked, reader, writer, is_terminal)?;
+    work(rt, alloc, words, &asked, reader, input, writer, is_terminal)?;
     Ok(())
 }
 
 /// Does the task of the settings, which the words ask for.
-fn work<R, I: Inlet + Send, O: Outlet>(
+fn work<R, I: Inlet + Send, J: Inlet + Send + Drop + 'static, O: Outlet>(
     rt: &R,
     alloc: Global,
     words: &[String],
     asked: &Settings,
     reader: &mut I,
+    input: J,
     writer: &mut O,
     is_terminal: bool,
 ) -> Result<(), Fault>
 where
-    R: Net<Listener = TcpListener, Stream = TcpStream>
-        + Clock
-        + Eprint
-        + Files
-        + Threads
-        + Wait
-        + Sync,
+    R: Net<Listener = TcpListener, Stream = TcpStream> + Threads + Wait,
+    R: Clock + Eprint + Files + Copy + Send + Sync + Drop + 'static,
     requires { AreWithin asked.now }
     ensures { IsDone asked.now.task asked.now (I.seen reader.old) (I.seen reader.new) (O.seen writer.old) (O.seen writer.new) result }
 {
@@ -107,8 +104,16 @@ where
             writer,
             is_terminal,
         ),
-        Task::Serve { port, sessions } => serve_port(rt, alloc, asked, port, sessions, writer),
-        Task::Ask { port } => ask_port(rt, port, reader, writer),
+        Task::Serve { port, sessions } => serve_port(
+            rt,
+            alloc,
+            asked,
+            port,
+            sessions,
+            writer,
+            is_terminal,
+        ),
+        Task::Ask { port } => ask_port(rt, alloc, port, input, writer),
     }
 }
 
@@ -167,7 +172,8 @@ fn session<I: Inlet, O: Outlet>(
     }
 }
 
-/// One session over a heap of its own, whose last state is dumped to the file that the words name.
+/// One session over a heap of its own, whose last state is dumped to the file that the words name. Fails with Out before it if
+/// the folder of that file is not there.
 fn save_named<R, I: Inlet, O: Outlet>(
     rt: &R,
     alloc: Global,
@@ -180,13 +186,22 @@ fn save_named<R, I: Inlet, O: Outlet>(
 where
     R: Clock + Eprint + Files + Threads + Wait + Sync,
     requires { AreSettings settings.now.regions settings.now.mutators settings.now.keep }
-    ensures { IsSavedTo Fault.Out settings.now (I.seen reader.old) (I.seen reader.new) (O.seen writer.old) (O.seen writer.new) result }
+    ensures { IsSavedOut settings.now (I.seen reader.old) (I.seen reader.new) (O.seen writer.old) (O.seen writer.new) result }
 {
     let Ok(line) = borrowed(alloc, words) else {
         return Err(Fault::Memory);
     };
     match out_path(alloc, line.as_slice()) {
-        Some(path) => save_out(rt, alloc, settings, path, reader, writer, is_terminal),
+        Some(path) if has_folder(rt, path) => save_out(
+            rt,
+            alloc,
+            settings,
+            path,
+            reader,
+            writer,
+            is_terminal,
+        ),
+        Some(_) => Err(Fault::Out),
         None => Err(Fault::Memory),
     }
 }

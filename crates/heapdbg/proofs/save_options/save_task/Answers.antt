@@ -1,12 +1,19 @@
-use Rattle.std.proofs.Common.{◌∙◌, ap}
+use Rattle.std.proofs.Common.{◌∙◌, ap, sym}
 use Rattle.std.specs.Prelude.{option_map}
-use Rattle.clap.specs.Words.{found_of}
+use Rattle.clap.specs.Words.{found_of, rows_of}
 use Rattle.heapdbg.specs.declared.settings.Task.TheVariants.{Save}
-use Rattle.heapdbg.proofs.Saved.{given_target}
+use Rattle.heapdbg.proofs.Saved.{given_mistake, given_target, of_places}
 use Rattle.heapdbg.proofs.save_options.save_task.Goals as goal
 
-pub returns-in-Some : goal.returns-in-Some
-returns-in-Some c = ap (λ o. option_map (λ t. Save t) o) (c.in-Some.ensures ∙ given_target (found_of c.args.options.now) c.get_str-path.result c.get_str-port.result c.get_str-path.ensures c.get_str-port.ensures)
+pub returns-in-Ok-clause-ok : goal.returns-in-Ok-clause-ok
+returns-in-Ok-clause-ok c =
+    ap (λ o. option_map (λ t. Save t) o) (sym (given_target (found_of c.args.options.now) c.get_str-path.result c.get_str-port.result c.get_str-path.ensures c.get_str-port.ensures) ∙ c.in-Ok.ensures.ok)
 
-pub returns-in-None : goal.returns-in-None
-returns-in-None c = ap (λ o. option_map (λ t. Save t) o) (c.in-None.ensures ∙ given_target (found_of c.args.options.now) c.get_str-path.result c.get_str-port.result c.get_str-path.ensures c.get_str-port.ensures)
+pub returns-in-Err-clause-none : goal.returns-in-Err-clause-none
+returns-in-Err-clause-none c =
+    ap (λ o. option_map (λ t. Save t) o) (sym (given_target (found_of c.args.options.now) c.get_str-path.result c.get_str-port.result c.get_str-path.ensures c.get_str-port.ensures) ∙ c.in-Err.ensures.none)
+
+pub returns-in-Err-clause-mistake : goal.returns-in-Err-clause-mistake
+returns-in-Err-clause-mistake c =
+    of_places c.in-Err.mistake (rows_of (found_of c.args.options.now))
+    (given_mistake c.in-Err.mistake (found_of c.args.options.now) c.get_str-path.result c.get_str-port.result c.get_str-path.ensures c.get_str-port.ensures c.in-Err.ensures.mistake)

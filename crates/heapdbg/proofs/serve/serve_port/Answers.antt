@@ -1,5 +1,18 @@
-use Rattle.std.proofs.Common.{inl}
+use Rattle.std.proofs.Common.{◌∙◌, ap, inl}
+use Rattle.std.specs.Prelude.{length}
+use Rattle.heap_lock.specs.Blanks.{Maker}
 use Rattle.heapdbg.proofs.serve.serve_port.Goals as goal
 
 pub returns-in-Ok-serve_heap : goal.returns-in-Ok-serve_heap
-returns-in-Ok-serve_heap g c = inl (c.in-Ok-serve_heap.served, c.in-Ok-serve_heap.ensures, c.tell.ensures)
+returns-in-Ok-serve_heap g c =
+    let over = c.in-Ok-serve_heap.ensures in
+    inl (
+      c.in-Ok-serve_heap.heap,
+      (
+        ap (λ (b : Maker). b.config) over.0 ∙ c.in-Ok.ensures.settings ∙ c.config.ensures,
+        ap (λ (b : Maker). length b.seats) over.0 ∙ c.in-Ok.ensures.seats.1,
+        over.1,
+        over.2,
+      ),
+      c.tell.ensures,
+    )

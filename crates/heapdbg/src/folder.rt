@@ -1,0 +1,21 @@
+//! The folder of a file that is to be made.
+use std::fs;
+use std::fs::Files;
+use std::path::Path;
+
+/// Returns whether the folder of a path is there. It makes nothing. A path that names no file has none to look for.
+pub(crate) fn has_folder<R: Files>(rt: &R, path: &str) -> bool {
+    match Path::new(path).parent() {
+        Some(folder) if folder.as_str().is_empty() => true,
+        Some(folder) => is_folder(rt, folder.as_str()),
+        None => true,
+    }
+}
+
+// Returns whether a path is that of a folder.
+fn is_folder<R: Files>(rt: &R, path: &str) -> bool {
+    match fs::metadata(rt, path) {
+        Ok(found) => found.is_dir(),
+        Err(_) => false,
+    }
+}

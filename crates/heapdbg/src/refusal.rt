@@ -1,0 +1,97 @@
+//! What the program says of a command line that it does not do.
+ghost use Rattle.std.specs.Prelude.{◌≡◌, ◌++◌, IfOk, codes, string_bytes};
+ghost use Rattle.heapdbg.specs.CommandLine.{IsBadWith};
+ghost use Rattle.heapdbg.specs.Refusals.{mistake_of, refusal_of, version_text};
+
+use crate::settings::LineFault;
+use std::alloc::{AllocError, Global};
+
+/// The program's version.
+pub(crate) const VERSION: &str = "1.0.0";
+
+/// The hash of the logic in which the program is proved, as `rt version` prints it.
+const LOGIC: &str = "dac8208d650f15bf";
+
+/// What is wrong with a command line whose words are all known: the option with a value out of its range, for the most part.
+#[derive(Clone, Copy, Debug, PartialEq, Eq)]
+pub(crate) enum Mistake {
+    /// There is no command.
+    Command,
+    /// `--regions` is out of its range.
+    Regions,
+    /// `--mutators` is out of its range.
+    Mutators,
+    /// `--keep` is out of its range.
+    Keep,
+    /// `--time` is out of its range.
+    Time,
+    /// `--ids` is neither 4 nor 8.
+    Ids,
+    /// `--port` is out of its range.
+    Port,
+    /// `--sessions` is out of its range.
+    Sessions,
+    /// `--to` is out of its range.
+    To,
+    /// Both of `--out` and `--to` are given, or neither.
+    Place,
+}
+
+impl Mistake {
+    /// Returns what has to be given instead.
+    fn text(self) -> &'static str
+        ensures { result.now ≡ mistake_of self }
+    {
+        match self {
+            Mistake::Command => "heapdbg takes one of run, save, serve and ask",
+            Mistake::Regions => "--regions takes 1 to 256",
+            Mistake::Mutators => "--mutators takes 1 to 16",
+            Mistake::Keep => "--keep takes 1 to 65536",
+            Mistake::Time => "--time takes 0 to 18446744073709551615",
+            Mistake::Ids => "--ids takes 4 or 8",
+            Mistake::Port => "--port takes 1 to 65535",
+            Mistake::Sessions => "--sessions takes 1 to 1000",
+            Mistake::To => "--to takes 1 to 65535",
+            Mistake::Place => "save takes one of --out and --to",
+        }
+    }
+
+    /// Returns the refusal of a command line with this mistake, or Memory if there is none for its text.
+    pub(crate) fn refusal(self, alloc: Global) -> LineFault
+        ensures { IsBadWith (refusal_of self) result }
+    {
+        match refusal_text(alloc, self.text()) {
+            Ok(text) => LineFault::Bad(text),
+            Err(_) => LineFault::Memory,
+        }
+    }
+}
+
+// Returns the text of a refusal that says this.
+fn refusal_text(alloc: Global, mistake: &str) -> Result<String, AllocError>
+    ensures { IfOk result (λ s. string_bytes s ≡ codes "error: " ++ (mistake.now ++ codes "\n\nFor more information, try 'heapdbg --help'.\n")) }
+{
+    format!(in alloc; "error: {mistake}\n\nFor more information, try 'heapdbg --help'.\n")
+}
+
+/// Returns the answer to `--version`: the program's version and the logic's hash; or Memory if there is none for it.
+pub(crate) fn version(alloc: Global) -> LineFault
+    ensures { IsBadWith version_text result }
+{
+    let version = VERSION;
+    let logic = LOGIC;
+    match format!(in alloc; "heapdbg {version} (logic {logic})\n") {
+        Ok(text) => LineFault::Bad(text),
+        Err(_) => LineFault::Memory,
+    }
+}
+
+/// Returns a refusal with this text, or Memory if there is none for it.
+pub(crate) fn bad(alloc: Global, text: &str) -> LineFault
+    ensures { IsBadWith text.now result }
+{
+    match String::from_str(alloc, text) {
+        Ok(text) => LineFault::Bad(text),
+        Err(_) => LineFault::Memory,
+    }
+}

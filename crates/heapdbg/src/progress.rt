@@ -76,8 +76,9 @@ impl<R: Clock + Eprint> Gauge for TerminalGauge<'_, R> {
         }
     }
 
-    fn end(&mut self) {
+    fn end(&mut self, bytes: u64) {
         if self.is_shown {
+            self.write_line(bytes);
             let _ = eprintln!(self.rt; "");
         }
     }

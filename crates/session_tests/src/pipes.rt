@@ -38,8 +38,8 @@ impl Gauge for Notes {
         self.bytes = bytes;
     }
 
-    fn end(&mut self) {
-        self.ended = self.ended.saturating_add(1);
+    fn end(&mut self, bytes: u64) {
+        self.ended = self.ended.saturating_add(bytes);
     }
 }
 

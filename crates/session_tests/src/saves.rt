@@ -46,21 +46,13 @@ pub fn saved<G: Gauge, R: Threads + Wait + Sync>(
 ) -> Outcome {
     let mut inlet = ReadInlet::new(lines.as_bytes());
     let mut outlet = WriteOutlet::new(Vec::new(alloc));
-    let mut place = Memory { alloc };
+    let place = Memory { alloc };
     let Saved {
         ended,
         pumped,
+        place: _,
         outlet: made,
-    } = save_into(
-        rt,
-        alloc,
-        local,
-        &mut inlet,
-        &mut outlet,
-        &mut place,
-        gauge,
-        0,
-    );
+    } = save_into(rt, alloc, local, &mut inlet, &mut outlet, place, gauge, 0);
     let taken = match made {
         Some(made) => made.into_writer(),
         None => Vec::new(alloc),

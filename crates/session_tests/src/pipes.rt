@@ -17,7 +17,7 @@ const SIZE: usize = 66412;
 /// How many of them the first page has: the opening and 15 segments.
 const FIRST: u64 = 61657;
 
-/// Notes what it saw.
+/// Notes what it saw: how often it was begun and shown, what it was shown last, whether that rose, and the bytes that its ends told.
 #[derive(Clone, Copy, Drop, PartialEq)]
 struct Notes {
     begun: u64,
@@ -91,7 +91,7 @@ fn segments_of_many_points(rt: HostRuntime) -> Result<(), Fail> {
                 shown: 2,
                 bytes: FIRST,
                 rises: true,
-                ended: 1,
+                ended: 66412,
             }
     );
     Ok(())

@@ -13,6 +13,8 @@ mod live;
 #[cfg(test)]
 mod live_tests;
 #[cfg(test)]
+mod meters;
+#[cfg(test)]
 mod parts;
 #[cfg(test)]
 mod receipts;

@@ -4,7 +4,8 @@
 Usage: checks/streams.py PROGRAM ..
 The streams are those of checks/streams.c. Sessions that are read and written in parts are answered as ever; a read that fails ends a
 session behind the answers to the lines read whole, and a write that fails behind the bytes that are out. A save goes into files that
-fail, and is whole though its thread begins late or can't be made. Prints a line for each difference and ends with status 1 if there is one. Prints nothing where all is well."""
+fail, and is whole though its thread begins late or can't be made. Prints a line for each difference and ends with status 1 if there
+is one. Prints nothing where all is well."""
 import concurrent.futures
 import os
 import pathlib

@@ -3,8 +3,8 @@ use std::sync::Wait;
 use std::sync::atomic::{AtomicU64, Ordering};
 use std::time::Duration;
 
-/// How many turns a thread is waited for: some 100 ms. A thread mostly begins within one of them. To give it up costs that one dump
-/// its second thread, and nothing else; to wait on costs a dump that no thread can be had for just that time.
+/// How many turns a thread is waited for: some 100 ms. A thread mostly begins within one of them. To give it up costs that one
+/// dump its second thread, and nothing else; to wait on costs a dump that no thread can be had for just that time.
 pub const START_TURNS: u64 = 100;
 
 /// How long a turn lasts at most, in milliseconds.
@@ -37,7 +37,8 @@ impl Start {
         seen != GIVEN_UP
     }
 
-    /// Returns true once it was begun, and gives it up if it wasn't after `START_TURNS` turns of a millisecond. Sleeps in between.
+    /// Returns true once it was begun, and gives it up if it wasn't after `START_TURNS` turns of a millisecond. Sleeps in
+    /// between.
     pub fn is_begun<R: Wait>(&self, rt: &R) -> bool {
         for _ in 0..START_TURNS {
             if self.word.load(Ordering::SeqCst) == BEGUN {

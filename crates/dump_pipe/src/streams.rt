@@ -132,9 +132,9 @@ fn pass_parts<S: Source + Send, O: Outlet, R: Threads + Wait + Sync>(
 }
 
 /// Puts out the parts of a source as `pump` does, while a thread of its own asks the source for the next ones, and adds what is
-/// put out to the progress. If there is no memory for a pipe, or the thread hasn't begun in time, the caller's own thread does both.
-/// Waits for the source and for the outlet, and both threads have ended when it returns. The seat is one of the progress's meter,
-/// and its sum has room for the bytes of a dump.
+/// put out to the progress. If there is no memory for a pipe, or the thread hasn't begun in time, the caller's own thread does
+/// both. Waits for the source and for the outlet, and both threads have ended when it returns. The seat is one of the
+/// progress's meter, and its sum has room for the bytes of a dump.
 pub fn stream_parts<S: Source + Send, O: Outlet, R: Threads + Wait + Sync>(
     rt: &R,
     alloc: Global,

@@ -29,8 +29,8 @@ pub enum Opening<O> {
     Refused,
 }
 
-/// An outlet of a place, which is asked to make it when there is a first put. Each put fails if it could make none. Contracts see the
-/// place, what came of asking it, the bytes put out, and the number of puts that failed.
+/// An outlet of a place, which is asked to make it when there is a first put. Each put fails if it could make none. Contracts
+/// see the place, what came of asking it, the bytes put out, and the number of puts that failed.
 #[derive(Drop)]
 pub(crate) struct LateOutlet<P: Place, B: Origin<P>> {
     place: P,

@@ -8,8 +8,8 @@ use std::time::{Clock, Duration, Instant};
 /// How many milliseconds a line of progress stands at least.
 const INTERVAL: u64 = 100;
 
-/// Shows on standard error how many bytes of a dump are out, and of how many, about ten times a second, if that is a terminal. It
-/// is silent if not, and if the clock can't be read. What can't be written is let go.
+/// Shows on standard error how many bytes of a dump are out, and of how many, about ten times a second, if that is a terminal.
+/// It is silent if not, and if the clock can't be read. What can't be written is let go.
 #[derive(Drop)]
 pub struct TerminalGauge<'a, R> {
     rt: &'a R,

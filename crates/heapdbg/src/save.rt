@@ -60,8 +60,8 @@ impl<R: Net> Place for Peer<'_, R> {
 }
 
 /// Runs a session and dumps the state that it leaves to a file. Shows the progress of the dump on standard error if that is a
-/// terminal. Fails as a session does, with Out if the file can't be made or a write to it fails, and with Lost if the dump is lost.
-/// May wait.
+/// terminal. Fails as a session does, with Out if the file can't be made or a write to it fails, and with Lost if the dump is
+/// lost. May wait.
 pub fn save_out<R, I: Inlet, O: Outlet>(
     rt: &R,
     alloc: Global,
@@ -91,8 +91,8 @@ where
 }
 
 /// Runs a session and dumps the state that it leaves to a port. Shows the progress of the dump on standard error if that is a
-/// terminal. Fails as a session does, with Connect if no connection can be had, with Out if a write to it fails, and with Lost if the
-/// dump is lost. May wait.
+/// terminal. Fails as a session does, with Connect if no connection can be had, with Out if a write to it fails, and with Lost
+/// if the dump is lost. May wait.
 pub fn save_to<R, I: Inlet, O: Outlet>(
     rt: &R,
     alloc: Global,

@@ -5,8 +5,8 @@ use dump_meter::{Progress, ReadSeat};
 use dump_pump::{Outlet, Put};
 use heap_trail::Machine;
 
-/// What sees a dump go out, such as a line on a terminal. It is asked by the thread that puts the dump out. No contract says what
-/// it does.
+/// What sees a dump go out, such as a line on a terminal. It is asked by the thread that puts the dump out. No contract says
+/// what it does.
 pub trait Gauge {
     /// Sees the machine whose current state is dumped next.
     fn begin(&mut self, machine: &Machine);

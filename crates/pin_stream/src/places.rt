@@ -126,10 +126,10 @@ fn stream_shown<O: Outlet, G: Gauge, R: Threads + Wait + Sync>(
     (pumped, taken)
 }
 
-/// Puts out the dump of the current state as `dump_place` does: opens a pin on it, streams its pieces by pages, and closes it. If
-/// the pin is refused, nothing is put out: the dump is lost for want of memory if that is why, and else because the pin is closed.
-/// Lost by Memory, with 0 bytes, also if there is no memory for a meter. While it goes out, a gauge sees the progress. Returns the
-/// outlet, too. May wait.
+/// Puts out the dump of the current state as `dump_place` does: opens a pin on it, streams its pieces by pages, and closes it.
+/// If the pin is refused, nothing is put out: the dump is lost for want of memory if that is why, and else because the pin is
+/// closed. Lost by Memory, with 0 bytes, also if there is no memory for a meter. While it goes out, a gauge sees the progress.
+/// Returns the outlet, too. May wait.
 pub fn stream_place<O: Outlet, G: Gauge, R: Threads + Wait + Sync>(
     rt: &R,
     alloc: Global,

@@ -17,7 +17,8 @@ const SIZE: usize = 66412;
 /// How many of them the first page has: the opening and 15 segments.
 const FIRST: u64 = 61657;
 
-/// Notes what it saw: how often it was begun and shown, what it was shown last, whether that rose, and the bytes that its ends told.
+/// Notes what it saw: how often it was begun and shown, what it was shown last, whether that rose, and the bytes that its ends
+/// told.
 #[derive(Clone, Copy, Drop, PartialEq)]
 struct Notes {
     begun: u64,

@@ -74,8 +74,8 @@ fn by_two<R: Threads + Wait + Sync>(
     Ok((ending, parts, count, pumped, sink))
 }
 
-/// Feeds the dump of points, and drains none of it until the source was asked for a ninth part. Returns how both went, how often
-/// the source had been asked, and how many bytes are out.
+/// Feeds the dump of points, and drains none of it until the source was asked for a ninth part. Returns how both went, how
+/// often the source had been asked, and how many bytes are out.
 fn after_nine<R: Threads + Wait + Sync>(
     rt: &R,
     alloc: Global,
@@ -150,7 +150,8 @@ fn outlets_that_fail(rt: HostRuntime) -> Result<(), Fail> {
     Ok(())
 }
 
-/// Returns what a start is told that nobody makes in time: whether it was begun, whether one may begin then, and whether it was begun.
+/// Returns what a start is told that nobody makes in time: whether it was begun, whether one may begin then, and whether it was
+/// begun.
 fn given_up<R: Wait>(rt: &R) -> (bool, bool, bool) {
     let late = Start::new();
     (late.is_begun(rt), late.begin(), late.is_begun(rt))

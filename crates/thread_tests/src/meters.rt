@@ -99,8 +99,8 @@ fn held<R: Threads + Wait + Sync>(rt: &R, alloc: Global) -> Result<Option<(Pumpe
     Ok(read_of_new(rt, alloc, parts, made))
 }
 
-/// The opening of the dump has 143 bytes: the header, 31; the names `Point`, `x` and `y`, 22 and twice 18; the class, 33; and the
-/// trace, 21.
+/// The opening of the dump has 143 bytes: the header, 31; the names `Point`, `x` and `y`, 22 and twice 18; the class, 33; and
+/// the trace, 21.
 #[test]
 fn a_reader_sees_a_held_stream_rise(rt: HostRuntime) -> Result<(), Fail> {
     let read = held(&rt, rt.alloc())?;
@@ -108,8 +108,8 @@ fn a_reader_sees_a_held_stream_rise(rt: HostRuntime) -> Result<(), Fail> {
     Ok(())
 }
 
-/// Puts out parts in one thread, into a sink that fails once it has so many bytes. Returns how it went, how many bytes are out, and
-/// what is read then.
+/// Puts out parts in one thread, into a sink that fails once it has so many bytes. Returns how it went, how many bytes are out,
+/// and what is read then.
 fn counted(
     alloc: Global,
     mut parts: PinParts,

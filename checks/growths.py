@@ -6,7 +6,8 @@ GROWTHS has to print what is in the file WANTED whatever is refused. HEAPDBG doe
 it reads, or refuses one line and answers all others as a session without that line, or loses a pin and answers all but its
 pieces as if it hadn't. It serves two clients at a time: a session that ends for want of memory has answered nothing, and the
 other one goes on. It saves a dump: that of the session's last state, or a beginning of it, if the dump is lost for want of
-memory. Prints a line for each program or session that goes otherwise, and with -v for each how many allocations were refused;
+memory. If it is lost before its first byte, or the session isn't dumped, a file that was there stays what it was, and no file is
+made. Prints a line for each program or session that goes otherwise, and with -v for each how many allocations were refused;
 ends with status 1 if one goes otherwise."""
 import contextlib
 import os
@@ -21,6 +22,8 @@ SOURCE = pathlib.Path(__file__).resolve().parent / "refuse.c"
 LIMIT = 2000
 REFUSED = b"no 1 NoMemory"
 LOST = b"no 23 Lost Memory"
+# What a file has that a save is to replace.
+BEFORE = b"before" * 100
 
 SESSIONS = {
     "sweep_and_reuse_rewound": """class Node - next:object v:long, new 0 0 0, newprim 0 1 long 5, clear 0 0, snap, mark, finish, snap,
@@ -168,10 +171,13 @@ def wrong_servers(program, library, first, second):
     return LIMIT
 
 
-def saved(program, library, lines, number=0):
-    """Returns status, replies and standard error of a session that is saved, and the bytes of its file."""
+def saved(program, library, lines, number=0, before=BEFORE):
+    """Returns status, replies and standard error of a session that is saved, and the bytes of its file, which has these before; None
+    if there is none before or none afterwards."""
     with tempfile.TemporaryDirectory() as folder:
         path = os.path.join(folder, "out.hprof")
+        if before is not None:
+            pathlib.Path(path).write_bytes(before)
         command = [program, "save", "--out", path, "--regions", "2"]
         status, found, error = session(command, library, lines, number)
         return status, found, error, pathlib.Path(path).read_bytes() if os.path.exists(path) else None
@@ -182,6 +188,8 @@ def is_saved(program, library, lines, found, dump):
     lasts = [last for _, last in found]
     kept = [line for line, last in zip(lines, lasts) if last != REFUSED]
     _, _, _, whole = saved(program, library, kept)
+    if lasts[-1] == b"lost Memory 0":
+        return dump == BEFORE
     if lasts[-1].startswith(b"lost Memory"):
         return whole.startswith(dump) and lasts[-1] == b"lost Memory %d" % len(dump)
     return dump == whole and lasts[-1] == b"saved %d" % len(dump)
@@ -195,13 +203,15 @@ def wrong_saves(program, library, lines):
         if not error:
             return number - 1
         if error == b"refused\nheapdbg: memory\n":
-            good = (status, found, dump) == (1, [], None)
+            good = (status, found, dump) == (1, [], BEFORE)
         else:
             lost = found != [] and found[-1][1].startswith(b"lost")
             said = (1, b"refused\nheapdbg: lost\n") if lost else (0, b"refused\n")
             command = [program, "run", "--regions", "2"]
             good = (status, error) == said and is_saved(program, library, lines, found, dump)
             good = good and is_right(command, library, lines, 0, found[:-1], b"refused\n")
+        if dump == BEFORE:
+            good = good and saved(program, library, lines, number, None) == (status, found, error, None)
         if not good:
             yield number
     return LIMIT

@@ -7,6 +7,7 @@ import contextlib
 import os
 import pathlib
 import resource
+import select
 import socket
 import subprocess
 import sys
@@ -496,6 +497,12 @@ def saved_files(program):
         lines = viewed[1].splitlines()
         told = [viewed[0], all(line.startswith(b"ok") for line in lines[:-1]), lines[-1]]
         yield "the viewer's example", told, [0, True, b"saved %d" % len(viewed[3])]
+    # Long names, up to the longest that a folder takes.
+    for letters in (64, 65, 255):
+        name = "".join(chr(ord("a") + at % 26) for at in range(letters))
+        with tempfile.TemporaryDirectory() as folder:
+            yield f"saved to a name of {letters} letters", saved(program, os.path.join(folder, name)), done
+            yield f"the file of {letters} letters", (os.listdir(folder),), ([name],)
 
 
 def saved_faults(program):
@@ -551,33 +558,50 @@ def saved_to(program, peer, given, *words):
     return (*ran, *got)
 
 
-def late(path, got):
-    """Adds to a list how many bytes come out of a pipe with a name, of which all but the first are read late."""
+def late(path, terminal, got):
+    """Reads a large dump out of a pipe with a name: two pages or so late, and the rest once a line is on a terminal, for which it
+    waits some seconds, if there is one. Adds to a list what is on the terminal then, and how many bytes come out."""
     with open(path, "rb") as pipe:
-        first = pipe.read(4096)
-        time.sleep(0.5)
-        got.append(len(first + pipe.read()))
+        count = len(pipe.read(4096))
+        time.sleep(0.3)
+        count += len(pipe.read(100_000))
+        got.append(shown_on(terminal) if terminal else b"")
+        got.append(count + len(pipe.read()))
 
 
-def saved_beside_a_terminal(program):
-    """Returns the status of a large save to a pipe that is read late, how much came out of it, and what is on a terminal that is its
-    standard error."""
-    terminal, error = os.openpty()
+def shown_on(terminal):
+    """Returns what is on a terminal once a line is. Waits some seconds at most."""
+    if not select.select([terminal], [], [], 5)[0]:
+        return b""
+    # A line may be written in parts.
+    time.sleep(0.05)
+    return os.read(terminal, 65536)
+
+
+def saved_late(program, error, terminal=None):
+    """Returns the status of a large save to a pipe that is read late, what is on a terminal meanwhile, and how much came out."""
     got = []
     with tempfile.TemporaryDirectory() as folder:
         path = os.path.join(folder, "pipe")
         os.mkfifo(path)
-        reader = threading.Thread(target=late, args=(path, got))
+        reader = threading.Thread(target=late, args=(path, terminal, got))
         reader.start()
         words = ["heapdbg", "save", "--out", path, "--regions=256"]
         given = b"newprim 0 0 long 1024\n" * 256
         ran = subprocess.run(words, executable=program, input=given, stdout=subprocess.PIPE, stderr=error, timeout=SECONDS)
         reader.join()
-    os.set_blocking(terminal, False)
-    shown = os.read(terminal, 65536)
+    return (ran.returncode, *got)
+
+
+def saved_beside_a_terminal(program):
+    """Returns the status of a large save whose standard error is a terminal, the progress in bytes that it shows while it is held, all
+    that it shows afterwards, and how much came out of it."""
+    terminal, error = os.openpty()
+    status, early, size = saved_late(program, error, terminal)
+    rest = shown_on(terminal)
     os.close(error)
     os.close(terminal)
-    return ran.returncode, got, shown
+    return status, size, [int(line.split()[0]) for line in early.split(b"\r") if line], early + rest
 
 
 def saved_to_listeners(program):
@@ -592,12 +616,19 @@ def saved_to_listeners(program):
 
 
 def saved_on_terminals(program):
-    """Yields a save whose standard error is a terminal as (name, what happened, what must happen)."""
-    status, got, shown = saved_beside_a_terminal(program)
-    *lines, last = shown.split(b"\r")
-    sizes = [int(line.split()[0]) for line in lines if line]
-    told = (status, got, last, len(sizes) > 0, sizes == sorted(sizes), all(line.endswith(b" of 2104143 bytes") for line in lines if line))
-    yield "saved beside a terminal", told, (0, [2_104_143], b"\n", True, True, True)
+    """Yields saves that take a while, beside a terminal and without one, as (name, what happened, what must happen)."""
+    size = 2_104_143
+    status, came, early, shown = saved_beside_a_terminal(program)
+    *lines, last = [line for line in shown.split(b"\r") if line]
+    told = (status, came, len(early) > 0, all(0 < bytes_out < size for bytes_out in early))
+    yield "saved beside a terminal, and held", told, (0, size, True, True)
+    sizes = [int(line.split()[0]) for line in lines]
+    told = (last, sizes == sorted(sizes), sizes[-1:], all(line.endswith(b" of %d bytes" % size) for line in lines))
+    yield "the lines on the terminal", told, (b"\n", True, [size], True)
+    with tempfile.TemporaryFile() as error:
+        status, _, came = saved_late(program, error)
+        error.seek(0)
+        yield "saved beside a file", (status, came, error.read()), (0, size, b"")
 
 
 # What is said of a value that is out of its range or is not in digits alone, and command lines with one.

@@ -1,22 +1,27 @@
 /* Cuts, interrupts and fails the streams of the program that it is loaded into (LD_PRELOAD): standard input, standard output, and the
-   files that the program opens for writing. Variables say how, each with the prefix IN_, OUT_ or FILE_:
+   files that the program opens for writing. Delays or refuses its threads. Variables say how, each with the prefix IN_, OUT_ or FILE_:
 
    MOST    the most bytes that a read or a write takes
    TIMES   how often each of them is interrupted before it is done
    LEFT    after how many bytes all further ones fail
    NOTHING 1 if a write that fails takes nothing and says no error
 
+   The variable LATE says after how many milliseconds each thread that the program makes begins; a thread isn't made if it is below 0.
+
    The file that the variable COUNTS names, of 32 bytes, gets four numbers: the bytes read, the reads and the writes of standard streams,
    interrupted and failed ones included, and the reads that came after a write that failed. */
 #define _GNU_SOURCE
+#include <dlfcn.h>
 #include <errno.h>
 #include <fcntl.h>
 #include <limits.h>
+#include <pthread.h>
 #include <stdarg.h>
 #include <stdio.h>
 #include <stdlib.h>
 #include <sys/mman.h>
 #include <sys/syscall.h>
+#include <time.h>
 #include <unistd.h>
 
 struct stream {
@@ -31,6 +36,7 @@ struct counts {
 static struct stream in = {"IN"}, out = {"OUT"}, file = {"FILE"};
 static int file_number = -1;
 static int has_failed;
+static long late;
 static struct counts own, *counts = &own;
 
 static long told(const char *stream, const char *what, long otherwise) {
@@ -51,6 +57,8 @@ __attribute__((constructor)) static void begin(void) {
     ask(&in);
     ask(&out);
     ask(&file);
+    const char *delay = getenv("LATE");
+    late = delay ? atol(delay) : 0;
     const char *path = getenv("COUNTS");
     if (path) {
         int number = syscall(SYS_openat, AT_FDCWD, path, O_RDWR, 0);
@@ -129,4 +137,39 @@ int open(const char *path, int flags, ...) {
         file_number = number;
     }
     return number;
+}
+
+struct work {
+    void *(*routine)(void *);
+    void *given;
+};
+
+/* Does the work of a thread, late. */
+static void *begin_late(void *given) {
+    struct work work = *(struct work *)given;
+    free(given);
+    struct timespec rest = {late / 1000, late % 1000 * 1000000};
+    while (nanosleep(&rest, &rest) != 0) {
+    }
+    return work.routine(work.given);
+}
+
+typedef int (*creator)(pthread_t *, const pthread_attr_t *, void *(*)(void *), void *);
+
+int pthread_create(pthread_t *thread, const pthread_attr_t *how, void *(*routine)(void *), void *given) {
+    creator create = (creator)dlsym(RTLD_NEXT, "pthread_create");
+    if (late == 0) {
+        return create(thread, how, routine, given);
+    }
+    struct work *work = malloc(sizeof *work);
+    if (late < 0 || !work) {
+        free(work);
+        return EAGAIN;
+    }
+    *work = (struct work){routine, given};
+    int status = create(thread, how, begin_late, work);
+    if (status != 0) {
+        free(work);
+    }
+    return status;
 }

@@ -4,7 +4,8 @@
 Usage: checks/streams.py PROGRAM ..
 The streams are those of checks/streams.c. Sessions that are read and written in parts are answered as ever; a read that fails ends a
 session behind the answers to the lines read whole, and a write that fails behind the bytes that are out. A save goes into files that
-fail. Prints a line for each difference and ends with status 1 if there is one. Prints nothing where all is well."""
+fail, and is whole though its thread begins late or can't be made. Prints a line for each difference and ends with status 1 if there
+is one. Prints nothing where all is well."""
 import concurrent.futures
 import os
 import pathlib
@@ -219,7 +220,24 @@ def failing_saves(program):
         yield f"a saved session whose write fails after {count} bytes", (*ran.told(), dump), wanted
 
 
-CHECKS = (in_parts, pages, interrupted, failing_reads, failing_writes, failing_files, failing_saves)
+# ---- threads that begin late, or can't be made
+
+
+def late_threads(program):
+    """Yields saves whose thread begins after a second and a half, or can't be made: the dump is whole, as ever."""
+    for late in (1500, -1):
+        ran, dump = program.save(POINT, LATE=late)
+        yield f"a thread {late} ms late", (*ran.told(), dump), (0, POINT_MADE + b"saved 301\n", b"", POINT_DUMP)
+        ran, dump = program.save(MANY_POINTS, LATE=late)
+        _, whole = program.save(MANY_POINTS)
+        told = (ran.status, ran.out.splitlines()[-1:], ran.error, dump == whole)
+        yield f"two pages, a thread {late} ms late", told, (0, [b"saved 66412"], b"", True)
+        ran, dump = program.save(MANY_POINTS, LATE=late, FILE_LEFT=66_000)
+        told = (ran.status, ran.out.splitlines()[-1:], ran.error, dump == (whole or b"")[:66_000])
+        yield f"two pages that fail, a thread {late} ms late", told, (1, [b"failed 66000"], b"heapdbg: out\n", True)
+
+
+CHECKS = (in_parts, pages, interrupted, failing_reads, failing_writes, failing_files, failing_saves, late_threads)
 
 
 def differences(program, check):

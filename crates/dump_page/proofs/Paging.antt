@@ -1,5 +1,5 @@
 -- What a stream of pages is of the parts.
-use Rattle.std.proofs.Common.{◌≡◌, ℕ, ◌<◌, Bool, true, false, List, [], ◌∷◌, ◌++◌, length, Option, Some, None, if◌then◌else◌, refl, ap, sym, ◌∙◌, subst, arith, append_assoc, inl, inr}
+use Rattle.std.proofs.Common.{◌≡◌, ℕ, ◌<◌, Bool, true, false, List, [], ◌∷◌, ◌++◌, length, Option, Some, None, if◌then◌else◌, refl, ap, sym, ◌∙◌, subst, arith, append_assoc}
 use mathlib.Core.List.{IsPrefix}
 use Rattle.hprof_text.specs.declared.Piece.{Piece}
 use Rattle.dump_pump.specs.declared.source.Ending.{Ending}
@@ -12,7 +12,6 @@ use Rattle.dump_pump.specs.Outlets.{Outgoing}
 use Rattle.dump_pump.specs.Sources.{Supply, IsNext, more}
 use Rattle.dump_pump.specs.Pumps.{joined, ends, Fits, IsPumped}
 use Rattle.dump_pump.proofs.Pumping.{more_nil, more_more, joined_push, ends_push}
-use Rattle.dump_pipe.specs.Streams.{IsStreamed}
 use Rattle.dump_page.specs.declared.surplus.Surplus.{Surplus}
 use Rattle.dump_page.specs.Pages.{left_of, supply_at, IsAhead, IsPaged, Pages}
 use Rattle.dump_page.specs.Sources.{paged_supply, pages_in, given_with, ended_by, EndsAs, ArePages}
@@ -150,13 +149,8 @@ some_left start a b given ended x w w' r told h p =
     never : Some x ≡ None → ⊥
     never e = absurd cc
 
-pumped_by : (start : Option (List Piece)) (a b : Supply) (given : List Piece) (ended : Option Ending) (x : Option Surplus) (w w' : Outgoing) (r : Pumped) → a.told ≡ start → ArePages start b given ended x
-    → IsPumped (paged_supply [] None None a.left) (paged_supply given ended x b.left) w w' r → IsPumped a b w w' r
-pumped_by start a b given ended None w w' r told h p = none_left start a b given ended w w' r told h p
-pumped_by start a b given ended (Some x) w w' r told h p = some_left start a b given ended x w w' r told h p
-
 -- a stream of pages is one of their parts
 pub streamed_by : (start : Option (List Piece)) (a b : Supply) (given : List Piece) (ended : Option Ending) (x : Option Surplus) (w w' : Outgoing) (r : Pumped) → a.told ≡ start → ArePages start b given ended x
-    → IsStreamed (paged_supply [] None None a.left) (paged_supply given ended x b.left) w w' r → IsStreamed a b w w' r
-streamed_by start a b given ended x w w' r told h (inl p) = inl (pumped_by start a b given ended x w w' r told h p)
-streamed_by start a b given ended x w w' r told h (inr t) = inr t
+    → IsPumped (paged_supply [] None None a.left) (paged_supply given ended x b.left) w w' r → IsPumped a b w w' r
+streamed_by start a b given ended None w w' r told h p = none_left start a b given ended w w' r told h p
+streamed_by start a b given ended (Some x) w w' r told h p = some_left start a b given ended x w w' r told h p

@@ -53,11 +53,11 @@ both a b w w' v1 v2 e r items f d order =
 
 pub streamed : (a b : Supply) (w w' : Outgoing) (v1 v2 v3 : View) (fed : Option Ending) (r : Pumped) (items : List Message) → MayFeed a b v1 fed → IsDrained [] v2 w w' r → v3 ≡ both_of v1 v2 → HasOrder v3 items → IsPumped a b w w' r
 streamed a b w w' v1 v2 v3 (Some e) r items f d is order = both a b w w' v1 v2 e r items f d (subst (λ u. HasOrder u items) is order)
-streamed a b w w' v1 v2 v3 None r items f d is order = absurd (not_empty d.parts d.ending items (ap (λ u. list_of u ++ items) (sym d.received) ∙ subst (λ u. HasOrder u items) is order ∙ ap list_of f))
+streamed a b w w' v1 v2 v3 None r items f d is order = absurd (not_empty d.parts d.ending items (ap (λ u. list_of u ++ items) (sym d.received) ∙ subst (λ u. HasOrder u items) is order ∙ ap list_of f.0))
 
 pub fed_sends : (a b : Supply) (v : View) (fed : Option Ending) → MayFeed a b v fed → v ≡ Sends (list_of v)
 fed_sends a b v (Some e) f = f.sent ∙ ap (λ u. Sends (list_of u)) (sym f.sent)
-fed_sends a b v None f = f ∙ ap (λ u. Sends (list_of u)) (sym f)
+fed_sends a b v None f = f.0 ∙ ap (λ u. Sends (list_of u)) (sym f.0)
 
 pub drained_gets : (v : View) (w w' : Outgoing) (r : Pumped) → IsDrained [] v w w' r → v ≡ Gets (list_of v)
 drained_gets v w w' r d = d.received ∙ ap (λ u. Gets (list_of u)) (sym d.received)

@@ -1,10 +1,8 @@
 -- What a stream does.
-use Rattle.std.specs.Prelude.{◌≡◌, ℕ, ◌+◌, ◌<◌, ◌^◌, ◌⊎◌, [], Option, Some, None}
+use Rattle.std.specs.Prelude.{◌≡◌, ℕ, ◌+◌, ◌<◌, ◌^◌, [], Option, Some, None}
 use Rattle.atomic_table.specs.Seated.{TableId}
-use Rattle.heap_class.specs.declared.LostCause.TheVariants.{Memory}
 use Rattle.dump_pump.specs.declared.source.Ending.{Ending}
 use Rattle.dump_pump.specs.declared.transfer.Pumped.{Pumped}
-use Rattle.dump_pump.specs.declared.transfer.Pumped.TheVariants.{Lost}
 use Rattle.dump_pump.specs.Outlets.{Outgoing}
 use Rattle.dump_pump.specs.Pumps.{IsPumped, bytes_of}
 use Rattle.dump_pump.specs.Sources.{Supply}
@@ -15,9 +13,9 @@ use Rattle.dump_pipe.specs.Pipes.{byte_limit}
 use Rattle.dump_pipe.specs.Feeds.{IsFed}
 use Rattle.dump_pipe.specs.Drains.{IsDrained}
 
--- what a pump does, or nothing is put out, for want of a thread or of memory
+-- what a pump does
 abbrev pub IsStreamed : Supply → Supply → Outgoing → Outgoing → Pumped → Type 0
-IsStreamed a b w w' r = IsPumped a b w w' r ⊎ ((r ≡ Lost Memory 0) × (w' ≡ w))
+IsStreamed a b w w' r = IsPumped a b w w' r
 
 -- the source has parts left, and nothing was sent
 abbrev pub CanFeed : Supply → View → Type 0
@@ -27,15 +25,20 @@ CanFeed a v = (0 < a.left) × (v ≡ Sends [])
 abbrev pub CanDrain : View → Sum → TableId → Type 0
 CanDrain v seat meter = (v ≡ Gets []) × (seat.meter ≡ meter) × (seat.sum + byte_limit < 2 ^ 64)
 
--- the source was fed, or nothing was sent
+-- the source was fed, or nothing was asked of it and sent
 abbrev pub MayFeed : Supply → Supply → View → Option Ending → Type 0
 MayFeed a b v (Some e) = IsFed a b v e
-MayFeed a b v None = v ≡ Sends []
+MayFeed a b v None = (v ≡ Sends []) × (b ≡ a)
 
 -- the pipe was drained, or nothing was received and put out
 abbrev pub MayDrain : View → Outgoing → Outgoing → Option Pumped → Type 0
 MayDrain v w w' (Some r) = IsDrained [] v w w' r
 MayDrain v w w' None = (v ≡ Gets []) × (w' ≡ w)
+
+-- the pipe was drained of what was sent, or neither of its ends did anything
+abbrev pub MayStream : Supply → Supply → View → View → Outgoing → Outgoing → Option Pumped → Type 0
+MayStream a b v1 v2 w w' (Some r) = ((fed : Option Ending) × MayFeed a b v1 fed) × IsDrained [] v2 w w' r
+MayStream a b v1 v2 w w' None = (b ≡ a) × (w' ≡ w)
 
 -- the bytes that a drain put out, if there was one
 abbrev pub drained_bytes : Option Pumped → ℕ

@@ -3,8 +3,9 @@ use std::sync::Wait;
 use std::sync::atomic::{AtomicU64, Ordering};
 use std::time::Duration;
 
-/// How many turns a thread is waited for.
-pub const START_TURNS: u64 = 1_000;
+/// How many turns a thread is waited for: some 100 ms. A thread mostly begins within one of them. To give it up costs that one
+/// dump its second thread, and nothing else; to wait on costs a dump that no thread can be had for just that time.
+pub const START_TURNS: u64 = 100;
 
 /// How long a turn lasts at most, in milliseconds.
 const TURN_LIMIT: u64 = 1;
@@ -31,12 +32,13 @@ impl Start {
 
     /// Begins, and wakes who waits for that. Returns false if it was given up.
     pub fn begin(&self) -> bool {
-        let seen = self.word.swap(BEGUN, Ordering::SeqCst);
+        let seen = self.move_on(BEGUN);
         self.word.wake_one();
         seen != GIVEN_UP
     }
 
-    /// Returns true once it was begun, and gives it up if it wasn't after `START_TURNS` turns of a millisecond. Sleeps in between.
+    /// Returns true once it was begun, and gives it up if it wasn't after `START_TURNS` turns of a millisecond. Sleeps in
+    /// between.
     pub fn is_begun<R: Wait>(&self, rt: &R) -> bool {
         for _ in 0..START_TURNS {
             if self.word.load(Ordering::SeqCst) == BEGUN {
@@ -45,6 +47,17 @@ impl Start {
             self.word
                 .park_timeout(rt, IDLE as u32, Duration::from_millis(TURN_LIMIT));
         }
-        self.word.swap(GIVEN_UP, Ordering::SeqCst) == BEGUN
+        self.move_on(GIVEN_UP) == BEGUN
+    }
+
+    // Returns what the word is, which is `next` from now on if nobody moved it before.
+    fn move_on(&self, next: u64) -> u64 {
+        match self
+            .word
+            .compare_exchange(IDLE, next, Ordering::SeqCst, Ordering::SeqCst)
+        {
+            Ok(_) => IDLE,
+            Err(seen) => seen,
+        }
     }
 }

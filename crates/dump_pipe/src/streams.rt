@@ -5,15 +5,15 @@ ghost use Rattle.crossbeam_channel.specs.Ends.{sends_on, receives_on};
 ghost use Rattle.dump_pump.specs.Pumps.{bytes_of};
 ghost use Rattle.dump_pipe.specs.declared.view.View.TheVariants.{Sends, Gets};
 ghost use Rattle.dump_pipe.specs.Pipes.{byte_limit};
-ghost use Rattle.dump_pipe.specs.Streams.{IsStreamed, CanFeed, CanDrain, MayFeed, MayDrain, drained_bytes};
+ghost use Rattle.dump_pipe.specs.Streams.{IsStreamed, CanFeed, CanDrain, MayFeed, MayDrain, MayStream, drained_bytes};
 
 use crate::channel::{End, Ends, Order, Receiver, Sender, pipe};
 use crate::drainer::drain_pipe;
 use crate::feeder::feed;
+use crate::pumps::pump_counted;
 use crate::start::Start;
 use dump_meter::{OutSeat, Progress};
 use dump_pump::{Ending, Outlet, Pumped, Source};
-use heap_class::LostCause;
 use std::alloc::Global;
 use std::sync::Wait;
 use std::thread::{Threads, join_mut};
@@ -97,10 +97,44 @@ fn join_ends<S: Source + Send, O: Outlet, R: Threads + Wait + Sync>(
     join_mut(rt, &mut feeder, &mut drainer)
 }
 
+/// Feeds and drains. If only the feeding was begun, drains once it has ended. None if neither was begun.
+fn pass_parts<S: Source + Send, O: Outlet, R: Threads + Wait + Sync>(
+    rt: &R,
+    sender: &Sender,
+    receiver: &Receiver,
+    one: &mut End,
+    other: &mut End,
+    source: &mut S,
+    outlet: &mut O,
+    progress: &Progress<'_>,
+    seat: &mut OutSeat,
+) -> Option<Pumped>
+    requires source { 0 < (S.seen source.old).left }
+    requires one { IsSeatAt (sends_on sender.now) one.old × (view one.old ≡ Sends []) }
+    requires other { IsSeatAt (receives_on receiver.now) other.old × (view other.old ≡ Gets []) }
+    requires meter { seat.old.meter ≡ progress.now }
+    requires room { seat.old.sum + byte_limit < 2 ^ 64 }
+    ensures one { IsSeatAt (sends_on sender.now) one.new }
+    ensures other { IsSeatAt (receives_on receiver.now) other.new }
+    ensures passed { MayStream (S.seen source.old) (S.seen source.new) (view one.new) (view other.new) (O.seen outlet.old) (O.seen outlet.new) result }
+    ensures kept { S.kept source.new ≡ S.kept source.old }
+    ensures meter { seat.new.meter ≡ progress.now }
+    ensures counted { seat.new.sum ≡ seat.old.sum + drained_bytes result }
+{
+    let (fed, drained) = join_ends(
+        rt, sender, receiver, one, other, source, outlet, progress, seat,
+    );
+    if let Some(pumped) = drained {
+        return Some(pumped);
+    }
+    fed?;
+    Some(drain_pipe(rt, receiver, other, outlet, progress, seat))
+}
+
 /// Puts out the parts of a source as `pump` does, while a thread of its own asks the source for the next ones, and adds what is
-/// put out to the progress. Returns Lost by Memory, with 0 bytes, if no pipe or no thread can be had. Waits for the source and
-/// for the outlet, and both threads have ended when it returns. The seat is one of the progress's meter, and its sum has room
-/// for the bytes of a dump.
+/// put out to the progress. If there is no memory for a pipe, or the thread hasn't begun in time, the caller's own thread does
+/// both. Waits for the source and for the outlet, and both threads have ended when it returns. The seat is one of the
+/// progress's meter, and its sum has room for the bytes of a dump.
 pub fn stream_parts<S: Source + Send, O: Outlet, R: Threads + Wait + Sync>(
     rt: &R,
     alloc: Global,
@@ -117,18 +151,13 @@ pub fn stream_parts<S: Source + Send, O: Outlet, R: Threads + Wait + Sync>(
     ensures meter { seat.new.meter ≡ progress.now }
     ensures counted { seat.new.sum ≡ seat.old.sum + bytes_of result }
 {
-    let lost = Pumped::Lost {
-        cause: LostCause::Memory,
-        bytes: 0,
-    };
     let Ok((sender, receiver, mut one, mut other)) = pipe(alloc) else {
-        return lost;
+        return pump_counted(source, outlet, progress, seat);
     };
-    let (_fed, drained) = join_ends(
+    let Some(pumped) = pass_parts(
         rt, &sender, &receiver, &mut one, &mut other, source, outlet, progress, seat,
-    );
-    let Some(pumped) = drained else {
-        return lost;
+    ) else {
+        return pump_counted(source, outlet, progress, seat);
     };
     sender.absorb::<Ends>(&mut one, other);
     sender.learn_as::<Order>(&mut one);

@@ -1,6 +1,7 @@
 -- A session that is saved.
 use Rattle.std.proofs.Common.{◌≡◌, ℕ, Bool, true, false, refl, subst, sym, Option, Some, None}
 use Rattle.dump_pump.specs.declared.transfer.Pumped.{Pumped}
+use Rattle.dump_pump.specs.declared.transfer.Pumped.TheVariants.{Done, OutletFailed, Lost, Cancelled}
 use Rattle.dump_pump.specs.Outlets.{Outgoing}
 use Rattle.heap_trail.specs.Machine.{Machine}
 use Rattle.session_text.specs.declared.Ended.{Ended}
@@ -10,7 +11,7 @@ use Rattle.session_text.specs.Limits.{is_whole}
 use Rattle.session_text.specs.Local.{own_closed}
 use Rattle.session_text.specs.Session.{IsSession}
 use Rattle.session_text.specs.Writes.{IsWritten}
-use Rattle.heap_save.specs.Saves.{IsSaved, Goes, Lands, last_line}
+use Rattle.heap_save.specs.Saves.{IsSaved, Goes, Lands, LandsNowhere, last_line}
 
 -- after a session in which each line was run, a dump and a last line
 pub saved_so : (makes : Option Outgoing → Type 0) (first own time : ℕ) (m left m' : Machine) (a b : Incoming) (w between w' : Outgoing) (outlet : Option Outgoing) (talked ended : Ended) (r : Pumped) (written : Bool)
@@ -39,9 +40,15 @@ saved_anywhere makes others first time m m' a b w w' outlet ended pumped more s 
   goes = go (is_whole s.talked) s.goes;
 }
   where
+    nowhere_there : (n n' : Machine) (r : Pumped) → LandsNowhere makes time n n' r → LandsNowhere others time n n' r
+    nowhere_there n n' (Done k) h = h
+    nowhere_there n n' (OutletFailed k) h = (h.0, more None h.1, h.2)
+    nowhere_there n n' (Lost cause k) h = h
+    nowhere_there n n' (Cancelled k) h = h
+
     lands_there : (n n' : Machine) (o : Option Outgoing) (r : Pumped) → Lands makes time n n' o r → Lands others time n n' o r
-    lands_there n n' None r (made, same, is) = (more None made, same, is)
-    lands_there n n' (Some w2) r (w1, made, dumped) = (w1, more (Some w1) made, dumped)
+    lands_there n n' None r h = nowhere_there n n' r h
+    lands_there n n' (Some w2) r (begun, (w1, made, dumped)) = (begun, (w1, more (Some w1) made, dumped))
 
     go : (q : Bool) → Goes makes first time s.left m' s.between w' outlet s.talked ended pumped q → Goes others first time s.left m' s.between w' outlet s.talked ended pumped q
     go true (r, lands, is, line) = (r, lands_there (own_closed first s.left) m' outlet r lands, is, line)

@@ -1,1 +1,2 @@
 pub mod Saves
+pub mod Late

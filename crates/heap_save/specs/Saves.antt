@@ -1,12 +1,12 @@
 -- What a session does whose last state is dumped.
-use Rattle.std.specs.Prelude.{◌≡◌, ℕ, Bool, true, false, List, [], ◌++◌, codes, decimal, Option, Some, None}
+use Rattle.std.specs.Prelude.{◌≡◌, ℕ, ◌<◌, ◌==◌, Bool, true, false, List, [], ◌++◌, codes, decimal, Option, Some, None, option_map}
 use Rattle.heap_class.specs.declared.LostCause.TheVariants.{Rewound, Memory, Closed}
 use Rattle.dump_pump.specs.declared.transfer.Pumped.{Pumped}
 use Rattle.dump_pump.specs.declared.transfer.Pumped.TheVariants.{Done, OutletFailed, Lost, Cancelled}
 use Rattle.dump_pump.specs.Outlets.{Outgoing}
 use Rattle.dump_pump.specs.Pumps.{bytes_of}
 use Rattle.heap_trail.specs.Machine.{Machine}
-use Rattle.heap_dump.specs.Dumped.{IsDumped}
+use Rattle.heap_dump.specs.Dumped.{IsDumped, with_number_used}
 use Rattle.session_text.specs.declared.Ended.{Ended}
 use Rattle.session_text.specs.Endings.{Ends, EndsWith}
 use Rattle.session_text.specs.Inlets.{Incoming}
@@ -38,10 +38,37 @@ IsEnded (Cancelled n) = ⊥
 
 -- ---- the dump
 
--- no outlet could be made; or one was made, and the current state was dumped into it
+-- no outlet was made: the dump was lost before its first byte, or the place could make none for it
+abbrev pub LandsNowhere : (Option Outgoing → Type 0) → ℕ → Machine → Machine → Pumped → Type 0
+LandsNowhere makes time m m' (Done n) = ⊥
+LandsNowhere makes time m m' (OutletFailed n) = (n ≡ 0) × makes None × (m' ≡ with_number_used m)
+LandsNowhere makes time m m' (Lost cause n) = (n ≡ 0) × ((w : Outgoing) → IsDumped time m m' w w (Lost cause n))
+LandsNowhere makes time m m' (Cancelled n) = ⊥
+
+-- a dump that was lost had put out something
+abbrev pub HasBegun : Pumped → Type 0
+HasBegun (Done n) = Unit {0}
+HasBegun (OutletFailed n) = Unit {0}
+HasBegun (Lost cause n) = 0 < n
+HasBegun (Cancelled n) = Unit {0}
+
+-- no outlet was made; or one was, once there was something to put out, and the current state was dumped into it
 abbrev pub Lands : (Option Outgoing → Type 0) → ℕ → Machine → Machine → Option Outgoing → Pumped → Type 0
-Lands makes time m m' None r = makes None × (m' ≡ m) × (r ≡ OutletFailed 0)
-Lands makes time m m' (Some w') r = (w : Outgoing) × makes (Some w) × IsDumped time m m' w w' r
+Lands makes time m m' None r = LandsNowhere makes time m m' r
+Lands makes time m m' (Some w') r = HasBegun r × ((w : Outgoing) × makes (Some w) × IsDumped time m m' w w' r)
+
+-- whether the place was not asked for an outlet: the session has no dump, or one that was lost before its first byte
+abbrev pub is_unasked : Option Pumped → Bool
+is_unasked None = true
+is_unasked (Some (Done n)) = false
+is_unasked (Some (OutletFailed n)) = false
+is_unasked (Some (Lost cause n)) = n == 0
+is_unasked (Some (Cancelled n)) = false
+
+-- the same of a place that was so before it was asked
+abbrev pub LandsLate : {P O : Type 0} → (P → Type 0) → (P → Option Outgoing → Type 0) → (O → Outgoing) → ℕ → Machine → Machine → P → Option O → Pumped → Type 0
+LandsLate {P} was makes seen time m m' place outlet r =
+    (first : P) × was first × Lands (makes first) time m m' (option_map seen outlet) r × (is_unasked (Some r) ≡ true → was place)
 
 -- ---- the whole
 

@@ -1,6 +1,7 @@
 //! Sessions whose last state is dumped to where its bytes go: a file, a socket, or memory.
 #![tactic(auto)]
 
+mod late_outlet;
 mod line;
 mod place;
 mod save;

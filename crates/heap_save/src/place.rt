@@ -6,7 +6,7 @@ pub trait Place {
     ghost use Rattle.std.specs.Prelude.{Option, option_map};
     ghost use Rattle.dump_pump.specs.Outlets.{Outgoing};
 
-    type Out: Outlet;
+    type Out: Outlet + Drop;
 
     // What an outlet that it makes has put out, and how many of its puts failed; None if it may make none.
     ghost makes: { Self → Option Outgoing → Type 0 };

@@ -1,89 +1,113 @@
 //! Sessions that are saved.
-ghost use Rattle.std.specs.Prelude.{◌≡◌, None, option_map};
+ghost use Rattle.std.specs.Prelude.{◌≡◌, Some, true, option_map};
 ghost use Rattle.session_text.specs.Local.{own_closed};
-ghost use Rattle.heap_save.specs.Saves.{IsEnded, IsSaved, Lands};
+ghost use Rattle.heap_save.specs.Saves.{IsEnded, IsSaved, Lands, LandsLate, is_unasked};
 
+use crate::late_outlet::{LateOutlet, Origin};
 use crate::line::write_last;
 use crate::place::Place;
 use dump_pump::{Outlet, Pumped};
+use heap_trail::Machine;
 use pin_stream::{Gauge, stream_place};
 use session_text::{Ended, Inlet, Local, serve_local};
 use std::alloc::Global;
+use std::marker::Brand;
 use std::sync::Wait;
 use std::thread::Threads;
 
 /// How a session and the dump after it ended.
 #[derive(Drop)]
-pub struct Saved<O> {
+pub struct Saved<P, O> {
     /// How the session ended: WriteFault also if its last line could not be written.
     pub ended: Ended,
     /// How the dump ended, or None if the session did not end by `end` or at the end of input.
     pub pumped: Option<Pumped>,
+    /// The place that was to make the outlet.
+    pub place: P,
     /// The outlet, or None if none was made.
     pub outlet: Option<O>,
 }
 
-/// Closes the pins that were opened through these commands, has the outlet made, and dumps the current state into it.
+/// Dumps the current state into the outlet of a place, which is asked for it when there is something to put out.
+fn dump_late<P: Place, B: Origin<P>, G: Gauge, R: Threads + Wait + Sync>(
+    rt: &R,
+    alloc: Global,
+    machine: &mut Machine,
+    place: P,
+    gauge: &mut G,
+    time: u64,
+) -> (Pumped, P, Option<P::Out>)
+    requires { B.was place }
+    ensures { LandsLate B.was P.makes P.Out.seen time machine.old machine.new result.1 result.2 result.0 }
+{
+    let late: LateOutlet<P, B> = LateOutlet::new(place);
+    let (pumped, taken) = stream_place(rt, alloc, machine, time, late, gauge);
+    let (place, outlet) = taken.into_parts();
+    (pumped, place, outlet)
+}
+
+/// Closes the pins that were opened through these commands, and dumps the current state into the outlet of a place.
 fn dump_last<P: Place, G: Gauge, R: Threads + Wait + Sync>(
     rt: &R,
     alloc: Global,
     local: &mut Local,
-    place: &mut P,
+    place: P,
     gauge: &mut G,
     time: u64,
-) -> (Pumped, Option<P::Out>)
-    ensures lands { Lands (P.makes place.old) time (own_closed local.old.first_pin local.old.machine) local.new.machine (option_map P.Out.seen result.1) result.0 }
+) -> (Pumped, P, Option<P::Out>)
+    ensures lands { Lands (P.makes place) time (own_closed local.old.first_pin local.old.machine) local.new.machine (option_map P.Out.seen result.2) result.0 }
+    ensures untouched { is_unasked (Some result.0) ≡ true → result.1 ≡ place }
     ensures first { local.new.first_pin ≡ local.old.first_pin }
     ensures ended { IsEnded result.0 }
 {
     local.close_all();
-    let Some(outlet) = place.open() else {
-        return (Pumped::OutletFailed { bytes: 0 }, None);
-    };
-    let (pumped, taken) = stream_place(rt, alloc, &mut local.machine, time, outlet, gauge);
-    (pumped, Some(taken))
+    dump_late::<P, Brand, G, R>(rt, alloc, &mut local.machine, place, gauge, time)
 }
 
 /// Serves a session of a machine of one's own as `serve_local` does. If it ended by `end` or at the end of input, closes each
-/// pin that was opened through these commands, has the outlet made, dumps the current state into it, and writes a last line:
-/// `saved`, `failed` or `lost` with its cause, and how many bytes the outlet took. A dump is failed at 0 bytes if no outlet
-/// could be made. Otherwise no outlet is made, and no last line is written. `time`, in milliseconds, stands in the header of
-/// each dump. A thread of its own makes the pieces of the dump, and the caller's puts them out, which a gauge sees; without a
-/// thread, a pipe or a meter the dump is lost by Memory, at 0 bytes. The outlet is asked once for each page of at most 65,536 bytes;
-/// if there is no memory for pages, once for each piece. May wait.
+/// pin that was opened through these commands, dumps the current state into the outlet of a place, and writes a last line:
+/// `saved`, `failed` or `lost` with its cause, and how many bytes the outlet took. The place is asked for the outlet when the
+/// first page is there: not if the dump is lost before. The dump is failed at 0 bytes if no outlet could be made. If the
+/// session ended otherwise, the place is not asked, and no last line is written. `time`, in milliseconds, stands in the header
+/// of each dump. A thread of its own makes the pieces of the dump, and the caller's puts them out, which a gauge sees; without
+/// such a thread or a pipe the caller's does both, and without a meter the dump is lost by Memory, at 0 bytes. The outlet is
+/// asked once for each page of at most 65,536 bytes; if there is no memory for pages, once for each piece. May wait.
 pub fn save_into<I: Inlet, O: Outlet, P: Place, G: Gauge, R: Threads + Wait + Sync>(
     rt: &R,
     alloc: Global,
     local: &mut Local,
     reader: &mut I,
     writer: &mut O,
-    place: &mut P,
+    place: P,
     gauge: &mut G,
     time: u64,
-) -> Saved<P::Out>
-    ensures saved { IsSaved (P.makes place.old) local.old.first_pin time local.old.machine local.new.machine (I.seen reader.old) (I.seen reader.new) (O.seen writer.old) (O.seen writer.new) (option_map P.Out.seen result.outlet) result.ended result.pumped }
+) -> Saved<P, P::Out>
+    ensures saved { IsSaved (P.makes place) local.old.first_pin time local.old.machine local.new.machine (I.seen reader.old) (I.seen reader.new) (O.seen writer.old) (O.seen writer.new) (option_map P.Out.seen result.outlet) result.ended result.pumped }
     ensures first { local.new.first_pin ≡ local.old.first_pin }
-    ensures untouched { result.pumped ≡ None → place.new ≡ place.old }
+    ensures untouched { is_unasked result.pumped ≡ true → result.place ≡ place }
 {
     let ended = serve_local(alloc, reader, writer, local, time);
     if !ended.is_whole() {
         return Saved {
             ended,
             pumped: None,
+            place,
             outlet: None,
         };
     }
-    let (pumped, outlet) = dump_last(rt, alloc, local, place, gauge, time);
+    let (pumped, place, outlet) = dump_last(rt, alloc, local, place, gauge, time);
     if !write_last(writer, pumped) {
         return Saved {
             ended: Ended::WriteFault,
             pumped: Some(pumped),
+            place,
             outlet,
         };
     }
     Saved {
         ended,
         pumped: Some(pumped),
+        place,
         outlet,
     }
 }

@@ -8,8 +8,8 @@ use std::time::{Clock, Duration, Instant};
 /// How many milliseconds a line of progress stands at least.
 const INTERVAL: u64 = 100;
 
-/// Shows on standard error how many bytes of a dump are out, and of how many, about ten times a second, if that is a terminal. It
-/// is silent if not, and if the clock can't be read. What can't be written is let go.
+/// Shows on standard error how many bytes of a dump are out, and of how many, about ten times a second, if that is a terminal.
+/// It is silent if not, and if the clock can't be read. What can't be written is let go.
 #[derive(Drop)]
 pub struct TerminalGauge<'a, R> {
     rt: &'a R,
@@ -76,8 +76,9 @@ impl<R: Clock + Eprint> Gauge for TerminalGauge<'_, R> {
         }
     }
 
-    fn end(&mut self) {
+    fn end(&mut self, bytes: u64) {
         if self.is_shown {
+            self.write_line(bytes);
             let _ = eprintln!(self.rt; "");
         }
     }

@@ -60,8 +60,8 @@ impl<R: Net> Place for Peer<'_, R> {
 }
 
 /// Runs a session and dumps the state that it leaves to a file. Shows the progress of the dump on standard error if that is a
-/// terminal. Fails as a session does, with Out if the file can't be made or a write to it fails, and with Lost if the dump is lost.
-/// May wait.
+/// terminal. Fails as a session does, with Out if the file can't be made or a write to it fails, and with Lost if the dump is
+/// lost. May wait.
 pub fn save_out<R, I: Inlet, O: Outlet>(
     rt: &R,
     alloc: Global,
@@ -76,7 +76,7 @@ where
     requires { AreSettings settings.now.regions settings.now.mutators settings.now.keep }
     ensures { IsSavedTo Fault.Out settings.now (I.seen reader.old) (I.seen reader.new) (O.seen writer.old) (O.seen writer.new) result }
 {
-    let mut place = OutFile { rt, path };
+    let place = OutFile { rt, path };
     let mut gauge = TerminalGauge::new(rt, alloc, settings.ids, is_terminal);
     save(
         rt,
@@ -84,15 +84,15 @@ where
         settings,
         reader,
         writer,
-        &mut place,
+        place,
         &mut gauge,
         Fault::Out,
     )
 }
 
 /// Runs a session and dumps the state that it leaves to a port. Shows the progress of the dump on standard error if that is a
-/// terminal. Fails as a session does, with Connect if no connection can be had, with Out if a write to it fails, and with Lost if the
-/// dump is lost. May wait.
+/// terminal. Fails as a session does, with Connect if no connection can be had, with Out if a write to it fails, and with Lost
+/// if the dump is lost. May wait.
 pub fn save_to<R, I: Inlet, O: Outlet>(
     rt: &R,
     alloc: Global,
@@ -107,7 +107,7 @@ where
     requires { AreSettings settings.now.regions settings.now.mutators settings.now.keep }
     ensures { IsSavedTo Fault.Connect settings.now (I.seen reader.old) (I.seen reader.new) (O.seen writer.old) (O.seen writer.new) result }
 {
-    let mut place = Peer { rt, port };
+    let place = Peer { rt, port };
     let mut gauge = TerminalGauge::new(rt, alloc, settings.ids, is_terminal);
     save(
         rt,
@@ -115,25 +115,23 @@ where
         settings,
         reader,
         writer,
-        &mut place,
+        place,
         &mut gauge,
         Fault::Connect,
     )
 }
 
 /// Runs a session and dumps the state that it leaves into the outlet of a place. Fails with `unmade` if none can be made.
-fn save<I: Inlet, O: Outlet, P: Place, G: Gauge, R: Threads + Wait + Sync>(
+fn save<I: Inlet, O: Outlet, P: Place + Drop, G: Gauge, R: Threads + Wait + Sync>(
     rt: &R,
     alloc: Global,
     settings: &Settings,
     reader: &mut I,
     writer: &mut O,
-    place: &mut P,
+    place: P,
     gauge: &mut G,
     unmade: Fault,
 ) -> Result<(), Fault>
-where
-    P::Out: Drop,
     requires { AreSettings settings.now.regions settings.now.mutators settings.now.keep }
     ensures { IsSavedTo unmade settings.now (I.seen reader.old) (I.seen reader.new) (O.seen writer.old) (O.seen writer.new) result }
 {

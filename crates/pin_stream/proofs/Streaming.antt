@@ -20,7 +20,7 @@ use Rattle.dump_pipe.specs.Streams.{IsStreamed}
 use Rattle.heap_dump.specs.Handed.{given_of, pieces_at, ungiven}
 use Rattle.heap_dump.specs.Endings.{HandsOut, is_whole, left_of, may_end}
 use Rattle.heap_dump.specs.Pinned.{Pinned}
-use Rattle.heap_dump.specs.Dumped.{PutsText, IsDumped, DumpsUnless, with_number_used}
+use Rattle.heap_dump.specs.Dumped.{PutsPin, PutsText, IsDumped, DumpsUnless, with_number_used}
 use Rattle.heap_dump.proofs.Handing.{next_is}
 use Rattle.heap_dump.proofs.Pumping.{puts}
 use Rattle.heap_dump.proofs.Placing.{Opens, opens_at, placed, number_used}
@@ -53,16 +53,15 @@ next_fresh pin time m m' n n' ended ended' r h at lt =
 pub streams : (name name0 name1 pin time pin0 time0 count0 pin1 time1 count1 : ℕ) (m m0 m1 : Machine) (ended0 ended1 : Option Ending) (w w' : Outgoing) (r : Pumped)
     → given_of (pin_at pin m.pins) ≡ 0 → m0 ≡ m → pin0 ≡ pin → time0 ≡ time → count0 ≡ 0 → ended0 ≡ None
     → IsStreamed (fresh_supply pin0 time0 m0 count0 ended0) (fresh_supply pin1 time1 m1 count1 ended1) w w' r
-    → fresh_pinned name1 pin1 time1 m1 ≡ fresh_pinned name0 pin0 time0 m0 → may_end (pin_at pin1 m1.pins) ended1 ≡ true → StreamsPin pin time m w w' r
-streams name name0 name1 pin time pin0 time0 count0 pin1 time1 count1 m m0 m1 ended0 ended1 w w' r fresh ms pins times counts endeds (inl p) kept may =
+    → fresh_pinned name1 pin1 time1 m1 ≡ fresh_pinned name0 pin0 time0 m0 → may_end (pin_at pin1 m1.pins) ended1 ≡ true → PutsPin pin time m w w' r
+streams name name0 name1 pin time pin0 time0 count0 pin1 time1 count1 m m0 m1 ended0 ended1 w w' r fresh ms pins times counts endeds p kept may =
     let first0 : 0 ≡ given_of (pin_at pin0 m.pins) = sym fresh ∙ ap (λ q. given_of (pin_at q m.pins)) (sym pins) in
     let pin_is : pin1 ≡ pin0 = ap (λ (q : Pinned). q.pin) kept in
     let first1 : 0 ≡ given_of (pin_at pin1 m.pins) = first0 ∙ ap (λ q. given_of (pin_at q m.pins)) (sym pin_is) in
-    inl (puts name name0 name1 pin time pin0 time0 count0 pin1 time1 count1 m m m0 m m1 ended0 ended1 w w' r ms refl pins times counts endeds
+    puts name name0 name1 pin time pin0 time0 count0 pin1 time1 count1 m m m0 m m1 ended0 ended1 w w' r ms refl pins times counts endeds
     (subst (λ (f : ℕ × ℕ). IsPumped (supply_from f.0 pin0 time0 m0 count0 ended0) (supply_from f.1 pin1 time1 m1 count1 ended1) w w' r) (λ i. (first0 i, first1 i)) p)
     (λ i. record { name = (kept i).name; machine = (kept i).machine; pin = (kept i).pin; time = (kept i).time; first = given_of (pin_at (pin_is i) m.pins) })
-    may)
-streams name name0 name1 pin time pin0 time0 count0 pin1 time1 count1 m m0 m1 ended0 ended1 w w' r fresh ms pins times counts endeds (inr t) kept may = inr t
+    may
 
 -- nothing was put out
 none_out : (time : ℕ) (m l : Machine) (w w' : Outgoing) → l ≡ with_number_used m → w' ≡ w → open_refusal m.trail.place m.trail m.pins ≡ None → IsDumped time m l w w' (Lost Memory 0)

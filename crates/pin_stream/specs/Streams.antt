@@ -7,6 +7,6 @@ use Rattle.dump_pump.specs.Outlets.{Outgoing}
 use Rattle.heap_trail.specs.Machine.{Machine}
 use Rattle.heap_dump.specs.Dumped.{PutsPin}
 
--- what a dump of the pin puts out, or nothing, for want of a thread or of memory
+-- what a dump of the pin puts out, or nothing, for want of memory
 abbrev pub StreamsPin : ℕ → ℕ → Machine → Outgoing → Outgoing → Pumped → Type 0
 StreamsPin pin time m w w' r = PutsPin pin time m w w' r ⊎ ((r ≡ Lost Memory 0) × (w' ≡ w))

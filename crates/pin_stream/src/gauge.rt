@@ -5,17 +5,17 @@ use dump_meter::{Progress, ReadSeat};
 use dump_pump::{Outlet, Put};
 use heap_trail::Machine;
 
-/// What sees a dump go out, such as a line on a terminal. It is asked by the thread that puts the dump out. No contract says what
-/// it does.
+/// What sees a dump go out, such as a line on a terminal. It is asked by the thread that puts the dump out. No contract says
+/// what it does.
 pub trait Gauge {
     /// Sees the machine whose current state is dumped next.
     fn begin(&mut self, machine: &Machine);
 
-    /// Sees the progress of the dump, in bytes.
+    /// Sees how many bytes of the dump were out before the last put. It is asked after each put.
     fn show(&mut self, bytes: u64);
 
-    /// Sees that the dump has ended.
-    fn end(&mut self);
+    /// Sees that the dump has ended, and how many bytes of it are out.
+    fn end(&mut self, bytes: u64);
 }
 
 /// A gauge that does nothing.
@@ -27,7 +27,7 @@ impl Gauge for Silent {
 
     fn show(&mut self, _bytes: u64) {}
 
-    fn end(&mut self) {}
+    fn end(&mut self, _bytes: u64) {}
 }
 
 /// An outlet that shows a gauge the progress after each put. Contracts see what they see of the outlet.

@@ -1,9 +1,10 @@
 //! Dumps of the current state through a pipe.
 ghost use Rattle.std.specs.Prelude.{◌≡◌, All, length};
+ghost use Rattle.dump_pump.specs.Pumps.{bytes_of};
 ghost use Rattle.dump_meter.specs.Seats.{sum, seen};
 ghost use Rattle.heap_trail.specs.Pins.{pin_at};
 ghost use Rattle.heap_dump.specs.Handed.{given_of, ungiven};
-ghost use Rattle.heap_dump.specs.Dumped.{IsDumped};
+ghost use Rattle.heap_dump.specs.Dumped.{IsDumped, PutsPin};
 ghost use Rattle.pin_stream.specs.Streams.{StreamsPin};
 
 use crate::gauge::{Gauge, Shown};
@@ -33,7 +34,7 @@ fn stream_seen<'a, O: Outlet, G: Gauge, R: Threads + Wait + Sync>(
     requires fresh { given_of (pin_at pin machine.old.pins) ≡ 0 }
     requires out { out.old ≡ sum meter.now 0 }
     requires seat { seat.meter ≡ meter.now }
-    ensures put { StreamsPin pin time machine.old (O.seen outlet) (O.seen result.1) result.0 }
+    ensures put { PutsPin pin time machine.old (O.seen outlet) (O.seen result.1) result.0 }
     ensures same { ungiven pin machine.new ≡ ungiven pin machine.old }
 {
     let progress = meter.progress();
@@ -68,7 +69,7 @@ fn stream_metered<O: Outlet, G: Gauge, R: Threads + Wait + Sync>(
     requires out { made.out ≡ sum made.meter 0 }
     requires reader_count { length made.readers.items ≡ 1 }
     requires readers { All (λ s. s ≡ seen made.meter 0) made.readers.items }
-    ensures put { StreamsPin pin time machine.old (O.seen outlet) (O.seen result.1) result.0 }
+    ensures put { PutsPin pin time machine.old (O.seen outlet) (O.seen result.1) result.0 }
     ensures same { ungiven pin machine.new ≡ ungiven pin machine.old }
 {
     let NewMeter {
@@ -86,7 +87,19 @@ fn stream_metered<O: Outlet, G: Gauge, R: Threads + Wait + Sync>(
     )
 }
 
-/// Streams a pin, and shows a gauge its progress. Lost by Memory, with 0 bytes, if no meter, pipe or thread can be had.
+/// Returns how many bytes are out.
+fn bytes_of(pumped: Pumped) -> u64
+    ensures { result ≡ bytes_of pumped }
+{
+    match pumped {
+        Pumped::Done { bytes }
+        | Pumped::OutletFailed { bytes }
+        | Pumped::Lost { cause: _, bytes }
+        | Pumped::Cancelled { bytes } => bytes,
+    }
+}
+
+/// Streams a pin, and shows a gauge its progress. Lost by Memory, with 0 bytes, if there is no memory for a meter.
 fn stream_shown<O: Outlet, G: Gauge, R: Threads + Wait + Sync>(
     rt: &R,
     alloc: Global,
@@ -108,15 +121,15 @@ fn stream_shown<O: Outlet, G: Gauge, R: Threads + Wait + Sync>(
         return (lost, outlet);
     };
     gauge.begin(&*machine);
-    let streamed = stream_metered(rt, alloc, machine, pin, time, outlet, gauge, made);
-    gauge.end();
-    streamed
+    let (pumped, taken) = stream_metered(rt, alloc, machine, pin, time, outlet, gauge, made);
+    gauge.end(bytes_of(pumped));
+    (pumped, taken)
 }
 
-/// Puts out the dump of the current state as `dump_place` does: opens a pin on it, streams its pieces by pages, and closes it. If
-/// the pin is refused, nothing is put out: the dump is lost for want of memory if that is why, and else because the pin is closed.
-/// Lost by Memory, with 0 bytes, if no meter, no pipe or no thread can be had. While it goes out, a gauge sees the progress. Returns
-/// the outlet, too. May wait.
+/// Puts out the dump of the current state as `dump_place` does: opens a pin on it, streams its pieces by pages, and closes it.
+/// If the pin is refused, nothing is put out: the dump is lost for want of memory if that is why, and else because the pin is
+/// closed. Lost by Memory, with 0 bytes, also if there is no memory for a meter. While it goes out, a gauge sees the progress.
+/// Returns the outlet, too. May wait.
 pub fn stream_place<O: Outlet, G: Gauge, R: Threads + Wait + Sync>(
     rt: &R,
     alloc: Global,

@@ -10,7 +10,8 @@ use heap_world::World;
 use hprof_text::text_len;
 use std::alloc::Global;
 
-/// Tells how many bytes the dump of a state has, whatever its time, with ids of this size. None if memory is refused.
+/// Tells how many bytes the dump of a state has, whatever its time, with ids of this size. Returns None if memory is refused.
+/// No contract says that it was: callers may show no size.
 pub fn dump_size(alloc: Global, world: &World, ids: IdSize) -> Option<u64>
     requires { IsLegal world.now }
     ensures { IfSome result (λ n. (time : ℕ) → n ≡ length (dump_text ids (image_of world.now) time)) }

@@ -3,8 +3,8 @@ ghost use Rattle.std.specs.Prelude.{◌≡◌, ◌+◌, ◌<◌, ◌^◌};
 ghost use Rattle.dump_pump.specs.Pumps.{bytes_of};
 ghost use Rattle.dump_pipe.specs.Pipes.{byte_limit};
 ghost use Rattle.heap_trail.specs.Pins.{pin_at};
+ghost use Rattle.heap_dump.specs.Dumped.{PutsPin};
 ghost use Rattle.heap_dump.specs.Handed.{given_of, ungiven};
-ghost use Rattle.pin_stream.specs.Streams.{StreamsPin};
 
 use crate::source::FreshSource;
 use dump_meter::{OutSeat, Progress};
@@ -15,9 +15,9 @@ use std::alloc::Global;
 use std::sync::Wait;
 use std::thread::Threads;
 
-/// Puts out the pieces of a pin that has given none, as `dump_pin` does. A thread of its own asks for the pieces and joins them to
-/// pages, and the caller's puts each page out at once. Lost by Memory, with 0 bytes, if no pipe or no thread can be had. What is
-/// put out is added to the progress. May wait. The seat is one of the progress's meter, and its sum has room for the bytes of a
+/// Puts out the pieces of a pin that has given none, as `dump_pin` does. A thread of its own asks for the pieces and joins them
+/// to pages, and the caller's puts each page out at once; without a pipe or such a thread, the caller's does both. What is put
+/// out is added to the progress. May wait. The seat is one of the progress's meter, and its sum has room for the bytes of a
 /// dump.
 pub fn stream_pin<O: Outlet, R: Threads + Wait + Sync>(
     rt: &R,
@@ -32,7 +32,7 @@ pub fn stream_pin<O: Outlet, R: Threads + Wait + Sync>(
     requires fresh { given_of (pin_at pin machine.old.pins) ≡ 0 }
     requires meter { seat.old.meter ≡ progress.now }
     requires room { seat.old.sum + byte_limit < 2 ^ 64 }
-    ensures put { StreamsPin pin time machine.old (O.seen outlet.old) (O.seen outlet.new) result }
+    ensures put { PutsPin pin time machine.old (O.seen outlet.old) (O.seen outlet.new) result }
     ensures same { ungiven pin machine.new ≡ ungiven pin machine.old }
     ensures meter { seat.new.meter ≡ progress.now }
     ensures counted { seat.new.sum ≡ seat.old.sum + bytes_of result }

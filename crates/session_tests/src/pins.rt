@@ -20,27 +20,30 @@ fn pinned(alloc: Global, pins: u64) -> Result<Local, Fail> {
     Ok(Local::new(machine))
 }
 
-/// Returns whether a save beside so many pins of others ends in this line, and the pins stay open.
+/// Returns whether a save beside so many pins of others ends in this line, with as many outlets made, and the pins stay open.
 fn stay<R: Threads + Wait + Sync>(
     rt: &R,
     alloc: Global,
     pins: u64,
     line: &str,
+    outlets: u64,
 ) -> Result<bool, Fail> {
     let mut local = pinned(alloc, pins)?;
     let done = saved(rt, alloc, &mut local, "", &mut Silent);
     Ok(
         done.text.as_slice() == line.as_bytes()
+            && done.asked == outlets
+            && done.is_made == (outlets > 0)
             && local.machine.piece(1, 0).is_ok()
             && local.machine.piece(pins, 0).is_ok(),
     )
 }
 
-/// With four pins of others there is no room for the pin of the dump.
+/// With four pins of others there is no room for the pin of the dump, and so no outlet is made.
 #[test]
 fn pins_of_others_stay(rt: HostRuntime) -> Result<(), Fail> {
-    let three = stay(&rt, rt.alloc(), 3, "saved 61\n")?;
-    let four = stay(&rt, rt.alloc(), 4, "lost Closed 0\n")?;
+    let three = stay(&rt, rt.alloc(), 3, "saved 61\n", 1)?;
+    let four = stay(&rt, rt.alloc(), 4, "lost Closed 0\n", 0)?;
     assert!(rt; three && four);
     Ok(())
 }

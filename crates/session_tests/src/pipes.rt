@@ -17,7 +17,8 @@ const SIZE: usize = 66412;
 /// How many of them the first page has: the opening and 15 segments.
 const FIRST: u64 = 61657;
 
-/// Notes what it saw.
+/// Notes what it saw: how often it was begun and shown, what it was shown last, whether that rose, and the bytes that its ends
+/// told.
 #[derive(Clone, Copy, Drop, PartialEq)]
 struct Notes {
     begun: u64,
@@ -38,8 +39,8 @@ impl Gauge for Notes {
         self.bytes = bytes;
     }
 
-    fn end(&mut self) {
-        self.ended = self.ended.saturating_add(1);
+    fn end(&mut self, bytes: u64) {
+        self.ended = self.ended.saturating_add(bytes);
     }
 }
 
@@ -91,7 +92,7 @@ fn segments_of_many_points(rt: HostRuntime) -> Result<(), Fail> {
                 shown: 2,
                 bytes: FIRST,
                 rises: true,
-                ended: 1,
+                ended: 66412,
             }
     );
     Ok(())

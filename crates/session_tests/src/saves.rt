@@ -10,10 +10,11 @@ use std::sync::Wait;
 use std::test::*;
 use std::thread::Threads;
 
-/// Makes an outlet that takes all bytes.
+/// Makes an outlet that takes all bytes, and counts how often it was asked to.
 #[derive(Drop)]
 struct Memory {
     alloc: Global,
+    asked: u64,
 }
 
 impl Place for Memory {
@@ -22,6 +23,7 @@ impl Place for Memory {
     ghost makes = { λ place outlet. Unit {0} };
 
     fn open(&mut self) -> Option<WriteOutlet<Vec<u8>>> {
+        self.asked = self.asked.saturating_add(1);
         Some(WriteOutlet::new(Vec::new(self.alloc)))
     }
 }
@@ -31,6 +33,10 @@ impl Place for Memory {
 pub struct Outcome {
     pub ended: Ended,
     pub pumped: Option<Pumped>,
+    /// How often the place was asked for an outlet.
+    pub asked: u64,
+    /// Whether an outlet was handed out.
+    pub is_made: bool,
     /// What the outlet took.
     pub taken: Vec<u8>,
     pub text: Vec<u8>,
@@ -46,21 +52,14 @@ pub fn saved<G: Gauge, R: Threads + Wait + Sync>(
 ) -> Outcome {
     let mut inlet = ReadInlet::new(lines.as_bytes());
     let mut outlet = WriteOutlet::new(Vec::new(alloc));
-    let mut place = Memory { alloc };
+    let place = Memory { alloc, asked: 0 };
     let Saved {
         ended,
         pumped,
+        place,
         outlet: made,
-    } = save_into(
-        rt,
-        alloc,
-        local,
-        &mut inlet,
-        &mut outlet,
-        &mut place,
-        gauge,
-        0,
-    );
+    } = save_into(rt, alloc, local, &mut inlet, &mut outlet, place, gauge, 0);
+    let is_made = made.is_some();
     let taken = match made {
         Some(made) => made.into_writer(),
         None => Vec::new(alloc),
@@ -68,6 +67,8 @@ pub fn saved<G: Gauge, R: Threads + Wait + Sync>(
     Outcome {
         ended,
         pumped,
+        asked: place.asked,
+        is_made,
         taken,
         text: outlet.into_writer(),
     }
@@ -80,6 +81,7 @@ fn is_of_the_point(alloc: Global, whole: &Outcome) -> Result<bool, Fail> {
     Ok(
         whole.ended == Ended::Eof
             && whole.pumped == Some(Pumped::Done { bytes: 301 })
+            && whole.asked == 1
             && whole.text.as_slice() == text.as_bytes()
             && digits.as_str() == DUMP_OF_ONE_POINT,
     )

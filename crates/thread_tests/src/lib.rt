@@ -1,5 +1,5 @@
-//! The heap under its lock: seats in one thread and in several, workers, and audits. Dumps through the pipe, beside the meter and of a
-//! shared heap's pins: worked examples, outlets that fail or are held, and streams that are cancelled.
+//! The heap under its lock: seats in one thread and in several, workers, and audits. Dumps through the pipe, beside the meter
+//! and of a shared heap's pins: worked examples, outlets that fail or are held, and streams that are cancelled.
 #![tactic(auto)]
 
 #[cfg(test)]
@@ -12,6 +12,8 @@ mod ends;
 mod live;
 #[cfg(test)]
 mod live_tests;
+#[cfg(test)]
+mod meters;
 #[cfg(test)]
 mod parts;
 #[cfg(test)]

@@ -1,22 +1,22 @@
-use Rattle.std.proofs.Common.{inl, subst}
+use Rattle.std.proofs.Common.{subst}
 use Rattle.crossbeam_channel.specs.Claims.{view}
 use Rattle.dump_pipe.specs.Pipes.{list_of}
-use Rattle.dump_pipe.specs.Streams.{MayDrain}
+use Rattle.dump_pipe.specs.Streams.{MayStream}
 use Rattle.dump_pipe.proofs.Piping.{merges_as, orders_as}
 use Rattle.dump_pipe.proofs.Streaming.{streamed, fed_sends, drained_gets}
 use Rattle.dump_pipe.proofs.streams.stream_parts.Goals as goal
 
 pub absorb-requires-clause-rule : goal.absorb-requires-clause-rule
 absorb-requires-clause-rule g c =
-    let e = c.join_ends-fed.ensures in
-    let d = subst (MayDrain (view c.join_ends-fed.new.other) (g.O.Outlet.seen c.args.outlet.now) (g.O.Outlet.seen c.join_ends-fed.new.outlet)) c.in-Some.is e.drained in
-    merges_as _ _ _ _ (fed_sends _ _ _ c.join_ends-fed.result.0 e.fed) (drained_gets _ _ _ c.in-Some.pumped d)
+    let n = c.pass_parts.new in
+    let p = subst (MayStream (g.S.Source.seen c.args.source.now) (g.S.Source.seen n.source) (view n.one) (view n.other) (g.O.Outlet.seen c.args.outlet.now) (g.O.Outlet.seen n.outlet)) c.in-Some.is c.pass_parts.ensures.passed in
+    merges_as _ _ _ _ (fed_sends _ _ _ p.0.0 p.0.1) (drained_gets _ _ _ c.in-Some.pumped p.1)
 
 pub learn_as-requires-clause-rule : goal.learn_as-requires-clause-rule
-learn_as-requires-clause-rule g c = orders_as _ _ (list_of (view c.join_ends-fed.new.one)) (list_of (view c.join_ends-fed.new.other)) c.absorb.ensures.rule
+learn_as-requires-clause-rule g c = orders_as _ _ (list_of (view c.pass_parts.new.one)) (list_of (view c.pass_parts.new.other)) c.absorb.ensures.rule
 
 pub returns-clause-streamed : goal.returns-clause-streamed
 returns-clause-streamed g c =
-    let e = c.join_ends-fed.ensures in
-    let d = subst (MayDrain (view c.join_ends-fed.new.other) (g.O.Outlet.seen c.args.outlet.now) (g.O.Outlet.seen c.join_ends-fed.new.outlet)) c.in-Some.is e.drained in
-    inl (streamed _ _ _ _ (view c.join_ends-fed.new.one) (view c.join_ends-fed.new.other) _ c.join_ends-fed.result.0 c.in-Some.pumped c.learn_as.ensures.rule.0 e.fed d c.absorb.ensures.rule c.learn_as.ensures.rule.1)
+    let n = c.pass_parts.new in
+    let p = subst (MayStream (g.S.Source.seen c.args.source.now) (g.S.Source.seen n.source) (view n.one) (view n.other) (g.O.Outlet.seen c.args.outlet.now) (g.O.Outlet.seen n.outlet)) c.in-Some.is c.pass_parts.ensures.passed in
+    streamed _ _ _ _ (view n.one) (view n.other) _ p.0.0 c.in-Some.pumped c.learn_as.ensures.rule.0 p.0.1 p.1 c.absorb.ensures.rule c.learn_as.ensures.rule.1

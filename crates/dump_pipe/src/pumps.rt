@@ -1,0 +1,51 @@
+//! Dumps without a pipe, in one thread.
+ghost use Rattle.std.specs.Prelude.{◌≡◌, ◌+◌, ◌<◌, ◌^◌};
+ghost use Rattle.dump_pump.specs.Pumps.{IsPumped, bytes_of};
+ghost use Rattle.dump_pipe.specs.Pipes.{byte_limit};
+
+use dump_meter::{OutSeat, Progress};
+use dump_pump::transfer::put_all;
+use dump_pump::{Next, Outlet, Pumped, Source};
+
+/// Puts out the parts of a source as `pump` does, and adds what is put out to the progress, part by part. Takes no memory of
+/// its own. The seat is one of the progress's meter, and its sum has room for the bytes of a dump.
+pub fn pump_counted<S: Source, O: Outlet>(
+    source: &mut S,
+    outlet: &mut O,
+    progress: &Progress<'_>,
+    seat: &mut OutSeat,
+) -> Pumped
+    requires source { 0 < (S.seen source.old).left }
+    requires meter { seat.old.meter ≡ progress.now }
+    requires room { seat.old.sum + byte_limit < 2 ^ 64 }
+    ensures pumped { IsPumped (S.seen source.old) (S.seen source.new) (O.seen outlet.old) (O.seen outlet.new) result }
+    ensures kept { S.kept source.new ≡ S.kept source.old }
+    ensures meter { seat.new.meter ≡ progress.now }
+    ensures counted { seat.new.sum ≡ seat.old.sum + bytes_of result }
+{
+    let _most = source.left();
+    let mut total: u64 = 0;
+    loop {
+        match source.next() {
+            Next::Part(piece) => {
+                let size = piece.bytes.as_slice().len();
+                let put = put_all(outlet, piece.bytes.as_slice());
+                total += put as u64;
+                progress.add(seat, put as u64);
+                if put < size {
+                    return Pumped::OutletFailed { bytes: total };
+                }
+                if piece.last {
+                    return Pumped::Done { bytes: total };
+                }
+            }
+            Next::Lost(cause) => {
+                return Pumped::Lost {
+                    cause,
+                    bytes: total,
+                };
+            }
+            Next::Cancelled => return Pumped::Cancelled { bytes: total },
+        }
+    }
+}

@@ -1,0 +1,134 @@
+//! Outlets that are made at their first put.
+ghost use Rattle.std.specs.Prelude.{◌≡◌, ◌+◌, ◌<◌, ◌++◌, [], length, option_map};
+ghost use Rattle.dump_pump.specs.Outlets.{bytes_of};
+ghost use Rattle.heap_save.specs.Late.{IsAsked, IsPutThere, Fits, taken, failures_of, outlet_in, unasked, IsLate};
+
+use crate::place::Place;
+use dump_pump::ledger::note_bytes;
+use dump_pump::{Outlet, Put};
+use http_server::Log;
+use std::marker::{Brand, Model, PhantomData};
+
+/// What is known of a place before it was asked. Each call picks it.
+pub(crate) trait Origin<P> {
+    ghost was: { P → Type 0 };
+}
+
+impl<P> Origin<P> for Brand {
+    ghost was = { λ place. Unit {0} };
+}
+
+/// What came of asking a place for its outlet.
+#[derive(Drop)]
+pub enum Opening<O> {
+    /// It was not asked.
+    Unasked,
+    /// It made this one.
+    Made(O),
+    /// It could make none.
+    Refused,
+}
+
+/// An outlet of a place, which is asked to make it when there is a first put. Each put fails if it could make none. Contracts
+/// see the place, what came of asking it, the bytes put out, and the number of puts that failed.
+#[derive(Drop)]
+pub(crate) struct LateOutlet<P: Place, B: Origin<P>> {
+    place: P,
+    opening: Opening<P::Out>,
+    written: Log<u8, ()>,
+    failed: Log<(), ()>,
+    of: PhantomData<B>,
+}
+
+impl<P: Place, B: Origin<P>> Model for LateOutlet<P, B> {
+    ghost use Rattle.std.specs.Prelude.{length};
+    ghost use Rattle.dump_pump.specs.Outlets.{bytes_of};
+    ghost use Rattle.heap_save.specs.Late.{Late, IsLate};
+
+    ghost Value = { Late P P.Out };
+
+    ghost view = { λ o. record { place = o.place; opening = o.opening; put = bytes_of o.written.items; failures = length o.failed.items } };
+
+    ghost invariant = { λ o. IsLate B.was P.makes P.Out.seen o.place o.opening (bytes_of o.written.items) (length o.failed.items) };
+}
+
+/// Asks a place for its outlet, unless it was asked before.
+fn ask<P: Place>(place: &mut P, opening: &mut Opening<P::Out>)
+    ensures { IsAsked P.makes P.Out.seen place.old place.new opening.old opening.new }
+{
+    if let Opening::Unasked = opening {
+        *opening = match place.open() {
+            Some(outlet) => Opening::Made(outlet),
+            None => Opening::Refused,
+        };
+    }
+}
+
+/// Puts out some of the bytes given, if there is an outlet.
+fn put_there<O: Outlet>(opening: &mut Opening<O>, given: &[u8]) -> Put
+    requires { 0 < length given.now }
+    ensures { IsPutThere O.seen given.now opening.old opening.new result }
+{
+    match opening {
+        Opening::Made(outlet) => outlet.put(given),
+        Opening::Unasked | Opening::Refused => Put::Failed,
+    }
+}
+
+/// Notes what a put took of the bytes given, or that it failed.
+fn note(written: &mut Log<u8, ()>, failed: &mut Log<(), ()>, given: &[u8], put: Put)
+    requires { Fits given.now put }
+    ensures written { bytes_of written.new.items ≡ bytes_of written.old.items ++ taken given.now put }
+    ensures failed { length failed.new.items ≡ length failed.old.items + failures_of put }
+{
+    match put {
+        Put::Took(n) => note_bytes(written, &given[..n]),
+        Put::Failed => *failed = failed.and(&(), &()),
+    }
+}
+
+impl<P: Place, B: Origin<P>> LateOutlet<P, B> {
+    /// Creates an outlet that has put out nothing. The place is not asked yet.
+    pub(crate) fn new(place: P) -> LateOutlet<P, B>
+        requires { B.was place }
+        ensures { result ≡ unasked place }
+    {
+        LateOutlet {
+            place,
+            opening: Opening::Unasked,
+            written: Log::new(),
+            failed: Log::new(),
+            of: PhantomData,
+        }
+    }
+
+    /// Returns the place, and the outlet that it made. The contract says what is known of both.
+    pub(crate) fn into_parts(self) -> (P, Option<P::Out>)
+        ensures place { result.0 ≡ self.place }
+        ensures outlet { result.1 ≡ outlet_in self.opening }
+        ensures late { IsLate B.was P.makes P.Out.seen self.place self.opening self.put self.failures }
+    {
+        let LateOutlet {
+            place,
+            opening,
+            written: _,
+            failed: _,
+            of: _,
+        } = self;
+        match opening {
+            Opening::Made(outlet) => (place, Some(outlet)),
+            Opening::Unasked | Opening::Refused => (place, None),
+        }
+    }
+}
+
+impl<P: Place, B: Origin<P>> Outlet for LateOutlet<P, B> {
+    ghost seen = { λ o. record { out = o.put; failures = o.failures } };
+
+    fn put(&mut self, given: &[u8]) -> Put {
+        ask(&mut self.place, &mut self.opening);
+        let put = put_there(&mut self.opening, given);
+        note(&mut self.written, &mut self.failed, given, put);
+        put
+    }
+}

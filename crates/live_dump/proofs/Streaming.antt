@@ -1,6 +1,5 @@
 -- What a stream of a told source puts out.
-use Rattle.std.proofs.Common.{◌≡◌, ℕ, Bool, true, false, List, [], ◌++◌, Option, Some, if◌then◌else◌, refl, ap, sym, ◌∙◌, subst, inl, inr}
-use Rattle.std.proofs.lemmas.List.{append-nil}
+use Rattle.std.proofs.Common.{◌≡◌, ℕ, Bool, true, false, List, [], ◌++◌, Option, Some, if◌then◌else◌, refl, ap, sym, ◌∙◌, subst, inl}
 use Rattle.heap_class.specs.declared.LostCause.{LostCause}
 use Rattle.heap_world.specs.Limits.{Settings}
 use Rattle.hprof_text.specs.declared.Piece.{Piece}
@@ -9,7 +8,7 @@ use Rattle.dump_pump.specs.declared.source.Ending.TheVariants as End
 use Rattle.dump_pump.specs.declared.transfer.Pumped.{Pumped}
 use Rattle.dump_pump.specs.declared.transfer.Pumped.TheVariants.{Done, OutletFailed, Lost, Cancelled}
 use Rattle.dump_pump.specs.Outlets.{Outgoing}
-use Rattle.dump_pump.specs.Pumps.{Fits, bytes_of}
+use Rattle.dump_pump.specs.Pumps.{Fits}
 use Rattle.dump_pipe.specs.Watches.{watched}
 use Rattle.dump_pipe.specs.Streams.{IsStreamed}
 use Rattle.live_dump.specs.Supplies.{Told, nothing_of, AllGiven, MayEnd, IsSupplied, supply}
@@ -34,7 +33,7 @@ from_some a b h = cc
 
 puts_at : (config : Settings) (pin time count count2 : ℕ) (start given : List Piece) (before ended : Option Ending) (was found : Bool) (w w2 : Outgoing) (r : Pumped) → start ≡ [] → IsSupplied config pin time given ended
     → IsStreamed (watched (supply start count before) was) (watched (supply given count2 ended) found) w w2 r → PutsLive config pin time found w w2 r
-puts_at config pin time count count2 start given before ended was found w w2 r none s (inl p) = record {
+puts_at config pin time count count2 start given before ended was found w w2 r none s p = record {
   given = p.given;
   out = p.out;
   pieces = subst (AllGiven config pin time) (from_some given p.given (p.told ∙ ap (λ l. Some (l ++ p.given)) none)) s.0;
@@ -42,15 +41,6 @@ puts_at config pin time count count2 start given before ended was found w w2 r n
   begins = p.begins;
   counted = p.counted;
   tells = tells config pin time p.given p.out found ended w.failures w2.failures r s.1 p.fits;
-}
-puts_at config pin time count count2 start given before ended was found w w2 r none s (inr t) = record {
-  given = [];
-  out = [];
-  pieces = tt;
-  grows = ap (λ (o : Outgoing). o.out) t.1 ∙ sym (append-nil w.out);
-  begins = ([], refl);
-  counted = ap bytes_of t.0;
-  tells = subst (λ x. Tells config pin time [] [] found w.failures w2.failures x) (sym t.0) (refl, inr (refl, refl), ap (λ (o : Outgoing). o.failures) t.1);
 }
 
 -- from a source that gave nothing

@@ -266,9 +266,9 @@ def are_right_sizes(sizes, large):
     return sizes != [] and all(size <= MARGIN * limit for size, limit in zip(sizes, limits))
 
 
-def wrong_sizes(program, library, text):
+def wrong_sizes(program, library, lines):
     """Yields what a session asks for at once that is too much, if it runs alone, is saved or has others beside it, over small heaps."""
-    given = b"".join(line + b"\n" for line in text)
+    given = b"".join(line + b"\n" for line in lines)
     for regions, keep in ((1, 1), (2, 1000)):
         words = ["--regions", str(regions), "--keep", str(keep)]
         ring = RECORD * keep

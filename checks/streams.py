@@ -18,7 +18,7 @@ sys.path[:0] = [str(TOP / "checks"), str(TOP / "checks/model")]
 
 from cases import stored  # noqa: E402
 from program import ARRAY, EXAMPLE, EXAMPLE_REPLIES, POINT, POINT_DUMP, POINT_MADE, dump_of_longs  # noqa: E402
-from program import asked, ended, received, saved_to, served  # noqa: E402
+from program import asked, ended_by, received, saved_to, served  # noqa: E402
 from session import answers_of  # noqa: E402
 
 SOURCE = TOP / "checks/streams.c"
@@ -224,10 +224,10 @@ def blocking_sockets(program):
     """Yields a served session and a client of one, of which one read or write of the socket would block."""
     read, write = (0, b"session 1 read\n", b""), (0, b"session 1 write\n", b"")
     for count in (0, 1, 10, 35, len(POINT)):
-        happened = served(program.program, ended(POINT[:count]), env=program.rules(RECEIVED_AGAIN=count))
+        happened = served(program.program, ended_by(POINT[:count]), env=program.rules(RECEIVED_AGAIN=count))
         yield f"a client that would block after {count} bytes", happened, (*read, replies(POINT[:count]) + b"bad read\n")
     for count in (0, 1, 10, len(POINT_MADE) - 1):
-        happened = served(program.program, ended(POINT), env=program.rules(SENT_AGAIN=count))
+        happened = served(program.program, ended_by(POINT), env=program.rules(SENT_AGAIN=count))
         yield f"a client that would block after {count} bytes of answers", happened, (*write, POINT_MADE[:count])
         rules = program.rules(RECEIVED_AGAIN=count)
         happened = served(program.program, lambda port: asked(program.program, port, EXAMPLE, env=rules))

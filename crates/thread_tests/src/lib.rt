@@ -7,7 +7,11 @@ mod acts;
 #[cfg(test)]
 mod cancelling;
 #[cfg(test)]
+mod cycles;
+#[cfg(test)]
 mod ends;
+#[cfg(test)]
+mod gates;
 #[cfg(test)]
 mod live;
 #[cfg(test)]

@@ -53,7 +53,12 @@ fn is_finished(end: Option<Marked>) -> bool {
 }
 
 /// Defines the class of nodes and creates two.
-fn began<L: Heap, R: Wait>(rt: &R, shared: &Shared<L>, user: &mut Seat<L>, class: Event) -> bool {
+pub fn began<L: Heap, R: Wait>(
+    rt: &R,
+    shared: &Shared<L>,
+    user: &mut Seat<L>,
+    class: Event,
+) -> bool {
     acts(rt, shared, user, class)
         && acts(
             rt,
@@ -119,7 +124,8 @@ fn worked<L: Heap, R: Wait>(rt: &R, class: Event, blank: Blank, turns: (u64, u64
     Some(worked_in(rt, &shared, &mut marker, &mut sweeper, turns))
 }
 
-fn three(alloc: Global) -> Option<Blank> {
+/// Creates a heap with seats of a user, the marker and the sweeper.
+pub fn three(alloc: Global) -> Option<Blank> {
     let config = Config::new(16, 2, 1024)?;
     Blank::new(
         alloc,

@@ -40,16 +40,18 @@ enum Deed {
     Make,
     /// Gives it a number.
     Number(u64),
-    /// Links it to the first node, and then makes it the first.
-    Link,
+    /// Makes it the first.
     First,
-    /// Puts the second node in register 2, and the third in register 3.
+    /// Puts the second node in register 2, and the one behind it in register 3.
     Second,
     Third,
+    /// Links the new node to the second, and the first to the new one.
+    Link,
+    Join,
     /// Links the first to the third.
     Skip,
-    /// Forgets the list.
-    Forget,
+    /// Makes a register null.
+    Clear(u64),
 }
 
 /// Creates the event of a mutator's deed.
@@ -62,7 +64,6 @@ fn event_of(m: u64, deed: Deed) -> Event {
             slot: 1,
             value,
         },
-        Deed::Link => stored(m, 1, 0),
         Deed::First => Event::Move {
             m,
             to: 0,
@@ -71,8 +72,10 @@ fn event_of(m: u64, deed: Deed) -> Event {
         },
         Deed::Second => next_of(m, 2, 0),
         Deed::Third => next_of(m, 3, 2),
+        Deed::Link => stored(m, 1, 2),
+        Deed::Join => stored(m, 0, 1),
         Deed::Skip => stored(m, 0, 3),
-        Deed::Forget => Event::Clear { m, r: 0 },
+        Deed::Clear(r) => Event::Clear { m, r },
     }
 }
 
@@ -145,8 +148,48 @@ fn all_done<L: Heap, R: Wait>(
     Ok(true)
 }
 
-/// Goes on with a list of so many nodes: forgets it, takes its second node out, or puts a new node before it, if there is room for one.
-/// Returns how many nodes it has then, or None if one of the deeds was refused.
+/// Puts a new node of this number behind the first one of a list, or makes it the first if there is none. Returns whether it is there:
+/// all deeds but the making were answered.
+fn puts_in<L: Heap, R: Wait>(
+    rt: &R,
+    shared: &Shared<L>,
+    mutator: &mut Mutator<L>,
+    number: u64,
+    length: u64,
+) -> Result<bool, AllocError> {
+    if length == 0 {
+        let deeds = [Deed::Number(number), Deed::First, Deed::Clear(1)];
+        return all_done(rt, shared, mutator, deeds.as_slice());
+    }
+    let deeds = [
+        Deed::Number(number),
+        Deed::Second,
+        Deed::Link,
+        Deed::Join,
+        Deed::Clear(1),
+        Deed::Clear(2),
+    ];
+    all_done(rt, shared, mutator, deeds.as_slice())
+}
+
+/// Takes the second node out of a list of two or more. Returns whether all deeds were answered.
+fn takes_out<L: Heap, R: Wait>(
+    rt: &R,
+    shared: &Shared<L>,
+    mutator: &mut Mutator<L>,
+) -> Result<bool, AllocError> {
+    let deeds = [
+        Deed::Second,
+        Deed::Third,
+        Deed::Skip,
+        Deed::Clear(2),
+        Deed::Clear(3),
+    ];
+    all_done(rt, shared, mutator, deeds.as_slice())
+}
+
+/// Goes on with a list of so many nodes: forgets it, takes a node out, or puts a new one in, if there is room for one. Returns how many
+/// nodes it has then, or None if one of the deeds was refused.
 fn goes_on<L: Heap, R: Wait>(
     rt: &R,
     shared: &Shared<L>,
@@ -154,25 +197,17 @@ fn goes_on<L: Heap, R: Wait>(
     round: u64,
     length: u64,
 ) -> Result<Option<u64>, AllocError> {
-    if length >= LONGEST {
-        let forgot = does(rt, shared, mutator, Deed::Forget)?;
-        return Ok(if forgot { Some(0) } else { None });
-    }
-    if length > 1 && round % 3 == 0 {
-        let deeds = [Deed::Second, Deed::Third, Deed::Skip];
-        let skipped = all_done(rt, shared, mutator, deeds.as_slice())?;
-        return Ok(if skipped { Some(length - 1) } else { None });
-    }
-    if !does(rt, shared, mutator, Deed::Make)? {
-        return Ok(Some(length));
-    }
-    let deeds = [Deed::Number(round), Deed::Link, Deed::First];
-    let linked = all_done(rt, shared, mutator, deeds.as_slice())?;
-    Ok(if linked {
-        Some(length.saturating_add(1))
+    let (done, after) = if length >= LONGEST {
+        (does(rt, shared, mutator, Deed::Clear(0))?, 0)
+    } else if length > 1 && round % 3 == 0 {
+        (takes_out(rt, shared, mutator)?, length - 1)
+    } else if does(rt, shared, mutator, Deed::Make)? {
+        let done = puts_in(rt, shared, mutator, round, length)?;
+        (done, length.saturating_add(1))
     } else {
-        None
-    })
+        (true, length)
+    };
+    Ok(if done { Some(after) } else { None })
 }
 
 /// Has a mutator go on until the cycles are over, and tells when it has a list. Returns its claims and how many nodes its list has, or
@@ -337,7 +372,7 @@ fn number_of(m: u64) -> Event {
     }
 }
 
-/// Reads the list of a mutator. Returns whether it has so many nodes, and their numbers fall.
+/// Reads the list of a mutator. Returns whether it has so many nodes, and the numbers of all behind the first fall.
 fn has_list<L: Heap, R: Wait>(
     rt: &R,
     shared: &Shared<L>,
@@ -347,7 +382,7 @@ fn has_list<L: Heap, R: Wait>(
 ) -> bool {
     let mut above = ROUNDS;
     let mut node = answer(rt, shared, user, moved(m));
-    for _ in 0..length {
+    for at in 0..length {
         let Some(Outcome::Answered(Answer::Value(number))) = answer(rt, shared, user, number_of(m))
         else {
             return false;
@@ -355,7 +390,9 @@ fn has_list<L: Heap, R: Wait>(
         if number >= above {
             return false;
         }
-        above = number;
+        if at > 0 {
+            above = number;
+        }
         node = answer(rt, shared, user, next_of(m, 4, 4));
     }
     length == 0 || node == Some(Outcome::Answered(Answer::Null))

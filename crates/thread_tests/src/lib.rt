@@ -17,7 +17,11 @@ mod live;
 #[cfg(test)]
 mod live_tests;
 #[cfg(test)]
+mod metered;
+#[cfg(test)]
 mod parts;
+#[cfg(test)]
+mod pumps;
 #[cfg(test)]
 mod receipts;
 #[cfg(test)]

@@ -226,8 +226,8 @@ fn writers_that_fail_at_odd_bytes(rt: HostRuntime) -> Result<(), Fail> {
 
 // ---- lines that are read at once
 
-/// Returns whether a writer that takes so many bytes of an example's answers, where its lines are read at once, takes a beginning
-/// of their text, and the machine is that after all lines.
+/// Returns whether a writer that takes so many bytes of an example's answers, where its lines are read at once, takes a
+/// beginning of their text, and the machine is that after all lines.
 fn is_cut(alloc: Global, example: &Example<'_>, count: usize) -> Result<bool, Fail> {
     let writer = byte_writer(alloc, count);
     let stopped = play(alloc, local(alloc, 1, 1, 64)?, example.bytes, writer)?;

@@ -148,8 +148,8 @@ fn all_done<L: Heap, R: Wait>(
     Ok(true)
 }
 
-/// Puts a new node of this number behind the first one of a list, or makes it the first if there is none. Returns whether it is there:
-/// all deeds but the making were answered.
+/// Puts a new node of this number behind the first one of a list, or makes it the first if there is none. Returns whether it is
+/// there: all deeds but the making were answered.
 fn puts_in<L: Heap, R: Wait>(
     rt: &R,
     shared: &Shared<L>,
@@ -188,8 +188,8 @@ fn takes_out<L: Heap, R: Wait>(
     all_done(rt, shared, mutator, deeds.as_slice())
 }
 
-/// Goes on with a list of so many nodes: forgets it, takes a node out, or puts a new one in, if there is room for one. Returns how many
-/// nodes it has then, or None if one of the deeds was refused.
+/// Goes on with a list of so many nodes: forgets it, takes a node out, or puts a new one in, if there is room for one. Returns
+/// how many nodes it has then, or None if one of the deeds was refused.
 fn goes_on<L: Heap, R: Wait>(
     rt: &R,
     shared: &Shared<L>,
@@ -210,8 +210,8 @@ fn goes_on<L: Heap, R: Wait>(
     Ok(if done { Some(after) } else { None })
 }
 
-/// Has a mutator go on until the cycles are over, and tells when it has a list. Returns its claims and how many nodes its list has, or
-/// None if a deed was refused.
+/// Has a mutator go on until the cycles are over, and tells when it has a list. Returns its claims and how many nodes its list
+/// has, or None if a deed was refused.
 fn mutates<L: Heap, R: Wait>(
     rt: &R,
     alloc: Global,
@@ -275,7 +275,8 @@ fn marks<L: Heap, R: Wait>(
     None
 }
 
-/// Finishes a cycle. If a region has to be swept first, waits until there were so many rounds of sweeps. Returns the receipt of the end.
+/// Finishes a cycle. If a region has to be swept first, waits until there were so many rounds of sweeps. Returns the receipt of
+/// the end.
 fn finishes<L: Heap, R: Wait>(
     rt: &R,
     shared: &Shared<L>,
@@ -297,8 +298,8 @@ fn finishes<L: Heap, R: Wait>(
     }
 }
 
-/// Finishes all cycles, from when both mutators have lists on, and tells how many are finished. Returns the claims of their ends, and how
-/// many acts there were.
+/// Finishes all cycles, from when both mutators have lists on, and tells how many are finished. Returns the claims of their
+/// ends, and how many acts there were.
 fn marks_all<L: Heap, R: Wait>(
     rt: &R,
     alloc: Global,
@@ -445,8 +446,8 @@ fn entries<L: Heap, R: Wait>(rt: &R, shared: &Shared<L>) -> u64 {
 
 // ---- all four
 
-/// Has two mutators, the marker and the sweeper act, each in a thread of its own. Returns whether all cycles were finished and swept,
-/// their receipts agree with the history, in which there is one entry for each act, and the mutators' lists are there.
+/// Has two mutators, the marker and the sweeper act, each in a thread of its own. Returns whether all cycles were finished and
+/// swept, their receipts agree with the history, in which there is one entry for each act, and the mutators' lists are there.
 fn by_four<L: Heap + Send + Sync, R: Threads + Wait + Sync>(
     rt: &R,
     alloc: Global,

@@ -22,7 +22,8 @@ const SIZE: u64 = 1258;
 
 const POINTS: u64 = 30;
 
-/// How a stream went, how many bytes are out, and what was read of its progress last, and whether nothing above the size was read.
+/// How a stream went, how many bytes are out, and what was read of its progress last, and whether nothing above the size was
+/// read.
 type Streamed = (Pumped, usize, (u64, bool));
 
 /// Streams the dump of a pin into memory, while another thread reads the progress.
@@ -124,8 +125,8 @@ fn opened_pin<L: Heap, R: Wait>(rt: &R, shared: &Shared<L>) -> Result<u64, Fail>
     Ok(pinned.pin)
 }
 
-/// Streams thirty points with a reader beside it, and then by another pin after somebody asked. Returns whether the first was whole and
-/// read to its end, the second put out nothing, and a dump of a third pin is whole.
+/// Streams thirty points with a reader beside it, and then by another pin after somebody asked. Returns whether the first was
+/// whole and read to its end, the second put out nothing, and a dump of a third pin is whole.
 fn both_go<L: Heap + Send + Sync, R: Threads + Wait + Sync>(
     rt: &R,
     alloc: Global,

@@ -94,8 +94,8 @@ struct Ends {
     answered: u64,
 }
 
-/// Returns the receipt of the sweep of a region, by the third seat, after nine entries: the two objects are in region 0 and stay there,
-/// and all other regions are empty.
+/// Returns the receipt of the sweep of a region, by the third seat, after nine entries: the two objects are in region 0 and
+/// stay there, and all other regions are empty.
 fn sweep_receipt(region: u64) -> Receipt
     requires { region < 16 }
 {

@@ -113,8 +113,8 @@ def sessions(program):
 
 # ---- the settings of the commands that open a heap
 
-# Values of all five options: small ones, of which each differs from what it is if it isn't given, large ones, and the smallest. The
-# times have bits above the 32nd, but for one.
+# Values of all five options: small ones, of which each differs from what it is if it isn't given, large ones, and the smallest.
+# The times have bits above the 32nd, but for one.
 SMALL = {"regions": 3, "mutators": 3, "keep": 5, "time": 7 << 32 | 9, "ids": 4}
 LARGE = {"regions": 256, "mutators": 16, "keep": 65_536, "time": 2**64 - 1, "ids": 8}
 LEAST = {"regions": 1, "mutators": 1, "keep": 1, "time": 1, "ids": 4}
@@ -127,8 +127,8 @@ def empty_dump(ids, time):
 
 
 def shown(regions, mutators, keep, time, ids):
-    """Returns lines, and what they are answered if these are the settings. They leave each region with an array of 1,024 longs, which no
-    register names."""
+    """Returns lines, and what they are answered if these are the settings. They leave each region with an array of 1,024 longs,
+    which no register names."""
     dump = empty_dump(ids, time)
     arrays = b"".join(b"ok object 0x%08x\n" % (0x10000000 + 8192 * number) for number in range(regions))
     lines = b"dump -\nclear %d 0\nclear %d 0\n" % (mutators - 1, mutators) + b"newprim 0 0 long 1024\n" * regions
@@ -165,8 +165,8 @@ def told_all(lines):
 
 
 def settings_shown(program):
-    """Yields sessions that show all settings, by each command that opens a heap, as (name, what happened, what must happen). Each option
-    comes last once, behind all others: such a line has 11 to 15 words."""
+    """Yields sessions that show all settings, by each command that opens a heap, as (name, what happened, what must happen). Each
+    option comes last once, behind all others: such a line has 11 to 15 words."""
     names = list(SMALL)
     turned = [{name: SMALL[name] for name in names[at:] + names[:at]} for at in range(len(names))]
     for given in (*turned, LARGE, LEAST, {}):
@@ -410,7 +410,7 @@ def served_sessions(program):
 
 
 def ended_by(given):
-    """Returns clients: one, which sends these bytes, closes its writing side, and returns what comes until its session has ended."""
+    """Returns clients: one, which sends these bytes, closes its writing side, and returns what comes until its session ends."""
 
     def clients(port):
         with connected(port) as client, client.makefile("rb") as come:
@@ -422,8 +422,8 @@ def ended_by(given):
 
 
 def ending_with_pins(port):
-    """Three clients, one after another, open a pin on the point that the first makes, and write to it: one ends by `end`, one at the end of
-    input, one in a line. A fourth dumps and closes the pins of all."""
+    """Three clients, one after another, open a pin on the point that the first makes, and write to it: one ends by `end`, one at
+    the end of input, one in a line. A fourth dumps and closes the pins of all."""
     got = [
         ended_by(given)(port)[0]
         for given in (POINT + b"open -\nput 0 0 0 8\nend\n", b"open 3\nput 0 0 0 9\n", b"open 3\nclear 0 0\ncl")
@@ -565,8 +565,8 @@ def saved_files(program):
 
 
 def saved_to_long_names(program):
-    """Yields sessions that are saved to files whose names and paths are long as (name, what happened, what must happen): each file is
-    there, and no other is made."""
+    """Yields sessions that are saved to files whose names and paths are long as (name, what happened, what must happen): each file
+    is there, and no other is made."""
     done = (0, POINT_MADE + b"saved 301\n", b"")
     for names in (["h" * 64], ["h" * 65], ["h" * 255], ["in a folder", "h" * 80 + ".hprof"], ["f" * 200] * 6 + ["h" * 200]):
         for is_whole in (True, False):
@@ -575,7 +575,8 @@ def saved_to_long_names(program):
                 wanted = os.path.join(top, *names)
                 path, where = (wanted, None) if is_whole else (os.path.join(*names), top)
                 ran = run(program, ["save", "--out", path], POINT, cwd=where)
-                made = {os.path.join(at, name): pathlib.Path(at, name).read_bytes() for at, _, all in os.walk(top) for name in all}
+                there = [pathlib.Path(at, name) for at, _, files in os.walk(top) for name in files]
+                made = {str(file): file.read_bytes() for file in there}
                 yield f"saved to a path of {len(path)} bytes", (*ran, made), (*done, {wanted: POINT_DUMP})
 
 

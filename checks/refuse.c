@@ -1,6 +1,6 @@
-/* Refuses one allocation of the program that it is loaded into (LD_PRELOAD): the one whose number the variable REFUSED has, counted
-   from 1. Says "refused" on standard error when it does. Appends the size of each request, a number of 8 bytes, to the file that the
-   variable SIZES names, if there is one. */
+/* Refuses one allocation of the program that it is loaded into (LD_PRELOAD): the one whose number the variable REFUSED has,
+   counted from 1. Says "refused" on standard error when it does. Appends the size of each request, a number of 8 bytes, to the
+   file that the variable SIZES names, if there is one. */
 #include <errno.h>
 #include <fcntl.h>
 #include <stddef.h>

@@ -218,7 +218,8 @@ def closing_servers(program):
         yield f"the server closes after {length} bytes, and reads nothing", fits, True
 
 
-CASES = closing_clients, resetting_clients, silent_reader, endless_line, many_sessions, other_addresses, taken_port, closing_servers
+CASES = closing_clients, resetting_clients, silent_reader, endless_line, many_sessions, taken_port, closing_servers
+CASES += (other_addresses,)
 
 
 def differences(program):

@@ -1,6 +1,6 @@
-/* Cuts, interrupts and fails the streams of the program that it is loaded into (LD_PRELOAD): standard input, standard output, the files
-   that the program opens for writing, and its sockets, received from and sent to. Variables say how, each with the prefix IN_, OUT_,
-   FILE_, RECEIVED_ or SENT_:
+/* Cuts, interrupts and fails the streams of the program that it is loaded into (LD_PRELOAD): standard input, standard output, the
+   files that the program opens for writing, and its sockets, received from and sent to. Variables say how, each with the prefix
+   IN_, OUT_, FILE_, RECEIVED_ or SENT_:
 
    MOST    the most bytes that a read or a write takes
    TIMES   how often each of them is interrupted before it is done

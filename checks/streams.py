@@ -2,9 +2,9 @@
 """Runs the built program over streams that cut, are interrupted or fail, and compares what comes with what must come.
 
 Usage: checks/streams.py PROGRAM ..
-The streams are those of checks/streams.c. Sessions that are read and written in parts are answered as ever; a read that fails ends a
-session behind the answers to the lines read whole, and a write that fails behind the bytes that are out. A save goes into files that
-fail. Prints a line for each difference and ends with status 1 if there is one. Prints nothing where all is well."""
+The streams are those of checks/streams.c. Sessions that are read and written in parts are answered as ever; a read that fails, or
+would block, ends a session behind the answers to the lines read whole, and such a write behind the bytes that are out. A save goes
+into files that fail. Prints a line for each difference and ends with status 1 if there is one. Prints nothing where all is well."""
 import concurrent.futures
 import os
 import pathlib
@@ -192,8 +192,8 @@ def failing_writes(program):
 
 
 def would_block(program):
-    """Yields sessions of which one read or write would block, after each number of bytes. That is a fault, after which nothing is read or
-    written, although the next call would be done."""
+    """Yields sessions of which one read or write would block, after each number of bytes. That is a fault, after which nothing is
+    read or written, although the next call would be done."""
     for lines in (EXAMPLE, SWEPT):
         for count in range(len(lines) + 1):
             ran = program.run(lines, IN_AGAIN=count)

@@ -322,6 +322,16 @@ fn marks_all<L: Heap, R: Wait>(
     Ok((claims, gate.passes))
 }
 
+/// Sweeps all regions once. Returns whether it did.
+fn sweeps<L: Heap, R: Wait>(
+    rt: &R,
+    shared: &Shared<L>,
+    seat: &mut Seat<L>,
+    gate: &mut Counting,
+) -> bool {
+    seat.role() == Role::Sweeper && sweep_worker(shared, rt, seat, gate, REGIONS) == Swept::Swept
+}
+
 /// Sweeps all regions once after each cycle, and tells how many rounds there were. Returns whether all were, and how many acts.
 fn sweeps_all<L: Heap, R: Wait>(
     rt: &R,
@@ -331,13 +341,8 @@ fn sweeps_all<L: Heap, R: Wait>(
     swept: &AtomicU64,
 ) -> (bool, u64) {
     let mut gate = Counting { passes: 0 };
-    if seat.role() != Role::Sweeper {
-        return (false, 0);
-    }
     for cycle in 0..CYCLES {
-        if !reaches(finished, cycle + 1)
-            || sweep_worker(shared, rt, &mut seat, &mut gate, REGIONS) != Swept::Swept
-        {
+        if !reaches(finished, cycle + 1) || !sweeps(rt, shared, &mut seat, &mut gate) {
             return (false, gate.passes);
         }
         swept.store(cycle + 1, Ordering::SeqCst);

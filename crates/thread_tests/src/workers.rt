@@ -117,11 +117,11 @@ fn sweep_receipt(region: u64) -> Receipt
 /// Returns how many of the sixteen regions have the entry of their sweep.
 fn sweeps_answered<L: Heap, R: Wait>(rt: &R, shared: &Shared<L>) -> u64 {
     let kept = shared.lock(rt);
-    let mut answered = 0;
+    let mut answered: u64 = 0;
     for region in 0..16u64 {
         let claims = [(Action::Step(Event::Sweep { region }), sweep_receipt(region))];
         if audit(&*kept, claims.as_slice()) {
-            answered += 1;
+            answered = answered.saturating_add(1);
         }
     }
     answered

@@ -7,12 +7,13 @@ it reads, or refuses one line and answers all others as a session without that l
 pieces as if it hadn't. It serves two clients at a time: a session that ends for want of memory has answered nothing, and the
 other one goes on. It saves a dump: that of the session's last state, or a beginning of it, if the dump is lost for want of
 memory. If it is lost before its first byte, or the session isn't dumped, a file that was there stays what it was, and no file is
-made. Prints a line for each program or session that goes otherwise, and with -v for each how many allocations were refused;
-ends with status 1 if one goes otherwise."""
+made. No session asks for much more memory at once than its settings need. Prints a line for each program or session that goes
+otherwise, and with -v for each how many allocations were refused; ends with status 1 if one goes otherwise."""
 import contextlib
 import os
 import pathlib
 import socket
+import struct
 import subprocess
 import sys
 import tempfile
@@ -228,6 +229,72 @@ def wrong_runs(command, library, wanted):
     return LIMIT
 
 
+# ---- how much is asked for
+
+# The most bytes that a session asks for at once, by what the documents say, and by how much a request may be larger. What comes
+# is read by up to 65,536 bytes; a line of 4,096 bytes has at most 1,024 fields, and where one stands takes 24 bytes; parts of a
+# saved dump are joined to 64 KiB; a record of the ring takes at most 32 bytes. Nothing else is larger than a region's box, which
+# has 1,024 words and room for 256 headers of 16 bytes: not a part of a dump of these heaps, a page of answers, the gray stack (8
+# bytes for each of 256 cells of a region), lists of at most 256 regions or 3 sessions, or what is read of the command line.
+READ, FIELDS, PAGE, RECORD, BOX = 65_536, 1024 * 24, 65_536, 32, 8192 + 4096
+MARGIN = 1.25
+
+
+def sizes_told(file):
+    """Returns the sizes in the file that the library wrote, largest first."""
+    return sorted((size for (size,) in struct.iter_unpack("Q", file.read())), reverse=True)
+
+
+def sizes_of_run(command, library, given):
+    """Returns the sizes of the requests that a command makes in a session."""
+    with tempfile.NamedTemporaryFile() as sizes:
+        variables = {"LD_PRELOAD": library, "SIZES": sizes.name}
+        subprocess.run(command, env=variables, capture_output=True, input=given, timeout=60, check=True)
+        return sizes_told(sizes)
+
+
+def sizes_of_server(program, library, words, clients):
+    """Returns the sizes of the requests that a server of these clients makes, one after another."""
+    with socket.create_server(("127.0.0.1", 0)) as found:
+        port = found.getsockname()[1]
+    with tempfile.NamedTemporaryFile() as sizes:
+        variables = {"LD_PRELOAD": library, "SIZES": sizes.name}
+        command = [program, "serve", "--port", str(port), "--sessions", str(len(clients)), *words]
+        with subprocess.Popen(command, env=variables, stdout=subprocess.PIPE) as server:
+            for given in clients:
+                if client := connected(server, port):
+                    with client:
+                        answered(client, given)
+            server.communicate(timeout=60)
+        return sizes_told(sizes)
+
+
+def are_right_sizes(sizes, large):
+    """Tells whether the largest of these sizes are at most so large, and no other is larger than a box."""
+    limits = sorted((size for size in large if size > BOX), reverse=True)
+    limits += [BOX] * (len(sizes) - len(limits))
+    return sizes != [] and all(size <= MARGIN * limit for size, limit in zip(sizes, limits))
+
+
+def wrong_sizes(program, library, lines):
+    """Yields what a session asks for at once that is too much, over small heaps: it runs alone, is saved, or is one of three that are
+    served."""
+    given = b"".join(line + b"\n" for line in lines)
+    for regions, keep in ((1, 1), (2, 1000)):
+        words = ["--regions", str(regions), "--keep", str(keep)]
+        ring = RECORD * keep
+        with tempfile.TemporaryDirectory() as folder:
+            saving = [program, "save", "--out", os.path.join(folder, "out.hprof"), *words]
+            told = (
+                ("run", sizes_of_run([program, "run", *words], library, given), [READ, FIELDS, ring]),
+                ("save", sizes_of_run(saving, library, given), [READ, FIELDS, ring, PAGE]),
+                ("serve", sizes_of_server(program, library, words, [given] * 3), [READ, FIELDS] * 3 + [ring]),
+            )
+        for task, sizes, large in told:
+            if not are_right_sizes(sizes, large):
+                yield f"{task} {' '.join(words)}: it asks for {', '.join(map(str, sizes[:8]))} .. bytes"
+
+
 def told(name, numbers, verbose):
     """Prints what came of refusing the allocations, if something went wrong or it is asked. Returns whether all went as it may."""
     wrong = []
@@ -257,6 +324,9 @@ def main(growths, wanted, heapdbg, verbose=False):
             good = told(f"{name}, saved", wrong_saves(program, library, lines), verbose) and good
             others = wrong_servers(program, library, lines, SECOND)
             good = told(f"{name}, served", others, verbose) and good
+            for line in wrong_sizes(program, library, lines):
+                print(f"{name}, {line}")
+                good = False
     return 0 if good else 1
 
 

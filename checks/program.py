@@ -4,6 +4,7 @@
 Usage: checks/program.py PROGRAM ..
 Prints a line for each difference and ends with status 1 if there is one. Prints nothing where all is well."""
 import contextlib
+import fcntl
 import os
 import pathlib
 import resource
@@ -114,6 +115,77 @@ def sessions(program):
     yield "a line of 4,097 bytes", run(program, ["run"], b"a" * 4097 + b"\n"), (1, b"bad long\n", b"heapdbg: long\n")
 
 
+# ---- the settings of the commands that open a heap
+
+# Values of all five options: small ones, of which each differs from what it is if it isn't given, large ones, and the smallest.
+# The times have bits above the 32nd, but for one.
+SMALL = {"regions": 3, "mutators": 3, "keep": 5, "time": 7 << 32 | 9, "ids": 4}
+LARGE = {"regions": 256, "mutators": 16, "keep": 65_536, "time": 2**64 - 1, "ids": 8}
+LEAST = {"regions": 1, "mutators": 1, "keep": 1, "time": 1, "ids": 4}
+DEFAULTS = {"regions": 16, "mutators": 2, "keep": 1024, "time": 0, "ids": 8}
+
+
+def empty_dump(ids, time):
+    """Returns the dump of a heap without classes, objects and roots: the header, the trace and the end."""
+    return bytes_of(dump_of_longs(1, ids, time))[: 31 + 21] + record(0x2C, b"")
+
+
+def shown(regions, mutators, keep, time, ids):
+    """Returns lines, and what they are answered if these are the settings. They leave each region with an array of 1,024 longs,
+    which no register names."""
+    dump = empty_dump(ids, time)
+    arrays = b"".join(b"ok object 0x%08x\n" % (0x10000000 + 8192 * number) for number in range(regions))
+    lines = b"dump -\nclear %d 0\nclear %d 0\n" % (mutators - 1, mutators) + b"newprim 0 0 long 1024\n" * regions
+    lines += b"newprim 0 0 long 1\n" + b"clear 0 0\n" * keep + b"rewind 65537\n"
+    answers = data_lines(dump[:52]) + data_lines(dump[52:]) + b"ok dump %d\nok\nno 7 BadRegister\n" % len(dump)
+    return lines, answers + arrays + b"no 13 HeapFull\n" + b"ok\n" * keep + b"no 21 TooFar 65537 %d\n" % keep
+
+
+def left_dump(regions, ids, time):
+    """Returns the dump of what those lines leave: an array a region, each in a segment of its own, and no root."""
+    places = [(0x10000000 + 8192 * number).to_bytes(ids, "big") for number in range(regions)]
+    arrays = [b"\x23" + place + bytes.fromhex("00000001 00000400 0b") + bytes(8192) for place in places]
+    dump = empty_dump(ids, time)
+    return dump[:52] + b"".join(record(0x1C, array) for array in arrays) + dump[52:]
+
+
+def as_words(settings):
+    """Returns the words of these options, two for each."""
+    return [word for name, value in settings.items() for word in (f"--{name}", str(value))]
+
+
+def told_all(lines):
+    """Returns clients: one, which sends these lines while it reads what comes, until its session has ended."""
+
+    def clients(port):
+        with connected(port) as client:
+            sender = threading.Thread(target=client.sendall, args=(lines + b"end\n",))
+            sender.start()
+            got = rest_of(client, b"")
+            sender.join()
+            return (got,)
+
+    return clients
+
+
+def settings_shown(program):
+    """Yields sessions that show all settings, by each command that opens a heap, as (name, what happened, what must happen). Each
+    option comes last once, behind all others: such a line has 11 to 15 words."""
+    names = list(SMALL)
+    turned = [{name: SMALL[name] for name in names[at:] + names[:at]} for at in range(len(names))]
+    for given in (*turned, LARGE, LEAST, {}):
+        values = {**DEFAULTS, **given}
+        words, (lines, answers) = as_words(given), shown(**values)
+        name = " ".join(words)
+        yield f"run {name}", run(program, ["run", *words], lines), (0, answers, b"")
+        wanted = (0, b"session 1 quit\n", b"", answers)
+        yield f"serve {name}", served(program, told_all(lines), ["--sessions", "1", *words]), wanted
+        dump = left_dump(values["regions"], values["ids"], values["time"])
+        with tempfile.TemporaryDirectory() as folder:
+            happened = saved(program, os.path.join(folder, "heap.hprof"), lines, words)
+        yield f"save {name}", happened, (0, answers + b"saved %d\n" % len(dump), b"", dump)
+
+
 # Lines at their limits, and what each is answered in a session of its own.
 LINES_AT_THE_LIMITS = (
     (b"clear 0 " + b"0" * 20, b"ok"),
@@ -163,6 +235,17 @@ def faults(program):
     large = ["run", "--regions", "256", "--keep", "65536"]
     ran = run(program, large, EXAMPLE, preexec_fn=limited(enough * MEBIBYTE))
     yield "little memory", ran, (1, b"", b"heapdbg: memory\n")
+
+
+def would_block(program):
+    """Yields a session whose output doesn't wait, and is full after a page, as (name, what happened, what must happen)."""
+    come, output = os.pipe()
+    room = fcntl.fcntl(output, fcntl.F_SETPIPE_SZ, os.sysconf("SC_PAGESIZE"))
+    os.set_blocking(output, False)
+    ran = run(program, ["run"], b"clear 0 0\n" * room, stdout=output)
+    os.close(output)
+    with open(come, "rb") as taken:
+        yield "an output that doesn't wait", (*ran, taken.read()), (1, b"", b"heapdbg: write\n", (b"ok\n" * room)[:room])
 
 
 # ---- clients
@@ -328,6 +411,39 @@ def served_sessions(program):
     yield "kept steps", kept, (0, b"session 1 quit\n", b"", b"no 7 BadRegister\n" * 3 + b"no 21 TooFar 3 0\n")
     three = served(program, lambda port: [ended(b"close 1\nend\n")(port)[0] for _ in range(3)], ["--sessions=3"])
     yield "three in turn", three, (0, quits + b"session 3 quit\n", b"", *[b"no 22 NoPin\n"] * 3)
+
+
+def ended_by(given):
+    """Returns clients: one, which sends these bytes, closes its writing side, and returns what comes until its session ends."""
+
+    def clients(port):
+        with connected(port) as client, client.makefile("rb") as come:
+            client.sendall(given)
+            client.shutdown(socket.SHUT_WR)
+            return (come.read(),)
+
+    return clients
+
+
+def ending_with_pins(port):
+    """Three clients, one after another, open a pin on the point that the first makes, and write to it: one ends by `end`, one at
+    the end of input, one in a line. A fourth dumps and closes the pins of all."""
+    got = [
+        ended_by(given)(port)[0]
+        for given in (POINT + b"open -\nput 0 0 0 8\nend\n", b"open 3\nput 0 0 0 9\n", b"open 3\nclear 0 0\ncl")
+    ]
+    lines = b"".join(b"dump %d\nclose %d\n" % (pin, pin) for pin in (1, 2, 3))
+    with connected(port) as last:
+        return (*got, rest_of(last, lines + b"close 1\nend\n"))
+
+
+def pins_of_ended_sessions(program):
+    """Yields sessions that end with a pin open as (name, what happened, what must happen)."""
+    dumped = EXAMPLE_REPLIES[len(POINT_MADE) :]
+    words = b"session 1 quit\nsession 2 eof\nsession 3 cut\nsession 4 quit\n"
+    opened = POINT_MADE + b"ok pin 1 at 3\nok\n", b"ok pin 2 at 3\nok\n", b"ok pin 3 at 3\nok\nbad cut\n"
+    happened = served(program, ending_with_pins, ["--sessions", "4"])
+    yield "pins of ended sessions", happened, (0, words, b"", *opened, (dumped + b"ok\n") * 3 + b"no 22 NoPin\n")
 
 
 # Worked examples of a session over a shared heap: words of `serve`, lines, and what they are answered. The dump is that of one
@@ -497,12 +613,22 @@ def saved_files(program):
         lines = viewed[1].splitlines()
         told = [viewed[0], all(line.startswith(b"ok") for line in lines[:-1]), lines[-1]]
         yield "the viewer's example", told, [0, True, b"saved %d" % len(viewed[3])]
-    # Long names, up to the longest that a folder takes.
-    for letters in (64, 65, 255):
-        name = "".join(chr(ord("a") + at % 26) for at in range(letters))
-        with tempfile.TemporaryDirectory() as folder:
-            yield f"saved to a name of {letters} letters", saved(program, os.path.join(folder, name)), done
-            yield f"the file of {letters} letters", (os.listdir(folder),), ([name],)
+
+
+def saved_to_long_names(program):
+    """Yields sessions that are saved to files whose names and paths are long as (name, what happened, what must happen): each file
+    is there, and no other is made."""
+    done = (0, POINT_MADE + b"saved 301\n", b"")
+    for names in (["h" * 64], ["h" * 65], ["h" * 255], ["in a folder", "h" * 80 + ".hprof"], ["f" * 200] * 6 + ["h" * 200]):
+        for is_whole in (True, False):
+            with tempfile.TemporaryDirectory() as top:
+                os.makedirs(os.path.join(top, *names[:-1]), exist_ok=True)
+                wanted = os.path.join(top, *names)
+                path, where = (wanted, None) if is_whole else (os.path.join(*names), top)
+                ran = run(program, ["save", "--out", path], POINT, cwd=where)
+                there = [pathlib.Path(at, name) for at, _, files in os.walk(top) for name in files]
+                made = {str(file): file.read_bytes() for file in there}
+                yield f"saved to a path of {len(path)} bytes", (*ran, made), (*done, {wanted: POINT_DUMP})
 
 
 def saved_faults(program):
@@ -544,7 +670,7 @@ def closed(server, got):
     server.accept()[0].close()
 
 
-def saved_to(program, peer, given, *words):
+def saved_to(program, peer, given, *words, **how):
     """Returns what happened to a run of `save` to a server whose one client a peer sees to, and then what that peer got."""
     with socket.create_server(("127.0.0.1", 0)) as server:
         server.settimeout(SECONDS)
@@ -553,7 +679,7 @@ def saved_to(program, peer, given, *words):
         got = []
         listener = threading.Thread(target=peer, args=(server, got))
         listener.start()
-        ran = run(program, ["save", f"--to={server.getsockname()[1]}", *words], given)
+        ran = run(program, ["save", f"--to={server.getsockname()[1]}", *words], given, **how)
         listener.join()
     return (*ran, *got)
 
@@ -700,13 +826,13 @@ def bad_lines(program):
 
 def differences(program):
     """Yields a line for each run that went otherwise than it must."""
-    parts = ("status", "standard output", "standard error", "first of the clients or the dump", "second", "third")
-    saves = (saved_files, saved_faults, saved_to_listeners, saved_on_terminals)
-    serves = (served_sessions, served_on_terminals, worked, asking, served_faults)
-    for cases in (sessions, lines_at_the_limits, faults, bad_lines, *saves, *serves):
+    parts = ("status", "standard output", "standard error", "first of the clients or the dump", "second", "third", "fourth")
+    saves = (saved_files, saved_to_long_names, saved_faults, saved_to_listeners, saved_on_terminals)
+    serves = (served_sessions, served_on_terminals, pins_of_ended_sessions, worked, asking, served_faults)
+    for cases in (sessions, settings_shown, lines_at_the_limits, faults, would_block, bad_lines, *saves, *serves):
         for name, happened, wanted in cases(program):
-            if len(happened) != len(wanted):
-                yield f"{program}, {name}: {len(happened)} facts, and must be {len(wanted)}"
+            if not len(happened) == len(wanted) <= len(parts):
+                yield f"{program}, {name}: {len(happened)} facts, and must be {len(wanted)}, at most {len(parts)}"
             for what, one, other in zip(parts, happened, wanted):
                 if one != other:
                     yield f"{program}, {name}: {what} is {one!r:.300}, and must be {other!r:.300}"

@@ -147,6 +147,36 @@ def many_sessions(program):
     yield "1,000 sessions", found, ([b"ok\nok place 0\n"] * 1000, (0, ["quit"] * 1000, b""))
 
 
+def other_addresses(program):
+    """Yields what connections to other addresses of this computer have, while 127.0.0.1 is served: they are refused."""
+    others = ((socket.AF_INET, "127.0.0.2"), (socket.AF_INET, "127.1.2.3"), *own_addresses())
+    with Server(program, 1) as server:
+        with server.client() as client:
+            found = [connection_to(family, address, server.port) for family, address in others]
+            client.sendall(b"clear 0 0\nend\n")
+            found = found, all_of(client), server.ended()
+    yield "other addresses", found, (["refused"] * len(others), b"ok\n", (0, ["quit"], b""))
+
+
+def own_addresses():
+    """Returns the address of this computer that others know it by, if it has one. Nothing is sent to find it."""
+    with socket.socket(socket.AF_INET, socket.SOCK_DGRAM) as asked, contextlib.suppress(OSError):
+        asked.connect(("192.0.2.1", 9))
+        return [(socket.AF_INET, asked.getsockname()[0])]
+    return []
+
+
+def connection_to(family, address, port):
+    """Returns whether a connection to an address is refused."""
+    with socket.socket(family) as client:
+        client.settimeout(LIMIT)
+        try:
+            client.connect((address, port))
+        except ConnectionRefusedError:
+            return "refused"
+        return "accepted"
+
+
 def taken_port(program):
     """Yields what `serve` says of a port that is taken, and `ask` of one where nobody listens."""
     with socket.create_server(("127.0.0.1", 0)) as taken:
@@ -279,7 +309,7 @@ def one_client_more(program):
 
 
 HOSTILE = closing_clients, resetting_clients, silent_reader, endless_line, many_sessions, taken_port, closing_servers
-CASES = (*HOSTILE, answers_one_by_one, lines_in_parts, open_input, full_output, one_client_more)
+CASES = (*HOSTILE, other_addresses, answers_one_by_one, lines_in_parts, open_input, full_output, one_client_more)
 
 
 def differences(program):

@@ -1,9 +1,11 @@
-/* Cuts, interrupts and fails the streams of the program that it is loaded into (LD_PRELOAD): standard input, standard output, and the
-   files that the program opens for writing. Delays or refuses its threads. Variables say how, each with the prefix IN_, OUT_ or FILE_:
+/* Cuts, interrupts and fails the streams of the program that it is loaded into (LD_PRELOAD): standard input, standard output, the
+   files that the program opens for writing, and its sockets, received from and sent to. Delays or refuses its threads. Variables say
+   how, each with the prefix IN_, OUT_, FILE_, RECEIVED_ or SENT_:
 
    MOST    the most bytes that a read or a write takes
    TIMES   how often each of them is interrupted before it is done
    LEFT    after how many bytes all further ones fail
+   AGAIN   after how many bytes one call fails as one that would block, and the next is done
    NOTHING 1 if a write that fails takes nothing and says no error
 
    The variable LATE says after how many milliseconds each thread that the program makes begins; a thread isn't made if it is below 0.
@@ -20,20 +22,21 @@
 #include <stdio.h>
 #include <stdlib.h>
 #include <sys/mman.h>
+#include <sys/socket.h>
 #include <sys/syscall.h>
 #include <time.h>
 #include <unistd.h>
 
 struct stream {
     const char *name;
-    long most, times, left, nothing, interrupted;
+    long most, times, left, again, nothing, interrupted;
 };
 
 struct counts {
     long bytes, reads, writes, late;
 };
 
-static struct stream in = {"IN"}, out = {"OUT"}, file = {"FILE"};
+static struct stream in = {"IN"}, out = {"OUT"}, file = {"FILE"}, received = {"RECEIVED"}, sent = {"SENT"};
 static int file_number = -1;
 static int has_failed;
 static long late;
@@ -50,6 +53,7 @@ static void ask(struct stream *stream) {
     stream->most = told(stream->name, "MOST", LONG_MAX);
     stream->times = told(stream->name, "TIMES", 0);
     stream->left = told(stream->name, "LEFT", LONG_MAX);
+    stream->again = told(stream->name, "AGAIN", LONG_MAX);
     stream->nothing = told(stream->name, "NOTHING", 0);
 }
 
@@ -57,6 +61,8 @@ __attribute__((constructor)) static void begin(void) {
     ask(&in);
     ask(&out);
     ask(&file);
+    ask(&received);
+    ask(&sent);
     const char *delay = getenv("LATE");
     late = delay ? atol(delay) : 0;
     const char *path = getenv("COUNTS");
@@ -71,7 +77,7 @@ __attribute__((constructor)) static void begin(void) {
     }
 }
 
-/* Returns how many of so many bytes a call may have; -1 if it is interrupted. */
+/* Returns how many of so many bytes a call may have; -1 if it is interrupted, fails, or would block. */
 static long room(struct stream *stream, size_t size) {
     if (stream->interrupted < stream->times) {
         stream->interrupted++;
@@ -79,8 +85,33 @@ static long room(struct stream *stream, size_t size) {
         return -1;
     }
     stream->interrupted = 0;
+    if (stream->again == 0) {
+        stream->again = LONG_MAX;
+        errno = EAGAIN;
+        return -1;
+    }
+    if (stream->left == 0) {
+        errno = EIO;
+        return -1;
+    }
     long most = stream->most < stream->left ? stream->most : stream->left;
+    most = most < stream->again ? most : stream->again;
     return size < (size_t)most ? (long)size : most;
+}
+
+/* Notes what a call took, and returns it. */
+static ssize_t took(struct stream *stream, ssize_t done) {
+    if (done > 0) {
+        stream->left -= stream->left == LONG_MAX ? 0 : done;
+        stream->again -= stream->again == LONG_MAX ? 0 : done;
+    }
+    return done;
+}
+
+/* Returns what a write that may have nothing answers. */
+static ssize_t failed(struct stream *stream) {
+    has_failed |= errno != EINTR;
+    return errno == EIO && stream->nothing ? 0 : -1;
 }
 
 ssize_t read(int number, void *bytes, size_t size) {
@@ -93,15 +124,8 @@ ssize_t read(int number, void *bytes, size_t size) {
     if (most < 0) {
         return -1;
     }
-    if (in.left == 0) {
-        errno = EIO;
-        return -1;
-    }
-    ssize_t done = syscall(SYS_read, number, bytes, (size_t)most);
-    if (done > 0) {
-        in.left -= done;
-        counts->bytes += done;
-    }
+    ssize_t done = took(&in, syscall(SYS_read, number, bytes, (size_t)most));
+    counts->bytes += done > 0 ? done : 0;
     return done;
 }
 
@@ -112,19 +136,17 @@ ssize_t write(int number, const void *bytes, size_t size) {
     }
     counts->writes += stream == &out;
     long most = room(stream, size);
-    if (most < 0) {
-        return -1;
-    }
-    if (stream->left == 0) {
-        has_failed = 1;
-        errno = EIO;
-        return stream->nothing ? 0 : -1;
-    }
-    ssize_t done = syscall(SYS_write, number, bytes, (size_t)most);
-    if (done > 0) {
-        stream->left -= done;
-    }
-    return done;
+    return most < 0 ? failed(stream) : took(stream, syscall(SYS_write, number, bytes, (size_t)most));
+}
+
+ssize_t recv(int number, void *bytes, size_t size, int flags) {
+    long most = room(&received, size);
+    return most < 0 ? -1 : took(&received, syscall(SYS_recvfrom, number, bytes, (size_t)most, flags, NULL, NULL));
+}
+
+ssize_t send(int number, const void *bytes, size_t size, int flags) {
+    long most = room(&sent, size);
+    return most < 0 ? failed(&sent) : took(&sent, syscall(SYS_sendto, number, bytes, (size_t)most, flags, NULL, 0));
 }
 
 int open(const char *path, int flags, ...) {

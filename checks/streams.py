@@ -2,10 +2,10 @@
 """Runs the built program over streams that cut, are interrupted or fail, and compares what comes with what must come.
 
 Usage: checks/streams.py PROGRAM ..
-The streams are those of checks/streams.c. Sessions that are read and written in parts are answered as ever; a read that fails ends a
-session behind the answers to the lines read whole, and a write that fails behind the bytes that are out. A save goes into files that
-fail, and is whole though its thread begins late or can't be made. Prints a line for each difference and ends with status 1 if there
-is one. Prints nothing where all is well."""
+The streams are those of checks/streams.c. Sessions that are read and written in parts are answered as ever; a read that fails, or
+would block, ends a session behind the answers to the lines read whole, and such a write behind the bytes that are out. A save goes
+into files that fail, and is whole though its thread begins late or can't be made. Prints a line for each difference and ends with
+status 1 if there is one. Prints nothing where all is well."""
 import concurrent.futures
 import os
 import pathlib
@@ -19,6 +19,7 @@ sys.path[:0] = [str(TOP / "checks"), str(TOP / "checks/model")]
 
 from cases import stored  # noqa: E402
 from program import ARRAY, EXAMPLE, EXAMPLE_REPLIES, POINT, POINT_DUMP, POINT_MADE, dump_of_longs  # noqa: E402
+from program import asked, ended_by, received, saved_to, served  # noqa: E402
 from session import answers_of  # noqa: E402
 
 SOURCE = TOP / "checks/streams.c"
@@ -64,6 +65,10 @@ class Program:
     def __init__(self, program, library):
         self.program, self.library = program, library
 
+    def rules(self, **rules):
+        """Returns the variables of a run by rules as IN_MOST=1."""
+        return {"LD_PRELOAD": self.library, **{name: str(value) for name, value in rules.items()}}
+
     def run(self, given, words=("run",), **rules):
         """Runs the program over an input, by rules as IN_MOST=1."""
         with tempfile.TemporaryFile() as lines, tempfile.NamedTemporaryFile() as counts:
@@ -71,8 +76,7 @@ class Program:
             lines.seek(0)
             counts.write(bytes(32))
             counts.flush()
-            variables = {"LD_PRELOAD": self.library, "COUNTS": counts.name, **{name: str(value) for name, value in rules.items()}}
-            how = {"stdin": lines, "capture_output": True, "timeout": SECONDS, "env": variables}
+            how = {"stdin": lines, "capture_output": True, "timeout": SECONDS, "env": self.rules(COUNTS=counts.name, **rules)}
             ran = subprocess.run(["heapdbg", *words], executable=self.program, **how)
             counts.seek(0)
             return Ran(ran.returncode, ran.stdout, ran.stderr, struct.unpack("4q", counts.read(32)))
@@ -185,6 +189,52 @@ def failing_writes(program):
                 yield f"a write that fails after {count} bytes, lines at once", (*ran.told(), ran.late), wanted
 
 
+# ---- streams that would block
+
+
+def would_block(program):
+    """Yields sessions of which one read or write would block, after each number of bytes. That is a fault, after which nothing is
+    read or written, although the next call would be done."""
+    for lines in (EXAMPLE, SWEPT):
+        for count in range(len(lines) + 1):
+            ran = program.run(lines, IN_AGAIN=count)
+            wanted = (1, replies(lines[:count]) + b"bad read\n", b"heapdbg: read\n", 1 + (count > 0))
+            yield f"a read that would block after {count} bytes", (*ran.told(), ran.reads), wanted
+    text = replies(SWEPT)
+    for count in range(len(text)):
+        wanted = (1, text[:count], b"heapdbg: write\n", 0)
+        ran = program.run(SWEPT, OUT_AGAIN=count, OUT_MOST=1, IN_MOST=1)
+        yield f"a write that would block after {count} bytes", (*ran.told(), ran.late, ran.writes), (*wanted, count + 1)
+    for count in (0, 1, 8191, 8192, 8193, 17_000):
+        wanted = (1, dump_of_longs(1024)[:count], b"heapdbg: write\n", 0)
+        ran = program.run(ARRAY + b"dump -\n", OUT_AGAIN=count)
+        yield f"a write of a dump that would block after {count} bytes", (*ran.told(), ran.late), wanted
+
+
+def blocking_saves(program):
+    """Yields saves of which one write would block, to a file and to a listener."""
+    for count in range(0, len(POINT_DUMP), 10):
+        wanted = (1, POINT_MADE + b"failed %d\n" % count, b"heapdbg: out\n", POINT_DUMP[:count])
+        ran, dump = program.save(POINT, FILE_AGAIN=count)
+        yield f"a file that would block after {count} bytes", (*ran.told(), dump), wanted
+        happened = saved_to(program.program, received, POINT, env=program.rules(SENT_AGAIN=count))
+        yield f"a listener that would block after {count} bytes", happened, wanted
+
+
+def blocking_sockets(program):
+    """Yields a served session and a client of one, of which one read or write of the socket would block."""
+    read, write = (0, b"session 1 read\n", b""), (0, b"session 1 write\n", b"")
+    for count in (0, 1, 10, 35, len(POINT)):
+        happened = served(program.program, ended_by(POINT[:count]), env=program.rules(RECEIVED_AGAIN=count))
+        yield f"a client that would block after {count} bytes", happened, (*read, replies(POINT[:count]) + b"bad read\n")
+    for count in (0, 1, 10, len(POINT_MADE) - 1):
+        happened = served(program.program, ended_by(POINT), env=program.rules(SENT_AGAIN=count))
+        yield f"a client that would block after {count} bytes of answers", happened, (*write, POINT_MADE[:count])
+        rules = program.rules(RECEIVED_AGAIN=count)
+        happened = served(program.program, lambda port: asked(program.program, port, EXAMPLE, env=rules))
+        yield f"a server that would block after {count} bytes", happened[3:], (1, EXAMPLE_REPLIES[:count], b"heapdbg: read\n")
+
+
 # ---- saves
 
 
@@ -237,7 +287,8 @@ def late_threads(program):
         yield f"two pages that fail, a thread {late} ms late", told, (1, [b"failed 66000"], b"heapdbg: out\n", True)
 
 
-CHECKS = (in_parts, pages, interrupted, failing_reads, failing_writes, failing_files, failing_saves, late_threads)
+CHECKS = (in_parts, pages, interrupted, failing_reads, failing_writes, failing_files, failing_saves)
+CHECKS += (would_block, blocking_saves, blocking_sockets, late_threads)
 
 
 def differences(program, check):

@@ -134,22 +134,39 @@ impl Example<'_> {
     }
 }
 
-/// Returns whether each writer that takes less than an example's text stops so.
-fn stop_at_each_byte(alloc: Global, lines: &str) -> Result<bool, Fail> {
+/// Which of the failing points of an example a test tries: those whose number of bytes leaves this rest when it is halved.
+#[derive(Clone, Copy)]
+enum Half {
+    Even,
+    Odd,
+}
+
+impl Half {
+    /// Returns whether a number of bytes is one of them.
+    fn has(self, count: usize) -> bool {
+        match self {
+            Half::Even => count % 2 == 0,
+            Half::Odd => count % 2 == 1,
+        }
+    }
+}
+
+/// Returns whether each writer that takes less than an example's text stops so, of half of them.
+fn stop_at_each_byte(alloc: Global, lines: &str, half: Half) -> Result<bool, Fail> {
     let example = Example::new(alloc, lines.as_bytes())?;
     for count in 0..example.text.len() {
-        if !example.stops_after(alloc, count)? {
+        if half.has(count) && !example.stops_after(alloc, count)? {
             return Ok(false);
         }
     }
     Ok(true)
 }
 
-/// Whether each reader that gives an example's beginning, or all of it but the end of input, fails so.
-fn fail_at_each_read(alloc: Global, lines: &str) -> Result<bool, Fail> {
+/// Whether each reader that gives an example's beginning, or all of it but the end of input, fails so, of half of them.
+fn fail_at_each_read(alloc: Global, lines: &str, half: Half) -> Result<bool, Fail> {
     let example = Example::new(alloc, lines.as_bytes())?;
     for count in 0..=lines.len() {
-        if !example.fails_after(alloc, count)? {
+        if half.has(count) && !example.fails_after(alloc, count)? {
             return Ok(false);
         }
     }
@@ -163,26 +180,54 @@ fn each_line_but_the_dump_changes_the_state(rt: HostRuntime) -> Result<(), Fail>
     Ok(())
 }
 
+/// Returns whether readers fail so after half of the numbers of bytes of both examples.
+fn readers_fail(alloc: Global, half: Half) -> Result<bool, Fail> {
+    Ok(
+        fail_at_each_read(alloc, POINT_AND_DUMP, half)?
+            && fail_at_each_read(alloc, SWEPT_POINTS, half)?,
+    )
+}
+
+/// Returns whether writers stop so after half of the numbers of bytes of both examples.
+fn writers_stop(alloc: Global, half: Half) -> Result<bool, Fail> {
+    Ok(
+        stop_at_each_byte(alloc, POINT_AND_DUMP, half)?
+            && stop_at_each_byte(alloc, SWEPT_POINTS, half)?,
+    )
+}
+
 #[test]
-fn readers_that_fail(rt: HostRuntime) -> Result<(), Fail> {
-    let all = fail_at_each_read(rt.alloc(), POINT_AND_DUMP)?
-        && fail_at_each_read(rt.alloc(), SWEPT_POINTS)?;
+fn readers_that_fail_at_even_bytes(rt: HostRuntime) -> Result<(), Fail> {
+    let all = readers_fail(rt.alloc(), Half::Even)?;
     assert!(rt; all);
     Ok(())
 }
 
 #[test]
-fn writers_that_fail(rt: HostRuntime) -> Result<(), Fail> {
-    let all = stop_at_each_byte(rt.alloc(), POINT_AND_DUMP)?
-        && stop_at_each_byte(rt.alloc(), SWEPT_POINTS)?;
+fn readers_that_fail_at_odd_bytes(rt: HostRuntime) -> Result<(), Fail> {
+    let all = readers_fail(rt.alloc(), Half::Odd)?;
+    assert!(rt; all);
+    Ok(())
+}
+
+#[test]
+fn writers_that_fail_at_even_bytes(rt: HostRuntime) -> Result<(), Fail> {
+    let all = writers_stop(rt.alloc(), Half::Even)?;
+    assert!(rt; all);
+    Ok(())
+}
+
+#[test]
+fn writers_that_fail_at_odd_bytes(rt: HostRuntime) -> Result<(), Fail> {
+    let all = writers_stop(rt.alloc(), Half::Odd)?;
     assert!(rt; all);
     Ok(())
 }
 
 // ---- lines that are read at once
 
-/// Returns whether a writer that takes so many bytes of an example's answers, where its lines are read at once, takes a beginning
-/// of their text, and the machine is that after all lines.
+/// Returns whether a writer that takes so many bytes of an example's answers, where its lines are read at once, takes a
+/// beginning of their text, and the machine is that after all lines.
 fn is_cut(alloc: Global, example: &Example<'_>, count: usize) -> Result<bool, Fail> {
     let writer = byte_writer(alloc, count);
     let stopped = play(alloc, local(alloc, 1, 1, 64)?, example.bytes, writer)?;

@@ -7,15 +7,23 @@ mod acts;
 #[cfg(test)]
 mod cancelling;
 #[cfg(test)]
+mod cycles;
+#[cfg(test)]
 mod ends;
+#[cfg(test)]
+mod gates;
 #[cfg(test)]
 mod live;
 #[cfg(test)]
 mod live_tests;
 #[cfg(test)]
+mod metered;
+#[cfg(test)]
 mod meters;
 #[cfg(test)]
 mod parts;
+#[cfg(test)]
+mod pumps;
 #[cfg(test)]
 mod receipts;
 #[cfg(test)]

@@ -17,7 +17,7 @@ use std::test::*;
 use std::thread::Threads;
 
 /// The dump of a point with x 7 in the first register, by hand from the format, in hexadecimal.
-const ONE_POINT: &str = "\
+pub const ONE_POINT: &str = "\
 4a4156412050524f46494c4520312e302e3200000000080000000000000000\
 01000000000000000d0000000000000001506f696e74\
 010000000000000009000000000000000278\

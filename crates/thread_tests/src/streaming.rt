@@ -69,7 +69,7 @@ fn segments_of_many_points(rt: HostRuntime) -> Result<(), Fail> {
 }
 
 /// Reads the progress until a stream is done. Returns what was read last, and whether nothing above the limit was read.
-fn read_along(
+pub fn read_along(
     progress: &Progress<'_>,
     seat: &mut ReadSeat,
     done: &AtomicU64,

@@ -113,13 +113,34 @@ fn audited_with<L: Heap>(
     said
 }
 
-/// Returns what an audit says of these claims, and once the last has another answer, or another action, or the receipt of the claim
-/// before it.
+/// Creates the action of a claim once more, if it is a clearing or a rewind, as that of a last claim is.
+fn copied(action: &Action) -> Option<Action> {
+    match action {
+        Action::Step(Event::Clear { m, r }) => Some(Action::Step(Event::Clear { m: *m, r: *r })),
+        Action::Rewind(n) => Some(Action::Rewind(*n)),
+        _ => None,
+    }
+}
+
+/// Returns what an audit says of these claims with the last of them twice, true if there is no copy of it.
+fn audited_twice<L: Heap>(kept: &Kept<L>, claims: &mut Vec<(Action, Receipt)>) -> bool {
+    let Some((action, receipt)) = claims.last() else {
+        return true;
+    };
+    let receipt = *receipt;
+    match copied(action) {
+        Some(action) => audited_with(kept, claims, action, receipt),
+        None => true,
+    }
+}
+
+/// Returns what an audit says of these claims, once the last is there twice, and once it has another answer, or another action.
 fn changed<L: Heap>(
     kept: &Kept<L>,
     mut claims: Vec<(Action, Receipt)>,
 ) -> (bool, bool, bool, bool) {
     let before = audit(kept, claims.as_slice());
+    let twice = audited_twice(kept, &mut claims);
     let Some((action, receipt)) = claims.pop() else {
         return (false, true, true, true);
     };
@@ -129,14 +150,7 @@ fn changed<L: Heap>(
     };
     let event = audited_with(kept, &mut claims, Action::Rewind(77), receipt);
     let answer = audited_with(kept, &mut claims, action, wrong);
-    let twice = match claims.last() {
-        Some((_, before)) => {
-            let receipt = *before;
-            audited_with(kept, &mut claims, Action::Rewind(1), receipt)
-        }
-        None => true,
-    };
-    (before, answer, event, twice)
+    (before, twice, answer, event)
 }
 
 /// What audits say of two threads' claims.
@@ -188,7 +202,7 @@ fn rewinds_between_acts(rt: HostRuntime) -> Result<(), Fail> {
     Ok(())
 }
 
-/// Creates an event of a mutator or the marker, another for each of four numbers.
+/// Creates an event of a mutator or the marker, another for each of four numbers, or of the sweeper, another for each region.
 fn drawn(role: Role, i: u64) -> Event {
     match role {
         Role::Mutator(m) => match i % 4 {
@@ -212,6 +226,7 @@ fn drawn(role: Role, i: u64) -> Event {
             },
             _ => Event::Clear { m, r: 0 },
         },
+        Role::Sweeper => Event::Sweep { region: i % 16 },
         _ => match i % 4 {
             0 => Event::Snap,
             1 => Event::Mark,
@@ -240,23 +255,30 @@ fn thousand<L: Heap, R: Wait>(
     Ok(done)
 }
 
-/// Returns whether the receipts of three seats, each in a thread of its own, agree with the history.
-fn by_three_in<L: Heap + Send + Sync, R: Threads + Wait + Sync>(
+/// Returns whether the receipts of four seats, each in a thread of its own, agree with the history.
+fn by_four_in<L: Heap + Send + Sync, R: Threads + Wait + Sync>(
     rt: &R,
     alloc: Global,
     shared: &Shared<L>,
     one: Seat<L>,
     two: Seat<L>,
     marker: Seat<L>,
+    sweeper: Seat<L>,
 ) -> bool {
-    let (a, (b, c)) = thread::join(
+    let ((a, b), (c, d)) = thread::join(
         rt,
-        move || thousand(rt, alloc, shared, one),
         move || {
             thread::join(
                 rt,
+                move || thousand(rt, alloc, shared, one),
                 move || thousand(rt, alloc, shared, two),
+            )
+        },
+        move || {
+            thread::join(
+                rt,
                 move || thousand(rt, alloc, shared, marker),
+                move || thousand(rt, alloc, shared, sweeper),
             )
         },
     );
@@ -264,7 +286,8 @@ fn by_three_in<L: Heap + Send + Sync, R: Threads + Wait + Sync>(
     is_right(&*kept, &a)
         && is_right(&*kept, &b)
         && is_right(&*kept, &c)
-        && kept.chronicle().len() == 3000
+        && is_right(&*kept, &d)
+        && kept.chronicle().len() == 4000
 }
 
 fn is_right<L: Heap>(kept: &Kept<L>, claims: &Result<Vec<(Action, Receipt)>, AllocError>) -> bool {
@@ -274,7 +297,7 @@ fn is_right<L: Heap>(kept: &Kept<L>, claims: &Result<Vec<(Action, Receipt)>, All
     }
 }
 
-fn by_three<L: Heap + Send + Sync, R: Threads + Wait + Sync>(
+fn by_four<L: Heap + Send + Sync, R: Threads + Wait + Sync>(
     rt: &R,
     alloc: Global,
     blank: Blank,
@@ -285,18 +308,24 @@ fn by_three<L: Heap + Send + Sync, R: Threads + Wait + Sync>(
     let one = seats.take()?;
     let two = seats.take()?;
     let marker = seats.take()?;
-    Some(by_three_in(rt, alloc, &shared, one, two, marker))
+    let sweeper = seats.take()?;
+    Some(by_four_in(rt, alloc, &shared, one, two, marker, sweeper))
 }
 
-fn three_once<R: Threads + Wait + Sync>(rt: &R, alloc: Global) -> Option<bool> {
+fn four_once<R: Threads + Wait + Sync>(rt: &R, alloc: Global) -> Option<bool> {
     let config = Config::new(16, 2, 1024)?;
-    let roles = [Role::Mutator(0), Role::Mutator(1), Role::Marker];
+    let roles = [
+        Role::Mutator(0),
+        Role::Mutator(1),
+        Role::Marker,
+        Role::Sweeper,
+    ];
     let blank = Blank::new(alloc, config, roles.as_slice()).ok()?;
-    by_three::<Brand, R>(rt, alloc, blank)
+    by_four::<Brand, R>(rt, alloc, blank)
 }
 
 #[test]
-fn three_seats_one_history(rt: HostRuntime) -> Result<(), Fail> {
-    assert!(rt; three_once(&rt, rt.alloc()) == Some(true));
+fn four_seats_one_history(rt: HostRuntime) -> Result<(), Fail> {
+    assert!(rt; four_once(&rt, rt.alloc()) == Some(true));
     Ok(())
 }

@@ -1,10 +1,12 @@
 //! Workers: a whole cycle, and a marker held at its gate.
-ghost use Rattle.std.specs.Prelude.{◌≡◌};
+ghost use Rattle.std.specs.Prelude.{◌≡◌, ◌<◌};
 
 use crate::shared::acts;
-use heap_lock::{Blank, Heap, Outcome, Role, Seat, Shared};
+use heap_class::Refusal;
+use heap_lock::{Blank, Heap, Outcome, Receipt, Role, Seat, Shared, audit};
 use heap_scripts::node;
 use heap_step::{Answer, Event};
+use heap_trail::Action;
 use heap_work::{Gate, Marked, Open, Swept, mark_worker, sweep_worker};
 use heap_world::Config;
 use std::alloc::Global;
@@ -53,7 +55,12 @@ fn is_finished(end: Option<Marked>) -> bool {
 }
 
 /// Defines the class of nodes and creates two.
-fn began<L: Heap, R: Wait>(rt: &R, shared: &Shared<L>, user: &mut Seat<L>, class: Event) -> bool {
+pub fn began<L: Heap, R: Wait>(
+    rt: &R,
+    shared: &Shared<L>,
+    user: &mut Seat<L>,
+    class: Event,
+) -> bool {
     acts(rt, shared, user, class)
         && acts(
             rt,
@@ -77,13 +84,47 @@ fn began<L: Heap, R: Wait>(rt: &R, shared: &Shared<L>, user: &mut Seat<L>, class
         )
 }
 
-/// How the workers ended, and how many entries there were after each.
+/// How the workers ended, how many entries there were after each, and how many of the sweeps were answered as they must.
 #[derive(Clone, Copy)]
 struct Ends {
     marked: Option<Marked>,
     after: usize,
     swept: Option<Swept>,
     last: usize,
+    answered: u64,
+}
+
+/// Returns the receipt of the sweep of a region, by the third seat, after nine entries: the two objects are in region 0 and
+/// stay there, and all other regions are empty.
+fn sweep_receipt(region: u64) -> Receipt
+    requires { region < 16 }
+{
+    let answer = if region == 0 {
+        Outcome::Answered(Answer::Swept {
+            dead: 0,
+            emptied: false,
+        })
+    } else {
+        Outcome::Refused(Refusal::NothingToSweep { region })
+    };
+    Receipt {
+        seat: 2,
+        turn: region + 10,
+        answer,
+    }
+}
+
+/// Returns how many of the sixteen regions have the entry of their sweep.
+fn sweeps_answered<L: Heap, R: Wait>(rt: &R, shared: &Shared<L>) -> u64 {
+    let kept = shared.lock(rt);
+    let mut answered: u64 = 0;
+    for region in 0..16u64 {
+        let claims = [(Action::Step(Event::Sweep { region }), sweep_receipt(region))];
+        if audit(&*kept, claims.as_slice()) {
+            answered = answered.saturating_add(1);
+        }
+    }
+    answered
 }
 
 /// Runs the workers for so many turns.
@@ -102,6 +143,7 @@ fn worked_in<L: Heap, R: Wait>(
         after,
         swept,
         last: entries(rt, shared),
+        answered: sweeps_answered(rt, shared),
     }
 }
 
@@ -119,7 +161,8 @@ fn worked<L: Heap, R: Wait>(rt: &R, class: Event, blank: Blank, turns: (u64, u64
     Some(worked_in(rt, &shared, &mut marker, &mut sweeper, turns))
 }
 
-fn three(alloc: Global) -> Option<Blank> {
+/// Creates a heap with seats of a user, the marker and the sweeper.
+pub fn three(alloc: Global) -> Option<Blank> {
     let config = Config::new(16, 2, 1024)?;
     Blank::new(
         alloc,
@@ -135,8 +178,8 @@ fn ended<R: Wait>(rt: &R, alloc: Global, turns: (u64, u64)) -> Option<Ends> {
     worked::<Brand, R>(rt, class, blank, turns)
 }
 
-/// Returns whether six marks finish the cycle and sixteen sweeps the heap, and one fewer of either doesn't. None if memory was
-/// refused.
+/// Returns whether six marks finish the cycle and sixteen sweeps the heap, each answered as it must be, and one fewer of either
+/// doesn't. None if memory was refused.
 fn need_their_turns<R: Wait>(rt: &R, alloc: Global) -> Option<bool> {
     let five = ended(rt, alloc, (5, 0))?;
     let six = ended(rt, alloc, (6, 16))?;
@@ -148,8 +191,10 @@ fn need_their_turns<R: Wait>(rt: &R, alloc: Global) -> Option<bool> {
             && six.after == 9
             && six.swept == Some(Swept::Swept)
             && six.last == 25
+            && six.answered == 16
             && fifteen.swept == Some(Swept::TurnsOver)
-            && fifteen.last == 24,
+            && fifteen.last == 24
+            && fifteen.answered == 15,
     )
 }
 

@@ -16,8 +16,8 @@ use std::thread::Threads;
 
 /// Puts out the dump of a pin of a shared heap. A thread of its own asks for the pieces, with the lock for one at a time, and
 /// looks before each whether anybody asked to cancel; the caller's thread puts them out, with no lock. So others act on the heap
-/// while a piece is written. What is put out is added to the out seat. Lost by Memory, with 0 bytes, if no pipe or no thread can
-/// be had. Returns the seat that looked, too. May wait. Both seats are the meter's, and the out seat has room for a dump.
+/// while a piece is written. Without a pipe or such a thread the caller's does both. What is put out is added to the out seat.
+/// Returns the seat that looked, too. May wait. Both seats are the meter's, and the out seat has room for a dump.
 pub fn stream<L: Heap + Send + Sync, O: Outlet, R: Threads + Wait + Sync>(
     rt: &R,
     alloc: Global,

@@ -5,8 +5,10 @@ Usage: checks/program.py PROGRAM ..
 Prints a line for each difference and ends with status 1 if there is one. Prints nothing where all is well."""
 import contextlib
 import fcntl
+import itertools
 import os
 import pathlib
+import random
 import resource
 import select
 import socket
@@ -251,10 +253,19 @@ def would_block(program):
 # ---- clients
 
 
+# Ports are asked for one after another, from a place at random on, and lie below those that the system gives to clients. So none is
+# taken by somebody else of this run before it is listened on.
+PORTS = itertools.count(random.randrange(20_000))
+
+
 def free_port():
     """Returns a port that nobody listens on."""
-    with socket.create_server(("127.0.0.1", 0)) as server:
-        return server.getsockname()[1]
+    for number in PORTS:
+        port = 10_000 + number % 20_000
+        with socket.socket() as probe, contextlib.suppress(OSError):
+            probe.setsockopt(socket.SOL_SOCKET, socket.SO_REUSEADDR, 1)
+            probe.bind(("127.0.0.1", port))
+            return port
 
 
 def connected(port, room=None):

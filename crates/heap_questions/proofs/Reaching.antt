@@ -1,14 +1,14 @@
 -- What the registers reach, and what a search found.
-use Rattle.std.proofs.Common.{◌≡◌, ℕ, zero, suc, ◌+◌, ◌≤◌, Bool, true, false, List, [], ◌∷◌, ◌++◌, length, map, refl, sym, ap, ◌∙◌, subst, arith}
-use Rattle.std.specs.Prelude.{slice_get, Option, Some, None, option_and_then, Contains, filter, not, slice_index_or}
+use Rattle.std.proofs.Common.{◌≡◌, ℕ, zero, suc, ◌≤◌, Bool, true, false, List, [], ◌∷◌, ◌++◌, length, map, refl, sym, ap, ◌∙◌, subst, arith}
+use Rattle.std.specs.Prelude.{slice_get, Option, Some, None, option_and_then, not, slice_index_or}
 use Rattle.std.specs.Option.{option_map_or}
 use Rattle.std.proofs.lemmas.Option.{none-some}
 use Rattle.std.proofs.lemmas.Bool.{true≢false}
 use Rattle.heap_class.specs.declared.ObjRef.{ObjRef}
 use Rattle.heap_class.specs.declared.IdSize.{IdSize}
 use Rattle.hprof_text.specs.Image.{Image, DumpedObject}
-use Rattle.heap_questions.specs.Graph.{HasId, IsPathTo, IsUnreached, named, followed}
-use Rattle.heap_questions.specs.Garbage.{IsGarbage, TellsUnreached, is_reached}
+use Rattle.heap_questions.specs.Graph.{IsPathTo, IsUnreached, named, followed}
+use Rattle.heap_questions.specs.Garbage.{IsGarbage, is_reached}
 use Rattle.heap_questions.specs.Histogram.{rows_of, unmarked}
 use Rattle.heap_questions.specs.Search.{AreNodes, AreReached, AreSeen, IsFound, IsReachedBy, IsSearched, node_with}
 use Rattle.heap_questions.specs.declared.nodes.Node.{Node}

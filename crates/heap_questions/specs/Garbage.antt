@@ -1,5 +1,5 @@
 -- The objects that no register reaches.
-use Rattle.std.specs.Prelude.{◌≡◌, ◌↔◌, ℕ, Bool, true, false, not, List, Contains, filter, slice_index_or}
+use Rattle.std.specs.Prelude.{◌≡◌, ◌↔◌, ℕ, Bool, true, false, List, Contains, filter, slice_index_or}
 use Rattle.std.specs.Option.{option_map_or}
 use Rattle.heap_class.specs.declared.IdSize.{IdSize}
 use Rattle.hprof_text.specs.Image.{Image, DumpedObject}

@@ -11,7 +11,7 @@ use std::alloc::Global;
 use std::marker::Model;
 
 /// Rows before those of the classes.
-const CLASS_ROWS: usize = 12;
+pub(crate) const CLASS_ROWS: usize = 12;
 
 /// Some objects: how many there are, and the bytes of their values.
 #[derive(Clone, Copy, PartialEq, Eq, Debug)]

@@ -1,4 +1,4 @@
-use Rattle.std.proofs.Common.{◌≡◌, IfOk, List, Bool, map, ap, ◌∙◌}
+use Rattle.std.proofs.Common.{◌≡◌, List, Bool, map, ap, ◌∙◌}
 use Rattle.std.proofs.lemmas.Result.{IfOk-weaker}
 use Rattle.heap_questions.specs.Garbage.{IsGarbage, is_reached}
 use Rattle.heap_questions.specs.Histogram.{rows_of, unmarked}

@@ -1,4 +1,4 @@
-use Rattle.std.proofs.Common.{◌+◌, length, arith}
+use Rattle.std.proofs.Common.{length, arith}
 use Rattle.heap_questions.proofs.Searching.{are_seen, searched}
 use Rattle.heap_questions.proofs.search.search.Goals as goal
 

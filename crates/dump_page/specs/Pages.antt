@@ -8,18 +8,18 @@ use Rattle.dump_pump.specs.Pumps.{joined, ends}
 use Rattle.dump_pump.specs.Sources.{Supply, IsNext, more, part_limit, part_size_limit}
 use Rattle.dump_page.specs.declared.surplus.Surplus.{Surplus}
 
--- the most bytes of a page that has several parts
+-- the largest number of bytes of a page that has several parts
 abbrev pub page_room : ℕ
 page_room = 65536
 
--- ---- what a source gave that is in no page yet
+-- ---- the surplus: an answer of a source that is in no page yet
 
--- how many parts are left at most
+-- the largest number of parts left
 abbrev pub left_of : Option Surplus → ℕ → ℕ
 left_of None left = left
 left_of (Some x) left = x.left
 
--- a source that told these parts and has so many left
+-- a source that told these parts and has this number left
 abbrev pub supply_at : Option (List Piece) → ℕ → Supply
 supply_at told left = record { told = told; ended = None; left = left }
 
@@ -32,13 +32,13 @@ IsAhead told s (Some x) = IsNext (supply_at told x.left) s x.next × (x.left ≤
 abbrev pub IsReady : Supply → Option Surplus → Type 0
 IsReady s surplus = (told : Option (List Piece)) × IsAhead told s surplus × (0 < left_of surplus s.left)
 
--- the surplus was taken, or else what the source gave next
+-- the surplus was taken, or else the next answer of the source
 abbrev pub IsDrawn : Supply → Supply → Option Surplus → Next → Type 0
 IsDrawn a b surplus r = (told : Option (List Piece)) → IsAhead told a surplus → IsNext (supply_at told (left_of surplus a.left)) b r
 
 -- ---- a page
 
--- what is left after a page
+-- the rest of a source after a page
 pub record IsLeft (told : Option (List Piece)) (most : ℕ) (b : Supply) (surplus : Option Surplus) (last : Bool) : Type 0 where
   pub ahead : IsAhead told b surplus
   pub less : left_of surplus b.left ≤ most
@@ -68,7 +68,7 @@ pub record IsPage (a b : Supply) (first page : Piece) (surplus : Option Surplus)
   pub small : length page.bytes ≤ part_size_limit
   pub rest : IsLeft (more a.told parts) a.left b surplus page.last
 
--- what the next page says of its parts, or why there is none
+-- the next page fits its parts, or the reason why there is none fits the end of the source
 abbrev pub Says : List Piece → ℕ → Supply → Option Surplus → Next → Type 0
 Says parts left b surplus (Part page) =
     (page.bytes ≡ joined parts) × (page.last ≡ ends parts) × (0 < length parts) × (length page.bytes ≤ part_size_limit)
@@ -77,11 +77,12 @@ Says parts left b surplus (Part page) =
 Says parts left b surplus (Lost cause) = (parts ≡ []) × (surplus ≡ None) × (b.ended ≡ Some (End.Lost cause))
 Says parts left b surplus Cancelled = (parts ≡ []) × (surplus ≡ None) × (b.ended ≡ Some End.Cancelled)
 
--- the next page of a source that told these parts and has so many left
+-- the next page of a source that told these parts and has this number left
 pub record Pages (told : Option (List Piece)) (left : ℕ) (b : Supply) (surplus : Option Surplus) (r : Next) : Type 0 where
   pub parts : List Piece
   pub ahead : IsAhead (more told parts) b surplus
   pub says : Says parts left b surplus r
 
+-- the next page, whatever parts the source told
 abbrev pub IsPaged : Supply → Supply → Option Surplus → Option Surplus → Next → Type 0
 IsPaged a b surplus surplus' r = (told : Option (List Piece)) → IsAhead told a surplus → Pages told (left_of surplus a.left) b surplus' r

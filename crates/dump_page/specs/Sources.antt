@@ -10,7 +10,7 @@ use Rattle.dump_pump.specs.Sources.{Supply, more}
 use Rattle.dump_page.specs.declared.surplus.Surplus.{Surplus}
 use Rattle.dump_page.specs.Pages.{IsAhead, left_of}
 
--- a source, the pages that were given of it, how that ended, and what is in no page yet
+-- a source, the pages given of it, how that ended, and the surplus
 pub record Paging (S : Type 0) : Type 0 where
   pub source : S
   pub given : List Piece
@@ -21,7 +21,7 @@ pub record Paging (S : Type 0) : Type 0 where
 abbrev pub unpaged : {S : Type 0} → S → Paging S
 unpaged source = record { source = source; given = []; ended = None; surplus = None }
 
--- what is seen of it, where its source has so many parts left
+-- the supply by pages of a source that has this number of parts left
 abbrev pub paged_supply : List Piece → Option Ending → Option Surplus → ℕ → Supply
 paged_supply given ended surplus left = record { told = Some given; ended = ended; left = left_of surplus left }
 
@@ -29,19 +29,19 @@ paged_supply given ended surplus left = record { told = Some given; ended = ende
 abbrev pub pages_in : List (Piece × Unit {0}) → List Piece
 pages_in entries = map (λ e. e.0) entries
 
--- the pages given, with what is given next
+-- the pages given, with the next answer's
 abbrev pub given_with : List Piece → Next → List Piece
 given_with given (Part page) = given ++ page ∷ []
 given_with given (Lost cause) = given
 given_with given Cancelled = given
 
--- how a source ended that gave this last
+-- the ending of a source whose last answer this is
 abbrev pub ended_by : Next → Option Ending
 ended_by (Part page) = if page.last then Some End.Whole else None
 ended_by (Lost cause) = Some (End.Lost cause)
 ended_by Cancelled = Some End.Cancelled
 
--- it ended as its own source did, and then nothing is left over
+-- the pages ended as their source did, and nothing is left over
 abbrev pub EndsAs : Supply → Option Surplus → Option Ending → Type 0
 EndsAs s surplus None = Unit {0}
 EndsAs s surplus (Some e) = (surplus ≡ None) × (s.ended ≡ Some e)

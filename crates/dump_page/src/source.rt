@@ -10,7 +10,7 @@ use http_server::Log;
 use std::alloc::Global;
 use std::marker::{Brand, Model, PhantomData};
 
-/// What a source had told when its pages began. Each call of a stream picks it.
+/// The parts that a source had told when its pages began. Each call of a stream picks them.
 pub trait Start {
     ghost use Rattle.std.specs.Prelude.{List, Option};
     ghost use Rattle.hprof_text.specs.declared.Piece.{Piece};
@@ -24,8 +24,8 @@ impl Start for Brand {
     ghost told = { None };
 }
 
-/// A source that gives the parts of its own source by pages: the bytes of several parts, joined. Contracts see its own source, the
-/// pages that it gave, how it ended, and what its source gave that is in no page yet.
+// A source that gives the parts of its own source by pages: the bytes of several parts, joined. Contracts see its own source,
+// the pages that it gave, how it ended, and the surplus.
 #[derive(Drop)]
 pub(crate) struct PagedSource<S: Source, B: Start> {
     source: S,
@@ -46,7 +46,7 @@ impl<S: Source, B: Start> Model for PagedSource<S, B> {
     ghost invariant = { λ p. ArePages B.told (S.seen p.source) (pages_in p.given.items) p.ended p.surplus };
 }
 
-/// Notes a page that was given. Returns how the source ended, if it did.
+// Notes a page that was given. Returns how the source ended, if it did.
 fn note(given: &mut Log<Piece, ()>, next: &Next) -> Option<Ending>
     ensures given { pages_in given.new.items ≡ given_with (pages_in given.old.items) next.now }
     ensures ended { result ≡ ended_by next.now }
@@ -66,7 +66,7 @@ fn note(given: &mut Log<Piece, ()>, next: &Next) -> Option<Ending>
 }
 
 impl<S: Source, B: Start> PagedSource<S, B> {
-    /// Creates a source that has given no page. Takes no memory yet.
+    // Creates a source that has given no page. Takes no memory yet.
     pub(crate) fn new(alloc: Global, source: S) -> PagedSource<S, B>
         requires { (S.seen source).told ≡ B.told }
         ensures { result ≡ unpaged source }
@@ -81,7 +81,7 @@ impl<S: Source, B: Start> PagedSource<S, B> {
         }
     }
 
-    /// Returns the source of the parts. Its contract says what the pages that were given are.
+    // Returns the source of the parts. The contract says what the pages that were given are.
     pub(crate) fn into_source(self) -> S
         ensures source { result ≡ self.source }
         ensures pages { ArePages B.told (S.seen self.source) self.given self.ended self.surplus }

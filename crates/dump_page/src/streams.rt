@@ -13,7 +13,7 @@ use std::marker::Brand;
 use std::sync::Wait;
 use std::thread::Threads;
 
-/// Streams the pages of a source that had told what `B` says.
+// Streams the pages of a source that had told what `B` says.
 fn stream_by<S: Source + Send, O: Outlet, B: Start + Send, R: Threads + Wait + Sync>(
     rt: &R,
     alloc: Global,
@@ -36,9 +36,10 @@ fn stream_by<S: Source + Send, O: Outlet, B: Start + Send, R: Threads + Wait + S
     (pumped, pages.into_source())
 }
 
-/// Puts out the parts of a source as `stream_parts` does, by pages: parts are joined in the feeding thread until a page has no room
-/// for the next one, and each page goes through the pipe and to the outlet as one part. Without memory for a page the parts go one
-/// by one. Returns the source, too. May wait. The seat is one of the progress's meter, and its sum has room for the bytes of a dump.
+/// Puts out the parts of a source as `stream_parts` does, by pages: parts are joined in the feeding thread until a page has
+/// no room for the next one, and each page goes through the pipe and to the outlet as one part. If the allocation of a page
+/// fails, the parts go one by one. Returns the source, too. May wait. The seat is one of the progress's meter, and its sum
+/// has room for the bytes of a dump.
 pub fn stream_paged<S: Source + Send, O: Outlet, R: Threads + Wait + Sync>(
     rt: &R,
     alloc: Global,

@@ -1,4 +1,4 @@
--- What the end that receives does.
+-- The effect of a drain.
 use Rattle.std.specs.Prelude.{◌≡◌, ℕ, ◌+◌, List, ◌++◌, length}
 use mathlib.Core.List.{IsPrefix}
 use Rattle.hprof_text.specs.declared.Piece.{Piece}
@@ -19,7 +19,7 @@ answer_to Ended.Whole n = Done n
 answer_to (Ended.Lost cause) n = Lost cause n
 answer_to Ended.Cancelled n = Cancelled n
 
--- what an answer says of the parts received, of the bytes put out, of the ending and of the failures
+-- an answer fits the parts received, the bytes put out, the ending and the failures
 abbrev pub Answers : List Piece → List ℕ → Ending → ℕ → ℕ → Pumped → Type 0
 Answers parts out ending failures failures' (Done n) =
     (out ≡ joined parts) × (ending ≡ Ended.Whole) × (failures' ≡ failures)

@@ -24,11 +24,11 @@ abbrev pub weigh : List Message → ℕ
 weigh [] = 0
 weigh (m ∷ ms) = weight m + weigh ms
 
--- the most bytes that are sent through a pipe
+-- the largest number of bytes that are sent through a pipe
 abbrev pub byte_limit : ℕ
 byte_limit = part_limit * part_size_limit
 
--- what an end sent, or received
+-- the messages that an end sent, or received
 abbrev pub list_of : View → List Message
 list_of (Both xs ys) = xs
 list_of (Sends xs) = xs
@@ -43,40 +43,43 @@ IsSending v = v ≡ Sends (list_of v)
 abbrev pub IsReceiving : View → Type 0
 IsReceiving v = v ≡ Gets (list_of v)
 
+-- the end that sends, split off a view
 abbrev pub sends_of : View → View
 sends_of v = Sends (list_of v)
 
+-- the end that receives, split off a view
 abbrev pub gets_of : View → View
 gets_of (Both xs ys) = Gets ys
 gets_of (Sends xs) = Gets []
 gets_of (Gets ys) = Gets []
 gets_of Spent = Gets []
 
+-- both ends as one
 abbrev pub both_of : View → View → View
 both_of v w = Both (list_of v) (list_of w)
 
--- what the rule says of one end, where sent was sent and got was received
+-- the rule for one end, if `sent` was sent and `got` was received
 abbrev pub Sits : ℕ → ℕ → List Message → List Message → ℕ → View → Type 0
 Sits sender receiver sent got seat (Both xs ys) = (seat ≡ sender) × (seat ≡ receiver) × (xs ≡ sent) × (ys ≡ got)
 Sits sender receiver sent got seat (Sends xs) = (seat ≡ sender) × (xs ≡ sent)
 Sits sender receiver sent got seat (Gets ys) = (seat ≡ receiver) × (ys ≡ got)
 Sits sender receiver sent got seat Spent = Unit {0}
 
--- what was received, and then what the pipe holds, is what was sent
+-- the messages received, and then those in the pipe, are those sent
 abbrev pub IsInOrder : List Message → List View → Type 0
 IsInOrder items views =
     (sender receiver : ℕ) × (sent got : List Message) × (got ++ items ≡ sent) × (weigh sent ≤ byte_limit)
     × ((seat : ℕ) (v : View) → get_elem? views seat ≡ some v → Sits sender receiver sent got seat v)
 
--- a message more was sent
+-- one more message was sent
 abbrev pub HasSent : View → Message → View → Type 0
 HasSent v x w = w ≡ Sends (list_of v ++ x ∷ [])
 
--- a message more was received
+-- one more message was received
 abbrev pub HasGot : View → Message → View → Type 0
 HasGot v x w = (w ≡ Gets (list_of v ++ x ∷ [])) × (weigh (list_of v ++ x ∷ []) ≤ byte_limit)
 
--- what was received is a beginning of what was sent
+-- the messages received are a beginning of those sent
 abbrev pub HasOrder : View → List Message → Type 0
 HasOrder (Both xs ys) items = ys ++ items ≡ xs
 HasOrder (Sends xs) items = Unit {0}

@@ -1,4 +1,4 @@
--- What a stream does.
+-- The effect of a stream.
 use Rattle.std.specs.Prelude.{◌≡◌, ℕ, ◌+◌, ◌<◌, ◌^◌, [], Option, Some, None}
 use Rattle.atomic_table.specs.Seated.{TableId}
 use Rattle.dump_pump.specs.declared.source.Ending.{Ending}
@@ -13,7 +13,7 @@ use Rattle.dump_pipe.specs.Pipes.{byte_limit}
 use Rattle.dump_pipe.specs.Feeds.{IsFed}
 use Rattle.dump_pipe.specs.Drains.{IsDrained}
 
--- what a pump does
+-- the effect is that of a pump
 abbrev pub IsStreamed : Supply → Supply → Outgoing → Outgoing → Pumped → Type 0
 IsStreamed a b w w' r = IsPumped a b w w' r
 

@@ -12,7 +12,7 @@ use crossbeam_channel::{Pass, RuledReceiver, RuledSender, bounded_with};
 use std::alloc::{AllocError, Global};
 use std::sync::Wait;
 
-/// The most messages that a pipe holds.
+/// The largest number of messages in a pipe.
 pub const PIPE_LIMIT: usize = 8;
 
 /// The rule: what was received, and then what the pipe holds, is what was sent.
@@ -28,7 +28,7 @@ impl Protocol<Message, View> for InOrder {
     ghost first = { Both [] [] };
 }
 
-/// A pipe's two ends, made of one and made one again.
+/// The split of a pipe's one end into two, and their join.
 pub struct Ends;
 
 impl Split<View> for Ends {
@@ -48,7 +48,7 @@ impl Join<View> for Ends {
     ghost spent = { Spent };
 }
 
-/// What both ends together know: what was received is a beginning of what was sent.
+/// The fact that both ends together know: the messages received are a beginning of those sent.
 pub struct Order;
 
 impl Lesson<Message, View> for Order {
@@ -57,7 +57,7 @@ impl Lesson<Message, View> for Order {
     ghost fact = { HasOrder };
 }
 
-/// A message was sent.
+/// The outcome that a message was sent.
 pub struct Sent;
 
 impl Outcome<Message, View> for Sent {
@@ -70,7 +70,7 @@ impl Lesson<Message, View> for Sent {
     ghost fact = { λ v items. Unit {0} };
 }
 
-/// A message was received.
+/// The outcome that a message was received.
 pub struct Got;
 
 impl Outcome<Message, View> for Got {
@@ -89,10 +89,10 @@ pub type Sender = RuledSender<Message, View, InOrder>;
 /// The end that receives.
 pub type Receiver = RuledReceiver<Message, View, InOrder>;
 
-/// What an end knows. It has no bytes.
+/// The knowledge of an end. It has no bytes.
 pub type End = Pass<Message, View>;
 
-/// Creates an empty pipe for the messages of one dump, with what its two ends know. Fails if memory is refused.
+/// Creates an empty pipe for the messages of one dump, with the knowledge of its two ends. Fails if the allocation fails.
 pub fn pipe(alloc: Global) -> Result<(Sender, Receiver, End, End), AllocError>
     ensures ends { IfOk result (λ p. receives_on p.1 ≡ sends_on p.0) }
     ensures sender { IfOk result (λ p. IsSeatAt (sends_on p.0) p.2 × (view p.2 ≡ Sends [])) }
@@ -103,7 +103,7 @@ pub fn pipe(alloc: Global) -> Result<(Sender, Receiver, End, End), AllocError>
     Ok((sender, receiver, one, other))
 }
 
-/// Sends a message. Waits while the pipe is full. A message that is handed back is sent again.
+/// Sends a message. Waits while the pipe is full. A message that comes back is sent again.
 pub fn send<R: Wait>(rt: &R, sender: &Sender, end: &mut End, message: Message)
     requires end { IsSeatAt (sends_on sender.now) end.old × IsSending (view end.old) }
     requires room { weigh (list_of (view end.old) ++ message ∷ []) ≤ byte_limit }

@@ -13,7 +13,7 @@ use dump_pump::transfer::put_all;
 use dump_pump::{Ending, Outlet, Pumped};
 use std::sync::Wait;
 
-/// Receives messages until the ending, and lets them go.
+/// Receives messages until the ending, and drops them.
 pub fn skip<R: Wait>(rt: &R, receiver: &Receiver, end: &mut End)
     requires { IsSeatAt (receives_on receiver.now) end.old × IsReceiving (view end.old) }
     ensures end { IsSeatAt (receives_on receiver.now) end.new }
@@ -27,7 +27,7 @@ pub fn skip<R: Wait>(rt: &R, receiver: &Receiver, end: &mut End)
     unreachable!()
 }
 
-/// Returns how a drain ends if no put failed.
+// Returns the outcome of a drain in which no put failed.
 fn answer(ending: Ending, bytes: u64) -> Pumped
     ensures answer { result ≡ answer_to ending bytes }
     ensures counted { bytes_of result ≡ bytes }
@@ -39,9 +39,9 @@ fn answer(ending: Ending, bytes: u64) -> Pumped
     }
 }
 
-/// Puts out the parts that are received, each whole and in order, and adds what is put out to the progress, until the ending.
-/// Once a put fails it puts out nothing more, and receives what is left. Waits while the pipe is empty. The seat is one of the
-/// progress's meter, and its sum has room for the bytes of a dump.
+/// Puts out the parts that are received, each whole and in order, and adds their bytes to the progress, until the ending.
+/// After a put that failed it puts out nothing more, and receives all that is left. Waits while the pipe is empty. The seat
+/// is one of the progress's meter, and its sum has room for the bytes of a dump.
 pub fn drain_pipe<O: Outlet, R: Wait>(
     rt: &R,
     receiver: &Receiver,

@@ -10,7 +10,7 @@ use crate::message::Message;
 use dump_pump::{Ending, Next, Source};
 use std::sync::Wait;
 
-/// Sends the parts of a source, in order, and then how it ended, which it returns. Waits while the pipe is full.
+/// Sends the parts of a source, in order, and then how the source ended. Returns that ending. Waits while the pipe is full.
 pub fn feed<S: Source, R: Wait>(rt: &R, source: &mut S, sender: &Sender, end: &mut End) -> Ending
     requires source { 0 < (S.seen source.old).left }
     requires end { IsSeatAt (sends_on sender.now) end.old × (view end.old ≡ Sends []) }

@@ -18,7 +18,7 @@ use std::alloc::Global;
 use std::sync::Wait;
 use std::thread::{Threads, join_mut};
 
-/// Begins and feeds. None if it was given up.
+// Begins and feeds. Returns None if the thread was given up.
 fn begin_feed<S: Source, R: Wait>(
     rt: &R,
     start: &Start,
@@ -38,7 +38,7 @@ fn begin_feed<S: Source, R: Wait>(
     Some(feed(rt, source, sender, end))
 }
 
-/// Drains once the other end has begun. None if it was given up.
+// Drains once the other end has begun. Returns None if that was given up.
 fn drain_begun<O: Outlet, R: Wait>(
     rt: &R,
     start: &Start,
@@ -62,7 +62,7 @@ fn drain_begun<O: Outlet, R: Wait>(
     Some(drain_pipe(rt, receiver, end, outlet, progress, seat))
 }
 
-/// Feeds in a thread of its own, and drains in the caller's.
+// Feeds in a new thread, and drains in the caller's.
 fn join_ends<S: Source + Send, O: Outlet, R: Threads + Wait + Sync>(
     rt: &R,
     sender: &Sender,
@@ -97,7 +97,7 @@ fn join_ends<S: Source + Send, O: Outlet, R: Threads + Wait + Sync>(
     join_mut(rt, &mut feeder, &mut drainer)
 }
 
-/// Feeds and drains. If only the feeding was begun, drains once it has ended. None if neither was begun.
+// Feeds and drains. If only the feeding was begun, drains once it has ended. Returns None if neither was begun.
 fn pass_parts<S: Source + Send, O: Outlet, R: Threads + Wait + Sync>(
     rt: &R,
     sender: &Sender,
@@ -131,10 +131,10 @@ fn pass_parts<S: Source + Send, O: Outlet, R: Threads + Wait + Sync>(
     Some(drain_pipe(rt, receiver, other, outlet, progress, seat))
 }
 
-/// Puts out the parts of a source as `pump` does, while a thread of its own asks the source for the next ones, and adds what is
-/// put out to the progress. If there is no memory for a pipe, or the thread hasn't begun in time, the caller's own thread does
-/// both. Waits for the source and for the outlet, and both threads have ended when it returns. The seat is one of the
-/// progress's meter, and its sum has room for the bytes of a dump.
+/// Puts out the parts of a source as `pump` does, while a second thread asks the source for the next ones, and adds their
+/// bytes to the progress. If a pipe can't be allocated, or the thread hasn't begun in time, the caller's thread does both.
+/// Waits for the source and for the outlet; both threads have ended when it returns. The seat is one of the progress's meter,
+/// and its sum has room for the bytes of a dump.
 pub fn stream_parts<S: Source + Send, O: Outlet, R: Threads + Wait + Sync>(
     rt: &R,
     alloc: Global,

@@ -10,7 +10,7 @@ use std::io::{ErrorKind, Write};
 use std::marker::Model;
 use std::snapshot::Snapshot;
 
-/// The number of times that an interrupted write is tried.
+/// The number of times that an interrupted write or read is tried.
 pub const INTERRUPT_LIMIT: u32 = 100;
 
 /// An outlet over a writer. A write that takes nothing is a failure, and so is one that stays interrupted. Contracts see the

@@ -6,7 +6,7 @@ use Rattle.dump_pump.specs.Outlets.{Outgoing, IsPut}
 use Rattle.heap_save.specs.declared.late_outlet.Opening.{Opening}
 use Rattle.heap_save.specs.declared.late_outlet.Opening.TheVariants.{Unasked, Made, Refused}
 
--- a place, what came of asking it for its outlet, the bytes put out, and how many puts failed
+-- a place, the outcome of asking it for its outlet, the bytes put out, and the number of puts that failed
 pub record Late (P O : Type 0) : Type 0 where
   pub place : P
   pub opening : Opening O
@@ -23,12 +23,12 @@ outlet_in Unasked = None
 outlet_in (Made o) = Some o
 outlet_in Refused = None
 
--- what an outlet put out and how often it failed since it was so
+-- an outlet put out these bytes and failed this number of times since the start
 abbrev pub Since : Outgoing → Outgoing → List ℕ → ℕ → Type 0
 Since start now put failures = (now.out ≡ start.out ++ put) × (now.failures ≡ start.failures + failures)
 
--- a place that was so before it was asked: it was not asked, and nothing was put out; or it made an outlet, for a put; or it
--- could make none, for a put, which failed
+-- a place with this property before it was asked: it was not asked, and nothing was put out; or it made an outlet, for a put;
+-- or it could make none, for a put, which failed
 abbrev pub IsLate : {P O : Type 0} → (P → Type 0) → (P → Option Outgoing → Type 0) → (O → Outgoing) → P → Opening O → List ℕ → ℕ → Type 0
 IsLate was makes seen place Unasked put failures = was place × (put ≡ []) × (failures ≡ 0)
 IsLate {P} was makes seen place (Made o) put failures =
@@ -61,7 +61,7 @@ abbrev pub taken : List ℕ → Put → List ℕ
 taken given (Took n) = take n given
 taken given Failed = []
 
--- how many failures a put is
+-- the number of failures that a put is
 abbrev pub failures_of : Put → ℕ
 failures_of (Took n) = 0
 failures_of Failed = 1

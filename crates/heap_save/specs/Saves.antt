@@ -1,4 +1,4 @@
--- What a session does whose last state is dumped.
+-- A session whose last state is dumped.
 use Rattle.std.specs.Prelude.{◌≡◌, ℕ, ◌<◌, ◌==◌, Bool, true, false, List, [], ◌++◌, codes, decimal, Option, Some, None, option_map}
 use Rattle.heap_class.specs.declared.LostCause.TheVariants.{Rewound, Memory, Closed}
 use Rattle.dump_pump.specs.declared.transfer.Pumped.{Pumped}
@@ -26,6 +26,7 @@ last_words (Lost Memory n) = codes "lost Memory "
 last_words (Lost Closed n) = codes "lost Closed "
 last_words (Cancelled n) = []
 
+-- the last line of a session that is saved
 abbrev pub last_line : Pumped → List ℕ
 last_line r = last_words r ++ line (decimal (bytes_of r))
 
@@ -65,15 +66,15 @@ is_unasked (Some (OutletFailed n)) = false
 is_unasked (Some (Lost cause n)) = n == 0
 is_unasked (Some (Cancelled n)) = false
 
--- the same of a place that was so before it was asked
+-- so it is with a place that had this property before it was asked
 abbrev pub LandsLate : {P O : Type 0} → (P → Type 0) → (P → Option Outgoing → Type 0) → (O → Outgoing) → ℕ → Machine → Machine → P → Option O → Pumped → Type 0
 LandsLate {P} was makes seen time m m' place outlet r =
     (first : P) × was first × Lands (makes first) time m m' (option_map seen outlet) r × (is_unasked (Some r) ≡ true → was place)
 
 -- ---- the whole
 
--- after a session that left this machine and this output: where each line was run, all pins are closed that were opened from
--- the number `first` on, the state is dumped, and a line says how that ended; otherwise nothing more is done
+-- after a session that left this machine and this output: if each line was run, all pins are closed that were opened from the
+-- number `first` on, the state is dumped, and a line says how that ended; otherwise nothing more is done
 abbrev pub Goes : (Option Outgoing → Type 0) → ℕ → ℕ → Machine → Machine → Outgoing → Outgoing → Option Outgoing → Ended → Ended → Option Pumped → Bool → Type 0
 Goes makes first time left m' between w' outlet talked ended pumped true =
     (r : Pumped) × Lands makes time (own_closed first left) m' outlet r × (pumped ≡ Some r) × EndsWith (last_line r) [] between w' talked ended

@@ -1,4 +1,4 @@
-//! Sessions whose last state is dumped to where its bytes go: a file, a socket, or memory.
+//! Sessions whose last state is dumped to a file, a socket or memory.
 #![tactic(auto)]
 
 mod late_outlet;

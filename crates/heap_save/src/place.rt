@@ -1,14 +1,14 @@
-//! Where the outlet of a save comes from.
+//! The trait of places, which make the outlet of a save.
 use dump_pump::Outlet;
 
-/// What makes the outlet of a save, such as a file of some name. Contracts see what it may make.
+/// A place that makes the outlet of a save, such as a file of some name. Contracts see what it may make.
 pub trait Place {
     ghost use Rattle.std.specs.Prelude.{Option, option_map};
     ghost use Rattle.dump_pump.specs.Outlets.{Outgoing};
 
     type Out: Outlet + Drop;
 
-    // What an outlet that it makes has put out, and how many of its puts failed; None if it may make none.
+    // The bytes that an outlet that it makes has put out, and the number of its puts that failed; None if it may make none.
     ghost makes: { Self → Option Outgoing → Type 0 };
 
     /// Makes the outlet. Returns None if it can't be made.

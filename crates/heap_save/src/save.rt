@@ -28,7 +28,7 @@ pub struct Saved<P, O> {
     pub outlet: Option<O>,
 }
 
-/// Dumps the current state into the outlet of a place, which is asked for it when there is something to put out.
+// Dumps the current state into the outlet of a place, which is asked for it when there is something to put out.
 fn dump_late<P: Place, B: Origin<P>, G: Gauge, R: Threads + Wait + Sync>(
     rt: &R,
     alloc: Global,
@@ -46,7 +46,7 @@ fn dump_late<P: Place, B: Origin<P>, G: Gauge, R: Threads + Wait + Sync>(
     (pumped, place, outlet)
 }
 
-/// Closes the pins that were opened through these commands, and dumps the current state into the outlet of a place.
+// Closes the pins that were opened through these commands, and dumps the current state into the outlet of a place.
 fn dump_last<P: Place, G: Gauge, R: Threads + Wait + Sync>(
     rt: &R,
     alloc: Global,
@@ -64,14 +64,16 @@ fn dump_last<P: Place, G: Gauge, R: Threads + Wait + Sync>(
     dump_late::<P, Brand, G, R>(rt, alloc, &mut local.machine, place, gauge, time)
 }
 
-/// Serves a session of a machine of one's own as `serve_local` does. If it ended by `end` or at the end of input, closes each
-/// pin that was opened through these commands, dumps the current state into the outlet of a place, and writes a last line:
-/// `saved`, `failed` or `lost` with its cause, and how many bytes the outlet took. The place is asked for the outlet when the
-/// first page is there: not if the dump is lost before. The dump is failed at 0 bytes if no outlet could be made. If the
-/// session ended otherwise, the place is not asked, and no last line is written. `time`, in milliseconds, stands in the header
-/// of each dump. A thread of its own makes the pieces of the dump, and the caller's puts them out, which a gauge sees; without
-/// such a thread or a pipe the caller's does both, and without a meter the dump is lost by Memory, at 0 bytes. The outlet is
-/// asked once for each page of at most 65,536 bytes; if there is no memory for pages, once for each piece. May wait.
+/// Serves a session of a private machine as `serve_local` does. If it ended by `end` or at the end of input, closes each pin
+/// that was opened through these commands, dumps the current state into the outlet of a place, and writes a last line:
+/// `saved`, `failed` or `lost` with its cause, and the number of bytes that the outlet took. If the session ended otherwise,
+/// the place is not asked, and no last line is written. `time`, in milliseconds, stands in the header of each dump.
+///
+/// The place is asked for the outlet when the first page is there: not if the dump is lost before. The dump is failed at 0
+/// bytes if no outlet could be made. A second thread makes the pieces of the dump, and the caller's puts them out, which a
+/// gauge sees; without such a thread or a pipe the caller's does both. If a meter can't be allocated the dump is lost by
+/// Memory, at 0 bytes. The outlet is asked once for each page of at most 65,536 bytes; if pages can't be allocated, once for
+/// each piece. May wait.
 pub fn save_into<I: Inlet, O: Outlet, P: Place, G: Gauge, R: Threads + Wait + Sync>(
     rt: &R,
     alloc: Global,

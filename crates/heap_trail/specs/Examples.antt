@@ -28,17 +28,17 @@ use Rattle.heap_trail.specs.Machine.{Machine, opening_machine, acted}
 abbrev pub Script : Type 0
 Script = List (Action × Reply)
 
--- the machine after the script's actions, each of which finds memory
+-- the machine after the script's actions, none of which fails for lack of memory
 unfoldable pub machine_at_end : Machine → Script → Machine
 machine_at_end m [] = m
 machine_at_end m (l ∷ ls) = machine_at_end (acted m l.0).0 ls
 
--- what the machine replies to them
+-- the machine's replies to the actions
 unfoldable pub replies_to : Machine → Script → List Reply
 replies_to m [] = []
 replies_to m (l ∷ ls) = let r = acted m l.0 in r.1 ∷ replies_to r.0 ls
 
--- a machine of so many regions that keeps so many records, with the registers of two mutators
+-- a machine with this number of regions that keeps this number of records, with the registers of two mutators
 abbrev pub fresh_machine : ℕ → ℕ → Machine
 fresh_machine regions keep = opening_machine Eight regions 2 keep
 
@@ -46,31 +46,37 @@ fresh_machine regions keep = opening_machine Eight regions 2 keep
 abbrev pub Replies : ℕ → ℕ → Script → Type 0
 Replies regions keep script = replies_to (fresh_machine regions keep) script ≡ map (λ l. l.1) script
 
--- the state that the script leads to from such a machine
+-- the state to which the script leads from such a machine
 abbrev pub end_state : ℕ → ℕ → Script → HeapState
 end_state regions keep script = (machine_at_end (fresh_machine regions keep) script).trail.current
 
--- a line of a script: an event and its answer, or why it is refused
+-- a line of a script: an event and its answer
 abbrev pub does : Event → Answer → Action × Reply
 does e a = (Step e, Answered a)
 
+-- a line of a script: an event and the refusal that it meets
 abbrev pub refuses : Event → Refusal → Action × Reply
 refuses e r = (Step e, Refused r)
 
+-- a line of a script: a rewind of n steps and the place that it leads to
 abbrev pub rewinds : ℕ → ℕ → Action × Reply
 rewinds n place = (Rewind n, Place place)
 
 -- ---- two classes
 
+-- the fields of a point: two numbers of 32 bits
 abbrev pub point_fields : List Field
 point_fields = record { name = codes "x"; kind = Int } ∷ record { name = codes "y"; kind = Int } ∷ []
 
+-- the event that defines the class Point
 abbrev pub point : Event
 point = Event.Class (codes "Point") None point_fields
 
+-- the fields of a node: a reference and a number of 64 bits
 abbrev pub node_fields : List Field
 node_fields = record { name = codes "next"; kind = Kind.Object } ∷ record { name = codes "v"; kind = Long } ∷ []
 
+-- the event that defines the class Node
 abbrev pub node : Event
 node = Event.Class (codes "Node") None node_fields
 
@@ -84,7 +90,7 @@ LimitsOfOneRegion = Replies 1 1024
     ∷ refuses (NewPrim 0 1 Long 1024) HeapFull
     ∷ [])
 
--- an object goes to the lowest region with a free cell of its size, and opens a region only where there is none
+-- an object goes to the lowest region with a free cell of its size, and opens a region only if there is none
 abbrev pub LowestRegionFirst : Type 0
 LowestRegionFirst = Replies 2 1024
     (does node (Answer.Class 0)
@@ -108,6 +114,7 @@ RewindGivesBackCells = Replies 16 1024
 
 -- ---- rewinds and what is kept
 
+-- a machine that keeps one record rewinds one step, and no second one
 abbrev pub KeepOne : Type 0
 KeepOne = Replies 16 1
     (does point (Answer.Class 0)
@@ -119,6 +126,7 @@ KeepOne = Replies 16 1
     ∷ rewinds 0 3
     ∷ [])
 
+-- a rewind of more steps than are retained is refused
 abbrev pub RewindTooFar : Type 0
 RewindTooFar = Replies 16 3
     (does (Clear 0 0) Done
@@ -131,6 +139,7 @@ RewindTooFar = Replies 16 3
 
 -- ---- refusals
 
+-- events of classes and of mutators, each with the refusal that its error meets
 abbrev pub RefusalsOfMutators : Type 0
 RefusalsOfMutators = Replies 16 1024
     (refuses (Event.Class (codes "A") None (record { name = codes "x"; kind = Int } ∷ record { name = codes "x"; kind = Int } ∷ [])) DuplicateName
@@ -185,6 +194,7 @@ two_nodes_snapped =
     ∷ does Snap (Pushed 1)
     ∷ []
 
+-- a drain that is undone can be done again, and marks and drains have refusals of their own
 abbrev pub MarkAndDrainRewound : Type 0
 MarkAndDrainRewound = Replies 16 1024
     (two_nodes_snapped
@@ -198,6 +208,7 @@ MarkAndDrainRewound = Replies 16 1024
     ∷ refuses Snap AlreadyMarking
     ∷ [])
 
+-- a mark that is undone makes its object gray again
 abbrev pub MarkUndonePushesBack : Type 0
 MarkUndonePushesBack = Replies 16 1024
     (two_nodes_snapped
@@ -230,6 +241,7 @@ SweepOrderAndReuse = Replies 16 1024
 
 -- ---- a swept region is used again, and all of it rewound
 
+-- a cycle condemns a node, whose region is swept and used for an array; then three steps are rewound
 abbrev pub swept_and_rewound : Script
 swept_and_rewound =
     does node (Answer.Class 0)
@@ -261,6 +273,7 @@ node_condemned = record {
   phase = Idle;
 }
 
+-- the rewind of a sweep restores the condemned node in its region
 abbrev pub SweepAndReuseRewound : Type 0
 SweepAndReuseRewound = Replies 2 1024 swept_and_rewound × (end_state 2 1024 swept_and_rewound ≡ node_condemned)
 
@@ -283,13 +296,15 @@ stores_logged =
     ∷ rewinds 2 3
     ∷ []
 
--- the log after the first n lines, and the words of an object then
+-- the log after the first n lines
 abbrev pub log_after : ℕ → List ℕ
 log_after n = (end_state 16 1024 (take n stores_logged)).log
 
+-- the words of an object after the first n lines
 abbrev pub words_after : ℕ → ℕ → Option (List ℕ)
 words_after n x = option_map (λ o. o.words) (object_of (end_state 16 1024 (take n stores_logged)).regions x)
 
+-- the log has the old value of each store that overwrote a reference, and a rewind takes it out again
 pub record BarrierLogsOldValues : Type 0 where
   pub replies : Replies 16 1024 stores_logged
   pub null_overwritten : log_after 4 ≡ []

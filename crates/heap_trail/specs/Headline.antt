@@ -31,7 +31,7 @@ abbrev pub UndoesStep : Machine → Type 0
 UndoesStep m = (e : Event) (mark : Mark) (n : Machine) (a : Answer)
     → 1 ≤ m.keep → acted_under m (Step e, mark) ≡ (n, Answered a) → IsBackAt m (acted n (Rewind 1))
 
--- each rewind of retained steps gives the state of so many steps ago
+-- each rewind of n retained steps gives the state of n steps ago
 abbrev pub RewindsRetained : Machine → Type 0
 RewindsRetained m = (n : ℕ) → n ≤ retained m.trail → IsRewound n m (acted m (Rewind n))
 
@@ -39,10 +39,12 @@ RewindsRetained m = (n : ℕ) → n ≤ retained m.trail → IsRewound n m (acte
 abbrev pub RewindsInParts : Machine → Type 0
 RewindsInParts m = (a b : ℕ) → a + b ≤ retained m.trail → acted (acted m (Rewind a)).0 (Rewind b) ≡ acted m (Rewind (a + b))
 
+-- whether the action is a rewind
 abbrev pub is_rewind : Action → Bool
 is_rewind (Rewind n) = true
 is_rewind a = false
 
+-- no action of the list is a rewind
 abbrev pub HasNoRewind : List (Action × Mark) → Type 0
 HasNoRewind actions = All (λ a. is_rewind a.0 ≡ false) actions
 
@@ -68,7 +70,7 @@ GoesAsWithoutDumps m actions =
 
 -- ---- pins
 
--- a pin that is opened where each has a number below the next shows the state at the place asked for, and has given nothing
+-- a pin that is opened, if each has a number below the next, shows the state at the place asked for, and has given nothing
 abbrev pub OpensPin : Machine → Type 0
 OpensPin m = AreNumbered m.pins → (at : Option ℕ) (n : Machine) (pin place : ℕ) → acted m (OpenPin at) ≡ (n, Pinned pin place)
     → (place ≡ unwrap_or at m.trail.place) × (pin < n.pins.next)

@@ -45,7 +45,8 @@ SparesReached w v = (x : ℕ) → Reaches w x → object_of v.regions x ≡ obje
 abbrev pub ReachesLive : HeapState → Type 0
 ReachesLive v = (x : ℕ) → Reaches v x → IsLive v x
 
--- what the registers reached in the newest of these states in which no cycle ran is in v, with its kind and as many words, and live
+-- what the registers reached in the newest of these states in which no cycle ran is in v, with its kind and as many words,
+-- and live
 abbrev pub FindsSnapshot : List HeapState → HeapState → Type 0
 FindsSnapshot past v = (w : HeapState) → find (λ u. not (is_marking u.phase)) past ≡ Some w → (x : ℕ) (o : Object) → Reaches w x → object_of w.regions x ≡ Some o → NamesOne v (λ p. (p.kind ≡ o.kind) × (length p.words ≡ length o.words) × (p.live ≡ true)) x
 
@@ -95,12 +96,13 @@ AsksAt pin time (Rewind n) = Unit {0}
 AsksAt pin time (OpenPin at) = Unit {0}
 AsksAt pin time (ClosePin n) = Unit {0}
 
+-- each action of the list asks for pieces of the pin with this time
 abbrev pub AskAt : ℕ → ℕ → List (Action × Mark) → Type 0
 AskAt pin time [] = Unit {0}
 AskAt pin time (a ∷ as') = AsksAt pin time a.0 × AskAt pin time as'
 
--- whatever else is done, the pieces of a pin that gave none yet are a beginning of the text of its image, and all of it once the
--- last was given
+-- whatever else is done, the pieces of a pin that gave none yet are a beginning of the text of its image, and all of it once
+-- the last was given
 abbrev pub GivesText : Machine → List (Action × Mark) → ℕ → ℕ → Type 0
 GivesText m actions pin time =
     (place : ℕ) (image : Image) → pin_at pin m.pins ≡ Some (Kept place image 0) → pin < m.pins.next → AskAt pin time actions

@@ -28,39 +28,46 @@ use Rattle.heap_trail.specs.declared.held.Slot.{Slot}
 use Rattle.heap_trail.specs.Pins.{Pins, PinState}
 use Rattle.heap_trail.specs.Pins.{Kept as KeptState, Gone}
 
--- what the model sees of a pin beside the current state
+-- the pin as the model sees it beside the current state
 unfoldable pub state_of : HeapState → Held → PinState
 state_of w (Kept place pin cursor given) = KeptState place (pin_image pin w) given
 state_of w (Lost cause) = Gone cause
 
+-- all pins as the model sees them
 unfoldable pub pins_of : HeapState → ℕ → List Slot → Pins
 pins_of w next slots = record { next = next; open_pins = map (λ s. (s.number, state_of w s.held)) slots }
 
--- a pin has a place for the copy of each of n regions
+-- the pin has a place for the copy of each of n regions, or it is lost
 abbrev pub IsSizedHeld : ℕ → Held → Type 0
 IsSizedHeld n (Kept place pin cursor given) = length pin.copies ≡ n
 IsSizedHeld n (Lost cause) = Unit {0}
 
+-- so has the pin of a slot
 abbrev pub IsSized : ℕ → Slot → Type 0
 IsSized n s = IsSizedHeld n s.held
 
+-- so has each pin of the list
 abbrev pub EachSized : ℕ → List Slot → Type 0
 EachSized n [] = Unit {0}
 EachSized n (s ∷ slots) = IsSized n s × EachSized n slots
 
 -- ---- a step
 
+-- the pin once it has kept what the step that left this record overwrote; a lost one stays lost
 unfoldable pub held_kept : Undo → HeapState → Held → Held
 held_kept left v (Kept place pin cursor given) = Kept place (kept left v pin) cursor given
 held_kept left v (Lost cause) = Lost cause
 
+-- whether the pin isn't lost
 unfoldable pub is_kept : Held → Bool
 is_kept (Kept place pin cursor given) = true
 is_kept (Lost cause) = false
 
+-- the slot once its pin has kept what the step overwrote
 abbrev pub slot_kept : Undo → HeapState → Slot → Slot
 slot_kept left v s = record s { held = held_kept left v s.held }
 
+-- the slot with its pin lost, for this cause
 abbrev pub slot_lost : LostCause → Slot → Slot
 slot_lost cause s = record s { held = Lost cause }
 
@@ -73,31 +80,33 @@ abbrev pub IsWithin : ℕ → Held → Type 0
 IsWithin region (Kept place pin cursor given) = region < length pin.copies
 IsWithin region (Lost cause) = Unit {0}
 
--- a step that touches the region leaves the pin as it is: it has a copy of the region, or it is lost
+-- whether a step that touches the region leaves the pin as it is: it has a copy of the region, or it is lost
 unfoldable pub is_settled : ℕ → Held → Bool
 is_settled region (Kept place pin cursor given) = is_some (slice_index_or pin.copies region None)
 is_settled region (Lost cause) = true
 
 -- ---- a rewind
 
+-- the pin after a rewind to a place: it is lost if its own place is above
 unfoldable pub held_after_rewind : ℕ → Held → Held
 held_after_rewind to (Kept place pin cursor given) = if nat_lt to place then Lost Rewound else Kept place pin cursor given
 held_after_rewind to (Lost cause) = Lost cause
 
+-- the slot after a rewind to a place
 abbrev pub slot_after_rewind : ℕ → Slot → Slot
 slot_after_rewind to s = record s { held = held_after_rewind to s.held }
 
 -- ---- what holds of the pins
 
--- of a dump so many pieces were given, and the cursor stands at the next
+-- `given` pieces of a dump were given, and the cursor stands at the next
 abbrev pub IsGivenOf : IdSize → Image → List ObjRef → Cursor → ℕ → Type 0
 IsGivenOf ids image places cursor given = IsAt ids image places cursor given × (given ≤ length (records_from (sub_records ids image)) + 1)
 
--- of the dump of u
+-- so it is of the dump of u
 abbrev pub IsGiven : IdSize → HeapState → Cursor → ℕ → Type 0
 IsGiven ids u cursor given = IsGivenOf ids (image_of u) (live_places u.regions) cursor given
 
--- the pin holds a state of so many steps ago, and its cursor stands where so many pieces were given
+-- the pin holds the state at its place, and its cursor stands after the pieces that were given; or it is lost
 abbrev pub HoldsAt : IdSize → List HeapState → ℕ → Held → Type 0
 HoldsAt ids states place (Kept at pin cursor given) = (u : HeapState) × (at ≤ place) × Holds pin u (place - at) states × IsGiven ids u cursor given
 HoldsAt ids states place (Lost cause) = Unit {0}
@@ -107,19 +116,19 @@ abbrev pub AreAbove : ℕ → List Slot → Type 0
 AreAbove n [] = Unit {0}
 AreAbove n (s ∷ slots) = (n < s.number) × AreAbove n slots
 
--- so does each, and their numbers rise and are below the next one's
+-- the pins hold states at their places, their numbers rise, and all are below the next one
 abbrev pub AreHeld : IdSize → List HeapState → ℕ → ℕ → List Slot → Type 0
 AreHeld ids states place next [] = Unit {0}
 AreHeld ids states place next (s ∷ slots) = HoldsAt ids states place s.held × (s.number < next) × AreAbove s.number slots × AreHeld ids states place next slots
 
 -- ---- a piece
 
--- a pin that isn't lost shows some state beside this one, and its cursor stands where so many pieces were given
+-- a pin that isn't lost shows some state beside this one, and its cursor stands after the pieces that were given
 abbrev pub CanGive : IdSize → HeapState → Held → Type 0
 CanGive ids w (Kept place pin cursor given) = ShowsSome pin w × IsGivenOf ids (pin_image pin w) (places_from 0 pin.live) cursor given
 CanGive ids w (Lost cause) = Unit {0}
 
--- how many pieces were given after the next of so many; past the last, none is counted
+-- the number of pieces given after one more; past the last, none is counted
 unfoldable pub given_after : ℕ → ℕ → ℕ
 given_after given pieces = if nat_lt given pieces then given + 1 else given
 
@@ -130,11 +139,12 @@ IsNext ids w time (Kept place pin cursor given) piece next =
     (piece ≡ piece_of ids image time given) × IsAt ids image (places_from 0 pin.live) next (given + 1)
 IsNext ids w time (Lost cause) piece next = ⊥
 
+-- whether the cursor is past the last piece
 abbrev pub is_past : Cursor → Bool
 is_past Past = true
 is_past cursor = false
 
--- its cursor is moved on, and the piece is counted, unless it is past the last
+-- the pin with its cursor moved on and the piece counted, unless the cursor is past the last piece
 unfoldable pub held_advanced : Cursor → Held → Held
 held_advanced to (Kept place pin cursor given) = if is_past cursor then Kept place pin cursor given else Kept place pin to (given + 1)
 held_advanced to (Lost cause) = Lost cause
@@ -152,7 +162,7 @@ HasGiven ids w time piece (Kept place pin cursor given) h =
     (piece ≡ piece_of ids image time given) × (next : Cursor) × (h ≡ Kept place pin next more) × IsGivenOf ids image (places_from 0 pin.live) next more
 HasGiven ids w time piece (Lost cause) h = ⊥
 
--- why a pin gives no piece
+-- the refusal of a pin that gives no piece
 abbrev pub RefusesPiece : Held → Refusal → Type 0
 RefusesPiece (Kept place pin cursor given) e = e ≡ NoMemory
 RefusesPiece (Lost cause) e = e ≡ IsLost cause
@@ -164,14 +174,16 @@ EachMayKeep left v [] (t ∷ ts) = ⊥
 EachMayKeep left v (s ∷ ss) [] = ⊥
 EachMayKeep left v (s ∷ ss) (t ∷ ts) = MayKeep left v s t × EachMayKeep left v ss ts
 
--- the pin isn't lost and is below the place, or it is lost
+-- the pin is lost, or its place is below this
 abbrev pub AreBelow : ℕ → PinState → Type 0
 AreBelow place (KeptState at image given) = at < place
 AreBelow place (Gone cause) = Unit {0}
 
+-- so it is with each pin of the list
 abbrev pub EachBelow : ℕ → List (ℕ × PinState) → Type 0
 EachBelow place [] = Unit {0}
 EachBelow place (e ∷ pins) = AreBelow place e.1 × EachBelow place pins
 
+-- so it is with each open pin
 abbrev pub AreAllBelow : ℕ → Pins → Type 0
 AreAllBelow place p = EachBelow place p.open_pins

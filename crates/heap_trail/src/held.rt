@@ -14,26 +14,28 @@ use heap_world::World;
 use hprof_text::{Cursor, Piece, piece_from};
 use std::alloc::Global;
 
-/// A pin on a place, with the cursor of its next piece and how many it gave; or one that is lost.
+// A pin on a place, with the cursor of its next piece and the number of pieces that it gave; or one that is lost.
 #[derive(Drop)]
 pub(crate) enum Held {
+    // A pin that shows the state at `place`, gave `given` pieces, and has its cursor at the next.
     Kept {
         place: u64,
         pin: Pin,
         cursor: Cursor,
         given: u64,
     },
+    // A pin that is lost, for this cause.
     Lost(LostCause),
 }
 
-/// An open pin with its number.
+// An open pin with its number.
 #[derive(Drop)]
 pub(crate) struct Slot {
     pub(crate) number: u64,
     pub(crate) held: Held,
 }
 
-/// Finds the first slot with this number.
+// Finds the first slot with this number.
 pub(crate) fn slot_of(pins: &[Slot], number: u64) -> Option<usize>
     ensures { result ≡ position (λ s. s.number == number) pins.now }
 {
@@ -54,8 +56,8 @@ impl Slot {
         }
     }
 
-    /// Keeps what the step that left this record and led to this state overwrote in this region; a pin that finds no memory
-    /// for it is lost.
+    // Keeps what the step that left this record and led to this state overwrote in this region. The pin is lost if memory for
+    // it can't be allocated.
     #[inline(always)]
     pub(crate) fn keep(&mut self, world: &World, left: &Undo, region: u64)
         requires touched { touched left.now ≡ Some region }
@@ -68,7 +70,7 @@ impl Slot {
         }
     }
 
-    // Copies the region that the step touched, as it was before; a pin that finds no memory for it is lost.
+    // Copies the region that the step touched, as it was before. The pin is lost if memory for the copy can't be allocated.
     #[inline(never)]
     fn copy_region(&mut self, world: &World, left: &Undo)
         requires step { (e : Event) × (before : HeapState) × IsStep e before world.now left.now }
@@ -84,7 +86,7 @@ impl Slot {
         }
     }
 
-    /// Loses a pin above this place.
+    // Loses the pin if it is above this place.
     pub(crate) fn rewind(&mut self, to: u64)
         ensures { self.new ≡ slot_after_rewind to self.old }
     {
@@ -96,8 +98,9 @@ impl Slot {
             self.held = Held::Lost(LostCause::Rewound);
         }
     }
-    /// Gives the pin's next piece. Fails with Lost and its cause if the pin is lost, and with NoMemory; then the same piece
-    /// is next.
+
+    // Returns the pin's next piece. Fails with Lost and its cause if the pin is lost, or with NoMemory; the same piece is
+    // then still the next.
     pub(crate) fn next_piece(
         &mut self,
         alloc: Global,
@@ -117,7 +120,7 @@ impl Slot {
         Ok(piece)
     }
 
-    // The piece at the cursor, and the cursor after it.
+    // Returns the piece at the cursor, and the cursor after it.
     fn piece_here(
         &self,
         alloc: Global,
@@ -138,7 +141,7 @@ impl Slot {
         }
     }
 
-    // Moves the cursor on, and counts the piece that was given, unless the cursor stands past all.
+    // Moves the cursor on and counts the piece that was given, unless the cursor is past the last piece.
     fn advance(&mut self, to: Cursor)
         requires { MayCount self.old.held }
         ensures { self.new ≡ record self.old { held = held_advanced to self.old.held } }

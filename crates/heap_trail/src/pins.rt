@@ -12,20 +12,20 @@ use crate::{Machine, PIN_LIMIT, Pinned};
 use heap_class::Refusal;
 use hprof_text::{Cursor, Piece};
 
-/// No pin has a number above this: 2^62.
+// The largest number of a pin: 2^62.
 const LAST_PIN: u64 = 0x4000_0000_0000_0000;
 
 impl Machine {
-    // Whether the state at this place is retained.
+    // Tells whether the state at this place is retained.
     fn has_retained(&self, at: u64) -> bool
         ensures { result ≡ is_retained at self.now.trail }
     {
         at <= self.place && self.place - at <= self.retained()
     }
 
-    /// Opens a pin on the retained state at the place `at`, or on the current state. Fails with NotRetained if that
-    /// state isn't retained, with PinLimit if 4 pins are open or all numbers are used, and with NoMemory. A refused
-    /// call uses no number.
+    /// Opens a pin on the retained state at the place `at`, or on the current state. Fails with NotRetained if that state
+    /// isn't retained, with PinLimit if 4 pins are open or all numbers are used, or with NoMemory if an allocation fails. A
+    /// refused call uses no number.
     pub fn open_pin(&mut self, at: Option<u64>) -> Result<Pinned, Refusal>
         ensures done { IfOk result (λ p. acted self.old (OpenPin at) ≡ (self.new, PinnedReply p.pin p.at)) }
         ensures refused { IfErr result (λ e. MayFail self.old (OpenPin at) self.new e) }
@@ -53,9 +53,9 @@ impl Machine {
         Ok(Pinned { pin: number, at })
     }
 
-    /// Gives the next piece of a pin's dump; past the last it is empty. It is a piece of the dump of a legal state. The
-    /// time, in milliseconds, stands in the first piece alone. Fails with NoPin if no such pin is open, with Lost and its cause if the pin is lost, and with
-    /// NoMemory; then the same piece is next.
+    /// Returns the next piece of a pin's dump; past the last it is empty. It is a piece of the dump of a legal state. The
+    /// time, in milliseconds, stands in the first piece alone. Fails with NoPin if no such pin is open, with Lost and its
+    /// cause if the pin is lost, or with NoMemory if an allocation fails; the same piece is then still the next.
     pub fn piece(&mut self, pin: u64, time: u64) -> Result<Piece, Refusal>
         ensures done { IfOk result (λ p. acted self.old (NextPiece pin time) ≡ (self.new, Part p)) }
         ensures legal { IfOk result (λ p. IsPieceOfLegal self.old.ids time p) }

@@ -5,7 +5,6 @@ pub mod Sizes
 pub mod Records
 pub mod Fits
 pub mod Laws
-pub mod Opened
 pub mod Buffered
 pub mod Cursors
 pub mod Filled

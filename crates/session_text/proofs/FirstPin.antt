@@ -9,7 +9,8 @@ use Rattle.session_text.specs.declared.command.Command.{Command}
 use Rattle.session_text.specs.declared.command.Command.TheVariants.{Blank, Bad, Ask, Piece, Dump, DumpNow, End}
 use Rattle.session_text.specs.declared.commands.Local.{Local}
 use Rattle.session_text.specs.Answers.{Answers, Begins}
-use Rattle.session_text.specs.Dumps.{Goes, Dumps, ClosesAfter, piece_limit}
+use Rattle.session_text.specs.Dumps.{Goes, Dumps, ClosesAfter}
+use Rattle.dump_pump.specs.Sources.{part_limit}
 use Rattle.session_text.specs.Inlets.{Incoming}
 use Rattle.session_text.specs.Replies.{piece_in, pin_in}
 use Rattle.session_text.specs.Talks.{Talks, Breaks, Fails, IsServed, Serves}
@@ -45,8 +46,8 @@ answer_same time Bad c text d h = of_same c d h.1
 answer_same time (Ask a) c text d (r, inl (did, kept), is) = kept
 answer_same time (Ask a) c text d (r, inr (takes, refused, same), is) = of_same c d same
 answer_same time (Piece pin) c text d (r, (did, kept), is) = kept
-answer_same time (Dump pin) c text d h = dumps_same piece_limit pin time c 0 text d h
-answer_same time DumpNow c text d (r, opened, (did, kept), closes) = open_same piece_limit time r (pin_in r) opened text d closes ∙ kept
+answer_same time (Dump pin) c text d h = dumps_same part_limit pin time c 0 text d h
+answer_same time DumpNow c text d (r, opened, (did, kept), closes) = open_same part_limit time r (pin_in r) opened text d closes ∙ kept
 answer_same time End c text d h = absurd h
 
 begin_same : (time : ℕ) (k : Command) (c : Local) (text : List ℕ) (d : Local) → Begins acts time k c text d → Same c d

@@ -1,7 +1,6 @@
 -- Lists cut in two.
-use Rattle.std.proofs.Common.{◌≡◌, ℕ, ◌+◌, ◌-◌, ◌<◌, ◌≤◌, true, false, List, [], ◌∷◌, ◌++◌, take, drop, length, get_or, refl, ap, sym, ◌∙◌, subst, arith, append_assoc, add-one, drop-cons}
+use Rattle.std.proofs.Common.{◌≡◌, ℕ, ◌+◌, ◌-◌, ◌<◌, ◌≤◌, true, false, List, [], ◌∷◌, ◌++◌, take, drop, length, get_or, refl, ap, sym, ◌∙◌, subst, arith, add-one, drop-cons}
 use Rattle.std.proofs.lemmas.List.{take-append-drop, length-take-le, length-drop, take_all}
-use Rattle.std.proofs.Math.Seq.{take-add}
 use Rattle.std.proofs.lemmas.List.{take-take, drop-take, drop-drop, take-append-le}
 use Rattle.std.proofs.Math.Seq.{take-append-add}
 use Rattle.std.specs.Bool.{◌==◌}
@@ -11,30 +10,11 @@ use borrow.Rule.Slice.PartMut.{put_mid, post_of}
 use Rattle.session_text.specs.declared.inlet.Take.{Take}
 use Rattle.session_text.specs.Inlets.{Incoming, IsTake, IsRead, count_of}
 use Rattle.session_text.specs.Lines.{NoLf}
-use Rattle.session_text.specs.Writes.{IsCutShort}
 
 pub split_at : (xs : List ℕ) (n : ℕ) → n < length xs → get_or xs n 0 ≡ 10 → xs ≡ take n xs ++ 10 ∷ drop (n + 1) xs
 split_at xs n lt is =
     let e : drop n xs ≡ get_or xs n 0 ∷ drop (n + 1) xs = rw (add-one, drop-cons xs n 0) in
     sym (take-append-drop n xs) ∙ ap (λ l. take n xs ++ l) (e ∙ ap (λ b. b ∷ drop (n + 1) xs) is)
-
--- what was put out goes on with a beginning of the rest
-pub put_more : (before bytes out out' : List ℕ) (at n : ℕ) → at ≤ length bytes → n ≤ length (take (length bytes - at) (drop at bytes)) → out ≡ before ++ take at bytes → out' ≡ out ++ take n (take (length bytes - at) (drop at bytes))
-    → (at + n ≤ length bytes) × (out' ≡ before ++ take (at + n) bytes)
-put_more before bytes out out' at n le fits was is =
-    let rest : take (length bytes - at) (drop at bytes) ≡ drop at bytes = take_all (length bytes - at) (drop at bytes) (omega (arith, length-drop at bytes)) in (
-      omega (arith, fits, ap length rest, length-drop at bytes, le),
-      is ∙ (λ i. was i ++ take n (rest i)) ∙ append_assoc before (take at bytes) (take n (drop at bytes)) ∙ ap (λ l. before ++ l) (sym (take-add at n bytes)),
-    )
-
-pub short_at : (before bytes out out' : List ℕ) (at : ℕ) → at < length bytes → out ≡ before ++ take at bytes → out' ≡ out → IsCutShort bytes before out'
-short_at before bytes out out' at less was is = record {
-  part = take at bytes;
-  rest = drop at bytes;
-  has = is ∙ was;
-  lacks = sym (take-append-drop at bytes);
-  some = omega (arith, less, length-drop at bytes);
-}
 
 -- a window whose front moves
 pub drop_window : (xs : List ℕ) (s e n : ℕ) → s ≤ e → e ≤ length xs → n ≤ length (take (e - s) (drop s xs)) → take (e - (s + n)) (drop (s + n) xs) ≡ drop n (take (e - s) (drop s xs))

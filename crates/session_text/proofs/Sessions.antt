@@ -25,7 +25,8 @@ use Rattle.session_text.specs.declared.command.Command.{Command}
 use Rattle.session_text.specs.declared.command.Command.TheVariants.{Blank, Bad, Ask, Piece, Dump, DumpNow, End}
 use Rattle.session_text.specs.declared.commands.Local.{Local}
 use Rattle.session_text.specs.Answers.{Answers, Begins}
-use Rattle.session_text.specs.Dumps.{Goes, Dumps, ClosesAfter, total_line, piece_limit}
+use Rattle.session_text.specs.Dumps.{Goes, Dumps, ClosesAfter, total_line}
+use Rattle.dump_pump.specs.Sources.{part_limit}
 use Rattle.session_text.specs.Grammar.{command_of}
 use Rattle.session_text.specs.Inlets.{Incoming, whole}
 use Rattle.session_text.specs.Lines.{NoLf}
@@ -152,17 +153,17 @@ closed_at m m' pin r ms w e = ap (λ (x : Machine × Reply). talk x.0 ms w) e
 -- the marks under which a dump of the current state has this text after the reply to OpenPin
 record OpenSo (time : ℕ) (m : Machine) (r : Reply) (o : Option ℕ) (text : List ℕ) (m' : Machine) : Type 0 where
   found : List Mark
-  so : (ms : List Mark) (w : List ℕ) → after_open piece_limit time r o (talk m (found ++ ms) w) ≡ talk m' ms (w ++ text)
+  so : (ms : List Mark) (w : List ℕ) → after_open part_limit time r o (talk m (found ++ ms) w) ≡ talk m' ms (w ++ text)
   fit : (ms : List Mark) (w : List ℕ) → FitsOpen time o (talk m (found ++ ms) w)
 
-open_so : (time : ℕ) (c : Local) (r : Reply) (o : Option ℕ) (text : List ℕ) (d : Local) → ClosesAfter acts time r o piece_limit c text d → OpenSo time c.machine r o text d.machine
+open_so : (time : ℕ) (c : Local) (r : Reply) (o : Option ℕ) (text : List ℕ) (d : Local) → ClosesAfter acts time r o part_limit c text d → OpenSo time c.machine r o text d.machine
 open_so time c r None text d h = record {
   found = [];
   so = λ ms w. moved c.machine d.machine ms w (reply_text r) text (ap (λ (x : Local). x.machine) h.1) h.0;
   fit = λ ms w. tt;
 }
 open_so time c r (Some pin) text d (between, closing, h, ((mark, may, e), kept)) =
-    let f = dumps_so piece_limit pin time c 0 text between h in
+    let f = dumps_so part_limit pin time c 0 text between h in
     let is = close_so between.machine d.machine pin mark closing may e in
     record {
       found = f.found;
@@ -224,14 +225,14 @@ follows time (Piece pin) c text d (r, ((mark, may, e), kept), is) = record {
   fit = λ ms w. may;
 }
 follows time (Dump pin) c text d h =
-    let f = dumps_so piece_limit pin time c 0 text d h in
+    let f = dumps_so part_limit pin time c 0 text d h in
     record { found = f.found; no_end = refl; after = f.so; fit = f.fit }
 follows time DumpNow c text d (r, opened, ((mark, may, e), kept), closes) =
     let g = open_so time opened r (pin_in r) text d closes in
     record {
       found = mark ∷ g.found;
       no_end = refl;
-      after = λ ms w. ap (λ (x : Talk × Reply). after_open piece_limit time x.1 (pin_in x.1) x.0) (done_so (OpenPin None) c.machine mark (g.found ++ ms) w opened.machine r e) ∙ g.so ms w;
+      after = λ ms w. ap (λ (x : Talk × Reply). after_open part_limit time x.1 (pin_in x.1) x.0) (done_so (OpenPin None) c.machine mark (g.found ++ ms) w opened.machine r e) ∙ g.so ms w;
       fit = λ ms w. (may, subst (λ (x : Talk × Reply). FitsOpen time (pin_in x.1) x.0) (sym (done_so (OpenPin None) c.machine mark (g.found ++ ms) w opened.machine r e)) (g.fit ms w));
     }
 follows time End c text d h = absurd h
@@ -389,20 +390,20 @@ dump_fits (suc n) pin time t so_far e =
     let r = done_quietly (NextPiece pin time) t in
     (any_fits (NextPiece pin time) t e, rest_fits (FitsDump n pin time) (λ u k h. dump_fits n pin time u k h) so_far (piece_in r.1) r.0 (ap marks_after e))
 
-open_fine : (time : ℕ) (r : Reply) (o : Option ℕ) (t : Talk) → t.marks ≡ [] → (after_open piece_limit time r o t).marks ≡ []
+open_fine : (time : ℕ) (r : Reply) (o : Option ℕ) (t : Talk) → t.marks ≡ [] → (after_open part_limit time r o t).marks ≡ []
 open_fine time r None t e = e
-open_fine time r (Some pin) t e = dump_fine piece_limit pin time t 0 e
+open_fine time r (Some pin) t e = dump_fine part_limit pin time t 0 e
 
 open_fits : (time : ℕ) (o : Option ℕ) (t : Talk) → t.marks ≡ [] → FitsOpen time o t
 open_fits time None t e = tt
-open_fits time (Some pin) t e = dump_fits piece_limit pin time t 0 e
+open_fits time (Some pin) t e = dump_fits part_limit pin time t 0 e
 
 command_fine : (time : ℕ) (k : Command) (t : Talk) → t.marks ≡ [] → (after_command time k t).marks ≡ []
 command_fine time Blank t e = e
 command_fine time Bad t e = e
 command_fine time (Ask a) t e = ap marks_after e
 command_fine time (Piece pin) t e = ap marks_after e
-command_fine time (Dump pin) t e = dump_fine piece_limit pin time t 0 e
+command_fine time (Dump pin) t e = dump_fine part_limit pin time t 0 e
 command_fine time DumpNow t e = let r = done_quietly (OpenPin None) t in open_fine time r.1 (pin_in r.1) r.0 (ap marks_after e)
 command_fine time End t e = e
 
@@ -411,7 +412,7 @@ fits_fine time Blank t e = tt
 fits_fine time Bad t e = tt
 fits_fine time (Ask a) t e = inl (any_fits a t e)
 fits_fine time (Piece pin) t e = any_fits (NextPiece pin time) t e
-fits_fine time (Dump pin) t e = dump_fits piece_limit pin time t 0 e
+fits_fine time (Dump pin) t e = dump_fits part_limit pin time t 0 e
 fits_fine time DumpNow t e = let r = done_quietly (OpenPin None) t in (any_fits (OpenPin None) t e, open_fits time (pin_in r.1) r.0 (ap marks_after e))
 fits_fine time End t e = tt
 
@@ -447,9 +448,9 @@ unfolding dumped
 dump_stays zero pin time t so_far = begins_itself t.written
 dump_stays (suc n) pin time t so_far = let r = done_quietly (NextPiece pin time) t in rest_stays (dumped n pin time) (λ u k. dump_stays n pin time u k) so_far r.1 (piece_in r.1) r.0
 
-open_stays : (time : ℕ) (r : Reply) (o : Option ℕ) (t : Talk) → IsPrefix t.written (after_open piece_limit time r o t).written
+open_stays : (time : ℕ) (r : Reply) (o : Option ℕ) (t : Talk) → IsPrefix t.written (after_open part_limit time r o t).written
 open_stays time r None t = (reply_text r, refl)
-open_stays time r (Some pin) t = dump_stays piece_limit pin time t 0
+open_stays time r (Some pin) t = dump_stays part_limit pin time t 0
 
 end_stays : (e : ReadEnd) (b : Bool) (t : Talk) → IsPrefix t.written (at_end e b t).0.written
 end_stays Over true t = begins_itself t.written
@@ -466,8 +467,8 @@ on_stays more ih time Blank t = ih t
 on_stays more ih time Bad t = begins_more t.written (codes "bad command\n") _ (ih (wrote (codes "bad command\n") t))
 on_stays more ih time (Ask a) t = begins_more t.written _ _ (ih (done a t))
 on_stays more ih time (Piece pin) t = begins_more t.written _ _ (ih (done (NextPiece pin time) t))
-on_stays more ih time (Dump pin) t = begins_then t.written _ _ (dump_stays piece_limit pin time t 0) (ih (dumped piece_limit pin time t 0))
-on_stays more ih time DumpNow t = let r = done_quietly (OpenPin None) t in begins_then t.written _ _ (open_stays time r.1 (pin_in r.1) r.0) (ih (after_open piece_limit time r.1 (pin_in r.1) r.0))
+on_stays more ih time (Dump pin) t = begins_then t.written _ _ (dump_stays part_limit pin time t 0) (ih (dumped part_limit pin time t 0))
+on_stays more ih time DumpNow t = let r = done_quietly (OpenPin None) t in begins_then t.written _ _ (open_stays time r.1 (pin_in r.1) r.0) (ih (after_open part_limit time r.1 (pin_in r.1) r.0))
 on_stays more ih time End t = begins_itself t.written
 
 stays : (time : ℕ) (e : ReadEnd) (ls : List (List ℕ)) (t : Talk) → IsPrefix t.written (talked time e ls t).0.written
@@ -530,14 +531,14 @@ is_all m ms xs ys t e f = subst (λ (u : Talk). IsPrefix ys u.written) (sym e) (
 record DumpBegins (k pin time : ℕ) (m : Machine) (text : List ℕ) (m' : Machine) : Type 0 where
   found : List Mark
   here : (w : List ℕ) → dumped k pin time (talk m found w) 0 ≡ talk m' [] (w ++ text)
-  so : (w : List ℕ) → IsPrefix (w ++ text) (dumped piece_limit pin time (talk m found w) 0).written
-  spent : (w : List ℕ) → (dumped piece_limit pin time (talk m found w) 0).marks ≡ []
-  fit : (w : List ℕ) → FitsDump piece_limit pin time (talk m found w) 0
+  so : (w : List ℕ) → IsPrefix (w ++ text) (dumped part_limit pin time (talk m found w) 0).written
+  spent : (w : List ℕ) → (dumped part_limit pin time (talk m found w) 0).marks ≡ []
+  fit : (w : List ℕ) → FitsDump part_limit pin time (talk m found w) 0
 
-dump_begins : (k pin time : ℕ) (c : Local) (text : List ℕ) (d : Local) → k ≤ piece_limit → Dumps acts pin time k c 0 text d → DumpBegins k pin time c.machine text d.machine
+dump_begins : (k pin time : ℕ) (c : Local) (text : List ℕ) (d : Local) → k ≤ part_limit → Dumps acts pin time k c 0 text d → DumpBegins k pin time c.machine text d.machine
 dump_begins k pin time c text d le h =
     let f = dumps_so k pin time c 0 text d h in
-    let g : (w : List ℕ) → GoesOn k piece_limit pin time (talk c.machine (f.found ++ []) w) 0 = λ w. dump_goes_on k piece_limit pin time (talk c.machine (f.found ++ []) w) 0 le in
+    let g : (w : List ℕ) → GoesOn k part_limit pin time (talk c.machine (f.found ++ []) w) 0 = λ w. dump_goes_on k part_limit pin time (talk c.machine (f.found ++ []) w) 0 le in
     let none : (w : List ℕ) → (dumped k pin time (talk c.machine (f.found ++ []) w) 0).marks ≡ [] = λ w. ap (λ (u : Talk). u.marks) (f.so [] w) in
     record {
       found = f.found ++ [];
@@ -551,11 +552,11 @@ dump_begins k pin time c text d le h =
 record OpenBegins (k time : ℕ) (m : Machine) (r : Reply) (o : Option ℕ) (text : List ℕ) (m' : Machine) : Type 0 where
   found : List Mark
   here : (w : List ℕ) → after_open k time r o (talk m found w) ≡ talk m' [] (w ++ text)
-  so : (w : List ℕ) → IsPrefix (w ++ text) (after_open piece_limit time r o (talk m found w)).written
-  spent : (w : List ℕ) → (after_open piece_limit time r o (talk m found w)).marks ≡ []
+  so : (w : List ℕ) → IsPrefix (w ++ text) (after_open part_limit time r o (talk m found w)).written
+  spent : (w : List ℕ) → (after_open part_limit time r o (talk m found w)).marks ≡ []
   fit : (w : List ℕ) → FitsOpen time o (talk m found w)
 
-open_begins : (k time : ℕ) (c : Local) (r : Reply) (o : Option ℕ) (text : List ℕ) (d : Local) → k ≤ piece_limit → ClosesAfter acts time r o k c text d → OpenBegins k time c.machine r o text d.machine
+open_begins : (k time : ℕ) (c : Local) (r : Reply) (o : Option ℕ) (text : List ℕ) (d : Local) → k ≤ part_limit → ClosesAfter acts time r o k c text d → OpenBegins k time c.machine r o text d.machine
 open_begins k time c r None text d le h =
     let all : (w : List ℕ) → after_open k time r None (talk c.machine [] w) ≡ talk d.machine [] (w ++ text) = λ w. moved c.machine d.machine [] w (reply_text r) text (ap (λ (x : Local). x.machine) h.1) h.0 in
     record {
@@ -580,7 +581,7 @@ open_begins k time c r (Some pin) text d le (between, closing, h, ((mark, may, e
 record BeginsSo (time : ℕ) (k : Command) (c : Local) (tail : List ℕ) (d : Local) (w : List ℕ) (more : Talk → Talk × Ended) : Type 0 where
   found : List Mark
   pieces : ℕ
-  most : pieces ≤ piece_limit
+  most : pieces ≤ part_limit
   so : IsPrefix (w ++ tail) (go_on more time k (talk c.machine found w)).0.written
   fit : FitsCommand time k (talk c.machine found w)
   spent : (after_command time k (talk c.machine found w)).marks ≡ []
@@ -592,7 +593,7 @@ follows_so time k c tail d w more ih h =
     let f = follows time k c tail d h in
     record {
       found = f.found ++ [];
-      pieces = piece_limit;
+      pieces = part_limit;
       most = omega arith;
       so = subst (λ r. IsPrefix (w ++ tail) r.0.written) (sym (goes_on time k c tail d f [] w more)) (ih (talk d.machine [] (w ++ tail)));
       fit = f.fit [] w;
@@ -612,7 +613,7 @@ begins_so time (Dump pin) c tail d w more ih (pieces, le, h) =
       found = f.found;
       pieces = pieces;
       most = le;
-      so = begins_then (w ++ tail) _ _ (f.so w) (ih (dumped piece_limit pin time (talk c.machine f.found w) 0));
+      so = begins_then (w ++ tail) _ _ (f.so w) (ih (dumped part_limit pin time (talk c.machine f.found w) 0));
       fit = f.fit w;
       spent = f.spent w;
       here = is_all d.machine [] (w ++ tail) (w ++ tail) _ (f.here w) refl;
@@ -627,9 +628,9 @@ begins_so time DumpNow c tail d w more ih (pieces, le, (r, opened, ((mark, may, 
       found = mark ∷ f.found;
       pieces = pieces;
       most = le;
-      so = begins_then (w ++ tail) _ _ (subst (λ (x : Talk × Reply). IsPrefix (w ++ tail) (after_open piece_limit time x.1 (pin_in x.1) x.0).written) (sym first) (f.so w)) (ih (after_command time DumpNow t));
+      so = begins_then (w ++ tail) _ _ (subst (λ (x : Talk × Reply). IsPrefix (w ++ tail) (after_open part_limit time x.1 (pin_in x.1) x.0).written) (sym first) (f.so w)) (ih (after_command time DumpNow t));
       fit = (may, subst (λ (x : Talk × Reply). FitsOpen time (pin_in x.1) x.0) (sym first) (f.fit w));
-      spent = subst (λ (x : Talk × Reply). (after_open piece_limit time x.1 (pin_in x.1) x.0).marks ≡ []) (sym first) (f.spent w);
+      spent = subst (λ (x : Talk × Reply). (after_open part_limit time x.1 (pin_in x.1) x.0).marks ≡ []) (sym first) (f.spent w);
       here = is_all d.machine [] (w ++ tail) (w ++ tail) (after_up_to pieces time DumpNow t) here refl;
       machine = sym (ap (λ (u : Talk). u.machine) here);
     }

@@ -1,4 +1,4 @@
--- What an ending says of the reader and the writer.
+-- The endings of a session, with the reader and the writer before and after.
 use Rattle.std.specs.Prelude.{◌≡◌, ℕ, ◌+◌, ◌⊎◌, Bool, true, false, List, ◌++◌, length}
 use Rattle.dump_pump.specs.Outlets.{Outgoing}
 use Rattle.session_text.specs.declared.Ended.{Ended}
@@ -8,10 +8,12 @@ use Rattle.session_text.specs.declared.answer.Step.TheVariants.{Next, Fault}
 use Rattle.session_text.specs.Inlets.{Incoming, NothingLeft}
 use Rattle.session_text.specs.Writes.{IsWritten}
 
+-- the next line comes, unless a write failed
 abbrev pub step_of : Bool → Step
 step_of true = Next
 step_of false = Fault
 
+-- the ending, unless a write failed
 abbrev pub ended_of : Ended → Bool → Ended
 ended_of ended true = ended
 ended_of ended false = WriteFault
@@ -20,7 +22,7 @@ ended_of ended false = WriteFault
 abbrev pub EndsWith : List ℕ → List ℕ → Outgoing → Outgoing → Ended → Ended → Type 0
 EndsWith line page w w' ended result = (written : Bool) × IsWritten (page ++ line) w w' written × (result ≡ ended_of ended written)
 
--- the reader before and after, where no write failed
+-- the reader before and after, if no write failed
 abbrev pub ReaderEnds : Incoming → Incoming → Ended → Type 0
 ReaderEnds a b Quit = b.failures ≡ a.failures
 ReaderEnds a b Eof = NothingLeft b × (b.failures ≡ a.failures)

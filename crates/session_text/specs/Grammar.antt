@@ -20,7 +20,7 @@ use Rattle.session_text.specs.declared.command.Command.TheVariants.{Blank, Bad, 
 unfoldable pub words_of : List ℕ → List (List ℕ)
 words_of line = filter (λ w. nat_lt 0 (length w)) (slice_split (λ b. b == 32) line)
 
--- the value of decimal digits, where it is below 2 ^ 64
+-- the value of decimal digits, if it is below 2 ^ 64
 abbrev pub value_of : List ℕ → Option ℕ
 value_of ds = if list_all is_ascii_digit ds && nat_lt (digits_value 10 ds) (2 ^ 64) then Some (digits_value 10 ds) else None
 
@@ -34,9 +34,11 @@ number_or_dash w = if bytes_eq w (codes "-") then Some None else option_map Some
 
 -- ---- kinds and fields
 
+-- all kinds of slots
 abbrev pub all_kinds : List Kind
 all_kinds = Kind.Object ∷ Boolean ∷ Char ∷ Float ∷ Double ∷ Byte ∷ Short ∷ Int ∷ Long ∷ []
 
+-- the kind that a word names
 unfoldable pub kind_of : List ℕ → Option Kind
 kind_of w = find (λ k. bytes_eq (kind_word k) w) all_kinds
 
@@ -44,18 +46,19 @@ kind_of w = find (λ k. bytes_eq (kind_word k) w) all_kinds
 abbrev pub field_of : List ℕ → Option Field
 field_of w = option_and_then (λ n. option_map (λ k. record { name = take n w; kind = k }) (kind_of (drop (n + 1) w))) (position (λ b. b == 58) w)
 
+-- the fields that these words are, if each is one
 abbrev pub fields_of : List (List ℕ) → Option (List Field)
 fields_of [] = Some []
 fields_of (w ∷ ws) = option_and_then (λ f. option_map (λ fs. f ∷ fs) (fields_of ws)) (field_of w)
 
 -- ---- the words after the first
 
--- the number that the first word is, and the other words
+-- the number that the first word holds, and the other words
 abbrev pub next_number : List (List ℕ) → Option (ℕ × List (List ℕ))
 next_number [] = None
 next_number (w ∷ ws) = option_map (λ n. (n, ws)) (number w)
 
--- the number that the first word is, or None where it is `-`, and the other words
+-- the number that the first word holds, or None from a `-`, and the other words
 abbrev pub next_number_or_dash : List (List ℕ) → Option (Option ℕ × List (List ℕ))
 next_number_or_dash [] = None
 next_number_or_dash (w ∷ ws) = option_map (λ n. (n, ws)) (number_or_dash w)
@@ -65,23 +68,28 @@ abbrev pub next_kind : List (List ℕ) → Option (Kind × List (List ℕ))
 next_kind [] = None
 next_kind (w ∷ ws) = option_map (λ k. (k, ws)) (kind_of w)
 
--- x, where no word is left
+-- x, if no word is left
 abbrev pub at_end : {A : Type 0} → A → List (List ℕ) → Option A
 at_end x [] = Some x
 at_end x (w ∷ ws) = None
 
+-- the one number that the words are
 abbrev pub one_number : List (List ℕ) → Option ℕ
 one_number ws = option_and_then (λ a. at_end a.0 a.1) (next_number ws)
 
+-- the one number that the words are, or None from a `-`
 abbrev pub one_number_or_dash : List (List ℕ) → Option (Option ℕ)
 one_number_or_dash ws = option_and_then (λ a. at_end a.0 a.1) (next_number_or_dash ws)
 
+-- the two numbers that the words are
 abbrev pub two_numbers : List (List ℕ) → Option (ℕ × ℕ)
 two_numbers ws = option_and_then (λ a. option_and_then (λ b. at_end (a.0, b.0) b.1) (next_number a.1)) (next_number ws)
 
+-- the three numbers that the words are
 abbrev pub three_numbers : List (List ℕ) → Option (ℕ × ℕ × ℕ)
 three_numbers ws = option_and_then (λ a. option_and_then (λ b. option_and_then (λ c. at_end (a.0, b.0, c.0) c.1) (next_number b.1)) (next_number a.1)) (next_number ws)
 
+-- the four numbers that the words are
 abbrev pub four_numbers : List (List ℕ) → Option (ℕ × ℕ × ℕ × ℕ)
 four_numbers ws =
     option_and_then (λ a. option_and_then (λ b. option_and_then (λ c. option_and_then (λ d. at_end (a.0, b.0, c.0, d.0) d.1) (next_number c.1)) (next_number b.1)) (next_number a.1)) (next_number ws)
@@ -216,7 +224,7 @@ session_rules =
 abbrev pub all_rules : List Rule
 all_rules = class_rules ++ (making_rules ++ (access_rules ++ (marking_rules ++ session_rules)))
 
--- what a line asks for, by the rule of its first word
+-- the command of a line, by the rule of its first word
 unfoldable pub by_rule : List Rule → List ℕ → List (List ℕ) → Option Command
 by_rule rules w ws = option_and_then (λ rule. rule.1 ws) (find (λ rule. bytes_eq w rule.0) rules)
 
@@ -233,9 +241,10 @@ without_cr l = if slice_index l (length l - 1) == 13 then take (length l - 1) l 
 abbrev pub is_plain : List ℕ → Bool
 is_plain t = list_all (λ b. nat_le 0x20 b && nat_le b 0x7e) t
 
+-- the command of a line without its CR; a line with a bad byte is none of the grammar's
 abbrev pub command_of_text : List ℕ → Command
 command_of_text t = if is_plain t then command_of_words (words_of t) else Bad
 
--- what a line without its LF asks for
+-- the command of a line without its LF
 unfoldable pub command_of : List ℕ → Command
 command_of line = command_of_text (without_cr line)

@@ -1,4 +1,4 @@
--- A session of a machine of one's own is a list of actions.
+-- A session of a private machine is a list of actions.
 use Rattle.std.specs.Prelude.{◌≡◌, ℕ, ◌⊎◌, List, [], ◌∷◌, ◌++◌, codes}
 use Rattle.heap_trail.specs.declared.Action.{Action}
 use Rattle.heap_trail.specs.Machine.{Machine, Mark, MayStand, AreMarks, machine_after, replies_of}
@@ -21,7 +21,7 @@ InTurn m before a r after =
 abbrev pub IsStop : List ℕ → Type 0
 IsStop rest = IsLine rest ⊎ (IsQuit rest ⊎ IsLong rest)
 
--- what an ending prints
+-- the line of an ending
 abbrev pub ending_line : Ended → List ℕ
 ending_line Quit = []
 ending_line Eof = []
@@ -32,7 +32,8 @@ ending_line TooManyReads = codes "bad reads\n"
 ending_line WriteFault = []
 ending_line NoRoom = []
 
--- the lines of the bytes asked for these actions, in order, and the text is their replies'; they lead to the machine m'
+-- the lines of the bytes asked for these actions, in order, and the text is that of their replies; they lead to the machine
+-- m'
 pub record IsList (m : Machine) (time : ℕ) (bytes text : List ℕ) (m' : Machine) : Type 0 where
   pub actions : List (Action × Mark)
   pub marks : AreMarks m actions
@@ -41,7 +42,7 @@ pub record IsList (m : Machine) (time : ℕ) (bytes text : List ℕ) (m' : Machi
   pub stop : IsStop rest
   pub machine : m' ≡ machine_after m actions
 
--- a session is a list of actions: it leaves their machine, and writes their replies and what its ending prints
+-- a session is a list of actions: it leaves their machine, and writes their replies and the line of its ending
 abbrev pub IsListed : Machine → List Mark → ℕ → List ℕ → ReadEnd → Type 0
 IsListed m marks time bytes e =
     let s = session_of m marks time bytes e in

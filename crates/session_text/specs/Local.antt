@@ -1,4 +1,4 @@
--- What a machine of one's own does.
+-- The actions of a private machine.
 use Rattle.std.specs.Prelude.{◌≡◌, ℕ}
 use Rattle.heap_trail.specs.declared.Action.{Action}
 use Rattle.heap_trail.specs.declared.Reply.{Reply}

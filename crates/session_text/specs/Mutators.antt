@@ -28,7 +28,7 @@ FollowsIn key text at = (at ≤ length text) × NoLf (take at text) × ((n : ℕ
 abbrev pub IsShortLine : ℕ → List ℕ → Type 0
 IsShortLine n text = IsLineAt n text × (n ≤ 4096) × (take n text ≡ without_cr (take n text))
 
--- what a verb says of a text
+-- the verb is that of a text's beginning
 abbrev pub IsVerb : List ℕ → Verb → Type 0
 IsVerb text Load = FollowsIn (codes "load") text 5
 IsVerb text Store = FollowsIn (codes "store") text 6
@@ -47,7 +47,7 @@ IsDone acts e c page w c' page' w' added = (r : Reply) × acts c (Step e) r c' �
 abbrev pub IsAsked : {S : Type 0} → Acts S → Command → S → List ℕ → Outgoing → S → List ℕ → Outgoing → Bool → Type 0
 IsAsked acts k c page w c' page' w' added = (e : Event) × (k ≡ Ask (Step e)) × IsDone acts e c page w c' page' w' added
 
--- what has come of a line's command
+-- the outcome of a fast reading of a line's command
 abbrev pub IsQuick : {S : Type 0} → Acts S → Command → S → List ℕ → Outgoing → S → List ℕ → Outgoing → Quick → Type 0
 IsQuick acts k c page w c' page' w' No = (c' ≡ c) × (page' ≡ page) × (w' ≡ w)
 IsQuick acts k c page w c' page' w' Next = IsAsked acts k c page w c' page' w' true
@@ -59,6 +59,6 @@ IsPassed text No n = Unit {0}
 IsPassed text Next n = IsShortLine n text
 IsPassed text Fault n = IsShortLine n text
 
--- what has come of a text's first line
+-- the outcome of a fast reading of a text's first line
 abbrev pub IsQuickIn : {S : Type 0} → Acts S → List ℕ → S → List ℕ → Outgoing → S → List ℕ → Outgoing → Quick × ℕ → Type 0
 IsQuickIn acts text c page w c' page' w' r = IsPassed text r.0 r.1 × IsQuick acts (command_of_text (take r.1 text)) c page w c' page' w' r.0

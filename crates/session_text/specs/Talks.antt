@@ -1,4 +1,4 @@
--- Sessions: the lines that were read, and the texts that were written for them.
+-- Sessions: the lines that were read, and the texts written for them.
 use Rattle.std.specs.Prelude.{◌≡◌, ℕ, ◌+◌, ◌≤◌, ◌<◌, ◌⊎◌, true, false, List, [], ◌∷◌, ◌++◌, take, length, flat_map, codes, All, Option, Some, None}
 use Rattle.std.specs.Io.KnownBytes.{Keeps}
 use Rattle.dump_pump.specs.Outlets.{Outgoing}
@@ -44,6 +44,7 @@ pub record IsTalk {S : Type 0} (says : Says S) (bytes : List ℕ) (c : S) (rest 
 abbrev pub BeginsWith : List ℕ → List ℕ → Type 0
 BeginsWith l bytes = IsLine l × (more : List ℕ) × (bytes ≡ l ++ 10 ∷ more)
 
+-- bytes that begin with the line `end`
 abbrev pub IsQuit : List ℕ → Type 0
 IsQuit rest = (l : List ℕ) × BeginsWith l rest × (command_of l ≡ End)
 
@@ -53,13 +54,14 @@ IsBrokenOff begins text rest c w c' w' = (l : List ℕ) × (tail : List ℕ) × 
 
 -- ---- one line, and all whole lines of a buffer
 
+-- a line's command was answered, and the answer added to a page
 abbrev pub IsStep : {S : Type 0} → Says S → Says S → Command → S → List ℕ → Outgoing → S → List ℕ → Outgoing → Step → Type 0
 IsStep says begins k c page w c' page' w' Next = (text : List ℕ) × says k c text c' × IsAdded text page w page' w' true
 IsStep says begins k c page w c' page' w' Stop = (k ≡ End) × (c' ≡ c) × (page' ≡ page) × (w' ≡ w)
 IsStep says begins k c page w c' page' w' Long = ⊥
 IsStep says begins k c page w c' page' w' Fault = (text : List ℕ) × begins k c text c' × IsAdded text page w page' w' false
 
--- the page was empty before
+-- all whole lines of a buffer were answered up to a stop, over an empty page
 abbrev pub IsAnswered : {S : Type 0} → Says S → Says S → List ℕ → S → Outgoing → List ℕ → S → List ℕ → Outgoing → Step → Type 0
 IsAnswered says begins bytes c w rest c' page' w' Next = (text : List ℕ) × IsTalk says bytes c rest text c' × IsLine rest × IsAdded text [] w page' w' true
 IsAnswered says begins bytes c w rest c' page' w' Stop = (text : List ℕ) × IsTalk says bytes c rest text c' × IsQuit rest × IsAdded text [] w page' w' true
@@ -77,7 +79,8 @@ IsFirst says begins bytes c page w rest c' page' w' (Some Fault) = (l : List ℕ
 
 -- ---- endings
 
--- what an ending says of the bytes behind the last line that was answered, of the reader, and what it prints
+-- the condition of an ending on the bytes behind the last line that was answered and on the reader, and the line that it
+-- prints
 abbrev pub Closes : List ℕ → Incoming → Incoming → Ended → List ℕ → Type 0
 Closes rest a b Quit tail = IsQuit rest × (tail ≡ []) × (b.failures ≡ a.failures)
 Closes rest a b Eof tail = (rest ≡ []) × NothingLeft b × (tail ≡ []) × (b.failures ≡ a.failures)
@@ -127,6 +130,6 @@ IsServed says begins bytes a b c w c' w' ended =
     (rest : List ℕ) × (text : List ℕ) × (tail : List ℕ)
     × IsTalk says bytes c rest text c' × Closes rest a b ended tail × IsWritten (text ++ tail) w w' true
 
--- what `serve` does
+-- the effect of `serve`
 abbrev pub Serves : {S : Type 0} → Says S → Says S → Incoming → Incoming → S → Outgoing → S → Outgoing → Ended → Type 0
 Serves says begins a b c w c' w' ended = (bytes : List ℕ) × (b.taken ≡ a.taken ++ bytes) × Keeps (whole a) (whole b) × IsServed says begins bytes a b c w c' w' ended

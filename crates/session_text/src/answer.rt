@@ -29,7 +29,9 @@ use std::alloc::Global;
 /// Whether a session goes on after a line.
 #[derive(Clone, Copy, PartialEq, Eq, Debug)]
 pub enum Step {
+    /// The next line comes.
     Next,
+    /// The line is `end`.
     Quit,
     /// The line is too long.
     Long,
@@ -37,13 +39,14 @@ pub enum Step {
     Fault,
 }
 
+// Returns Next, or Fault if a write failed.
 fn next_unless(written: bool) -> Step
     ensures { result ≡ step_of written }
 {
     if written { Step::Next } else { Step::Fault }
 }
 
-/// Whether a reply prints no more than that an event was done.
+// Tells whether a reply prints no more than that an event was done.
 #[inline(always)]
 fn is_done(reply: &Reply) -> bool
     ensures { result ≡ true → reply.now ≡ Answered Done }
@@ -51,7 +54,7 @@ fn is_done(reply: &Reply) -> bool
     matches!(reply, Reply::Answered(Answer::Done))
 }
 
-/// Does an action, and adds its reply to a page.
+/// Does an action and adds its reply to a page. Returns false if a write failed.
 #[inline(always)]
 pub fn answer_action<O: Outlet, C: Commands>(
     action: Action,
@@ -71,7 +74,7 @@ pub fn answer_action<O: Outlet, C: Commands>(
     }
 }
 
-/// Adds a reply to a page, which is flushed each time that it is full.
+// Adds a reply to a page, which is flushed whenever it is full.
 #[inline(never)]
 fn write_other<O: Outlet>(page: &mut Page, writer: &mut O, reply: Reply) -> bool
     ensures { IsAdded (reply_text reply) page.old (O.seen writer.old) page.new (O.seen writer.new) result }
@@ -79,7 +82,7 @@ fn write_other<O: Outlet>(page: &mut Page, writer: &mut O, reply: Reply) -> bool
     write_reply(page, writer, &reply)
 }
 
-/// Adds the answer of one line to a page, which is flushed each time that it is full.
+// Adds the answer to a line without its CR to a page, which is flushed whenever it is full.
 #[inline(never)]
 fn answer_text<O: Outlet, C: Commands>(
     alloc: Global,
@@ -108,7 +111,7 @@ fn answer_text<O: Outlet, C: Commands>(
     }
 }
 
-/// Adds the answer of one line to a page, which is flushed each time that it is full.
+// Adds the answer to a line to a page, which is flushed whenever it is full.
 fn answer_line<O: Outlet, C: Commands>(
     alloc: Global,
     marks: &mut FieldMarks,
@@ -124,7 +127,8 @@ fn answer_line<O: Outlet, C: Commands>(
     answer_text(alloc, marks, without_cr(line), time, page, writer, commands)
 }
 
-/// Answers the first line of a buffer if it is whole. Its answer is added to a page, which is flushed each time that it is full.
+// Answers the first line of a buffer if it is whole, and adds the answer to a page, which is flushed whenever it is full.
+// Returns None if no line is whole.
 #[inline(never)]
 fn answer_first<O: Outlet, C: Commands>(
     alloc: Global,
@@ -156,8 +160,8 @@ fn answer_first<O: Outlet, C: Commands>(
     Some(Step::Next)
 }
 
-/// Answers the whole lines of a buffer, up to the first that is too long. Their answers are added to an empty page, which is
-/// flushed each time that it is full.
+/// Answers the whole lines of a buffer, up to the first that is too long, and adds their answers to an empty page, which is
+/// flushed whenever it is full.
 pub fn answer_lines<O: Outlet, C: Commands>(
     alloc: Global,
     marks: &mut FieldMarks,

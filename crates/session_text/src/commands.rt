@@ -1,10 +1,10 @@
-//! What acts on lines.
+//! Commands: the performers of a session's actions.
 ghost use Rattle.std.specs.Prelude.{◌≡◌};
 ghost use Rattle.session_text.specs.Local.{own_closed};
 
 use heap_trail::{Action, Machine, Reply};
 
-/// What acts on the lines of a session. Contracts see what an action may answer and leave.
+/// A performer of the actions of a session. Contracts see what an action may answer and leave.
 pub trait Commands {
     ghost use Rattle.heap_trail.specs.declared.Action.{Action};
     ghost use Rattle.heap_trail.specs.declared.Reply.{Reply};
@@ -12,13 +12,13 @@ pub trait Commands {
 
     ghost acts: { Self → Action → Reply → Self → Type 0 };
 
-    /// Does an action. A piece has at most 2^24 bytes.
+    /// Does an action and returns its reply. A piece has at most 2^24 bytes.
     fn act(&mut self, action: Action) -> Reply
         ensures acts { acts self.old action result self.new }
         ensures small { IsSmall result };
 }
 
-/// A machine of one's own, which acts on the lines of a session. No action changes which number was the first.
+/// A private machine, which acts on the lines of a session. No action changes `first_pin`.
 #[derive(Drop)]
 pub struct Local {
     /// The machine.

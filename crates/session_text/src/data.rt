@@ -7,10 +7,10 @@ use crate::page::Page;
 use crate::write::make_room;
 use dump_pump::Outlet;
 
-/// The most bytes of a data line's digits.
+// The largest number of bytes on a data line.
 const DATA_LIMIT: usize = 64;
 
-/// Adds a data line of at most 64 bytes.
+// Adds a data line of at most 64 bytes.
 fn add_data_line(page: &mut Page, bytes: &[u8])
     requires { (length page.old ≤ 8000) × (length bytes.now ≤ 64) }
     ensures { page.new ≡ page.old ++ data_line bytes.now }
@@ -20,7 +20,7 @@ fn add_data_line(page: &mut Page, bytes: &[u8])
     page.add(b"\n");
 }
 
-/// Adds the data lines of a piece to a page, which is flushed each time that it is full.
+/// Adds the data lines of a piece to a page, which is flushed whenever it is full. Returns false if a write failed.
 pub fn write_data<O: Outlet>(page: &mut Page, outlet: &mut O, bytes: &[u8]) -> bool
     ensures { IsAdded (data_lines bytes.now) page.old (O.seen outlet.old) page.new (O.seen outlet.new) result }
 {

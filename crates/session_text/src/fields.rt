@@ -10,8 +10,10 @@ use crate::words::{SPACE, Words, word_size};
 use heap_class::{Field, Fields, Kind, Name};
 use std::alloc::{AllocError, Global};
 
+// The byte between the name and the kind of a field.
 const COLON: u8 = b':';
 
+// All kinds of slots.
 const KINDS: [Kind; 9] = [
     Kind::Object,
     Kind::Boolean,
@@ -24,7 +26,7 @@ const KINDS: [Kind; 9] = [
     Kind::Long,
 ];
 
-/// How many bytes a field's name has, the field's kind, and how many bytes the whole word has.
+/// The size of a field's name, the field's kind, and the size of the whole word.
 #[derive(Clone, Copy)]
 pub struct FieldSize {
     pub name: usize,
@@ -32,7 +34,7 @@ pub struct FieldSize {
     pub whole: usize,
 }
 
-/// The kind of this name.
+// Returns the kind of this name.
 #[tactic(auto, unfolding(crate::specs::Grammar::kind_of))]
 fn kind_of(word: &[u8]) -> Option<Kind>
     ensures { result ≡ kind_of word.now }
@@ -45,7 +47,7 @@ fn kind_of(word: &[u8]) -> Option<Kind>
     None
 }
 
-/// The kind that the text's first word names, and the bytes of that word.
+/// Returns the kind that the text's first word names, and the size of that word. Returns None if it names none.
 pub fn kind_at(text: &[u8]) -> Option<(Kind, usize)>
     ensures value { result ≡ with_size text.now (kind_of (first_word text.now)) }
     ensures within { IfSome result (λ r. r.1 ≤ length text.now) }
@@ -56,14 +58,14 @@ pub fn kind_at(text: &[u8]) -> Option<(Kind, usize)>
     Some((kind, size))
 }
 
-/// Where the first byte stands that no word of a good line has.
+// Returns the place of the first byte that no word of a good line has.
 fn first_bad(text: &[u8]) -> Option<usize>
     ensures { result ≡ position (λ b. not (is_ascii_graphic b)) text.now }
 {
     text.iter().position(|b| !b.is_ascii_graphic())
 }
 
-/// Where the good bytes end that the text begins with.
+// Returns the number of good bytes that the text begins with.
 fn name_end(text: &[u8]) -> usize
     ensures value { result ≡ position_or_len (λ b. not (is_ascii_graphic b)) text.now }
     ensures within { result ≤ length text.now }
@@ -71,7 +73,7 @@ fn name_end(text: &[u8]) -> usize
     first_bad(text).unwrap_or(text.len())
 }
 
-/// The bytes of the text's first word. None where one of them is bad.
+/// Returns the size of the text's first word, or None if one of its bytes is bad.
 pub fn name_at(text: &[u8]) -> Option<usize>
     ensures value { result ≡ name_at text.now }
     ensures within { IfSome result (λ n. n ≤ length text.now) }
@@ -83,7 +85,7 @@ pub fn name_at(text: &[u8]) -> Option<usize>
     Some(size)
 }
 
-/// Where the first byte stands that no field's name has.
+// Returns the place of the first byte that no field's name has.
 fn colon_or_end(text: &[u8]) -> Option<usize>
     ensures value { result ≡ position (λ b. b == 58 || not (is_ascii_graphic b)) text.now }
     ensures within { IfSome result (λ n. n < length text.now) }
@@ -92,8 +94,8 @@ fn colon_or_end(text: &[u8]) -> Option<usize>
         .position(|b| *b == COLON || !b.is_ascii_graphic())
 }
 
-/// The field NAME:KIND that the text's first word is. None where one of its bytes is bad. The name ends at the first colon: no
-/// kind's word has one.
+/// Returns the sizes and the kind of the field NAME:KIND that the text begins with, or None if its first word is no field or
+/// has a bad byte. The name ends at the first colon: no kind's word has one.
 pub fn field_at(text: &[u8]) -> Option<FieldSize>
     ensures value { option_map (λ f. (record { name = take f.name text.now; kind = f.kind }, f.whole)) result ≡ with_size text.now (plain_field (first_word text.now)) }
     ensures within { IfSome result (λ f. f.whole ≤ length text.now) }
@@ -111,7 +113,8 @@ pub fn field_at(text: &[u8]) -> Option<FieldSize>
     })
 }
 
-/// Reads all words that are left as fields, which stand in what isn't read yet. False where one of them is none.
+/// Reads all words that are left as fields, and marks their places in the text that isn't read yet. Returns false if one of
+/// them is no field.
 pub fn read_fields(mut words: Words, marks: &mut FieldMarks) -> bool
     requires { length words ≤ 4096 }
     ensures { MatchBool result ((plain_fields (words_of words.entry) ≡ Some (map (field_of_mark words.entry) marks.new)) × AreWithin words.entry marks.new) (plain_fields (words_of words.entry) ≡ None) }
@@ -132,7 +135,7 @@ pub fn read_fields(mut words: Words, marks: &mut FieldMarks) -> bool
     true
 }
 
-/// A copy of a field of this text.
+// Returns a copy of a field of this text. Fails if the allocation fails.
 fn copied(alloc: Global, text: &[u8], mark: &FieldMark) -> Result<Field, AllocError>
     requires { mark.now.start + mark.now.size ≤ length text.now }
     ensures { IfOk result (λ f. f ≡ field_of_mark text.now mark.now) }
@@ -144,7 +147,7 @@ fn copied(alloc: Global, text: &[u8], mark: &FieldMark) -> Result<Field, AllocEr
     })
 }
 
-/// Copies of the fields of this text.
+/// Returns copies of the fields of this text. Fails if an allocation fails.
 pub fn copied_all(alloc: Global, text: &[u8], marks: &[FieldMark]) -> Result<Fields, AllocError>
     requires { AreWithin text.now marks.now }
     ensures { IfOk result (λ fs. fs ≡ map (field_of_mark text.now) marks.now) }

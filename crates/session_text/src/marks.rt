@@ -1,14 +1,14 @@
-//! Where the fields of a line stand in it.
+//! The places of a line's fields.
 ghost use Rattle.std.specs.Prelude.{◌≡◌, ◌<◌, ◌++◌, [], ◌∷◌, length, IfOk};
 
 use heap_class::Kind;
 use std::alloc::{AllocError, Global};
 use std::marker::Model;
 
-/// Room enough for any line: a field has 4 bytes or more, a line at most 4,096.
+// The largest number of fields of a line: a field has 4 bytes or more, a line at most 4,096.
 const MARK_ROOM: usize = 1024;
 
-/// Where a field's name begins, how many bytes it has, and the field's kind.
+/// The place of a field's name, its size, and the field's kind.
 #[derive(Clone, Copy)]
 pub struct FieldMark {
     pub start: usize,
@@ -16,8 +16,8 @@ pub struct FieldMark {
     pub kind: Kind,
 }
 
-/// The fields of a line, none of them copied. It takes its memory when it is made, so that no line takes any before all its
-/// fields are known to be good. Contracts see the list.
+/// The fields of a line, none of them copied. All memory is allocated when the list is made, so that no line allocates before
+/// all its fields are known to be good. Contracts see the list.
 #[derive(Drop)]
 pub struct FieldMarks {
     marks: Vec<FieldMark>,
@@ -35,7 +35,7 @@ impl Model for FieldMarks {
 }
 
 impl FieldMarks {
-    /// No fields.
+    /// Creates an empty list with room for the fields of any line. Fails if the allocation fails.
     pub fn new(alloc: Global) -> Result<FieldMarks, AllocError>
         ensures { IfOk result (λ m. m ≡ []) }
     {
@@ -44,7 +44,7 @@ impl FieldMarks {
         })
     }
 
-    /// The fields.
+    /// Returns the fields.
     pub fn as_slice(&self) -> &[FieldMark]
         ensures { result.now ≡ self.now }
     {

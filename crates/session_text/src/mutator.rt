@@ -1,4 +1,4 @@
-//! The lines of mutators, read in one pass, in which their end is found, and answered at once.
+//! A fast reading of mutators' lines, in one pass that finds their end too.
 ghost use Rattle.std.specs.Prelude.{◌≡◌, ◌≤◌, Some, codes, length, take, drop, IfSome};
 ghost use Rattle.heap_trail.specs.declared.Action.TheVariants.{Step};
 ghost use Rattle.session_text.specs.declared.command.Command.TheVariants.{Ask};
@@ -16,31 +16,39 @@ use dump_pump::Outlet;
 use heap_step::Event;
 use heap_trail::Action;
 
-/// What a line begins with, if it may be answered at once.
+// The beginning of a line that may be answered at once.
 #[derive(Clone, Copy, PartialEq, Eq, Debug)]
 enum Verb {
+    // `load `.
     Load,
+    // `store `.
     Store,
+    // `put `.
     Put,
+    // `move `.
     Move,
+    // `clear `.
     Clear,
+    // `new `.
     New,
+    // The whole line `mark`.
     Mark,
+    // Any other.
     Other,
 }
 
-/// What has come of a text's first line.
+/// The outcome of a fast reading of a text's first line.
 #[derive(Clone, Copy, PartialEq, Eq, Debug)]
 pub enum Quick {
-    /// Nothing. It is read as any other, if it is whole.
+    /// The line wasn't answered. It is read as any other, if it is whole.
     No,
-    /// It was answered.
+    /// The line was answered.
     Next,
-    /// A write failed in its answer.
+    /// A write failed in the line's answer.
     Fault,
 }
 
-/// The keyword that a text begins with.
+// Returns the keyword that a text begins with.
 #[inline(always)]
 #[tactic(auto, using(crate::proofs::Mutating::load_in, crate::proofs::Mutating::store_in, crate::proofs::Mutating::put_in, crate::proofs::Mutating::move_in, crate::proofs::Mutating::clear_in, crate::proofs::Mutating::new_in, crate::proofs::Mutating::mark_in))]
 fn verb_of(text: &[u8]) -> Verb
@@ -58,7 +66,7 @@ fn verb_of(text: &[u8]) -> Verb
     }
 }
 
-/// The two numbers that the first line of a text has from a place on, and where it ends.
+// Returns the two numbers that the first line of a text has from a place on, and the line's end, or None if it has others.
 #[inline(always)]
 fn two_in(text: &[u8], at: usize) -> Option<(u64, u64, usize)>
     requires { (at ≤ 6) × (at ≤ length text.now) × NoLf (take at text.now) }
@@ -73,7 +81,7 @@ fn two_in(text: &[u8], at: usize) -> Option<(u64, u64, usize)>
     Some((a, b, end))
 }
 
-/// The three numbers that the first line of a text has from a place on, and where it ends.
+// Returns the three numbers that the first line of a text has from a place on, and the line's end, or None if it has others.
 #[inline(always)]
 fn three_in(text: &[u8], at: usize) -> Option<(u64, u64, u64, usize)>
     requires { (at ≤ 6) × (at ≤ length text.now) × NoLf (take at text.now) }
@@ -89,7 +97,7 @@ fn three_in(text: &[u8], at: usize) -> Option<(u64, u64, u64, usize)>
     Some((a, b, c, end))
 }
 
-/// The four numbers that the first line of a text has from a place on, and where it ends.
+// Returns the four numbers that the first line of a text has from a place on, and the line's end, or None if it has others.
 #[inline(always)]
 fn four_in(text: &[u8], at: usize) -> Option<(u64, u64, u64, u64, usize)>
     requires { (at ≤ 6) × (at ≤ length text.now) × NoLf (take at text.now) }
@@ -106,7 +114,7 @@ fn four_in(text: &[u8], at: usize) -> Option<(u64, u64, u64, u64, usize)>
     Some((a, b, c, d, end))
 }
 
-/// Does an event and adds its reply.
+// Does an event and adds its reply.
 #[inline(always)]
 fn answer_event<O: Outlet, C: Commands>(
     event: Event,
@@ -125,7 +133,7 @@ fn answer_event<O: Outlet, C: Commands>(
     }
 }
 
-/// `load M TO FROM SLOT`.
+// Answers `load M TO FROM SLOT`.
 #[inline(never)]
 fn answer_load<O: Outlet, C: Commands>(
     text: &[u8],
@@ -149,7 +157,7 @@ fn answer_load<O: Outlet, C: Commands>(
     (quick, n)
 }
 
-/// `store M TARGET SLOT SOURCE`.
+// Answers `store M TARGET SLOT SOURCE`.
 #[inline(never)]
 fn answer_store<O: Outlet, C: Commands>(
     text: &[u8],
@@ -178,7 +186,7 @@ fn answer_store<O: Outlet, C: Commands>(
     (quick, n)
 }
 
-/// `put M TARGET SLOT VALUE`.
+// Answers `put M TARGET SLOT VALUE`.
 #[inline(never)]
 fn answer_put<O: Outlet, C: Commands>(
     text: &[u8],
@@ -207,7 +215,7 @@ fn answer_put<O: Outlet, C: Commands>(
     (quick, n)
 }
 
-/// `move M TO FROM_M FROM`.
+// Answers `move M TO FROM_M FROM`.
 #[inline(never)]
 fn answer_move<O: Outlet, C: Commands>(
     text: &[u8],
@@ -236,7 +244,7 @@ fn answer_move<O: Outlet, C: Commands>(
     (quick, n)
 }
 
-/// `clear M R`.
+// Answers `clear M R`.
 #[inline(never)]
 fn answer_clear<O: Outlet, C: Commands>(
     text: &[u8],
@@ -254,7 +262,7 @@ fn answer_clear<O: Outlet, C: Commands>(
     (quick, n)
 }
 
-/// `new M R CLASS`.
+// Answers `new M R CLASS`.
 #[inline(never)]
 fn answer_new<O: Outlet, C: Commands>(
     text: &[u8],
@@ -278,7 +286,7 @@ fn answer_new<O: Outlet, C: Commands>(
     (quick, n)
 }
 
-/// `mark`.
+// Answers `mark`.
 #[inline(never)]
 fn answer_mark<O: Outlet, C: Commands>(
     text: &[u8],
@@ -293,8 +301,8 @@ fn answer_mark<O: Outlet, C: Commands>(
     (quick, 4)
 }
 
-/// Answers the first line of a text at once, if it is one of a mutator or `mark`, in the shortest form: single spaces, none at
-/// the end. Returns where that line ends, too.
+/// Answers the first line of a text at once, if it is one of a mutator or `mark`, in the shortest form: single spaces, none
+/// at the end. Returns the line's end, too.
 #[inline(always)]
 pub fn answer_mutator<O: Outlet, C: Commands>(
     text: &[u8],

@@ -1,4 +1,4 @@
-//! Text on its way out.
+//! Pages: text that isn't written yet.
 ghost use Rattle.std.specs.Prelude.{◌≡◌, ◌+◌, ◌*◌, ◌≤◌, ◌++◌, [], ◌∷◌, take, decimal, length, IfOk};
 ghost use Rattle.hex.specs.Hex.{encode_lower};
 ghost use Rattle.session_text.specs.Replies.{and_number};
@@ -7,10 +7,10 @@ use crate::digits::write_digits;
 use std::alloc::{AllocError, Global};
 use std::marker::Model;
 
-/// The most bytes of a page.
+/// The largest number of bytes of a page.
 pub const PAGE_LIMIT: usize = 8192;
 
-/// Text that isn't written yet. It takes its memory when it is made. Contracts see the bytes.
+/// Text that isn't written yet. All memory is allocated when the page is made. Contracts see the bytes.
 #[derive(Drop)]
 pub struct Page {
     bytes: Vec<u8>,
@@ -28,7 +28,7 @@ impl Model for Page {
 }
 
 impl Page {
-    /// An empty page.
+    /// Creates an empty page. Fails if the allocation fails.
     pub fn new(alloc: Global) -> Result<Page, AllocError>
         ensures { IfOk result (λ p. p ≡ []) }
     {
@@ -38,7 +38,7 @@ impl Page {
         })
     }
 
-    /// The bytes.
+    /// Returns the bytes.
     pub fn as_slice(&self) -> &[u8]
         ensures value { result.now ≡ self.now }
         ensures most { length self.now ≤ 8192 }
@@ -53,7 +53,7 @@ impl Page {
         self.used = 0;
     }
 
-    /// Adds a text.
+    /// Adds a text, for which there must be room.
     pub fn add(&mut self, text: &[u8])
         requires { length self.old + length text.now ≤ 8192 }
         ensures { self.new ≡ self.old ++ text.now }
@@ -62,7 +62,7 @@ impl Page {
         self.used += text.len();
     }
 
-    /// Adds the lower-case hexadecimal digits of some bytes.
+    /// Adds the lower-case hexadecimal digits of some bytes, for which there must be room.
     pub fn add_hex(&mut self, given: &[u8])
         requires { length self.old + 2 * length given.now ≤ 8192 }
         ensures { self.new ≡ self.old ++ encode_lower given.now }
@@ -82,7 +82,7 @@ impl Page {
     }
 }
 
-/// Writes a text behind the bytes before a place.
+// Writes a text behind the bytes before a place.
 fn place(bytes: &mut [u8], at: usize, text: &[u8])
     requires { at + length text.now ≤ length bytes.old }
     ensures { take (at + length text.now) bytes.new ≡ take at bytes.old ++ text.now }
@@ -90,7 +90,7 @@ fn place(bytes: &mut [u8], at: usize, text: &[u8])
     bytes[at..at + text.len()].copy_from_slice(text);
 }
 
-/// Writes hexadecimal digits behind the bytes before a place.
+// Writes hexadecimal digits behind the bytes before a place.
 fn place_hex(bytes: &mut [u8], at: usize, given: &[u8])
     requires { at + 2 * length given.now ≤ length bytes.old }
     ensures { take (at + 2 * length given.now) bytes.new ≡ take at bytes.old ++ encode_lower given.now }

@@ -16,7 +16,7 @@ use crate::{Ended, READ_LIMIT};
 use dump_pump::Outlet;
 use std::alloc::Global;
 
-/// Puts out a page and an ending's line.
+// Puts out a page and the line of an ending.
 fn end_with<O: Outlet>(page: &mut Page, outlet: &mut O, ended: Ended, line: &[u8]) -> Ended
     requires { length line.now ≤ 192 }
     ensures { EndsWith line.now page.old (O.seen outlet.old) (O.seen outlet.new) ended result }
@@ -30,6 +30,7 @@ fn end_with<O: Outlet>(page: &mut Page, outlet: &mut O, ended: Ended, line: &[u8
     ended
 }
 
+// Reads and answers lines until an ending, with an empty buffer and an empty page.
 fn talk<I: Inlet, O: Outlet, C: Commands>(
     alloc: Global,
     marks: &mut FieldMarks,
@@ -40,8 +41,7 @@ fn talk<I: Inlet, O: Outlet, C: Commands>(
     writer: &mut O,
     commands: &mut C,
 ) -> Ended
-    requires buffer { buffer.old ≡ [] }
-    requires page { page.old ≡ [] }
+    requires { (buffer.old ≡ []) × (page.old ≡ []) }
     ensures { Serves (Answers C.acts time) (Begins C.acts time) (I.seen reader.old) (I.seen reader.new) commands.old (O.seen writer.old) commands.new (O.seen writer.new) result }
 {
     let mut reads: u64 = 0;
@@ -72,11 +72,15 @@ fn talk<I: Inlet, O: Outlet, C: Commands>(
     }
 }
 
-/// Reads lines, and writes the answers of the commands in order, until an ending. In which chunks bytes come and go doesn't
-/// show. Answers wait in a page, which is put out when it is full, before each read and at the end. After a write that failed
-/// nothing more is read and no line is acted on: a beginning of the answers to the lines that were acted on, and of what the
-/// ending prints, is out, in which all answers to lines that were whole before the last read are. A dump then asks for no more
-/// pieces, and one of the current state closes its pin. `time`, in milliseconds, stands in the header of each dump.
+/// Reads lines and writes the answers of the commands, in order, until an ending. The sizes of single reads and writes don't
+/// show. Answers wait in a page, which is put out when it is full, before each read and at the end.
+///
+/// After a write that failed nothing more is read and no line is acted on. What is out is then a beginning of the answers to
+/// the lines that were acted on and of the line of the ending, with all answers to lines that were whole before the last
+/// read. A dump asks for no more pieces, and one of the current state closes its pin.
+///
+/// `time`, in milliseconds, stands in the header of each dump. Fails with NoMemory, before the first read, if an allocation
+/// for the session fails.
 pub fn serve<I: Inlet, O: Outlet, C: Commands>(
     alloc: Global,
     reader: &mut I,
@@ -104,11 +108,12 @@ pub fn serve<I: Inlet, O: Outlet, C: Commands>(
     }
 }
 
-/// A session of a machine of one's own: `serve`, where what is written and the machine afterwards are a function of the
-/// bytes read, of where memory was refused and of how reading ended. After a write that failed a beginning of that is
-/// written, and the machine is that after some of the lines; of the text up to their answers something is missing. If the last
-/// of them is a dump, it may have been acted on up to some piece. The bytes read are those that the reader tells, if it tells
-/// them.
+/// Serves a session of a private machine as `serve` does. The output and the machine afterwards are a function of the bytes
+/// read, of which allocations failed, and of how reading ended.
+///
+/// After a write that failed a beginning of that output is written, and the machine is that after some of the lines; a part
+/// of the text up to their answers is missing. If the last of these lines is a dump, it may have been acted on up to some
+/// piece. The bytes read are those that the reader tells, if it tells them.
 pub fn serve_local<I: Inlet, O: Outlet>(
     alloc: Global,
     reader: &mut I,

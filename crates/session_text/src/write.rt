@@ -1,28 +1,23 @@
-//! Writing.
+//! The writing of a page.
 ghost use Rattle.std.specs.Prelude.{◌≡◌, ◌≤◌, [], length};
 ghost use Rattle.session_text.specs.Writes.{IsWritten, IsAdded};
 
 use crate::page::Page;
-use dump_pump::{Outlet, Put};
+use dump_pump::Outlet;
+use dump_pump::transfer::put_all;
 
-/// The most bytes of a page to which a line is added.
+// The largest number of bytes of a page that has room for one more line.
 const LINE_START: usize = 8000;
 
-/// Puts out all bytes, unless a write fails.
+/// Puts out all bytes. Returns false if a put failed.
+#[tactic(auto, using(crate::proofs::Written::put_whole, crate::proofs::Written::put_part))]
 pub fn write_all<O: Outlet>(outlet: &mut O, bytes: &[u8]) -> bool
     ensures { IsWritten bytes.now (O.seen outlet.old) (O.seen outlet.new) result }
 {
-    let mut at = 0;
-    while at < bytes.len() {
-        match outlet.put(&bytes[at..]) {
-            Put::Took(n) => at += n,
-            Put::Failed => return false,
-        }
-    }
-    true
+    put_all(outlet, bytes) >= bytes.len()
 }
 
-/// Puts out a page, which is empty afterwards.
+/// Puts out a page, which is empty afterwards. Returns false if a put failed.
 pub fn flush<O: Outlet>(page: &mut Page, outlet: &mut O) -> bool
     ensures added { IsAdded [] page.old (O.seen outlet.old) page.new (O.seen outlet.new) result }
     ensures empty { page.new ≡ [] }
@@ -32,7 +27,7 @@ pub fn flush<O: Outlet>(page: &mut Page, outlet: &mut O) -> bool
     written
 }
 
-/// Flushes a page unless it has room for one more line.
+/// Flushes a page unless it has room for one more line. Returns false if a put failed.
 pub fn make_room<O: Outlet>(page: &mut Page, outlet: &mut O) -> bool
     ensures added { IsAdded [] page.old (O.seen outlet.old) page.new (O.seen outlet.new) result }
     ensures room { length page.new ≤ 8000 }
@@ -43,7 +38,7 @@ pub fn make_room<O: Outlet>(page: &mut Page, outlet: &mut O) -> bool
     flush(page, outlet)
 }
 
-/// Adds a short text to a page, which is flushed first unless it has room for one more line.
+/// Adds a short text to a page, which is flushed first unless it has room for one more line. Returns false if a put failed.
 pub fn write_text<O: Outlet>(page: &mut Page, outlet: &mut O, text: &[u8]) -> bool
     requires { length text.now ≤ 192 }
     ensures { IsAdded text.now page.old (O.seen outlet.old) page.new (O.seen outlet.new) result }

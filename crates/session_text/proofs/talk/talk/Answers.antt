@@ -12,9 +12,9 @@ use Rattle.session_text.proofs.talk.talk.Goals as goal
 
 pub loop-page-init : goal.loop-page-init
 loop-page-init g c = (
-  c.requires.page,
-  open_none (Answers g.C.Commands.acts c.args.time) (g.I.Inlet.seen c.args.reader.now) c.args.buffer.now c.args.commands.now (g.O.Outlet.seen c.args.writer.now) c.requires.buffer,
-  inl (c.requires.buffer, refl),
+  c.requires.1,
+  open_none (Answers g.C.Commands.acts c.args.time) (g.I.Inlet.seen c.args.reader.now) c.args.buffer.now c.args.commands.now (g.O.Outlet.seen c.args.writer.now) c.requires.0,
+  inl (c.requires.0, refl),
 )
 
 pub returns-in-Fault : goal.returns-in-Fault

@@ -32,3 +32,5 @@ pub mod PinsKept
 pub mod Together
 pub mod Retracing
 pub mod PinOpened
+pub mod Lent
+pub mod Shown

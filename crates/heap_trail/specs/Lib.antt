@@ -9,3 +9,4 @@ pub mod Past
 pub mod Examples
 pub mod Opened
 pub mod Headline
+pub mod Views

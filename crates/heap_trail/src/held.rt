@@ -6,6 +6,7 @@ ghost use Rattle.heap_step.specs.declared.Event.{Event};
 ghost use Rattle.heap_step.specs.Laws.{IsStep};
 ghost use Rattle.heap_pins.specs.Kept.{touched};
 ghost use Rattle.heap_trail.specs.Slots.{CanGive, HasGiven, IsNext, IsSized, IsWithin, MayCount, MayKeep, RefusesPiece, held_advanced, is_settled, slot_after_rewind};
+ghost use Rattle.heap_trail.specs.Views.{CanShow, IsViewBeside, RefusesView};
 
 use heap_class::{IdSize, LostCause, Refusal};
 use heap_pins::{Pin, PinView};
@@ -96,6 +97,18 @@ impl Slot {
         };
         if lost {
             self.held = Held::Lost(LostCause::Rewound);
+        }
+    }
+
+    // Returns the view of the pin beside the current state. Fails with Lost and its cause if the pin is lost.
+    pub(crate) fn view<'a>(&'a self, world: &'a World, ids: IdSize) -> Result<PinView<'a>, Refusal>
+        requires { CanShow world.now self.now.held }
+        ensures view { IfOk result (λ v. IsViewBeside ids world.now self.now.held v) }
+        ensures refused { IfErr result (λ e. RefusesView self.now.held e) }
+    {
+        match &self.held {
+            Held::Kept { pin, .. } => Ok(PinView::new(pin, world, ids)),
+            Held::Lost(cause) => Err(Refusal::Lost { cause: *cause }),
         }
     }
 

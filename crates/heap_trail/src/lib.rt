@@ -26,6 +26,8 @@ mod held;
 mod numbers;
 mod opening;
 mod pins;
+mod records;
+mod views;
 
 use circular_buffer::HeapCircularBuffer;
 pub use examples::worked_examples;

@@ -1,0 +1,10 @@
+pub mod Got
+pub mod Placed
+pub mod Searching
+pub mod Traced
+pub mod Counting
+pub mod Passing
+pub mod Looking
+pub mod Halving
+pub mod Reaching
+pub mod Named

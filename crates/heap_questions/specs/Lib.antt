@@ -1,0 +1,7 @@
+pub mod Histogram
+pub mod Growth
+pub mod Graph
+pub mod Referrers
+pub mod Search
+pub mod Garbage
+pub mod Registers

@@ -21,7 +21,8 @@ IsCancel c views = (c ≡ 0) ⊎ ((c ≡ 1) × ((asker : ℕ) × (get_elem? view
 abbrev pub IsMeter : List ℕ → List View → Type 0
 IsMeter words views =
     (out : ℕ) × (length words ≡ 2) × (get_elem? views out ≡ some (Out (slice_index words 0)))
-    × ((seat : ℕ) (v : View) → get_elem? views seat ≡ some v → Sits out (slice_index words 0) (slice_index words 1) seat v)
+    × ((seat : ℕ) (v : View) → get_elem? views seat ≡ some v
+    → Sits out (slice_index words 0) (slice_index words 1) seat v)
     × IsCancel (slice_index words 1) views
 
 -- a seat with its knowledge

@@ -30,16 +30,20 @@ IsAhead told s (Some x) = IsNext (supply_at told x.left) s x.next × (x.left ≤
 
 -- there are parts left
 abbrev pub IsReady : Supply → Option Surplus → Type 0
-IsReady s surplus = (told : Option (List Piece)) × IsAhead told s surplus × (0 < left_of surplus s.left)
+IsReady s surplus =
+    (told : Option (List Piece)) × IsAhead told s surplus × (0 < left_of surplus s.left)
 
 -- the surplus was taken, or else the next answer of the source
 abbrev pub IsDrawn : Supply → Supply → Option Surplus → Next → Type 0
-IsDrawn a b surplus r = (told : Option (List Piece)) → IsAhead told a surplus → IsNext (supply_at told (left_of surplus a.left)) b r
+IsDrawn a b surplus r =
+    (told : Option (List Piece)) → IsAhead told a surplus
+    → IsNext (supply_at told (left_of surplus a.left)) b r
 
 -- ---- a page
 
 -- the rest of a source after a page
-pub record IsLeft (told : Option (List Piece)) (most : ℕ) (b : Supply) (surplus : Option Surplus) (last : Bool) : Type 0 where
+pub record IsLeft (told : Option (List Piece)) (most : ℕ) (b : Supply) (surplus : Option Surplus)
+    (last : Bool) : Type 0 where
   pub ahead : IsAhead told b surplus
   pub less : left_of surplus b.left ≤ most
   pub some : last ≡ false → 0 < left_of surplus b.left
@@ -48,12 +52,14 @@ pub record IsLeft (told : Option (List Piece)) (most : ℕ) (b : Supply) (surplu
 -- a part was appended to a page, or nothing
 abbrev pub IsAppended : List ℕ → List ℕ → Next → Option Bool → Type 0
 IsAppended page page' next None = page' ≡ page
-IsAppended page page' (Part p) (Some last) = (page' ≡ page ++ p.bytes) × (length page' ≤ page_room) × (last ≡ p.last)
+IsAppended page page' (Part p) (Some last) =
+    (page' ≡ page ++ p.bytes) × (length page' ≤ page_room) × (last ≡ p.last)
 IsAppended page page' (Lost cause) (Some last) = ⊥
 IsAppended page page' Cancelled (Some last) = ⊥
 
 -- parts of a source were appended to a page
-pub record IsFilled (a b : Supply) (page page' : List ℕ) (surplus : Option Surplus) (last : Bool) : Type 0 where
+pub record IsFilled (a b : Supply) (page page' : List ℕ) (surplus : Option Surplus)
+    (last : Bool) : Type 0 where
   pub parts : List Piece
   pub bytes : page' ≡ page ++ joined parts
   pub room : length page' ≤ page_room
@@ -71,18 +77,24 @@ pub record IsPage (a b : Supply) (first page : Piece) (surplus : Option Surplus)
 -- the next page fits its parts, or the reason why there is none fits the end of the source
 abbrev pub Says : List Piece → ℕ → Supply → Option Surplus → Next → Type 0
 Says parts left b surplus (Part page) =
-    (page.bytes ≡ joined parts) × (page.last ≡ ends parts) × (0 < length parts) × (length page.bytes ≤ part_size_limit)
+    (page.bytes ≡ joined parts) × (page.last ≡ ends parts) × (0 < length parts)
+    × (length page.bytes ≤ part_size_limit)
     × (left_of surplus b.left < left) × (page.last ≡ false → 0 < left_of surplus b.left)
     × (page.last ≡ true → (surplus ≡ None) × (b.ended ≡ Some End.Whole))
-Says parts left b surplus (Lost cause) = (parts ≡ []) × (surplus ≡ None) × (b.ended ≡ Some (End.Lost cause))
-Says parts left b surplus Cancelled = (parts ≡ []) × (surplus ≡ None) × (b.ended ≡ Some End.Cancelled)
+Says parts left b surplus (Lost cause) =
+    (parts ≡ []) × (surplus ≡ None) × (b.ended ≡ Some (End.Lost cause))
+Says parts left b surplus Cancelled =
+    (parts ≡ []) × (surplus ≡ None) × (b.ended ≡ Some End.Cancelled)
 
 -- the next page of a source that told these parts and has this number left
-pub record Pages (told : Option (List Piece)) (left : ℕ) (b : Supply) (surplus : Option Surplus) (r : Next) : Type 0 where
+pub record Pages (told : Option (List Piece)) (left : ℕ) (b : Supply) (surplus : Option Surplus)
+    (r : Next) : Type 0 where
   pub parts : List Piece
   pub ahead : IsAhead (more told parts) b surplus
   pub says : Says parts left b surplus r
 
 -- the next page, whatever parts the source told
 abbrev pub IsPaged : Supply → Supply → Option Surplus → Option Surplus → Next → Type 0
-IsPaged a b surplus surplus' r = (told : Option (List Piece)) → IsAhead told a surplus → Pages told (left_of surplus a.left) b surplus' r
+IsPaged a b surplus surplus' r =
+    (told : Option (List Piece)) → IsAhead told a surplus
+    → Pages told (left_of surplus a.left) b surplus' r

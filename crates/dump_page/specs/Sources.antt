@@ -23,7 +23,8 @@ unpaged source = record { source = source; given = []; ended = None; surplus = N
 
 -- the supply by pages of a source that has this number of parts left
 abbrev pub paged_supply : List Piece → Option Ending → Option Surplus → ℕ → Supply
-paged_supply given ended surplus left = record { told = Some given; ended = ended; left = left_of surplus left }
+paged_supply given ended surplus left =
+    record { told = Some given; ended = ended; left = left_of surplus left }
 
 -- the pages of a ledger
 abbrev pub pages_in : List (Piece × Unit {0}) → List Piece
@@ -47,7 +48,8 @@ EndsAs s surplus None = Unit {0}
 EndsAs s surplus (Some e) = (surplus ≡ None) × (s.ended ≡ Some e)
 
 -- the pages that were given are the parts, joined, that the source told since it had told `start`, but for the surplus
-pub record ArePages (start : Option (List Piece)) (s : Supply) (given : List Piece) (ended : Option Ending) (surplus : Option Surplus) : Type 0 where
+pub record ArePages (start : Option (List Piece)) (s : Supply) (given : List Piece)
+    (ended : Option Ending) (surplus : Option Surplus) : Type 0 where
   pub parts : List Piece
   pub same : joined parts ≡ joined given
   pub ends : ends parts ≡ ends given

@@ -41,9 +41,16 @@ impl<S: Source, B: Start> Model for PagedSource<S, B> {
 
     ghost Value = { Paging S };
 
-    ghost view = { λ p. record { source = p.source; given = pages_in p.given.items; ended = p.ended; surplus = p.surplus } };
+    ghost view = { λ p.
+        record {
+          source = p.source;
+          given = pages_in p.given.items;
+          ended = p.ended;
+          surplus = p.surplus;
+        } };
 
-    ghost invariant = { λ p. ArePages B.told (S.seen p.source) (pages_in p.given.items) p.ended p.surplus };
+    ghost invariant = { λ p. ArePages B.told (S.seen p.source) (pages_in p.given.items) p.ended
+        p.surplus };
 }
 
 // Notes a page that was given. Returns how the source ended, if it did.

@@ -26,7 +26,8 @@ fn stream_by<S: Source + Send, O: Outlet, B: Start + Send, R: Threads + Wait + S
     requires start { (S.seen source).told ≡ B.told }
     requires meter { seat.old.meter ≡ progress.now }
     requires room { seat.old.sum + byte_limit < 2 ^ 64 }
-    ensures streamed { IsStreamed (S.seen source) (S.seen result.1) (O.seen outlet.old) (O.seen outlet.new) result.0 }
+    ensures streamed { IsStreamed (S.seen source) (S.seen result.1) (O.seen outlet.old)
+        (O.seen outlet.new) result.0 }
     ensures kept { S.kept result.1 ≡ S.kept source }
     ensures meter { seat.new.meter ≡ progress.now }
     ensures counted { seat.new.sum ≡ seat.old.sum + bytes_of result.0 }
@@ -51,7 +52,8 @@ pub fn stream_paged<S: Source + Send, O: Outlet, R: Threads + Wait + Sync>(
     requires left { 0 < (S.seen source).left }
     requires meter { seat.old.meter ≡ progress.now }
     requires room { seat.old.sum + byte_limit < 2 ^ 64 }
-    ensures streamed { IsStreamed (S.seen source) (S.seen result.1) (O.seen outlet.old) (O.seen outlet.new) result.0 }
+    ensures streamed { IsStreamed (S.seen source) (S.seen result.1) (O.seen outlet.old)
+        (O.seen outlet.new) result.0 }
     ensures kept { S.kept result.1 ≡ S.kept source }
     ensures meter { seat.new.meter ≡ progress.now }
     ensures counted { seat.new.sum ≡ seat.old.sum + bytes_of result.0 }

@@ -60,7 +60,8 @@ both_of v w = Both (list_of v) (list_of w)
 
 -- the rule for one end, if `sent` was sent and `got` was received
 abbrev pub Sits : ℕ → ℕ → List Message → List Message → ℕ → View → Type 0
-Sits sender receiver sent got seat (Both xs ys) = (seat ≡ sender) × (seat ≡ receiver) × (xs ≡ sent) × (ys ≡ got)
+Sits sender receiver sent got seat (Both xs ys) =
+    (seat ≡ sender) × (seat ≡ receiver) × (xs ≡ sent) × (ys ≡ got)
 Sits sender receiver sent got seat (Sends xs) = (seat ≡ sender) × (xs ≡ sent)
 Sits sender receiver sent got seat (Gets ys) = (seat ≡ receiver) × (ys ≡ got)
 Sits sender receiver sent got seat Spent = Unit {0}
@@ -68,7 +69,8 @@ Sits sender receiver sent got seat Spent = Unit {0}
 -- the messages received, and then those in the pipe, are those sent
 abbrev pub IsInOrder : List Message → List View → Type 0
 IsInOrder items views =
-    (sender receiver : ℕ) × (sent got : List Message) × (got ++ items ≡ sent) × (weigh sent ≤ byte_limit)
+    (sender receiver : ℕ) × (sent got : List Message) × (got ++ items ≡ sent)
+    × (weigh sent ≤ byte_limit)
     × ((seat : ℕ) (v : View) → get_elem? views seat ≡ some v → Sits sender receiver sent got seat v)
 
 -- one more message was sent

@@ -37,7 +37,8 @@ MayDrain v w w' None = (v ≡ Gets []) × (w' ≡ w)
 
 -- the pipe was drained of what was sent, or neither of its ends did anything
 abbrev pub MayStream : Supply → Supply → View → View → Outgoing → Outgoing → Option Pumped → Type 0
-MayStream a b v1 v2 w w' (Some r) = ((fed : Option Ending) × MayFeed a b v1 fed) × IsDrained [] v2 w w' r
+MayStream a b v1 v2 w w' (Some r) =
+    ((fed : Option Ending) × MayFeed a b v1 fed) × IsDrained [] v2 w w' r
 MayStream a b v1 v2 w w' None = (b ≡ a) × (w' ≡ w)
 
 -- the bytes that a drain put out, if there was one

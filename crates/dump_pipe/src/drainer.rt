@@ -54,7 +54,8 @@ pub fn drain_pipe<O: Outlet, R: Wait>(
     requires meter { seat.old.meter ≡ progress.now }
     requires room { seat.old.sum + byte_limit < 2 ^ 64 }
     ensures end { IsSeatAt (receives_on receiver.now) end.new }
-    ensures drained { IsDrained (list_of (view end.old)) (view end.new) (O.seen outlet.old) (O.seen outlet.new) result }
+    ensures drained { IsDrained (list_of (view end.old)) (view end.new) (O.seen outlet.old)
+        (O.seen outlet.new) result }
     ensures meter { seat.new.meter ≡ progress.now }
     ensures counted { seat.new.sum ≡ seat.old.sum + bytes_of result }
 {

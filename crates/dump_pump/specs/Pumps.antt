@@ -31,7 +31,8 @@ bytes_of (Cancelled n) = n
 abbrev pub PutsAll : List ℕ → Outgoing → Outgoing → ℕ → Type 0
 PutsAll bytes w w' n =
     (n ≤ length bytes) × (w'.out ≡ w.out ++ take n bytes)
-    × (n ≡ length bytes → w'.failures ≡ w.failures) × (n < length bytes → w'.failures ≡ w.failures + 1)
+    × (n ≡ length bytes → w'.failures ≡ w.failures)
+    × (n < length bytes → w'.failures ≡ w.failures + 1)
 
 -- an outcome fits the parts given, the bytes put out, the end of the source, and the failures before and after
 abbrev pub Fits : List Piece → List ℕ → Option Ending → ℕ → ℕ → Pumped → Type 0

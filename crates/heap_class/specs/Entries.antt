@@ -33,7 +33,8 @@ pub record IsWithin (n : ℕ) (e : Entry) : Type 0 where
   pub each : All (λ (f : OwnField). f.name < n) e.fields.items
 
 -- `at` is the place of the name among the names, and `own` stands for the fields
-pub record AreNamed (names : List (List ℕ)) (name : List ℕ) (fields : List Field) (at : ℕ) (own : List OwnField) : Type 0 where
+pub record AreNamed (names : List (List ℕ)) (name : List ℕ) (fields : List Field) (at : ℕ)
+    (own : List OwnField) : Type 0 where
   pub name_within : at < length names
   pub name_is : slice_index_or names at [] ≡ name
   pub fields_within : All (λ (f : OwnField). f.name < length names) own
@@ -60,7 +61,8 @@ pub record AreSizes (slots : List Kind) (sizes : Sizes) : Type 0 where
 pub record IsTable (names : List (List ℕ)) (entries : List Entry) : Type 0 where
   pub placed : IsPlaced names (reverse entries)
   pub classes : IsClassTable [] (map (class_of names) entries)
-  pub slots : map (λ (e : Entry). e.slots.items) entries ≡ slot_table_after [] (map (class_of names) entries)
+  pub slots : map (λ (e : Entry). e.slots.items) entries
+      ≡ slot_table_after [] (map (class_of names) entries)
   pub roomy : All IsRoomy entries
   pub sized : All (λ (e : Entry). AreSizes e.slots.items e.sizes) entries
   pub short : All (λ (n : List ℕ). length n ≤ name_limit) names

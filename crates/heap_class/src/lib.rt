@@ -601,7 +601,9 @@ impl Classes {
 
     // Tells whether a class has the name, or two of the fields share one.
     fn has_duplicate(&self, name: &Name, fields: &[Field]) -> bool
-        ensures { result ≡ (list_any (λ d. bytes_eq d.name name.now) self.now || not (all_distinct (map (λ f. f.name) fields.now))) }
+        ensures { result
+            ≡ (list_any (λ d. bytes_eq d.name name.now) self.now
+            || not (all_distinct (map (λ f. f.name) fields.now))) }
     {
         self.has_class(name) || !are_distinct(fields)
     }
@@ -620,7 +622,10 @@ impl Classes {
 
     // Returns the first refusal of a new class, or None if it is accepted.
     fn refusal(&self, name: &Name, sup: Option<ClassNo>, fields: &[Field]) -> Option<Refusal>
-        ensures { (is_array : Bool) → result ≡ class_refusal self.now (record { name = name.now; sup = sup; fields = fields.now; is_array = is_array }) }
+        ensures { (is_array : Bool)
+            → result
+            ≡ class_refusal self.now
+            (record { name = name.now; sup = sup; fields = fields.now; is_array = is_array }) }
     {
         if !self.has_super(sup) {
             return Some(Refusal::NoClass);
@@ -649,8 +654,15 @@ impl Classes {
         is_array: bool,
     ) -> Result<ClassNo, Refusal>
         requires { IsTrue is_array → (sup ≡ None) × (fields.now ≡ []) }
-        ensures answered { IsAnswered (class_refusal self.old (record { name = name.now; sup = sup; fields = fields.now; is_array = is_array })) true result }
-        ensures defined { OnOk result (self.new ≡ self.old ++ record { name = name.now; sup = sup; fields = fields.now; is_array = is_array } ∷ []) }
+        ensures answered { IsAnswered
+            (class_refusal self.old
+            (record { name = name.now; sup = sup; fields = fields.now; is_array = is_array })) true
+            result }
+        ensures defined { OnOk result
+            (self.new
+            ≡ self.old
+            ++ record { name = name.now; sup = sup; fields = fields.now; is_array = is_array }
+            ∷ []) }
         ensures number { IfOk result (λ k. k ≡ length self.old) }
         ensures unchanged { OnErr result (self.new ≡ self.old) }
     {
@@ -683,8 +695,10 @@ impl Classes {
         sup: Option<ClassNo>,
         fields: &Fields,
     ) -> Result<ClassNo, Refusal>
-        ensures answered { IsAnswered (class_refusal self.old (instance_class name.now sup fields.now)) true result }
-        ensures defined { OnOk result (self.new ≡ self.old ++ instance_class name.now sup fields.now ∷ []) }
+        ensures answered { IsAnswered
+            (class_refusal self.old (instance_class name.now sup fields.now)) true result }
+        ensures defined { OnOk result
+            (self.new ≡ self.old ++ instance_class name.now sup fields.now ∷ []) }
         ensures number { IfOk result (λ k. k ≡ length self.old) }
         ensures unchanged { OnErr result (self.new ≡ self.old) }
     {
@@ -836,7 +850,8 @@ impl Classes {
     /// Returns the id of the name of an own field of a class. The class must have the field.
     pub fn field_name_id(&self, class: ClassNo, field: u64) -> u64
         requires { field < length (fields_of self.now class) }
-        ensures { IfSome (slice_get (fields_of self.now class) field) (λ f. result ≡ name_id self.now f.name) }
+        ensures { IfSome (slice_get (fields_of self.now class) field)
+            (λ f. result ≡ name_id self.now f.name) }
     {
         self.entries[class as usize].fields[field as usize].name as u64 + 1
     }

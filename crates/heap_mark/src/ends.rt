@@ -23,7 +23,8 @@ pub fn first_pending(regions: &Regions) -> Option<u64>
 
 /// Ends the cycle for every object. Returns the number of objects that aren't live then.
 pub fn finish_all(regions: &mut Regions) -> u64
-    ensures regions { regions.new ≡ record regions.old { regions = each_region finished_region regions.old.regions } }
+    ensures regions { regions.new
+        ≡ record regions.old { regions = each_region finished_region regions.old.regions } }
     ensures condemned { result ≡ dead_count regions.new.regions }
 {
     let mut condemned = 0;
@@ -37,7 +38,8 @@ pub fn finish_all(regions: &mut Regions) -> u64
 
 /// Undoes the end of a cycle for every object.
 pub fn unfinish_all(regions: &mut Regions)
-    ensures { regions.new ≡ record regions.old { regions = each_region unfinished_region regions.old.regions } }
+    ensures { regions.new
+        ≡ record regions.old { regions = each_region unfinished_region regions.old.regions } }
 {
     for region in 0..regions.count() {
         if regions.cell_size(region).is_some() {
@@ -50,7 +52,8 @@ pub fn unfinish_all(regions: &mut Regions)
 // marked.
 fn finish_region(regions: &mut Regions, region: u64) -> u64
     requires { IsSome (used_at regions.old.regions region) }
-    ensures regions { regions.new ≡ record regions.old { regions = with_region region finished_region regions.old.regions } }
+    ensures regions { regions.new
+        ≡ record regions.old { regions = with_region region finished_region regions.old.regions } }
     ensures unmarked { result ≡ unmarked_in (used_at regions.old.regions region) }
     ensures limit { result ≤ cells_each }
 {
@@ -72,7 +75,11 @@ fn finish_region(regions: &mut Regions, region: u64) -> u64
 // Undoes the end of a cycle for the objects of a region in use.
 fn unfinish_region(regions: &mut Regions, region: u64)
     requires { IsSome (used_at regions.old.regions region) }
-    ensures { regions.new ≡ record regions.old { regions = with_region region unfinished_region regions.old.regions } }
+    ensures { regions.new
+        ≡ record regions.old {
+          regions = with_region region unfinished_region
+              regions.old.regions;
+        } }
 {
     let number = regions.region_number(region);
     for cell in 0..regions.cell_count(region) {
@@ -88,7 +95,8 @@ fn unfinish_region(regions: &mut Regions, region: u64)
 // Makes the object in the cell live if it was marked, else dead, and unmarks it. Does nothing if there is none. Tells whether
 // there is an object that wasn't marked.
 fn finish_cell(regions: &mut Regions, at: ObjRef) -> bool
-    ensures regions { regions.new ≡ record regions.old { regions = with_object at finished_object regions.old.regions } }
+    ensures regions { regions.new
+        ≡ record regions.old { regions = with_object at finished_object regions.old.regions } }
     ensures unmarked { result ≡ is_unmarked (object_at regions.old.regions at) }
 {
     if !regions.has_object(at) {
@@ -102,7 +110,8 @@ fn finish_cell(regions: &mut Regions, at: ObjRef) -> bool
 
 // Marks the object in the cell if it was live, else unmarks it, and makes it live. Does nothing if there is none.
 fn unfinish_cell(regions: &mut Regions, at: ObjRef)
-    ensures { regions.new ≡ record regions.old { regions = with_object at unfinished_object regions.old.regions } }
+    ensures { regions.new
+        ≡ record regions.old { regions = with_object at unfinished_object regions.old.regions } }
 {
     if !regions.has_object(at) {
         return;

@@ -35,7 +35,8 @@ pub record AreNewest (t : Trail) (count : ℕ) (steps : List PastStep) : Type 0 
 pub record AreSizes (w : HeapState) (sizes : List ℕ) : Type 0 where
   pub many : length sizes ≡ length w.regions
   pub small : All (λ s. s ≤ region_words) sizes
-  pub used : (r : ℕ) (u : UsedRegion) → used_at w.regions r ≡ Some u → slice_index_or sizes r 0 ≡ u.cell_size
+  pub used : (r : ℕ) (u : UsedRegion) → used_at w.regions r ≡ Some u
+      → slice_index_or sizes r 0 ≡ u.cell_size
 
 -- the size of the cells of a region with so many, which fill it
 abbrev pub size_of : UsedRegion → ℕ
@@ -48,4 +49,5 @@ sizes_before left sizes = sizes
 
 -- the id of the object at a place, by the size of its region's cells
 abbrev pub id_by : List ℕ → ObjRef → ℕ
-id_by sizes at = object_base + 8 * (region_words * at.region + at.cell * slice_index_or sizes at.region 0)
+id_by sizes at =
+    object_base + 8 * (region_words * at.region + at.cell * slice_index_or sizes at.region 0)

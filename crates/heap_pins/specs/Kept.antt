@@ -49,7 +49,9 @@ kept_copy r copy p = kept_at r copy (is_some (slice_index_or p.copies r None)) p
 
 -- the pin with a copy of a region, unless it has one, with the old word in its slot
 abbrev pub kept_word : HeapState → ObjRef → ℕ → ℕ → Pinned → Pinned
-kept_word w at slot old p = kept_copy at.region (option_map (frozen_word_set at.cell slot old) (region_frozen w.regions at.region)) p
+kept_word w at slot old p =
+    kept_copy at.region
+    (option_map (frozen_word_set at.cell slot old) (region_frozen w.regions at.region)) p
 
 -- the pin with a copy of a region, unless it has one, with the dead objects in their cells
 abbrev pub kept_dead : HeapState → ℕ → List (ℕ × Object) → Pinned → Pinned
@@ -58,7 +60,8 @@ kept_dead w r dead p = kept_copy r (option_map (with_dead dead) (region_frozen w
 -- the pin with a copy of the touched region, if there is one, unless it has one
 unfoldable pub kept_if : Option ℕ → Undo → HeapState → Pinned → Pinned
 kept_if None left v p = p
-kept_if (Some r) left v p = kept_at r (copy_for left v r) (is_some (slice_index_or p.copies r None)) p
+kept_if (Some r) left v p =
+    kept_at r (copy_for left v r) (is_some (slice_index_or p.copies r None)) p
 
 -- the pin after the step that left this record and the state v
 unfoldable pub kept : Undo → HeapState → Pinned → Pinned

@@ -44,7 +44,14 @@ region_seen p regions r = seen (slice_index_or p.copies r None) (region_frozen r
 
 -- the object in a cell of a copy, as a dump shows it
 abbrev pub cell_dumped : ObjRef → Frozen → Option DumpedObject
-cell_dumped at f = option_map (λ o. record { id = object_base + 8 * (1024 * at.region + at.cell * f.cell_size); kind = o.kind; words = o.words }) (frozen_object f at.cell)
+cell_dumped at f =
+    option_map
+    (λ o.
+    record {
+      id = object_base + 8 * (1024 * at.region + at.cell * f.cell_size);
+      kind = o.kind;
+      words = o.words;
+    }) (frozen_object f at.cell)
 
 -- the object at this place as the pin shows it
 unfoldable pub object_seen : Pinned → List Region → ObjRef → Option DumpedObject
@@ -52,8 +59,15 @@ object_seen p regions at = option_and_then (cell_dumped at) (region_seen p regio
 
 -- the image that the pin shows beside a state
 unfoldable pub pin_image : Pinned → HeapState → Image
-pin_image p w = record { classes = take p.classes w.classes; registers = p.registers; objects = filter_map (object_seen p w.regions) (places_from 0 p.live) }
+pin_image p w =
+    record {
+      classes = take p.classes w.classes;
+      registers = p.registers;
+      objects = filter_map (object_seen p w.regions) (places_from 0 p.live);
+    }
 
 -- `next` is the place after this one among those with byte 1
 abbrev pub IsPlaceAfter : List ℕ → ObjRef → Option ObjRef → Type 0
-IsPlaceAfter bytes at next = (i : ℕ) → slice_get (places_from 0 bytes) i ≡ Some at → next ≡ slice_get (places_from 0 bytes) (i + 1)
+IsPlaceAfter bytes at next =
+    (i : ℕ) → slice_get (places_from 0 bytes) i ≡ Some at
+    → next ≡ slice_get (places_from 0 bytes) (i + 1)

@@ -28,7 +28,10 @@ pub record Shows (p : Pinned) (u v : HeapState) : Type 0 where
 
 -- of region r, q has the same copy as p, or p has none and q has one with all that the region has in the state w
 abbrev pub KeepsRegion : Pinned → Pinned → HeapState → ℕ → Type 0
-KeepsRegion p q w r = (slice_index_or q.copies r None ≡ slice_index_or p.copies r None) ⊎ ((slice_index_or p.copies r None ≡ None) × Covers (region_frozen w.regions r) (slice_index_or q.copies r None))
+KeepsRegion p q w r =
+    (slice_index_or q.copies r None ≡ slice_index_or p.copies r None)
+    ⊎ ((slice_index_or p.copies r None ≡ None)
+    × Covers (region_frozen w.regions r) (slice_index_or q.copies r None))
 
 -- p shows before the step that left this record and the state v what q shows after it: q has a copy of the touched region
 pub record KeepsFor (left : Undo) (v : HeapState) (p q : Pinned) : Type 0 where
@@ -37,12 +40,14 @@ pub record KeepsFor (left : Undo) (v : HeapState) (p q : Pinned) : Type 0 where
   pub live : q.live ≡ p.live
   pub as_many : length q.copies ≡ length p.copies
   pub each : (r : ℕ) → KeepsRegion p q (undone left v) r
-  pub done : (r : ℕ) → touched left ≡ Some r → slice_index_or q.copies r None ≡ None → region_frozen (undone left v).regions r ≡ None
+  pub done : (r : ℕ) → touched left ≡ Some r → slice_index_or q.copies r None ≡ None
+      → region_frozen (undone left v).regions r ≡ None
 
 -- each object's cell is one of the `count` cells, and has the least size that holds it
 abbrev pub AreFit : ℕ → ℕ → List (ℕ × Object) → Type 0
 AreFit size count [] = Unit {0}
-AreFit size count (d ∷ dead) = (d.0 < count) × FitsWords size (length d.1.words) × AreFit size count dead
+AreFit size count (d ∷ dead) =
+    (d.0 < count) × FitsWords size (length d.1.words) × AreFit size count dead
 
 -- the dead objects fit into the cells of the copy, if there is one
 abbrev pub FitIn : Option Frozen → List (ℕ × Object) → Type 0
@@ -63,4 +68,6 @@ pub record Holds (p : Pinned) (u : HeapState) (n : ℕ) (states : List HeapState
 
 -- the pin shows an object at this place
 abbrev pub IsSeen : Pinned → List Region → ObjRef → Type 0
-IsSeen p regions at = (at.region < length p.copies) × (f : Frozen) × (region_seen p regions at.region ≡ Some f) × IsSome (frozen_object f at.cell)
+IsSeen p regions at =
+    (at.region < length p.copies) × (f : Frozen) × (region_seen p regions at.region ≡ Some f)
+    × IsSome (frozen_object f at.cell)

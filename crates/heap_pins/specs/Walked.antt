@@ -34,7 +34,8 @@ pub record IsWalked (p : Pinned) (x : HeapState) (n : ℕ) (states : List HeapSt
 
 -- the pin was walked to a state to which a step led that left this record, and shows it beside the current state w
 abbrev pub CanWalk : Undo → HeapState → Pinned → Type 0
-CanWalk left w p = (x : HeapState) × (e : Event) × IsStep e (undone left x) x left × IsPinAt p x × Shows p x w
+CanWalk left w p =
+    (x : HeapState) × (e : Event) × IsStep e (undone left x) x left × IsPinAt p x × Shows p x w
 
 -- p was walked one record further back, beside the current state w, and is q
 pub record IsWalkedBack (left : Undo) (w : HeapState) (p q : Pinned) : Type 0 where
@@ -47,8 +48,11 @@ pub record IsWalkedBack (left : Undo) (w : HeapState) (p q : Pinned) : Type 0 wh
 
 -- a pin that is walked one record further back is walked to the state before it, which is the next of the retained ones
 abbrev pub WalksOn : Undo → HeapState → HeapState → Pinned → Pinned → Type 0
-WalksOn left x w p q = (e : Event) (n : ℕ) (past : List HeapState) → IsStep e (undone left x) x left → IsWalkedBack left w p q
-    → slice_get (w ∷ past) (n + 1) ≡ Some (undone left x) → IsWalked p x n (w ∷ past) → IsWalked q (undone left x) (n + 1) (w ∷ past)
+WalksOn left x w p q =
+    (e : Event) (n : ℕ) (past : List HeapState) → IsStep e (undone left x) x left
+    → IsWalkedBack left w p q
+    → slice_get (w ∷ past) (n + 1) ≡ Some (undone left x) → IsWalked p x n (w ∷ past)
+    → IsWalked q (undone left x) (n + 1) (w ∷ past)
 
 -- a pin that was walked to a state holds it
 abbrev pub WalkHolds : Pinned → HeapState → Type 0
@@ -66,11 +70,13 @@ Sees p regions r f = region_seen p regions r ≡ Some f
 
 -- the pin shows an object at this place with this slot
 abbrev pub SeesSlot : Pinned → List Region → ObjRef → ℕ → Type 0
-SeesSlot p regions at slot = (f : Frozen) × Sees p regions at.region f × (slot < length (frozen_words f at.cell))
+SeesSlot p regions at slot =
+    (f : Frozen) × Sees p regions at.region f × (slot < length (frozen_words f at.cell))
 
 -- the pin shows region r, with cells into which the dead objects fit
 abbrev pub SeesRoom : Pinned → List Region → ℕ → List (ℕ × Object) → Type 0
-SeesRoom p regions r dead = (f : Frozen) × Sees p regions r f × AreFit f.cell_size (length f.cells) dead
+SeesRoom p regions r dead =
+    (f : Frozen) × Sees p regions r f × AreFit f.cell_size (length f.cells) dead
 
 -- the pin with this copy of region r
 abbrev pub with_copy : ℕ → Option Frozen → Pinned → Pinned
@@ -78,16 +84,22 @@ with_copy r copy p = record p { copies = slice_set p.copies r copy }
 
 -- the pin with the old word in its register
 abbrev pub with_old_register : ℕ → ℕ → ℕ → Pinned → Pinned
-with_old_register m r old p = record p { registers = slice_set p.registers (register_index m r) old }
+with_old_register m r old p =
+    record p { registers = slice_set p.registers (register_index m r) old }
 
 -- the pin with the old word in its slot, in a copy of the region
 abbrev pub with_old_word : HeapState → ObjRef → ℕ → ℕ → Pinned → Pinned
-with_old_word w at slot old p = with_copy at.region (option_map (frozen_word_set at.cell slot old) (region_seen p w.regions at.region)) p
+with_old_word w at slot old p =
+    with_copy at.region
+    (option_map (frozen_word_set at.cell slot old) (region_seen p w.regions at.region)) p
 
 -- q is p with the dead objects back, in a copy of the region and in the bytes
 abbrev pub IsUnswept : HeapState → ℕ → List (ℕ × Object) → Pinned → Pinned → Type 0
-IsUnswept w r dead p q = HasBytesBefore (Sweep r dead) (with_copy r (option_map (with_dead dead) (region_seen p w.regions r)) p) q
+IsUnswept w r dead p q =
+    HasBytesBefore (Sweep r dead)
+    (with_copy r (option_map (with_dead dead) (region_seen p w.regions r)) p) q
 
 -- q is p with the region back that was moved out, in a copy and in the bytes
 abbrev pub IsUnreclaimed : ℕ → UsedRegion → Pinned → Pinned → Type 0
-IsUnreclaimed r storage p q = HasBytesBefore (Reclaim r storage) (with_copy r (Some (frozen storage)) p) q
+IsUnreclaimed r storage p q =
+    HasBytesBefore (Reclaim r storage) (with_copy r (Some (frozen storage)) p) q

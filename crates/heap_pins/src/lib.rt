@@ -49,7 +49,8 @@ pub fn walks_back()
 /// States that a pin that keeps what a step overwrote holds its state after the step, with the same image, and after a rewind
 /// to a place that isn't before the pin's.
 pub fn pins_hold()
-    ensures stepped { (left : Undo) (v : HeapState) (p : Pinned) (u : HeapState) → HoldsOn left v p u }
+    ensures stepped { (left : Undo) (v : HeapState) (p : Pinned) (u : HeapState)
+        → HoldsOn left v p u }
     ensures image { (w : HeapState) (p : Pinned) (u : HeapState) → HoldsImage w p u }
     ensures rewound { (p : Pinned) (u : HeapState) → HoldsBack p u }
 {}

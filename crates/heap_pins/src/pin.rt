@@ -43,7 +43,13 @@ impl Model for Pin {
 
     ghost Value = { Pinned };
 
-    ghost view = { λ p. record { classes = p.classes; registers = p.registers.items; live = p.live.items; copies = p.copies.items } };
+    ghost view = { λ p.
+        record {
+          classes = p.classes;
+          registers = p.registers.items;
+          live = p.live.items;
+          copies = p.copies.items;
+        } };
 }
 
 // Returns a list of `count` regions without a copy. Fails with NoMemory if the allocation fails.
@@ -170,7 +176,8 @@ impl Pin {
     // Copies a region that was moved out.
     fn keep_region(&mut self, world: &World, region: u16, storage: &Storage) -> Result<(), Refusal>
         requires sized { region < length self.old.copies }
-        ensures kept { OnOk result (self.new ≡ kept_copy region (Some (frozen storage.now)) self.old) }
+        ensures kept { OnOk result
+            (self.new ≡ kept_copy region (Some (frozen storage.now)) self.old) }
         ensures unchanged { OnErr result (self.new ≡ self.old) }
         ensures refused { IfErr result (λ e. e ≡ NoMemory) }
     {

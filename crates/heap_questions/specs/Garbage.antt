@@ -11,11 +11,14 @@ use Rattle.heap_questions.specs.Search.{node_with}
 
 -- the test holds of an object of the image exactly if no register reaches it
 abbrev pub TellsUnreached : Image → (DumpedObject → Bool) → Type 0
-TellsUnreached image test = (o : DumpedObject) → Contains image.objects o → (test o ≡ true) ↔ IsUnreached image o.id
+TellsUnreached image test =
+    (o : DumpedObject) → Contains image.objects o → (test o ≡ true) ↔ IsUnreached image o.id
 
 -- the rows count exactly the objects that no register reaches
 abbrev pub IsGarbage : IdSize → Image → List Row → Type 0
-IsGarbage ids image rows = (test : DumpedObject → Bool) × TellsUnreached image test × (rows ≡ rows_of ids image.classes (filter test image.objects))
+IsGarbage ids image rows =
+    (test : DumpedObject → Bool) × TellsUnreached image test
+    × (rows ≡ rows_of ids image.classes (filter test image.objects))
 
 -- ---- a search
 

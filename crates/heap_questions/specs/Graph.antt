@@ -10,7 +10,8 @@ use Rattle.hprof_text.specs.Image.{Image, DumpedObject}
 
 -- slot s of an object of this kind holds a reference, if it is there
 unfoldable pub is_reference_slot : List Class → ObjKind → ℕ → Bool
-is_reference_slot classes (Instance k) s = option_map_or is_reference (slice_get (slots_of classes k) s) false
+is_reference_slot classes (Instance k) s =
+    option_map_or is_reference (slice_get (slots_of classes k) s) false
 is_reference_slot classes (Array k) s = true
 is_reference_slot classes (Prim kind) s = is_reference kind
 
@@ -42,7 +43,8 @@ pub record IsPathTo (image : Image) (r : ℕ) (slots : List ℕ) (x : ℕ) : Typ
 
 -- no path to x has fewer slots
 abbrev pub IsShortest : Image → List ℕ → ℕ → Type 0
-IsShortest image slots x = (r : ℕ) (others : List ℕ) → IsPathTo image r others x → length slots ≤ length others
+IsShortest image slots x =
+    (r : ℕ) (others : List ℕ) → IsPathTo image r others x → length slots ≤ length others
 
 -- no register reaches x
 abbrev pub IsUnreached : Image → ℕ → Type 0

@@ -34,11 +34,16 @@ members objects g = filter (λ o. row_number o.kind == g) objects
 
 -- row g: how many objects are counted there, and the bytes of their values
 unfoldable pub row_of : IdSize → List Class → List DumpedObject → ℕ → Row
-row_of ids classes objects g = record { objects = length (members objects g); bytes = sum_by (object_bytes ids classes) (members objects g) }
+row_of ids classes objects g =
+    record {
+      objects = length (members objects g);
+      bytes = sum_by (object_bytes ids classes) (members objects g);
+    }
 
 -- all rows of some objects
 abbrev pub rows_of : IdSize → List Class → List DumpedObject → List Row
-rows_of ids classes objects = map (row_of ids classes objects) (range_with_len 0 (class_rows + length classes))
+rows_of ids classes objects =
+    map (row_of ids classes objects) (range_with_len 0 (class_rows + length classes))
 
 -- all rows of an image
 abbrev pub histogram_of : IdSize → Image → List Row
@@ -71,7 +76,8 @@ unmarked (b ∷ bs) [] = []
 unmarked (b ∷ bs) (o ∷ os) = if b then unmarked bs os else o ∷ unmarked bs os
 
 -- these objects were counted
-pub record AreRows (ids : IdSize) (classes : List Class) (counted : List DumpedObject) (rows : List Row) : Type 0 where
+pub record AreRows (ids : IdSize) (classes : List Class) (counted : List DumpedObject)
+    (rows : List Row) : Type 0 where
   pub count : length rows ≡ class_rows + length classes
   pub each : (g : ℕ) → g < length rows → row_at rows g ≡ row_of ids classes counted g
   pub small : All (λ r. (r.objects ≤ length counted) × (r.bytes ≤ length counted * 8192)) rows

@@ -19,12 +19,15 @@ names_at classes x o s = option_map_or (λ y. y == x) (slot_names classes o s) f
 
 -- the slots of an object that name x, in order
 unfoldable pub naming_slots : List Class → ℕ → DumpedObject → List Referrer
-naming_slots classes x o = map (Slot o.id) (filter (names_at classes x o) (range_with_len 0 (length o.words)))
+naming_slots classes x o =
+    map (Slot o.id) (filter (names_at classes x o) (range_with_len 0 (length o.words)))
 
 -- the registers that name x, in order
 unfoldable pub naming_registers : ℕ → List ℕ → List Referrer
-naming_registers x registers = map Register (filter (λ r. slice_index registers r == x) (range_with_len 0 (length registers)))
+naming_registers x registers =
+    map Register (filter (λ r. slice_index registers r == x) (range_with_len 0 (length registers)))
 
 -- all that names x, in the order of a dump: slots by object, then registers
 abbrev pub referrers_of : Image → ℕ → List Referrer
-referrers_of image x = flat_map (naming_slots image.classes x) image.objects ++ naming_registers x image.registers
+referrers_of image x =
+    flat_map (naming_slots image.classes x) image.objects ++ naming_registers x image.registers

@@ -16,7 +16,9 @@ pub record AreNodes (image : Image) (places : List ObjRef) (nodes : List Node) :
 
 -- no node has a smaller id than one before it
 abbrev pub AreRising : List Node → Type 0
-AreRising nodes = (i j : ℕ) (a b : Node) → i ≤ j → slice_get nodes i ≡ Some a → slice_get nodes j ≡ Some b → a.id ≤ b.id
+AreRising nodes =
+    (i j : ℕ) (a b : Node) → i ≤ j → slice_get nodes i ≡ Some a → slice_get nodes j ≡ Some b
+    → a.id ≤ b.id
 
 -- the nodes before place p have smaller ids
 abbrev pub AreBelow : List Node → ℕ → ℕ → Type 0
@@ -32,19 +34,23 @@ node_with nodes x = position (λ n. n.id == x) nodes
 
 -- x was found at most d steps from a register
 abbrev pub IsFound : List Found → ℕ → ℕ → Type 0
-IsFound queue x d = (k : ℕ) × (f : Found) × (slice_get queue k ≡ Some f) × (f.id ≡ x) × (f.depth ≤ d)
+IsFound queue x d =
+    (k : ℕ) × (f : Found) × (slice_get queue k ≡ Some f) × (f.id ≡ x) × (f.depth ≤ d)
 
 -- so it was reached: by a register, or by a slot of what was found before
 abbrev pub IsReachedBy : Image → List Found → ℕ → ℕ → Via → Type 0
 IsReachedBy image queue x d (Register r) = (d ≡ 0) × (slice_get image.registers r ≡ Some x)
-IsReachedBy image queue x d (Slot parent s) = (p : Found) × (slice_get queue parent ≡ Some p) × (d ≡ p.depth + 1) × (named image p.id s ≡ Some x)
+IsReachedBy image queue x d (Slot parent s) =
+    (p : Found) × (slice_get queue parent ≡ Some p) × (d ≡ p.depth + 1)
+    × (named image p.id s ≡ Some x)
 
 abbrev pub IsReached : Image → List Found → Found → Type 0
 IsReached image queue f = IsReachedBy image queue f.id f.depth f.via
 
 -- each object that a register names was found at once
 abbrev pub HasRoots : Image → List Found → ℕ → Type 0
-HasRoots image queue n = (r y : ℕ) → r < n → slice_get image.registers r ≡ Some y → HasId image y → IsFound queue y 0
+HasRoots image queue n =
+    (r y : ℕ) → r < n → slice_get image.registers r ≡ Some y → HasId image y → IsFound queue y 0
 
 -- each object that any register names was
 abbrev pub HasAllRoots : Image → List Found → Type 0
@@ -56,43 +62,58 @@ KeepsRoots image before after = (n : ℕ) → HasRoots image before n → HasRoo
 
 -- each object that one of the first n slots of x names was found at most d steps from a register
 abbrev pub HasChildren : Image → List Found → ℕ → ℕ → ℕ → Type 0
-HasChildren image queue x n d = (s y : ℕ) → s < n → named image x s ≡ Some y → HasId image y → IsFound queue y d
+HasChildren image queue x n d =
+    (s y : ℕ) → s < n → named image x s ≡ Some y → HasId image y → IsFound queue y d
 
 -- each object that a slot of x names was
 abbrev pub HasAllChildren : Image → List Found → ℕ → ℕ → Type 0
-HasAllChildren image queue x d = (s y : ℕ) → named image x s ≡ Some y → HasId image y → IsFound queue y d
+HasAllChildren image queue x d =
+    (s y : ℕ) → named image x s ≡ Some y → HasId image y → IsFound queue y d
 
 -- what has been found is in the order of its depths
 abbrev pub IsRising : List Found → Type 0
-IsRising queue = (i j : ℕ) (a b : Found) → i ≤ j → slice_get queue i ≡ Some a → slice_get queue j ≡ Some b → a.depth ≤ b.depth
+IsRising queue =
+    (i j : ℕ) (a b : Found) → i ≤ j → slice_get queue i ≡ Some a → slice_get queue j ≡ Some b
+    → a.depth ≤ b.depth
 
 -- nothing found is deeper than d
 abbrev pub IsWithin : List Found → ℕ → Type 0
 IsWithin queue d = (k : ℕ) (f : Found) → slice_get queue k ≡ Some f → f.depth ≤ d
 
 -- a search that has looked at the slots of the first `head` objects found
-pub record IsSearching (image : Image) (nodes : List Node) (seen : List Bool) (queue : List Found) (head : ℕ) : Type 0 where
+pub record IsSearching (image : Image) (nodes : List Node) (seen : List Bool) (queue : List Found)
+    (head : ℕ) : Type 0 where
   pub reached : (k : ℕ) (f : Found) → slice_get queue k ≡ Some f → IsReached image queue f
   pub placed : (k : ℕ) (f : Found) → slice_get queue k ≡ Some f → node_with nodes f.id ≡ Some f.node
   pub early : (k : ℕ) (f : Found) → slice_get queue k ≡ Some f → f.depth ≤ k
   pub rising : IsRising queue
-  pub marked : (j : ℕ) → slice_index_or seen j false ≡ true → (k : ℕ) × (f : Found) × (slice_get queue k ≡ Some f) × (f.node ≡ j)
-  pub found : (k : ℕ) (f : Found) → slice_get queue k ≡ Some f → slice_index_or seen f.node false ≡ true
+  pub marked : (j : ℕ) → slice_index_or seen j false ≡ true
+      → (k : ℕ) × (f : Found) × (slice_get queue k ≡ Some f) × (f.node ≡ j)
+  pub found : (k : ℕ) (f : Found) → slice_get queue k ≡ Some f
+      → slice_index_or seen f.node false ≡ true
   pub as_many : length seen ≡ length nodes
   pub counted : count_by (λ b. b) seen ≡ length queue
-  pub closed : (k : ℕ) (f : Found) → k < head → slice_get queue k ≡ Some f → HasAllChildren image queue f.id (f.depth + 1)
+  pub closed : (k : ℕ) (f : Found) → k < head → slice_get queue k ≡ Some f
+      → HasAllChildren image queue f.id (f.depth + 1)
 
 -- x was offered to a search: it was skipped, or added behind what was found before
 abbrev pub IsSkipped : List Node → ℕ → List Bool → List Found → List Bool → List Found → Type 0
-IsSkipped nodes x seen queue seen_after queue_after = (seen_after ≡ seen) × (queue_after ≡ queue) × ((j : ℕ) → node_with nodes x ≡ Some j → slice_index_or seen j false ≡ true)
+IsSkipped nodes x seen queue seen_after queue_after =
+    (seen_after ≡ seen) × (queue_after ≡ queue)
+    × ((j : ℕ) → node_with nodes x ≡ Some j → slice_index_or seen j false ≡ true)
 
-abbrev pub IsAdded : List Node → ℕ → ℕ → Via → List Bool → List Found → List Bool → List Found → Type 0
+abbrev pub IsAdded : List Node → ℕ → ℕ → Via → List Bool → List Found → List Bool → List Found
+    → Type 0
 IsAdded nodes x d via seen queue seen_after queue_after =
-    (j : ℕ) × (node_with nodes x ≡ Some j) × (slice_index_or seen j false ≡ false) × (seen_after ≡ slice_set seen j true)
+    (j : ℕ) × (node_with nodes x ≡ Some j) × (slice_index_or seen j false ≡ false)
+    × (seen_after ≡ slice_set seen j true)
     × (queue_after ≡ queue ++ record { node = j; id = x; depth = d; via = via } ∷ [])
 
-abbrev pub IsOffered : List Node → ℕ → ℕ → Via → List Bool → List Found → List Bool → List Found → Type 0
-IsOffered nodes x d via seen queue seen_after queue_after = IsSkipped nodes x seen queue seen_after queue_after ⊎ IsAdded nodes x d via seen queue seen_after queue_after
+abbrev pub IsOffered : List Node → ℕ → ℕ → Via → List Bool → List Found → List Bool → List Found
+    → Type 0
+IsOffered nodes x d via seen queue seen_after queue_after =
+    IsSkipped nodes x seen queue seen_after queue_after
+    ⊎ IsAdded nodes x d via seen queue seen_after queue_after
 
 -- all that registers reach has been found, each object at its least depth
 pub record IsSearched (image : Image) (queue : List Found) : Type 0 where
@@ -100,7 +121,8 @@ pub record IsSearched (image : Image) (queue : List Found) : Type 0 where
   pub objects : (k : ℕ) (f : Found) → slice_get queue k ≡ Some f → HasId image f.id
   pub rising : IsRising queue
   pub roots : (r y : ℕ) → slice_get image.registers r ≡ Some y → HasId image y → IsFound queue y 0
-  pub closed : (k : ℕ) (f : Found) → slice_get queue k ≡ Some f → HasAllChildren image queue f.id (f.depth + 1)
+  pub closed : (k : ℕ) (f : Found) → slice_get queue k ≡ Some f
+      → HasAllChildren image queue f.id (f.depth + 1)
 
 -- each object found was reached
 abbrev pub AreReached : Image → List Found → Type 0
@@ -112,15 +134,21 @@ IsNear queue head = (h : Found) → slice_get queue head ≡ Some h → IsWithin
 
 -- register r names an object from which these slots lead to what was found, and they are as many as its depth
 abbrev pub IsTraced : Image → ℕ → List ℕ → Found → Type 0
-IsTraced image r slots f = (option_and_then (λ y. followed image y slots) (slice_get image.registers r) ≡ Some f.id) × (length slots ≡ f.depth)
+IsTraced image r slots f =
+    (option_and_then (λ y. followed image y slots) (slice_get image.registers r) ≡ Some f.id)
+    × (length slots ≡ f.depth)
 
 -- register r and these slots lead to what was found at this place of a queue, in each image in which all of it was reached
 abbrev pub IsTraceOf : List Found → ℕ → ℕ → List ℕ → Type 0
-IsTraceOf queue index r slots = (image : Image) (f : Found) → AreReached image queue → slice_get queue index ≡ Some f → IsTraced image r slots f
+IsTraceOf queue index r slots =
+    (image : Image) (f : Found) → AreReached image queue → slice_get queue index ≡ Some f
+    → IsTraced image r slots f
 
 -- the marks are those of the nodes that stand in the queue
 pub record AreSeen (nodes : List Node) (seen : List Bool) (queue : List Found) : Type 0 where
   pub placed : (k : ℕ) (f : Found) → slice_get queue k ≡ Some f → node_with nodes f.id ≡ Some f.node
-  pub marked : (j : ℕ) → slice_index_or seen j false ≡ true → (k : ℕ) × (f : Found) × (slice_get queue k ≡ Some f) × (f.node ≡ j)
-  pub found : (k : ℕ) (f : Found) → slice_get queue k ≡ Some f → slice_index_or seen f.node false ≡ true
+  pub marked : (j : ℕ) → slice_index_or seen j false ≡ true
+      → (k : ℕ) × (f : Found) × (slice_get queue k ≡ Some f) × (f.node ≡ j)
+  pub found : (k : ℕ) (f : Found) → slice_get queue k ≡ Some f
+      → slice_index_or seen f.node false ≡ true
   pub as_many : length seen ≡ length nodes

@@ -18,7 +18,9 @@ kind_in Sorts.Prim class kind = Some (Objects.Prim kind)
 
 -- the header of the object in a cell
 abbrev pub header_in : Inside → Option Header
-header_in c = option_map (λ kind. record { kind = kind; len = c.len; live = c.live; mark = c.mark }) (kind_in c.sort c.class c.kind)
+header_in c =
+    option_map (λ kind. record { kind = kind; len = c.len; live = c.live; mark = c.mark })
+    (kind_in c.sort c.class c.kind)
 
 -- the sort of an object of this kind
 abbrev pub sort_of : ObjKind → Sort
@@ -40,5 +42,21 @@ kind_of (Objects.Prim kind) = kind
 
 -- the cell with this header
 abbrev pub packed : Option Header → Inside
-packed None = record { class = 0; len = 0; sort = Sorts.Free; kind = Kinds.Object; live = false; mark = false }
-packed (Some h) = record { class = class_of h.kind; len = h.len; sort = sort_of h.kind; kind = kind_of h.kind; live = h.live; mark = h.mark }
+packed None =
+    record {
+      class = 0;
+      len = 0;
+      sort = Sorts.Free;
+      kind = Kinds.Object;
+      live = false;
+      mark = false;
+    }
+packed (Some h) =
+    record {
+      class = class_of h.kind;
+      len = h.len;
+      sort = sort_of h.kind;
+      kind = kind_of h.kind;
+      live = h.live;
+      mark = h.mark;
+    }

@@ -26,7 +26,11 @@ impl Model for FrozenRegion {
 
     ghost use Rattle.heap_region.specs.Layout.{cells_from};
 
-    ghost view = { λ f. record { cell_size = f.cell_size; cells = cells_from f.cell_size f.block.value.words 0 f.block.value.headers.items } };
+    ghost view = { λ f.
+        record {
+          cell_size = f.cell_size;
+          cells = cells_from f.cell_size f.block.value.words 0 f.block.value.headers.items;
+        } };
 
     ghost invariant = { λ f. IsLaid f.cell_size f.block.value.words f.block.value.headers.items };
 }
@@ -35,7 +39,9 @@ impl Block {
     // Copies the words and the headers. It is never inlined, so that no other function has a block on its stack.
     #[inline(never)]
     fn copied(&self, alloc: Global) -> Result<Box<Block>, AllocError>
-        ensures { IfOk result (λ b. (b.value.words ≡ self.now.words) × (b.value.headers.items ≡ self.now.headers.items)) }
+        ensures { IfOk result
+            (λ b. (b.value.words ≡ self.now.words)
+            × (b.value.headers.items ≡ self.now.headers.items)) }
     {
         let mut headers = ArrayVec::new();
         if headers.try_extend_from_slice(&self.headers).is_err() {

@@ -46,7 +46,8 @@ impl Model for Storage {
       free = walk (length s.block.value.headers.items) s.cell_size s.block.value.words s.head;
     } };
 
-    ghost invariant = { λ s. IsSound s.cell_size s.block.value.words s.block.value.headers.items s.head (walk (length s.block.value.headers.items) s.cell_size s.block.value.words s.head) };
+    ghost invariant = { λ s. IsSound s.cell_size s.block.value.words s.block.value.headers.items
+        s.head (walk (length s.block.value.headers.items) s.cell_size s.block.value.words s.head) };
 }
 
 /// A copy of an object: its kind, its slots and its two bits.
@@ -171,7 +172,8 @@ pub(crate) fn overwrite(words: &mut [u64], start: usize, from: &[u64])
 fn link_cells(words: &mut [u64], cell_size: usize, count: usize)
     requires sized { 0 < cell_size }
     requires within { count * cell_size ≤ length words.old }
-    ensures { (cell : ℕ) → cell < count → slice_index words.new (cell * cell_size) ≡ next_link count cell }
+    ensures { (cell : ℕ) → cell < count
+        → slice_index words.new (cell * cell_size) ≡ next_link count cell }
 {
     for cell in 0..count {
         let link = if cell + 1 < count { cell as u64 + 2 } else { 0 };
@@ -211,7 +213,8 @@ impl Block {
     // Returns words that are all 0, and no cells. It is never inlined, so that no other function has a block on its stack.
     #[inline(never)]
     fn blank(alloc: Global) -> Result<Box<Block>, AllocError>
-        ensures { IfOk result (λ b. (b.value.words ≡ replicate 1024 0) × (b.value.headers.items ≡ [])) }
+        ensures { IfOk result
+            (λ b. (b.value.words ≡ replicate 1024 0) × (b.value.headers.items ≡ [])) }
     {
         let blank = Block {
             words: [0; 1024],
@@ -317,7 +320,8 @@ impl Storage {
     // Returns the two bits of the object in the cell, `live` and `mark`.
     pub(crate) fn bits(&self, cell: usize) -> (bool, bool)
         requires { IsSome (cell_object self.now cell) }
-        ensures { IfSome (cell_object self.now cell) (λ o. (result.0 ≡ o.live) × (result.1 ≡ o.mark)) }
+        ensures { IfSome (cell_object self.now cell)
+            (λ o. (result.0 ≡ o.live) × (result.1 ≡ o.mark)) }
     {
         let header = header_at(&self.block.headers, cell);
         (header.live, header.mark)

@@ -245,8 +245,10 @@ fn sweep(world: &mut World, region: u64) -> Result<(Answer, Undo), Refusal>
 
 // Returns the record of a sweep with this outcome.
 fn sweep_record(reclaimed: Reclaimed) -> Undo
-    ensures swept { (region : ℕ) (dead : List (ℕ × Object)) → reclaimed ≡ Swept region dead → result ≡ Undo.Sweep region dead }
-    ensures emptied { (region : ℕ) (storage : UsedRegion) (dead : ℕ) → reclaimed ≡ Emptied region storage dead → result ≡ Undo.Reclaim region storage }
+    ensures swept { (region : ℕ) (dead : List (ℕ × Object)) → reclaimed ≡ Swept region dead
+        → result ≡ Undo.Sweep region dead }
+    ensures emptied { (region : ℕ) (storage : UsedRegion) (dead : ℕ)
+        → reclaimed ≡ Emptied region storage dead → result ≡ Undo.Reclaim region storage }
 {
     match reclaimed {
         Reclaimed::Swept { region, dead } => Undo::Sweep { region, dead },
@@ -262,7 +264,8 @@ fn sweep_record(reclaimed: Reclaimed) -> Undo
 #[inline(always)]
 #[tactic(auto, unfolding(crate::specs::Apply::object_or_null))]
 fn slot_answer(loaded: Loaded) -> Answer
-    ensures { result ≡ (if loaded.reference then object_or_null loaded.word else Value loaded.word) }
+    ensures { result
+        ≡ (if loaded.reference then object_or_null loaded.word else Value loaded.word) }
 {
     if !loaded.reference {
         return Answer::Value(loaded.word);

@@ -66,7 +66,8 @@ rewinds n place = (Rewind n, Place place)
 
 -- the fields of a point: two numbers of 32 bits
 abbrev pub point_fields : List Field
-point_fields = record { name = codes "x"; kind = Int } ∷ record { name = codes "y"; kind = Int } ∷ []
+point_fields =
+    record { name = codes "x"; kind = Int } ∷ record { name = codes "y"; kind = Int } ∷ []
 
 -- the event that defines the class Point
 abbrev pub point : Event
@@ -74,7 +75,9 @@ point = Event.Class (codes "Point") None point_fields
 
 -- the fields of a node: a reference and a number of 64 bits
 abbrev pub node_fields : List Field
-node_fields = record { name = codes "next"; kind = Kind.Object } ∷ record { name = codes "v"; kind = Long } ∷ []
+node_fields =
+    record { name = codes "next"; kind = Kind.Object } ∷ record { name = codes "v"; kind = Long }
+    ∷ []
 
 -- the event that defines the class Node
 abbrev pub node : Event
@@ -142,7 +145,10 @@ RewindTooFar = Replies 16 3
 -- events of classes and of mutators, each with the refusal that its error meets
 abbrev pub RefusalsOfMutators : Type 0
 RefusalsOfMutators = Replies 16 1024
-    (refuses (Event.Class (codes "A") None (record { name = codes "x"; kind = Int } ∷ record { name = codes "x"; kind = Int } ∷ [])) DuplicateName
+    (refuses
+    (Event.Class (codes "A") None
+    (record { name = codes "x"; kind = Int } ∷ record { name = codes "x"; kind = Int } ∷ []))
+    DuplicateName
     ∷ refuses (Event.Class (codes "a+b") None []) BadName
     ∷ refuses (Event.Class (codes "A") (Some 3) []) NoClass
     ∷ does point (Answer.Class 0)
@@ -262,8 +268,22 @@ abbrev pub node_condemned : HeapState
 node_condemned = record {
   classes = instance_class (codes "Node") None node_fields ∷ [];
   regions =
-      InUse (record { cell_size = 4; pending = true; cells = Some (record { kind = Instance 0; words = 0 ∷ 0 ∷ []; live = false; mark = false }) ∷ replicate 255 None; free = range_with_len 1 255 })
-      ∷ InUse (record { cell_size = 16; pending = true; cells = Some (record { kind = Prim Long; words = replicate 5 0; live = true; mark = false }) ∷ replicate 63 None; free = range_with_len 1 63 })
+      InUse
+      (record {
+        cell_size = 4;
+        pending = true;
+        cells = Some (record { kind = Instance 0; words = 0 ∷ 0 ∷ []; live = false; mark = false })
+            ∷ replicate 255 None;
+        free = range_with_len 1 255;
+      })
+      ∷ InUse
+      (record {
+        cell_size = 16;
+        pending = true;
+        cells = Some (record { kind = Prim Long; words = replicate 5 0; live = true; mark = false })
+            ∷ replicate 63 None;
+        free = range_with_len 1 63;
+      })
       ∷ [];
   pool = [];
   registers = 0 ∷ 0x10002000 ∷ replicate 14 0;
@@ -275,7 +295,8 @@ node_condemned = record {
 
 -- the rewind of a sweep restores the condemned node in its region
 abbrev pub SweepAndReuseRewound : Type 0
-SweepAndReuseRewound = Replies 2 1024 swept_and_rewound × (end_state 2 1024 swept_and_rewound ≡ node_condemned)
+SweepAndReuseRewound =
+    Replies 2 1024 swept_and_rewound × (end_state 2 1024 swept_and_rewound ≡ node_condemned)
 
 -- ---- the barrier
 
@@ -302,7 +323,8 @@ log_after n = (end_state 16 1024 (take n stores_logged)).log
 
 -- the words of an object after the first n lines
 abbrev pub words_after : ℕ → ℕ → Option (List ℕ)
-words_after n x = option_map (λ o. o.words) (object_of (end_state 16 1024 (take n stores_logged)).regions x)
+words_after n x =
+    option_map (λ o. o.words) (object_of (end_state 16 1024 (take n stores_logged)).regions x)
 
 -- the log has the old value of each store that overwrote a reference, and a rewind takes it out again
 pub record BarrierLogsOldValues : Type 0 where
@@ -312,6 +334,7 @@ pub record BarrierLogsOldValues : Type 0 where
   pub itself_overwritten : log_after 6 ≡ 0x10000000 ∷ []
   pub second_null : log_after 8 ≡ 0x10000000 ∷ []
   pub second_overwritten : log_after 9 ≡ 0x10000000 ∷ 0x10000000 ∷ []
-  pub rewound_one : (log_after 10 ≡ 0x10000000 ∷ []) × (words_after 10 0x10000020 ≡ Some (0x10000000 ∷ 0 ∷ []))
+  pub rewound_one : (log_after 10 ≡ 0x10000000 ∷ [])
+      × (words_after 10 0x10000020 ≡ Some (0x10000000 ∷ 0 ∷ []))
   pub rewound_three : (log_after 11 ≡ []) × (words_after 11 0x10000000 ≡ Some (0x10000000 ∷ 0 ∷ []))
   pub rewound_two : (log_after 12 ≡ []) × (words_after 12 0x10000000 ≡ Some (0 ∷ 0 ∷ []))

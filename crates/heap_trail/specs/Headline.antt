@@ -24,7 +24,9 @@ pub record IsRewound (n : ℕ) (m : Machine) (r : Machine × Reply) : Type 0 whe
 
 -- this machine and this reply are back at the state and the place of m
 abbrev pub IsBackAt : Machine → Machine × Reply → Type 0
-IsBackAt m r = (r.0.trail.current ≡ m.trail.current) × (r.0.trail.place ≡ m.trail.place) × (r.1 ≡ Place m.trail.place)
+IsBackAt m r =
+    (r.0.trail.current ≡ m.trail.current) × (r.0.trail.place ≡ m.trail.place)
+    × (r.1 ≡ Place m.trail.place)
 
 -- a step that is answered, under any mark, and a rewind of one lead back to the state and the place before
 abbrev pub UndoesStep : Machine → Type 0
@@ -37,7 +39,9 @@ RewindsRetained m = (n : ℕ) → n ≤ retained m.trail → IsRewound n m (acte
 
 -- to rewind a + b retained steps is to rewind a and then b: the same machine, pins included, and the same reply
 abbrev pub RewindsInParts : Machine → Type 0
-RewindsInParts m = (a b : ℕ) → a + b ≤ retained m.trail → acted (acted m (Rewind a)).0 (Rewind b) ≡ acted m (Rewind (a + b))
+RewindsInParts m =
+    (a b : ℕ) → a + b ≤ retained m.trail
+    → acted (acted m (Rewind a)).0 (Rewind b) ≡ acted m (Rewind (a + b))
 
 -- whether the action is a rewind
 abbrev pub is_rewind : Action → Bool
@@ -59,27 +63,33 @@ RewindsOver m later = HasNoRewind later → (n : ℕ)
 
 -- the replies to the steps and rewinds among these actions, in order
 unfoldable pub replies_beside_dumps : Machine → List (Action × Mark) → List Reply
-replies_beside_dumps m actions = map (λ p. p.1) (filter (λ p. not (is_dump_action p.0.0)) (zip actions (replies_of m actions)))
+replies_beside_dumps m actions =
+    map (λ p. p.1) (filter (λ p. not (is_dump_action p.0.0)) (zip actions (replies_of m actions)))
 
 -- steps and rewinds are answered as without the dumps, and lead to the same trail; marks that may stand with them may stand
 -- without them
 abbrev pub GoesAsWithoutDumps : Machine → List (Action × Mark) → Type 0
 GoesAsWithoutDumps m actions =
     let others = without_dumps actions in
-    (replies_beside_dumps m actions ≡ replies_of m others) × LeavesTrail m actions × (AreMarks m actions → AreMarks m others)
+    (replies_beside_dumps m actions ≡ replies_of m others) × LeavesTrail m actions
+    × (AreMarks m actions → AreMarks m others)
 
 -- ---- pins
 
 -- a pin that is opened, if each has a number below the next, shows the state at the place asked for, and has given nothing
 abbrev pub OpensPin : Machine → Type 0
-OpensPin m = AreNumbered m.pins → (at : Option ℕ) (n : Machine) (pin place : ℕ) → acted m (OpenPin at) ≡ (n, Pinned pin place)
+OpensPin m =
+    AreNumbered m.pins → (at : Option ℕ) (n : Machine) (pin place : ℕ)
+    → acted m (OpenPin at) ≡ (n, Pinned pin place)
     → (place ≡ unwrap_or at m.trail.place) × (pin < n.pins.next)
-    × (pin_at pin n.pins ≡ Some (Kept place (image_of (state_ago (m.trail.place - place) m.trail)) 0))
+    × (pin_at pin n.pins
+    ≡ Some (Kept place (image_of (state_ago (m.trail.place - place) m.trail)) 0))
 
 -- a pin that was opened before, and isn't lost before the list nor after it, has the place and the image that it had
 abbrev pub KeepsPin : Machine → List (Action × Mark) → ℕ → Type 0
 KeepsPin m actions pin = pin < m.pins.next → (p q : ℕ) (i j : Image) (g h : ℕ)
-    → pin_at pin m.pins ≡ Some (Kept p i g) → pin_at pin (machine_after m actions).pins ≡ Some (Kept q j h) → (q ≡ p) × (j ≡ i)
+    → pin_at pin m.pins ≡ Some (Kept p i g)
+    → pin_at pin (machine_after m actions).pins ≡ Some (Kept q j h) → (q ≡ p) × (j ≡ i)
 
 -- ---- the headline
 

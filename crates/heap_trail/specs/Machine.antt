@@ -27,7 +27,13 @@ pub record Machine : Type 0 where
 
 -- a machine at place 0, with no object and no pin
 unfoldable pub opening_machine : IdSize → ℕ → ℕ → ℕ → Machine
-opening_machine ids regions mutators keep = record { keep = keep; ids = ids; trail = opening_trail (opening_state regions mutators); pins = no_pins }
+opening_machine ids regions mutators keep =
+    record {
+      keep = keep;
+      ids = ids;
+      trail = opening_trail (opening_state regions mutators);
+      pins = no_pins;
+    }
 
 -- ---- one action
 
@@ -48,7 +54,9 @@ unless (Some r) f m = (m, Refused r)
 
 -- the machine after a rewind of n retained steps, and the reply
 unfoldable pub after_rewind_by : ℕ → Machine → Machine × Reply
-after_rewind_by n m = let t = rewound n m.trail in (record m { trail = t; pins = after_rewind t.place m.pins }, Place t.place)
+after_rewind_by n m =
+    let t = rewound n m.trail in
+    (record m { trail = t; pins = after_rewind t.place m.pins }, Place t.place)
 
 -- the machine after a pin is opened on the state at this place, and the reply
 unfoldable pub after_open : ℕ → Machine → Machine × Reply
@@ -63,7 +71,10 @@ counted false pin m = m
 unfoldable pub after_piece : ℕ → ℕ → Machine → Option PinState → Machine × Reply
 after_piece pin time m None = (m, Refused NoPin)
 after_piece pin time m (Some (Gone cause)) = (m, Refused (Lost cause))
-after_piece pin time m (Some (Kept place image given)) = (counted (nat_lt given (length (pieces_of m.ids image time))) pin m, Part (piece_of m.ids image time given))
+after_piece pin time m (Some (Kept place image given)) = (
+  counted (nat_lt given (length (pieces_of m.ids image time))) pin m,
+  Part (piece_of m.ids image time given),
+)
 
 -- the machine after the pin is closed, and the reply
 unfoldable pub after_close : ℕ → Machine → Option PinState → Machine × Reply
@@ -74,7 +85,9 @@ after_close pin m (Some s) = (record m { pins = without_pin pin m.pins }, Closed
 unfoldable pub acted : Machine → Action → Machine × Reply
 acted m (Step e) = after_step_at (nat_le last_place m.trail.place) e m
 acted m (Rewind n) = unless (rewind_refusal n m.trail) (after_rewind_by n) m
-acted m (OpenPin at) = let place = unwrap_or at m.trail.place in unless (open_refusal place m.trail m.pins) (after_open place) m
+acted m (OpenPin at) =
+    let place = unwrap_or at m.trail.place in
+    unless (open_refusal place m.trail m.pins) (after_open place) m
 acted m (NextPiece pin time) = after_piece pin time m (pin_at pin m.pins)
 acted m (ClosePin pin) = after_close pin m (pin_at pin m.pins)
 
@@ -90,7 +103,8 @@ pub data Mark : Type 0 where
 unfoldable pub acted_under : Machine → Action × Mark → Machine × Reply
 acted_under m (a, Fine) = acted m a
 acted_under m (a, Refusing) = (m, Refused NoMemory)
-acted_under m (a, Losing pins) = let r = acted m a in (record r.0 { pins = with_lost pins r.0.pins }, r.1)
+acted_under m (a, Losing pins) =
+    let r = acted m a in (record r.0 { pins = with_lost pins r.0.pins }, r.1)
 
 -- the machine after all actions of a list
 unfoldable pub machine_after : Machine → List (Action × Mark) → Machine
@@ -148,7 +162,9 @@ MayFail m a n r = (acted m a ≡ (n, Refused r)) ⊎ (MayStand m (a, Refusing) �
 
 -- under some marks these actions lead from m to n, with these replies
 abbrev pub MayDrive : Machine → List Action → List Reply → Machine → Type 0
-MayDrive m actions replies n = (marked : List (Action × Mark)) × (map (λ a. a.0) marked ≡ actions) × AreMarks m marked × (replies ≡ replies_of m marked) × (n ≡ machine_after m marked)
+MayDrive m actions replies n =
+    (marked : List (Action × Mark)) × (map (λ a. a.0) marked ≡ actions) × AreMarks m marked
+    × (replies ≡ replies_of m marked) × (n ≡ machine_after m marked)
 
 -- a piece has at most 2 ^ 24 bytes
 abbrev pub IsSmall : Reply → Type 0

@@ -42,18 +42,27 @@ pub record IsKept (w : HeapState) (ring : Buffer Undo) (place keep : ℕ) : Type
 
 -- the machine that has this size of ids, state, ring, place and number of records to keep, and these pins
 abbrev pub machine_with : IdSize → HeapState → Buffer Undo → ℕ → ℕ → Pins → Machine
-machine_with ids w ring place keep pins = record { keep = keep; ids = ids; trail = record { place = place; current = w; past = past_of w ring.items }; pins = pins }
+machine_with ids w ring place keep pins =
+    record {
+      keep = keep;
+      ids = ids;
+      trail = record { place = place; current = w; past = past_of w ring.items };
+      pins = pins;
+    }
 
 -- the machine whose pins are those of these slots, with this number for the next
 abbrev pub machine_of : IdSize → HeapState → Buffer Undo → ℕ → ℕ → ℕ → List Slot → Machine
-machine_of ids w ring place keep next slots = machine_with ids w ring place keep (pins_of w next slots)
+machine_of ids w ring place keep next slots =
+    machine_with ids w ring place keep (pins_of w next slots)
 
 -- what holds of the pins: there are at most `pin_limit`, and their numbers are within the limit
-pub record IsPinning (ids : IdSize) (w : HeapState) (ring : Buffer Undo) (place next : ℕ) (slots : List Slot) : Type 0 where
+pub record IsPinning (ids : IdSize) (w : HeapState) (ring : Buffer Undo) (place next : ℕ)
+    (slots : List Slot) : Type 0 where
   pub held : AreHeld ids (w ∷ past_of w ring.items) place next slots
   pub few : length slots ≤ pin_limit
   pub numbered : (1 ≤ next) × (next ≤ last_pin + 1)
 
 -- what holds of a machine's fields; `room` is the number of pins for which there is room
 abbrev pub IsWhole : IdSize → HeapState → Buffer Undo → ℕ → ℕ → ℕ → List Slot → ℕ → Type 0
-IsWhole ids w ring place keep next slots room = IsKept w ring place keep × IsPinning ids w ring place next slots × (pin_limit ≤ room)
+IsWhole ids w ring place keep next slots room =
+    IsKept w ring place keep × IsPinning ids w ring place next slots × (pin_limit ≤ room)

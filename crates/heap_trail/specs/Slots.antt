@@ -35,7 +35,8 @@ state_of w (Lost cause) = Gone cause
 
 -- all pins as the model sees them
 unfoldable pub pins_of : HeapState → ℕ → List Slot → Pins
-pins_of w next slots = record { next = next; open_pins = map (λ s. (s.number, state_of w s.held)) slots }
+pins_of w next slots =
+    record { next = next; open_pins = map (λ s. (s.number, state_of w s.held)) slots }
 
 -- the pin has a place for the copy of each of n regions, or it is lost
 abbrev pub IsSizedHeld : ℕ → Held → Type 0
@@ -73,7 +74,9 @@ slot_lost cause s = record s { held = Lost cause }
 
 -- the pin keeps what it has to, or it is lost, by a step that touched a region
 abbrev pub MayKeep : Undo → HeapState → Slot → Slot → Type 0
-MayKeep left v s t = (t ≡ slot_kept left v s) ⊎ ((t ≡ slot_lost Memory s) × (is_kept s.held ≡ true) × IsSome (touched left))
+MayKeep left v s t =
+    (t ≡ slot_kept left v s)
+    ⊎ ((t ≡ slot_lost Memory s) × (is_kept s.held ≡ true) × IsSome (touched left))
 
 -- the region is one of the heap's, unless the pin is lost
 abbrev pub IsWithin : ℕ → Held → Type 0
@@ -89,7 +92,8 @@ is_settled region (Lost cause) = true
 
 -- the pin after a rewind to a place: it is lost if its own place is above
 unfoldable pub held_after_rewind : ℕ → Held → Held
-held_after_rewind to (Kept place pin cursor given) = if nat_lt to place then Lost Rewound else Kept place pin cursor given
+held_after_rewind to (Kept place pin cursor given) =
+    if nat_lt to place then Lost Rewound else Kept place pin cursor given
 held_after_rewind to (Lost cause) = Lost cause
 
 -- the slot after a rewind to a place
@@ -100,7 +104,8 @@ slot_after_rewind to s = record s { held = held_after_rewind to s.held }
 
 -- `given` pieces of a dump were given, and the cursor stands at the next
 abbrev pub IsGivenOf : IdSize → Image → List ObjRef → Cursor → ℕ → Type 0
-IsGivenOf ids image places cursor given = IsAt ids image places cursor given × (given ≤ length (records_from (sub_records ids image)) + 1)
+IsGivenOf ids image places cursor given =
+    IsAt ids image places cursor given × (given ≤ length (records_from (sub_records ids image)) + 1)
 
 -- so it is of the dump of u
 abbrev pub IsGiven : IdSize → HeapState → Cursor → ℕ → Type 0
@@ -108,7 +113,8 @@ IsGiven ids u cursor given = IsGivenOf ids (image_of u) (live_places u.regions) 
 
 -- the pin holds the state at its place, and its cursor stands after the pieces that were given; or it is lost
 abbrev pub HoldsAt : IdSize → List HeapState → ℕ → Held → Type 0
-HoldsAt ids states place (Kept at pin cursor given) = (u : HeapState) × (at ≤ place) × Holds pin u (place - at) states × IsGiven ids u cursor given
+HoldsAt ids states place (Kept at pin cursor given) =
+    (u : HeapState) × (at ≤ place) × Holds pin u (place - at) states × IsGiven ids u cursor given
 HoldsAt ids states place (Lost cause) = Unit {0}
 
 -- each of these has a number above n
@@ -119,13 +125,16 @@ AreAbove n (s ∷ slots) = (n < s.number) × AreAbove n slots
 -- the pins hold states at their places, their numbers rise, and all are below the next one
 abbrev pub AreHeld : IdSize → List HeapState → ℕ → ℕ → List Slot → Type 0
 AreHeld ids states place next [] = Unit {0}
-AreHeld ids states place next (s ∷ slots) = HoldsAt ids states place s.held × (s.number < next) × AreAbove s.number slots × AreHeld ids states place next slots
+AreHeld ids states place next (s ∷ slots) =
+    HoldsAt ids states place s.held × (s.number < next) × AreAbove s.number slots
+    × AreHeld ids states place next slots
 
 -- ---- a piece
 
 -- a pin that isn't lost shows some state beside this one, and its cursor stands after the pieces that were given
 abbrev pub CanGive : IdSize → HeapState → Held → Type 0
-CanGive ids w (Kept place pin cursor given) = ShowsSome pin w × IsGivenOf ids (pin_image pin w) (places_from 0 pin.live) cursor given
+CanGive ids w (Kept place pin cursor given) =
+    ShowsSome pin w × IsGivenOf ids (pin_image pin w) (places_from 0 pin.live) cursor given
 CanGive ids w (Lost cause) = Unit {0}
 
 -- the number of pieces given after one more; past the last, none is counted
@@ -136,7 +145,8 @@ given_after given pieces = if nat_lt given pieces then given + 1 else given
 abbrev pub IsNext : IdSize → HeapState → ℕ → Held → Piece → Cursor → Type 0
 IsNext ids w time (Kept place pin cursor given) piece next =
     let image = pin_image pin w in
-    (piece ≡ piece_of ids image time given) × IsAt ids image (places_from 0 pin.live) next (given + 1)
+    (piece ≡ piece_of ids image time given)
+    × IsAt ids image (places_from 0 pin.live) next (given + 1)
 IsNext ids w time (Lost cause) piece next = ⊥
 
 -- whether the cursor is past the last piece
@@ -146,7 +156,8 @@ is_past cursor = false
 
 -- the pin with its cursor moved on and the piece counted, unless the cursor is past the last piece
 unfoldable pub held_advanced : Cursor → Held → Held
-held_advanced to (Kept place pin cursor given) = if is_past cursor then Kept place pin cursor given else Kept place pin to (given + 1)
+held_advanced to (Kept place pin cursor given) =
+    if is_past cursor then Kept place pin cursor given else Kept place pin to (given + 1)
 held_advanced to (Lost cause) = Lost cause
 
 -- far fewer pieces were given than are counted
@@ -159,7 +170,8 @@ abbrev pub HasGiven : IdSize → HeapState → ℕ → Piece → Held → Held �
 HasGiven ids w time piece (Kept place pin cursor given) h =
     let image = pin_image pin w in
     let more = given_after given (length (pieces_of ids image time)) in
-    (piece ≡ piece_of ids image time given) × (next : Cursor) × (h ≡ Kept place pin next more) × IsGivenOf ids image (places_from 0 pin.live) next more
+    (piece ≡ piece_of ids image time given) × (next : Cursor) × (h ≡ Kept place pin next more)
+    × IsGivenOf ids image (places_from 0 pin.live) next more
 HasGiven ids w time piece (Lost cause) h = ⊥
 
 -- the refusal of a pin that gives no piece

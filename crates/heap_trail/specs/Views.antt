@@ -34,7 +34,8 @@ view_beside m p = record { pin = p; state = m.trail.current; ids = m.ids }
 -- the view shows the image of an open pin, with the machine's size of ids
 pub record IsViewOf (m : Machine) (pin : ℕ) (v : PinShown) : Type 0 where
   pub ids : v.ids ≡ m.ids
-  pub image : (place given : ℕ) × (pin_at pin m.pins ≡ Some (KeptState place (pin_image v.pin v.state) given))
+  pub image : (place given : ℕ)
+      × (pin_at pin m.pins ≡ Some (KeptState place (pin_image v.pin v.state) given))
 
 -- the reason why a pin shows nothing, if there is one
 unfoldable pub view_refusal : Option PinState → Option Refusal

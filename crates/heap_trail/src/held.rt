@@ -122,7 +122,8 @@ impl Slot {
         time: u64,
     ) -> Result<Piece, Refusal>
         requires { CanGive ids world.now self.old.held }
-        ensures given { IfOk result (λ p. HasGiven ids world.now time p self.old.held self.new.held) }
+        ensures given { IfOk result
+            (λ p. HasGiven ids world.now time p self.old.held self.new.held) }
         ensures number { self.new.number ≡ self.old.number }
         ensures refused { IfErr result (λ e. RefusesPiece self.old.held e) }
         ensures unchanged { OnErr result (self.new ≡ self.old) }

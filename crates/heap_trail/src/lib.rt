@@ -112,7 +112,8 @@ impl Model for Machine {
     ghost use Rattle.std.specs.Vec.{vec_capacity};
     ghost use Rattle.heap_trail.specs.Limits.{pin_limit};
 
-    ghost invariant = { λ m. IsWhole m.ids m.world m.records m.place m.keep m.next m.pins.items (vec_capacity m.pins) };
+    ghost invariant = { λ m. IsWhole m.ids m.world m.records m.place m.keep m.next m.pins.items
+        (vec_capacity m.pins) };
 }
 
 // Has each pin keep what the step that left this record and led to this state overwrote. A pin is lost if memory for it can't
@@ -185,7 +186,8 @@ impl Machine {
     /// Creates a machine at place 0, with room for `keep` records and for all pins. Fails with NoMemory if an allocation
     /// fails.
     pub fn new(alloc: Global, config: Config) -> Result<Machine, Refusal>
-        ensures opened { IfOk result (λ m. m ≡ opening_machine config.ids config.regions config.mutators config.keep) }
+        ensures opened { IfOk result
+            (λ m. m ≡ opening_machine config.ids config.regions config.mutators config.keep) }
         ensures refused { IfErr result (λ e. e ≡ NoMemory) }
     {
         let keep = config.keep();
@@ -223,9 +225,12 @@ impl Machine {
         ensures done { IfOk result (λ a. MayReply self.old (Step event.now) self.new (Answered a)) }
         ensures refused { IfErr result (λ e. MayFail self.old (Step event.now) self.new e) }
         ensures unchanged { OnErr result (self.new ≡ self.old) }
-        ensures spares { OnOk result ((region : ℕ) → event.now ≡ Sweep region → SparesReached self.old.trail.current self.new.trail.current) }
+        ensures spares { OnOk result
+            ((region : ℕ) → event.now ≡ Sweep region
+            → SparesReached self.old.trail.current self.new.trail.current) }
         ensures live { OnOk result (event.now ≡ Finish → ReachesLive self.new.trail.current) }
-        ensures finds { OnOk result (event.now ≡ Finish → FindsSnapshot self.old.trail.past self.new.trail.current) }
+        ensures finds { OnOk result
+            (event.now ≡ Finish → FindsSnapshot self.old.trail.past self.new.trail.current) }
     {
         if self.place >= LAST_PLACE {
             return Err(Refusal::ChronicleFull);
@@ -356,7 +361,8 @@ pub fn dump_is_whole()
 /// States that the pieces of a pin, whatever else is done between them, are a beginning of the text of its image, and all of
 /// it once the last piece was given.
 pub fn dumps_are_text()
-    ensures { (m : Machine) (actions : List (Action × Mark)) (pin time : ℕ) → GivesText m actions pin time }
+    ensures { (m : Machine) (actions : List (Action × Mark)) (pin time : ℕ)
+        → GivesText m actions pin time }
 {}
 
 /// States what holds after every list of actions. To undo the last retained step restores the whole state before it, to

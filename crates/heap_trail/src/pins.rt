@@ -27,7 +27,8 @@ impl Machine {
     /// isn't retained, with PinLimit if 4 pins are open or all numbers are used, or with NoMemory if an allocation fails. A
     /// refused call uses no number.
     pub fn open_pin(&mut self, at: Option<u64>) -> Result<Pinned, Refusal>
-        ensures done { IfOk result (λ p. acted self.old (OpenPin at) ≡ (self.new, PinnedReply p.pin p.at)) }
+        ensures done { IfOk result
+            (λ p. acted self.old (OpenPin at) ≡ (self.new, PinnedReply p.pin p.at)) }
         ensures refused { IfErr result (λ e. MayFail self.old (OpenPin at) self.new e) }
         ensures unchanged { OnErr result (self.new ≡ self.old) }
     {
@@ -72,7 +73,8 @@ impl Machine {
     /// Closes a pin, lost or not. Fails with NoPin if no such pin is open. Takes no memory.
     pub fn close_pin(&mut self, pin: u64) -> Result<(), Refusal>
         ensures done { IfOk result (λ u. acted self.old (ClosePin pin) ≡ (self.new, Closed)) }
-        ensures refused { IfErr result (λ e. acted self.old (ClosePin pin) ≡ (self.new, Refused e)) }
+        ensures refused { IfErr result
+            (λ e. acted self.old (ClosePin pin) ≡ (self.new, Refused e)) }
         ensures unchanged { OnErr result (self.new ≡ self.old) }
     {
         match slot_of(&self.pins, pin) {

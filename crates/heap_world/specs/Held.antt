@@ -8,7 +8,17 @@ use Rattle.heap_world.specs.Legal.{IsLegal}
 
 -- the state with these parts
 abbrev pub held : List Class → RegionPool → List ℕ → MarkerState → HeapState
-held classes pool registers marker = record { classes = classes; regions = pool.regions; pool = pool.pool; registers = registers; gray = marker.gray; log = marker.log; drained = marker.drained; phase = marker.phase }
+held classes pool registers marker =
+    record {
+      classes = classes;
+      regions = pool.regions;
+      pool = pool.pool;
+      registers = registers;
+      gray = marker.gray;
+      log = marker.log;
+      drained = marker.drained;
+      phase = marker.phase;
+    }
 
 -- the state is legal, and `room` ids are as many as all regions can have cells
 pub record IsHeld (state : HeapState) (room : ℕ) : Type 0 where

@@ -16,7 +16,8 @@ takes (b ∷ bs) n = nat_le (length (b ∷ bs) + n) segment_limit
 -- a body with the sub-records that it takes of these, from the front, and those that are left
 unfoldable pub filled : List ℕ → List (List ℕ) → List ℕ × List (List ℕ)
 filled body [] = (body, [])
-filled body (x ∷ xs) = elim (takes body (length x)) [ true ↦ filled (body ++ x) xs | false ↦ (body, x ∷ xs) ]
+filled body (x ∷ xs) =
+    elim (takes body (length x)) [ true ↦ filled (body ++ x) xs | false ↦ (body, x ∷ xs) ]
 
 -- a sub-record was offered to a body, which took it or not
 pub record IsOffered (x old new : List ℕ) (taken : Bool) : Type 0 where
@@ -25,17 +26,22 @@ pub record IsOffered (x old new : List ℕ) (taken : Bool) : Type 0 where
 
 -- the items from number n on were offered, and others may follow them: from the first that wasn't taken on, all are left
 abbrev pub IsFilledFrom : List (List ℕ) → ℕ → Option ℕ → List ℕ → List ℕ → Type 0
-IsFilledFrom items n (Some m) old new = (more : List (List ℕ)) → filled old (drop n items ++ more) ≡ (new, drop m items ++ more)
-IsFilledFrom items n None old new = (more : List (List ℕ)) → filled old (drop n items ++ more) ≡ filled new more
+IsFilledFrom items n (Some m) old new =
+    (more : List (List ℕ)) → filled old (drop n items ++ more) ≡ (new, drop m items ++ more)
+IsFilledFrom items n None old new =
+    (more : List (List ℕ)) → filled old (drop n items ++ more) ≡ filled new more
 
 -- the same for objects: the first that wasn't taken has this place
-abbrev pub IsFilledBefore : List ObjRef → List (List ℕ) → ℕ → Option ObjRef → List ℕ → List ℕ → Type 0
-IsFilledBefore places items n (Some at) old new = (m : ℕ) × (slice_get places m ≡ Some at) × IsFilledFrom items n (Some m) old new
+abbrev pub IsFilledBefore : List ObjRef → List (List ℕ) → ℕ → Option ObjRef → List ℕ → List ℕ
+    → Type 0
+IsFilledBefore places items n (Some at) old new =
+    (m : ℕ) × (slice_get places m ≡ Some at) × IsFilledFrom items n (Some m) old new
 IsFilledBefore places items n None old new = IsFilledFrom items n None old new
 
 -- the same for the roots of the registers, which nothing follows
 abbrev pub IsFilledRoots : IdSize → List ℕ → ℕ → Option ℕ → List ℕ → List ℕ → Type 0
-IsFilledRoots ids registers n (Some m) old new = filled old (from_register ids registers n) ≡ (new, from_register ids registers m)
+IsFilledRoots ids registers n (Some m) old new =
+    filled old (from_register ids registers n) ≡ (new, from_register ids registers m)
 IsFilledRoots ids registers n None old new = filled old (from_register ids registers n) ≡ (new, [])
 
 -- these are the sub-records from the cursor on
@@ -43,11 +49,14 @@ abbrev pub IsRest : IdSize → Image → List ObjRef → Cursor → List (List �
 IsRest ids image places Start rest = ⊥
 IsRest ids image places (ClassDump n) rest = rest ≡ from_class ids image n
 IsRest ids image places (ClassRoot n) rest = rest ≡ from_root ids image n
-IsRest ids image places (Object at) rest = (n : ℕ) × (slice_get places n ≡ Some at) × (rest ≡ from_object ids image n)
+IsRest ids image places (Object at) rest =
+    (n : ℕ) × (slice_get places n ≡ Some at) × (rest ≡ from_object ids image n)
 IsRest ids image places (RegisterRoot n) rest = rest ≡ from_register ids image.registers n
 IsRest ids image places End rest = rest ≡ []
 IsRest ids image places Past rest = ⊥
 
 -- the body took of these sub-records those that it takes, and the cursor is before those that are left
-abbrev pub IsFilledTo : IdSize → Image → List ObjRef → List (List ℕ) → Cursor → List ℕ → List ℕ → Type 0
-IsFilledTo ids image places rest cursor old new = (new ≡ (filled old rest).0) × IsRest ids image places cursor (filled old rest).1
+abbrev pub IsFilledTo : IdSize → Image → List ObjRef → List (List ℕ) → Cursor → List ℕ → List ℕ
+    → Type 0
+IsFilledTo ids image places rest cursor old new =
+    (new ≡ (filled old rest).0) × IsRest ids image places cursor (filled old rest).1

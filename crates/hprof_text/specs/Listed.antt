@@ -18,11 +18,13 @@ dumped o = record { id = o.id; kind = o.kind; words = o.words.items }
 
 -- the image of these classes, registers and objects
 abbrev pub image_of : List Class → List ℕ → List ListedObject → Image
-image_of classes registers objects = record { classes = classes; registers = registers; objects = map dumped objects }
+image_of classes registers objects =
+    record { classes = classes; registers = registers; objects = map dumped objects }
 
 -- the object's kind is known, and its words are few enough
 abbrev pub IsShown : List Class → ListedObject → Type 0
-IsShown classes o = IsKnown classes o.kind (length o.words.items) × (length o.words.items ≤ array_limit)
+IsShown classes o =
+    IsKnown classes o.kind (length o.words.items) × (length o.words.items ≤ array_limit)
 
 -- object i stands in region 0 at cell i
 abbrev pub listed_place : ℕ → ObjRef

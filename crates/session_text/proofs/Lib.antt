@@ -7,6 +7,7 @@ pub mod Plain
 pub mod Named
 pub mod Sizes
 pub mod Numbers
+pub mod WholeWords
 pub mod Fielded
 pub mod Talking
 pub mod Sessions

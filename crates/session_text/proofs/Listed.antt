@@ -19,7 +19,7 @@ use Rattle.session_text.specs.declared.ReadEnd.{ReadEnd}
 use Rattle.session_text.specs.declared.ReadEnd.TheVariants.{Over, Failed, Spent}
 use Rattle.session_text.specs.declared.command.Command.{Command}
 use Rattle.session_text.specs.declared.command.Command.TheVariants.{Blank, Bad, Ask, Piece, Dump, DumpNow, End}
-use Rattle.session_text.specs.Answers.{Answers, Begins}
+use Rattle.session_text.specs.Answers.{Answers, AnswersTo, BeginsTo, IsBadCommand, all_bad}
 use Rattle.session_text.specs.Dumps.{Goes, Dumps, ClosesAfter, total_line}
 use Rattle.dump_pump.specs.Sources.{part_limit}
 use Rattle.session_text.specs.Grammar.{command_of}
@@ -161,7 +161,7 @@ open_listed k time m before r (Some pin) t le l h =
 record AnswerListed (time : ℕ) (k : Command) (m : Machine) (before : List (Action × Mark)) (t : Talk) : Type 0 where
   after : List (Action × Mark)
   text : List ℕ
-  answers : Answers (InTurn m) time k before text after
+  answers : AnswersTo (InTurn m) IsBadCommand time k before text after
   leads : Leads m (after_command time k t).machine after
   written : (after_command time k t).written ≡ t.written ++ text
 
@@ -200,7 +200,7 @@ answer_listed time End m before t isnt l h = absurd (true≢false isnt)
 -- a command that was begun, a dump up to some piece
 record BegunListed (pieces time : ℕ) (k : Command) (m : Machine) (before : List (Action × Mark)) (t : Talk) : Type 0 where
   after : List (Action × Mark)
-  begun : (after ≡ before) ⊎ ((tail : List ℕ) × Begins (InTurn m) time k before tail after)
+  begun : (after ≡ before) ⊎ ((tail : List ℕ) × BeginsTo (InTurn m) IsBadCommand time k before tail after)
   leads : Leads m (after_up_to pieces time k t).machine after
 
 begun_listed : (pieces time : ℕ) (k : Command) (m : Machine) (before : List (Action × Mark)) (t : Talk) → pieces ≤ part_limit → Leads m t.machine before → FitsCommand time k t → BegunListed pieces time k m before t
@@ -306,7 +306,7 @@ record LinesListed (time : ℕ) (bytes : List ℕ) (m : Machine) (before : List 
   text : List ℕ
   after : List (Action × Mark)
   are : bytes ≡ stream lines ++ rest
-  talks : Talks (Answers (InTurn m) time) lines before text after
+  talks : Talks (Answers (InTurn m) all_bad time) lines before text after
   stop : IsStop rest
   leads : Leads m s.0.machine after
   written : s.0.written ≡ t.written ++ (text ++ ending_line s.1)
@@ -415,7 +415,7 @@ record WholeListed (time : ℕ) (bytes rest : List ℕ) (m : Machine) (before : 
   text : List ℕ
   after : List (Action × Mark)
   are : bytes ≡ stream lines
-  talks : Talks (Answers (InTurn m) time) lines before text after
+  talks : Talks (Answers (InTurn m) all_bad time) lines before text after
   leads : Leads m t.machine after
   fit : FitLines time (parts rest) t
 
@@ -473,7 +473,7 @@ record StopListed (time : ℕ) (rest : List ℕ) (m : Machine) (before : List (A
   begun : IsBegun m time rest before after
   leads : Leads m m' after
 
-line_begun : (time : ℕ) (l rest : List ℕ) (m : Machine) (before after : List (Action × Mark)) → BeginsWith l rest → (after ≡ before) ⊎ ((tail : List ℕ) × Begins (InTurn m) time (command_of l) before tail after)
+line_begun : (time : ℕ) (l rest : List ℕ) (m : Machine) (before after : List (Action × Mark)) → BeginsWith l rest → (after ≡ before) ⊎ ((tail : List ℕ) × BeginsTo (InTurn m) IsBadCommand time (command_of l) before tail after)
     → IsBegun m time rest before after
 line_begun time l rest m before after starts (inl same) = inl same
 line_begun time l rest m before after starts (inr (tail, begins)) = inr (l, tail, starts, begins)

@@ -15,7 +15,7 @@ use Rattle.session_text.specs.declared.mutator.Quick.TheVariants.{No, Next, Faul
 use Rattle.dump_pump.specs.Outlets.{Outgoing}
 use Rattle.session_text.specs.declared.answer.Step.{Step as Outcome}
 use Rattle.session_text.specs.declared.answer.Step.TheVariants.{Next as Goes, Fault as Fails}
-use Rattle.session_text.specs.Answers.{Answers, Begins}
+use Rattle.session_text.specs.Answers.{Reaction, Says, Answers, Begins, AnswersTo, BeginsTo}
 use Rattle.session_text.specs.Dumps.{Acts}
 use Rattle.session_text.specs.Endings.{step_of}
 use Rattle.session_text.specs.Replies.{reply_text}
@@ -372,24 +372,24 @@ asks_new t a b c key has = asks t (codes "new") (words_of (drop 4 t)) (Ask (Step
 
 -- ---- the answer of a line
 
-step_asked : {S : Type 0} (acts : Acts S) (time : ℕ) (k : Command) (c : S) (page : List ℕ) (w : Outgoing) (c' : S) (page' : List ℕ) (w' : Outgoing) (r : Bool)
-    → IsAsked acts k c page w c' page' w' r → IsStep (Answers acts time) (Begins acts time) k c page w c' page' w' (step_of r)
-step_asked acts time k c page w c' page' w' r h =
-    let says : Answers acts time (Ask (Step h.0)) c (reply_text h.2.0) c' = (h.2.0, inl h.2.1, refl) in
-    subst (λ x. IsStep (Answers acts time) (Begins acts time) x c page w c' page' w' (step_of r)) (sym h.1) (step_added (Answers acts time) (Begins acts time) (Ask (Step h.0)) c page w c' page' w' (reply_text h.2.0) r says says h.2.2)
+step_asked : {S : Type 0} (acts : Acts S) (unknown : Reaction S) (time : ℕ) (k : Command) (c : S) (page : List ℕ) (w : Outgoing) (c' : S) (page' : List ℕ) (w' : Outgoing) (r : Bool)
+    → IsAsked acts k c page w c' page' w' r → IsStep (AnswersTo acts unknown time k) (BeginsTo acts unknown time k) k c page w c' page' w' (step_of r)
+step_asked acts unknown time k c page w c' page' w' r h =
+    let says : AnswersTo acts unknown time (Ask (Step h.0)) c (reply_text h.2.0) c' = (h.2.0, inl h.2.1, refl) in
+    subst (λ x. IsStep (AnswersTo acts unknown time x) (BeginsTo acts unknown time x) x c page w c' page' w' (step_of r)) (sym h.1) (step_added (AnswersTo acts unknown time (Ask (Step h.0))) (BeginsTo acts unknown time (Ask (Step h.0))) (Ask (Step h.0)) c page w c' page' w' (reply_text h.2.0) r says says h.2.2)
 
 -- the first line of a text, which was answered at once
-pub step_quick : {S : Type 0} (acts : Acts S) (time : ℕ) (line : List ℕ) (c : S) (page : List ℕ) (w : Outgoing) (c' : S) (page' : List ℕ) (w' : Outgoing) (r : Bool)
-    → line ≡ without_cr line → IsAsked acts (command_of_text line) c page w c' page' w' r → IsStep (Answers acts time) (Begins acts time) (command_of line) c page w c' page' w' (step_of r)
+pub step_quick : {S : Type 0} (acts : Acts S) (unknown : Says S) (time : ℕ) (line : List ℕ) (c : S) (page : List ℕ) (w : Outgoing) (c' : S) (page' : List ℕ) (w' : Outgoing) (r : Bool)
+    → line ≡ without_cr line → IsAsked acts (command_of_text line) c page w c' page' w' r → IsStep (Answers acts unknown time line) (Begins acts unknown time line) (command_of line) c page w c' page' w' (step_of r)
 unfolding command_of
-step_quick acts time line c page w c' page' w' r is h =
-    subst (λ t. IsStep (Answers acts time) (Begins acts time) (command_of_text t) c page w c' page' w' (step_of r)) is (step_asked acts time (command_of_text line) c page w c' page' w' r h)
+step_quick acts unknown time line c page w c' page' w' r is h =
+    subst (λ t. IsStep (AnswersTo acts (unknown t) time (command_of_text t)) (BeginsTo acts (unknown t) time (command_of_text t)) (command_of_text t) c page w c' page' w' (step_of r)) is (step_asked acts (unknown line) time (command_of_text line) c page w c' page' w' r h)
 
 -- a line that is read without the CR at its end
-pub step_read : {S : Type 0} (acts : Acts S) (time : ℕ) (line text : List ℕ) (c : S) (page : List ℕ) (w : Outgoing) (c' : S) (page' : List ℕ) (w' : Outgoing) (step : Outcome)
-    → text ≡ without_cr line → IsStep (Answers acts time) (Begins acts time) (command_of_text text) c page w c' page' w' step → IsStep (Answers acts time) (Begins acts time) (command_of line) c page w c' page' w' step
+pub step_read : {S : Type 0} (acts : Acts S) (unknown : Says S) (time : ℕ) (line text : List ℕ) (c : S) (page : List ℕ) (w : Outgoing) (c' : S) (page' : List ℕ) (w' : Outgoing) (step : Outcome)
+    → text ≡ without_cr line → IsStep (AnswersTo acts (unknown text) time (command_of_text text)) (BeginsTo acts (unknown text) time (command_of_text text)) (command_of_text text) c page w c' page' w' step → IsStep (Answers acts unknown time line) (Begins acts unknown time line) (command_of line) c page w c' page' w' step
 unfolding command_of
-step_read acts time line text c page w c' page' w' step is h = subst (λ t. IsStep (Answers acts time) (Begins acts time) (command_of_text t) c page w c' page' w' step) is h
+step_read acts unknown time line text c page w c' page' w' step is h = subst (λ t. IsStep (AnswersTo acts (unknown t) time (command_of_text t)) (BeginsTo acts (unknown t) time (command_of_text t)) (command_of_text t) c page w c' page' w' step) is h
 
 pub passed : (t : List ℕ) (q : Quick) (n : ℕ) → IsShortLine n t → IsPassed t q n
 passed t No n h = tt
@@ -397,17 +397,17 @@ passed t Next n h = h
 passed t Fault n h = h
 
 -- the first line of a text, by what has come of it
-pub quick_next : {S : Type 0} (acts : Acts S) (time : ℕ) (text : List ℕ) (q : Quick) (n : ℕ) (c : S) (page : List ℕ) (w : Outgoing) (c' : S) (page' : List ℕ) (w' : Outgoing)
-    → q ≡ Next → IsQuickIn acts text c page w c' page' w' (q, n) → IsShortLine n text × IsStep (Answers acts time) (Begins acts time) (command_of (take n text)) c page w c' page' w' Goes
-quick_next acts time text No n c page w c' page' w' e h = cc
-quick_next acts time text Next n c page w c' page' w' e h = (h.0, step_quick acts time (take n text) c page w c' page' w' true h.0.2 h.1)
-quick_next acts time text Fault n c page w c' page' w' e h = cc
+pub quick_next : {S : Type 0} (acts : Acts S) (unknown : Says S) (time : ℕ) (text : List ℕ) (q : Quick) (n : ℕ) (c : S) (page : List ℕ) (w : Outgoing) (c' : S) (page' : List ℕ) (w' : Outgoing)
+    → q ≡ Next → IsQuickIn acts text c page w c' page' w' (q, n) → IsShortLine n text × IsStep (Answers acts unknown time (take n text)) (Begins acts unknown time (take n text)) (command_of (take n text)) c page w c' page' w' Goes
+quick_next acts unknown time text No n c page w c' page' w' e h = cc
+quick_next acts unknown time text Next n c page w c' page' w' e h = (h.0, step_quick acts unknown time (take n text) c page w c' page' w' true h.0.2 h.1)
+quick_next acts unknown time text Fault n c page w c' page' w' e h = cc
 
-pub quick_fault : {S : Type 0} (acts : Acts S) (time : ℕ) (text : List ℕ) (q : Quick) (n : ℕ) (c : S) (page : List ℕ) (w : Outgoing) (c' : S) (page' : List ℕ) (w' : Outgoing)
-    → q ≡ Fault → IsQuickIn acts text c page w c' page' w' (q, n) → IsShortLine n text × IsStep (Answers acts time) (Begins acts time) (command_of (take n text)) c page w c' page' w' Fails
-quick_fault acts time text No n c page w c' page' w' e h = cc
-quick_fault acts time text Next n c page w c' page' w' e h = cc
-quick_fault acts time text Fault n c page w c' page' w' e h = (h.0, step_quick acts time (take n text) c page w c' page' w' false h.0.2 h.1)
+pub quick_fault : {S : Type 0} (acts : Acts S) (unknown : Says S) (time : ℕ) (text : List ℕ) (q : Quick) (n : ℕ) (c : S) (page : List ℕ) (w : Outgoing) (c' : S) (page' : List ℕ) (w' : Outgoing)
+    → q ≡ Fault → IsQuickIn acts text c page w c' page' w' (q, n) → IsShortLine n text × IsStep (Answers acts unknown time (take n text)) (Begins acts unknown time (take n text)) (command_of (take n text)) c page w c' page' w' Fails
+quick_fault acts unknown time text No n c page w c' page' w' e h = cc
+quick_fault acts unknown time text Next n c page w c' page' w' e h = cc
+quick_fault acts unknown time text Fault n c page w c' page' w' e h = (h.0, step_quick acts unknown time (take n text) c page w c' page' w' false h.0.2 h.1)
 
 pub quick_left : {S : Type 0} (acts : Acts S) (text : List ℕ) (q : Quick) (n : ℕ) (c : S) (page : List ℕ) (w : Outgoing) (c' : S) (page' : List ℕ) (w' : Outgoing)
     → q ≡ No → IsQuickIn acts text c page w c' page' w' (q, n) → (c' ≡ c) × (page' ≡ page) × (w' ≡ w)

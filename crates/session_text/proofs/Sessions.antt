@@ -24,7 +24,7 @@ use Rattle.session_text.specs.declared.ReadEnd.TheVariants.{Over, Failed, Spent}
 use Rattle.session_text.specs.declared.command.Command.{Command}
 use Rattle.session_text.specs.declared.command.Command.TheVariants.{Blank, Bad, Ask, Piece, Dump, DumpNow, End}
 use Rattle.session_text.specs.declared.commands.Local.{Local}
-use Rattle.session_text.specs.Answers.{Answers, Begins}
+use Rattle.session_text.specs.Answers.{Answers, Begins, AnswersTo, BeginsTo, IsBadCommand, all_bad}
 use Rattle.session_text.specs.Dumps.{Goes, Dumps, ClosesAfter, total_line}
 use Rattle.dump_pump.specs.Sources.{part_limit}
 use Rattle.session_text.specs.Grammar.{command_of}
@@ -193,7 +193,7 @@ is_refused m a = refl
 replied_so : (a : Action) (m : Machine) (mark : Mark) (ms : List Mark) (w : List ℕ) (m' : Machine) (r : Reply) (text : List ℕ) → acted_under m (a, mark) ≡ (m', r) → text ≡ reply_text r → done a (talk m (mark ∷ ms) w) ≡ talk m' ms (w ++ text)
 replied_so a m mark ms w m' r text e is = ap (λ (x : Talk × Reply). wrote (reply_text x.1) x.0) (done_so a m mark ms w m' r e) ∙ ap (λ l. talk m' ms (w ++ l)) (sym is)
 
-follows : (time : ℕ) (k : Command) (c : Local) (text : List ℕ) (d : Local) → Answers acts time k c text d → Follows time k c text d
+follows : (time : ℕ) (k : Command) (c : Local) (text : List ℕ) (d : Local) → AnswersTo acts IsBadCommand time k c text d → Follows time k c text d
 follows time Blank c text d h = record {
   found = [];
   no_end = refl;
@@ -268,7 +268,7 @@ record Passes (time : ℕ) (ls : List (List ℕ)) (c : Local) (text : List ℕ) 
   so : (e : ReadEnd) (rest : List ℕ) (ms : List Mark) (w : List ℕ) → talked time e (parts (stream ls ++ rest)) (talk c.machine (found ++ ms) w) ≡ talked time e (parts rest) (talk d.machine ms (w ++ text))
   fit : (rest : List ℕ) (ms : List Mark) (w : List ℕ) → FitLines time (parts rest) (talk d.machine ms (w ++ text)) → FitLines time (parts (stream ls ++ rest)) (talk c.machine (found ++ ms) w)
 
-passes : (time : ℕ) (ls : List (List ℕ)) (c : Local) (text : List ℕ) (d : Local) → Talks (Answers acts time) ls c text d → Passes time ls c text d
+passes : (time : ℕ) (ls : List (List ℕ)) (c : Local) (text : List ℕ) (d : Local) → Talks (Answers acts all_bad time) ls c text d → Passes time ls c text d
 passes time [] c text d t = record {
   found = [];
   so = λ e rest ms w. let p = sym t.1 in let q = sym (ap (λ l. w ++ l) t.0 ∙ append-nil w) in λ i. talked time e (parts rest) (talk (p i).machine ms (q i));
@@ -588,7 +588,7 @@ record BeginsSo (time : ℕ) (k : Command) (c : Local) (tail : List ℕ) (d : Lo
   here : IsPrefix (w ++ tail) (after_up_to pieces time k (talk c.machine found w)).written
   machine : d.machine ≡ (after_up_to pieces time k (talk c.machine found w)).machine
 
-follows_so : (time : ℕ) (k : Command) (c : Local) (tail : List ℕ) (d : Local) (w : List ℕ) (more : Talk → Talk × Ended) → ((t : Talk) → IsPrefix t.written (more t).0.written) → Answers acts time k c tail d → BeginsSo time k c tail d w more
+follows_so : (time : ℕ) (k : Command) (c : Local) (tail : List ℕ) (d : Local) (w : List ℕ) (more : Talk → Talk × Ended) → ((t : Talk) → IsPrefix t.written (more t).0.written) → AnswersTo acts IsBadCommand time k c tail d → BeginsSo time k c tail d w more
 follows_so time k c tail d w more ih h =
     let f = follows time k c tail d h in
     record {
@@ -602,7 +602,7 @@ follows_so time k c tail d w more ih h =
       machine = sym (ap (λ (u : Talk). u.machine) (f.after [] w));
     }
 
-begins_so : (time : ℕ) (k : Command) (c : Local) (tail : List ℕ) (d : Local) (w : List ℕ) (more : Talk → Talk × Ended) → ((t : Talk) → IsPrefix t.written (more t).0.written) → Begins acts time k c tail d → BeginsSo time k c tail d w more
+begins_so : (time : ℕ) (k : Command) (c : Local) (tail : List ℕ) (d : Local) (w : List ℕ) (more : Talk → Talk × Ended) → ((t : Talk) → IsPrefix t.written (more t).0.written) → BeginsTo acts IsBadCommand time k c tail d → BeginsSo time k c tail d w more
 begins_so time Blank c tail d w more ih h = absurd h
 begins_so time Bad c tail d w more ih h = follows_so time Bad c tail d w more ih h
 begins_so time (Ask a) c tail d w more ih h = follows_so time (Ask a) c tail d w more ih h
@@ -638,21 +638,21 @@ begins_so time End c tail d w more ih h = absurd h
 
 -- ---- the whole
 
-session_lines : (time : ℕ) (e : ReadEnd) (bytes rest : List ℕ) (c : Local) (text : List ℕ) (d : Local) (k : IsTalk (Answers acts time) bytes c rest text d) (ms : List Mark)
+session_lines : (time : ℕ) (e : ReadEnd) (bytes rest : List ℕ) (c : Local) (text : List ℕ) (d : Local) (k : IsTalk (Answers acts all_bad time) bytes c rest text d) (ms : List Mark)
     → session_of c.machine ((passes time k.lines c text d k.talks).found ++ ms) time bytes e ≡ talked time e (parts rest) (talk d.machine ms text)
 unfolding session_of
 session_lines time e bytes rest c text d k ms =
     let g = passes time k.lines c text d k.talks in
     ap (λ bs. talked time e (parts bs) (talk c.machine (g.found ++ ms) [])) k.are ∙ g.so e rest ms []
 
-session_fit : (time : ℕ) (bytes rest : List ℕ) (c : Local) (text : List ℕ) (d : Local) (k : IsTalk (Answers acts time) bytes c rest text d) (ms : List Mark) → FitLines time (parts rest) (talk d.machine ms text)
+session_fit : (time : ℕ) (bytes rest : List ℕ) (c : Local) (text : List ℕ) (d : Local) (k : IsTalk (Answers acts all_bad time) bytes c rest text d) (ms : List Mark) → FitLines time (parts rest) (talk d.machine ms text)
     → MarksFit c.machine ((passes time k.lines c text d k.talks).found ++ ms) time bytes
 session_fit time bytes rest c text d k ms h =
     let g = passes time k.lines c text d k.talks in
     subst (λ bs. FitLines time (parts bs) (talk c.machine (g.found ++ ms) [])) (sym k.are) (g.fit rest ms [] h)
 
 -- all lines are answered, and no marks are left
-all_fit : (time : ℕ) (bytes rest : List ℕ) (c : Local) (text : List ℕ) (d : Local) (k : IsTalk (Answers acts time) bytes c rest text d) → MarksFit c.machine ((passes time k.lines c text d k.talks).found ++ []) time bytes
+all_fit : (time : ℕ) (bytes rest : List ℕ) (c : Local) (text : List ℕ) (d : Local) (k : IsTalk (Answers acts all_bad time) bytes c rest text d) → MarksFit c.machine ((passes time k.lines c text d k.talks).found ++ []) time bytes
 all_fit time bytes rest c text d k = session_fit time bytes rest c text d k [] (fine time (parts rest) (talk d.machine [] text) refl)
 
 abbrev end_for : Ended → ReadEnd
@@ -671,12 +671,12 @@ fits WriteFault = tt
 fits NoRoom = tt
 
 -- the lines and what an ending prints
-closed_so : (time : ℕ) (a b : Incoming) (c d : Local) (ended : Ended) (bytes rest text tail : List ℕ) (k : IsTalk (Answers acts time) bytes c rest text d) → Closes rest a b ended tail → (e : ReadEnd) → FitsEnd e ended
+closed_so : (time : ℕ) (a b : Incoming) (c d : Local) (ended : Ended) (bytes rest text tail : List ℕ) (k : IsTalk (Answers acts all_bad time) bytes c rest text d) → Closes rest a b ended tail → (e : ReadEnd) → FitsEnd e ended
     → Shows c.machine ((passes time k.lines c text d k.talks).found ++ []) time bytes e (text ++ tail) d.machine ended
 closed_so time a b c d ended bytes rest text tail k closes e f = session_lines time e bytes rest c text d k [] ∙ closes_so time e rest a b ended tail d.machine [] text f closes
 
 -- all lines are answered, and nothing follows
-session_done : (time : ℕ) (bytes rest : List ℕ) (c : Local) (text : List ℕ) (d : Local) (k : IsTalk (Answers acts time) bytes c rest text d) (ms : List Mark)
+session_done : (time : ℕ) (bytes rest : List ℕ) (c : Local) (text : List ℕ) (d : Local) (k : IsTalk (Answers acts all_bad time) bytes c rest text d) (ms : List Mark)
     → session_of c.machine ((passes time k.lines c text d k.talks).found ++ ms) time (stream k.lines) Over ≡ (talk d.machine ms text, Eof)
 unfolding session_of
 session_done time bytes rest c text d k ms =
@@ -708,7 +708,7 @@ record CutTail (time : ℕ) (rest : List ℕ) (c : Local) (text : List ℕ) (d :
   cut : IsWritten (text ++ tail) w w' false
   stops : Stops time end rest (talk c.machine found text) (text ++ tail) cut.0.part d.machine
 
-broken_tail : (time : ℕ) (a b : Incoming) (rest : List ℕ) (c : Local) (text : List ℕ) (d : Local) (w w' : Outgoing) → Breaks (Begins acts time) text rest a b c w d w' → CutTail time rest c text d w w'
+broken_tail : (time : ℕ) (a b : Incoming) (rest : List ℕ) (c : Local) (text : List ℕ) (d : Local) (w w' : Outgoing) → Breaks (Begins acts all_bad time) text rest a b c w d w' → CutTail time rest c text d w w'
 broken_tail time a b rest c text d w w' (inl ((l, tail, starts, h, cut), same)) =
     let g = begins_so time (command_of l) c tail d text (talked time Over (parts starts.1)) (λ u. stays time Over (parts starts.1) u) h in
     let t = talk c.machine g.found text in
@@ -752,7 +752,7 @@ stops_so time bytes rest start marks e t full out left lines cut (inl h) = inl h
 stops_so time bytes rest start marks e t full out left lines cut (inr (inl (ended, shows, same))) = inr (inl (full, ended, lines ∙ shows ∙ ap (λ m. (talk m [] full, ended)) (sym same), same, cut))
 stops_so time bytes rest start marks e t full out left lines cut (inr (inr h)) = inr (inr h)
 
-failed_session : (time : ℕ) (bytes : List ℕ) (a b : Incoming) (c : Local) (w : Outgoing) (d : Local) (w' : Outgoing) → b.taken ≡ a.taken ++ bytes → Keeps (whole a) (whole b) → Fails (Answers acts time) (Begins acts time) bytes a b c w d w' → IsSession c.machine time a b w w' d.machine WriteFault
+failed_session : (time : ℕ) (bytes : List ℕ) (a b : Incoming) (c : Local) (w : Outgoing) (d : Local) (w' : Outgoing) → b.taken ≡ a.taken ++ bytes → Keeps (whole a) (whole b) → Fails (Answers acts all_bad time) (Begins acts all_bad time) bytes a b c w d w' → IsSession c.machine time a b w w' d.machine WriteFault
 failed_session time bytes a b c w d w' taken keeps (rest, text, between, k, breaks) =
     let g = broken_tail time a b rest between text d w w' breaks in
     let h = g.cut.0 in
@@ -775,12 +775,12 @@ failed_session time bytes a b c w d w' taken keeps (rest, text, between, k, brea
       ),
     )
 
-pub local_session : (time : ℕ) (a b : Incoming) (c : Local) (w : Outgoing) (d : Local) (w' : Outgoing) (ended : Ended) → Serves (Answers acts time) (Begins acts time) a b c w d w' ended → IsSession c.machine time a b w w' d.machine ended
+pub local_session : (time : ℕ) (a b : Incoming) (c : Local) (w : Outgoing) (d : Local) (w' : Outgoing) (ended : Ended) → Serves (Answers acts all_bad time) (Begins acts all_bad time) a b c w d w' ended → IsSession c.machine time a b w w' d.machine ended
 local_session time a b c w d w' Quit (bytes, taken, keeps, (rest, text, tail, k, closes, h)) = (bytes, text ++ tail, (passes time k.lines c text d k.talks).found ++ [], all_fit time bytes rest c text d k, taken, keeps, h.0, λ e. closed_so time a b c d Quit bytes rest text tail k closes e tt)
 local_session time a b c w d w' Eof (bytes, taken, keeps, (rest, text, tail, k, closes, h)) = (bytes, text ++ tail, (passes time k.lines c text d k.talks).found ++ [], all_fit time bytes rest c text d k, taken, keeps, h.0, closed_so time a b c d Eof bytes rest text tail k closes Over refl)
 local_session time a b c w d w' CutLine (bytes, taken, keeps, (rest, text, tail, k, closes, h)) = (bytes, text ++ tail, (passes time k.lines c text d k.talks).found ++ [], all_fit time bytes rest c text d k, taken, keeps, h.0, closed_so time a b c d CutLine bytes rest text tail k closes Over refl)
 local_session time a b c w d w' TooLong (bytes, taken, keeps, (rest, text, tail, k, closes, h)) = (bytes, text ++ tail, (passes time k.lines c text d k.talks).found ++ [], all_fit time bytes rest c text d k, taken, keeps, h.0, λ e. closed_so time a b c d TooLong bytes rest text tail k closes e tt)
 local_session time a b c w d w' ReadFault (bytes, taken, keeps, (rest, text, tail, k, closes, h)) = (bytes, text ++ tail, (passes time k.lines c text d k.talks).found ++ [], all_fit time bytes rest c text d k, taken, keeps, h.0, closed_so time a b c d ReadFault bytes rest text tail k closes Failed refl)
 local_session time a b c w d w' TooManyReads (bytes, taken, keeps, (rest, text, tail, k, closes, h)) = (bytes, text ++ tail, (passes time k.lines c text d k.talks).found ++ [], all_fit time bytes rest c text d k, taken, keeps, h.0, closed_so time a b c d TooManyReads bytes rest text tail k closes Spent refl)
-local_session time a b c w d w' WriteFault (bytes, taken, keeps, h) = failed_session time bytes a b c w d w' taken keeps (served_fails (Answers acts time) (Begins acts time) bytes a b c w d w' h)
+local_session time a b c w d w' WriteFault (bytes, taken, keeps, h) = failed_session time bytes a b c w d w' taken keeps (served_fails (Answers acts all_bad time) (Begins acts all_bad time) bytes a b c w d w' h)
 local_session time a b c w d w' NoRoom (bytes, taken, keeps, h) = (bytes, [], [], fine time (parts bytes) (talk c.machine [] []) refl, taken, keeps, ap (λ (x : Outgoing). x.out) h.3 ∙ sym (append-nil w.out), (h.0, refl, ap (λ (x : Local). x.machine) h.2))

@@ -15,7 +15,7 @@ use Rattle.session_text.specs.declared.answer.Step.{Step}
 use Rattle.session_text.specs.declared.answer.Step.TheVariants.{Next}
 use Rattle.session_text.specs.declared.command.Command.{Command}
 use Rattle.session_text.specs.declared.command.Command.TheVariants.{Blank, Bad, Ask, Piece, Dump, DumpNow, End}
-use Rattle.session_text.specs.Answers.{Says, Answers, Begins}
+use Rattle.session_text.specs.Answers.{Reaction, Says, AnswersTo, BeginsTo}
 use Rattle.session_text.specs.Dumps.{Acts, DumpsPin, DumpsNow, WritesDump}
 use Rattle.session_text.specs.Endings.{Ends, ended_of, step_of}
 use Rattle.session_text.specs.Grammar.{command_of}
@@ -48,39 +48,39 @@ written_more xs ys a b c false h k = (
 -- ---- one line
 
 -- the answer's text was added, or a write failed
-pub step_added : {S : Type 0} (says begins : Says S) (k : Command) (c : S) (page : List ℕ) (w : Outgoing) (c' : S) (page' : List ℕ) (w' : Outgoing) (text : List ℕ) (r : Bool)
-    → says k c text c' → begins k c text c' → IsAdded text page w page' w' r → IsStep says begins k c page w c' page' w' (step_of r)
+pub step_added : {S : Type 0} (says begins : Reaction S) (k : Command) (c : S) (page : List ℕ) (w : Outgoing) (c' : S) (page' : List ℕ) (w' : Outgoing) (text : List ℕ) (r : Bool)
+    → says c text c' → begins c text c' → IsAdded text page w page' w' r → IsStep says begins k c page w c' page' w' (step_of r)
 step_added says begins k c page w c' page' w' text true s b h = (text, s, h)
 step_added says begins k c page w c' page' w' text false s b h = (text, b, h)
 
-pub step_blank : {S : Type 0} (acts : Acts S) (time : ℕ) (k : Command) (c : S) (page : List ℕ) (w : Outgoing) → Blank ≡ k → IsStep (Answers acts time) (Begins acts time) k c page w c page w Next
-step_blank acts time k c page w e = subst (λ x. IsStep (Answers acts time) (Begins acts time) x c page w c page w Next) e ([], (refl, refl), added_here [] page w page (sym (append-nil page)))
+pub step_blank : {S : Type 0} (acts : Acts S) (unknown : Reaction S) (time : ℕ) (k : Command) (c : S) (page : List ℕ) (w : Outgoing) → Blank ≡ k → IsStep (AnswersTo acts unknown time k) (BeginsTo acts unknown time k) k c page w c page w Next
+step_blank acts unknown time k c page w e = subst (λ x. IsStep (AnswersTo acts unknown time x) (BeginsTo acts unknown time x) x c page w c page w Next) e ([], (refl, refl), added_here [] page w page (sym (append-nil page)))
 
-pub step_dumped : {S : Type 0} (acts : Acts S) (time pin : ℕ) (k : Command) (c : S) (page : List ℕ) (w : Outgoing) (c' : S) (page' : List ℕ) (w' : Outgoing) (r : Bool)
-    → Dump pin ≡ k → WritesDump (DumpsPin acts pin time) c c' page w page' w' r → IsStep (Answers acts time) (Begins acts time) k c page w c' page' w' (step_of r)
-step_dumped acts time pin k c page w c' page' w' true e h = subst (λ x. IsStep (Answers acts time) (Begins acts time) x c page w c' page' w' (step_of true)) e (h.0, h.1, h.2)
-step_dumped acts time pin k c page w c' page' w' false e h = subst (λ x. IsStep (Answers acts time) (Begins acts time) x c page w c' page' w' (step_of false)) e (h.1, (h.0, h.2, h.3), h.4)
+pub step_dumped : {S : Type 0} (acts : Acts S) (unknown : Reaction S) (time pin : ℕ) (k : Command) (c : S) (page : List ℕ) (w : Outgoing) (c' : S) (page' : List ℕ) (w' : Outgoing) (r : Bool)
+    → Dump pin ≡ k → WritesDump (DumpsPin acts pin time) c c' page w page' w' r → IsStep (AnswersTo acts unknown time k) (BeginsTo acts unknown time k) k c page w c' page' w' (step_of r)
+step_dumped acts unknown time pin k c page w c' page' w' true e h = subst (λ x. IsStep (AnswersTo acts unknown time x) (BeginsTo acts unknown time x) x c page w c' page' w' (step_of true)) e (h.0, h.1, h.2)
+step_dumped acts unknown time pin k c page w c' page' w' false e h = subst (λ x. IsStep (AnswersTo acts unknown time x) (BeginsTo acts unknown time x) x c page w c' page' w' (step_of false)) e (h.1, (h.0, h.2, h.3), h.4)
 
-pub step_dumped_now : {S : Type 0} (acts : Acts S) (time : ℕ) (k : Command) (c : S) (page : List ℕ) (w : Outgoing) (c' : S) (page' : List ℕ) (w' : Outgoing) (r : Bool)
-    → DumpNow ≡ k → WritesDump (DumpsNow acts time) c c' page w page' w' r → IsStep (Answers acts time) (Begins acts time) k c page w c' page' w' (step_of r)
-step_dumped_now acts time k c page w c' page' w' true e h = subst (λ x. IsStep (Answers acts time) (Begins acts time) x c page w c' page' w' (step_of true)) e (h.0, h.1, h.2)
-step_dumped_now acts time k c page w c' page' w' false e h = subst (λ x. IsStep (Answers acts time) (Begins acts time) x c page w c' page' w' (step_of false)) e (h.1, (h.0, h.2, h.3), h.4)
+pub step_dumped_now : {S : Type 0} (acts : Acts S) (unknown : Reaction S) (time : ℕ) (k : Command) (c : S) (page : List ℕ) (w : Outgoing) (c' : S) (page' : List ℕ) (w' : Outgoing) (r : Bool)
+    → DumpNow ≡ k → WritesDump (DumpsNow acts time) c c' page w page' w' r → IsStep (AnswersTo acts unknown time k) (BeginsTo acts unknown time k) k c page w c' page' w' (step_of r)
+step_dumped_now acts unknown time k c page w c' page' w' true e h = subst (λ x. IsStep (AnswersTo acts unknown time x) (BeginsTo acts unknown time x) x c page w c' page' w' (step_of true)) e (h.0, h.1, h.2)
+step_dumped_now acts unknown time k c page w c' page' w' false e h = subst (λ x. IsStep (AnswersTo acts unknown time x) (BeginsTo acts unknown time x) x c page w c' page' w' (step_of false)) e (h.1, (h.0, h.2, h.3), h.4)
 
 -- a line found no memory for its reading
-unread : {S : Type 0} (acts : Acts S) (time : ℕ) (k : Command) (c : S) → TakesMemory k → Answers acts time k c (reply_text (Refused NoRoom)) c × Begins acts time k c (reply_text (Refused NoRoom)) c
-unread acts time Blank c h = absurd h
-unread acts time Bad c h = absurd h
-unread acts time (Ask a) c h = ((Refused NoRoom, inr (h, refl, refl), refl), (Refused NoRoom, inr (h, refl, refl), refl))
-unread acts time (Piece pin) c h = absurd h
-unread acts time (Dump pin) c h = absurd h
-unread acts time DumpNow c h = absurd h
-unread acts time End c h = absurd h
+unread : {S : Type 0} (acts : Acts S) (unknown : Reaction S) (time : ℕ) (k : Command) (c : S) → TakesMemory k → AnswersTo acts unknown time k c (reply_text (Refused NoRoom)) c × BeginsTo acts unknown time k c (reply_text (Refused NoRoom)) c
+unread acts unknown time Blank c h = absurd h
+unread acts unknown time Bad c h = absurd h
+unread acts unknown time (Ask a) c h = ((Refused NoRoom, inr (h, refl, refl), refl), (Refused NoRoom, inr (h, refl, refl), refl))
+unread acts unknown time (Piece pin) c h = absurd h
+unread acts unknown time (Dump pin) c h = absurd h
+unread acts unknown time DumpNow c h = absurd h
+unread acts unknown time End c h = absurd h
 
-pub step_unread : {S : Type 0} (acts : Acts S) (time : ℕ) (k : Command) (c : S) (page : List ℕ) (w : Outgoing) (page' : List ℕ) (w' : Outgoing) (r : Bool)
-    → TakesMemory k → IsAdded (reply_text (Refused NoRoom)) page w page' w' r → IsStep (Answers acts time) (Begins acts time) k c page w c page' w' (step_of r)
-step_unread acts time k c page w page' w' r h added =
-    let u = unread acts time k c h in
-    step_added (Answers acts time) (Begins acts time) k c page w c page' w' (reply_text (Refused NoRoom)) r u.0 u.1 added
+pub step_unread : {S : Type 0} (acts : Acts S) (unknown : Reaction S) (time : ℕ) (k : Command) (c : S) (page : List ℕ) (w : Outgoing) (page' : List ℕ) (w' : Outgoing) (r : Bool)
+    → TakesMemory k → IsAdded (reply_text (Refused NoRoom)) page w page' w' r → IsStep (AnswersTo acts unknown time k) (BeginsTo acts unknown time k) k c page w c page' w' (step_of r)
+step_unread acts unknown time k c page w page' w' r h added =
+    let u = unread acts unknown time k c h in
+    step_added (AnswersTo acts unknown time k) (BeginsTo acts unknown time k) k c page w c page' w' (reply_text (Refused NoRoom)) r u.0 u.1 added
 
 -- ---- lines
 
@@ -106,7 +106,7 @@ talk_then says bytes c rest xs between rest' ys c' t u = record {
   talks = talks_append says t.lines u.lines c xs between ys c' t.talks u.talks;
 }
 
-one_line : {S : Type 0} (says : Says S) (bytes l rest : List ℕ) (c : S) (text : List ℕ) (c' : S) → bytes ≡ l ++ 10 ∷ rest → IsLine l → says (command_of l) c text c' → IsTalk says bytes c rest text c'
+one_line : {S : Type 0} (says : Says S) (bytes l rest : List ℕ) (c : S) (text : List ℕ) (c' : S) → bytes ≡ l ++ 10 ∷ rest → IsLine l → says l c text c' → IsTalk says bytes c rest text c'
 one_line says bytes l rest c text c' is line h = record {
   lines = l ∷ [];
   are = is ∙ sym (append_assoc l (10 ∷ []) rest) ∙ ap (λ x. x ++ rest) (sym (append-nil (l ++ 10 ∷ [])));
@@ -117,9 +117,9 @@ line_is : (bytes : List ℕ) (n : ℕ) → n ≤ 4096 → IsLineAt n bytes → I
 line_is bytes n most at = record { most = omega (arith, length-take-le n bytes (omega (arith, at.0)), most); no_lf = at.1 }
 
 -- the buffer's first line is answered; s is the buffer
-pub line_answered : {S : Type 0} (says : Says S) (bytes s rest : List ℕ) (n : ℕ) (c : S) (text : List ℕ) (c' : S) → s ≡ bytes → rest ≡ drop (n + 1) bytes → n ≤ 4096 → IsLineAt n bytes → says (command_of (take n s)) c text c' → IsTalk says bytes c rest text c'
+pub line_answered : {S : Type 0} (says : Says S) (bytes s rest : List ℕ) (n : ℕ) (c : S) (text : List ℕ) (c' : S) → s ≡ bytes → rest ≡ drop (n + 1) bytes → n ≤ 4096 → IsLineAt n bytes → says (take n s) c text c' → IsTalk says bytes c rest text c'
 line_answered says bytes s rest n c text c' e f most at h =
-    subst (λ r. IsTalk says bytes c r text c') (sym f) (one_line says bytes (take n bytes) (drop (n + 1) bytes) c text c' at.2 (line_is bytes n most at) (subst (λ l. says (command_of (take n l)) c text c') e h))
+    subst (λ r. IsTalk says bytes c r text c') (sym f) (one_line says bytes (take n bytes) (drop (n + 1) bytes) c text c' at.2 (line_is bytes n most at) (subst (λ l. says (take n l) c text c') e h))
 
 begins_with : (bytes : List ℕ) (n : ℕ) → n ≤ 4096 → IsLineAt n bytes → BeginsWith (take n bytes) bytes
 begins_with bytes n most at = (line_is bytes n most at, drop (n + 1) bytes, at.2)
@@ -127,8 +127,8 @@ begins_with bytes n most at = (line_is bytes n most at, drop (n + 1) bytes, at.2
 pub line_quits : (bytes s : List ℕ) (n : ℕ) → s ≡ bytes → n ≤ 4096 → IsLineAt n bytes → command_of (take n s) ≡ End → IsQuit bytes
 line_quits bytes s n e most at is = (take n bytes, begins_with bytes n most at, subst (λ l. command_of (take n l) ≡ End) e is)
 
-pub line_broken : {S : Type 0} (begins : Says S) (text bytes s : List ℕ) (n : ℕ) (c : S) (tail : List ℕ) (c' : S) (w w' : Outgoing) → s ≡ bytes → n ≤ 4096 → IsLineAt n bytes → begins (command_of (take n s)) c tail c' → IsWritten (text ++ tail) w w' false → IsBrokenOff begins text bytes c w c' w'
-line_broken begins text bytes s n c tail c' w w' e most at h k = (take n bytes, tail, begins_with bytes n most at, subst (λ l. begins (command_of (take n l)) c tail c') e h, k)
+pub line_broken : {S : Type 0} (begins : Says S) (text bytes s : List ℕ) (n : ℕ) (c : S) (tail : List ℕ) (c' : S) (w w' : Outgoing) → s ≡ bytes → n ≤ 4096 → IsLineAt n bytes → begins (take n s) c tail c' → IsWritten (text ++ tail) w w' false → IsBrokenOff begins text bytes c w c' w'
+line_broken begins text bytes s n c tail c' w w' e most at h k = (take n bytes, tail, begins_with bytes n most at, subst (λ l. begins (take n l) c tail c') e h, k)
 
 -- ---- lines that are too long
 

@@ -1,4 +1,4 @@
--- The endings of a session, with the reader and the writer before and after.
+-- What an ending says of the reader and the writer.
 use Rattle.std.specs.Prelude.{◌≡◌, ℕ, ◌+◌, ◌⊎◌, Bool, true, false, List, ◌++◌, length}
 use Rattle.dump_pump.specs.Outlets.{Outgoing}
 use Rattle.session_text.specs.declared.Ended.{Ended}
@@ -20,7 +20,8 @@ ended_of ended false = WriteFault
 
 -- the page and an ending's line were put out, or the session ended by a write that failed in them
 abbrev pub EndsWith : List ℕ → List ℕ → Outgoing → Outgoing → Ended → Ended → Type 0
-EndsWith line page w w' ended result = (written : Bool) × IsWritten (page ++ line) w w' written × (result ≡ ended_of ended written)
+EndsWith line page w w' ended result =
+    (written : Bool) × IsWritten (page ++ line) w w' written × (result ≡ ended_of ended written)
 
 -- the reader before and after, if no write failed
 abbrev pub ReaderEnds : Incoming → Incoming → Ended → Type 0
@@ -29,12 +30,14 @@ ReaderEnds a b Eof = NothingLeft b × (b.failures ≡ a.failures)
 ReaderEnds a b CutLine = NothingLeft b × (b.failures ≡ a.failures)
 ReaderEnds a b TooLong = b.failures ≡ a.failures
 ReaderEnds a b ReadFault = b.failures ≡ a.failures + 1
-ReaderEnds a b TooManyReads = (length b.reads ≡ length a.reads + 1000000) × (b.failures ≡ a.failures)
+ReaderEnds a b TooManyReads =
+    (length b.reads ≡ length a.reads + 1000000) × (b.failures ≡ a.failures)
 ReaderEnds a b WriteFault = ⊥
 ReaderEnds a b NoMemory = b ≡ a
 
 -- the reader and the writer before and after
 abbrev pub Ends : Incoming → Incoming → Outgoing → Outgoing → Ended → Type 0
-Ends a b w w' WriteFault = (w'.failures ≡ w.failures + 1) × ((b.failures ≡ a.failures) ⊎ (b.failures ≡ a.failures + 1))
+Ends a b w w' WriteFault =
+    (w'.failures ≡ w.failures + 1) × ((b.failures ≡ a.failures) ⊎ (b.failures ≡ a.failures + 1))
 Ends a b w w' NoMemory = (b ≡ a) × (w' ≡ w)
 Ends a b w w' ended = (w'.failures ≡ w.failures) × ReaderEnds a b ended

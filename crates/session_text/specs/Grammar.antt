@@ -22,7 +22,9 @@ words_of line = filter (λ w. nat_lt 0 (length w)) (slice_split (λ b. b == 32) 
 
 -- the value of decimal digits, if it is below 2 ^ 64
 abbrev pub value_of : List ℕ → Option ℕ
-value_of ds = if list_all is_ascii_digit ds && nat_lt (digits_value 10 ds) (2 ^ 64) then Some (digits_value 10 ds) else None
+value_of ds =
+    if list_all is_ascii_digit ds && nat_lt (digits_value 10 ds) (2 ^ 64)
+    then Some (digits_value 10 ds) else None
 
 -- 1 to 20 decimal digits with a value below 2 ^ 64
 unfoldable pub number : List ℕ → Option ℕ
@@ -44,7 +46,10 @@ kind_of w = find (λ k. bytes_eq (kind_word k) w) all_kinds
 
 -- NAME:KIND with one colon; no kind's word has one
 abbrev pub field_of : List ℕ → Option Field
-field_of w = option_and_then (λ n. option_map (λ k. record { name = take n w; kind = k }) (kind_of (drop (n + 1) w))) (position (λ b. b == 58) w)
+field_of w =
+    option_and_then
+    (λ n. option_map (λ k. record { name = take n w; kind = k }) (kind_of (drop (n + 1) w)))
+    (position (λ b. b == 58) w)
 
 -- the fields that these words are, if each is one
 abbrev pub fields_of : List (List ℕ) → Option (List Field)
@@ -83,22 +88,33 @@ one_number_or_dash ws = option_and_then (λ a. at_end a.0 a.1) (next_number_or_d
 
 -- the two numbers that the words are
 abbrev pub two_numbers : List (List ℕ) → Option (ℕ × ℕ)
-two_numbers ws = option_and_then (λ a. option_and_then (λ b. at_end (a.0, b.0) b.1) (next_number a.1)) (next_number ws)
+two_numbers ws =
+    option_and_then (λ a. option_and_then (λ b. at_end (a.0, b.0) b.1) (next_number a.1))
+    (next_number ws)
 
 -- the three numbers that the words are
 abbrev pub three_numbers : List (List ℕ) → Option (ℕ × ℕ × ℕ)
-three_numbers ws = option_and_then (λ a. option_and_then (λ b. option_and_then (λ c. at_end (a.0, b.0, c.0) c.1) (next_number b.1)) (next_number a.1)) (next_number ws)
+three_numbers ws =
+    option_and_then
+    (λ a. option_and_then (λ b. option_and_then (λ c. at_end (a.0, b.0, c.0) c.1) (next_number b.1))
+    (next_number a.1)) (next_number ws)
 
 -- the four numbers that the words are
 abbrev pub four_numbers : List (List ℕ) → Option (ℕ × ℕ × ℕ × ℕ)
 four_numbers ws =
-    option_and_then (λ a. option_and_then (λ b. option_and_then (λ c. option_and_then (λ d. at_end (a.0, b.0, c.0, d.0) d.1) (next_number c.1)) (next_number b.1)) (next_number a.1)) (next_number ws)
+    option_and_then
+    (λ a. option_and_then
+    (λ b. option_and_then
+    (λ c. option_and_then (λ d. at_end (a.0, b.0, c.0, d.0) d.1) (next_number c.1))
+    (next_number b.1)) (next_number a.1)) (next_number ws)
 
 -- `class NAME SUPER FIELD ..`
 abbrev pub class_line : List (List ℕ) → Option Command
 class_line [] = None
 class_line (name ∷ []) = None
-class_line (name ∷ sup ∷ fields) = option_and_then (λ s. option_map (λ fs. Ask (Step (Class name s fs))) (fields_of fields)) (number_or_dash sup)
+class_line (name ∷ sup ∷ fields) =
+    option_and_then (λ s. option_map (λ fs. Ask (Step (Class name s fs))) (fields_of fields))
+    (number_or_dash sup)
 
 -- `array NAME`
 abbrev pub array_line : List (List ℕ) → Option Command
@@ -116,7 +132,11 @@ newarray_line ws = option_map (λ n. Ask (Step (NewArray n.0 n.1 n.2 n.3))) (fou
 -- `newprim M R KIND LEN`
 abbrev pub newprim_line : List (List ℕ) → Option Command
 newprim_line ws =
-    option_and_then (λ m. option_and_then (λ r. option_and_then (λ k. option_and_then (λ n. at_end (Ask (Step (NewPrim m.0 r.0 k.0 n.0))) n.1) (next_number k.1)) (next_kind r.1)) (next_number m.1)) (next_number ws)
+    option_and_then
+    (λ m. option_and_then
+    (λ r. option_and_then
+    (λ k. option_and_then (λ n. at_end (Ask (Step (NewPrim m.0 r.0 k.0 n.0))) n.1)
+    (next_number k.1)) (next_kind r.1)) (next_number m.1)) (next_number ws)
 
 -- `load M TO FROM SLOT`
 abbrev pub load_line : List (List ℕ) → Option Command
@@ -187,7 +207,9 @@ class_rules = (codes "class", class_line) ∷ (codes "array", array_line) ∷ []
 
 -- lines that make an object
 unfoldable pub making_rules : List Rule
-making_rules = (codes "new", new_line) ∷ (codes "newarray", newarray_line) ∷ (codes "newprim", newprim_line) ∷ []
+making_rules =
+    (codes "new", new_line) ∷ (codes "newarray", newarray_line) ∷ (codes "newprim", newprim_line)
+    ∷ []
 
 -- lines that read or write a slot or a register
 unfoldable pub access_rules : List Rule
@@ -224,7 +246,7 @@ session_rules =
 abbrev pub all_rules : List Rule
 all_rules = class_rules ++ (making_rules ++ (access_rules ++ (marking_rules ++ session_rules)))
 
--- the command of a line, by the rule of its first word
+-- what a line asks for, by the rule of its first word
 unfoldable pub by_rule : List Rule → List ℕ → List (List ℕ) → Option Command
 by_rule rules w ws = option_and_then (λ rule. rule.1 ws) (find (λ rule. bytes_eq w rule.0) rules)
 
@@ -245,6 +267,6 @@ is_plain t = list_all (λ b. nat_le 0x20 b && nat_le b 0x7e) t
 abbrev pub command_of_text : List ℕ → Command
 command_of_text t = if is_plain t then command_of_words (words_of t) else Bad
 
--- the command of a line without its LF
+-- what a line without its LF asks for
 unfoldable pub command_of : List ℕ → Command
 command_of line = command_of_text (without_cr line)

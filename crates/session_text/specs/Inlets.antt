@@ -30,15 +30,28 @@ NothingLeft a = IfSome a.left (λ xs. xs ≡ [])
 
 -- a read gave bytes to the front of a room, or none at the end or by a fault
 abbrev pub IsTake : List ℕ → Incoming → Incoming → Take → Type 0
-IsTake room a b (Got n) = (0 < n) × (n ≤ length room) × (b.taken ≡ a.taken ++ take n room) × (b.reads ≡ a.reads ++ n ∷ []) × (b.failures ≡ a.failures) × Keeps (whole a) (whole b)
-IsTake room a b End = NothingLeft b × (b.taken ≡ a.taken) × (b.reads ≡ a.reads ++ 0 ∷ []) × (b.failures ≡ a.failures) × Keeps (whole a) (whole b)
-IsTake room a b Failed = (b.taken ≡ a.taken) × (b.reads ≡ a.reads ++ 0 ∷ []) × (b.failures ≡ a.failures + 1) × Keeps (whole a) (whole b)
+IsTake room a b (Got n) =
+    (0 < n) × (n ≤ length room) × (b.taken ≡ a.taken ++ take n room) × (b.reads ≡ a.reads ++ n ∷ [])
+    × (b.failures ≡ a.failures) × Keeps (whole a) (whole b)
+IsTake room a b End =
+    NothingLeft b × (b.taken ≡ a.taken) × (b.reads ≡ a.reads ++ 0 ∷ []) × (b.failures ≡ a.failures)
+    × Keeps (whole a) (whole b)
+IsTake room a b Failed =
+    (b.taken ≡ a.taken) × (b.reads ≡ a.reads ++ 0 ∷ []) × (b.failures ≡ a.failures + 1)
+    × Keeps (whole a) (whole b)
 
 -- the effect of a read on a buffer's bytes
 abbrev pub IsRead : List ℕ → List ℕ → Incoming → Incoming → Take → Type 0
-IsRead buf buf' a b (Got n) = (more : List ℕ) × (0 < length more) × (buf' ≡ buf ++ more) × (b.taken ≡ a.taken ++ more) × (b.reads ≡ a.reads ++ length more ∷ []) × (b.failures ≡ a.failures) × Keeps (whole a) (whole b)
-IsRead buf buf' a b End = (buf' ≡ buf) × NothingLeft b × (b.taken ≡ a.taken) × (b.reads ≡ a.reads ++ 0 ∷ []) × (b.failures ≡ a.failures) × Keeps (whole a) (whole b)
-IsRead buf buf' a b Failed = (buf' ≡ buf) × (b.taken ≡ a.taken) × (b.reads ≡ a.reads ++ 0 ∷ []) × (b.failures ≡ a.failures + 1) × Keeps (whole a) (whole b)
+IsRead buf buf' a b (Got n) =
+    (more : List ℕ) × (0 < length more) × (buf' ≡ buf ++ more) × (b.taken ≡ a.taken ++ more)
+    × (b.reads ≡ a.reads ++ length more ∷ []) × (b.failures ≡ a.failures)
+    × Keeps (whole a) (whole b)
+IsRead buf buf' a b End =
+    (buf' ≡ buf) × NothingLeft b × (b.taken ≡ a.taken) × (b.reads ≡ a.reads ++ 0 ∷ [])
+    × (b.failures ≡ a.failures) × Keeps (whole a) (whole b)
+IsRead buf buf' a b Failed =
+    (buf' ≡ buf) × (b.taken ≡ a.taken) × (b.reads ≡ a.reads ++ 0 ∷ [])
+    × (b.failures ≡ a.failures + 1) × Keeps (whole a) (whole b)
 
 -- the number of bytes that a read gave
 abbrev pub count_of : Take → ℕ

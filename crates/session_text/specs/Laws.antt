@@ -5,9 +5,8 @@ use Rattle.heap_trail.specs.Machine.{Machine, Mark, MayStand, AreMarks, machine_
 use Rattle.session_text.specs.declared.Ended.{Ended}
 use Rattle.session_text.specs.declared.Ended.TheVariants.{Quit, Eof, CutLine, TooLong, ReadFault, TooManyReads, WriteFault, NoMemory as NoRoom}
 use Rattle.session_text.specs.declared.ReadEnd.{ReadEnd}
-use Rattle.session_text.specs.Answers.{Answers, Begins}
+use Rattle.session_text.specs.Answers.{Answers, Begins, all_bad}
 use Rattle.session_text.specs.Dumps.{Acts}
-use Rattle.session_text.specs.Grammar.{command_of}
 use Rattle.session_text.specs.Session.{MarksFit, StopsAfter, session_of}
 use Rattle.session_text.specs.Talks.{IsLine, IsLong, IsQuit, IsTalk, BeginsWith}
 
@@ -38,7 +37,7 @@ pub record IsList (m : Machine) (time : ℕ) (bytes text : List ℕ) (m' : Machi
   pub actions : List (Action × Mark)
   pub marks : AreMarks m actions
   pub rest : List ℕ
-  pub talk : IsTalk (Answers (InTurn m) time) bytes [] rest text actions
+  pub talk : IsTalk (Answers (InTurn m) all_bad time) bytes [] rest text actions
   pub stop : IsStop rest
   pub machine : m' ≡ machine_after m actions
 
@@ -54,7 +53,7 @@ abbrev pub IsBegun : Machine → ℕ → List ℕ → List (Action × Mark) → 
 IsBegun m time rest before after =
     (after ≡ before)
     ⊎ ((l : List ℕ) × (tail : List ℕ) × BeginsWith l rest
-    × Begins (InTurn m) time (command_of l) before tail after)
+    × Begins (InTurn m) all_bad time l before tail after)
 
 -- the lines before the rest asked for the actions that were answered, in order, and all actions lead to the machine m'
 pub record IsCutList (m : Machine) (time : ℕ) (bytes : List ℕ) (m' : Machine) : Type 0 where
@@ -63,12 +62,13 @@ pub record IsCutList (m : Machine) (time : ℕ) (bytes : List ℕ) (m' : Machine
   pub answered : List (Action × Mark)
   pub rest : List ℕ
   pub text : List ℕ
-  pub talk : IsTalk (Answers (InTurn m) time) bytes [] rest text answered
+  pub talk : IsTalk (Answers (InTurn m) all_bad time) bytes [] rest text answered
   pub begun : IsBegun m time rest answered actions
   pub machine : m' ≡ machine_after m actions
 
 -- a session in which a write failed leaves the machine of a list of actions
 abbrev pub IsCutListed : Machine → List Mark → ℕ → List ℕ → ReadEnd → Type 0
 IsCutListed m marks time bytes e =
-    MarksFit m marks time bytes → (out : List ℕ) (m' : Machine) → StopsAfter m marks time bytes e out m'
+    MarksFit m marks time bytes → (out : List ℕ) (m' : Machine)
+    → StopsAfter m marks time bytes e out m'
     → IsCutList m time bytes m'

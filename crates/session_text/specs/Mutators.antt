@@ -22,7 +22,9 @@ Follows key line at = words_of line ≡ key ∷ words_of (drop at line)
 
 -- so it is with each line that begins as the text does up to that place, and no line ends before it
 abbrev pub FollowsIn : List ℕ → List ℕ → ℕ → Type 0
-FollowsIn key text at = (at ≤ length text) × NoLf (take at text) × ((n : ℕ) → at ≤ n → n ≤ length text → Follows key (take n text) at)
+FollowsIn key text at =
+    (at ≤ length text) × NoLf (take at text)
+    × ((n : ℕ) → at ≤ n → n ≤ length text → Follows key (take n text) at)
 
 -- the text's first line ends here, it isn't too long, and no CR ends it
 abbrev pub IsShortLine : ℕ → List ℕ → Type 0
@@ -40,15 +42,20 @@ IsVerb text Mark = IsShortLine 4 text × (take 4 text ≡ codes "mark")
 IsVerb text Other = Unit {0}
 
 -- the event was done, and its reply was added
-abbrev pub IsDone : {S : Type 0} → Acts S → Event → S → List ℕ → Outgoing → S → List ℕ → Outgoing → Bool → Type 0
-IsDone acts e c page w c' page' w' added = (r : Reply) × acts c (Step e) r c' × IsAdded (reply_text r) page w page' w' added
+abbrev pub IsDone : {S : Type 0} → Acts S → Event → S → List ℕ → Outgoing → S → List ℕ → Outgoing
+    → Bool → Type 0
+IsDone acts e c page w c' page' w' added =
+    (r : Reply) × acts c (Step e) r c' × IsAdded (reply_text r) page w page' w' added
 
 -- the line's command asks for an event, which was done, and its reply was added
-abbrev pub IsAsked : {S : Type 0} → Acts S → Command → S → List ℕ → Outgoing → S → List ℕ → Outgoing → Bool → Type 0
-IsAsked acts k c page w c' page' w' added = (e : Event) × (k ≡ Ask (Step e)) × IsDone acts e c page w c' page' w' added
+abbrev pub IsAsked : {S : Type 0} → Acts S → Command → S → List ℕ → Outgoing → S → List ℕ → Outgoing
+    → Bool → Type 0
+IsAsked acts k c page w c' page' w' added =
+    (e : Event) × (k ≡ Ask (Step e)) × IsDone acts e c page w c' page' w' added
 
 -- the outcome of a fast reading of a line's command
-abbrev pub IsQuick : {S : Type 0} → Acts S → Command → S → List ℕ → Outgoing → S → List ℕ → Outgoing → Quick → Type 0
+abbrev pub IsQuick : {S : Type 0} → Acts S → Command → S → List ℕ → Outgoing → S → List ℕ → Outgoing
+    → Quick → Type 0
 IsQuick acts k c page w c' page' w' No = (c' ≡ c) × (page' ≡ page) × (w' ≡ w)
 IsQuick acts k c page w c' page' w' Next = IsAsked acts k c page w c' page' w' true
 IsQuick acts k c page w c' page' w' Fault = IsAsked acts k c page w c' page' w' false
@@ -60,5 +67,7 @@ IsPassed text Next n = IsShortLine n text
 IsPassed text Fault n = IsShortLine n text
 
 -- the outcome of a fast reading of a text's first line
-abbrev pub IsQuickIn : {S : Type 0} → Acts S → List ℕ → S → List ℕ → Outgoing → S → List ℕ → Outgoing → Quick × ℕ → Type 0
-IsQuickIn acts text c page w c' page' w' r = IsPassed text r.0 r.1 × IsQuick acts (command_of_text (take r.1 text)) c page w c' page' w' r.0
+abbrev pub IsQuickIn : {S : Type 0} → Acts S → List ℕ → S → List ℕ → Outgoing → S → List ℕ
+    → Outgoing → Quick × ℕ → Type 0
+IsQuickIn acts text c page w c' page' w' r =
+    IsPassed text r.0 r.1 × IsQuick acts (command_of_text (take r.1 text)) c page w c' page' w' r.0

@@ -78,7 +78,9 @@ IsRestOf text rest = (length rest ≤ length text) × (rest ≡ drop (length tex
 
 -- a number with one more digit, if it stays below 2 ^ 64
 abbrev pub with_digit : ℕ → ℕ → Option ℕ
-with_digit n b = if is_ascii_digit b then (if nat_lt (n * 10 + (b - 48)) (2 ^ 64) then Some (n * 10 + (b - 48)) else None) else None
+with_digit n b =
+    if is_ascii_digit b
+    then (if nat_lt (n * 10 + (b - 48)) (2 ^ 64) then Some (n * 10 + (b - 48)) else None) else None
 
 -- a number with these digits appended
 abbrev pub value_from : ℕ → List ℕ → Option ℕ
@@ -87,16 +89,21 @@ value_from n (b ∷ bs) = option_and_then (λ m. value_from m bs) (with_digit n 
 
 -- the first word has `size` bytes before `rest`, and its value is that of the value so far with the digits of `rest`
 abbrev pub IsReadTo : List ℕ → List ℕ → ℕ → ℕ → Type 0
-IsReadTo t rest size value = (word_size t ≡ size + word_size rest) × (value_of (first_word t) ≡ value_from value (first_word rest))
+IsReadTo t rest size value =
+    (word_size t ≡ size + word_size rest)
+    × (value_of (first_word t) ≡ value_from value (first_word rest))
 
 -- the number that the first word holds, and its size; or size 0, if it holds no number
 abbrev pub IsNumberAt : List ℕ → ℕ → ℕ → Type 0
-IsNumberAt t value size = with_size t (number (first_word t)) ≡ (if size == 0 then None else Some (value, size))
+IsNumberAt t value size =
+    with_size t (number (first_word t)) ≡ (if size == 0 then None else Some (value, size))
 
 -- the number that the word at a place holds, and the place behind it and the byte that ends it; or a place past the text by
 -- two
 abbrev pub IsNumberFrom : List ℕ → ℕ → ℕ → ℕ → Type 0
-IsNumberFrom t at value next = next ≤ length t + 1 → (at < length t) × (next_number (words_of (drop at t)) ≡ Some (value, words_of (drop next t)))
+IsNumberFrom t at value next =
+    next ≤ length t + 1
+    → (at < length t) × (next_number (words_of (drop at t)) ≡ Some (value, words_of (drop next t)))
 
 -- digits that stand at a place, in any beginning of the text that has them: their number, and their value
 abbrev pub IsReadIn : List ℕ → ℕ → ℕ → ℕ → Type 0
@@ -104,7 +111,8 @@ IsReadIn t at value size =
     (at + size ≤ length t) × (size ≤ 20)
     × ((s : ℕ) → size ≡ suc s → 48 ≤ get_or t (at + s) 0)
     × (NoLf (take at t) → NoLf (take (at + size) t))
-    × ((n : ℕ) → at + size ≤ n → n ≤ length t → IsReadTo (drop at (take n t)) (drop size (drop at (take n t))) size value)
+    × ((n : ℕ) → at + size ≤ n → n ≤ length t
+    → IsReadTo (drop at (take n t)) (drop size (drop at (take n t))) size value)
 
 -- the number at a place, in each beginning of the text in which it is a word; this byte, at the place `end`, ends it
 abbrev pub IsNumberThen : List ℕ → ℕ → ℕ → ℕ → ℕ → Type 0
@@ -112,7 +120,8 @@ IsNumberThen t at ender value end =
     end < length t → (at < end) × (end ≤ at + 20) × (get_or t end 0 ≡ ender)
     × ((s : ℕ) → end ≡ suc s → 48 ≤ get_or t s 0)
     × (NoLf (take at t) → NoLf (take end t))
-    × ((n : ℕ) → n ≤ length t → (n ≡ end) ⊎ ((end < n) × (ender ≡ 32)) → IsNumberFrom (take n t) at value (end + 1))
+    × ((n : ℕ) → n ≤ length t → (n ≡ end) ⊎ ((end < n) × (ender ≡ 32))
+    → IsNumberFrom (take n t) at value (end + 1))
 
 -- ---- words without a bad byte
 
@@ -127,7 +136,8 @@ plain_field w = if is_plain w then field_of w else None
 -- the fields that these words are, if each is one without a bad byte
 abbrev pub plain_fields : List (List ℕ) → Option (List Field)
 plain_fields [] = Some []
-plain_fields (w ∷ ws) = option_and_then (λ f. option_map (λ fs. f ∷ fs) (plain_fields ws)) (plain_field w)
+plain_fields (w ∷ ws) =
+    option_and_then (λ f. option_map (λ fs. f ∷ fs) (plain_fields ws)) (plain_field w)
 
 -- a field that stands in this text
 abbrev pub field_of_mark : List ℕ → FieldMark → Field
@@ -145,11 +155,15 @@ next_name (w ∷ ws) = if is_plain w then Some (w, ws) else None
 -- the command of the words of `class NAME SUPER FIELD ..` without a bad byte
 abbrev pub plain_class : List (List ℕ) → Option Command
 plain_class ws =
-    option_and_then (λ name. option_and_then (λ sup. option_map (λ fs. Ask (Step (Class name.0 sup.0 fs))) (plain_fields sup.1)) (next_number_or_dash name.1)) (next_name ws)
+    option_and_then
+    (λ name. option_and_then
+    (λ sup. option_map (λ fs. Ask (Step (Class name.0 sup.0 fs))) (plain_fields sup.1))
+    (next_number_or_dash name.1)) (next_name ws)
 
 -- the command of the words of `array NAME` without a bad byte
 abbrev pub plain_array : List (List ℕ) → Option Command
-plain_array ws = option_and_then (λ name. at_end (Ask (Step (ArrayClass name.0))) name.1) (next_name ws)
+plain_array ws =
+    option_and_then (λ name. at_end (Ask (Step (ArrayClass name.0))) name.1) (next_name ws)
 
 -- the rules of lines that define a class without a bad byte: only names can have one
 unfoldable pub plain_class_rules : List Rule
@@ -157,7 +171,8 @@ plain_class_rules = (codes "class", plain_class) ∷ (codes "array", plain_array
 
 -- the rules of all lines without a bad byte
 abbrev pub plain_rules : List Rule
-plain_rules = plain_class_rules ++ (making_rules ++ (access_rules ++ (marking_rules ++ session_rules)))
+plain_rules =
+    plain_class_rules ++ (making_rules ++ (access_rules ++ (marking_rules ++ session_rules)))
 
 -- ---- the words after the first
 

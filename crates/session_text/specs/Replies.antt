@@ -12,6 +12,8 @@ use Rattle.heap_step.specs.declared.Answer.TheVariants.{Class, Object, Null, Val
 use Rattle.heap_trail.specs.declared.Reply.{Reply}
 use Rattle.heap_trail.specs.declared.Reply.TheVariants.{Answered, Place, Pinned, Part, Closed, Refused}
 use Rattle.hprof_text.specs.declared.Piece.{Piece}
+use Rattle.session_text.specs.declared.commands.LineAnswer.{LineAnswer}
+use Rattle.session_text.specs.declared.commands.LineAnswer.TheVariants.{BadCommand, Known, Line, Number, Text}
 
 -- a space and a number
 abbrev pub and_number : ℕ → List ℕ
@@ -26,7 +28,8 @@ answer_text (Value v) = codes "ok value" ++ and_number v
 answer_text Done = codes "ok"
 answer_text (Pushed n) = codes "ok pushed" ++ and_number n
 answer_text (Condemned n) = codes "ok condemned" ++ and_number n
-answer_text (Swept dead emptied) = (codes "ok swept" ++ and_number dead) ++ (if emptied then codes " empty" else [])
+answer_text (Swept dead emptied) =
+    (codes "ok swept" ++ and_number dead) ++ (if emptied then codes " empty" else [])
 
 -- the word of a cause
 abbrev pub cause_text : LostCause → List ℕ
@@ -45,7 +48,8 @@ facts_text r = []
 
 -- the number and the name of a refusal, and its facts
 abbrev pub refusal_text : Refusal → List ℕ
-refusal_text r = ((codes "no" ++ and_number (refusal_number r)) ++ 32 ∷ refusal_name r) ++ facts_text r
+refusal_text r =
+    ((codes "no" ++ and_number (refusal_number r)) ++ 32 ∷ refusal_name r) ++ facts_text r
 
 -- a text and its LF
 abbrev pub line : List ℕ → List ℕ
@@ -71,7 +75,8 @@ data_lines bytes = flat_map data_line (chunks_of_64 (length bytes) bytes)
 
 -- the size of a piece, which is the last or isn't
 abbrev pub piece_words : Piece → List ℕ
-piece_words piece = (if piece.last then codes "ok last" else codes "ok piece") ++ and_number (length piece.bytes)
+piece_words piece =
+    (if piece.last then codes "ok last" else codes "ok piece") ++ and_number (length piece.bytes)
 
 -- the last line of a reply, without its LF
 abbrev pub reply_words : Reply → List ℕ
@@ -94,6 +99,14 @@ reply_data (Refused r) = []
 -- the lines of a reply
 abbrev pub reply_text : Reply → List ℕ
 reply_text r = reply_data r ++ line (reply_words r)
+
+-- what is printed for a line that the grammar doesn't know
+abbrev pub line_answer_text : LineAnswer → List ℕ
+line_answer_text BadCommand = codes "bad command\n"
+line_answer_text (Known r) = reply_text r
+line_answer_text (Line text) = text.now
+line_answer_text (Number words n) = words.now ++ line (and_number n)
+line_answer_text (Text text) = text.items
 
 -- ---- what a dump takes from replies
 

@@ -48,7 +48,9 @@ marks_after (k ∷ ks) = ks
 
 -- the session after an action, and its reply, of which nothing is written yet
 abbrev pub done_quietly : Action → Talk → Talk × Reply
-done_quietly a t = let r = acted_under t.machine (a, mark_of t.marks) in (record { machine = r.0; marks = marks_after t.marks; written = t.written }, r.1)
+done_quietly a t =
+    let r = acted_under t.machine (a, mark_of t.marks) in
+    (record { machine = r.0; marks = marks_after t.marks; written = t.written }, r.1)
 
 -- the session after an action; if an allocation for its line failed, it is as an action that failed to get memory
 abbrev pub done : Action → Talk → Talk
@@ -58,17 +60,21 @@ done a t = let r = done_quietly a t in wrote (reply_text r.1) r.0
 abbrev pub after_reply : (Talk → ℕ → Talk) → ℕ → Reply → Option GivenPiece → Talk → Talk
 after_reply more so_far r (Some p) t =
     let n = so_far + length p.bytes in
-    if p.last then wrote (total_line n) (wrote (data_lines p.bytes) t) else more (wrote (data_lines p.bytes) t) n
+    if p.last then wrote (total_line n) (wrote (data_lines p.bytes) t)
+    else more (wrote (data_lines p.bytes) t) n
 after_reply more so_far r None t = wrote (reply_text r) t
 
 -- at most n pieces of a pin
 unfoldable pub dumped : ℕ → ℕ → ℕ → Talk → ℕ → Talk
 dumped zero pin time t so_far = t
-dumped (suc n) pin time t so_far = let r = done_quietly (NextPiece pin time) t in after_reply (dumped n pin time) so_far r.1 (piece_in r.1) r.0
+dumped (suc n) pin time t so_far =
+    let r = done_quietly (NextPiece pin time) t in
+    after_reply (dumped n pin time) so_far r.1 (piece_in r.1) r.0
 
 -- the session after a pin is closed, which allocates nothing and so has no mark
 abbrev pub closed : ℕ → Talk → Talk
-closed pin t = record { machine = (acted t.machine (ClosePin pin)).0; marks = t.marks; written = t.written }
+closed pin t =
+    record { machine = (acted t.machine (ClosePin pin)).0; marks = t.marks; written = t.written }
 
 -- a dump of the current state after the reply to OpenPin
 abbrev pub after_open : ℕ → ℕ → Reply → Option ℕ → Talk → Talk
@@ -82,7 +88,8 @@ after_up_to most time Bad t = wrote (codes "bad command\n") t
 after_up_to most time (Ask a) t = done a t
 after_up_to most time (Piece pin) t = done (NextPiece pin time) t
 after_up_to most time (Dump pin) t = dumped most pin time t 0
-after_up_to most time DumpNow t = let r = done_quietly (OpenPin None) t in after_open most time r.1 (pin_in r.1) r.0
+after_up_to most time DumpNow t =
+    let r = done_quietly (OpenPin None) t in after_open most time r.1 (pin_in r.1) r.0
 after_up_to most time End t = t
 
 -- ---- the session
@@ -119,12 +126,17 @@ at_long t = (wrote (codes "bad long\n") t, TooLong)
 -- the lines, of which the last has no LF
 abbrev pub talked : ℕ → ReadEnd → List (List ℕ) → Talk → Talk × Ended
 talked time e [] t = at_end e true t
-talked time e (rest ∷ []) t = if nat_lt 4096 (length rest) then at_long t else at_end e (length rest == 0) t
-talked time e (l ∷ m ∷ more) t = if nat_lt 4096 (length l) then at_long t else go_on (talked time e (m ∷ more)) time (command_of l) t
+talked time e (rest ∷ []) t =
+    if nat_lt 4096 (length rest) then at_long t else at_end e (length rest == 0) t
+talked time e (l ∷ m ∷ more) t =
+    if nat_lt 4096 (length l) then at_long t
+    else go_on (talked time e (m ∷ more)) time (command_of l) t
 
 -- the session's end, from the machine at its start, the marks, the bytes read and how reading ended
 unfoldable pub session_of : Machine → List Mark → ℕ → List ℕ → ReadEnd → Talk × Ended
-session_of m marks time bytes e = talked time e (slice_split (λ b. b == 10) bytes) (record { machine = m; marks = marks; written = [] })
+session_of m marks time bytes e =
+    talked time e (slice_split (λ b. b == 10) bytes)
+    (record { machine = m; marks = marks; written = [] })
 
 -- ---- which marks may stand
 
@@ -134,13 +146,16 @@ Fits a t = MayStand t.machine (a, mark_of t.marks)
 
 -- the marks may stand in the rest of a dump, after the reply to NextPiece
 abbrev pub FitsRest : (Talk → ℕ → Type 0) → ℕ → Option GivenPiece → Talk → Type 0
-FitsRest more so_far (Some p) t = p.last ≡ false → more (wrote (data_lines p.bytes) t) (so_far + length p.bytes)
+FitsRest more so_far (Some p) t =
+    p.last ≡ false → more (wrote (data_lines p.bytes) t) (so_far + length p.bytes)
 FitsRest more so_far None t = Unit {0}
 
 -- the marks may stand in a dump
 unfoldable pub FitsDump : ℕ → ℕ → ℕ → Talk → ℕ → Type 0
 FitsDump zero pin time t so_far = Unit {0}
-FitsDump (suc n) pin time t so_far = let r = done_quietly (NextPiece pin time) t in Fits (NextPiece pin time) t × FitsRest (FitsDump n pin time) so_far (piece_in r.1) r.0
+FitsDump (suc n) pin time t so_far =
+    let r = done_quietly (NextPiece pin time) t in
+    Fits (NextPiece pin time) t × FitsRest (FitsDump n pin time) so_far (piece_in r.1) r.0
 
 -- the marks may stand in a dump of the current state, after the reply to OpenPin
 abbrev pub FitsOpen : ℕ → Option ℕ → Talk → Type 0
@@ -154,34 +169,43 @@ FitsCommand time Bad t = Unit {0}
 FitsCommand time (Ask a) t = Fits a t ⊎ (ActionTakesMemory a × (mark_of t.marks ≡ Refusing))
 FitsCommand time (Piece pin) t = Fits (NextPiece pin time) t
 FitsCommand time (Dump pin) t = FitsDump part_limit pin time t 0
-FitsCommand time DumpNow t = let r = done_quietly (OpenPin None) t in Fits (OpenPin None) t × FitsOpen time (pin_in r.1) r.0
+FitsCommand time DumpNow t =
+    let r = done_quietly (OpenPin None) t in Fits (OpenPin None) t × FitsOpen time (pin_in r.1) r.0
 FitsCommand time End t = Unit {0}
 
 -- the marks may stand in the answers of these lines
 abbrev pub FitLines : ℕ → List (List ℕ) → Talk → Type 0
 FitLines time [] t = Unit {0}
 FitLines time (rest ∷ []) t = Unit {0}
-FitLines time (l ∷ m ∷ more) t = FitsCommand time (command_of l) t × FitLines time (m ∷ more) (after_command time (command_of l) t)
+FitLines time (l ∷ m ∷ more) t =
+    FitsCommand time (command_of l) t
+    × FitLines time (m ∷ more) (after_command time (command_of l) t)
 
 -- the marks may stand in the session of these bytes
 abbrev pub MarksFit : Machine → List Mark → ℕ → List ℕ → Type 0
-MarksFit m marks time bytes = FitLines time (slice_split (λ b. b == 10) bytes) (record { machine = m; marks = marks; written = [] })
+MarksFit m marks time bytes =
+    FitLines time (slice_split (λ b. b == 10) bytes)
+    (record { machine = m; marks = marks; written = [] })
 
 -- ---- the output of a session
 
 -- all marks are used up, this was written, and the machine is so
 abbrev pub Shows : Machine → List Mark → ℕ → List ℕ → ReadEnd → List ℕ → Machine → Ended → Type 0
-Shows m marks time bytes e out m' ended = session_of m marks time bytes e ≡ (record { machine = m'; marks = []; written = out }, ended)
+Shows m marks time bytes e out m' ended =
+    session_of m marks time bytes e ≡ (record { machine = m'; marks = []; written = out }, ended)
 
 -- the next line was acted on, a dump up to some piece, and the text with its answer was cut short
 abbrev pub CutsLine : ℕ → List ℕ → Talk → List ℕ → Machine → Type 0
 CutsLine time rest t out m' =
     (l : List ℕ) × BeginsWith l rest × (pieces : ℕ) × (pieces ≤ part_limit)
-    × (m' ≡ (after_up_to pieces time (command_of l) t).machine) × IsCutShort (after_up_to pieces time (command_of l) t).written [] out
+    × (m' ≡ (after_up_to pieces time (command_of l) t).machine)
+    × IsCutShort (after_up_to pieces time (command_of l) t).written [] out
 
 -- all lines were answered, and the text with what the ending prints was cut short
 abbrev pub CutsEnd : Machine → List Mark → ℕ → List ℕ → ReadEnd → Talk → List ℕ → Machine → Type 0
-CutsEnd m marks time bytes e t out m' = (whole : List ℕ) × (ended : Ended) × Shows m marks time bytes e whole m' ended × (m' ≡ t.machine) × IsCutShort whole [] out
+CutsEnd m marks time bytes e t out m' =
+    (whole : List ℕ) × (ended : Ended) × Shows m marks time bytes e whole m' ended
+    × (m' ≡ t.machine) × IsCutShort whole [] out
 
 -- no whole line was left, and the text was cut short before a read
 abbrev pub CutsPage : List ℕ → Talk → List ℕ → Machine → Type 0
@@ -190,21 +214,30 @@ CutsPage rest t out m' = IsLine rest × (m' ≡ t.machine) × IsCutShort t.writt
 -- the lines at the front of the bytes were acted on and left t, and the text was cut in their answers or behind them
 abbrev pub StopsAfter : Machine → List Mark → ℕ → List ℕ → ReadEnd → List ℕ → Machine → Type 0
 StopsAfter m marks time bytes e out m' =
-    (lines : List ℕ) × (rest : List ℕ) × (t : Talk) × (bytes ≡ lines ++ rest) × (session_of m marks time lines Over ≡ (t, Eof))
-    × (CutsLine time rest t out m' ⊎ (CutsEnd m marks time bytes e t out m' ⊎ CutsPage rest t out m'))
+    (lines : List ℕ) × (rest : List ℕ) × (t : Talk) × (bytes ≡ lines ++ rest)
+    × (session_of m marks time lines Over ≡ (t, Eof))
+    × (CutsLine time rest t out m'
+    ⊎ (CutsEnd m marks time bytes e t out m' ⊎ CutsPage rest t out m'))
 
 -- the output and the machine are those of the session, or a beginning of the output if a write failed
 abbrev pub IsShown : Machine → List Mark → ℕ → List ℕ → List ℕ → Machine → Ended → Type 0
 IsShown m marks time bytes out m' Quit = (e : ReadEnd) → Shows m marks time bytes e out m' Quit
 IsShown m marks time bytes out m' Eof = Shows m marks time bytes Over out m' Eof
 IsShown m marks time bytes out m' CutLine = Shows m marks time bytes Over out m' CutLine
-IsShown m marks time bytes out m' TooLong = (e : ReadEnd) → Shows m marks time bytes e out m' TooLong
+IsShown m marks time bytes out m' TooLong =
+    (e : ReadEnd) → Shows m marks time bytes e out m' TooLong
 IsShown m marks time bytes out m' ReadFault = Shows m marks time bytes Failed out m' ReadFault
 IsShown m marks time bytes out m' TooManyReads = Shows m marks time bytes Spent out m' TooManyReads
-IsShown m marks time bytes out m' WriteFault = (e : ReadEnd) × IsCutShort (session_of m marks time bytes e).0.written [] out × StopsAfter m marks time bytes e out m'
+IsShown m marks time bytes out m' WriteFault =
+    (e : ReadEnd) × IsCutShort (session_of m marks time bytes e).0.written [] out
+    × StopsAfter m marks time bytes e out m'
 IsShown m marks time bytes out m' NoRoom = (bytes ≡ []) × (out ≡ []) × (m' ≡ m)
 
 -- the bytes taken (those that the reader tells, if it tells them) and the bytes put out, for some marks of failed allocations
 -- that may stand there
-abbrev pub IsSession : Machine → ℕ → Incoming → Incoming → Outgoing → Outgoing → Machine → Ended → Type 0
-IsSession m time a b w w' m' ended = (bytes : List ℕ) × (out : List ℕ) × (marks : List Mark) × MarksFit m marks time bytes × (b.taken ≡ a.taken ++ bytes) × Keeps (whole a) (whole b) × (w'.out ≡ w.out ++ out) × IsShown m marks time bytes out m' ended
+abbrev pub IsSession : Machine → ℕ → Incoming → Incoming → Outgoing → Outgoing → Machine → Ended
+    → Type 0
+IsSession m time a b w w' m' ended =
+    (bytes : List ℕ) × (out : List ℕ) × (marks : List Mark) × MarksFit m marks time bytes
+    × (b.taken ≡ a.taken ++ bytes) × Keeps (whole a) (whole b) × (w'.out ≡ w.out ++ out)
+    × IsShown m marks time bytes out m' ended

@@ -17,5 +17,8 @@ IsWritten bytes a b false = IsCutShort bytes a.out b.out × (b.failures ≡ a.fa
 
 -- the page and then the text were put out up to what the page has now, or a beginning of them if a write failed
 abbrev pub IsAdded : List ℕ → List ℕ → Outgoing → List ℕ → Outgoing → Bool → Type 0
-IsAdded text page a page' b true = (put : List ℕ) × (b.out ≡ a.out ++ put) × (page ++ text ≡ put ++ page') × (b.failures ≡ a.failures)
-IsAdded text page a page' b false = IsCutShort (page ++ text) a.out b.out × (b.failures ≡ a.failures + 1)
+IsAdded text page a page' b true =
+    (put : List ℕ) × (b.out ≡ a.out ++ put) × (page ++ text ≡ put ++ page')
+    × (b.failures ≡ a.failures)
+IsAdded text page a page' b false =
+    IsCutShort (page ++ text) a.out b.out × (b.failures ≡ a.failures + 1)

@@ -72,7 +72,8 @@ fn next_kind(words: &mut Words) -> Option<Kind>
 
 // Reads the next word as a name. Returns None if one of its bytes is bad.
 fn next_name<'a>(words: &mut Words<'a>) -> Option<&'a [u8]>
-    ensures next { IsNext (next_name (words_of words.old)) (words_of words.new) (option_map (λ w. w.now) result) }
+    ensures next { IsNext (next_name (words_of words.old)) (words_of words.new)
+        (option_map (λ w. w.now) result) }
     ensures shorter { length words.new ≤ length words.old }
 {
     let text = words.front()?;
@@ -145,7 +146,8 @@ fn class_line(
     mut words: Words,
 ) -> Result<Option<Command>, AllocError>
     requires { length words ≤ 4096 }
-    ensures { MatchResult result (λ c. c ≡ plain_class (words_of words.entry)) (λ _. MayTakeMemory (plain_class (words_of words.entry))) }
+    ensures { MatchResult result (λ c. c ≡ plain_class (words_of words.entry))
+        (λ _. MayTakeMemory (plain_class (words_of words.entry))) }
 {
     let Some(name) = next_name(&mut words) else {
         return Ok(None);
@@ -164,7 +166,8 @@ fn class_line(
 
 // Reads the words of `array NAME`. Returns None, and allocates nothing, if they don't fit. Fails if an allocation fails.
 fn array_line(alloc: Global, mut words: Words) -> Result<Option<Command>, AllocError>
-    ensures { MatchResult result (λ c. c ≡ plain_array (words_of words.entry)) (λ _. MayTakeMemory (plain_array (words_of words.entry))) }
+    ensures { MatchResult result (λ c. c ≡ plain_array (words_of words.entry))
+        (λ _. MayTakeMemory (plain_array (words_of words.entry))) }
 {
     let Some(name) = next_name(&mut words) else {
         return Ok(None);
@@ -328,7 +331,9 @@ fn end_line(words: Words) -> Option<Command>
 // Reads a line by its first word, if that makes an object or `access_line` knows it.
 #[tactic(auto, unfolding(crate::specs::Grammar::by_rule, crate::specs::Grammar::making_rules))]
 fn making_line(word: &[u8], words: Words) -> Option<Command>
-    ensures { result ≡ by_rule (making_rules ++ (access_rules ++ (marking_rules ++ session_rules))) word.now (words_of words.entry) }
+    ensures { result
+        ≡ by_rule (making_rules ++ (access_rules ++ (marking_rules ++ session_rules))) word.now
+        (words_of words.entry) }
 {
     if is_word(word, b"new") {
         return new_line(words);
@@ -345,7 +350,9 @@ fn making_line(word: &[u8], words: Words) -> Option<Command>
 // Reads a line by its first word, if that reads or writes a slot or a register or `marking_line` knows it.
 #[tactic(auto, unfolding(crate::specs::Grammar::by_rule, crate::specs::Grammar::access_rules))]
 fn access_line(word: &[u8], words: Words) -> Option<Command>
-    ensures { result ≡ by_rule (access_rules ++ (marking_rules ++ session_rules)) word.now (words_of words.entry) }
+    ensures { result
+        ≡ by_rule (access_rules ++ (marking_rules ++ session_rules)) word.now
+        (words_of words.entry) }
 {
     if is_word(word, b"load") {
         return load_line(words);
@@ -424,7 +431,8 @@ fn line_after(
     words: Words,
 ) -> Result<Option<Command>, AllocError>
     requires { length words ≤ 4096 }
-    ensures { MatchResult result (λ c. c ≡ by_rule plain_rules word.now (words_of words.entry)) (λ _. MayTakeMemory (by_rule plain_rules word.now (words_of words.entry))) }
+    ensures { MatchResult result (λ c. c ≡ by_rule plain_rules word.now (words_of words.entry))
+        (λ _. MayTakeMemory (by_rule plain_rules word.now (words_of words.entry))) }
 {
     if is_word(word, b"class") {
         return class_line(alloc, marks, words);
@@ -454,7 +462,8 @@ pub fn command_of_text(
     text: &[u8],
 ) -> Result<Command, AllocError>
     requires { length text.now ≤ 4096 }
-    ensures { MatchResult result (λ c. c ≡ command_of_text text.now) (λ _. TakesMemory (command_of_text text.now)) }
+    ensures { MatchResult result (λ c. c ≡ command_of_text text.now)
+        (λ _. TakesMemory (command_of_text text.now)) }
 {
     let mut words = Words::new(text);
     let Some(word) = words.next_word() else {

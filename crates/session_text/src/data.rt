@@ -22,7 +22,8 @@ fn add_data_line(page: &mut Page, bytes: &[u8])
 
 /// Adds the data lines of a piece to a page, which is flushed whenever it is full. Returns false if a write failed.
 pub fn write_data<O: Outlet>(page: &mut Page, outlet: &mut O, bytes: &[u8]) -> bool
-    ensures { IsAdded (data_lines bytes.now) page.old (O.seen outlet.old) page.new (O.seen outlet.new) result }
+    ensures { IsAdded (data_lines bytes.now) page.old (O.seen outlet.old) page.new
+        (O.seen outlet.new) result }
 {
     let mut rest = bytes;
     while !rest.is_empty() {

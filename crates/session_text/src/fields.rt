@@ -97,7 +97,9 @@ fn colon_or_end(text: &[u8]) -> Option<usize>
 /// Returns the sizes and the kind of the field NAME:KIND that the text begins with, or None if its first word is no field or
 /// has a bad byte. The name ends at the first colon: no kind's word has one.
 pub fn field_at(text: &[u8]) -> Option<FieldSize>
-    ensures value { option_map (λ f. (record { name = take f.name text.now; kind = f.kind }, f.whole)) result ≡ with_size text.now (plain_field (first_word text.now)) }
+    ensures value { option_map
+        (λ f. (record { name = take f.name text.now; kind = f.kind }, f.whole)) result
+        ≡ with_size text.now (plain_field (first_word text.now)) }
     ensures within { IfSome result (λ f. f.whole ≤ length text.now) }
     ensures long { IfSome result (λ f. f.name + 4 ≤ f.whole) }
 {
@@ -117,7 +119,9 @@ pub fn field_at(text: &[u8]) -> Option<FieldSize>
 /// them is no field.
 pub fn read_fields(mut words: Words, marks: &mut FieldMarks) -> bool
     requires { length words ≤ 4096 }
-    ensures { MatchBool result ((plain_fields (words_of words.entry) ≡ Some (map (field_of_mark words.entry) marks.new)) × AreWithin words.entry marks.new) (plain_fields (words_of words.entry) ≡ None) }
+    ensures { MatchBool result
+        ((plain_fields (words_of words.entry) ≡ Some (map (field_of_mark words.entry) marks.new))
+        × AreWithin words.entry marks.new) (plain_fields (words_of words.entry) ≡ None) }
 {
     marks.clear();
     let size = words.rest().len();

@@ -18,15 +18,15 @@ mod fields;
 pub mod inlet;
 mod marks;
 mod mutator;
-mod number;
+pub mod number;
 mod page;
 pub mod read_inlet;
 mod reply;
 mod talk;
-mod words;
+pub mod words;
 mod write;
 
-pub use commands::{Commands, Local};
+pub use commands::{Commands, LineAnswer, Local};
 pub use inlet::{Inlet, Take};
 pub use read_inlet::ReadInlet;
 pub use talk::{serve, serve_local};
@@ -82,12 +82,14 @@ impl Ended {
 /// States that a session of a private machine is a list of actions: those that its lines ask for, in order. It leaves the
 /// machine that they lead to, and writes their replies and the line of its ending.
 pub fn session_is_list()
-    ensures { (m : Machine) (marks : List Mark) (time : ℕ) (bytes : List ℕ) (e : ReadEnd) → IsListed m marks time bytes e }
+    ensures { (m : Machine) (marks : List Mark) (time : ℕ) (bytes : List ℕ) (e : ReadEnd)
+        → IsListed m marks time bytes e }
 {}
 
 /// States that such a session, if a write failed in it, leaves the machine of a list of actions too: those of the lines
 /// before one, and some of that one's, in the order in which it asks for them. A dump of the current state has closed its
 /// pin.
 pub fn cut_session_is_list()
-    ensures { (m : Machine) (marks : List Mark) (time : ℕ) (bytes : List ℕ) (e : ReadEnd) → IsCutListed m marks time bytes e }
+    ensures { (m : Machine) (marks : List Mark) (time : ℕ) (bytes : List ℕ) (e : ReadEnd)
+        → IsCutListed m marks time bytes e }
 {}

@@ -71,7 +71,8 @@ fn verb_of(text: &[u8]) -> Verb
 fn two_in(text: &[u8], at: usize) -> Option<(u64, u64, usize)>
     requires { (at ≤ 6) × (at ≤ length text.now) × NoLf (take at text.now) }
     ensures line { IfSome result (λ r. IsShortLine r.2 text.now × (at ≤ r.2)) }
-    ensures numbers { IfSome result (λ r. two_numbers (words_of (drop at (take r.2 text.now))) ≡ Some (r.0, r.1)) }
+    ensures numbers { IfSome result
+        (λ r. two_numbers (words_of (drop at (take r.2 text.now))) ≡ Some (r.0, r.1)) }
 {
     let (a, end) = number_then(text, at, SPACE);
     let (b, end) = number_then(text, end + 1, LF);
@@ -86,7 +87,8 @@ fn two_in(text: &[u8], at: usize) -> Option<(u64, u64, usize)>
 fn three_in(text: &[u8], at: usize) -> Option<(u64, u64, u64, usize)>
     requires { (at ≤ 6) × (at ≤ length text.now) × NoLf (take at text.now) }
     ensures line { IfSome result (λ r. IsShortLine r.3 text.now × (at ≤ r.3)) }
-    ensures numbers { IfSome result (λ r. three_numbers (words_of (drop at (take r.3 text.now))) ≡ Some (r.0, r.1, r.2)) }
+    ensures numbers { IfSome result
+        (λ r. three_numbers (words_of (drop at (take r.3 text.now))) ≡ Some (r.0, r.1, r.2)) }
 {
     let (a, end) = number_then(text, at, SPACE);
     let (b, end) = number_then(text, end + 1, SPACE);
@@ -102,7 +104,8 @@ fn three_in(text: &[u8], at: usize) -> Option<(u64, u64, u64, usize)>
 fn four_in(text: &[u8], at: usize) -> Option<(u64, u64, u64, u64, usize)>
     requires { (at ≤ 6) × (at ≤ length text.now) × NoLf (take at text.now) }
     ensures line { IfSome result (λ r. IsShortLine r.4 text.now × (at ≤ r.4)) }
-    ensures numbers { IfSome result (λ r. four_numbers (words_of (drop at (take r.4 text.now))) ≡ Some (r.0, r.1, r.2, r.3)) }
+    ensures numbers { IfSome result
+        (λ r. four_numbers (words_of (drop at (take r.4 text.now))) ≡ Some (r.0, r.1, r.2, r.3)) }
 {
     let (a, end) = number_then(text, at, SPACE);
     let (b, end) = number_then(text, end + 1, SPACE);
@@ -124,7 +127,8 @@ fn answer_event<O: Outlet, C: Commands>(
     commands: &mut C,
 ) -> Quick
     requires { command_of_text line.now ≡ Ask (Step event) }
-    ensures { IsQuick C.acts (command_of_text line.now) commands.old page.old (O.seen writer.old) commands.new page.new (O.seen writer.new) result }
+    ensures { IsQuick C.acts (command_of_text line.now) commands.old page.old (O.seen writer.old)
+        commands.new page.new (O.seen writer.new) result }
 {
     if answer_action(Action::Step(event), page, writer, commands) {
         Quick::Next
@@ -142,7 +146,8 @@ fn answer_load<O: Outlet, C: Commands>(
     commands: &mut C,
 ) -> (Quick, usize)
     requires { FollowsIn (codes "load") text.now 5 }
-    ensures { IsQuickIn C.acts text.now commands.old page.old (O.seen writer.old) commands.new page.new (O.seen writer.new) result }
+    ensures { IsQuickIn C.acts text.now commands.old page.old (O.seen writer.old) commands.new
+        page.new (O.seen writer.new) result }
 {
     let Some((m, to, from, slot, n)) = four_in(text, 5) else {
         return (Quick::No, 0);
@@ -166,7 +171,8 @@ fn answer_store<O: Outlet, C: Commands>(
     commands: &mut C,
 ) -> (Quick, usize)
     requires { FollowsIn (codes "store") text.now 6 }
-    ensures { IsQuickIn C.acts text.now commands.old page.old (O.seen writer.old) commands.new page.new (O.seen writer.new) result }
+    ensures { IsQuickIn C.acts text.now commands.old page.old (O.seen writer.old) commands.new
+        page.new (O.seen writer.new) result }
 {
     let Some((m, target, slot, source, n)) = four_in(text, 6) else {
         return (Quick::No, 0);
@@ -195,7 +201,8 @@ fn answer_put<O: Outlet, C: Commands>(
     commands: &mut C,
 ) -> (Quick, usize)
     requires { FollowsIn (codes "put") text.now 4 }
-    ensures { IsQuickIn C.acts text.now commands.old page.old (O.seen writer.old) commands.new page.new (O.seen writer.new) result }
+    ensures { IsQuickIn C.acts text.now commands.old page.old (O.seen writer.old) commands.new
+        page.new (O.seen writer.new) result }
 {
     let Some((m, target, slot, value, n)) = four_in(text, 4) else {
         return (Quick::No, 0);
@@ -224,7 +231,8 @@ fn answer_move<O: Outlet, C: Commands>(
     commands: &mut C,
 ) -> (Quick, usize)
     requires { FollowsIn (codes "move") text.now 5 }
-    ensures { IsQuickIn C.acts text.now commands.old page.old (O.seen writer.old) commands.new page.new (O.seen writer.new) result }
+    ensures { IsQuickIn C.acts text.now commands.old page.old (O.seen writer.old) commands.new
+        page.new (O.seen writer.new) result }
 {
     let Some((m, to, from_m, from, n)) = four_in(text, 5) else {
         return (Quick::No, 0);
@@ -253,7 +261,8 @@ fn answer_clear<O: Outlet, C: Commands>(
     commands: &mut C,
 ) -> (Quick, usize)
     requires { FollowsIn (codes "clear") text.now 6 }
-    ensures { IsQuickIn C.acts text.now commands.old page.old (O.seen writer.old) commands.new page.new (O.seen writer.new) result }
+    ensures { IsQuickIn C.acts text.now commands.old page.old (O.seen writer.old) commands.new
+        page.new (O.seen writer.new) result }
 {
     let Some((m, r, n)) = two_in(text, 6) else {
         return (Quick::No, 0);
@@ -271,7 +280,8 @@ fn answer_new<O: Outlet, C: Commands>(
     commands: &mut C,
 ) -> (Quick, usize)
     requires { FollowsIn (codes "new") text.now 4 }
-    ensures { IsQuickIn C.acts text.now commands.old page.old (O.seen writer.old) commands.new page.new (O.seen writer.new) result }
+    ensures { IsQuickIn C.acts text.now commands.old page.old (O.seen writer.old) commands.new
+        page.new (O.seen writer.new) result }
 {
     let Some((m, r, class, n)) = three_in(text, 4) else {
         return (Quick::No, 0);
@@ -295,7 +305,8 @@ fn answer_mark<O: Outlet, C: Commands>(
     commands: &mut C,
 ) -> (Quick, usize)
     requires { IsShortLine 4 text.now × (take 4 text.now ≡ codes "mark") }
-    ensures { IsQuickIn C.acts text.now commands.old page.old (O.seen writer.old) commands.new page.new (O.seen writer.new) result }
+    ensures { IsQuickIn C.acts text.now commands.old page.old (O.seen writer.old) commands.new
+        page.new (O.seen writer.new) result }
 {
     let quick = answer_event(Event::Mark, &text[..4], page, writer, commands);
     (quick, 4)
@@ -310,7 +321,8 @@ pub fn answer_mutator<O: Outlet, C: Commands>(
     writer: &mut O,
     commands: &mut C,
 ) -> (Quick, usize)
-    ensures { IsQuickIn C.acts text.now commands.old page.old (O.seen writer.old) commands.new page.new (O.seen writer.new) result }
+    ensures { IsQuickIn C.acts text.now commands.old page.old (O.seen writer.old) commands.new
+        page.new (O.seen writer.new) result }
 {
     match verb_of(text) {
         Verb::Load => answer_load(text, page, writer, commands),

@@ -68,6 +68,17 @@ pub fn number_at(text: &[u8]) -> (u64, usize)
     last_digit(text, value)
 }
 
+/// Returns the number that a word is: 1 to 20 digits below 2^64, or None if it is no number.
+pub fn number_of(word: &[u8]) -> Option<u64>
+    ensures { result ≡ number word.now }
+{
+    let (value, size) = number_at(word);
+    if size == 0 || size < word.len() {
+        return None;
+    }
+    Some(value)
+}
+
 // Returns the value of the digits at a place, read two by two while both are digits, and their number: at most `sure`.
 #[inline(always)]
 fn pairs_in(text: &[u8], at: usize, sure: usize) -> (u64, usize)

@@ -26,7 +26,13 @@ impl<R: Read> Model for ReadInlet<R> {
 
     ghost Value = { Reading R };
 
-    ghost view = { λ i. record { reader = i.reader; taken = bytes_of i.taken.items; reads = map (λ e. e.0) i.asked.items; failures = length i.failed.items } };
+    ghost view = { λ i.
+        record {
+          reader = i.reader;
+          taken = bytes_of i.taken.items;
+          reads = map (λ e. e.0) i.asked.items;
+          failures = length i.failed.items;
+        } };
 }
 
 impl<R: Read> ReadInlet<R> {
@@ -76,7 +82,13 @@ fn read_once<R: Read>(reader: &mut R, room: &mut [u8]) -> Take
 }
 
 impl<R: Read> Inlet for ReadInlet<R> {
-    ghost seen = { λ i. record { taken = i.taken; left = R.remaining i.reader; reads = i.reads; failures = i.failures } };
+    ghost seen = { λ i.
+        record {
+          taken = i.taken;
+          left = R.remaining i.reader;
+          reads = i.reads;
+          failures = i.failures;
+        } };
 
     fn take(&mut self, room: &mut [u8]) -> Take {
         let took = read_once(&mut self.reader, room);

@@ -170,7 +170,8 @@ fn add_last_line(page: &mut Page, reply: &Reply)
 // Adds the last line of a reply to a page, which is flushed first unless it has room for one more line. Returns false if a
 // write failed.
 fn write_last_line<O: Outlet>(page: &mut Page, outlet: &mut O, reply: &Reply) -> bool
-    ensures { IsAdded (line (reply_words reply.now)) page.old (O.seen outlet.old) page.new (O.seen outlet.new) result }
+    ensures { IsAdded (line (reply_words reply.now)) page.old (O.seen outlet.old) page.new
+        (O.seen outlet.new) result }
 {
     if !make_room(page, outlet) {
         return false;
@@ -192,7 +193,8 @@ fn add_answer_line(page: &mut Page, answer: Answer)
 /// if a write failed.
 #[inline(always)]
 pub fn write_answer<O: Outlet>(page: &mut Page, outlet: &mut O, answer: Answer) -> bool
-    ensures { IsAdded (reply_text (Answered answer)) page.old (O.seen outlet.old) page.new (O.seen outlet.new) result }
+    ensures { IsAdded (reply_text (Answered answer)) page.old (O.seen outlet.old) page.new
+        (O.seen outlet.new) result }
 {
     if !make_room(page, outlet) {
         return false;
@@ -214,14 +216,16 @@ fn data_of(reply: &Reply) -> &[u8]
 
 /// Adds a reply to a page, which is flushed whenever it is full. Returns false if a write failed.
 pub fn write_reply<O: Outlet>(page: &mut Page, outlet: &mut O, reply: &Reply) -> bool
-    ensures { IsAdded (reply_text reply.now) page.old (O.seen outlet.old) page.new (O.seen outlet.new) result }
+    ensures { IsAdded (reply_text reply.now) page.old (O.seen outlet.old) page.new
+        (O.seen outlet.new) result }
 {
     write_data(page, outlet, data_of(reply)) && write_last_line(page, outlet, reply)
 }
 
 /// Returns the piece that a reply gives, if it gives one.
 pub fn piece_in(reply: &Reply) -> Option<&Piece>
-    ensures { MatchOption result (piece_in reply.now ≡ None) (λ p. piece_in reply.now ≡ Some p.now) }
+    ensures { MatchOption result (piece_in reply.now ≡ None)
+        (λ p. piece_in reply.now ≡ Some p.now) }
 {
     match reply {
         Reply::Part(piece) => Some(piece),

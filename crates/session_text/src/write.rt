@@ -1,5 +1,6 @@
 //! The writing of a page.
-ghost use Rattle.std.specs.Prelude.{◌≡◌, ◌≤◌, [], length};
+ghost use Rattle.std.specs.Prelude.{◌≡◌, ◌≤◌, ◌++◌, [], length};
+ghost use Rattle.session_text.specs.Replies.{and_number, line};
 ghost use Rattle.session_text.specs.Writes.{IsWritten, IsAdded};
 
 use crate::page::Page;
@@ -47,5 +48,33 @@ pub fn write_text<O: Outlet>(page: &mut Page, outlet: &mut O, text: &[u8]) -> bo
         return false;
     }
     page.add(text);
+    true
+}
+
+/// Flushes a page and puts out a long text.
+pub fn write_long<O: Outlet>(page: &mut Page, outlet: &mut O, text: &[u8]) -> bool
+    ensures { IsAdded text.now page.old (O.seen outlet.old) page.new (O.seen outlet.new) result }
+{
+    flush(page, outlet) && write_all(outlet, text)
+}
+
+// Adds a space, a number and LF to a page.
+fn add_number_line(page: &mut Page, n: u64)
+    requires { length page.old ≤ 8000 }
+    ensures { page.new ≡ page.old ++ line (and_number n) }
+{
+    page.add_number(n);
+    page.add(b"\n");
+}
+
+/// Adds a space, a number and LF to a page, which is flushed first unless it has room for one more line.
+pub fn write_number_line<O: Outlet>(page: &mut Page, outlet: &mut O, n: u64) -> bool
+    ensures { IsAdded (line (and_number n)) page.old (O.seen outlet.old) page.new
+        (O.seen outlet.new) result }
+{
+    if !make_room(page, outlet) {
+        return false;
+    }
+    add_number_line(page, n);
     true
 }

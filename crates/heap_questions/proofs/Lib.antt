@@ -8,3 +8,4 @@ pub mod Looking
 pub mod Halving
 pub mod Reaching
 pub mod Named
+pub mod Ranked

@@ -5,3 +5,4 @@ pub mod Referrers
 pub mod Search
 pub mod Garbage
 pub mod Registers
+pub mod Ranking

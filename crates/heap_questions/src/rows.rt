@@ -11,7 +11,7 @@ use std::alloc::Global;
 use std::marker::Model;
 
 /// Rows before those of the classes.
-const CLASS_ROWS: usize = 12;
+pub(crate) const CLASS_ROWS: usize = 12;
 
 /// Some objects: how many there are, and the bytes of their values.
 #[derive(Clone, Copy, PartialEq, Eq, Debug)]
@@ -129,7 +129,7 @@ pub(crate) fn count_unmarked<V: View>(
     Ok(Histogram { rows })
 }
 
-/// Counts the objects of a view: in row 12 + k those of class k, and in the row of a kind's type code the arrays of values
+/// Counts the objects of a view: those of class `k` in row `k + 12`, and in the row of a kind's type code the arrays of values
 /// of that kind. Fails with NoMemory if an allocation fails. Reads each object once.
 pub fn count_by_class<V: View>(alloc: Global, view: &V) -> Result<Histogram, Refusal>
     ensures rows { IfOk result (λ h. h ≡ histogram_of (V.ids view.now) (V.image view.now)) }

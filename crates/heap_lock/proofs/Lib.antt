@@ -8,3 +8,5 @@ pub mod Fields
 pub mod Refusals
 pub mod Dumping
 pub mod Sourcing
+pub mod Sighted
+pub mod Calling

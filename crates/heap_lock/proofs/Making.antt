@@ -12,6 +12,13 @@ use Rattle.heap_lock.specs.declared.stub.Stub.{Stub}
 use Rattle.heap_lock.specs.declared.view.View.TheVariants.{Share}
 use Rattle.heap_lock.specs.Tally.{tally_in}
 use Rattle.heap_lock.specs.History.{history_trail, tally}
+use Rattle.heap_lock.specs.declared.ledger.Ledger.{Ledger}
+use Rattle.heap_lock.specs.declared.sight.Sight.TheVariants.{Full}
+use Rattle.heap_lock.specs.Calls.{IsLedger}
+use Rattle.heap_lock.specs.Sights.{calls_of}
+use Rattle.heap_lock.specs.Ledgers.{table_of, all_in, HasCalls, HasLedger}
+use Rattle.heap_lock.proofs.Calling.{none_yet}
+use Rattle.heap_lock.proofs.Dumping.{gained}
 use Rattle.heap_lock.specs.Held.{IsKept, Chair, table_at, IsChair, IsDesk}
 use Rattle.heap_lock.specs.Blanks.{tables_of, chair_of, chairs, AllStubs, AllFresh}
 
@@ -86,6 +93,14 @@ opens_here config m ds opened fresh = record {
   count = sym (length_tables ds);
   booked = fresh;
 }
+
+-- its ledger has no call
+pub opens_ledger : (config config' : Settings) (table : TableId) (m : Machine) (l : Ledger) → config ≡ config' → table_of l ≡ table → m ≡ opening_machine config.ids config.regions config.mutators config.keep → HasCalls (table_of l) [] l → HasLedger config' table m [] l
+opens_ledger config config' table m l same is opened has =
+    let calls : HasCalls (table_of l) [] l = has in
+    gained config' table m [] l l [] (subst (λ t. HasCalls t (all_in l) l) is (calls.0, calls.1, calls.2, calls.3 ∙ ap (λ cs. (Full cs, [])) (sym (ap (λ x. calls_of x.0) calls.3))))
+    (subst (λ (x : Settings × Machine). IsLedger x.0 x.1 [] []) (λ i. (same i, sym opened i)) (none_yet config))
+    (refl, refl, calls.3)
 
 -- a blank heap may be kept, with nothing done yet
 pub opens : (config config' : Settings) (tables : List TableId) (m : Machine) (ds : List Desk) → config ≡ config' → tables_of ds ≡ tables → m ≡ opening_machine config.ids config.regions config.mutators config.keep → AllFresh ds → IsKept config' tables m [] ds

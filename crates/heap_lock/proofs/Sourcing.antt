@@ -1,5 +1,5 @@
 -- What may be replied to a request for a piece.
-use Rattle.std.proofs.Common.{ℕ, Option, Some, None, subst}
+use Rattle.std.proofs.Common.{ℕ, List, ◌++◌, Option, Some, None, subst}
 use Rattle.std.specs.Bool.{⊤}
 use Rattle.heap_class.specs.declared.Refusal.{Refusal}
 use Rattle.heap_world.specs.Limits.{Settings}
@@ -8,8 +8,9 @@ use Rattle.heap_trail.specs.declared.Reply.{Reply}
 use Rattle.heap_trail.specs.declared.Reply.TheVariants.{Part, Refused}
 use Rattle.heap_trail.specs.Machine.{Machine, Mark, Fine, Refusing, Losing, acted, acted_under, after_piece}
 use Rattle.heap_trail.specs.Pins.{PinState, Kept, Gone, pin_at}
-use Rattle.heap_lock.specs.Held.{WasDumped}
+use Rattle.heap_lock.specs.Calls.{Call, LeadsTo, Witnesses}
 use Rattle.heap_lock.specs.Sources.{IsPieceRefusal}
+use Rattle.heap_lock.proofs.Calling.{last_replied}
 
 -- a piece, or a refusal that one may get
 IsPieceReply : Reply → Type 0
@@ -33,6 +34,9 @@ under m pin time Fine = plainly m pin time
 under m pin time Refusing = tt
 under m pin time (Losing pins) = plainly m pin time
 
-pub piece_refused : (config : Settings) (pin time : ℕ) (e : Refusal) → WasDumped config (NextPiece pin time) (Refused e) → IsPieceRefusal e
+pub piece_refused : (config : Settings) (pin time : ℕ) (e : Refusal) (before after : List Call) → Witnesses config before (NextPiece pin time) (Refused e) after → IsPieceRefusal e
 unfolding IsPieceReply
-piece_refused config pin time e w = let d = w.dumped.0 in subst (λ r. IsPieceReply r.1) d.2 (under w.before.machine pin time d.0)
+piece_refused config pin time e before after w =
+    let leads = subst (λ l. LeadsTo config l w.2.0) w.1 w.2.2.leads in
+    let d = last_replied _ w.2.0 (before ++ w.0) (NextPiece pin time, Refused e) leads in
+    subst (λ r. IsPieceReply r.1) d.2.2 (under d.0 pin time d.2.0)

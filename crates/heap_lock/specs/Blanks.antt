@@ -9,12 +9,15 @@ use Rattle.heap_lock.specs.declared.desk.Desk.{Desk}
 use Rattle.heap_lock.specs.declared.entry.Role.{Role}
 use Rattle.heap_lock.specs.declared.stub.Stub.{Stub}
 use Rattle.heap_lock.specs.Tally.{tally_in}
+use Rattle.heap_lock.specs.declared.ledger.Ledger.{Ledger}
 use Rattle.heap_lock.specs.Held.{Chair, table_at, IsChair, IsDesk}
+use Rattle.heap_lock.specs.Ledgers.{HasCalls, table_of}
 
--- a heap that isn't open yet: its settings, the table of each seat, and its seats
+-- a heap that isn't open yet: its settings, the table of each seat and that of the ledger, and its seats
 pub record Maker : Type 0 where
   pub config : Settings
   pub tables : List TableId
+  pub ledger : TableId
   pub seats : List Chair
 
 -- seats of these roles, numbered from n, that have done nothing
@@ -35,7 +38,8 @@ AllStubs tables (s ∷ ss) = IsChair tables s.number s.share × AllStubs tables 
 abbrev pub AllFresh : List Desk → Type 0
 AllFresh desks = (n : ℕ) (d : Desk) → get_elem? desks n ≡ some d → IsDesk (table_at (tables_of desks) n) [] d
 
-pub record IsBlank (config : Settings) (machine : Machine) (desks : List Desk) (stubs : List Stub) : Type 0 where
+pub record IsBlank (config : Settings) (machine : Machine) (desks : List Desk) (stubs : List Stub) (ledger : Ledger) : Type 0 where
   pub machine_is : machine ≡ opening_machine config.ids config.regions config.mutators config.keep
   pub desks_are : AllFresh desks
   pub stubs_are : AllStubs (tables_of desks) stubs
+  pub ledger_is : HasCalls (table_of ledger) [] ledger

@@ -20,6 +20,7 @@ use Rattle.heap_lock.specs.declared.view.View.TheVariants.{Book, Share}
 use Rattle.heap_lock.specs.Limits.{chronicle_limit}
 use Rattle.heap_lock.specs.History.{entry, reply_of, opening, trail_after, IsDue, IsLegalHistory, history_trail, tally}
 use Rattle.heap_lock.specs.Tally.{tally_in}
+use Rattle.heap_lock.specs.Calls.{Call}
 
 -- a seat: its number, its role, and its share of the chronicle, each entry with its turn
 pub record Chair : Type 0 where
@@ -27,10 +28,11 @@ pub record Chair : Type 0 where
   pub role : Role
   pub share : List (ℕ × Entry)
 
--- what lies under the lock
+-- what lies under the lock, and all calls, of which no code stores the list
 pub record Held : Type 0 where
   pub machine : Machine
   pub chronicle : List Entry
+  pub ledger : List Call
 
 -- each entry names one of so many seats
 abbrev pub AllSeated : ℕ → List Entry → Type 0
@@ -74,10 +76,10 @@ IsMoved config action k r k' =
     MayReply k.machine action k'.machine (reply_of r.answer) × (k'.machine.trail ≡ trail_after config.keep k.machine.trail action)
     × IsDue config.keep k.machine.trail (entry r.seat action r.answer)
 
--- what it does to the rest: chronicle and share gain the entry with this answer
+-- what it does to the rest: chronicle and share gain the entry with this answer, and the ledger gains the call
 abbrev pub IsAct : Action → Held → Chair → Receipt → Held → Chair → Type 0
 IsAct action k s r k' s' =
-    (k'.chronicle ≡ k.chronicle ++ entry s.number action r.answer ∷ [])
+    (k'.chronicle ≡ k.chronicle ++ entry s.number action r.answer ∷ []) × (k'.ledger ≡ k.ledger ++ (action, reply_of r.answer) ∷ [])
     × (length k.chronicle < chronicle_limit) × (r.seat ≡ s.number) × (r.turn ≡ length k'.chronicle)
     × (s' ≡ with_entry r.turn action r.answer s)
 
@@ -99,14 +101,8 @@ Stands config s turn action answer =
     (before : List Entry) × IsLegalHistory config.keep (opening config) (before ++ entry s.number action answer ∷ [])
     × (length before + 1 ≡ turn) × (tally s.number (before ++ entry s.number action answer ∷ []) ≡ s.share)
 
--- what a dumper's action does: the machine goes on as the model says and replies this, and the chronicle stays
+-- what a dumper's action does: the machine goes on as the model says and replies this, the chronicle stays, and the ledger gains
+-- the call
 abbrev pub IsDumped : Action → Held → Reply → Held → Type 0
-IsDumped action k r k' = MayReply k.machine action k'.machine r × (k'.chronicle ≡ k.chronicle)
-
--- some machine at the end of a legal history replied this to a dumper's action, and the history stayed
-pub record WasDumped (config : Settings) (action : Action) (r : Reply) : Type 0 where
-  pub before : Held
-  pub after : Held
-  pub legal : IsLegalHistory config.keep (opening config) before.chronicle
-  pub folds : Folds config before
-  pub dumped : IsDumped action before r after
+IsDumped action k r k' =
+    MayReply k.machine action k'.machine r × (k'.chronicle ≡ k.chronicle) × (k'.ledger ≡ k.ledger ++ (action, r) ∷ [])

@@ -1,6 +1,9 @@
 pub mod Limits
 pub mod History
 pub mod Tally
+pub mod Calls
+pub mod Sights
+pub mod Ledgers
 pub mod Packs
 pub mod Chronicles
 pub mod Desks

@@ -1,5 +1,5 @@
 -- What a seat at a shared heap answers.
-use Rattle.std.specs.Prelude.{◌≡◌, ◌⊎◌, ℕ, Result, Ok, Err, ⊤}
+use Rattle.std.specs.Prelude.{◌≡◌, ◌⊎◌, ℕ, List, Result, Ok, Err, ⊤}
 use Rattle.heap_class.specs.declared.IdSize.{IdSize}
 use Rattle.heap_class.specs.declared.Refusal.{Refusal}
 use Rattle.heap_world.specs.Limits.{Settings}
@@ -9,7 +9,8 @@ use Rattle.heap_trail.specs.declared.Reply.{Reply}
 use Rattle.heap_trail.specs.declared.Reply.TheVariants.{Answered, Place, Pinned, Part, Closed, Refused}
 use Rattle.heap_trail.specs.Laws.{IsPieceOfLegal}
 use Rattle.heap_lock.specs.declared.entry.Receipt.{Receipt}
-use Rattle.heap_lock.specs.Held.{Chair, IsReceived, IsNoEntry, Stands, WasDumped}
+use Rattle.heap_lock.specs.Held.{Chair, IsReceived, IsNoEntry, Stands}
+use Rattle.heap_lock.specs.Calls.{Call, Witnesses}
 use Rattle.heap_lock.specs.History.{reply_of}
 
 -- the answer of a receipt, or a refusal that has none
@@ -33,10 +34,11 @@ IsLegalPart ids time (Pinned pin at) = ⊤
 IsLegalPart ids time Closed = ⊤
 IsLegalPart ids time (Refused e) = ⊤
 
--- the seat before, the action, its reply and the seat after
-abbrev pub IsJoined : Settings → Chair → Action → Reply → Chair → Type 0
-IsJoined config s (Step event) r s' = IsActed config s (Step event) r s'
-IsJoined config s (Rewind n) r s' = IsActed config s (Rewind n) r s'
-IsJoined config s (OpenPin at) r s' = (s' ≡ s) × WasDumped config (OpenPin at) r
-IsJoined config s (NextPiece pin time) r s' = (s' ≡ s) × WasDumped config (NextPiece pin time) r × IsLegalPart config.ids time r
-IsJoined config s (ClosePin pin) r s' = (s' ≡ s) × WasDumped config (ClosePin pin) r
+-- the seat before and what its witness had seen, the action, its reply, and the seat and what the witness has seen then
+abbrev pub IsJoined : Settings → Chair → List Call → Action → Reply → Chair → List Call → Type 0
+IsJoined config s seen (Step event) r s' seen' = IsActed config s (Step event) r s' × (seen' ≡ seen)
+IsJoined config s seen (Rewind n) r s' seen' = IsActed config s (Rewind n) r s' × (seen' ≡ seen)
+IsJoined config s seen (OpenPin at) r s' seen' = (s' ≡ s) × Witnesses config seen (OpenPin at) r seen'
+IsJoined config s seen (NextPiece pin time) r s' seen' =
+    (s' ≡ s) × Witnesses config seen (NextPiece pin time) r seen' × IsLegalPart config.ids time r
+IsJoined config s seen (ClosePin pin) r s' seen' = (s' ≡ s) × Witnesses config seen (ClosePin pin) r seen'

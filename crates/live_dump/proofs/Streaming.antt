@@ -1,5 +1,5 @@
 -- What a stream of a told source puts out.
-use Rattle.std.proofs.Common.{◌≡◌, ℕ, Bool, true, false, List, [], ◌++◌, Option, Some, if◌then◌else◌, refl, ap, sym, ◌∙◌, subst, inl}
+use Rattle.std.proofs.Common.{◌≡◌, ℕ, Bool, true, false, List, [], ◌++◌, Option, Some, if◌then◌else◌, refl, ap, ◌∙◌, subst}
 use Rattle.heap_class.specs.declared.LostCause.{LostCause}
 use Rattle.heap_world.specs.Limits.{Settings}
 use Rattle.hprof_text.specs.declared.Piece.{Piece}
@@ -11,43 +11,44 @@ use Rattle.dump_pump.specs.Outlets.{Outgoing}
 use Rattle.dump_pump.specs.Pumps.{Fits}
 use Rattle.dump_pipe.specs.Watches.{watched}
 use Rattle.dump_pipe.specs.Streams.{IsStreamed}
-use Rattle.live_dump.specs.Supplies.{Told, nothing_of, AllGiven, MayEnd, IsSupplied, supply}
+use Rattle.heap_lock.specs.Calls.{Call}
+use Rattle.live_dump.specs.Supplies.{Told, nothing_of, AreGiven, AllLegal, MayEnd, IsSupplied, supply}
 use Rattle.live_dump.specs.Streams.{Tells, PutsLive}
 
 lost_so : (found : Bool) (e : Option Ending) (cause : LostCause) → (if found then Some End.Cancelled else e) ≡ Some (End.Lost cause) → e ≡ Some (End.Lost cause)
 lost_so true e cause h = absurd cc
 lost_so false e cause h = h
 
-found_so : (config : Settings) (pin time : ℕ) (found : Bool) (e : Option Ending) → MayEnd config pin time e → (if found then Some End.Cancelled else e) ≡ Some End.Cancelled → found ≡ true
-found_so config pin time true e may h = refl
-found_so config pin time false e may h = absurd (subst (MayEnd config pin time) h may)
+found_so : (pin time : ℕ) (start : List Call) (given : List Piece) (seen : List Call) (found : Bool) (e : Option Ending) → MayEnd pin time start given seen e → (if found then Some End.Cancelled else e) ≡ Some End.Cancelled → found ≡ true
+found_so pin time start given seen true e may h = refl
+found_so pin time start given seen false e may h = absurd (subst (MayEnd pin time start given seen) h may)
 
-tells : (config : Settings) (pin time : ℕ) (given : List Piece) (out : List ℕ) (found : Bool) (e : Option Ending) (failures failures2 : ℕ) (r : Pumped) → MayEnd config pin time e → Fits given out (if found then Some End.Cancelled else e) failures failures2 r → Tells config pin time given out found failures failures2 r
-tells config pin time given out found e failures failures2 (Done n) may h = (h.0, h.1, h.3)
-tells config pin time given out found e failures failures2 (OutletFailed n) may h = h
-tells config pin time given out found e failures failures2 (Lost cause n) may h = (h.0, inl (subst (MayEnd config pin time) (lost_so found e cause h.1) may), h.2)
-tells config pin time given out found e failures failures2 (Cancelled n) may h = (h.0, found_so config pin time found e may h.1, h.2)
+tells : (pin time : ℕ) (start seen : List Call) (given : List Piece) (out : List ℕ) (found : Bool) (e : Option Ending) (failures failures2 : ℕ) (r : Pumped) → MayEnd pin time start given seen e → Fits given out (if found then Some End.Cancelled else e) failures failures2 r
+    → Tells pin time start seen given out found failures failures2 r
+tells pin time start seen given out found e failures failures2 (Done n) may h = (h.0, h.1, h.3)
+tells pin time start seen given out found e failures failures2 (OutletFailed n) may h = h
+tells pin time start seen given out found e failures failures2 (Lost cause n) may h = (h.0, subst (MayEnd pin time start given seen) (lost_so found e cause h.1) may, h.2)
+tells pin time start seen given out found e failures failures2 (Cancelled n) may h = (h.0, found_so pin time start given seen found e may h.1, h.2)
 
 from_some : (a b : List Piece) → Some a ≡ Some b → a ≡ b
 from_some a b h = cc
 
-puts_at : (config : Settings) (pin time count count2 : ℕ) (start given : List Piece) (before ended : Option Ending) (was found : Bool) (w w2 : Outgoing) (r : Pumped) → start ≡ [] → IsSupplied config pin time given ended
-    → IsStreamed (watched (supply start count before) was) (watched (supply given count2 ended) found) w w2 r → PutsLive config pin time found w w2 r
-puts_at config pin time count count2 start given before ended was found w w2 r none s p = record {
-  given = p.given;
-  out = p.out;
-  pieces = subst (AllGiven config pin time) (from_some given p.given (p.told ∙ ap (λ l. Some (l ++ p.given)) none)) s.0;
-  grows = p.grows;
-  begins = p.begins;
-  counted = p.counted;
-  tells = tells config pin time p.given p.out found ended w.failures w2.failures r s.1 p.fits;
-}
-
 -- from a source that gave nothing
-pub puts : (config : Settings) (pin time : ℕ) (a t : Told) (was found : Bool) (w w2 : Outgoing) (r : Pumped) → a ≡ nothing_of pin time → t.pin ≡ a.pin → t.time ≡ a.time → IsSupplied config t.pin t.time t.given t.ended
-    → IsStreamed (watched (supply a.given a.count a.ended) was) (watched (supply t.given t.count t.ended) found) w w2 r → PutsLive config pin time found w w2 r
-puts config pin time a t was found w w2 r none p q s done =
+pub puts : (config : Settings) (pin time : ℕ) (calls : List Call) (a t : Told) (was found : Bool) (w w2 : Outgoing) (r : Pumped) → a ≡ nothing_of pin time calls → t.pin ≡ a.pin → t.time ≡ a.time → t.start ≡ a.start → IsSupplied config t
+    → IsStreamed (watched (supply a.given a.count a.ended) was) (watched (supply t.given t.count t.ended) found) w w2 r → PutsLive config pin time calls t.seen found w w2 r
+puts config pin time calls a t was found w w2 r none p q o s done =
     let here : t.pin ≡ pin = p ∙ ap (λ (x : Told). x.pin) none in
     let when : t.time ≡ time = q ∙ ap (λ (x : Told). x.time) none in
-    let known = subst (λ (x : ℕ × ℕ). IsSupplied config x.0 x.1 t.given t.ended) (λ k. (here k, when k)) s in
-    puts_at config pin time a.count t.count a.given t.given a.ended t.ended was found w w2 r (ap (λ (x : Told). x.given) none) known done
+    let from : t.start ≡ calls = o ∙ ap (λ (x : Told). x.start) none in
+    let same : t.given ≡ done.given = from_some t.given done.given (done.told ∙ ap (λ (x : Told). Some (x.given ++ done.given)) none) in
+    let may = subst (λ (x : ℕ × ℕ × List Call × List Piece). MayEnd x.0 x.1 x.2 x.3 t.seen t.ended) (λ k. (here k, when k, from k, same k)) s.ended in
+    record {
+      given = done.given;
+      out = done.out;
+      calls = subst (λ (x : ℕ × ℕ × List Call × List Piece). AreGiven x.0 x.1 x.2 x.3 t.seen) (λ k. (here k, when k, from k, same k)) s.given;
+      pieces = subst (λ (x : ℕ × List Piece). AllLegal config.ids x.0 x.1) (λ k. (when k, same k)) s.legal;
+      grows = done.grows;
+      begins = done.begins;
+      counted = done.counted;
+      tells = tells pin time calls t.seen done.given done.out found t.ended w.failures w2.failures r may done.fits;
+    }

@@ -124,7 +124,7 @@ fn all_told<L: Heap, R: Wait>(
 }
 
 fn refused<L: Heap, R: Wait>(rt: &R, alloc: Global, blank: Blank) -> Option<bool>
-    requires { (blank.config ≡ L.config) × (blank.tables ≡ L.tables) }
+    requires { (blank.config ≡ L.config) × (blank.tables ≡ L.tables) × (blank.ledger ≡ L.ledger) }
 {
     let (shared, mut seats) = blank.open::<L>();
     let mut user = seats.take()?;
@@ -203,7 +203,7 @@ fn between_in<L: Heap, R: Wait>(
 }
 
 fn between<L: Heap, R: Wait>(rt: &R, blank: Blank) -> Option<bool>
-    requires { (blank.config ≡ L.config) × (blank.tables ≡ L.tables) }
+    requires { (blank.config ≡ L.config) × (blank.tables ≡ L.tables) × (blank.ledger ≡ L.ledger) }
 {
     let (shared, mut seats) = blank.open::<L>();
     let mut one = seats.take()?;
@@ -269,7 +269,7 @@ fn all_held<L: Heap>(kept: &mut Kept<L>, seat: &mut Seat<L>) -> bool {
 }
 
 fn held<L: Heap, R: Wait>(rt: &R, blank: Blank) -> Option<bool>
-    requires { (blank.config ≡ L.config) × (blank.tables ≡ L.tables) }
+    requires { (blank.config ≡ L.config) × (blank.tables ≡ L.tables) × (blank.ledger ≡ L.ledger) }
 {
     let (shared, mut seats) = blank.open::<L>();
     let mut user = seats.take()?;
@@ -320,7 +320,7 @@ fn filled_in<L: Heap, R: Wait>(
 }
 
 fn filled<L: Heap, R: Wait>(rt: &R, blank: Blank) -> Option<(u64, bool, usize, u64)>
-    requires { (blank.config ≡ L.config) × (blank.tables ≡ L.tables) }
+    requires { (blank.config ≡ L.config) × (blank.tables ≡ L.tables) × (blank.ledger ≡ L.ledger) }
 {
     let (shared, mut seats) = blank.open::<L>();
     let mut user = seats.take()?;

@@ -114,7 +114,7 @@ fn both_watched<L: Heap + Send + Sync, R: Threads + Wait + Sync>(
     class: Event,
     blank: Blank,
 ) -> Option<((bool, bool), (bool, bool))>
-    requires { (blank.config ≡ L.config) × (blank.tables ≡ L.tables) }
+    requires { (blank.config ≡ L.config) × (blank.tables ≡ L.tables) × (blank.ledger ≡ L.ledger) }
 {
     let (shared, mut seats) = blank.open::<L>();
     let mut user = seats.take()?;

@@ -121,7 +121,8 @@ fn asked_before<L: Heap + Send + Sync, R: Threads + Wait + Sync>(
 
 /// Opens a pin on the current state, and returns its number.
 fn opened_pin<L: Heap, R: Wait>(rt: &R, shared: &Shared<L>) -> Result<u64, Fail> {
-    let pinned = shared.open_pin(rt, None)?;
+    let mut witness = shared.witness(rt);
+    let pinned = shared.open_pin(rt, &mut witness, None)?;
     Ok(pinned.pin)
 }
 
@@ -150,7 +151,7 @@ fn opened<L: Heap + Send + Sync, R: Threads + Wait + Sync>(
     alloc: Global,
     blank: Blank,
 ) -> Result<bool, Fail>
-    requires { (blank.config ≡ L.config) × (blank.tables ≡ L.tables) }
+    requires { (blank.config ≡ L.config) × (blank.tables ≡ L.tables) × (blank.ledger ≡ L.ledger) }
 {
     let (shared, mut seats) = blank.open::<L>();
     let Some(mut user) = seats.take() else {

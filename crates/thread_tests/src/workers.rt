@@ -149,7 +149,7 @@ fn worked_in<L: Heap, R: Wait>(
 
 /// Creates two objects, and runs the workers.
 fn worked<L: Heap, R: Wait>(rt: &R, class: Event, blank: Blank, turns: (u64, u64)) -> Option<Ends>
-    requires { (blank.config ≡ L.config) × (blank.tables ≡ L.tables) }
+    requires { (blank.config ≡ L.config) × (blank.tables ≡ L.tables) × (blank.ledger ≡ L.ledger) }
 {
     let (shared, mut seats) = blank.open::<L>();
     let mut user = seats.take()?;
@@ -279,7 +279,7 @@ fn held<L: Heap + Send + Sync, R: Threads + Wait + Sync>(
     class: Event,
     blank: Blank,
 ) -> Option<(bool, bool, u64)>
-    requires { (blank.config ≡ L.config) × (blank.tables ≡ L.tables) }
+    requires { (blank.config ≡ L.config) × (blank.tables ≡ L.tables) × (blank.ledger ≡ L.ledger) }
 {
     let (shared, mut seats) = blank.open::<L>();
     let mut user = seats.take()?;

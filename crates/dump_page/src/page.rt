@@ -15,7 +15,8 @@ pub const PAGE_ROOM: usize = 65_536;
 /// Appends bytes to a page if it has room for them.
 fn add(page: &mut Vec<u8>, bytes: &[u8]) -> bool
     requires { length page.old.items ≤ page_room }
-    ensures added { page.new.items ≡ (if result then page.old.items ++ bytes.now else page.old.items) }
+    ensures added { page.new.items
+        ≡ (if result then page.old.items ++ bytes.now else page.old.items) }
     ensures room { length page.new.items ≤ page_room }
 {
     bytes.len() <= PAGE_ROOM - page.len() && page.extend_from_slice(bytes).is_ok()
@@ -57,7 +58,8 @@ fn fill<S: Source>(source: &mut S, page: &mut Vec<u8>, surplus: &mut Option<Surp
     requires left { 0 < (S.seen source.old).left }
     requires room { length page.old.items ≤ page_room }
     requires empty { surplus.old ≡ None }
-    ensures filled { IsFilled (S.seen source.old) (S.seen source.new) page.old.items page.new.items surplus.new result }
+    ensures filled { IsFilled (S.seen source.old) (S.seen source.new) page.old.items page.new.items
+        surplus.new result }
     ensures kept { S.kept source.new ≡ S.kept source.old }
 {
     loop {

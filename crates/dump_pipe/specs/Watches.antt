@@ -5,4 +5,5 @@ use Rattle.dump_pump.specs.Sources.{Supply}
 
 -- what is seen of a watched source: it ended by a cancelling if one was found, else as its own source
 abbrev pub watched : Supply → Bool → Supply
-watched s found = record { told = s.told; ended = if found then Some Cancelled else s.ended; left = s.left }
+watched s found =
+    record { told = s.told; ended = if found then Some Cancelled else s.ended; left = s.left }

@@ -3,7 +3,7 @@ ghost use Rattle.std.specs.Prelude.{◌≡◌, ◌+◌, ◌<◌, ◌^◌, []};
 ghost use Rattle.crossbeam_channel.specs.Claims.{view, IsSeatAt};
 ghost use Rattle.crossbeam_channel.specs.Ends.{sends_on, receives_on};
 ghost use Rattle.dump_pump.specs.Pumps.{bytes_of};
-ghost use Rattle.dump_pipe.specs.declared.view.View.TheVariants.{Sends, Gets};
+ghost use Rattle.dump_pipe.specs.declared.view.EndView.TheVariants.{Sends, Gets};
 ghost use Rattle.dump_pipe.specs.Pipes.{byte_limit};
 ghost use Rattle.dump_pipe.specs.Streams.{IsStreamed, CanFeed, CanDrain, MayFeed, MayDrain, MayStream, drained_bytes};
 
@@ -89,10 +89,12 @@ fn join_ends<S: Source + Send, O: Outlet, R: Threads + Wait + Sync>(
 {
     let start = Start::new();
     let mut feeder = || -> Option<Ending>
-        requires { CanFeed (S.seen source.now) (view one.now) × IsSeatAt (sends_on sender.now) one.now }
+        requires { CanFeed (S.seen source.now) (view one.now)
+            × IsSeatAt (sends_on sender.now) one.now }
     { begin_feed(rt, &start, source, sender, one) };
     let mut drainer = || -> Option<Pumped>
-        requires { CanDrain (view other.now) seat.now progress.now × IsSeatAt (receives_on receiver.now) other.now }
+        requires { CanDrain (view other.now) seat.now progress.now
+            × IsSeatAt (receives_on receiver.now) other.now }
     { drain_begun(rt, &start, receiver, other, outlet, progress, seat) };
     join_mut(rt, &mut feeder, &mut drainer)
 }
@@ -116,7 +118,8 @@ fn pass_parts<S: Source + Send, O: Outlet, R: Threads + Wait + Sync>(
     requires room { seat.old.sum + byte_limit < 2 ^ 64 }
     ensures one { IsSeatAt (sends_on sender.now) one.new }
     ensures other { IsSeatAt (receives_on receiver.now) other.new }
-    ensures passed { MayStream (S.seen source.old) (S.seen source.new) (view one.new) (view other.new) (O.seen outlet.old) (O.seen outlet.new) result }
+    ensures passed { MayStream (S.seen source.old) (S.seen source.new) (view one.new)
+        (view other.new) (O.seen outlet.old) (O.seen outlet.new) result }
     ensures kept { S.kept source.new ≡ S.kept source.old }
     ensures meter { seat.new.meter ≡ progress.now }
     ensures counted { seat.new.sum ≡ seat.old.sum + drained_bytes result }
@@ -146,7 +149,8 @@ pub fn stream_parts<S: Source + Send, O: Outlet, R: Threads + Wait + Sync>(
     requires source { 0 < (S.seen source.old).left }
     requires meter { seat.old.meter ≡ progress.now }
     requires room { seat.old.sum + byte_limit < 2 ^ 64 }
-    ensures streamed { IsStreamed (S.seen source.old) (S.seen source.new) (O.seen outlet.old) (O.seen outlet.new) result }
+    ensures streamed { IsStreamed (S.seen source.old) (S.seen source.new) (O.seen outlet.old)
+        (O.seen outlet.new) result }
     ensures kept { S.kept source.new ≡ S.kept source.old }
     ensures meter { seat.new.meter ≡ progress.now }
     ensures counted { seat.new.sum ≡ seat.old.sum + bytes_of result }

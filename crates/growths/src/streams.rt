@@ -1,6 +1,6 @@
 //! Streams of a shared heap's dump, one of which may be lost for want of memory.
 ghost use Rattle.std.specs.Prelude.{◌≡◌, IfSome, false};
-ghost use Rattle.dump_meter.specs.Seats.{sum, finding};
+ghost use Rattle.dump_meter.specs.Seats.{sum, cancel_found};
 
 use crate::digest::Digest;
 use crate::states::seen;
@@ -74,7 +74,7 @@ fn opened<L: Heap, R: Wait>(rt: &R, shared: &Shared<L>) -> Option<u64> {
 /// Creates a meter. If memory is refused, asks once more.
 fn metered(alloc: Global) -> Option<NewMeter>
     ensures out { IfSome result (λ m. m.out ≡ sum m.meter 0) }
-    ensures feed { IfSome result (λ m. m.feed ≡ finding m.meter false) }
+    ensures feed { IfSome result (λ m. m.feed ≡ cancel_found m.meter false) }
 {
     match Meter::new(alloc, 1, 1) {
         Ok(made) => Some(made),
@@ -108,7 +108,7 @@ fn put_out<L: Heap + Send + Sync, R: Threads + Wait + Sync>(
     text: Vec<u8>,
 ) -> (Pumped, Vec<u8>)
     requires out { made.out ≡ sum made.meter 0 }
-    requires feed { made.feed ≡ finding made.meter false }
+    requires feed { made.feed ≡ cancel_found made.meter false }
 {
     let NewMeter {
         meter,

@@ -32,7 +32,12 @@ impl Model for Blank {
 
     ghost Value = { Maker };
 
-    ghost view = { λ b. record { config = b.config; tables = tables_of b.desks.items; seats = map chair_of b.stubs.items } };
+    ghost view = { λ b.
+        record {
+          config = b.config;
+          tables = tables_of b.desks.items;
+          seats = map chair_of b.stubs.items;
+        } };
 
     ghost invariant = { λ b. IsBlank b.config b.machine b.desks.items b.stubs.items };
 }
@@ -46,7 +51,7 @@ pub struct Seats<L: Heap> {
 
 impl<L: Heap> Model for Seats<L> {
     ghost use Rattle.std.specs.Prelude.{List, map};
-    ghost use Rattle.heap_lock.specs.Held.{Chair};
+    ghost use Rattle.heap_lock.specs.LockStates.{Chair};
     ghost use Rattle.heap_lock.specs.Blanks.{chair_of, AllStubs};
 
     ghost Value = { List Chair };

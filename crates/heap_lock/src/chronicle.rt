@@ -2,7 +2,7 @@
 ghost use Rattle.std.specs.Prelude.{◌≡◌, ◌↔◌, ◌<◌, ◌++◌, ◌∷◌, [], true, length, slice_get, Some, IsTrue, OnOk};
 ghost use Rattle.heap_lock.specs.Chronicles.{HasPlace, seat_and_answer, told_at};
 ghost use Rattle.heap_lock.specs.History.{entry};
-ghost use Rattle.heap_lock.specs.Packs.{entry_by, entry_in, Tells};
+ghost use Rattle.heap_lock.specs.Packs.{entry_by, entry_in, TellsEntry};
 
 use crate::entry::{Entry, Outcome};
 use crate::pack::{Deed, Pack, Reason, Told};
@@ -28,7 +28,11 @@ impl Model for Chronicle {
 
     ghost Value = { ChronicleState };
 
-    ghost view = { λ c. record { entries = entries_in c.whole.items c.packs.items; room = room_in c.whole c.packs } };
+    ghost view = { λ c.
+        record {
+          entries = entries_in c.whole.items c.packs.items;
+          room = room_in c.whole c.packs;
+        } };
 
     ghost invariant = { λ c. AllPlaced (length c.whole.items) c.packs.items };
 }
@@ -136,7 +140,7 @@ impl Chronicle {
     #[inline(always)]
     fn push_pack(&mut self, pack: Pack, entry: &Entry)
         requires room { 0 < self.old.room }
-        requires tells { Tells pack entry.now }
+        requires tells { TellsEntry pack entry.now }
         ensures { self.new.entries ≡ self.old.entries ++ entry.now ∷ [] }
     {
         let _ = entry;
@@ -179,7 +183,8 @@ impl Chronicle {
     /// Returns whether the entry at an index is that of the seat, the action and the answer. Returns false if there is none at
     /// the index. Takes no memory.
     pub fn is_done(&self, at: usize, seat: u64, action: &Action, answer: Outcome) -> bool
-        ensures { IsTrue result ↔ (slice_get self.now.entries at ≡ Some (entry seat action.now answer)) }
+        ensures { IsTrue result ↔
+            (slice_get self.now.entries at ≡ Some (entry seat action.now answer)) }
     {
         if at >= self.packs.len() {
             return false;

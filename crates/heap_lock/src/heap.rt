@@ -8,12 +8,12 @@ ghost use Rattle.heap_lock.specs.declared.entry.Role.TheVariants.{User};
 ghost use Rattle.heap_lock.specs.Tally.{tally_in};
 ghost use Rattle.heap_lock.specs.History.{opening, Enters, IsLegalHistory};
 ghost use Rattle.heap_lock.specs.Roles.{is_of_mutator, is_of_marker, is_of_sweeper, may};
-ghost use Rattle.heap_lock.specs.Held.{AllSeated, Folds, Stands, IsMoved, IsAct, IsReceived, IsRefused, IsNoEntry, IsChair, IsKept};
+ghost use Rattle.heap_lock.specs.LockStates.{AllSeated, Folds, Stands, IsMoved, IsAct, IsReceived, IsRefused, IsNoEntry, IsChair, IsUnderLock};
 
 use crate::chronicle::Chronicle;
 use crate::desk::Desk;
 use crate::entry::{Entry, Outcome, Receipt, Role};
-use crate::view::View;
+use crate::view::SeatView;
 use atomic_table::Badge;
 use heap_class::Refusal;
 use heap_step::Event;
@@ -30,9 +30,9 @@ pub const CHRONICLE_LIMIT: usize = 1_000_000;
 pub trait Heap {
     ghost use Rattle.std.specs.Prelude.{List};
     ghost use Rattle.atomic_table.specs.Seated.{TableId};
-    ghost use Rattle.heap_world.specs.Limits.{Settings};
+    ghost use Rattle.heap_world.specs.Limits.{HeapSettings};
 
-    ghost config: { Settings };
+    ghost config: { HeapSettings };
 
     ghost tables: { List TableId };
 }
@@ -51,17 +51,18 @@ impl Heap for Brand {
 pub struct Seat<L: Heap> {
     number: u64,
     role: Role,
-    share: Badge<View>,
+    share: Badge<SeatView>,
     heap: PhantomData<L>,
 }
 
 impl<L: Heap> Model for Seat<L> {
     ghost use Rattle.heap_lock.specs.Tally.{tally_in};
-    ghost use Rattle.heap_lock.specs.Held.{Chair, IsChair};
+    ghost use Rattle.heap_lock.specs.LockStates.{Chair, IsChair};
 
     ghost Value = { Chair };
 
-    ghost view = { λ s. record { number = s.number; role = s.role; share = tally_in s.share.views } };
+    ghost view = { λ s.
+        record { number = s.number; role = s.role; share = tally_in s.share.views } };
 
     ghost invariant = { λ s. IsChair L.tables s.number s.share };
 }
@@ -76,13 +77,14 @@ pub struct Kept<L: Heap> {
 }
 
 impl<L: Heap> Model for Kept<L> {
-    ghost use Rattle.heap_lock.specs.Held.{Held, IsKept};
+    ghost use Rattle.heap_lock.specs.LockStates.{LockState, IsUnderLock};
 
-    ghost Value = { Held };
+    ghost Value = { LockState };
 
     ghost view = { λ k. record { machine = k.machine; chronicle = k.chronicle.entries } };
 
-    ghost invariant = { λ k. IsKept L.config L.tables k.machine k.chronicle.entries k.desks.items };
+    ghost invariant = { λ k. IsUnderLock L.config L.tables k.machine k.chronicle.entries
+        k.desks.items };
 }
 
 // Returns whether the event is one of this mutator's own.
@@ -133,7 +135,8 @@ fn wants_memory(refusal: Refusal) -> bool
 fn moved(machine: &mut Machine, action: &Action) -> Option<Outcome>
     requires deed { is_dump_action action.now ≡ false }
     requires place { machine.old.trail.place < last_place }
-    ensures { MatchOption result (machine.new ≡ machine.old) (λ o. Enters machine.old action.now machine.new o) }
+    ensures { MatchOption result (machine.new ≡ machine.old)
+        (λ o. Enters machine.old action.now machine.new o) }
 {
     match action {
         Action::Step(event) => match machine.step(event) {
@@ -155,7 +158,7 @@ fn moved(machine: &mut Machine, action: &Action) -> Option<Outcome>
 }
 
 impl<L: Heap> Seat<L> {
-    pub(crate) fn of(number: u64, role: Role, share: Badge<View>) -> Seat<L>
+    pub(crate) fn of(number: u64, role: Role, share: Badge<SeatView>) -> Seat<L>
         requires { IsChair L.tables number share }
         ensures { result ≡ record { number = number; role = role; share = tally_in share.views } }
     {
@@ -190,7 +193,7 @@ impl<L: Heap> Seat<L> {
 
 impl<L: Heap> Kept<L> {
     pub(crate) fn of(machine: Machine, chronicle: Chronicle, desks: Vec<Desk>) -> Kept<L>
-        requires { IsKept L.config L.tables machine chronicle.entries desks.items }
+        requires { IsUnderLock L.config L.tables machine chronicle.entries desks.items }
         ensures { result ≡ record { machine = machine; chronicle = chronicle.entries } }
     {
         Kept {

@@ -11,7 +11,7 @@ ghost use Rattle.heap_lock.specs.declared.entry.Outcome.TheVariants.{Answered as
 ghost use Rattle.heap_lock.specs.declared.pack.Reason.TheVariants.{NoClass as AnyReason};
 ghost use Rattle.heap_lock.specs.declared.pack.Told.TheVariants.{Refused as Other};
 ghost use Rattle.heap_lock.specs.History.{entry};
-ghost use Rattle.heap_lock.specs.Packs.{action_in, action_by, action_with, outcome_by, outcome_with, Tells, has_fourth, has_second};
+ghost use Rattle.heap_lock.specs.Packs.{action_in, action_by, action_with, outcome_by, outcome_with, TellsEntry, has_fourth, has_second};
 
 use crate::entry::{Entry, Outcome};
 use crate::pack::{AnswerPack, Deed, DeedPack, Pack, Reason, Told};
@@ -236,7 +236,8 @@ fn has_second(told: Told) -> bool
 // Returns the pack of a deed and an answer with this number in the place that they share.
 #[inline(always)]
 fn joined(seat: u16, deed: DeedPack, answer: AnswerPack, fourth: u64) -> Pack
-    ensures { Tells result (entry seat (action_with deed fourth) (outcome_with answer fourth)) }
+    ensures { TellsEntry result
+        (entry seat (action_with deed fourth) (outcome_with answer fourth)) }
 {
     Pack {
         first: deed.first,
@@ -256,7 +257,7 @@ fn joined(seat: u16, deed: DeedPack, answer: AnswerPack, fourth: u64) -> Pack
 // Returns the pack of a deed and an answer, or None if both have a number for the place that they share.
 #[inline(always)]
 fn pack_numbers(seat: u16, deed: DeedPack, answer: AnswerPack) -> Option<Pack>
-    ensures { IfSome result (λ p. Tells p (entry seat (action_by deed) (outcome_by answer))) }
+    ensures { IfSome result (λ p. TellsEntry p (entry seat (action_by deed) (outcome_by answer))) }
 {
     if !has_second(answer.told) {
         return Some(joined(seat, deed, answer, deed.fourth));
@@ -270,7 +271,7 @@ fn pack_numbers(seat: u16, deed: DeedPack, answer: AnswerPack) -> Option<Pack>
 /// Returns an entry by its numbers, or None if it has lists, too many numbers, or a seat above 65,535. Takes no memory.
 #[inline(always)]
 pub fn pack_of(entry: &Entry) -> Option<Pack>
-    ensures { IfSome result (λ p. Tells p entry.now) }
+    ensures { IfSome result (λ p. TellsEntry p entry.now) }
 {
     let seat = entry.seat;
     if seat > u16::MAX as u64 {

@@ -1,7 +1,7 @@
 //! The source of a live dump: the pieces of a pin, with the lock for one at a time.
 ghost use Rattle.std.specs.Prelude.{◌≡◌, ◌<◌, ◌≤◌, length, None as Nothing};
-ghost use Rattle.dump_pump.specs.Sources.{IsNext, part_limit, part_size_limit};
-ghost use Rattle.heap_lock.specs.Sources.{IsLoss, IsPieceRefusal, Gives, Supplies, supply};
+ghost use Rattle.dump_pump.specs.Sources.{IsNextPart, part_limit, part_size_limit};
+ghost use Rattle.heap_lock.specs.Sources.{IsLoss, IsPieceRefusal, GivesPart, Supplies, locked_supply};
 
 use crate::heap::{Heap, Shared};
 use dump_pump::source::PART_LIMIT;
@@ -42,7 +42,7 @@ impl<'a, L: Heap, R: Wait> LockedSource<'a, L, R> {
     /// Creates a source that has given nothing yet. Takes neither the lock nor memory.
     pub fn new(shared: &'a Shared<L>, rt: &'a R, pin: u64, time: u64) -> LockedSource<'a, L, R>
         ensures names { (result.pin ≡ pin) × (result.time ≡ time) }
-        ensures fresh { supply result.count result.ending ≡ supply 0 Nothing }
+        ensures fresh { locked_supply result.count result.ending ≡ locked_supply 0 Nothing }
     {
         LockedSource {
             shared,
@@ -60,7 +60,8 @@ impl<'a, L: Heap, R: Wait> LockedSource<'a, L, R> {
     pub fn next_part(&mut self) -> Next
         requires { self.old.count < part_limit }
         ensures supplies { Supplies L.config self.old.pin self.old.time self.old.count result }
-        ensures next { IsNext (supply self.old.count self.old.ending) (supply self.new.count self.new.ending) result }
+        ensures next { IsNextPart (locked_supply self.old.count self.old.ending)
+            (locked_supply self.new.count self.new.ending) result }
         ensures names { (self.new.pin ≡ self.old.pin) × (self.new.time ≡ self.old.time) }
     {
         match self.shared.next_piece(self.rt, self.pin, self.time) {
@@ -77,8 +78,9 @@ impl<'a, L: Heap, R: Wait> LockedSource<'a, L, R> {
     fn gives(&mut self, piece: Piece) -> Next
         requires count { self.old.count < part_limit }
         requires small { length piece.bytes ≤ part_size_limit }
-        ensures next { IsNext (supply self.old.count self.old.ending) (supply self.new.count self.new.ending) result }
-        ensures given { Gives self.old.count piece result }
+        ensures next { IsNextPart (locked_supply self.old.count self.old.ending)
+            (locked_supply self.new.count self.new.ending) result }
+        ensures given { GivesPart self.old.count piece result }
         ensures names { (self.new.pin ≡ self.old.pin) × (self.new.time ≡ self.old.time) }
     {
         if piece.last {
@@ -94,13 +96,13 @@ impl<'a, L: Heap, R: Wait> LockedSource<'a, L, R> {
 
 impl<'a, L: Heap, R: Wait> Source for LockedSource<'a, L, R> {
     ghost use Rattle.std.specs.Prelude.{ℕ};
-    ghost use Rattle.heap_lock.specs.Sources.{supply};
+    ghost use Rattle.heap_lock.specs.Sources.{locked_supply};
 
     ghost Kept = { ℕ × ℕ };
 
     ghost kept = { λ s. (s.pin, s.time) };
 
-    ghost seen = { λ s. supply s.count s.ending };
+    ghost seen = { λ s. locked_supply s.count s.ending };
 
     fn next(&mut self) -> Next {
         self.next_part()

@@ -2,14 +2,14 @@
 use Rattle.std.specs.Prelude.{◌≡◌, ◌⊎◌, ℕ, Result, Ok, Err, ⊤}
 use Rattle.heap_class.specs.declared.IdSize.{IdSize}
 use Rattle.heap_class.specs.declared.Refusal.{Refusal}
-use Rattle.heap_world.specs.Limits.{Settings}
+use Rattle.heap_world.specs.Limits.{HeapSettings}
 use Rattle.heap_trail.specs.declared.Action.{Action}
 use Rattle.heap_trail.specs.declared.Action.TheVariants.{Step, Rewind, OpenPin, NextPiece, ClosePin}
 use Rattle.heap_trail.specs.declared.Reply.{Reply}
 use Rattle.heap_trail.specs.declared.Reply.TheVariants.{Answered, Place, Pinned, Part, Closed, Refused}
 use Rattle.heap_trail.specs.Laws.{IsPieceOfLegal}
 use Rattle.heap_lock.specs.declared.entry.Receipt.{Receipt}
-use Rattle.heap_lock.specs.Held.{Chair, IsReceived, IsNoEntry, Stands, WasDumped}
+use Rattle.heap_lock.specs.LockStates.{Chair, IsReceived, IsNoEntry, Stands, WasDumped}
 use Rattle.heap_lock.specs.History.{reply_of}
 
 -- the answer of a receipt, or a refusal that has none
@@ -19,9 +19,10 @@ IsReply (Err e) r = r ≡ Refused e
 
 -- an event or a rewind: the seat's share gained it with this answer, as the entry that ends some legal history; or it was
 -- refused without an entry, and the seat is as before
-abbrev pub IsActed : Settings → Chair → Action → Reply → Chair → Type 0
+abbrev pub IsActed : HeapSettings → Chair → Action → Reply → Chair → Type 0
 IsActed config s a r s' =
-    ((receipt : Receipt) × IsReceived a s receipt s' × Stands config s' receipt.turn a receipt.answer × (r ≡ reply_of receipt.answer))
+    ((receipt : Receipt) × IsReceived a s receipt s'
+    × Stands config s' receipt.turn a receipt.answer × (r ≡ reply_of receipt.answer))
     ⊎ ((e : Refusal) × (s' ≡ s) × IsNoEntry e × (r ≡ Refused e))
 
 -- a piece is one of the dump of a legal state
@@ -34,9 +35,10 @@ IsLegalPart ids time Closed = ⊤
 IsLegalPart ids time (Refused e) = ⊤
 
 -- the seat before, the action, its reply and the seat after
-abbrev pub IsJoined : Settings → Chair → Action → Reply → Chair → Type 0
+abbrev pub IsJoined : HeapSettings → Chair → Action → Reply → Chair → Type 0
 IsJoined config s (Step event) r s' = IsActed config s (Step event) r s'
 IsJoined config s (Rewind n) r s' = IsActed config s (Rewind n) r s'
 IsJoined config s (OpenPin at) r s' = (s' ≡ s) × WasDumped config (OpenPin at) r
-IsJoined config s (NextPiece pin time) r s' = (s' ≡ s) × WasDumped config (NextPiece pin time) r × IsLegalPart config.ids time r
+IsJoined config s (NextPiece pin time) r s' =
+    (s' ≡ s) × WasDumped config (NextPiece pin time) r × IsLegalPart config.ids time r
 IsJoined config s (ClosePin pin) r s' = (s' ≡ s) × WasDumped config (ClosePin pin) r

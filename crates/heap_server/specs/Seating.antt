@@ -2,7 +2,7 @@
 use Rattle.std.specs.Prelude.{◌≡◌, ◌≤◌, ℕ, false, List, [], ◌∷◌, ⊤, length}
 use Rattle.heap_lock.specs.declared.entry.Role.TheVariants.{User}
 use Rattle.heap_lock.specs.Blanks.{Maker}
-use Rattle.heap_lock.specs.Held.{Chair}
+use Rattle.heap_lock.specs.LockStates.{Chair}
 use Rattle.heap_server.specs.declared.sessions.Served.{Served}
 use Rattle.heap_server.specs.declared.sessions.ServedHeap.{ServedHeap}
 

@@ -20,20 +20,25 @@ SendsAfter between w' failed ReadFault = (failed ≡ true) × PutsLastLine betwe
 SendsAfter between w' failed WriteFault = (failed ≡ false) × (w' ≡ between)
 
 abbrev pub Sends : Incoming → Incoming → Outgoing → Outgoing → Bool → Type 0
-Sends a b w w' failed = (copied : Copied) × (between : Outgoing) × Copies a b w between copied × SendsAfter between w' failed copied
+Sends a b w w' failed =
+    (copied : Copied) × (between : Outgoing) × Copies a b w between copied
+    × SendsAfter between w' failed copied
 
 -- a fault of the input goes before one of the copy
-abbrev pub end_of : Bool → Copied → Asked
-end_of true copied = Unread
-end_of false Whole = Done
-end_of false ReadFault = Unread
-end_of false WriteFault = Unwritten
+abbrev pub asked_end : Bool → Copied → Asked
+asked_end true copied = Unread
+asked_end false Whole = Done
+asked_end false ReadFault = Unread
+asked_end false WriteFault = Unwritten
 
 -- what came from the socket was put out as its copy says
 abbrev pub Receives : Incoming → Incoming → Outgoing → Outgoing → Asked → Type 0
-Receives a b w w' result = (copied : Copied) × (failed : Bool) × Copies a b w w' copied × (result ≡ end_of failed copied)
+Receives a b w w' result =
+    (copied : Copied) × (failed : Bool) × Copies a b w w' copied
+    × (result ≡ asked_end failed copied)
 
 -- a socket that had given nothing before was received from; or there was no memory, and nothing was put out
 abbrev pub Asks : Outgoing → Outgoing → Asked → Type 0
 Asks w w' result =
-    ((a : Incoming) × (b : Incoming) × (a.taken ≡ []) × Receives a b w w' result) ⊎ ((result ≡ NoMemory) × (w' ≡ w))
+    ((a : Incoming) × (b : Incoming) × (a.taken ≡ []) × Receives a b w w' result)
+    ⊎ ((result ≡ NoMemory) × (w' ≡ w))

@@ -3,7 +3,7 @@ ghost use Rattle.std.specs.Prelude.{◌≡◌, IfOk, IfErr};
 ghost use Rattle.heap_trail.specs.declared.Action.TheVariants.{OpenPin, NextPiece, ClosePin};
 ghost use Rattle.heap_trail.specs.Machine.{IsSmall};
 ghost use Rattle.heap_lock.specs.declared.entry.Role.TheVariants.{User};
-ghost use Rattle.heap_lock.specs.Held.{WasDumped};
+ghost use Rattle.heap_lock.specs.LockStates.{WasDumped};
 ghost use Rattle.heap_lock.specs.History.{reply_of};
 ghost use Rattle.heap_server.specs.Joined.{IsReply, IsLegalPart};
 

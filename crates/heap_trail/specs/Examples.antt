@@ -43,8 +43,9 @@ abbrev pub fresh_machine : ℕ → ℕ → Machine
 fresh_machine regions keep = opening_machine Eight regions 2 keep
 
 -- such a machine replies as the script says
-abbrev pub Replies : ℕ → ℕ → Script → Type 0
-Replies regions keep script = replies_to (fresh_machine regions keep) script ≡ map (λ l. l.1) script
+abbrev pub RepliesAs : ℕ → ℕ → Script → Type 0
+RepliesAs regions keep script =
+    replies_to (fresh_machine regions keep) script ≡ map (λ l. l.1) script
 
 -- the state that the script leads to from such a machine
 abbrev pub end_state : ℕ → ℕ → Script → HeapState
@@ -63,13 +64,16 @@ rewinds n place = (Rewind n, Place place)
 -- ---- two classes
 
 abbrev pub point_fields : List Field
-point_fields = record { name = codes "x"; kind = Int } ∷ record { name = codes "y"; kind = Int } ∷ []
+point_fields =
+    record { name = codes "x"; kind = Int } ∷ record { name = codes "y"; kind = Int } ∷ []
 
 abbrev pub point : Event
 point = Event.Class (codes "Point") None point_fields
 
 abbrev pub node_fields : List Field
-node_fields = record { name = codes "next"; kind = Kind.Object } ∷ record { name = codes "v"; kind = Long } ∷ []
+node_fields =
+    record { name = codes "next"; kind = Kind.Object } ∷ record { name = codes "v"; kind = Long }
+    ∷ []
 
 abbrev pub node : Event
 node = Event.Class (codes "Node") None node_fields
@@ -78,7 +82,7 @@ node = Event.Class (codes "Node") None node_fields
 
 -- one region holds one array of 1,024 elements
 abbrev pub LimitsOfOneRegion : Type 0
-LimitsOfOneRegion = Replies 1 1024
+LimitsOfOneRegion = RepliesAs 1 1024
     (does (NewPrim 0 0 Long 1024) (Made 0x10000000)
     ∷ refuses (NewPrim 0 1 Long 1025) TooLarge
     ∷ refuses (NewPrim 0 1 Long 1024) HeapFull
@@ -86,7 +90,7 @@ LimitsOfOneRegion = Replies 1 1024
 
 -- an object goes to the lowest region with a free cell of its size, and opens a region only where there is none
 abbrev pub LowestRegionFirst : Type 0
-LowestRegionFirst = Replies 2 1024
+LowestRegionFirst = RepliesAs 2 1024
     (does node (Answer.Class 0)
     ∷ does (NewPrim 0 0 Long 5) (Made 0x10000000)
     ∷ does (New 0 1 0) (Made 0x10002000)
@@ -98,7 +102,7 @@ LowestRegionFirst = Replies 2 1024
 
 -- a rewind gives cells back
 abbrev pub RewindGivesBackCells : Type 0
-RewindGivesBackCells = Replies 16 1024
+RewindGivesBackCells = RepliesAs 16 1024
     (does point (Answer.Class 0)
     ∷ does (New 0 0 0) (Made 0x10000000)
     ∷ does (New 0 1 0) (Made 0x10000020)
@@ -109,7 +113,7 @@ RewindGivesBackCells = Replies 16 1024
 -- ---- rewinds and what is kept
 
 abbrev pub KeepOne : Type 0
-KeepOne = Replies 16 1
+KeepOne = RepliesAs 16 1
     (does point (Answer.Class 0)
     ∷ does (New 0 0 0) (Made 0x10000000)
     ∷ does (New 0 1 0) (Made 0x10000020)
@@ -120,7 +124,7 @@ KeepOne = Replies 16 1
     ∷ [])
 
 abbrev pub RewindTooFar : Type 0
-RewindTooFar = Replies 16 3
+RewindTooFar = RepliesAs 16 3
     (does (Clear 0 0) Done
     ∷ does (Clear 0 0) Done
     ∷ does (Clear 0 0) Done
@@ -132,8 +136,11 @@ RewindTooFar = Replies 16 3
 -- ---- refusals
 
 abbrev pub RefusalsOfMutators : Type 0
-RefusalsOfMutators = Replies 16 1024
-    (refuses (Event.Class (codes "A") None (record { name = codes "x"; kind = Int } ∷ record { name = codes "x"; kind = Int } ∷ [])) DuplicateName
+RefusalsOfMutators = RepliesAs 16 1024
+    (refuses
+    (Event.Class (codes "A") None
+    (record { name = codes "x"; kind = Int } ∷ record { name = codes "x"; kind = Int } ∷ []))
+    DuplicateName
     ∷ refuses (Event.Class (codes "a+b") None []) BadName
     ∷ refuses (Event.Class (codes "A") (Some 3) []) NoClass
     ∷ does point (Answer.Class 0)
@@ -150,7 +157,7 @@ RefusalsOfMutators = Replies 16 1024
 
 -- a finish is refused while the log is undrained, and while a region is yet to be swept
 abbrev pub FinishRefusedUntilReady : Type 0
-FinishRefusedUntilReady = Replies 16 1024
+FinishRefusedUntilReady = RepliesAs 16 1024
     (does node (Answer.Class 0)
     ∷ does (New 0 0 0) (Made 0x10000000)
     ∷ does (New 0 1 0) (Made 0x10000020)
@@ -186,7 +193,7 @@ two_nodes_snapped =
     ∷ []
 
 abbrev pub MarkAndDrainRewound : Type 0
-MarkAndDrainRewound = Replies 16 1024
+MarkAndDrainRewound = RepliesAs 16 1024
     (two_nodes_snapped
     ++ does (Store 0 0 0 2) Done
     ∷ does Mark (Pushed 0)
@@ -199,7 +206,7 @@ MarkAndDrainRewound = Replies 16 1024
     ∷ [])
 
 abbrev pub MarkUndonePushesBack : Type 0
-MarkUndonePushesBack = Replies 16 1024
+MarkUndonePushesBack = RepliesAs 16 1024
     (two_nodes_snapped
     ++ does Mark (Pushed 1)
     ∷ rewinds 1 6
@@ -209,7 +216,7 @@ MarkUndonePushesBack = Replies 16 1024
 
 -- the cells of dead objects are used again, the highest first
 abbrev pub SweepOrderAndReuse : Type 0
-SweepOrderAndReuse = Replies 16 1024
+SweepOrderAndReuse = RepliesAs 16 1024
     (does point (Answer.Class 0)
     ∷ does (New 0 0 0) (Made 0x10000000)
     ∷ does (New 0 1 0) (Made 0x10000020)
@@ -250,8 +257,22 @@ abbrev pub node_condemned : HeapState
 node_condemned = record {
   classes = instance_class (codes "Node") None node_fields ∷ [];
   regions =
-      InUse (record { cell_size = 4; pending = true; cells = Some (record { kind = Instance 0; words = 0 ∷ 0 ∷ []; live = false; mark = false }) ∷ replicate 255 None; free = range_with_len 1 255 })
-      ∷ InUse (record { cell_size = 16; pending = true; cells = Some (record { kind = Prim Long; words = replicate 5 0; live = true; mark = false }) ∷ replicate 63 None; free = range_with_len 1 63 })
+      InUse
+      (record {
+        cell_size = 4;
+        pending = true;
+        cells = Some (record { kind = Instance 0; words = 0 ∷ 0 ∷ []; live = false; mark = false })
+            ∷ replicate 255 None;
+        free = range_with_len 1 255;
+      })
+      ∷ InUse
+      (record {
+        cell_size = 16;
+        pending = true;
+        cells = Some (record { kind = Prim Long; words = replicate 5 0; live = true; mark = false })
+            ∷ replicate 63 None;
+        free = range_with_len 1 63;
+      })
       ∷ [];
   pool = [];
   registers = 0 ∷ 0x10002000 ∷ replicate 14 0;
@@ -262,7 +283,8 @@ node_condemned = record {
 }
 
 abbrev pub SweepAndReuseRewound : Type 0
-SweepAndReuseRewound = Replies 2 1024 swept_and_rewound × (end_state 2 1024 swept_and_rewound ≡ node_condemned)
+SweepAndReuseRewound =
+    RepliesAs 2 1024 swept_and_rewound × (end_state 2 1024 swept_and_rewound ≡ node_condemned)
 
 -- ---- the barrier
 
@@ -288,15 +310,17 @@ abbrev pub log_after : ℕ → List ℕ
 log_after n = (end_state 16 1024 (take n stores_logged)).log
 
 abbrev pub words_after : ℕ → ℕ → Option (List ℕ)
-words_after n x = option_map (λ o. o.words) (object_of (end_state 16 1024 (take n stores_logged)).regions x)
+words_after n x =
+    option_map (λ o. o.words) (object_of (end_state 16 1024 (take n stores_logged)).regions x)
 
 pub record BarrierLogsOldValues : Type 0 where
-  pub replies : Replies 16 1024 stores_logged
+  pub replies : RepliesAs 16 1024 stores_logged
   pub null_overwritten : log_after 4 ≡ []
   pub null_again : log_after 5 ≡ []
   pub itself_overwritten : log_after 6 ≡ 0x10000000 ∷ []
   pub second_null : log_after 8 ≡ 0x10000000 ∷ []
   pub second_overwritten : log_after 9 ≡ 0x10000000 ∷ 0x10000000 ∷ []
-  pub rewound_one : (log_after 10 ≡ 0x10000000 ∷ []) × (words_after 10 0x10000020 ≡ Some (0x10000000 ∷ 0 ∷ []))
+  pub rewound_one : (log_after 10 ≡ 0x10000000 ∷ [])
+      × (words_after 10 0x10000020 ≡ Some (0x10000000 ∷ 0 ∷ []))
   pub rewound_three : (log_after 11 ≡ []) × (words_after 11 0x10000000 ≡ Some (0x10000000 ∷ 0 ∷ []))
   pub rewound_two : (log_after 12 ≡ []) × (words_after 12 0x10000000 ≡ Some (0 ∷ 0 ∷ []))

@@ -25,7 +25,13 @@ pub record Machine : Type 0 where
   pub pins : Pins
 
 unfoldable pub opening_machine : IdSize → ℕ → ℕ → ℕ → Machine
-opening_machine ids regions mutators keep = record { keep = keep; ids = ids; trail = opening_trail (opening_state regions mutators); pins = no_pins }
+opening_machine ids regions mutators keep =
+    record {
+      keep = keep;
+      ids = ids;
+      trail = opening_trail (opening_state regions mutators);
+      pins = no_pins;
+    }
 
 -- ---- one action
 
@@ -45,7 +51,9 @@ unless None f m = f m
 unless (Some r) f m = (m, Refused r)
 
 unfoldable pub after_rewind_by : ℕ → Machine → Machine × Reply
-after_rewind_by n m = let t = rewound n m.trail in (record m { trail = t; pins = after_rewind t.place m.pins }, Place t.place)
+after_rewind_by n m =
+    let t = rewound n m.trail in
+    (record m { trail = t; pins = after_rewind t.place m.pins }, Place t.place)
 
 unfoldable pub after_open : ℕ → Machine → Machine × Reply
 after_open at m = (record m { pins = with_pin at m.trail m.pins }, Pinned m.pins.next at)
@@ -59,7 +67,10 @@ counted false pin m = m
 unfoldable pub after_piece : ℕ → ℕ → Machine → Option PinState → Machine × Reply
 after_piece pin time m None = (m, Refused NoPin)
 after_piece pin time m (Some (Gone cause)) = (m, Refused (Lost cause))
-after_piece pin time m (Some (Kept place image given)) = (counted (nat_lt given (length (pieces_of m.ids image time))) pin m, Part (piece_of m.ids image time given))
+after_piece pin time m (Some (Kept place image given)) = (
+  counted (nat_lt given (length (pieces_of m.ids image time))) pin m,
+  Part (piece_of m.ids image time given),
+)
 
 unfoldable pub after_close : ℕ → Machine → Option PinState → Machine × Reply
 after_close pin m None = (m, Refused NoPin)
@@ -69,28 +80,31 @@ after_close pin m (Some s) = (record m { pins = without_pin pin m.pins }, Closed
 unfoldable pub acted : Machine → Action → Machine × Reply
 acted m (Step e) = after_step_at (nat_le last_place m.trail.place) e m
 acted m (Rewind n) = unless (rewind_refusal n m.trail) (after_rewind_by n) m
-acted m (OpenPin at) = let place = unwrap_or at m.trail.place in unless (open_refusal place m.trail m.pins) (after_open place) m
+acted m (OpenPin at) =
+    let place = unwrap_or at m.trail.place in
+    unless (open_refusal place m.trail m.pins) (after_open place) m
 acted m (NextPiece pin time) = after_piece pin time m (pin_at pin m.pins)
 acted m (ClosePin pin) = after_close pin m (pin_at pin m.pins)
 
 -- ---- marks: where memory was wanting
 
 -- none was; the action found none and was refused; or the step lost the named pins
-pub data Mark : Type 0 where
-  Fine : Mark
-  Refusing : Mark
-  Losing : List ℕ → Mark
+pub data Allocation : Type 0 where
+  Granted : Allocation
+  Denied : Allocation
+  LosesPins : List ℕ → Allocation
 
-unfoldable pub acted_under : Machine → Action × Mark → Machine × Reply
-acted_under m (a, Fine) = acted m a
-acted_under m (a, Refusing) = (m, Refused NoMemory)
-acted_under m (a, Losing pins) = let r = acted m a in (record r.0 { pins = with_lost pins r.0.pins }, r.1)
+unfoldable pub acted_under : Machine → Action × Allocation → Machine × Reply
+acted_under m (a, Granted) = acted m a
+acted_under m (a, Denied) = (m, Refused NoMemory)
+acted_under m (a, LosesPins pins) =
+    let r = acted m a in (record r.0 { pins = with_lost pins r.0.pins }, r.1)
 
-unfoldable pub machine_after : Machine → List (Action × Mark) → Machine
+unfoldable pub machine_after : Machine → List (Action × Allocation) → Machine
 machine_after m [] = m
 machine_after m (a ∷ as') = machine_after (acted_under m a).0 as'
 
-unfoldable pub replies_of : Machine → List (Action × Mark) → List Reply
+unfoldable pub replies_of : Machine → List (Action × Allocation) → List Reply
 replies_of m [] = []
 replies_of m (a ∷ as') = let r = acted_under m a in r.1 ∷ replies_of r.0 as'
 
@@ -114,13 +128,13 @@ unfoldable pub is_accepted : Reply → Bool
 is_accepted (Refused r) = false
 is_accepted r = true
 
-abbrev pub MayStand : Machine → Action × Mark → Type 0
-MayStand m (a, Fine) = ⊤
-MayStand m (a, Refusing) = (may_grow a m ≡ true) × (is_accepted (acted m a).1 ≡ true)
-MayStand m (a, Losing pins) = (may_overwrite a ≡ true) × (is_accepted (acted m a).1 ≡ true)
+abbrev pub MayStand : Machine → Action × Allocation → Type 0
+MayStand m (a, Granted) = ⊤
+MayStand m (a, Denied) = (may_grow a m ≡ true) × (is_accepted (acted m a).1 ≡ true)
+MayStand m (a, LosesPins pins) = (may_overwrite a ≡ true) × (is_accepted (acted m a).1 ≡ true)
 
 -- each mark may stand where it does
-abbrev pub AreMarks : Machine → List (Action × Mark) → Type 0
+abbrev pub AreMarks : Machine → List (Action × Allocation) → Type 0
 AreMarks m [] = ⊤
 AreMarks m (a ∷ as') = MayStand m a × AreMarks (acted_under m a).0 as'
 
@@ -128,15 +142,17 @@ AreMarks m (a ∷ as') = MayStand m a × AreMarks (acted_under m a).0 as'
 
 -- the action may leave n and give this reply, under a mark that may stand beside it
 abbrev pub MayReply : Machine → Action → Machine → Reply → Type 0
-MayReply m a n r = (mark : Mark) × MayStand m (a, mark) × (acted_under m (a, mark) ≡ (n, r))
+MayReply m a n r = (mark : Allocation) × MayStand m (a, mark) × (acted_under m (a, mark) ≡ (n, r))
 
 -- the action may leave n and be refused so, also for want of memory
 abbrev pub MayFail : Machine → Action → Machine → Refusal → Type 0
-MayFail m a n r = (acted m a ≡ (n, Refused r)) ⊎ (MayStand m (a, Refusing) × (r ≡ NoMemory))
+MayFail m a n r = (acted m a ≡ (n, Refused r)) ⊎ (MayStand m (a, Denied) × (r ≡ NoMemory))
 
 -- under some marks these actions lead from m to n, with these replies
 abbrev pub MayDrive : Machine → List Action → List Reply → Machine → Type 0
-MayDrive m actions replies n = (marked : List (Action × Mark)) × (map (λ a. a.0) marked ≡ actions) × AreMarks m marked × (replies ≡ replies_of m marked) × (n ≡ machine_after m marked)
+MayDrive m actions replies n =
+    (marked : List (Action × Allocation)) × (map (λ a. a.0) marked ≡ actions) × AreMarks m marked
+    × (replies ≡ replies_of m marked) × (n ≡ machine_after m marked)
 
 -- a piece has at most 2 ^ 24 bytes
 abbrev pub IsSmall : Reply → Type 0
@@ -154,10 +170,10 @@ is_dump_action (Step e) = false
 is_dump_action (Rewind n) = false
 is_dump_action a = true
 
-unfoldable pub without_dumps : List (Action × Mark) → List (Action × Mark)
+unfoldable pub without_dumps : List (Action × Allocation) → List (Action × Allocation)
 without_dumps actions = filter (λ a. not (is_dump_action a.0)) actions
 
 -- ---- the list with no marks
 
-unfoldable pub unmarked_list : List Action → List (Action × Mark)
-unmarked_list actions = map (λ a. (a, Fine)) actions
+unfoldable pub unmarked_list : List Action → List (Action × Allocation)
+unmarked_list actions = map (λ a. (a, Granted)) actions

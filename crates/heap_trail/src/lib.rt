@@ -14,8 +14,8 @@ ghost use Rattle.heap_trail.specs.declared.Action.TheVariants.{OpenPin, Step, Re
 ghost use Rattle.heap_trail.specs.declared.Reply.TheVariants.{Answered, Pinned, Place, Refused};
 ghost use Rattle.heap_trail.specs.Headline.{Headline};
 ghost use Rattle.heap_trail.specs.Laws.{FindsSnapshot, IsTrail, GivesText, KeepsImage, DumpIsWhole, LeadsBack, LeavesTrail, ReachesLive, SparesReached};
-ghost use Rattle.heap_trail.specs.Machine.{IsSmall, Machine, Mark, MayFail, MayReply, acted, is_dump_action, opening_machine};
-ghost use Rattle.heap_trail.specs.Slots.{AreAllBelow, EachMayKeep, EachSized, slot_after_rewind};
+ghost use Rattle.heap_trail.specs.Machine.{IsSmall, Machine, Allocation, MayFail, MayReply, acted, is_dump_action, opening_machine};
+ghost use Rattle.heap_trail.specs.OpenPins.{AreAllBelow, EachMayKeep, EachSized, slot_after_rewind};
 ghost use Rattle.heap_trail.specs.Records.{with_record};
 ghost use Rattle.heap_trail.specs.Trail.{retained, rewound};
 ghost use Rattle.heap_trail.specs.Pins.{after_rewind};
@@ -34,7 +34,7 @@ use heap_pins::touched_region;
 use heap_step::step::undo;
 use heap_step::{Answer, Event, Undo, apply, undo_takes_back};
 use heap_world::{Config, World};
-use held::Slot;
+use held::NumberedPin;
 use hprof_text::{Cursor, Piece, piece_from};
 use std::alloc::Global;
 use std::marker::Model;
@@ -79,7 +79,7 @@ pub enum Reply {
 
 /// A pin that was opened: its number, counted from 1, and its place.
 #[derive(Clone, Copy, PartialEq, Eq, Debug)]
-pub struct Pinned {
+pub struct PinAt {
     pub pin: u64,
     pub at: u64,
 }
@@ -107,12 +107,12 @@ pub struct Machine {
     keep: u64,
     ids: IdSize,
     next: u64,
-    pins: Vec<Slot>,
+    pins: Vec<NumberedPin>,
 }
 
 impl Model for Machine {
     ghost use Rattle.heap_trail.specs.Machine.{Machine};
-    ghost use Rattle.heap_trail.specs.Records.{machine_of, IsWhole};
+    ghost use Rattle.heap_trail.specs.Records.{machine_of, IsWholeMachine};
 
     ghost Value = { Machine };
 
@@ -122,11 +122,12 @@ impl Model for Machine {
     ghost use Rattle.std.specs.Vec.{vec_capacity};
     ghost use Rattle.heap_trail.specs.Limits.{pin_limit};
 
-    ghost invariant = { λ m. IsWhole m.ids m.world m.records m.place m.keep m.next m.pins.items (vec_capacity m.pins) };
+    ghost invariant = { λ m. IsWholeMachine m.ids m.world m.records m.place m.keep m.next
+        m.pins.items (vec_capacity m.pins) };
 }
 
 // Each pin keeps what the step that left this record and led to this state overwrote, or is lost.
-fn keep_each(pins: &mut [Slot], world: &World, left: &Undo)
+fn keep_each(pins: &mut [NumberedPin], world: &World, left: &Undo)
     requires step { (e : Event) × (before : HeapState) × IsStep e before world.now left.now }
     requires sized { EachSized (length world.now.regions) pins.old }
     ensures { EachMayKeep left.now world.now pins.old pins.new }
@@ -152,7 +153,7 @@ fn add_record(records: &mut HeapCircularBuffer<Undo>, left: Undo)
 // Has each pin keep what the step that left this record and led to this state overwrote, and puts the record into the ring.
 #[inline(never)]
 fn keep_and_add(
-    pins: &mut [Slot],
+    pins: &mut [NumberedPin],
     world: &World,
     records: &mut HeapCircularBuffer<Undo>,
     left: Undo,
@@ -168,7 +169,12 @@ fn keep_and_add(
 
 // Does what `keep_and_add` does. Without pins the record goes to the ring at once.
 #[inline(always)]
-fn remember(pins: &mut [Slot], world: &World, records: &mut HeapCircularBuffer<Undo>, left: Undo)
+fn remember(
+    pins: &mut [NumberedPin],
+    world: &World,
+    records: &mut HeapCircularBuffer<Undo>,
+    left: Undo,
+)
     requires step { (e : Event) × (before : HeapState) × IsStep e before world.now left }
     requires sized { EachSized (length world.now.regions) pins.old }
     ensures pins { EachMayKeep left world.now pins.old pins.new }
@@ -182,7 +188,7 @@ fn remember(pins: &mut [Slot], world: &World, records: &mut HeapCircularBuffer<U
 }
 
 // Loses the pins above a place.
-fn lose_above(pins: &mut [Slot], to: u64)
+fn lose_above(pins: &mut [NumberedPin], to: u64)
     ensures { pins.new ≡ map (slot_after_rewind to) pins.old }
 {
     for i in 0..pins.len() {
@@ -193,7 +199,8 @@ fn lose_above(pins: &mut [Slot], to: u64)
 impl Machine {
     /// A machine at place 0. Its ring has room for all records that it keeps, and there is room for all pins. Refused NoMemory.
     pub fn new(alloc: Global, config: Config) -> Result<Machine, Refusal>
-        ensures opened { IfOk result (λ m. m ≡ opening_machine config.ids config.regions config.mutators config.keep) }
+        ensures opened { IfOk result
+            (λ m. m ≡ opening_machine config.ids config.regions config.mutators config.keep) }
         ensures refused { IfErr result (λ e. e ≡ NoMemory) }
     {
         let keep = config.keep();
@@ -230,9 +237,12 @@ impl Machine {
         ensures done { IfOk result (λ a. MayReply self.old (Step event.now) self.new (Answered a)) }
         ensures refused { IfErr result (λ e. MayFail self.old (Step event.now) self.new e) }
         ensures unchanged { OnErr result (self.new ≡ self.old) }
-        ensures spares { OnOk result ((region : ℕ) → event.now ≡ Sweep region → SparesReached self.old.trail.current self.new.trail.current) }
+        ensures spares { OnOk result
+            ((region : ℕ) → event.now ≡ Sweep region
+            → SparesReached self.old.trail.current self.new.trail.current) }
         ensures live { OnOk result (event.now ≡ Finish → ReachesLive self.new.trail.current) }
-        ensures finds { OnOk result (event.now ≡ Finish → FindsSnapshot self.old.trail.past self.new.trail.current) }
+        ensures finds { OnOk result
+            (event.now ≡ Finish → FindsSnapshot self.old.trail.past self.new.trail.current) }
     {
         if self.place >= LAST_PLACE {
             return Err(Refusal::ChronicleFull);
@@ -302,7 +312,7 @@ impl Machine {
                 Err(refusal) => Reply::Refused(refusal),
             },
             Action::OpenPin(at) => match self.open_pin(*at) {
-                Ok(Pinned { pin, at }) => Reply::Pinned { pin, at },
+                Ok(PinAt { pin, at }) => Reply::Pinned { pin, at },
                 Err(refusal) => Reply::Refused(refusal),
             },
             Action::NextPiece { pin, time } => match self.piece(*pin, *time) {
@@ -342,12 +352,12 @@ impl Machine {
 
 /// The law that dumps leave the trail of every list of actions as it is without them.
 pub fn dumps_leave_trail()
-    ensures { (m : Machine) (actions : List (Action × Mark)) → LeavesTrail m actions }
+    ensures { (m : Machine) (actions : List (Action × Allocation)) → LeavesTrail m actions }
 {}
 
 /// The law that a pin that isn't lost keeps its place and its image under every action.
 pub fn pins_keep_images()
-    ensures { (m : Machine) (a : Action × Mark) (pin : ℕ) → KeepsImage m a pin }
+    ensures { (m : Machine) (a : Action × Allocation) (pin : ℕ) → KeepsImage m a pin }
 {}
 
 /// The law that a step that is answered and a rewind of one after it lead back to the state and the place before.
@@ -363,7 +373,8 @@ pub fn dump_is_whole()
 /// The law that what a pin gives in a list of actions, whatever else is done between its pieces, is a beginning of the text of
 /// its image, and all of it once the last piece was given.
 pub fn dumps_are_text()
-    ensures { (m : Machine) (actions : List (Action × Mark)) (pin time : ℕ) → GivesText m actions pin time }
+    ensures { (m : Machine) (actions : List (Action × Allocation)) (pin time : ℕ)
+        → GivesText m actions pin time }
 {}
 
 /// States that after every list of actions undoing the last retained step restores the whole state before it, rewinding n
@@ -371,5 +382,5 @@ pub fn dumps_are_text()
 /// that in the list steps and rewinds go as without its dumps; and that what a pin gives, also if it is closed, lost or left in
 /// the middle, is a beginning of the text of its image, which it keeps, and all of it once its last piece was given.
 pub fn headline()
-    ensures { (m : Machine) (actions : List (Action × Mark)) → Headline m actions }
+    ensures { (m : Machine) (actions : List (Action × Allocation)) → Headline m actions }
 {}

@@ -69,7 +69,10 @@ impl Mistake {
 
 // Returns the text of a refusal that says this.
 fn refusal_text(alloc: Global, mistake: &str) -> Result<String, AllocError>
-    ensures { IfOk result (λ s. string_bytes s ≡ codes "error: " ++ (mistake.now ++ codes "\n\nFor more information, try 'heapdbg --help'.\n")) }
+    ensures { IfOk result
+        (λ s. string_bytes s
+        ≡ codes "error: "
+        ++ (mistake.now ++ codes "\n\nFor more information, try 'heapdbg --help'.\n")) }
 {
     format!(in alloc; "error: {mistake}\n\nFor more information, try 'heapdbg --help'.\n")
 }

@@ -1,6 +1,6 @@
 //! A source over the lock that tells what it gave.
 ghost use Rattle.std.specs.Prelude.{◌≡◌, ◌<◌};
-ghost use Rattle.live_dump.specs.Supplies.{IsSupplied, pieces_in, ended_by, given_with, nothing_of};
+ghost use Rattle.live_dump.specs.Supplies.{IsSupplied, pieces_in, ended_with, pieces_with, nothing_of};
 
 use dump_pump::source::PART_LIMIT;
 use dump_pump::{Ending, Next, Source};
@@ -19,19 +19,27 @@ pub struct ToldSource<'a, L: Heap, R: Wait> {
 }
 
 impl<'a, L: Heap, R: Wait> Model for ToldSource<'a, L, R> {
-    ghost use Rattle.live_dump.specs.Supplies.{Told, IsSupplied, pieces_in};
+    ghost use Rattle.live_dump.specs.Supplies.{ToldSupply, IsSupplied, pieces_in};
 
-    ghost Value = { Told };
+    ghost Value = { ToldSupply };
 
-    ghost view = { λ s. record { pin = s.source.pin; time = s.source.time; given = pieces_in s.given.items; count = s.source.count; ended = s.ended } };
+    ghost view = { λ s.
+        record {
+          pin = s.source.pin;
+          time = s.source.time;
+          given = pieces_in s.given.items;
+          count = s.source.count;
+          ended = s.ended;
+        } };
 
-    ghost invariant = { λ s. IsSupplied L.config s.source.pin s.source.time (pieces_in s.given.items) s.ended };
+    ghost invariant = { λ s. IsSupplied L.config s.source.pin s.source.time
+        (pieces_in s.given.items) s.ended };
 }
 
 /// Notes what was given next, and how the source ended.
 fn note(given: &mut Log<Piece, ()>, ended: &mut Option<Ending>, next: &Next)
-    ensures given { pieces_in given.new.items ≡ given_with (pieces_in given.old.items) next.now }
-    ensures ended { ended.new ≡ ended_by ended.old next.now }
+    ensures given { pieces_in given.new.items ≡ pieces_with (pieces_in given.old.items) next.now }
+    ensures ended { ended.new ≡ ended_with ended.old next.now }
 {
     match next {
         Next::Part(piece) => {
@@ -60,7 +68,8 @@ impl<'a, L: Heap, R: Wait> ToldSource<'a, L, R> {
     /// Returns how the source ended, if it has. Its contract says what is known of the pieces that it gave.
     pub fn ended(&self) -> Option<Ending>
         ensures ended { result ≡ self.now.ended }
-        ensures supplied { IsSupplied L.config self.now.pin self.now.time self.now.given self.now.ended }
+        ensures supplied { IsSupplied L.config self.now.pin self.now.time self.now.given
+            self.now.ended }
     {
         self.ended
     }
@@ -68,13 +77,13 @@ impl<'a, L: Heap, R: Wait> ToldSource<'a, L, R> {
 
 impl<'a, L: Heap, R: Wait> Source for ToldSource<'a, L, R> {
     ghost use Rattle.std.specs.Prelude.{ℕ};
-    ghost use Rattle.live_dump.specs.Supplies.{supply};
+    ghost use Rattle.live_dump.specs.Supplies.{told_supply};
 
     ghost Kept = { ℕ × ℕ };
 
     ghost kept = { λ s. (s.pin, s.time) };
 
-    ghost seen = { λ s. supply s.given s.count s.ended };
+    ghost seen = { λ s. told_supply s.given s.count s.ended };
 
     fn next(&mut self) -> Next {
         let next = self.source.next_part();

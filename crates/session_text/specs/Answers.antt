@@ -12,28 +12,32 @@ use Rattle.session_text.specs.Reads.{ActionTakesMemory}
 use Rattle.session_text.specs.Replies.{reply_text}
 
 -- a line's command, the commands before, the text of its answer and the commands after
-abbrev pub Says : Type 0 → Type 1
-Says S = Command → S → List ℕ → S → Type 0
+abbrev pub AnswerRelation : Type 0 → Type 1
+AnswerRelation S = Command → S → List ℕ → S → Type 0
 
 -- the commands act, or the line's reading found no memory and nothing is done
-abbrev pub Replies : {S : Type 0} → Acts S → S → Action → Reply → S → Type 0
-Replies acts c a r c' = acts c a r c' ⊎ (ActionTakesMemory a × (r ≡ Refused NoMemory) × (c' ≡ c))
+abbrev pub RepliesTo : {S : Type 0} → Acts S → S → Action → Reply → S → Type 0
+RepliesTo acts c a r c' = acts c a r c' ⊎ (ActionTakesMemory a × (r ≡ Refused NoMemory) × (c' ≡ c))
 
-abbrev pub Answers : {S : Type 0} → Acts S → ℕ → Says S
-Answers acts time Blank c text c' = (text ≡ []) × (c' ≡ c)
-Answers acts time Bad c text c' = (text ≡ codes "bad command\n") × (c' ≡ c)
-Answers acts time (Ask a) c text c' = (r : Reply) × Replies acts c a r c' × (text ≡ reply_text r)
-Answers acts time (Piece pin) c text c' = (r : Reply) × acts c (NextPiece pin time) r c' × (text ≡ reply_text r)
-Answers acts time (Dump pin) c text c' = DumpsPin acts pin time piece_limit c text c'
-Answers acts time DumpNow c text c' = DumpsNow acts time piece_limit c text c'
-Answers acts time End c text c' = ⊥
+abbrev pub AnswersCommand : {S : Type 0} → Acts S → ℕ → AnswerRelation S
+AnswersCommand acts time Blank c text c' = (text ≡ []) × (c' ≡ c)
+AnswersCommand acts time Bad c text c' = (text ≡ codes "bad command\n") × (c' ≡ c)
+AnswersCommand acts time (Ask a) c text c' =
+    (r : Reply) × RepliesTo acts c a r c' × (text ≡ reply_text r)
+AnswersCommand acts time (Piece pin) c text c' =
+    (r : Reply) × acts c (NextPiece pin time) r c' × (text ≡ reply_text r)
+AnswersCommand acts time (Dump pin) c text c' = DumpsPin acts pin time piece_limit c text c'
+AnswersCommand acts time DumpNow c text c' = DumpsNow acts time piece_limit c text c'
+AnswersCommand acts time End c text c' = ⊥
 
 -- the same where a write fails in the answer: a dump goes up to some piece
-abbrev pub Begins : {S : Type 0} → Acts S → ℕ → Says S
+abbrev pub Begins : {S : Type 0} → Acts S → ℕ → AnswerRelation S
 Begins acts time Blank c text c' = ⊥
-Begins acts time Bad c text c' = Answers acts time Bad c text c'
-Begins acts time (Ask a) c text c' = Answers acts time (Ask a) c text c'
-Begins acts time (Piece pin) c text c' = Answers acts time (Piece pin) c text c'
-Begins acts time (Dump pin) c text c' = (pieces : ℕ) × (pieces ≤ piece_limit) × DumpsPin acts pin time pieces c text c'
-Begins acts time DumpNow c text c' = (pieces : ℕ) × (pieces ≤ piece_limit) × DumpsNow acts time pieces c text c'
+Begins acts time Bad c text c' = AnswersCommand acts time Bad c text c'
+Begins acts time (Ask a) c text c' = AnswersCommand acts time (Ask a) c text c'
+Begins acts time (Piece pin) c text c' = AnswersCommand acts time (Piece pin) c text c'
+Begins acts time (Dump pin) c text c' =
+    (pieces : ℕ) × (pieces ≤ piece_limit) × DumpsPin acts pin time pieces c text c'
+Begins acts time DumpNow c text c' =
+    (pieces : ℕ) × (pieces ≤ piece_limit) × DumpsNow acts time pieces c text c'
 Begins acts time End c text c' = ⊥

@@ -6,7 +6,7 @@ use Rattle.heap_trail.specs.declared.Action.TheVariants.{OpenPin, NextPiece, Clo
 use Rattle.heap_trail.specs.declared.Reply.{Reply}
 use Rattle.hprof_text.specs.declared.Piece.{Piece}
 use Rattle.session_text.specs.Replies.{line, and_number, reply_text, data_lines, piece_in, pin_in}
-use Rattle.session_text.specs.Writes.{IsAdded}
+use Rattle.session_text.specs.Writes.{IsTextAdded}
 
 -- what an action may reply and leave
 abbrev pub Acts : Type 0 → Type 1
@@ -22,16 +22,19 @@ total_line total = line (codes "ok dump" ++ and_number total)
 
 -- after the reply to NextPiece: a piece's data lines, and then the last line or the text of the other pieces; or the line of
 -- a reply that gives no piece
-abbrev pub Goes : {S : Type 0} → Dumping S → Reply → Option Piece → Dumping S
-Goes more r (Some p) c so_far text c' =
+abbrev pub DumpsOn : {S : Type 0} → Dumping S → Reply → Option Piece → Dumping S
+DumpsOn more r (Some p) c so_far text c' =
     (rest : List ℕ) × (text ≡ data_lines p.bytes ++ rest)
-    × (((p.last ≡ true) × (rest ≡ total_line (so_far + length p.bytes)) × (c' ≡ c)) ⊎ ((p.last ≡ false) × more c (so_far + length p.bytes) rest c'))
-Goes more r None c so_far text c' = (text ≡ reply_text r) × (c' ≡ c)
+    × (((p.last ≡ true) × (rest ≡ total_line (so_far + length p.bytes)) × (c' ≡ c))
+    ⊎ ((p.last ≡ false) × more c (so_far + length p.bytes) rest c'))
+DumpsOn more r None c so_far text c' = (text ≡ reply_text r) × (c' ≡ c)
 
 -- at most so many pieces of a pin
 abbrev pub Dumps : {S : Type 0} → Acts S → ℕ → ℕ → ℕ → Dumping S
 Dumps acts pin time zero c so_far text c' = (text ≡ []) × (c' ≡ c)
-Dumps {S} acts pin time (suc n) c so_far text c' = (r : Reply) × (next : S) × acts c (NextPiece pin time) r next × Goes (Dumps acts pin time n) r (piece_in r) next so_far text c'
+Dumps {S} acts pin time (suc n) c so_far text c' =
+    (r : Reply) × (next : S) × acts c (NextPiece pin time) r next
+    × DumpsOn (Dumps acts pin time n) r (piece_in r) next so_far text c'
 
 -- the most pieces of a dump
 abbrev pub piece_limit : ℕ
@@ -47,14 +50,22 @@ DumpsPin acts pin time n c text c' = Dumps acts pin time n c 0 text c'
 
 -- after the reply to OpenPin: a dump of the pin, which is closed then; or the line of a reply that gives no pin
 abbrev pub ClosesAfter : {S : Type 0} → Acts S → ℕ → Reply → Option ℕ → DumpText S
-ClosesAfter {S} acts time r (Some pin) n c text c' = (dumped : S) × (closing : Reply) × DumpsPin acts pin time n c text dumped × acts dumped (ClosePin pin) closing c'
+ClosesAfter {S} acts time r (Some pin) n c text c' =
+    (dumped : S) × (closing : Reply) × DumpsPin acts pin time n c text dumped
+    × acts dumped (ClosePin pin) closing c'
 ClosesAfter acts time r None n c text c' = (text ≡ reply_text r) × (c' ≡ c)
 
 -- a dump of the current state
 abbrev pub DumpsNow : {S : Type 0} → Acts S → ℕ → DumpText S
-DumpsNow {S} acts time n c text c' = (r : Reply) × (opened : S) × acts c (OpenPin None) r opened × ClosesAfter acts time r (pin_in r) n opened text c'
+DumpsNow {S} acts time n c text c' =
+    (r : Reply) × (opened : S) × acts c (OpenPin None) r opened
+    × ClosesAfter acts time r (pin_in r) n opened text c'
 
 -- a dump was added to a page, or a write failed in a dump up to some piece
-abbrev pub WritesDump : {S : Type 0} → DumpText S → S → S → List ℕ → Outgoing → List ℕ → Outgoing → Bool → Type 0
-WritesDump dumps c c' page a page' b true = (text : List ℕ) × dumps piece_limit c text c' × IsAdded text page a page' b true
-WritesDump dumps c c' page a page' b false = (pieces : ℕ) × (text : List ℕ) × (pieces ≤ piece_limit) × dumps pieces c text c' × IsAdded text page a page' b false
+abbrev pub WritesDump : {S : Type 0} → DumpText S → S → S → List ℕ → Outgoing → List ℕ → Outgoing
+    → Bool → Type 0
+WritesDump dumps c c' page a page' b true =
+    (text : List ℕ) × dumps piece_limit c text c' × IsTextAdded text page a page' b true
+WritesDump dumps c c' page a page' b false =
+    (pieces : ℕ) × (text : List ℕ) × (pieces ≤ piece_limit) × dumps pieces c text c'
+    × IsTextAdded text page a page' b false

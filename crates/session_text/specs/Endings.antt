@@ -6,7 +6,7 @@ use Rattle.session_text.specs.declared.Ended.TheVariants.{Quit, Eof, CutLine, To
 use Rattle.session_text.specs.declared.answer.Step.{Step}
 use Rattle.session_text.specs.declared.answer.Step.TheVariants.{Next, Fault}
 use Rattle.session_text.specs.Inlets.{Incoming, NothingLeft}
-use Rattle.session_text.specs.Writes.{IsWritten}
+use Rattle.session_text.specs.Writes.{IsTextWritten}
 
 abbrev pub step_of : Bool → Step
 step_of true = Next
@@ -18,7 +18,8 @@ ended_of ended false = WriteFault
 
 -- the page and an ending's line were put out, or the session ended by a write that failed in them
 abbrev pub EndsWith : List ℕ → List ℕ → Outgoing → Outgoing → Ended → Ended → Type 0
-EndsWith line page w w' ended result = (written : Bool) × IsWritten (page ++ line) w w' written × (result ≡ ended_of ended written)
+EndsWith line page w w' ended result =
+    (written : Bool) × IsTextWritten (page ++ line) w w' written × (result ≡ ended_of ended written)
 
 -- the reader before and after, where no write failed
 abbrev pub ReaderEnds : Incoming → Incoming → Ended → Type 0
@@ -27,12 +28,14 @@ ReaderEnds a b Eof = NothingLeft b × (b.failures ≡ a.failures)
 ReaderEnds a b CutLine = NothingLeft b × (b.failures ≡ a.failures)
 ReaderEnds a b TooLong = b.failures ≡ a.failures
 ReaderEnds a b ReadFault = b.failures ≡ a.failures + 1
-ReaderEnds a b TooManyReads = (length b.reads ≡ length a.reads + 1000000) × (b.failures ≡ a.failures)
+ReaderEnds a b TooManyReads =
+    (length b.reads ≡ length a.reads + 1000000) × (b.failures ≡ a.failures)
 ReaderEnds a b WriteFault = ⊥
 ReaderEnds a b NoMemory = b ≡ a
 
 -- the reader and the writer before and after
-abbrev pub Ends : Incoming → Incoming → Outgoing → Outgoing → Ended → Type 0
-Ends a b w w' WriteFault = (w'.failures ≡ w.failures + 1) × ((b.failures ≡ a.failures) ⊎ (b.failures ≡ a.failures + 1))
-Ends a b w w' NoMemory = (b ≡ a) × (w' ≡ w)
-Ends a b w w' ended = (w'.failures ≡ w.failures) × ReaderEnds a b ended
+abbrev pub EndsSession : Incoming → Incoming → Outgoing → Outgoing → Ended → Type 0
+EndsSession a b w w' WriteFault =
+    (w'.failures ≡ w.failures + 1) × ((b.failures ≡ a.failures) ⊎ (b.failures ≡ a.failures + 1))
+EndsSession a b w w' NoMemory = (b ≡ a) × (w' ≡ w)
+EndsSession a b w w' ended = (w'.failures ≡ w.failures) × ReaderEnds a b ended

@@ -12,7 +12,7 @@ pub record Incoming : Type 0 where
   pub failures : ℕ
 
 -- an inlet's reader, the bytes that it gave since the inlet was made, how many each read took, and how many reads failed
-pub record Reading (R : Type 0) : Type 0 where
+pub record InletState (R : Type 0) : Type 0 where
   pub reader : R
   pub taken : List ℕ
   pub reads : List ℕ
@@ -26,15 +26,28 @@ abbrev pub NothingLeft : Incoming → Type 0
 NothingLeft a = IfSome a.left (λ xs. xs ≡ [])
 
 abbrev pub IsTake : List ℕ → Incoming → Incoming → Take → Type 0
-IsTake room a b (Got n) = (0 < n) × (n ≤ length room) × (b.taken ≡ a.taken ++ take n room) × (b.reads ≡ a.reads ++ n ∷ []) × (b.failures ≡ a.failures) × Keeps (whole a) (whole b)
-IsTake room a b End = NothingLeft b × (b.taken ≡ a.taken) × (b.reads ≡ a.reads ++ 0 ∷ []) × (b.failures ≡ a.failures) × Keeps (whole a) (whole b)
-IsTake room a b Failed = (b.taken ≡ a.taken) × (b.reads ≡ a.reads ++ 0 ∷ []) × (b.failures ≡ a.failures + 1) × Keeps (whole a) (whole b)
+IsTake room a b (Got n) =
+    (0 < n) × (n ≤ length room) × (b.taken ≡ a.taken ++ take n room) × (b.reads ≡ a.reads ++ n ∷ [])
+    × (b.failures ≡ a.failures) × Keeps (whole a) (whole b)
+IsTake room a b End =
+    NothingLeft b × (b.taken ≡ a.taken) × (b.reads ≡ a.reads ++ 0 ∷ []) × (b.failures ≡ a.failures)
+    × Keeps (whole a) (whole b)
+IsTake room a b Failed =
+    (b.taken ≡ a.taken) × (b.reads ≡ a.reads ++ 0 ∷ []) × (b.failures ≡ a.failures + 1)
+    × Keeps (whole a) (whole b)
 
 -- what a read does to a buffer's bytes
-abbrev pub IsRead : List ℕ → List ℕ → Incoming → Incoming → Take → Type 0
-IsRead buf buf' a b (Got n) = (more : List ℕ) × (0 < length more) × (buf' ≡ buf ++ more) × (b.taken ≡ a.taken ++ more) × (b.reads ≡ a.reads ++ length more ∷ []) × (b.failures ≡ a.failures) × Keeps (whole a) (whole b)
-IsRead buf buf' a b End = (buf' ≡ buf) × NothingLeft b × (b.taken ≡ a.taken) × (b.reads ≡ a.reads ++ 0 ∷ []) × (b.failures ≡ a.failures) × Keeps (whole a) (whole b)
-IsRead buf buf' a b Failed = (buf' ≡ buf) × (b.taken ≡ a.taken) × (b.reads ≡ a.reads ++ 0 ∷ []) × (b.failures ≡ a.failures + 1) × Keeps (whole a) (whole b)
+abbrev pub IsInletRead : List ℕ → List ℕ → Incoming → Incoming → Take → Type 0
+IsInletRead buf buf' a b (Got n) =
+    (more : List ℕ) × (0 < length more) × (buf' ≡ buf ++ more) × (b.taken ≡ a.taken ++ more)
+    × (b.reads ≡ a.reads ++ length more ∷ []) × (b.failures ≡ a.failures)
+    × Keeps (whole a) (whole b)
+IsInletRead buf buf' a b End =
+    (buf' ≡ buf) × NothingLeft b × (b.taken ≡ a.taken) × (b.reads ≡ a.reads ++ 0 ∷ [])
+    × (b.failures ≡ a.failures) × Keeps (whole a) (whole b)
+IsInletRead buf buf' a b Failed =
+    (buf' ≡ buf) × (b.taken ≡ a.taken) × (b.reads ≡ a.reads ++ 0 ∷ [])
+    × (b.failures ≡ a.failures + 1) × Keeps (whole a) (whole b)
 
 abbrev pub count_of : Take → ℕ
 count_of (Got n) = n

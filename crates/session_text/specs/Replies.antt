@@ -25,7 +25,8 @@ answer_text (Value v) = codes "ok value" ++ and_number v
 answer_text Done = codes "ok"
 answer_text (Pushed n) = codes "ok pushed" ++ and_number n
 answer_text (Condemned n) = codes "ok condemned" ++ and_number n
-answer_text (Swept dead emptied) = (codes "ok swept" ++ and_number dead) ++ (if emptied then codes " empty" else [])
+answer_text (Swept dead emptied) =
+    (codes "ok swept" ++ and_number dead) ++ (if emptied then codes " empty" else [])
 
 abbrev pub cause_text : LostCause → List ℕ
 cause_text Rewound = codes "Rewound"
@@ -43,7 +44,8 @@ facts_text r = []
 
 -- the number and the name of a refusal, and its facts
 abbrev pub refusal_text : Refusal → List ℕ
-refusal_text r = ((codes "no" ++ and_number (refusal_number r)) ++ 32 ∷ refusal_name r) ++ facts_text r
+refusal_text r =
+    ((codes "no" ++ and_number (refusal_number r)) ++ 32 ∷ refusal_name r) ++ facts_text r
 
 -- a text and its LF
 abbrev pub line : List ℕ → List ℕ
@@ -69,7 +71,8 @@ data_lines bytes = flat_map data_line (chunks_of_64 (length bytes) bytes)
 
 -- the length of a piece that is the last, or isn't
 abbrev pub piece_words : Piece → List ℕ
-piece_words piece = (if piece.last then codes "ok last" else codes "ok piece") ++ and_number (length piece.bytes)
+piece_words piece =
+    (if piece.last then codes "ok last" else codes "ok piece") ++ and_number (length piece.bytes)
 
 -- what a reply prints on its last line, without its LF
 abbrev pub reply_words : Reply → List ℕ

@@ -2,13 +2,13 @@
 ghost use Rattle.std.specs.Prelude.{◌≡◌, ◌≤◌, length, [], true};
 ghost use Rattle.heap_step.specs.declared.Answer.TheVariants.{Done};
 ghost use Rattle.heap_trail.specs.declared.Reply.TheVariants.{Answered};
-ghost use Rattle.session_text.specs.Answers.{Answers, Begins};
+ghost use Rattle.session_text.specs.Answers.{AnswersCommand, Begins};
 ghost use Rattle.session_text.specs.Endings.{step_of};
 ghost use Rattle.session_text.specs.Grammar.{command_of, command_of_text};
 ghost use Rattle.heap_trail.specs.declared.Reply.{Reply};
 ghost use Rattle.session_text.specs.Replies.{reply_text};
-ghost use Rattle.session_text.specs.Talks.{IsFirst, IsStep, IsAnswered};
-ghost use Rattle.session_text.specs.Writes.{IsAdded};
+ghost use Rattle.session_text.specs.Talks.{IsFirst, IsSessionStep, AreLinesAnswered};
+ghost use Rattle.session_text.specs.Writes.{IsTextAdded};
 
 use crate::LINE_LIMIT;
 use crate::buffer::Buffer;
@@ -59,7 +59,9 @@ pub fn answer_action<O: Outlet, C: Commands>(
     writer: &mut O,
     commands: &mut C,
 ) -> bool
-    ensures { (r : Reply) × C.acts commands.old action r commands.new × IsAdded (reply_text r) page.old (O.seen writer.old) page.new (O.seen writer.new) result }
+    ensures { (r : Reply) × C.acts commands.old action r commands.new
+        × IsTextAdded (reply_text r) page.old (O.seen writer.old) page.new (O.seen writer.new)
+        result }
 {
     let reply = commands.act(action);
     if is_done(&reply) {
@@ -74,7 +76,8 @@ pub fn answer_action<O: Outlet, C: Commands>(
 /// Adds a reply to a page, which is flushed each time that it is full.
 #[inline(never)]
 fn write_other<O: Outlet>(page: &mut Page, writer: &mut O, reply: Reply) -> bool
-    ensures { IsAdded (reply_text reply) page.old (O.seen writer.old) page.new (O.seen writer.new) result }
+    ensures { IsTextAdded (reply_text reply) page.old (O.seen writer.old) page.new
+        (O.seen writer.new) result }
 {
     write_reply(page, writer, &reply)
 }
@@ -91,7 +94,9 @@ fn answer_text<O: Outlet, C: Commands>(
     commands: &mut C,
 ) -> Step
     requires { length text.now ≤ 4096 }
-    ensures { IsStep (Answers C.acts time) (Begins C.acts time) (command_of_text text.now) commands.old page.old (O.seen writer.old) commands.new page.new (O.seen writer.new) result }
+    ensures { IsSessionStep (AnswersCommand C.acts time) (Begins C.acts time)
+        (command_of_text text.now) commands.old page.old (O.seen writer.old) commands.new page.new
+        (O.seen writer.new) result }
 {
     match command_of_text(alloc, marks, text) {
         Err(_) => next_unless(write_reply(page, writer, &Reply::Refused(Refusal::NoMemory))),
@@ -119,7 +124,8 @@ fn answer_line<O: Outlet, C: Commands>(
     commands: &mut C,
 ) -> Step
     requires { length line.now ≤ 4096 }
-    ensures { IsStep (Answers C.acts time) (Begins C.acts time) (command_of line.now) commands.old page.old (O.seen writer.old) commands.new page.new (O.seen writer.new) result }
+    ensures { IsSessionStep (AnswersCommand C.acts time) (Begins C.acts time) (command_of line.now)
+        commands.old page.old (O.seen writer.old) commands.new page.new (O.seen writer.new) result }
 {
     answer_text(alloc, marks, without_cr(line), time, page, writer, commands)
 }
@@ -135,7 +141,8 @@ fn answer_first<O: Outlet, C: Commands>(
     writer: &mut O,
     commands: &mut C,
 ) -> Option<Step>
-    ensures { IsFirst (Answers C.acts time) (Begins C.acts time) buffer.old commands.old page.old (O.seen writer.old) buffer.new commands.new page.new (O.seen writer.new) result }
+    ensures { IsFirst (AnswersCommand C.acts time) (Begins C.acts time) buffer.old commands.old
+        page.old (O.seen writer.old) buffer.new commands.new page.new (O.seen writer.new) result }
 {
     let Some(n) = buffer.line_end() else {
         if buffer.as_slice().len() > LINE_LIMIT {
@@ -168,7 +175,9 @@ pub fn answer_lines<O: Outlet, C: Commands>(
     commands: &mut C,
 ) -> Step
     requires { page.old ≡ [] }
-    ensures { IsAnswered (Answers C.acts time) (Begins C.acts time) buffer.old commands.old (O.seen writer.old) buffer.new commands.new page.new (O.seen writer.new) result }
+    ensures { AreLinesAnswered (AnswersCommand C.acts time) (Begins C.acts time) buffer.old
+        commands.old (O.seen writer.old) buffer.new commands.new page.new (O.seen writer.new)
+        result }
 {
     loop {
         match answer_mutator(buffer.as_slice(), page, writer, commands) {

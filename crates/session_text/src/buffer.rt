@@ -1,6 +1,6 @@
 //! What has come of the lines that aren't answered yet.
 ghost use Rattle.std.specs.Prelude.{◌≡◌, ◌+◌, ◌-◌, ◌≤◌, ◌<◌, [], take, drop, length, IfOk, MatchOption};
-ghost use Rattle.session_text.specs.Inlets.{IsRead, count_of};
+ghost use Rattle.session_text.specs.Inlets.{IsInletRead, count_of};
 ghost use Rattle.session_text.specs.Limits.{buffer_limit};
 ghost use Rattle.session_text.specs.Lines.{NoLf, IsLineAt};
 
@@ -33,7 +33,9 @@ impl Model for Buffer {
 
     ghost view = { λ b. take (b.end - b.start) (drop b.start b.bytes.items) };
 
-    ghost invariant = { λ b. (b.start + b.scanned ≤ b.end) × (b.end ≤ buffer_limit) × (length b.bytes.items ≡ buffer_limit) × NoLf (take b.scanned (drop b.start b.bytes.items)) };
+    ghost invariant = { λ b. (b.start + b.scanned ≤ b.end) × (b.end ≤ buffer_limit)
+        × (length b.bytes.items ≡ buffer_limit)
+        × NoLf (take b.scanned (drop b.start b.bytes.items)) };
 }
 
 impl Buffer {
@@ -86,7 +88,7 @@ impl Buffer {
     /// Reads once, behind what is there.
     pub fn read<I: Inlet>(&mut self, inlet: &mut I) -> Take
         requires { length self.old ≤ 4096 }
-        ensures { IsRead self.old self.new (I.seen inlet.old) (I.seen inlet.new) result }
+        ensures { IsInletRead self.old self.new (I.seen inlet.old) (I.seen inlet.new) result }
     {
         let Buffer {
             bytes,
@@ -105,7 +107,9 @@ impl Buffer {
 /// Moves a range to the front and reads once behind it.
 fn refill<I: Inlet>(bytes: &mut [u8], start: usize, end: usize, inlet: &mut I) -> Take
     requires { (start ≤ end) × (end ≤ length bytes.old) × (end - start < length bytes.old) }
-    ensures read { IsRead (take (end - start) (drop start bytes.old)) (take (end - start + count_of result) bytes.new) (I.seen inlet.old) (I.seen inlet.new) result }
+    ensures read { IsInletRead (take (end - start) (drop start bytes.old))
+        (take (end - start + count_of result) bytes.new) (I.seen inlet.old) (I.seen inlet.new)
+        result }
     ensures kept { take (end - start) bytes.new ≡ take (end - start) (drop start bytes.old) }
     ensures fits { end - start + count_of result ≤ length bytes.new }
 {
@@ -116,7 +120,8 @@ fn refill<I: Inlet>(bytes: &mut [u8], start: usize, end: usize, inlet: &mut I) -
 /// Moves a range to the front, and answers its length.
 fn shift(bytes: &mut [u8], start: usize, end: usize) -> usize
     requires { (start ≤ end) × (end ≤ length bytes.old) }
-    ensures { (start + result ≡ end) × (take result bytes.new ≡ take result (drop start bytes.old)) }
+    ensures { (start + result ≡ end)
+        × (take result bytes.new ≡ take result (drop start bytes.old)) }
 {
     if start > 0 {
         bytes.copy_within(start..end, 0);

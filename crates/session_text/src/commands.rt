@@ -38,7 +38,8 @@ impl Local {
 
     /// Closes each pin that was opened through these commands and is not closed, lost or not. Takes no memory.
     pub fn close_all(&mut self)
-        ensures { self.new ≡ record self.old { machine = own_closed self.old.first_pin self.old.machine } }
+        ensures { self.new
+            ≡ record self.old { machine = own_closed self.old.first_pin self.old.machine } }
     {
         self.machine.close_from(self.first_pin);
     }

@@ -1,7 +1,7 @@
 //! Dumps.
 ghost use Rattle.std.specs.Prelude.{◌≡◌, ◌≤◌, ◌++◌, length};
 ghost use Rattle.session_text.specs.Dumps.{DumpsNow, DumpsPin, WritesDump, total_line};
-ghost use Rattle.session_text.specs.Writes.{IsAdded};
+ghost use Rattle.session_text.specs.Writes.{IsTextAdded};
 
 use crate::PIECE_LIMIT;
 use crate::commands::Commands;
@@ -24,7 +24,8 @@ fn add_total(page: &mut Page, total: u64)
 
 /// Adds the last line of a dump to a page, which is flushed first unless it has room for one more line.
 fn write_total<O: Outlet>(page: &mut Page, outlet: &mut O, total: u64) -> bool
-    ensures { IsAdded (total_line total) page.old (O.seen outlet.old) page.new (O.seen outlet.new) result }
+    ensures { IsTextAdded (total_line total) page.old (O.seen outlet.old) page.new
+        (O.seen outlet.new) result }
 {
     if !make_room(page, outlet) {
         return false;
@@ -42,7 +43,8 @@ pub fn write_dump<O: Outlet, C: Commands>(
     pin: u64,
     time: u64,
 ) -> bool
-    ensures { WritesDump (DumpsPin C.acts pin time) commands.old commands.new page.old (O.seen outlet.old) page.new (O.seen outlet.new) result }
+    ensures { WritesDump (DumpsPin C.acts pin time) commands.old commands.new page.old
+        (O.seen outlet.old) page.new (O.seen outlet.new) result }
 {
     let mut total: u64 = 0;
     for number in 0..PIECE_LIMIT {
@@ -68,7 +70,8 @@ pub fn write_dump_now<O: Outlet, C: Commands>(
     commands: &mut C,
     time: u64,
 ) -> bool
-    ensures { WritesDump (DumpsNow C.acts time) commands.old commands.new page.old (O.seen outlet.old) page.new (O.seen outlet.new) result }
+    ensures { WritesDump (DumpsNow C.acts time) commands.old commands.new page.old
+        (O.seen outlet.old) page.new (O.seen outlet.new) result }
 {
     let opened = commands.act(Action::OpenPin(None));
     let Some(pin) = pin_in(&opened) else {

@@ -2,8 +2,8 @@
 ghost use Rattle.std.specs.Prelude.{◌≡◌, ◌==◌, ◌+◌, ◌<◌, ◌≤◌, ◌||◌, not, Some, None, take, IfOk, IfSome, MatchBool, option_map, map, length};
 ghost use Rattle.std.specs.Char.{is_ascii_graphic};
 ghost use Rattle.std.specs.List.{position, position_or_len};
-ghost use Rattle.session_text.specs.Grammar.{words_of, kind_of};
-ghost use Rattle.session_text.specs.Reads.{first_word, with_size, name_at, plain_field, plain_fields, field_of_mark, AreWithin};
+ghost use Rattle.session_text.specs.Grammar.{words_of_line, kind_of_word};
+ghost use Rattle.session_text.specs.Reads.{first_word, with_size, name_at, plain_field, plain_fields, field_of_mark, AreMarksWithin};
 
 use crate::marks::{FieldMark, FieldMarks};
 use crate::words::{SPACE, Words, word_size};
@@ -33,9 +33,9 @@ pub struct FieldSize {
 }
 
 /// The kind of this name.
-#[tactic(auto, unfolding(crate::specs::Grammar::kind_of))]
+#[tactic(auto, unfolding(crate::specs::Grammar::kind_of_word))]
 fn kind_of(word: &[u8]) -> Option<Kind>
-    ensures { result ≡ kind_of word.now }
+    ensures { result ≡ kind_of_word word.now }
 {
     for kind in KINDS {
         if kind.word().as_bytes() == word {
@@ -47,7 +47,7 @@ fn kind_of(word: &[u8]) -> Option<Kind>
 
 /// The kind that the text's first word names, and the bytes of that word.
 pub fn kind_at(text: &[u8]) -> Option<(Kind, usize)>
-    ensures value { result ≡ with_size text.now (kind_of (first_word text.now)) }
+    ensures value { result ≡ with_size text.now (kind_of_word (first_word text.now)) }
     ensures within { IfSome result (λ r. r.1 ≤ length text.now) }
     ensures long { IfSome result (λ r. 3 ≤ r.1) }
 {
@@ -95,7 +95,9 @@ fn colon_or_end(text: &[u8]) -> Option<usize>
 /// The field NAME:KIND that the text's first word is. None where one of its bytes is bad. The name ends at the first colon: no
 /// kind's word has one.
 pub fn field_at(text: &[u8]) -> Option<FieldSize>
-    ensures value { option_map (λ f. (record { name = take f.name text.now; kind = f.kind }, f.whole)) result ≡ with_size text.now (plain_field (first_word text.now)) }
+    ensures value { option_map
+        (λ f. (record { name = take f.name text.now; kind = f.kind }, f.whole)) result
+        ≡ with_size text.now (plain_field (first_word text.now)) }
     ensures within { IfSome result (λ f. f.whole ≤ length text.now) }
     ensures long { IfSome result (λ f. f.name + 4 ≤ f.whole) }
 {
@@ -114,7 +116,10 @@ pub fn field_at(text: &[u8]) -> Option<FieldSize>
 /// Reads all words that are left as fields, which stand in what isn't read yet. False where one of them is none.
 pub fn read_fields(mut words: Words, marks: &mut FieldMarks) -> bool
     requires { length words ≤ 4096 }
-    ensures { MatchBool result ((plain_fields (words_of words.entry) ≡ Some (map (field_of_mark words.entry) marks.new)) × AreWithin words.entry marks.new) (plain_fields (words_of words.entry) ≡ None) }
+    ensures { MatchBool result
+        ((plain_fields (words_of_line words.entry)
+        ≡ Some (map (field_of_mark words.entry) marks.new)) × AreMarksWithin words.entry marks.new)
+        (plain_fields (words_of_line words.entry) ≡ None) }
 {
     marks.clear();
     let size = words.rest().len();
@@ -146,7 +151,7 @@ fn copied(alloc: Global, text: &[u8], mark: &FieldMark) -> Result<Field, AllocEr
 
 /// Copies of the fields of this text.
 pub fn copied_all(alloc: Global, text: &[u8], marks: &[FieldMark]) -> Result<Fields, AllocError>
-    requires { AreWithin text.now marks.now }
+    requires { AreMarksWithin text.now marks.now }
     ensures { IfOk result (λ fs. fs ≡ map (field_of_mark text.now) marks.now) }
 {
     let mut copies = Vec::with_capacity(alloc, marks.len())?;

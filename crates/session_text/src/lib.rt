@@ -2,10 +2,10 @@
 #![tactic(auto)]
 
 ghost use Rattle.std.specs.Prelude.{◌≡◌, ℕ, List};
-ghost use Rattle.heap_trail.specs.Machine.{Machine, Mark};
+ghost use Rattle.heap_trail.specs.Machine.{Machine, Allocation};
 ghost use Rattle.session_text.specs.declared.ReadEnd.{ReadEnd};
 ghost use Rattle.session_text.specs.Laws.{IsListed, IsCutListed};
-ghost use Rattle.session_text.specs.Limits.{is_whole};
+ghost use Rattle.session_text.specs.Limits.{is_whole_session};
 
 mod answer;
 mod buffer;
@@ -72,7 +72,7 @@ pub enum ReadEnd {
 impl Ended {
     /// Whether each line was run.
     pub fn is_whole(self) -> bool
-        ensures { result ≡ is_whole self }
+        ensures { result ≡ is_whole_session self }
     {
         matches!(self, Ended::Quit | Ended::Eof)
     }
@@ -81,11 +81,13 @@ impl Ended {
 /// The law that a session of a machine of one's own is a list of actions: those that its lines ask for, in order. It leaves the
 /// machine that they lead to, and it writes their replies and what its ending prints.
 pub fn session_is_list()
-    ensures { (m : Machine) (marks : List Mark) (time : ℕ) (bytes : List ℕ) (e : ReadEnd) → IsListed m marks time bytes e }
+    ensures { (m : Machine) (marks : List Allocation) (time : ℕ) (bytes : List ℕ) (e : ReadEnd)
+        → IsListed m marks time bytes e }
 {}
 
 /// The law that such a session in which a write failed leaves the machine of a list of actions too: those of the lines before one,
 /// and some of that one's, in the order in which it asks for them. A dump of the current state has closed its pin.
 pub fn cut_session_is_list()
-    ensures { (m : Machine) (marks : List Mark) (time : ℕ) (bytes : List ℕ) (e : ReadEnd) → IsCutListed m marks time bytes e }
+    ensures { (m : Machine) (marks : List Allocation) (time : ℕ) (bytes : List ℕ) (e : ReadEnd)
+        → IsCutListed m marks time bytes e }
 {}

@@ -2,7 +2,7 @@
 ghost use Rattle.std.specs.Prelude.{◌≡◌, ◌≤◌, Some, codes, length, take, drop, IfSome};
 ghost use Rattle.heap_trail.specs.declared.Action.TheVariants.{Step};
 ghost use Rattle.session_text.specs.declared.command.Command.TheVariants.{Ask};
-ghost use Rattle.session_text.specs.Grammar.{words_of, two_numbers, three_numbers, four_numbers, command_of_text};
+ghost use Rattle.session_text.specs.Grammar.{words_of_line, two_numbers, three_numbers, four_numbers, command_of_text};
 ghost use Rattle.session_text.specs.Lines.{NoLf};
 ghost use Rattle.session_text.specs.Mutators.{FollowsIn, IsVerb, IsQuick, IsQuickIn, IsShortLine};
 
@@ -42,7 +42,7 @@ pub enum Quick {
 
 /// The keyword that a text begins with.
 #[inline(always)]
-#[tactic(auto, using(crate::proofs::Mutating::load_in, crate::proofs::Mutating::store_in, crate::proofs::Mutating::put_in, crate::proofs::Mutating::move_in, crate::proofs::Mutating::clear_in, crate::proofs::Mutating::new_in, crate::proofs::Mutating::mark_in))]
+#[tactic(auto, using(crate::proofs::QuickLines::load_in, crate::proofs::QuickLines::store_in, crate::proofs::QuickLines::put_in, crate::proofs::QuickLines::move_in, crate::proofs::QuickLines::clear_in, crate::proofs::QuickLines::new_in, crate::proofs::QuickLines::mark_in))]
 fn verb_of(text: &[u8]) -> Verb
     ensures { IsVerb text.now result }
 {
@@ -63,7 +63,8 @@ fn verb_of(text: &[u8]) -> Verb
 fn two_in(text: &[u8], at: usize) -> Option<(u64, u64, usize)>
     requires { (at ≤ 6) × (at ≤ length text.now) × NoLf (take at text.now) }
     ensures line { IfSome result (λ r. IsShortLine r.2 text.now × (at ≤ r.2)) }
-    ensures numbers { IfSome result (λ r. two_numbers (words_of (drop at (take r.2 text.now))) ≡ Some (r.0, r.1)) }
+    ensures numbers { IfSome result
+        (λ r. two_numbers (words_of_line (drop at (take r.2 text.now))) ≡ Some (r.0, r.1)) }
 {
     let (a, end) = number_then(text, at, SPACE);
     let (b, end) = number_then(text, end + 1, LF);
@@ -78,7 +79,8 @@ fn two_in(text: &[u8], at: usize) -> Option<(u64, u64, usize)>
 fn three_in(text: &[u8], at: usize) -> Option<(u64, u64, u64, usize)>
     requires { (at ≤ 6) × (at ≤ length text.now) × NoLf (take at text.now) }
     ensures line { IfSome result (λ r. IsShortLine r.3 text.now × (at ≤ r.3)) }
-    ensures numbers { IfSome result (λ r. three_numbers (words_of (drop at (take r.3 text.now))) ≡ Some (r.0, r.1, r.2)) }
+    ensures numbers { IfSome result
+        (λ r. three_numbers (words_of_line (drop at (take r.3 text.now))) ≡ Some (r.0, r.1, r.2)) }
 {
     let (a, end) = number_then(text, at, SPACE);
     let (b, end) = number_then(text, end + 1, SPACE);
@@ -94,7 +96,9 @@ fn three_in(text: &[u8], at: usize) -> Option<(u64, u64, u64, usize)>
 fn four_in(text: &[u8], at: usize) -> Option<(u64, u64, u64, u64, usize)>
     requires { (at ≤ 6) × (at ≤ length text.now) × NoLf (take at text.now) }
     ensures line { IfSome result (λ r. IsShortLine r.4 text.now × (at ≤ r.4)) }
-    ensures numbers { IfSome result (λ r. four_numbers (words_of (drop at (take r.4 text.now))) ≡ Some (r.0, r.1, r.2, r.3)) }
+    ensures numbers { IfSome result
+        (λ r. four_numbers (words_of_line (drop at (take r.4 text.now)))
+        ≡ Some (r.0, r.1, r.2, r.3)) }
 {
     let (a, end) = number_then(text, at, SPACE);
     let (b, end) = number_then(text, end + 1, SPACE);
@@ -116,7 +120,8 @@ fn answer_event<O: Outlet, C: Commands>(
     commands: &mut C,
 ) -> Quick
     requires { command_of_text line.now ≡ Ask (Step event) }
-    ensures { IsQuick C.acts (command_of_text line.now) commands.old page.old (O.seen writer.old) commands.new page.new (O.seen writer.new) result }
+    ensures { IsQuick C.acts (command_of_text line.now) commands.old page.old (O.seen writer.old)
+        commands.new page.new (O.seen writer.new) result }
 {
     if answer_action(Action::Step(event), page, writer, commands) {
         Quick::Next
@@ -134,7 +139,8 @@ fn answer_load<O: Outlet, C: Commands>(
     commands: &mut C,
 ) -> (Quick, usize)
     requires { FollowsIn (codes "load") text.now 5 }
-    ensures { IsQuickIn C.acts text.now commands.old page.old (O.seen writer.old) commands.new page.new (O.seen writer.new) result }
+    ensures { IsQuickIn C.acts text.now commands.old page.old (O.seen writer.old) commands.new
+        page.new (O.seen writer.new) result }
 {
     let Some((m, to, from, slot, n)) = four_in(text, 5) else {
         return (Quick::No, 0);
@@ -158,7 +164,8 @@ fn answer_store<O: Outlet, C: Commands>(
     commands: &mut C,
 ) -> (Quick, usize)
     requires { FollowsIn (codes "store") text.now 6 }
-    ensures { IsQuickIn C.acts text.now commands.old page.old (O.seen writer.old) commands.new page.new (O.seen writer.new) result }
+    ensures { IsQuickIn C.acts text.now commands.old page.old (O.seen writer.old) commands.new
+        page.new (O.seen writer.new) result }
 {
     let Some((m, target, slot, source, n)) = four_in(text, 6) else {
         return (Quick::No, 0);
@@ -187,7 +194,8 @@ fn answer_put<O: Outlet, C: Commands>(
     commands: &mut C,
 ) -> (Quick, usize)
     requires { FollowsIn (codes "put") text.now 4 }
-    ensures { IsQuickIn C.acts text.now commands.old page.old (O.seen writer.old) commands.new page.new (O.seen writer.new) result }
+    ensures { IsQuickIn C.acts text.now commands.old page.old (O.seen writer.old) commands.new
+        page.new (O.seen writer.new) result }
 {
     let Some((m, target, slot, value, n)) = four_in(text, 4) else {
         return (Quick::No, 0);
@@ -216,7 +224,8 @@ fn answer_move<O: Outlet, C: Commands>(
     commands: &mut C,
 ) -> (Quick, usize)
     requires { FollowsIn (codes "move") text.now 5 }
-    ensures { IsQuickIn C.acts text.now commands.old page.old (O.seen writer.old) commands.new page.new (O.seen writer.new) result }
+    ensures { IsQuickIn C.acts text.now commands.old page.old (O.seen writer.old) commands.new
+        page.new (O.seen writer.new) result }
 {
     let Some((m, to, from_m, from, n)) = four_in(text, 5) else {
         return (Quick::No, 0);
@@ -245,7 +254,8 @@ fn answer_clear<O: Outlet, C: Commands>(
     commands: &mut C,
 ) -> (Quick, usize)
     requires { FollowsIn (codes "clear") text.now 6 }
-    ensures { IsQuickIn C.acts text.now commands.old page.old (O.seen writer.old) commands.new page.new (O.seen writer.new) result }
+    ensures { IsQuickIn C.acts text.now commands.old page.old (O.seen writer.old) commands.new
+        page.new (O.seen writer.new) result }
 {
     let Some((m, r, n)) = two_in(text, 6) else {
         return (Quick::No, 0);
@@ -263,7 +273,8 @@ fn answer_new<O: Outlet, C: Commands>(
     commands: &mut C,
 ) -> (Quick, usize)
     requires { FollowsIn (codes "new") text.now 4 }
-    ensures { IsQuickIn C.acts text.now commands.old page.old (O.seen writer.old) commands.new page.new (O.seen writer.new) result }
+    ensures { IsQuickIn C.acts text.now commands.old page.old (O.seen writer.old) commands.new
+        page.new (O.seen writer.new) result }
 {
     let Some((m, r, class, n)) = three_in(text, 4) else {
         return (Quick::No, 0);
@@ -287,7 +298,8 @@ fn answer_mark<O: Outlet, C: Commands>(
     commands: &mut C,
 ) -> (Quick, usize)
     requires { IsShortLine 4 text.now × (take 4 text.now ≡ codes "mark") }
-    ensures { IsQuickIn C.acts text.now commands.old page.old (O.seen writer.old) commands.new page.new (O.seen writer.new) result }
+    ensures { IsQuickIn C.acts text.now commands.old page.old (O.seen writer.old) commands.new
+        page.new (O.seen writer.new) result }
 {
     let quick = answer_event(Event::Mark, &text[..4], page, writer, commands);
     (quick, 4)
@@ -302,7 +314,8 @@ pub fn answer_mutator<O: Outlet, C: Commands>(
     writer: &mut O,
     commands: &mut C,
 ) -> (Quick, usize)
-    ensures { IsQuickIn C.acts text.now commands.old page.old (O.seen writer.old) commands.new page.new (O.seen writer.new) result }
+    ensures { IsQuickIn C.acts text.now commands.old page.old (O.seen writer.old) commands.new
+        page.new (O.seen writer.new) result }
 {
     match verb_of(text) {
         Verb::Load => answer_load(text, page, writer, commands),

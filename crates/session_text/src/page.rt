@@ -93,7 +93,8 @@ fn place(bytes: &mut [u8], at: usize, text: &[u8])
 /// Writes hexadecimal digits behind the bytes before a place.
 fn place_hex(bytes: &mut [u8], at: usize, given: &[u8])
     requires { at + 2 * length given.now ≤ length bytes.old }
-    ensures { take (at + 2 * length given.now) bytes.new ≡ take at bytes.old ++ encode_lower given.now }
+    ensures { take (at + 2 * length given.now) bytes.new
+        ≡ take at bytes.old ++ encode_lower given.now }
 {
     write_digits(&mut bytes[at..at + 2 * given.len()], given);
 }

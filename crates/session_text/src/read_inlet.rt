@@ -24,11 +24,17 @@ pub struct ReadInlet<R: Read> {
 impl<R: Read> Model for ReadInlet<R> {
     ghost use Rattle.std.specs.Prelude.{length, map};
     ghost use Rattle.dump_pump.specs.Outlets.{bytes_of};
-    ghost use Rattle.session_text.specs.Inlets.{Reading};
+    ghost use Rattle.session_text.specs.Inlets.{InletState};
 
-    ghost Value = { Reading R };
+    ghost Value = { InletState R };
 
-    ghost view = { λ i. record { reader = i.reader; taken = bytes_of i.taken.items; reads = map (λ e. e.0) i.asked.items; failures = length i.failed.items } };
+    ghost view = { λ i.
+        record {
+          reader = i.reader;
+          taken = bytes_of i.taken.items;
+          reads = map (λ e. e.0) i.asked.items;
+          failures = length i.failed.items;
+        } };
 }
 
 impl<R: Read> ReadInlet<R> {
@@ -78,7 +84,13 @@ fn read_once<R: Read>(reader: &mut R, room: &mut [u8]) -> Take
 }
 
 impl<R: Read> Inlet for ReadInlet<R> {
-    ghost seen = { λ i. record { taken = i.taken; left = R.remaining i.reader; reads = i.reads; failures = i.failures } };
+    ghost seen = { λ i.
+        record {
+          taken = i.taken;
+          left = R.remaining i.reader;
+          reads = i.reads;
+          failures = i.failures;
+        } };
 
     fn take(&mut self, room: &mut [u8]) -> Take {
         let took = read_once(&mut self.reader, room);

@@ -4,7 +4,7 @@ ghost use Rattle.heap_class.specs.Table.{refusal_name};
 ghost use Rattle.heap_step.specs.declared.Answer.TheVariants.{Object, Swept};
 ghost use Rattle.heap_trail.specs.declared.Reply.TheVariants.{Answered, Pinned};
 ghost use Rattle.session_text.specs.Replies.{answer_text, cause_text, facts_text, refusal_text, line, piece_words, reply_words, reply_data, reply_text, data_lines, piece_in, pin_in};
-ghost use Rattle.session_text.specs.Writes.{IsAdded};
+ghost use Rattle.session_text.specs.Writes.{IsTextAdded};
 
 use crate::data::write_data;
 use crate::page::Page;
@@ -164,7 +164,8 @@ fn add_last_line(page: &mut Page, reply: &Reply)
 
 /// Adds the last line of a reply to a page, which is flushed first unless it has room for one more line.
 fn write_last_line<O: Outlet>(page: &mut Page, outlet: &mut O, reply: &Reply) -> bool
-    ensures { IsAdded (line (reply_words reply.now)) page.old (O.seen outlet.old) page.new (O.seen outlet.new) result }
+    ensures { IsTextAdded (line (reply_words reply.now)) page.old (O.seen outlet.old) page.new
+        (O.seen outlet.new) result }
 {
     if !make_room(page, outlet) {
         return false;
@@ -185,7 +186,8 @@ fn add_answer_line(page: &mut Page, answer: Answer)
 /// Adds what an event answers to a page, which is flushed first unless it has room for one more line.
 #[inline(always)]
 pub fn write_answer<O: Outlet>(page: &mut Page, outlet: &mut O, answer: Answer) -> bool
-    ensures { IsAdded (reply_text (Answered answer)) page.old (O.seen outlet.old) page.new (O.seen outlet.new) result }
+    ensures { IsTextAdded (reply_text (Answered answer)) page.old (O.seen outlet.old) page.new
+        (O.seen outlet.new) result }
 {
     if !make_room(page, outlet) {
         return false;
@@ -207,14 +209,16 @@ fn data_of(reply: &Reply) -> &[u8]
 
 /// Adds a reply to a page, which is flushed each time that it is full.
 pub fn write_reply<O: Outlet>(page: &mut Page, outlet: &mut O, reply: &Reply) -> bool
-    ensures { IsAdded (reply_text reply.now) page.old (O.seen outlet.old) page.new (O.seen outlet.new) result }
+    ensures { IsTextAdded (reply_text reply.now) page.old (O.seen outlet.old) page.new
+        (O.seen outlet.new) result }
 {
     write_data(page, outlet, data_of(reply)) && write_last_line(page, outlet, reply)
 }
 
 /// Returns the piece that a reply gives.
 pub fn piece_in(reply: &Reply) -> Option<&Piece>
-    ensures { MatchOption result (piece_in reply.now ≡ None) (λ p. piece_in reply.now ≡ Some p.now) }
+    ensures { MatchOption result (piece_in reply.now ≡ None)
+        (λ p. piece_in reply.now ≡ Some p.now) }
 {
     match reply {
         Reply::Part(piece) => Some(piece),

@@ -1,7 +1,7 @@
 //! Sessions.
 ghost use Rattle.std.specs.Prelude.{◌≡◌, ◌≤◌, [], length};
-ghost use Rattle.session_text.specs.Answers.{Answers, Begins};
-ghost use Rattle.session_text.specs.Endings.{Ends, EndsWith};
+ghost use Rattle.session_text.specs.Answers.{AnswersCommand, Begins};
+ghost use Rattle.session_text.specs.Endings.{EndsSession, EndsWith};
 ghost use Rattle.session_text.specs.Session.{IsSession};
 ghost use Rattle.session_text.specs.Talks.{Serves};
 
@@ -42,7 +42,9 @@ fn talk<I: Inlet, O: Outlet, C: Commands>(
 ) -> Ended
     requires buffer { buffer.old ≡ [] }
     requires page { page.old ≡ [] }
-    ensures { Serves (Answers C.acts time) (Begins C.acts time) (I.seen reader.old) (I.seen reader.new) commands.old (O.seen writer.old) commands.new (O.seen writer.new) result }
+    ensures { Serves (AnswersCommand C.acts time) (Begins C.acts time) (I.seen reader.old)
+        (I.seen reader.new) commands.old (O.seen writer.old) commands.new (O.seen writer.new)
+        result }
 {
     let mut reads: u64 = 0;
     loop {
@@ -84,8 +86,11 @@ pub fn serve<I: Inlet, O: Outlet, C: Commands>(
     commands: &mut C,
     time: u64,
 ) -> Ended
-    ensures ends { Ends (I.seen reader.old) (I.seen reader.new) (O.seen writer.old) (O.seen writer.new) result }
-    ensures text { Serves (Answers C.acts time) (Begins C.acts time) (I.seen reader.old) (I.seen reader.new) commands.old (O.seen writer.old) commands.new (O.seen writer.new) result }
+    ensures ends { EndsSession (I.seen reader.old) (I.seen reader.new) (O.seen writer.old)
+        (O.seen writer.new) result }
+    ensures text { Serves (AnswersCommand C.acts time) (Begins C.acts time) (I.seen reader.old)
+        (I.seen reader.new) commands.old (O.seen writer.old) commands.new (O.seen writer.new)
+        result }
 {
     match (Buffer::new(alloc), Page::new(alloc), FieldMarks::new(alloc)) {
         (Ok(mut buffer), Ok(mut page), Ok(mut marks)) => {
@@ -116,9 +121,11 @@ pub fn serve_local<I: Inlet, O: Outlet>(
     local: &mut Local,
     time: u64,
 ) -> Ended
-    ensures ends { Ends (I.seen reader.old) (I.seen reader.new) (O.seen writer.old) (O.seen writer.new) result }
+    ensures ends { EndsSession (I.seen reader.old) (I.seen reader.new) (O.seen writer.old)
+        (O.seen writer.new) result }
     ensures first { local.new.first_pin ≡ local.old.first_pin }
-    ensures session { IsSession local.old.machine time (I.seen reader.old) (I.seen reader.new) (O.seen writer.old) (O.seen writer.new) local.new.machine result }
+    ensures session { IsSession local.old.machine time (I.seen reader.old) (I.seen reader.new)
+        (O.seen writer.old) (O.seen writer.new) local.new.machine result }
 {
     serve(alloc, reader, writer, local, time)
 }

@@ -1,6 +1,6 @@
 //! Writing.
 ghost use Rattle.std.specs.Prelude.{◌≡◌, ◌≤◌, [], length};
-ghost use Rattle.session_text.specs.Writes.{IsWritten, IsAdded};
+ghost use Rattle.session_text.specs.Writes.{IsTextWritten, IsTextAdded};
 
 use crate::page::Page;
 use dump_pump::{Outlet, Put};
@@ -10,7 +10,7 @@ const LINE_START: usize = 8000;
 
 /// Puts out all bytes, unless a write fails.
 pub fn write_all<O: Outlet>(outlet: &mut O, bytes: &[u8]) -> bool
-    ensures { IsWritten bytes.now (O.seen outlet.old) (O.seen outlet.new) result }
+    ensures { IsTextWritten bytes.now (O.seen outlet.old) (O.seen outlet.new) result }
 {
     let mut at = 0;
     while at < bytes.len() {
@@ -24,7 +24,8 @@ pub fn write_all<O: Outlet>(outlet: &mut O, bytes: &[u8]) -> bool
 
 /// Puts out a page, which is empty afterwards.
 pub fn flush<O: Outlet>(page: &mut Page, outlet: &mut O) -> bool
-    ensures added { IsAdded [] page.old (O.seen outlet.old) page.new (O.seen outlet.new) result }
+    ensures added { IsTextAdded [] page.old (O.seen outlet.old) page.new (O.seen outlet.new)
+        result }
     ensures empty { page.new ≡ [] }
 {
     let written = write_all(outlet, page.as_slice());
@@ -34,7 +35,8 @@ pub fn flush<O: Outlet>(page: &mut Page, outlet: &mut O) -> bool
 
 /// Flushes a page unless it has room for one more line.
 pub fn make_room<O: Outlet>(page: &mut Page, outlet: &mut O) -> bool
-    ensures added { IsAdded [] page.old (O.seen outlet.old) page.new (O.seen outlet.new) result }
+    ensures added { IsTextAdded [] page.old (O.seen outlet.old) page.new (O.seen outlet.new)
+        result }
     ensures room { length page.new ≤ 8000 }
 {
     if page.as_slice().len() <= LINE_START {
@@ -46,7 +48,8 @@ pub fn make_room<O: Outlet>(page: &mut Page, outlet: &mut O) -> bool
 /// Adds a short text to a page, which is flushed first unless it has room for one more line.
 pub fn write_text<O: Outlet>(page: &mut Page, outlet: &mut O, text: &[u8]) -> bool
     requires { length text.now ≤ 192 }
-    ensures { IsAdded text.now page.old (O.seen outlet.old) page.new (O.seen outlet.new) result }
+    ensures { IsTextAdded text.now page.old (O.seen outlet.old) page.new (O.seen outlet.new)
+        result }
 {
     if !make_room(page, outlet) {
         return false;

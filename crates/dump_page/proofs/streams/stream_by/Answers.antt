@@ -1,7 +1,7 @@
 use Rattle.std.proofs.Common.{sym, subst}
 use Rattle.dump_pipe.specs.Streams.{IsStreamed}
 use Rattle.dump_page.specs.Sources.{paged_supply}
-use Rattle.dump_page.proofs.Paging.{streamed_by}
+use Rattle.dump_page.proofs.PageStreams.{streamed_by}
 use Rattle.dump_page.proofs.streams.stream_by.Goals as goal
 
 pub returns-clause-streamed : goal.returns-clause-streamed

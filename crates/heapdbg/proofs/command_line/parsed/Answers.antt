@@ -1,5 +1,5 @@
 use Rattle.heapdbg.specs.CommandLine.{texts}
-use Rattle.heapdbg.proofs.Saved.{simple_ok, simple_faults}
+use Rattle.heapdbg.proofs.SavedRuns.{simple_ok, simple_faults}
 use Rattle.heapdbg.proofs.command_line.parsed.Goals as goal
 
 pub returns-clause-ok : goal.returns-clause-ok

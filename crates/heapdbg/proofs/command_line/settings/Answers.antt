@@ -2,7 +2,7 @@ use Rattle.std.proofs.Common.{◌∙◌, ap, sym}
 use Rattle.std.specs.Prelude.{option_and_then}
 use Rattle.clap.specs.Words.{subcommand_of}
 use Rattle.heapdbg.specs.CommandLine.{heapdbg_line, settings_under, texts}
-use Rattle.heapdbg.proofs.Asked.{defaults_of, limits_of}
+use Rattle.heapdbg.proofs.AskedSettings.{defaults_of, limits_of}
 use Rattle.heapdbg.proofs.command_line.settings.Goals as goal
 
 pub returns-in-Ok-asked-clause-limits : goal.returns-in-Ok-asked-clause-limits

@@ -1,6 +1,6 @@
 use Rattle.std.proofs.Common.{ℕ, ap}
 use Rattle.atomic_table.specs.Seated.{TableId}
-use Rattle.live_dump.proofs.Streaming.{puts}
+use Rattle.live_dump.proofs.ToldStreams.{puts}
 use Rattle.live_dump.proofs.streams.stream.Goals as goal
 
 pub returns-clause-put : goal.returns-clause-put

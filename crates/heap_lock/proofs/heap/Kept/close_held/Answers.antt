@@ -1,7 +1,7 @@
 use Rattle.std.proofs.Common.{refl}
 use Rattle.heap_trail.specs.declared.Action.TheVariants.{ClosePin}
 use Rattle.heap_trail.specs.declared.Reply.TheVariants.{Closed}
-use Rattle.heap_lock.proofs.Dumping.{dumped_keeps, dumped_done, dumped_refused, plainly}
+use Rattle.heap_lock.proofs.DumperCalls.{dumped_keeps, dumped_done, dumped_refused, plainly}
 use Rattle.heap_lock.proofs.heap.Kept.close_held.Goals as goal
 
 pub invariant_of-self : goal.invariant_of-self

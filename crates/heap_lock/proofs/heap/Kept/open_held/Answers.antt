@@ -1,7 +1,7 @@
 use Rattle.std.proofs.Common.{refl}
 use Rattle.heap_trail.specs.declared.Action.TheVariants.{OpenPin}
 use Rattle.heap_trail.specs.declared.Reply.TheVariants.{Pinned}
-use Rattle.heap_lock.proofs.Dumping.{dumped_keeps, dumped_done, dumped_refused}
+use Rattle.heap_lock.proofs.DumperCalls.{dumped_keeps, dumped_done, dumped_refused}
 use Rattle.heap_lock.proofs.heap.Kept.open_held.Goals as goal
 
 pub invariant_of-self : goal.invariant_of-self

@@ -2,7 +2,7 @@ use Rattle.std.proofs.Common.{IfOk, refl, subst}
 use Rattle.heap_trail.specs.declared.Action.TheVariants.{NextPiece}
 use Rattle.heap_trail.specs.declared.Reply.TheVariants.{Part}
 use Rattle.heap_trail.specs.Laws.{IsPieceOfLegal}
-use Rattle.heap_lock.proofs.Dumping.{dumped_keeps, dumped_done, dumped_refused}
+use Rattle.heap_lock.proofs.DumperCalls.{dumped_keeps, dumped_done, dumped_refused}
 use Rattle.heap_lock.proofs.heap.Kept.piece_held.Goals as goal
 
 pub invariant_of-self : goal.invariant_of-self

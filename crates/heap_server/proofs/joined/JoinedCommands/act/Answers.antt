@@ -1,7 +1,7 @@
 use Rattle.std.proofs.Common.{subst, sym}
 use Rattle.heap_trail.specs.declared.Action.TheVariants.{Step}
 use Rattle.heap_server.specs.Joined.{IsJoined}
-use Rattle.heap_server.proofs.Acting.{acted}
+use Rattle.heap_server.proofs.Acts.{acted}
 use Rattle.heap_server.proofs.joined.JoinedCommands.act.Goals as goal
 
 pub returns-in-Step-clause-acts : goal.returns-in-Step-clause-acts

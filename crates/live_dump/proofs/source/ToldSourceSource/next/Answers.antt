@@ -1,5 +1,5 @@
 use Rattle.live_dump.specs.Supplies.{pieces_in}
-use Rattle.live_dump.proofs.Supplying.{supplied_as}
+use Rattle.live_dump.proofs.SupplySteps.{supplied_as}
 use Rattle.live_dump.proofs.source.ToldSourceSource.next.Goals as goal
 
 pub invariant_of-self : goal.invariant_of-self

@@ -77,7 +77,7 @@ impl<L: Heap> Seats<L> {
 }
 
 // Creates a desk and a stub for each role.
-fn seated(alloc: Global, roles: &[Role]) -> Result<(Vec<Desk>, Vec<Stub>), AllocError>
+fn make_seats(alloc: Global, roles: &[Role]) -> Result<(Vec<Desk>, Vec<Stub>), AllocError>
     requires { length roles.now ≤ seat_limit }
     ensures seats { IfOk result (λ p. map chair_of p.1.items ≡ chairs 0 roles.now) }
     ensures desks { IfOk result (λ p. AllFresh p.0.items) }
@@ -109,7 +109,7 @@ impl Blank {
         ensures refused { IfErr result (λ e. e ≡ NoMemory) }
     {
         let machine = Machine::new(alloc, config)?;
-        let Ok((desks, stubs)) = seated(alloc, roles) else {
+        let Ok((desks, stubs)) = make_seats(alloc, roles) else {
             return Err(Refusal::NoMemory);
         };
         Ok(Blank {

@@ -132,7 +132,7 @@ fn wants_memory(refusal: Refusal) -> bool
 }
 
 // Does an event or a rewind and returns the answer, or None if it finds no memory.
-fn moved(machine: &mut Machine, action: &Action) -> Option<Outcome>
+fn take_step(machine: &mut Machine, action: &Action) -> Option<Outcome>
     requires deed { is_dump_action action.now ≡ false }
     requires place { machine.old.trail.place < last_place }
     ensures { MatchOption result (machine.new ≡ machine.old)
@@ -242,7 +242,7 @@ impl<L: Heap> Kept<L> {
         if chronicle.reserve().is_err() {
             return Err(Refusal::NoMemory);
         }
-        let Some(answer) = moved(machine, &action) else {
+        let Some(answer) = take_step(machine, &action) else {
             return Err(Refusal::NoMemory);
         };
         let number = seat.number;

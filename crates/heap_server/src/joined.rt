@@ -35,7 +35,7 @@ fn reply(outcome: Outcome) -> Reply
 }
 
 // Returns the reply to an act.
-fn replied(done: Result<Receipt, Refusal>) -> Reply
+fn reply_to_act(done: Result<Receipt, Refusal>) -> Reply
     ensures reply { IsReply done result }
     ensures small { IsSmall result }
 {
@@ -55,7 +55,7 @@ impl<'a, L: Heap, R: Wait> Joined<'a, L, R> {
     }
 
     // Opens a pin, and leaves the seat.
-    fn opened(&self, at: Option<u64>) -> Reply
+    fn reply_to_open(&self, at: Option<u64>) -> Reply
         ensures done { WasDumped L.config (OpenPin at) result }
         ensures small { IsSmall result }
     {
@@ -81,7 +81,7 @@ impl<'a, L: Heap, R: Wait> Joined<'a, L, R> {
     }
 
     // Closes a pin, and leaves the seat.
-    fn closed(&self, pin: u64) -> Reply
+    fn reply_to_close(&self, pin: u64) -> Reply
         ensures done { WasDumped L.config (ClosePin pin) result }
         ensures small { IsSmall result }
     {
@@ -99,11 +99,11 @@ impl<'a, L: Heap, R: Wait> Commands for Joined<'a, L, R> {
 
     fn act(&mut self, action: Action) -> Reply {
         match action {
-            Action::Step(event) => replied(self.shared.act(self.rt, &mut self.seat, event)),
-            Action::Rewind(n) => replied(self.shared.rewind(self.rt, &mut self.seat, n)),
-            Action::OpenPin(at) => self.opened(at),
+            Action::Step(event) => reply_to_act(self.shared.act(self.rt, &mut self.seat, event)),
+            Action::Rewind(n) => reply_to_act(self.shared.rewind(self.rt, &mut self.seat, n)),
+            Action::OpenPin(at) => self.reply_to_open(at),
             Action::NextPiece { pin, time } => self.part(pin, time),
-            Action::ClosePin(pin) => self.closed(pin),
+            Action::ClosePin(pin) => self.reply_to_close(pin),
         }
     }
 }

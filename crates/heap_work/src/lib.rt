@@ -62,7 +62,7 @@ pub enum Stage {
 }
 
 // Returns the event of a stage.
-fn asked(stage: Stage) -> Event
+fn event_of_stage(stage: Stage) -> Event
     ensures { result ≡ event_of stage }
 {
     match stage {
@@ -85,7 +85,7 @@ fn next(answer: Outcome) -> Stage
 }
 
 // Returns how the worker ends after this receipt, or None if it goes on.
-fn ended(receipt: Receipt) -> Option<MarkEnd>
+fn end_of_receipt(receipt: Receipt) -> Option<MarkEnd>
     ensures { result ≡ mark_end_of receipt }
 {
     match receipt.answer {
@@ -112,9 +112,9 @@ pub fn mark_worker<L: Heap, R: Wait, G: Gate>(
     let mut stage = Stage::Snap;
     for turn in 0..turns {
         gate.pass(turn + 1);
-        match shared.act(rt, seat, asked(stage)) {
+        match shared.act(rt, seat, event_of_stage(stage)) {
             Ok(receipt) => {
-                if let Some(end) = ended(receipt) {
+                if let Some(end) = end_of_receipt(receipt) {
                     return end;
                 }
                 stage = next(receipt.answer);

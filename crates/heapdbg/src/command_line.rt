@@ -28,11 +28,11 @@ pub fn settings(alloc: Global, words: &[&str]) -> Result<Settings, LineFault>
     ensures limits { IfOk result AreSettingsWithin }
     ensures defaults { IfOk result (HasDefaults (texts words.now)) }
 {
-    let matches = match parsed(alloc, words) {
+    let matches = match parse(alloc, words) {
         Ok(matches) => matches,
         Err(error) => return Err(refusal(alloc, &error)),
     };
-    match asked(&matches) {
+    match settings_of_matches(&matches) {
         Ok(settings) => Ok(settings),
         Err(mistake) => Err(mistake.refusal(alloc)),
     }
@@ -42,7 +42,7 @@ pub fn settings(alloc: Global, words: &[&str]) -> Result<Settings, LineFault>
 pub fn out_path<'a>(alloc: Global, words: &'a [&'a str]) -> Option<&'a str>
     ensures { IfSome result (λ path. path_of (texts words.now) ≡ Some path.now) }
 {
-    match parsed(alloc, words) {
+    match parse(alloc, words) {
         Ok(matches) => match matches.subcommand() {
             Some((_, options)) => options.get_str("out"),
             None => None,
@@ -52,7 +52,7 @@ pub fn out_path<'a>(alloc: Global, words: &'a [&'a str]) -> Option<&'a str>
 }
 
 /// What clap makes of the words.
-fn parsed<'a>(alloc: Global, words: &'a [&'a str]) -> Result<ArgMatches<'a>, Error>
+fn parse<'a>(alloc: Global, words: &'a [&'a str]) -> Result<ArgMatches<'a>, Error>
     ensures ok { IfOk result
         (λ m. subcommand_rows_of m ≡ subcommand_of heapdbg_line (texts words.now)) }
     ensures faults { FailsBy (fault_of heapdbg_line (texts words.now)) result }
@@ -157,7 +157,7 @@ pub(crate) fn value_arg<'a>(alloc: Global, name: &'a str, help: &'a str) -> Arg<
 }
 
 /// The settings that the matches ask for.
-fn asked(matches: &ArgMatches<'_>) -> Result<Settings, Mistake>
+fn settings_of_matches(matches: &ArgMatches<'_>) -> Result<Settings, Mistake>
     ensures ok { IfOk result
         (λ s. option_and_then settings_under (subcommand_rows_of matches.now) ≡ Some s) }
     ensures none { IfErr result

@@ -71,7 +71,7 @@ where
     ensures { IsPerformed (map string_bytes words.now) (I.seen reader.old) (I.seen reader.new)
         (O.seen writer.old) (O.seen writer.new) result }
 {
-    let asked = asked(alloc, words)?;
+    let asked = settings_of_words(alloc, words)?;
     work(rt, alloc, words, &asked, reader, input, writer, is_terminal)?;
     Ok(())
 }
@@ -133,19 +133,19 @@ fn unread(alloc: Global, error: &Error) -> LineFault
 }
 
 /// The settings that the words ask for.
-fn asked(alloc: Global, words: &[String]) -> Result<Settings, LineFault>
+fn settings_of_words(alloc: Global, words: &[String]) -> Result<Settings, LineFault>
     ensures ok { IfOk result (λ s. settings_of (map string_bytes words.now) ≡ Some s) }
     ensures refused { IfErr result (IsRefusalOf (map string_bytes words.now)) }
     ensures limits { IfOk result AreSettingsWithin }
 {
-    match borrowed(alloc, words) {
+    match borrow_words(alloc, words) {
         Ok(line) => settings(alloc, line.as_slice()),
         Err(_) => Err(LineFault::Memory),
     }
 }
 
 /// The words as text.
-fn borrowed<'a>(alloc: Global, words: &'a [String]) -> Result<Vec<&'a str>, AllocError>
+fn borrow_words<'a>(alloc: Global, words: &'a [String]) -> Result<Vec<&'a str>, AllocError>
     ensures { IfOk result (λ line. texts line.items ≡ map string_bytes words.now) }
 {
     let mut line = Vec::new(alloc);
@@ -192,7 +192,7 @@ where
     ensures { IsSavedOut settings.now (I.seen reader.old) (I.seen reader.new) (O.seen writer.old)
         (O.seen writer.new) result }
 {
-    let Ok(line) = borrowed(alloc, words) else {
+    let Ok(line) = borrow_words(alloc, words) else {
         return Err(Fault::Memory);
     };
     match out_path(alloc, line.as_slice()) {

@@ -138,7 +138,7 @@ pub fn read_fields(mut words: Words, marks: &mut FieldMarks) -> bool
 }
 
 /// A copy of a field of this text.
-fn copied(alloc: Global, text: &[u8], mark: &FieldMark) -> Result<Field, AllocError>
+fn copy_field(alloc: Global, text: &[u8], mark: &FieldMark) -> Result<Field, AllocError>
     requires { mark.now.start + mark.now.size ≤ length text.now }
     ensures { IfOk result (λ f. f ≡ field_of_mark text.now mark.now) }
 {
@@ -156,7 +156,7 @@ pub fn copied_all(alloc: Global, text: &[u8], marks: &[FieldMark]) -> Result<Fie
 {
     let mut copies = Vec::with_capacity(alloc, marks.len())?;
     for mark in marks {
-        copies.push(copied(alloc, text, mark)?)?;
+        copies.push(copy_field(alloc, text, mark)?)?;
     }
     Ok(Fields::from_vec(copies))
 }

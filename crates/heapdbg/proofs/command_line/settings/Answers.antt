@@ -7,10 +7,10 @@ use Rattle.heapdbg.proofs.command_line.settings.Goals as goal
 
 pub returns-in-Ok-asked-clause-limits : goal.returns-in-Ok-asked-clause-limits
 returns-in-Ok-asked-clause-limits c =
-    limits_of (subcommand_of heapdbg_line (texts c.args.words.now)) c.in-Ok-asked.settings
-    (ap (option_and_then settings_under) (sym c.in-Ok.ensures.ok) ∙ c.in-Ok-asked.ensures.ok)
+    limits_of (subcommand_of heapdbg_line (texts c.args.words.now)) c.in-Ok-settings_of_matches.settings
+    (ap (option_and_then settings_under) (sym c.in-Ok.ensures.ok) ∙ c.in-Ok-settings_of_matches.ensures.ok)
 
 pub returns-in-Ok-asked-clause-defaults : goal.returns-in-Ok-asked-clause-defaults
 returns-in-Ok-asked-clause-defaults c =
-    defaults_of (texts c.args.words.now) c.in-Ok-asked.settings
-    (ap (option_and_then settings_under) (sym c.in-Ok.ensures.ok) ∙ c.in-Ok-asked.ensures.ok)
+    defaults_of (texts c.args.words.now) c.in-Ok-settings_of_matches.settings
+    (ap (option_and_then settings_under) (sym c.in-Ok.ensures.ok) ∙ c.in-Ok-settings_of_matches.ensures.ok)

@@ -6,5 +6,5 @@ use Rattle.heap_server.proofs.joined.JoinedCommands.act.Goals as goal
 
 pub returns-in-Step-clause-acts : goal.returns-in-Step-clause-acts
 returns-in-Step-clause-acts g c =
-    subst (λ a. IsJoined g.L.Heap.config c.args.self.now.seat a c.replied.result c.act.new.seat) (sym c.in-Step.is)
-    (acted g.L.Heap.config c.args.self.now.seat c.act.new.seat (Step c.in-Step.event) c.act.result c.replied.result c.act.ensures.receipt c.act.ensures.stands c.act.ensures.refused c.replied.ensures.reply)
+    subst (λ a. IsJoined g.L.Heap.config c.args.self.now.seat a c.reply_to_act.result c.act.new.seat) (sym c.in-Step.is)
+    (acted g.L.Heap.config c.args.self.now.seat c.act.new.seat (Step c.in-Step.event) c.act.result c.reply_to_act.result c.act.ensures.receipt c.act.ensures.stands c.act.ensures.refused c.reply_to_act.ensures.reply)

@@ -3,7 +3,7 @@ use Rattle.std.proofs.lemmas.List.{get_or_read}
 use Rattle.heap_lock.specs.Chronicles.{seat_and_answer}
 use Rattle.heap_lock.specs.Packs.{entry_by}
 use Rattle.heap_lock.proofs.Places.{by_numbers, by_whole}
-use Rattle.heap_lock.proofs.chronicle.told.Goals as goal
+use Rattle.heap_lock.proofs.chronicle.answer_of_pack.Goals as goal
 
 pub returns-then-pack : goal.returns-then-pack
 returns-then-pack c =

@@ -2,7 +2,7 @@ use Rattle.std.proofs.Common.{refl}
 use Rattle.heap_trail.specs.declared.Action.TheVariants.{Step, Rewind}
 use Rattle.heap_trail.specs.declared.Reply.TheVariants.{Place, Refused}
 use Rattle.heap_lock.proofs.Plain.{answer_enters, fine_enters, refused_enters}
-use Rattle.heap_lock.proofs.heap.moved.Goals as goal
+use Rattle.heap_lock.proofs.heap.take_step.Goals as goal
 
 pub returns-else-wants_memory : goal.returns-else-wants_memory
 returns-else-wants_memory c = refused_enters c.args.machine.now c.step.new.self c.args.action.now (Step c.in-Step.event) c.in-Err.refusal refl c.requires.place c.in-Step.is c.if-wants_memory.ensures c.in-Err.ensures.refused

@@ -1,5 +1,6 @@
 //! Where the fields of a line stand in it.
 ghost use Rattle.std.specs.Prelude.{◌≡◌, ◌<◌, ◌++◌, [], ◌∷◌, length, IfOk};
+ghost use Rattle.session_text.specs.declared.marks.TheConstants.{MARK_ROOM};
 
 use heap_class::Kind;
 use std::alloc::{AllocError, Global};
@@ -26,12 +27,13 @@ pub struct FieldMarks {
 impl Model for FieldMarks {
     ghost use Rattle.std.specs.Prelude.{◌≤◌, List, vec_capacity};
     ghost use Rattle.session_text.specs.declared.marks.FieldMark.{FieldMark};
+    ghost use Rattle.session_text.specs.declared.marks.TheConstants.{MARK_ROOM};
 
     ghost Value = { List FieldMark };
 
     ghost view = { λ m. m.marks.items };
 
-    ghost invariant = { λ m. 1024 ≤ vec_capacity m.marks };
+    ghost invariant = { λ m. MARK_ROOM ≤ vec_capacity m.marks };
 }
 
 impl FieldMarks {
@@ -60,7 +62,7 @@ impl FieldMarks {
 
     /// Adds a field.
     pub fn push(&mut self, mark: FieldMark)
-        requires { length self.old < 1024 }
+        requires { length self.old < MARK_ROOM }
         ensures { self.new ≡ self.old ++ mark ∷ [] }
     {
         self.marks.push_reserved(mark);

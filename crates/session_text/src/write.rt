@@ -1,12 +1,13 @@
 //! Writing.
 ghost use Rattle.std.specs.Prelude.{◌≡◌, ◌≤◌, [], length};
 ghost use Rattle.session_text.specs.Writes.{IsTextWritten, IsTextAdded};
+ghost use Rattle.session_text.specs.declared.write.TheConstants.{LINE_START};
 
 use crate::page::Page;
 use dump_pump::{Outlet, Put};
 
 /// The most bytes of a page to which a line is added.
-const LINE_START: usize = 8000;
+pub const LINE_START: usize = 8000;
 
 /// Puts out all bytes, unless a write fails.
 pub fn write_all<O: Outlet>(outlet: &mut O, bytes: &[u8]) -> bool
@@ -37,7 +38,7 @@ pub fn flush<O: Outlet>(page: &mut Page, outlet: &mut O) -> bool
 pub fn make_room<O: Outlet>(page: &mut Page, outlet: &mut O) -> bool
     ensures added { IsTextAdded [] page.old (O.seen outlet.old) page.new (O.seen outlet.new)
         result }
-    ensures room { length page.new ≤ 8000 }
+    ensures room { length page.new ≤ LINE_START }
 {
     if page.as_slice().len() <= LINE_START {
         return true;

@@ -2,7 +2,7 @@
 use Rattle.std.proofs.Common.{◌≡◌, List, [], ◌∷◌, ◌++◌, map, refl, sym, ap, subst, ◌∙◌}
 use Rattle.heap_trail.specs.declared.Action.{Action}
 use Rattle.heap_trail.specs.declared.Reply.{Reply}
-use Rattle.heap_trail.specs.Machine.{Machine, Allocation, MayStand, AreMarks, MayReply, MayDrive, acted_under, machine_after, replies_of}
+use Rattle.heap_trail.specs.Machine.{Machine, Allocation, MayStand, AreAllocations, MayReply, MayDrive, acted_under, machine_after, replies_of}
 
 pub driven_none : (m : Machine) → MayDrive m [] [] m
 unfolding replies_of machine_after
@@ -12,7 +12,7 @@ actions_more : (marked : List (Action × Allocation)) (a : Action × Allocation)
 actions_more [] a = refl
 actions_more (x ∷ marked) a = ap (λ l. x.0 ∷ l) (actions_more marked a)
 
-marks_more : (m : Machine) (marked : List (Action × Allocation)) (a : Action × Allocation) → AreMarks m marked → MayStand (machine_after m marked) a → AreMarks m (marked ++ a ∷ [])
+marks_more : (m : Machine) (marked : List (Action × Allocation)) (a : Action × Allocation) → AreAllocations m marked → MayStand (machine_after m marked) a → AreAllocations m (marked ++ a ∷ [])
 unfolding machine_after
 marks_more m [] a h s = (s, tt)
 marks_more m (x ∷ marked) a h s = (h.0, marks_more (acted_under m x).0 marked a h.1 s)

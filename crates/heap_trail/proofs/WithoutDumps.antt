@@ -3,7 +3,7 @@ use Rattle.std.proofs.Common.{◌≡◌, false, List, [], ◌∷◌, refl, sym, 
 use Rattle.heap_step.specs.Apply.{event_may_grow}
 use Rattle.heap_trail.specs.declared.Action.{Action}
 use Rattle.heap_trail.specs.declared.Action.TheVariants.{Step, Rewind, OpenPin, NextPiece, ClosePin}
-use Rattle.heap_trail.specs.Machine.{Machine, Allocation, Granted, Denied, LosesPins, acted, acted_under, replies_of, is_dump_action, without_dumps, may_grow, is_accepted, MayStand, AreMarks}
+use Rattle.heap_trail.specs.Machine.{Machine, Allocation, Granted, Denied, LosesPins, acted, acted_under, replies_of, is_dump_action, without_dumps, may_grow, is_accepted, MayStand, AreAllocations}
 use Rattle.heap_trail.specs.Headline.{replies_beside_dumps, GoesAsWithoutDumps}
 use Rattle.heap_trail.proofs.Alone.{Core, core, bare, alike, core_after, under_core, leaves_trail}
 
@@ -46,7 +46,7 @@ replies_alike m n ((OpenPin at, k) ∷ more) e = replies_alike (acted_under m (O
 replies_alike m n ((NextPiece pin time, k) ∷ more) e = replies_alike (acted_under m (NextPiece pin time, k)).0 n more (under_core m (NextPiece pin time) k ∙ e)
 replies_alike m n ((ClosePin pin, k) ∷ more) e = replies_alike (acted_under m (ClosePin pin, k)).0 n more (under_core m (ClosePin pin) k ∙ e)
 
-marks_alike : (m n : Machine) (actions : List (Action × Allocation)) → core m ≡ core n → AreMarks m actions → AreMarks n (without_dumps actions)
+marks_alike : (m n : Machine) (actions : List (Action × Allocation)) → core m ≡ core n → AreAllocations m actions → AreAllocations n (without_dumps actions)
 unfolding without_dumps
 marks_alike m n [] e s = tt
 marks_alike m n ((Step event, k) ∷ more) e s = (same_standing m n (Step event) k refl e s.0, marks_alike (acted_under m (Step event, k)).0 (acted_under n (Step event, k)).0 more (same_core m n (Step event) k e) s.1)

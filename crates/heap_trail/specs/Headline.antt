@@ -10,7 +10,7 @@ use Rattle.heap_trail.specs.declared.Reply.{Reply}
 use Rattle.heap_trail.specs.declared.Reply.TheVariants.{Answered, Place, Pinned}
 use Rattle.heap_trail.specs.Trail.{retained, state_ago}
 use Rattle.heap_trail.specs.Pins.{Kept, AreNumbered, pin_at}
-use Rattle.heap_trail.specs.Machine.{Machine, Allocation, AreMarks, acted, acted_under, machine_after, replies_of, is_dump_action, without_dumps}
+use Rattle.heap_trail.specs.Machine.{Machine, Allocation, AreAllocations, acted, acted_under, machine_after, replies_of, is_dump_action, without_dumps}
 use Rattle.heap_trail.specs.Laws.{GivesText, LeavesTrail}
 
 -- ---- steps and rewinds
@@ -70,7 +70,7 @@ abbrev pub GoesAsWithoutDumps : Machine → List (Action × Allocation) → Type
 GoesAsWithoutDumps m actions =
     let others = without_dumps actions in
     (replies_beside_dumps m actions ≡ replies_of m others) × LeavesTrail m actions
-    × (AreMarks m actions → AreMarks m others)
+    × (AreAllocations m actions → AreAllocations m others)
 
 -- ---- pins
 

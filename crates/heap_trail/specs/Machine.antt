@@ -134,9 +134,9 @@ MayStand m (a, Denied) = (may_grow a m ≡ true) × (is_accepted (acted m a).1 �
 MayStand m (a, LosesPins pins) = (may_overwrite a ≡ true) × (is_accepted (acted m a).1 ≡ true)
 
 -- each mark may stand where it does
-abbrev pub AreMarks : Machine → List (Action × Allocation) → Type 0
-AreMarks m [] = ⊤
-AreMarks m (a ∷ as') = MayStand m a × AreMarks (acted_under m a).0 as'
+abbrev pub AreAllocations : Machine → List (Action × Allocation) → Type 0
+AreAllocations m [] = ⊤
+AreAllocations m (a ∷ as') = MayStand m a × AreAllocations (acted_under m a).0 as'
 
 -- ---- what a call may answer
 
@@ -151,7 +151,8 @@ MayFail m a n r = (acted m a ≡ (n, Refused r)) ⊎ (MayStand m (a, Denied) × 
 -- under some marks these actions lead from m to n, with these replies
 abbrev pub MayDrive : Machine → List Action → List Reply → Machine → Type 0
 MayDrive m actions replies n =
-    (marked : List (Action × Allocation)) × (map (λ a. a.0) marked ≡ actions) × AreMarks m marked
+    (marked : List (Action × Allocation)) × (map (λ a. a.0) marked ≡ actions)
+    × AreAllocations m marked
     × (replies ≡ replies_of m marked) × (n ≡ machine_after m marked)
 
 -- a piece has at most 2 ^ 24 bytes
@@ -175,5 +176,5 @@ without_dumps actions = filter (λ a. not (is_dump_action a.0)) actions
 
 -- ---- the list with no marks
 
-unfoldable pub unmarked_list : List Action → List (Action × Allocation)
-unmarked_list actions = map (λ a. (a, Granted)) actions
+unfoldable pub all_granted : List Action → List (Action × Allocation)
+all_granted actions = map (λ a. (a, Granted)) actions

@@ -11,7 +11,7 @@ use Rattle.heap_trail.specs.declared.Action.{Action}
 use Rattle.heap_trail.specs.declared.Action.TheVariants.{OpenPin, NextPiece, ClosePin}
 use Rattle.heap_trail.specs.declared.Reply.{Reply}
 use Rattle.heap_trail.specs.declared.Reply.TheVariants.{Refused}
-use Rattle.heap_trail.specs.Machine.{Machine, Allocation, Granted, MayStand, AreMarks, acted, acted_under, machine_after, replies_of}
+use Rattle.heap_trail.specs.Machine.{Machine, Allocation, Granted, MayStand, AreAllocations, acted, acted_under, machine_after, replies_of}
 use Rattle.hprof_text.specs.declared.Piece.{Piece as GivenPiece}
 use Rattle.session_text.specs.declared.Ended.{Ended}
 use Rattle.session_text.specs.declared.Ended.TheVariants.{Quit, Eof, CutLine, TooLong, ReadFault, TooManyReads, WriteFault, NoMemory as NoRoom}
@@ -25,7 +25,7 @@ use Rattle.session_text.specs.Grammar.{command_of}
 use Rattle.session_text.specs.Laws.{InTurn, IsStop, ending_line, IsBegun, IsListed, IsCutListed}
 use Rattle.session_text.specs.Lines.{NoLf}
 use Rattle.session_text.specs.Replies.{reply_text, data_lines, piece_in, pin_in}
-use Rattle.session_text.specs.Session.{Talk, wrote, mark_of, done_quietly, after_reply, pieces_dumped, after_open_reply, after_up_to, after_command, is_end, FitsRest, FitsDump, FitsOpen, FitsCommand, FitLines, at_end, at_long, talked, session_of, CutsLine, CutsEnd, CutsPage}
+use Rattle.session_text.specs.Session.{Talk, wrote, allocation_of, done_quietly, after_reply, pieces_dumped, after_open_reply, after_up_to, after_command, is_end, FitsRest, FitsDump, FitsOpen, FitsCommand, FitLines, at_end, at_long, talked, session_of, CutsLine, CutsEnd, CutsPage}
 use Rattle.session_text.specs.Talks.{IsLine, IsLong, AnswersAll, stream, IsQuit, BeginsWith}
 use Rattle.session_text.proofs.Sessions.{parts, talk, is_refused, not_zero, line_then, alone, too_long, quits}
 
@@ -41,14 +41,14 @@ unfolding machine_after replies_of
 replies_more m [] a = refl
 replies_more m (x ∷ actions) a = ap (λ l. (acted_under m x).1 ∷ l) (replies_more (acted_under m x).0 actions a)
 
-marks_more : (m : Machine) (actions : List (Action × Allocation)) (a : Action × Allocation) → AreMarks m actions → MayStand (machine_after m actions) a → AreMarks m (actions ++ a ∷ [])
+marks_more : (m : Machine) (actions : List (Action × Allocation)) (a : Action × Allocation) → AreAllocations m actions → MayStand (machine_after m actions) a → AreAllocations m (actions ++ a ∷ [])
 unfolding machine_after
 marks_more m [] a h may = (may, tt)
 marks_more m (x ∷ actions) a h may = (h.0, marks_more (acted_under m x).0 actions a h.1 may)
 
 -- actions whose marks may stand lead from m to n
 abbrev Leads : Machine → Machine → List (Action × Allocation) → Type 0
-Leads m n actions = (n ≡ machine_after m actions) × AreMarks m actions
+Leads m n actions = (n ≡ machine_after m actions) × AreAllocations m actions
 
 none_lead : (m : Machine) → Leads m m []
 unfolding machine_after
@@ -126,8 +126,8 @@ dump_listed (suc k) zero pin time m before t so_far le l h = absurd (omega (arit
 dump_listed (suc k) (suc n) pin time m before t so_far le l h =
     let a = NextPiece pin time in
     let r = done_quietly a t in
-    let one = one_more m t.machine before a (mark_of t.marks) l h.0 in
-    let next = before ++ (a, mark_of t.marks) ∷ [] in
+    let one = one_more m t.machine before a (allocation_of t.marks) l h.0 in
+    let next = before ++ (a, allocation_of t.marks) ∷ [] in
     let g = rest_listed k n pin time m next r.1 (piece_in r.1) r.0 so_far one.leads h.1 (λ u j s f. dump_listed k n pin time m next u j (omega (arith, le)) s f) in
     record { after = g.after; text = g.text; dumps = (r.1, next, one.turn, g.goes); leads = g.leads; written = g.written }
 
@@ -168,11 +168,11 @@ answer_listed : (time : ℕ) (k : Command) (m : Machine) (before : List (Action 
 answer_listed time Blank m before t isnt l h = record { after = before; text = []; answers = (refl, refl); leads = l; written = sym (append-nil t.written) }
 answer_listed time Bad m before t isnt l h = record { after = before; text = codes "bad command\n"; answers = (refl, refl); leads = l; written = refl }
 answer_listed time (Ask a) m before t isnt l (inl may) =
-    let r = acted_under t.machine (a, mark_of t.marks) in
-    let one = one_more m t.machine before a (mark_of t.marks) l may in
-    record { after = before ++ (a, mark_of t.marks) ∷ []; text = reply_text r.1; answers = (r.1, inl one.turn, refl); leads = one.leads; written = refl }
+    let r = acted_under t.machine (a, allocation_of t.marks) in
+    let one = one_more m t.machine before a (allocation_of t.marks) l may in
+    record { after = before ++ (a, allocation_of t.marks) ∷ []; text = reply_text r.1; answers = (r.1, inl one.turn, refl); leads = one.leads; written = refl }
 answer_listed time (Ask a) m before t isnt l (inr (takes, refuses)) =
-    let same : acted_under t.machine (a, mark_of t.marks) ≡ (t.machine, Refused NoMemory) = ap (λ (k : Allocation). acted_under t.machine (a, k)) refuses ∙ is_refused t.machine a in
+    let same : acted_under t.machine (a, allocation_of t.marks) ≡ (t.machine, Refused NoMemory) = ap (λ (k : Allocation). acted_under t.machine (a, k)) refuses ∙ is_refused t.machine a in
     record {
       after = before;
       text = reply_text (Refused NoMemory);
@@ -182,16 +182,16 @@ answer_listed time (Ask a) m before t isnt l (inr (takes, refuses)) =
     }
 answer_listed time (Piece pin) m before t isnt l may =
     let a = NextPiece pin time in
-    let r = acted_under t.machine (a, mark_of t.marks) in
-    let one = one_more m t.machine before a (mark_of t.marks) l may in
-    record { after = before ++ (a, mark_of t.marks) ∷ []; text = reply_text r.1; answers = (r.1, one.turn, refl); leads = one.leads; written = refl }
+    let r = acted_under t.machine (a, allocation_of t.marks) in
+    let one = one_more m t.machine before a (allocation_of t.marks) l may in
+    record { after = before ++ (a, allocation_of t.marks) ∷ []; text = reply_text r.1; answers = (r.1, one.turn, refl); leads = one.leads; written = refl }
 answer_listed time (Dump pin) m before t isnt l h =
     let g = dump_listed piece_limit piece_limit pin time m before t 0 (omega arith) l h in
     record { after = g.after; text = g.text; answers = g.dumps; leads = g.leads; written = g.written }
 answer_listed time DumpNow m before t isnt l (may, h) =
     let r = done_quietly (OpenPin None) t in
-    let one = one_more m t.machine before (OpenPin None) (mark_of t.marks) l may in
-    let opened = before ++ (OpenPin None, mark_of t.marks) ∷ [] in
+    let one = one_more m t.machine before (OpenPin None) (allocation_of t.marks) l may in
+    let opened = before ++ (OpenPin None, allocation_of t.marks) ∷ [] in
     let g = open_listed piece_limit time m opened r.1 (pin_in r.1) r.0 (omega arith) one.leads h in
     record { after = g.after; text = g.text; answers = (r.1, opened, one.turn, g.closes); leads = g.leads; written = g.written }
 answer_listed time End m before t isnt l h = absurd (true≢false isnt)
@@ -216,8 +216,8 @@ begun_listed pieces time (Dump pin) m before t le l h =
     record { after = g.after; begun = inr (g.text, (pieces, le, g.dumps)); leads = g.leads }
 begun_listed pieces time DumpNow m before t le l (may, h) =
     let r = done_quietly (OpenPin None) t in
-    let one = one_more m t.machine before (OpenPin None) (mark_of t.marks) l may in
-    let opened = before ++ (OpenPin None, mark_of t.marks) ∷ [] in
+    let one = one_more m t.machine before (OpenPin None) (allocation_of t.marks) l may in
+    let opened = before ++ (OpenPin None, allocation_of t.marks) ∷ [] in
     let g = open_listed pieces time m opened r.1 (pin_in r.1) r.0 le one.leads h in
     record { after = g.after; begun = inr (g.text, (pieces, le, (r.1, opened, one.turn, g.closes))); leads = g.leads }
 begun_listed pieces time End m before t le l h = record { after = before; begun = inl refl; leads = l }

@@ -7,7 +7,7 @@ pub mod Plain
 pub mod NameBytes
 pub mod Sizes
 pub mod Numbers
-pub mod FieldMarks
+pub mod FieldSpans
 pub mod AnsweredLines
 pub mod Sessions
 pub mod FirstPin

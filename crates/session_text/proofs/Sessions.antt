@@ -31,7 +31,7 @@ use Rattle.session_text.specs.Inlets.{Incoming, whole}
 use Rattle.session_text.specs.Lines.{NoLf}
 use Rattle.session_text.specs.Local.{LocalActs}
 use Rattle.session_text.specs.Replies.{reply_text, data_lines, piece_in, pin_in}
-use Rattle.session_text.specs.Session.{Talk, wrote, mark_of, marks_after, done_quietly, done, after_reply, pieces_dumped, closed, after_open_reply, after_up_to, after_command, is_end, go_on, FitsAction, FitsRest, FitsDump, FitsOpen, FitsCommand, FitLines, MarksFit, at_end, at_long, talked, session_of, ShowsSession, CutsLine, CutsEnd, CutsPage, IsSession}
+use Rattle.session_text.specs.Session.{Talk, wrote, allocation_of, allocations_after, done_quietly, done, after_reply, pieces_dumped, closed, after_open_reply, after_up_to, after_command, is_end, go_on, FitsAction, FitsRest, FitsDump, FitsOpen, FitsCommand, FitLines, AllocationsFit, at_end, at_long, talked, session_of, ShowsSession, CutsLine, CutsEnd, CutsPage, IsSession}
 use Rattle.session_text.specs.Talks.{IsLine, IsLong, AnswersAll, stream, IsTalk, IsQuit, EndsCleanly, FailsWhileWriting, IsTruncatedRun, Serves}
 use Rattle.session_text.specs.Writes.{IsCutShort, IsTextWritten}
 use Rattle.session_text.proofs.AnsweredLines.{served_fails}
@@ -363,7 +363,7 @@ either_fine true t u p q = p
 either_fine false t u p q = q
 
 any_fits : (a : Action) (t : Talk) → t.marks ≡ [] → FitsAction a t
-any_fits a t e = subst (λ ks. MayStand t.machine (a, mark_of ks)) (sym e) tt
+any_fits a t e = subst (λ ks. MayStand t.machine (a, allocation_of ks)) (sym e) tt
 
 rest_fine : (more : Talk → ℕ → Talk) → ((t : Talk) (n : ℕ) → t.marks ≡ [] → (more t n).marks ≡ []) → (so_far : ℕ) (r : Reply) (o : Option GivenPiece) (t : Talk) → t.marks ≡ [] → (after_reply more so_far r o t).marks ≡ []
 rest_fine more ih so_far r None t e = e
@@ -376,7 +376,7 @@ unfolding pieces_dumped
 dump_fine zero pin time t so_far e = e
 dump_fine (suc n) pin time t so_far e =
     let r = done_quietly (NextPiece pin time) t in
-    rest_fine (pieces_dumped n pin time) (λ u k h. dump_fine n pin time u k h) so_far r.1 (piece_in r.1) r.0 (ap marks_after e)
+    rest_fine (pieces_dumped n pin time) (λ u k h. dump_fine n pin time u k h) so_far r.1 (piece_in r.1) r.0 (ap allocations_after e)
 
 rest_fits : (more : Talk → ℕ → Type 0) → ((t : Talk) (n : ℕ) → t.marks ≡ [] → more t n) → (so_far : ℕ) (o : Option GivenPiece) (t : Talk) → t.marks ≡ [] → FitsRest more so_far o t
 rest_fits more ih so_far None t e = tt
@@ -387,7 +387,7 @@ unfolding FitsDump
 dump_fits zero pin time t so_far e = tt
 dump_fits (suc n) pin time t so_far e =
     let r = done_quietly (NextPiece pin time) t in
-    (any_fits (NextPiece pin time) t e, rest_fits (FitsDump n pin time) (λ u k h. dump_fits n pin time u k h) so_far (piece_in r.1) r.0 (ap marks_after e))
+    (any_fits (NextPiece pin time) t e, rest_fits (FitsDump n pin time) (λ u k h. dump_fits n pin time u k h) so_far (piece_in r.1) r.0 (ap allocations_after e))
 
 open_fine : (time : ℕ) (r : Reply) (o : Option ℕ) (t : Talk) → t.marks ≡ [] → (after_open_reply piece_limit time r o t).marks ≡ []
 open_fine time r None t e = e
@@ -400,10 +400,10 @@ open_fits time (Some pin) t e = dump_fits piece_limit pin time t 0 e
 command_fine : (time : ℕ) (k : Command) (t : Talk) → t.marks ≡ [] → (after_command time k t).marks ≡ []
 command_fine time Blank t e = e
 command_fine time Bad t e = e
-command_fine time (Ask a) t e = ap marks_after e
-command_fine time (Piece pin) t e = ap marks_after e
+command_fine time (Ask a) t e = ap allocations_after e
+command_fine time (Piece pin) t e = ap allocations_after e
 command_fine time (Dump pin) t e = dump_fine piece_limit pin time t 0 e
-command_fine time DumpNow t e = let r = done_quietly (OpenPin None) t in open_fine time r.1 (pin_in r.1) r.0 (ap marks_after e)
+command_fine time DumpNow t e = let r = done_quietly (OpenPin None) t in open_fine time r.1 (pin_in r.1) r.0 (ap allocations_after e)
 command_fine time End t e = e
 
 fits_fine : (time : ℕ) (k : Command) (t : Talk) → t.marks ≡ [] → FitsCommand time k t
@@ -412,7 +412,7 @@ fits_fine time Bad t e = tt
 fits_fine time (Ask a) t e = inl (any_fits a t e)
 fits_fine time (Piece pin) t e = any_fits (NextPiece pin time) t e
 fits_fine time (Dump pin) t e = dump_fits piece_limit pin time t 0 e
-fits_fine time DumpNow t e = let r = done_quietly (OpenPin None) t in (any_fits (OpenPin None) t e, open_fits time (pin_in r.1) r.0 (ap marks_after e))
+fits_fine time DumpNow t e = let r = done_quietly (OpenPin None) t in (any_fits (OpenPin None) t e, open_fits time (pin_in r.1) r.0 (ap allocations_after e))
 fits_fine time End t e = tt
 
 fine : (time : ℕ) (ls : List (List ℕ)) (t : Talk) → t.marks ≡ [] → FitLines time ls t
@@ -645,13 +645,13 @@ session_lines time e bytes rest c text d k ms =
     ap (λ bs. talked time e (parts bs) (talk c.machine (g.found ++ ms) [])) k.are ∙ g.so e rest ms []
 
 session_fit : (time : ℕ) (bytes rest : List ℕ) (c : Local) (text : List ℕ) (d : Local) (k : IsTalk (AnswersCommand acts time) bytes c rest text d) (ms : List Allocation) → FitLines time (parts rest) (talk d.machine ms text)
-    → MarksFit c.machine ((passes time k.lines c text d k.talks).found ++ ms) time bytes
+    → AllocationsFit c.machine ((passes time k.lines c text d k.talks).found ++ ms) time bytes
 session_fit time bytes rest c text d k ms h =
     let g = passes time k.lines c text d k.talks in
     subst (λ bs. FitLines time (parts bs) (talk c.machine (g.found ++ ms) [])) (sym k.are) (g.fit rest ms [] h)
 
 -- all lines are answered, and no marks are left
-all_fit : (time : ℕ) (bytes rest : List ℕ) (c : Local) (text : List ℕ) (d : Local) (k : IsTalk (AnswersCommand acts time) bytes c rest text d) → MarksFit c.machine ((passes time k.lines c text d k.talks).found ++ []) time bytes
+all_fit : (time : ℕ) (bytes rest : List ℕ) (c : Local) (text : List ℕ) (d : Local) (k : IsTalk (AnswersCommand acts time) bytes c rest text d) → AllocationsFit c.machine ((passes time k.lines c text d k.talks).found ++ []) time bytes
 all_fit time bytes rest c text d k = session_fit time bytes rest c text d k [] (fine time (parts rest) (talk d.machine [] text) refl)
 
 abbrev end_for : Ended → ReadEnd

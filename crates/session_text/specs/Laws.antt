@@ -1,14 +1,14 @@
 -- A session of a machine of one's own is a list of actions.
 use Rattle.std.specs.Prelude.{◌≡◌, ℕ, ◌⊎◌, List, [], ◌∷◌, ◌++◌, codes}
 use Rattle.heap_trail.specs.declared.Action.{Action}
-use Rattle.heap_trail.specs.Machine.{Machine, Allocation, MayStand, AreMarks, machine_after, replies_of}
+use Rattle.heap_trail.specs.Machine.{Machine, Allocation, MayStand, AreAllocations, machine_after, replies_of}
 use Rattle.session_text.specs.declared.Ended.{Ended}
 use Rattle.session_text.specs.declared.Ended.TheVariants.{Quit, Eof, CutLine, TooLong, ReadFault, TooManyReads, WriteFault, NoMemory as NoRoom}
 use Rattle.session_text.specs.declared.ReadEnd.{ReadEnd}
 use Rattle.session_text.specs.Answers.{AnswersCommand, Begins}
 use Rattle.session_text.specs.Dumps.{Acts}
 use Rattle.session_text.specs.Grammar.{command_of}
-use Rattle.session_text.specs.Session.{MarksFit, StopsAfter, session_of}
+use Rattle.session_text.specs.Session.{AllocationsFit, StopsAfter, session_of}
 use Rattle.session_text.specs.Talks.{IsLine, IsLong, IsQuit, IsTalk, BeginsWith}
 
 -- the actions done on a machine so far, one more, under a mark that may stand beside it, and its reply
@@ -36,7 +36,7 @@ ending_line NoRoom = []
 -- the lines of the bytes asked for these actions, in order, and the text is their replies'; they lead to the machine m'
 pub record IsList (m : Machine) (time : ℕ) (bytes text : List ℕ) (m' : Machine) : Type 0 where
   pub actions : List (Action × Allocation)
-  pub marks : AreMarks m actions
+  pub marks : AreAllocations m actions
   pub rest : List ℕ
   pub talk : IsTalk (AnswersCommand (InTurn m) time) bytes [] rest text actions
   pub stop : IsStop rest
@@ -46,7 +46,7 @@ pub record IsList (m : Machine) (time : ℕ) (bytes text : List ℕ) (m' : Machi
 abbrev pub IsListed : Machine → List Allocation → ℕ → List ℕ → ReadEnd → Type 0
 IsListed m marks time bytes e =
     let s = session_of m marks time bytes e in
-    MarksFit m marks time bytes → (text : List ℕ) × IsList m time bytes text s.0.machine
+    AllocationsFit m marks time bytes → (text : List ℕ) × IsList m time bytes text s.0.machine
     × (s.0.written ≡ text ++ ending_line s.1)
 
 -- no line of the rest was acted on, or the first one was, a dump up to some piece
@@ -60,7 +60,7 @@ IsBegun m time rest before after =
 -- the lines before the rest asked for the actions that were answered, in order, and all actions lead to the machine m'
 pub record IsCutList (m : Machine) (time : ℕ) (bytes : List ℕ) (m' : Machine) : Type 0 where
   pub actions : List (Action × Allocation)
-  pub marks : AreMarks m actions
+  pub marks : AreAllocations m actions
   pub answered : List (Action × Allocation)
   pub rest : List ℕ
   pub text : List ℕ
@@ -71,6 +71,6 @@ pub record IsCutList (m : Machine) (time : ℕ) (bytes : List ℕ) (m' : Machine
 -- a session in which a write failed leaves the machine of a list of actions
 abbrev pub IsCutListed : Machine → List Allocation → ℕ → List ℕ → ReadEnd → Type 0
 IsCutListed m marks time bytes e =
-    MarksFit m marks time bytes → (out : List ℕ) (m' : Machine)
+    AllocationsFit m marks time bytes → (out : List ℕ) (m' : Machine)
     → StopsAfter m marks time bytes e out m'
     → IsCutList m time bytes m'

@@ -9,7 +9,7 @@ use Rattle.heap_trail.specs.declared.Action.{Action}
 use Rattle.heap_trail.specs.declared.Action.TheVariants.{Step, Rewind, OpenPin, NextPiece, ClosePin}
 use Rattle.session_text.specs.Grammar.{words_of_line, is_plain, Rule, value_of_digits, number_of_word, next_number, field_of_word, next_number_or_dash, at_end, making_rules, access_rules, marking_rules, session_rules}
 use Rattle.session_text.specs.Lines.{NoLf}
-use Rattle.session_text.specs.declared.marks.FieldMark.{FieldMark}
+use Rattle.session_text.specs.declared.spans.FieldSpan.{FieldSpan}
 use Rattle.session_text.specs.declared.command.Command.{Command}
 use Rattle.session_text.specs.declared.command.Command.TheVariants.{Blank, Bad, Ask, Piece, Dump, DumpNow, End}
 
@@ -132,11 +132,11 @@ plain_fields (w ∷ ws) =
     option_and_then (λ f. option_map (λ fs. f ∷ fs) (plain_fields ws)) (plain_field w)
 
 -- a field that stands in this text
-abbrev pub field_of_mark : List ℕ → FieldMark → Field
-field_of_mark text m = record { name = take m.size (drop m.start text); kind = m.kind }
+abbrev pub field_of_span : List ℕ → FieldSpan → Field
+field_of_span text m = record { name = take m.size (drop m.start text); kind = m.kind }
 
-abbrev pub AreMarksWithin : List ℕ → List FieldMark → Type 0
-AreMarksWithin text marks = All (λ m. m.start + m.size ≤ length text) marks
+abbrev pub AreSpansWithin : List ℕ → List FieldSpan → Type 0
+AreSpansWithin text marks = All (λ m. m.start + m.size ≤ length text) marks
 
 -- the name that the first word is, and the other words
 abbrev pub next_name : List (List ℕ) → Option (List ℕ × List (List ℕ))

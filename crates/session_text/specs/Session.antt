@@ -32,21 +32,21 @@ abbrev pub wrote : List ℕ → Talk → Talk
 wrote text t = record { machine = t.machine; marks = t.marks; written = t.written ++ text }
 
 -- the mark of what comes next, and the session without it
-abbrev pub mark_of : List Allocation → Allocation
-mark_of [] = Granted
-mark_of (k ∷ ks) = k
+abbrev pub allocation_of : List Allocation → Allocation
+allocation_of [] = Granted
+allocation_of (k ∷ ks) = k
 
-abbrev pub marks_after : List Allocation → List Allocation
-marks_after [] = []
-marks_after (k ∷ ks) = ks
+abbrev pub allocations_after : List Allocation → List Allocation
+allocations_after [] = []
+allocations_after (k ∷ ks) = ks
 
 -- ---- the answers of lines
 
 -- the session after an action, and its reply, of which nothing is written yet
 abbrev pub done_quietly : Action → Talk → Talk × Reply
 done_quietly a t =
-    let r = acted_under t.machine (a, mark_of t.marks) in
-    (record { machine = r.0; marks = marks_after t.marks; written = t.written }, r.1)
+    let r = acted_under t.machine (a, allocation_of t.marks) in
+    (record { machine = r.0; marks = allocations_after t.marks; written = t.written }, r.1)
 
 -- an action; where its line found no memory it is as an action that found none
 abbrev pub done : Action → Talk → Talk
@@ -136,7 +136,7 @@ session_of m marks time bytes e =
 
 -- the next mark may stand beside this action
 abbrev pub FitsAction : Action → Talk → Type 0
-FitsAction a t = MayStand t.machine (a, mark_of t.marks)
+FitsAction a t = MayStand t.machine (a, allocation_of t.marks)
 
 -- in the rest of a dump, after the reply to NextPiece
 abbrev pub FitsRest : (Talk → ℕ → Type 0) → ℕ → Option GivenPiece → Talk → Type 0
@@ -160,7 +160,8 @@ FitsOpen time None t = Unit {0}
 abbrev pub FitsCommand : ℕ → Command → Talk → Type 0
 FitsCommand time Blank t = Unit {0}
 FitsCommand time Bad t = Unit {0}
-FitsCommand time (Ask a) t = FitsAction a t ⊎ (ActionTakesMemory a × (mark_of t.marks ≡ Denied))
+FitsCommand time (Ask a) t =
+    FitsAction a t ⊎ (ActionTakesMemory a × (allocation_of t.marks ≡ Denied))
 FitsCommand time (Piece pin) t = FitsAction (NextPiece pin time) t
 FitsCommand time (Dump pin) t = FitsDump piece_limit pin time t 0
 FitsCommand time DumpNow t =
@@ -176,8 +177,8 @@ FitLines time (l ∷ m ∷ more) t =
     × FitLines time (m ∷ more) (after_command time (command_of l) t)
 
 -- the marks may stand in the session of these bytes
-abbrev pub MarksFit : Machine → List Allocation → ℕ → List ℕ → Type 0
-MarksFit m marks time bytes =
+abbrev pub AllocationsFit : Machine → List Allocation → ℕ → List ℕ → Type 0
+AllocationsFit m marks time bytes =
     FitLines time (slice_split (λ b. b == 10) bytes)
     (record { machine = m; marks = marks; written = [] })
 
@@ -238,6 +239,7 @@ IsSessionShown m marks time bytes out m' NoRoom = (bytes ≡ []) × (out ≡ [])
 abbrev pub IsSession : Machine → ℕ → Incoming → Incoming → Outgoing → Outgoing → Machine → Ended
     → Type 0
 IsSession m time a b w w' m' ended =
-    (bytes : List ℕ) × (out : List ℕ) × (marks : List Allocation) × MarksFit m marks time bytes
+    (bytes : List ℕ) × (out : List ℕ) × (marks : List Allocation)
+    × AllocationsFit m marks time bytes
     × (b.taken ≡ a.taken ++ bytes) × Keeps (whole a) (whole b) × (w'.out ≡ w.out ++ out)
     × IsSessionShown m marks time bytes out m' ended

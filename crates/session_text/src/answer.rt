@@ -16,10 +16,10 @@ use crate::buffer::Buffer;
 use crate::command::{Command, command_of_text, without_cr};
 use crate::commands::Commands;
 use crate::dump::{write_dump, write_dump_now};
-use crate::marks::FieldMarks;
 use crate::mutator::{Quick, answer_mutator};
 use crate::page::Page;
 use crate::reply::{write_answer, write_reply};
+use crate::spans::FieldSpans;
 use crate::write::write_text;
 use dump_pump::Outlet;
 use heap_class::Refusal;
@@ -87,7 +87,7 @@ fn write_other<O: Outlet>(page: &mut Page, writer: &mut O, reply: Reply) -> bool
 #[inline(never)]
 fn answer_text<O: Outlet, C: Commands>(
     alloc: Global,
-    marks: &mut FieldMarks,
+    marks: &mut FieldSpans,
     text: &[u8],
     time: u64,
     page: &mut Page,
@@ -117,7 +117,7 @@ fn answer_text<O: Outlet, C: Commands>(
 /// Adds the answer of one line to a page, which is flushed each time that it is full.
 fn answer_line<O: Outlet, C: Commands>(
     alloc: Global,
-    marks: &mut FieldMarks,
+    marks: &mut FieldSpans,
     line: &[u8],
     time: u64,
     page: &mut Page,
@@ -135,7 +135,7 @@ fn answer_line<O: Outlet, C: Commands>(
 #[inline(never)]
 fn answer_first<O: Outlet, C: Commands>(
     alloc: Global,
-    marks: &mut FieldMarks,
+    marks: &mut FieldSpans,
     time: u64,
     buffer: &mut Buffer,
     page: &mut Page,
@@ -168,7 +168,7 @@ fn answer_first<O: Outlet, C: Commands>(
 /// flushed each time that it is full.
 pub fn answer_lines<O: Outlet, C: Commands>(
     alloc: Global,
-    marks: &mut FieldMarks,
+    marks: &mut FieldSpans,
     time: u64,
     buffer: &mut Buffer,
     page: &mut Page,

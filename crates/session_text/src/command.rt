@@ -6,8 +6,8 @@ ghost use Rattle.session_text.specs.Reads.{TakesMemory, MayTakeMemory, IsNextWor
 ghost use Rattle.session_text.specs.declared.TheConstants.{LINE_LIMIT};
 
 use crate::fields::{copied_all, kind_at, name_at, read_fields};
-use crate::marks::FieldMarks;
 use crate::number::{number_at, number_or_dash_at};
+use crate::spans::FieldSpans;
 use crate::words::Words;
 use heap_class::{Kind, Name};
 use heap_step::Event;
@@ -143,7 +143,7 @@ fn four_numbers(mut words: Words) -> Option<(u64, u64, u64, u64)>
 /// `class NAME SUPER FIELD ..`. No memory is taken where it isn't one.
 fn class_line(
     alloc: Global,
-    marks: &mut FieldMarks,
+    marks: &mut FieldSpans,
     mut words: Words,
 ) -> Result<Option<Command>, AllocError>
     requires { length words ≤ LINE_LIMIT }
@@ -427,7 +427,7 @@ fn session_line(word: &[u8], words: Words) -> Option<Command>
 #[tactic(auto, unfolding(crate::specs::Grammar::by_rule, crate::specs::Reads::plain_class_rules))]
 fn line_after(
     alloc: Global,
-    marks: &mut FieldMarks,
+    marks: &mut FieldSpans,
     word: &[u8],
     words: Words,
 ) -> Result<Option<Command>, AllocError>
@@ -458,7 +458,7 @@ pub fn without_cr(line: &[u8]) -> &[u8]
 
 pub fn command_of_text(
     alloc: Global,
-    marks: &mut FieldMarks,
+    marks: &mut FieldSpans,
     text: &[u8],
 ) -> Result<Command, AllocError>
     requires { length text.now ≤ LINE_LIMIT }

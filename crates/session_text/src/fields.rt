@@ -3,10 +3,10 @@ ghost use Rattle.std.specs.Prelude.{◌≡◌, ◌==◌, ◌+◌, ◌<◌, ◌�
 ghost use Rattle.std.specs.Char.{is_ascii_graphic};
 ghost use Rattle.std.specs.List.{position, position_or_len};
 ghost use Rattle.session_text.specs.Grammar.{words_of_line, kind_of_word};
-ghost use Rattle.session_text.specs.Reads.{first_word, with_size, name_at, plain_field, plain_fields, field_of_mark, AreMarksWithin};
+ghost use Rattle.session_text.specs.Reads.{first_word, with_size, name_at, plain_field, plain_fields, field_of_span, AreSpansWithin};
 ghost use Rattle.session_text.specs.declared.TheConstants.{LINE_LIMIT};
 
-use crate::marks::{FieldMark, FieldMarks};
+use crate::spans::{FieldSpan, FieldSpans};
 use crate::words::{SPACE, Words, word_size};
 use heap_class::{Field, Fields, Kind, Name};
 use std::alloc::{AllocError, Global};
@@ -115,11 +115,11 @@ pub fn field_at(text: &[u8]) -> Option<FieldSize>
 }
 
 /// Reads all words that are left as fields, which stand in what isn't read yet. False where one of them is none.
-pub fn read_fields(mut words: Words, marks: &mut FieldMarks) -> bool
+pub fn read_fields(mut words: Words, marks: &mut FieldSpans) -> bool
     requires { length words ≤ LINE_LIMIT }
     ensures { MatchBool result
         ((plain_fields (words_of_line words.entry)
-        ≡ Some (map (field_of_mark words.entry) marks.new)) × AreMarksWithin words.entry marks.new)
+        ≡ Some (map (field_of_span words.entry) marks.new)) × AreSpansWithin words.entry marks.new)
         (plain_fields (words_of_line words.entry) ≡ None) }
 {
     marks.clear();
@@ -128,7 +128,7 @@ pub fn read_fields(mut words: Words, marks: &mut FieldMarks) -> bool
         let Some(field) = field_at(rest) else {
             return false;
         };
-        marks.push(FieldMark {
+        marks.push(FieldSpan {
             start: size - rest.len(),
             size: field.name,
             kind: field.kind,
@@ -139,9 +139,9 @@ pub fn read_fields(mut words: Words, marks: &mut FieldMarks) -> bool
 }
 
 /// A copy of a field of this text.
-fn copy_field(alloc: Global, text: &[u8], mark: &FieldMark) -> Result<Field, AllocError>
+fn copy_field(alloc: Global, text: &[u8], mark: &FieldSpan) -> Result<Field, AllocError>
     requires { mark.now.start + mark.now.size ≤ length text.now }
-    ensures { IfOk result (λ f. f ≡ field_of_mark text.now mark.now) }
+    ensures { IfOk result (λ f. f ≡ field_of_span text.now mark.now) }
 {
     let name = &text[mark.start..mark.start + mark.size];
     Ok(Field {
@@ -151,9 +151,9 @@ fn copy_field(alloc: Global, text: &[u8], mark: &FieldMark) -> Result<Field, All
 }
 
 /// Copies of the fields of this text.
-pub fn copied_all(alloc: Global, text: &[u8], marks: &[FieldMark]) -> Result<Fields, AllocError>
-    requires { AreMarksWithin text.now marks.now }
-    ensures { IfOk result (λ fs. fs ≡ map (field_of_mark text.now) marks.now) }
+pub fn copied_all(alloc: Global, text: &[u8], marks: &[FieldSpan]) -> Result<Fields, AllocError>
+    requires { AreSpansWithin text.now marks.now }
+    ensures { IfOk result (λ fs. fs ≡ map (field_of_span text.now) marks.now) }
 {
     let mut copies = Vec::with_capacity(alloc, marks.len())?;
     for mark in marks {

@@ -9,8 +9,8 @@ use crate::answer::{Step, answer_lines};
 use crate::buffer::Buffer;
 use crate::commands::{Commands, Local};
 use crate::inlet::{Inlet, Take};
-use crate::marks::FieldMarks;
 use crate::page::Page;
+use crate::spans::FieldSpans;
 use crate::write::{flush, write_text};
 use crate::{Ended, READ_LIMIT};
 use dump_pump::Outlet;
@@ -32,7 +32,7 @@ fn end_with<O: Outlet>(page: &mut Page, outlet: &mut O, ended: Ended, line: &[u8
 
 fn talk<I: Inlet, O: Outlet, C: Commands>(
     alloc: Global,
-    marks: &mut FieldMarks,
+    marks: &mut FieldSpans,
     time: u64,
     buffer: &mut Buffer,
     page: &mut Page,
@@ -92,7 +92,7 @@ pub fn serve<I: Inlet, O: Outlet, C: Commands>(
         (I.seen reader.new) commands.old (O.seen writer.old) commands.new (O.seen writer.new)
         result }
 {
-    match (Buffer::new(alloc), Page::new(alloc), FieldMarks::new(alloc)) {
+    match (Buffer::new(alloc), Page::new(alloc), FieldSpans::new(alloc)) {
         (Ok(mut buffer), Ok(mut page), Ok(mut marks)) => {
             talk(
                 alloc,

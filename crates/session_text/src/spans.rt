@@ -1,17 +1,17 @@
 //! Where the fields of a line stand in it.
 ghost use Rattle.std.specs.Prelude.{◌≡◌, ◌<◌, ◌++◌, [], ◌∷◌, length, IfOk};
-ghost use Rattle.session_text.specs.declared.marks.TheConstants.{MARK_ROOM};
+ghost use Rattle.session_text.specs.declared.spans.TheConstants.{SPAN_ROOM};
 
 use heap_class::Kind;
 use std::alloc::{AllocError, Global};
 use std::marker::Model;
 
 /// Room enough for any line: a field has 4 bytes or more, a line at most 4,096.
-const MARK_ROOM: usize = 1024;
+const SPAN_ROOM: usize = 1024;
 
 /// Where a field's name begins, how many bytes it has, and the field's kind.
 #[derive(Clone, Copy)]
-pub struct FieldMark {
+pub struct FieldSpan {
     pub start: usize,
     pub size: usize,
     pub kind: Kind,
@@ -20,34 +20,34 @@ pub struct FieldMark {
 /// The fields of a line, none of them copied. It takes its memory when it is made, so that no line takes any before all its
 /// fields are known to be good. Contracts see the list.
 #[derive(Drop)]
-pub struct FieldMarks {
-    marks: Vec<FieldMark>,
+pub struct FieldSpans {
+    marks: Vec<FieldSpan>,
 }
 
-impl Model for FieldMarks {
+impl Model for FieldSpans {
     ghost use Rattle.std.specs.Prelude.{◌≤◌, List, vec_capacity};
-    ghost use Rattle.session_text.specs.declared.marks.FieldMark.{FieldMark};
-    ghost use Rattle.session_text.specs.declared.marks.TheConstants.{MARK_ROOM};
+    ghost use Rattle.session_text.specs.declared.spans.FieldSpan.{FieldSpan};
+    ghost use Rattle.session_text.specs.declared.spans.TheConstants.{SPAN_ROOM};
 
-    ghost Value = { List FieldMark };
+    ghost Value = { List FieldSpan };
 
     ghost view = { λ m. m.marks.items };
 
-    ghost invariant = { λ m. MARK_ROOM ≤ vec_capacity m.marks };
+    ghost invariant = { λ m. SPAN_ROOM ≤ vec_capacity m.marks };
 }
 
-impl FieldMarks {
+impl FieldSpans {
     /// No fields.
-    pub fn new(alloc: Global) -> Result<FieldMarks, AllocError>
+    pub fn new(alloc: Global) -> Result<FieldSpans, AllocError>
         ensures { IfOk result (λ m. m ≡ []) }
     {
-        Ok(FieldMarks {
-            marks: Vec::with_capacity(alloc, MARK_ROOM)?,
+        Ok(FieldSpans {
+            marks: Vec::with_capacity(alloc, SPAN_ROOM)?,
         })
     }
 
     /// The fields.
-    pub fn as_slice(&self) -> &[FieldMark]
+    pub fn as_slice(&self) -> &[FieldSpan]
         ensures { result.now ≡ self.now }
     {
         self.marks.as_slice()
@@ -61,8 +61,8 @@ impl FieldMarks {
     }
 
     /// Adds a field.
-    pub fn push(&mut self, mark: FieldMark)
-        requires { length self.old < MARK_ROOM }
+    pub fn push(&mut self, mark: FieldSpan)
+        requires { length self.old < SPAN_ROOM }
         ensures { self.new ≡ self.old ++ mark ∷ [] }
     {
         self.marks.push_reserved(mark);

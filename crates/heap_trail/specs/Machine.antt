@@ -152,8 +152,7 @@ MayFail m a n r = (acted m a ≡ (n, Refused r)) ⊎ (MayStand m (a, Denied) × 
 abbrev pub MayDrive : Machine → List Action → List Reply → Machine → Type 0
 MayDrive m actions replies n =
     (marked : List (Action × Allocation)) × (map (λ a. a.0) marked ≡ actions)
-    × AreAllocations m marked
-    × (replies ≡ replies_of m marked) × (n ≡ machine_after m marked)
+    × AreAllocations m marked × (replies ≡ replies_of m marked) × (n ≡ machine_after m marked)
 
 -- a piece has at most 2 ^ 24 bytes
 abbrev pub IsSmall : Reply → Type 0

@@ -240,6 +240,5 @@ abbrev pub IsSession : Machine → ℕ → Incoming → Incoming → Outgoing �
     → Type 0
 IsSession m time a b w w' m' ended =
     (bytes : List ℕ) × (out : List ℕ) × (marks : List Allocation)
-    × AllocationsFit m marks time bytes
-    × (b.taken ≡ a.taken ++ bytes) × Keeps (whole a) (whole b) × (w'.out ≡ w.out ++ out)
-    × IsSessionShown m marks time bytes out m' ended
+    × AllocationsFit m marks time bytes × (b.taken ≡ a.taken ++ bytes) × Keeps (whole a) (whole b)
+    × (w'.out ≡ w.out ++ out) × IsSessionShown m marks time bytes out m' ended

@@ -40,7 +40,7 @@ impl<'a> Progress<'a> {
     /// Returns the bytes added so far, by a seat of this meter: no fewer than it read before. Waits for nothing.
     pub fn read(&self, seat: &mut ReadSeat) -> u64
         requires { seat.old.meter ≡ self.now }
-        ensures sum_read { seat.new ≡ sum_read self.now result }
+        ensures seen { seat.new ≡ sum_read self.now result }
         ensures later { seat.old.seen ≤ result }
     {
         self.table.load::<Reads>(&mut seat.seat, 0)

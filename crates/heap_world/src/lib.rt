@@ -369,7 +369,7 @@ impl World {
         ensures placed { IfOk result
             (λ c. new_place (length (slots_of self.old.classes class)) (pool_of self.old)
             ≡ Some (c.at, c.fresh)) }
-        ensures heap_of_parts { IfOk result
+        ensures held { IfOk result
             (λ c. (c.id ≡ register self.new m r) × (c.old ≡ register self.old m r)) }
         ensures register { OnOk result (IsTrue (is_register self.old m r)) }
         ensures unchanged { OnErr result (self.new ≡ self.old) }
@@ -457,7 +457,7 @@ impl World {
         ensures made { OnOk result (self.new ≡ after_new m r kind len self.old) }
         ensures placed { IfOk result
             (λ c. new_place len (pool_of self.old) ≡ Some (c.at, c.fresh)) }
-        ensures heap_of_parts { IfOk result
+        ensures held { IfOk result
             (λ c. (c.id ≡ register self.new m r) × (c.old ≡ register self.old m r)) }
         ensures unchanged { OnErr result (self.new ≡ self.old) }
     {

@@ -118,7 +118,7 @@ fn digits_in(text: &[u8], at: usize) -> (u64, usize)
 #[inline(always)]
 pub fn number_then(text: &[u8], at: usize, ender: u8) -> (u64, usize)
     requires { at ≤ length text.now + 1 }
-    ensures number_of_word { IsNumberThen text.now at ender result.0 result.1 }
+    ensures number { IsNumberThen text.now at ender result.0 result.1 }
     ensures within { result.1 ≤ length text.now }
 {
     if at + 1 >= text.len() {

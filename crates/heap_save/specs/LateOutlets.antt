@@ -65,9 +65,9 @@ FitsLate given (Took n) = n ≤ length given
 FitsLate given Failed = Unit {0}
 
 -- the bytes that a put took
-abbrev pub taken : List ℕ → Put → List ℕ
-taken given (Took n) = take n given
-taken given Failed = []
+abbrev pub bytes_taken : List ℕ → Put → List ℕ
+bytes_taken given (Took n) = take n given
+bytes_taken given Failed = []
 
 -- how many failures a put is
 abbrev pub failures_of : Put → ℕ

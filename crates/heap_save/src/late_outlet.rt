@@ -1,7 +1,7 @@
 //! Outlets that are made at their first put.
 ghost use Rattle.std.specs.Prelude.{◌≡◌, ◌+◌, ◌<◌, ◌++◌, [], length, option_map};
 ghost use Rattle.dump_pump.specs.Outlets.{bytes_of};
-ghost use Rattle.heap_save.specs.LateOutlets.{IsOutletAsked, IsPutThere, FitsLate, taken, failures_of, outlet_in, unasked, IsLate};
+ghost use Rattle.heap_save.specs.LateOutlets.{IsOutletAsked, IsPutThere, FitsLate, bytes_taken, failures_of, outlet_in, unasked, IsLate};
 
 use crate::outlets::Outlets;
 use dump_pump::ledger::note_bytes;
@@ -86,7 +86,7 @@ fn put_there<O: Outlet>(opening: &mut Opening<O>, given: &[u8]) -> Put
 fn note(written: &mut Log<u8, ()>, failed: &mut Log<(), ()>, given: &[u8], put: Put)
     requires { FitsLate given.now put }
     ensures written { bytes_of written.new.items
-        ≡ bytes_of written.old.items ++ taken given.now put }
+        ≡ bytes_of written.old.items ++ bytes_taken given.now put }
     ensures failed { length failed.new.items ≡ length failed.old.items + failures_of put }
 {
     match put {

@@ -6,7 +6,7 @@ use Rattle.heap_trail.specs.declared.Action.{Action}
 use Rattle.heap_trail.specs.declared.Reply.{Reply}
 use Rattle.heap_lock.specs.declared.entry.Receipt.{Receipt}
 use Rattle.heap_lock.specs.LockStates.{Chair, IsReceived, IsNoEntry, Stands}
-use Rattle.heap_server.specs.Joined.{IsReply, IsActed}
+use Rattle.heap_server.specs.JoinedActs.{IsReply, IsActed}
 
 pub acted : (config : HeapSettings) (s s' : Chair) (a : Action) (done : Result Receipt Refusal) (r : Reply) → IfOk done (λ x. IsReceived a s x s')
     → IfOk done (λ x. Stands config s' x.turn a x.answer) → IfErr done (λ e. (s' ≡ s) × IsNoEntry e) → IsReply done r → IsActed config s a r s'

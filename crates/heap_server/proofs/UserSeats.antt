@@ -4,7 +4,7 @@ use Rattle.heap_lock.specs.declared.entry.Role.{Role}
 use Rattle.heap_lock.specs.declared.entry.Role.TheVariants.{User}
 use Rattle.heap_lock.specs.LockStates.{Chair}
 use Rattle.heap_lock.specs.Blanks.{chairs}
-use Rattle.heap_server.specs.Seating.{AreUsers}
+use Rattle.heap_server.specs.SessionSeats.{AreUsers}
 
 users : (k n : ℕ) → AreUsers (chairs n (replicate k User))
 users zero n = tt

@@ -1,6 +1,6 @@
 //! The client of a session: what it sends, and what comes back.
 ghost use Rattle.std.specs.Prelude.{◌≡◌, length};
-ghost use Rattle.heap_server.specs.Sending.{Asks, Receives, Sends, asked_end};
+ghost use Rattle.heap_server.specs.ClientEndings.{AsksServer, Receives, Sends, asked_end};
 
 use crate::copy::{Copied, copy_all};
 use dump_pump::transfer::put_all;
@@ -46,7 +46,7 @@ pub fn ask<R, I: Inlet + Send + Drop + 'static, O: Outlet>(
 ) -> Asked
 where
     R: Threads + Wait + Copy + Send + Sync + Drop + 'static,
-    ensures { Asks (O.seen output.old) (O.seen output.new) result }
+    ensures { AsksServer (O.seen output.old) (O.seen output.new) result }
 {
     let _ = stream.set_nodelay(true);
     let connection = Connection {

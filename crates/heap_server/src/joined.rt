@@ -5,7 +5,7 @@ ghost use Rattle.heap_trail.specs.Machine.{IsSmall};
 ghost use Rattle.heap_lock.specs.declared.entry.Role.TheVariants.{User};
 ghost use Rattle.heap_lock.specs.LockStates.{WasDumped};
 ghost use Rattle.heap_lock.specs.History.{reply_of};
-ghost use Rattle.heap_server.specs.Joined.{IsReply, IsLegalPart};
+ghost use Rattle.heap_server.specs.JoinedActs.{IsReply, IsLegalPart};
 
 use heap_class::Refusal;
 use heap_lock::{Heap, Outcome, Receipt, Seat, Shared};
@@ -93,7 +93,7 @@ impl<'a, L: Heap, R: Wait> Joined<'a, L, R> {
 }
 
 impl<'a, L: Heap, R: Wait> Commands for Joined<'a, L, R> {
-    ghost use Rattle.heap_server.specs.Joined.{IsJoined};
+    ghost use Rattle.heap_server.specs.JoinedActs.{IsJoined};
 
     ghost acts = { λ c a r d. IsJoined L.config c.seat a r d.seat };
 

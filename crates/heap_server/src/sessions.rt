@@ -2,7 +2,7 @@
 ghost use Rattle.std.specs.Prelude.{◌≡◌, ◌+◌, ◌≤◌, IfOk, IfErr, length, vec_len, vec_capacity};
 ghost use Rattle.heap_class.specs.declared.Refusal.TheVariants.{NoMemory};
 ghost use Rattle.heap_lock.specs.declared.entry.Role.TheVariants.{User};
-ghost use Rattle.heap_server.specs.Seating.{AreUsers, IsFor, IsOver, session_limit};
+ghost use Rattle.heap_server.specs.SessionSeats.{AreUsers, IsFor, IsOver, session_limit};
 
 use crate::joined::Joined;
 use dump_pump::WriteOutlet;

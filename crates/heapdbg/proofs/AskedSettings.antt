@@ -13,7 +13,7 @@ use Rattle.clap.specs.Words.{Row, Text, first_of, subcommand_of}
 use Rattle.heap_class.specs.declared.IdSize.{IdSize}
 use Rattle.heap_class.specs.declared.IdSize.TheVariants.{Eight}
 use Rattle.heap_world.specs.Limits.{AreHeapSettings}
-use Rattle.heap_server.specs.Seating.{session_limit}
+use Rattle.heap_server.specs.SessionSeats.{session_limit}
 use Rattle.heapdbg.specs.CommandLine.{AreSettingsWithin, HasDefaults, IsTask, ask_in, heapdbg_line, id_size_in, id_size_of, is_given, is_task, number_in, number_or, port_in, port_limit, save_in, serve_in, sessions_in, sessions_of, settings_in, settings_under, settings_with, target_in, task_in, option_value}
 use Rattle.heapdbg.specs.declared.settings.Settings.{Settings}
 use Rattle.heapdbg.specs.declared.settings.Task.{Task}

@@ -57,8 +57,8 @@ mistake_of To = codes "--to takes 1 to 65535"
 mistake_of Place = codes "save takes one of --out and --to"
 
 -- the whole text of a mistake
-abbrev pub refusal_of : Mistake → Text
-refusal_of m =
+abbrev pub text_of_mistake : Mistake → Text
+text_of_mistake m =
     codes "error: " ++ (mistake_of m ++ codes "\n\nFor more information, try 'heapdbg --help'.\n")
 
 -- what `--version` is answered
@@ -68,7 +68,7 @@ version_text = codes "heapdbg 1.0.0 (logic dac8208d650f15bf)\n"
 -- the text names a mistake of the command line
 abbrev pub NamesMistake : List Text → Text → Type 0
 NamesMistake words text =
-    (m : Mistake) × IsMistake m (subcommand_of heapdbg_line words) × (text ≡ refusal_of m)
+    (m : Mistake) × IsMistake m (subcommand_of heapdbg_line words) × (text ≡ text_of_mistake m)
 
 -- what a refusal says of the words: they ask for no settings. If the parser finds no fault in them, the text names a mistake; if
 -- it finds that they ask for the version, the text is that

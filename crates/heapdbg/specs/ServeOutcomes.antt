@@ -3,8 +3,8 @@ use Rattle.std.specs.Prelude.{◌≡◌, ℕ, ◌⊎◌, Bool, true, false, Resu
 use Rattle.dump_pump.specs.Outlets.{Outgoing}
 use Rattle.session_text.specs.Writes.{IsTextWritten}
 use Rattle.heap_server.specs.Reports.{report_of}
-use Rattle.heap_server.specs.Seating.{IsFor}
-use Rattle.heap_server.specs.Sending.{Asks}
+use Rattle.heap_server.specs.SessionSeats.{IsFor}
+use Rattle.heap_server.specs.ClientEndings.{AsksServer}
 use Rattle.heap_server.specs.declared.client.Asked.{Asked}
 use Rattle.heap_server.specs.declared.client.Asked.TheVariants as asked
 use Rattle.heap_server.specs.declared.sessions.Served.{Served}
@@ -51,5 +51,5 @@ asked_outcome asked.NoMemory = Err Memory
 -- a client ended, and what came to it was put out; or no connection could be had, and nothing was put out
 abbrev pub IsServerAsked : Outgoing → Outgoing → Result (Unit {0}) Fault → Type 0
 IsServerAsked w w' result =
-    ((ended : Asked) × Asks w w' ended × (result ≡ asked_outcome ended))
+    ((ended : Asked) × AsksServer w w' ended × (result ≡ asked_outcome ended))
     ⊎ ((result ≡ Err Connect) × (w' ≡ w))

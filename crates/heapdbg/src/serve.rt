@@ -1,6 +1,6 @@
 //! Sessions over one shared heap, for clients of this computer.
 ghost use Rattle.std.specs.Prelude.{◌≡◌, ◌≤◌, []};
-ghost use Rattle.heap_server.specs.Seating.{session_limit};
+ghost use Rattle.heap_server.specs.SessionSeats.{session_limit};
 ghost use Rattle.heap_world.specs.Limits.{AreHeapSettings};
 ghost use Rattle.session_text.specs.Writes.{IsTextWritten};
 ghost use Rattle.heapdbg.specs.ServeOutcomes.{IsHeapServed, IsReportTold, served_outcome};

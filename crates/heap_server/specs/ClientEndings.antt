@@ -38,7 +38,7 @@ Receives a b w w' result =
     × (result ≡ asked_end failed copied)
 
 -- a socket that had given nothing before was received from; or there was no memory, and nothing was put out
-abbrev pub Asks : Outgoing → Outgoing → Asked → Type 0
-Asks w w' result =
+abbrev pub AsksServer : Outgoing → Outgoing → Asked → Type 0
+AsksServer w w' result =
     ((a : Incoming) × (b : Incoming) × (a.taken ≡ []) × Receives a b w w' result)
     ⊎ ((result ≡ NoMemory) × (w' ≡ w))

@@ -3,4 +3,3 @@ pub mod Handing
 pub mod Texts
 pub mod Placing
 pub mod Pumping
-pub mod Paging

@@ -2,4 +2,3 @@ pub mod Handed
 pub mod Endings
 pub mod Pinned
 pub mod Dumped
-pub mod Paged

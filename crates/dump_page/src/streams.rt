@@ -4,7 +4,7 @@ ghost use Rattle.dump_pump.specs.Pumps.{bytes_of};
 ghost use Rattle.dump_pipe.specs.Pipes.{byte_limit};
 ghost use Rattle.dump_pipe.specs.Streams.{IsStreamed};
 
-use crate::source::{PagedSource, Start};
+use crate::source::{PagedSource, PartsBefore};
 use dump_meter::{OutSeat, Progress};
 use dump_pipe::stream_parts;
 use dump_pump::{Outlet, Pumped, Source};
@@ -14,7 +14,7 @@ use std::sync::Wait;
 use std::thread::Threads;
 
 // Streams the pages of a source that had told what `B` says.
-fn stream_by<S: Source + Send, O: Outlet, B: Start + Send, R: Threads + Wait + Sync>(
+fn stream_by<S: Source + Send, O: Outlet, B: PartsBefore + Send, R: Threads + Wait + Sync>(
     rt: &R,
     alloc: Global,
     source: S,

@@ -5,12 +5,12 @@ use Rattle.dump_pump.specs.declared.source.Ending.{Ending}
 use Rattle.dump_pump.specs.declared.source.Ending.TheVariants.{Whole}
 use Rattle.dump_pump.specs.Sources.{Supply, more}
 use Rattle.dump_pump.specs.Pumps.{ends}
-use Rattle.dump_pipe.specs.declared.view.View.{View}
-use Rattle.dump_pipe.specs.declared.view.View.TheVariants.{Sends}
+use Rattle.dump_pipe.specs.declared.view.EndView.{EndView}
+use Rattle.dump_pipe.specs.declared.view.EndView.TheVariants.{Sends}
 use Rattle.dump_pipe.specs.Pipes.{dump}
 
 -- the parts that the source gave were sent, and then how it ended
-pub record IsFed (a b : Supply) (v : View) (e : Ending) : Type 0 where
+pub record IsFed (a b : Supply) (v : EndView) (e : Ending) : Type 0 where
   pub given : List Piece
   pub told : b.told ≡ more a.told given
   pub sent : v ≡ Sends (dump given e)

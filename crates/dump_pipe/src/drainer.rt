@@ -4,7 +4,7 @@ ghost use Rattle.crossbeam_channel.specs.Claims.{view, IsSeatAt};
 ghost use Rattle.crossbeam_channel.specs.Ends.{receives_on};
 ghost use Rattle.dump_pump.specs.Pumps.{bytes_of};
 ghost use Rattle.dump_pipe.specs.Pipes.{list_of, byte_limit, IsReceiving};
-ghost use Rattle.dump_pipe.specs.Drains.{IsDrained, IsSkipped, answer_to};
+ghost use Rattle.dump_pipe.specs.Drains.{IsDrained, IsSkipped, answer_to_ending};
 
 use crate::channel::{End, Receiver, receive};
 use crate::message::Message;
@@ -29,7 +29,7 @@ pub fn skip<R: Wait>(rt: &R, receiver: &Receiver, end: &mut End)
 
 // Returns the outcome of a drain in which no put failed.
 fn answer(ending: Ending, bytes: u64) -> Pumped
-    ensures answer { result ≡ answer_to ending bytes }
+    ensures answer { result ≡ answer_to_ending ending bytes }
     ensures counted { bytes_of result ≡ bytes }
 {
     match ending {

@@ -1,6 +1,6 @@
 //! Streams of a shared heap's dump, one of which may be lost for want of memory.
 ghost use Rattle.std.specs.Prelude.{◌≡◌, IfSome, false};
-ghost use Rattle.dump_meter.specs.Seats.{sum, finding};
+ghost use Rattle.dump_meter.specs.Seats.{sum, cancel_found};
 
 use crate::digest::Digest;
 use crate::states::seen;
@@ -63,11 +63,7 @@ fn are_made<L: Heap, R: Wait>(rt: &R, shared: &Shared<L>, user: &mut Seat<L>) ->
 }
 
 /// Opens a pin. If memory is refused, asks once more.
-fn opened<L: Heap, R: Wait>(
-    rt: &R,
-    shared: &Shared<L>,
-    witness: &mut Witness<L>,
-) -> Option<u64> {
+fn opened<L: Heap, R: Wait>(rt: &R, shared: &Shared<L>, witness: &mut Witness<L>) -> Option<u64> {
     match shared.open_pin(rt, witness, None) {
         Ok(pinned) => Some(pinned.pin),
         Err(Refusal::NoMemory) => Some(shared.open_pin(rt, witness, None).ok()?.pin),
@@ -78,7 +74,7 @@ fn opened<L: Heap, R: Wait>(
 /// Creates a meter. If memory is refused, asks once more.
 fn metered(alloc: Global) -> Option<NewMeter>
     ensures out { IfSome result (λ m. m.out ≡ sum m.meter 0) }
-    ensures feed { IfSome result (λ m. m.feed ≡ finding m.meter false) }
+    ensures feed { IfSome result (λ m. m.feed ≡ cancel_found m.meter false) }
 {
     match Meter::new(alloc, 1, 1) {
         Ok(made) => Some(made),
@@ -113,7 +109,7 @@ fn put_out<L: Heap + Send + Sync, R: Threads + Wait + Sync>(
     text: Vec<u8>,
 ) -> (Pumped, Vec<u8>, Witness<L>)
     requires out { made.out ≡ sum made.meter 0 }
-    requires feed { made.feed ≡ finding made.meter false }
+    requires feed { made.feed ≡ cancel_found made.meter false }
 {
     let NewMeter {
         meter,

@@ -285,7 +285,7 @@ impl Name {
     }
 
     /// Returns a copy of the name. Fails if the allocation fails.
-    pub fn copied(&self, alloc: Global) -> Result<Name, AllocError>
+    pub fn duplicate(&self, alloc: Global) -> Result<Name, AllocError>
         ensures { IfOk result (λ n. n ≡ self.now) }
     {
         Name::new(alloc, self.as_bytes())
@@ -517,7 +517,7 @@ impl Sizes {
 
 // A class. Names are kept as places among the names.
 #[derive(Drop)]
-struct Entry {
+struct ClassEntry {
     name: usize,
     sup: Option<ClassNo>,
     fields: Vec<OwnField>,
@@ -530,7 +530,7 @@ struct Entry {
 }
 
 // Tells whether one of the classes has its name at the place.
-fn has_name_at(entries: &[Entry], place: usize) -> bool
+fn has_name_at(entries: &[ClassEntry], place: usize) -> bool
     ensures { result ≡ list_any (λ e. e.name == place) entries.now }
 {
     entries.iter().any(|entry| entry.name == place)
@@ -542,7 +542,7 @@ pub struct Classes {
     alloc: Global,
     // The distinct names of classes and fields, in order of first use.
     names: IndexSet<Name>,
-    entries: Vec<Entry>,
+    entries: Vec<ClassEntry>,
 }
 
 impl Model for Classes {
@@ -551,11 +551,11 @@ impl Model for Classes {
 
     ghost Value = { List Class };
 
-    ghost use Rattle.heap_class.specs.Entries.{class_of, IsTable};
+    ghost use Rattle.heap_class.specs.Entries.{class_of_entry, IsEntryTable};
 
-    ghost view = { λ a. map (class_of a.names.keys) a.entries.items };
+    ghost view = { λ a. map (class_of_entry a.names.keys) a.entries.items };
 
-    ghost invariant = { λ a. IsTable a.names.keys a.entries.items };
+    ghost invariant = { λ a. IsEntryTable a.names.keys a.entries.items };
 }
 
 impl Classes {
@@ -675,7 +675,7 @@ impl Classes {
         let number = self.entries.len() as u64;
         let names_before = self.names.len();
         let (name, fields) = place_names(self.alloc, &mut self.names, name, fields)?;
-        self.entries.push_reserved(Entry {
+        self.entries.push_reserved(ClassEntry {
             name,
             sup,
             fields,

@@ -11,18 +11,18 @@ use Rattle.dump_pump.specs.declared.source.Next.TheVariants as Gave
 use Rattle.dump_pump.specs.Sources.{part_limit, part_size_limit}
 use Rattle.heap_trail.specs.Pins.{PinState, Kept, Gone, pin_at}
 use Rattle.heap_trail.specs.Machine.{Machine}
-use Rattle.heap_dump.specs.Handed.{Gives}
+use Rattle.heap_dump.specs.HandedPieces.{GivesPiece}
 
 -- whether the source gave its last part
-abbrev pub is_whole : Option Ending → Bool
-is_whole None = false
-is_whole (Some Whole) = true
-is_whole (Some (Lost cause)) = false
-is_whole (Some Cancelled) = false
+abbrev pub is_whole_ending : Option Ending → Bool
+is_whole_ending None = false
+is_whole_ending (Some Whole) = true
+is_whole_ending (Some (Lost cause)) = false
+is_whole_ending (Some Cancelled) = false
 
 -- how many parts are left at most, after so many
-abbrev pub left_of : Option Ending → ℕ → ℕ
-left_of ended count = if is_whole ended then 0 else part_limit - count
+abbrev pub pieces_left : Option Ending → ℕ → ℕ
+pieces_left ended count = if is_whole_ending ended then 0 else part_limit - count
 
 -- why a dump is lost whose piece was refused so
 abbrev pub cause_of : Refusal → LostCause
@@ -51,9 +51,11 @@ may_end s (Some (Lost cause)) = may_lose s cause
 may_end s (Some Cancelled) = false
 
 -- the next part of a source of a machine's pin, or why there is none; the numbers are of the parts handed out
-abbrev pub HandsOut : ℕ → ℕ → Machine → Machine → ℕ → ℕ → Option Ending → Option Ending → Next → Type 0
+abbrev pub HandsOut : ℕ → ℕ → Machine → Machine → ℕ → ℕ → Option Ending → Option Ending → Next
+    → Type 0
 HandsOut pin time m m' n n' ended ended' (Gave.Part p) =
-    Gives pin time m m' p × (length p.bytes ≤ part_size_limit) × (n' ≡ n + 1) × (ended' ≡ (if p.last then Some Whole else ended))
+    GivesPiece pin time m m' p × (length p.bytes ≤ part_size_limit) × (n' ≡ n + 1)
+    × (ended' ≡ (if p.last then Some Whole else ended))
     × (p.last ≡ false → n' < part_limit)
 HandsOut pin time m m' n n' ended ended' (Gave.Lost cause) =
     (m' ≡ m) × (n' ≡ n) × (ended' ≡ Some (Lost cause)) × (may_lose (pin_at pin m.pins) cause ≡ true)

@@ -1,5 +1,5 @@
-pub mod Handed
+pub mod HandedPieces
 pub mod Endings
-pub mod Pinned
-pub mod Dumped
-pub mod Paged
+pub mod PinSupplies
+pub mod PinDumps
+pub mod PagedDumps

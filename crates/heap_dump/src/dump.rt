@@ -1,8 +1,8 @@
 //! Dumps of pins and of the current state.
 ghost use Rattle.std.specs.Prelude.{◌≡◌, ℕ, []};
 ghost use Rattle.heap_trail.specs.Machine.{Machine};
-ghost use Rattle.heap_dump.specs.Handed.{ungiven};
-ghost use Rattle.heap_dump.specs.Dumped.{AreText, IsDumped, PutsPin};
+ghost use Rattle.heap_dump.specs.HandedPieces.{ungiven};
+ghost use Rattle.heap_dump.specs.PinDumps.{AreText, IsPlaceDumped, PutsPin};
 
 use crate::paged::pump_paged;
 use crate::source::{PinSource, cause_of};
@@ -44,7 +44,8 @@ pub fn dump_place<O: Outlet>(
     time: u64,
 ) -> Pumped
     requires { page.old.items ≡ [] }
-    ensures { IsDumped time machine.old machine.new (O.seen outlet.old) (O.seen outlet.new) result }
+    ensures { IsPlaceDumped time machine.old machine.new (O.seen outlet.old) (O.seen outlet.new)
+        result }
 {
     // Its contract says that no open pin has the next number.
     machine.next_pin();

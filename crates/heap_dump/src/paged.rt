@@ -1,7 +1,7 @@
 //! Dumps by way of a page, so that an outlet is asked seldom.
 ghost use Rattle.std.specs.Prelude.{◌≡◌, ◌+◌, ◌<◌, ◌^◌, ◌++◌, [], length, if◌then◌else◌};
 ghost use Rattle.dump_pump.specs.Pumps.{IsPumped};
-ghost use Rattle.heap_dump.specs.Paged.{IsEnded, IsSent};
+ghost use Rattle.heap_dump.specs.PagedDumps.{IsPageEnded, IsSent};
 
 use dump_pump::transfer::put_all;
 use dump_pump::{Ending, Next, Outlet, Pumped, Source};
@@ -9,7 +9,8 @@ use dump_pump::{Ending, Next, Outlet, Pumped, Source};
 /// Puts out all bytes, unless a put fails. Adds how many are out to the total.
 fn put_out<O: Outlet>(outlet: &mut O, bytes: &[u8], total: &mut u64) -> bool
     requires { total.old + length bytes.now < 2 ^ 64 }
-    ensures { IsSent bytes.now [] [] total.old total.new (O.seen outlet.old) (O.seen outlet.new) result }
+    ensures { IsSent bytes.now [] [] total.old total.new (O.seen outlet.old) (O.seen outlet.new)
+        result }
 {
     let put = put_all(outlet, bytes);
     *total += put as u64;
@@ -19,7 +20,8 @@ fn put_out<O: Outlet>(outlet: &mut O, bytes: &[u8], total: &mut u64) -> bool
 /// Puts out a page, which is empty afterwards. Adds how many bytes are out to the total.
 fn flush<O: Outlet>(page: &mut Vec<u8>, outlet: &mut O, total: &mut u64) -> bool
     requires { total.old + length page.old.items < 2 ^ 64 }
-    ensures sent { IsSent [] page.old.items [] total.old total.new (O.seen outlet.old) (O.seen outlet.new) result }
+    ensures sent { IsSent [] page.old.items [] total.old total.new (O.seen outlet.old)
+        (O.seen outlet.new) result }
     ensures empty { page.new.items ≡ [] }
 {
     let sent = put_out(outlet, page.as_slice(), total);
@@ -38,7 +40,8 @@ fn add(page: &mut Vec<u8>, bytes: &[u8]) -> bool
 /// Adds bytes to a page. If it has no room for them, it is put out, and then they are. Adds how many bytes are out to the total.
 fn send<O: Outlet>(page: &mut Vec<u8>, outlet: &mut O, bytes: &[u8], total: &mut u64) -> bool
     requires { total.old + length page.old.items + length bytes.now < 2 ^ 64 }
-    ensures { IsSent bytes.now page.old.items page.new.items total.old total.new (O.seen outlet.old) (O.seen outlet.new) result }
+    ensures { IsSent bytes.now page.old.items page.new.items total.old total.new (O.seen outlet.old)
+        (O.seen outlet.new) result }
 {
     if add(page, bytes) {
         return true;
@@ -52,7 +55,8 @@ fn send<O: Outlet>(page: &mut Vec<u8>, outlet: &mut O, bytes: &[u8], total: &mut
 /// Puts out a page, and returns how a pump ended whose source ended so and which has put out this total.
 fn end_with<O: Outlet>(page: &mut Vec<u8>, outlet: &mut O, mut total: u64, ending: Ending) -> Pumped
     requires { total + length page.old.items < 2 ^ 64 }
-    ensures { IsEnded ending page.old.items total (O.seen outlet.old) (O.seen outlet.new) result }
+    ensures { IsPageEnded ending page.old.items total (O.seen outlet.old) (O.seen outlet.new)
+        result }
 {
     if !flush(page, outlet, &mut total) {
         return Pumped::OutletFailed { bytes: total };
@@ -76,7 +80,8 @@ pub fn pump_paged<S: Source, O: Outlet>(
 ) -> Pumped
     requires left { 0 < (S.seen source.old).left }
     requires empty { page.old.items ≡ [] }
-    ensures pumped { IsPumped (S.seen source.old) (S.seen source.new) (O.seen outlet.old) (O.seen outlet.new) result }
+    ensures pumped { IsPumped (S.seen source.old) (S.seen source.new) (O.seen outlet.old)
+        (O.seen outlet.new) result }
     ensures kept { S.kept source.new ≡ S.kept source.old }
 {
     let _most = source.left();

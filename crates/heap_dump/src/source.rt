@@ -2,9 +2,9 @@
 ghost use Rattle.std.specs.Prelude.{◌≡◌, ◌<◌, ◌≤◌, None};
 ghost use Rattle.dump_pump.specs.Sources.{part_limit};
 ghost use Rattle.heap_trail.specs.Pins.{pin_at};
-ghost use Rattle.heap_dump.specs.Handed.{given_of};
-ghost use Rattle.heap_dump.specs.Endings.{HandsOut, cause_of, is_whole};
-ghost use Rattle.heap_dump.specs.Pinned.{IsCounted, IsCaused};
+ghost use Rattle.heap_dump.specs.HandedPieces.{given_of};
+ghost use Rattle.heap_dump.specs.Endings.{HandsOut, cause_of, is_whole_ending};
+ghost use Rattle.heap_dump.specs.PinSupplies.{IsCounted, IsCaused};
 
 use dump_pump::source::PART_LIMIT;
 use dump_pump::{Ending, Next, Source};
@@ -67,7 +67,7 @@ pub fn cause_of(refusal: Refusal) -> LostCause
 
 /// Tells whether an ending is that with the last part.
 fn is_whole(ended: &Option<Ending>) -> bool
-    ensures { result ≡ is_whole ended.now }
+    ensures { result ≡ is_whole_ending ended.now }
 {
     matches!(ended, Some(Ending::Whole))
 }
@@ -82,7 +82,8 @@ pub fn hand_out(
 ) -> Next
     requires few { count.old < part_limit }
     requires counted { count.old ≤ given_of (pin_at pin machine.old.pins) }
-    ensures { HandsOut pin time machine.old machine.new count.old count.new ended.old ended.new result }
+    ensures { HandsOut pin time machine.old machine.new count.old count.new ended.old ended.new
+        result }
 {
     // Its contract says that the images are within a dump's limits.
     machine.next_pin();
@@ -103,13 +104,13 @@ pub fn hand_out(
 }
 
 impl<'a> Source for PinSource<'a> {
-    ghost use Rattle.heap_dump.specs.Pinned.{Pinned, pinned, supply};
+    ghost use Rattle.heap_dump.specs.PinSupplies.{PinOrigin, pin_origin, pin_supply};
 
-    ghost Kept = { Pinned };
+    ghost Kept = { PinOrigin };
 
-    ghost kept = { λ s. pinned s.machine.ghost_name s.pin s.time s.start.value s.machine.now };
+    ghost kept = { λ s. pin_origin s.machine.ghost_name s.pin s.time s.start.value s.machine.now };
 
-    ghost seen = { λ s. supply s.pin s.time s.start.value s.machine.now s.count s.ended };
+    ghost seen = { λ s. pin_supply s.pin s.time s.start.value s.machine.now s.count s.ended };
 
     fn next(&mut self) -> Next {
         hand_out(

@@ -2,11 +2,11 @@
 use Rattle.std.proofs.Common.{◌≡◌, ℕ, Bool, true, false, List, [], ◌∷◌, ◌++◌, map, filter, append-nil, refl, sym, ap, ◌∙◌, subst}
 use Rattle.std.specs.Prelude.{not, if◌then◌else◌}
 use Rattle.std.proofs.lemmas.List.Elements.{filter-append}
-use Rattle.heap_world.specs.Limits.{Settings}
+use Rattle.heap_world.specs.Limits.{HeapSettings}
 use Rattle.heap_trail.specs.declared.Action.{Action}
 use Rattle.heap_trail.specs.declared.Reply.{Reply}
-use Rattle.heap_trail.specs.Machine.{Machine, Mark, MayStand, AreMarks, MayDrive, MayReply, opening_machine, acted_under, machine_after, replies_of, is_dump_action}
-use Rattle.heap_trail.proofs.Driving.{driven_none, driven_more}
+use Rattle.heap_trail.specs.Machine.{Machine, Allocation, MayStand, AreAllocations, MayDrive, MayReply, opening_machine, acted_under, machine_after, replies_of, is_dump_action}
+use Rattle.heap_trail.proofs.ActionLists.{driven_none, driven_more}
 use Rattle.heap_lock.specs.declared.entry.Entry.{Entry}
 use Rattle.heap_lock.specs.History.{reply_of}
 use Rattle.heap_lock.specs.Calls.{Call, call_of, acts_in, LeadsTo, IsLedger}
@@ -23,7 +23,7 @@ calls_push : (es : List Entry) (e : Entry) → map call_of (es ++ e ∷ []) ≡ 
 calls_push [] e = refl
 calls_push (x ∷ es) e = ap (λ l. call_of x ∷ l) (calls_push es e)
 
-leads_more : (config : Settings) (cs : List Call) (m m' : Machine) (c : Call) → LeadsTo config cs m → MayReply m c.0 m' c.1 → LeadsTo config (cs ++ c ∷ []) m'
+leads_more : (config : HeapSettings) (cs : List Call) (m m' : Machine) (c : Call) → LeadsTo config cs m → MayReply m c.0 m' c.1 → LeadsTo config (cs ++ c ∷ []) m'
 leads_more config cs m m' c leads may =
     let start = opening_machine config.ids config.regions config.mutators config.keep in
     subst (λ (x : List Action × List Reply). MayDrive start x.0 x.1 m') (λ i. (sym (actions_push cs c) i, sym (replies_push cs c) i))
@@ -36,7 +36,7 @@ acts_push cs c b is =
     ∙ ap (λ (l : List Call). filter (λ (x : Call). not (is_dump_action x.0)) cs ++ l) (ap (λ (d : Bool). if not d then c ∷ [] else []) is)
 
 -- an act, with its entry
-pub acted_more : (config : Settings) (m m' : Machine) (es : List Entry) (cs : List Call) (e : Entry) → IsLedger config m es cs → is_dump_action e.action ≡ false → MayReply m e.action m' (reply_of e.answer)
+pub acted_more : (config : HeapSettings) (m m' : Machine) (es : List Entry) (cs : List Call) (e : Entry) → IsLedger config m es cs → is_dump_action e.action ≡ false → MayReply m e.action m' (reply_of e.answer)
     → IsLedger config m' (es ++ e ∷ []) (cs ++ call_of e ∷ [])
 acted_more config m m' es cs e l deed may = record {
   leads = leads_more config cs m m' (call_of e) l.leads may;
@@ -44,14 +44,14 @@ acted_more config m m' es cs e l deed may = record {
 }
 
 -- a dumper's call, which has none
-pub dumped_more : (config : Settings) (m m' : Machine) (es : List Entry) (cs : List Call) (c : Call) → IsLedger config m es cs → is_dump_action c.0 ≡ true → MayReply m c.0 m' c.1 → IsLedger config m' es (cs ++ c ∷ [])
+pub dumped_more : (config : HeapSettings) (m m' : Machine) (es : List Entry) (cs : List Call) (c : Call) → IsLedger config m es cs → is_dump_action c.0 ≡ true → MayReply m c.0 m' c.1 → IsLedger config m' es (cs ++ c ∷ [])
 dumped_more config m m' es cs c l dump may = record {
   leads = leads_more config cs m m' c l.leads may;
   acts = acts_push cs c true dump ∙ append-nil _ ∙ l.acts;
 }
 
 -- no call leads to the opening machine
-pub none_yet : (config : Settings) → IsLedger config (opening_machine config.ids config.regions config.mutators config.keep) [] []
+pub none_yet : (config : HeapSettings) → IsLedger config (opening_machine config.ids config.regions config.mutators config.keep) [] []
 unfolding acts_in
 none_yet config = record { leads = driven_none _; acts = refl }
 
@@ -78,7 +78,7 @@ unfolding machine_after replies_of
 leads_cons m k n c cs may l = (
   (c.0, may.0) ∷ l.0,
   ap (λ t. c.0 ∷ t) l.1,
-  (may.1, subst (λ (x : Machine). AreMarks x l.0) (sym (ap (λ (x : Machine × Reply). x.0) may.2)) l.2),
+  (may.1, subst (λ (x : Machine). AreAllocations x l.0) (sym (ap (λ (x : Machine × Reply). x.0) may.2)) l.2),
   ap (λ t. c.1 ∷ t) l.3 ∙ (λ i. (sym may.2 i).1 ∷ replies_of (sym may.2 i).0 l.0),
   l.4 ∙ (λ i. machine_after (sym may.2 i).0 l.0),
 )

@@ -8,7 +8,7 @@ pub mod Packs
 pub mod Chronicles
 pub mod Desks
 pub mod Roles
-pub mod Held
+pub mod LockStates
 pub mod Blanks
 pub mod Audits
 pub mod Details

@@ -115,11 +115,13 @@ outcome_by a = outcome_with a a.second
 
 -- the entry that a pack tells by its numbers
 unfoldable pub entry_by : Pack → Entry
-entry_by p = entry p.seat (action_in p.deed p.kind p.first p.second p.third p.fourth) (outcome_in p.told p.reason p.told_first p.fourth)
+entry_by p =
+    entry p.seat (action_in p.deed p.kind p.first p.second p.third p.fourth)
+    (outcome_in p.told p.reason p.told_first p.fourth)
 
 -- the pack tells this entry by its numbers
-abbrev pub Tells : Pack → Entry → Type 0
-Tells p e = (p.is_whole ≡ false) × (entry_by p ≡ e)
+abbrev pub TellsEntry : Pack → Entry → Type 0
+TellsEntry p e = (p.is_whole ≡ false) × (entry_by p ≡ e)
 
 -- the entry that a pack tells by its numbers, or by its place among whole ones
 unfoldable pub entry_in : List Entry → Pack → Entry

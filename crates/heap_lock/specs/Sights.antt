@@ -33,7 +33,9 @@ Sits own all seat Blind = Unit {0}
 
 -- one view has all calls, and each other one a beginning of them or nothing
 abbrev pub IsOneLedger : List Sight → Type 0
-IsOneLedger views = (own : ℕ) × (all : List Call) × ((seat : ℕ) (v : Sight) → get_elem? views seat ≡ some v → Sits own all seat v)
+IsOneLedger views =
+    (own : ℕ) × (all : List Call)
+    × ((seat : ℕ) (v : Sight) → get_elem? views seat ≡ some v → Sits own all seat v)
 
 -- the call is added to all calls
 abbrev pub IsAdded : Call → Sight → Sight → Type 0

@@ -35,7 +35,13 @@ impl Model for Blank {
 
     ghost Value = { Maker };
 
-    ghost view = { λ b. record { config = b.config; tables = tables_of b.desks.items; ledger = table_of b.ledger; seats = map chair_of b.stubs.items } };
+    ghost view = { λ b.
+        record {
+          config = b.config;
+          tables = tables_of b.desks.items;
+          ledger = table_of b.ledger;
+          seats = map chair_of b.stubs.items;
+        } };
 
     ghost invariant = { λ b. IsBlank b.config b.machine b.desks.items b.stubs.items b.ledger };
 }
@@ -49,7 +55,7 @@ pub struct Seats<L: Heap> {
 
 impl<L: Heap> Model for Seats<L> {
     ghost use Rattle.std.specs.Prelude.{List, map};
-    ghost use Rattle.heap_lock.specs.Held.{Chair};
+    ghost use Rattle.heap_lock.specs.LockStates.{Chair};
     ghost use Rattle.heap_lock.specs.Blanks.{chair_of, AllStubs};
 
     ghost Value = { List Chair };
@@ -75,7 +81,7 @@ impl<L: Heap> Seats<L> {
 }
 
 // Creates a desk and a stub for each role.
-fn seated(alloc: Global, roles: &[Role]) -> Result<(Vec<Desk>, Vec<Stub>), AllocError>
+fn make_seats(alloc: Global, roles: &[Role]) -> Result<(Vec<Desk>, Vec<Stub>), AllocError>
     requires { length roles.now ≤ seat_limit }
     ensures seats { IfOk result (λ p. map chair_of p.1.items ≡ chairs 0 roles.now) }
     ensures desks { IfOk result (λ p. AllFresh p.0.items) }
@@ -107,7 +113,7 @@ impl Blank {
         ensures refused { IfErr result (λ e. e ≡ NoMemory) }
     {
         let machine = Machine::new(alloc, config)?;
-        let Ok((desks, stubs)) = seated(alloc, roles) else {
+        let Ok((desks, stubs)) = make_seats(alloc, roles) else {
             return Err(Refusal::NoMemory);
         };
         let Ok(ledger) = Ledger::new(alloc) else {

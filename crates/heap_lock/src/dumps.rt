@@ -4,49 +4,57 @@ ghost use Rattle.heap_trail.specs.declared.Action.TheVariants.{OpenPin, NextPiec
 ghost use Rattle.heap_trail.specs.declared.Reply.TheVariants.{Pinned as PinnedReply, Part, Closed, Refused};
 ghost use Rattle.heap_trail.specs.Laws.{IsPieceOfLegal};
 ghost use Rattle.heap_lock.specs.Calls.{Witnesses};
-ghost use Rattle.heap_lock.specs.Held.{IsDumped};
+ghost use Rattle.heap_lock.specs.LockStates.{IsDumperAct};
 
 use crate::heap::{Heap, Kept, Shared};
 use crate::witness::Witness;
 use heap_class::Refusal;
-use heap_trail::Pinned;
+use heap_trail::PinAt;
 use hprof_text::Piece;
 use std::marker::Brand;
 use std::sync::Wait;
 
 impl<L: Heap> Kept<L> {
     /// Opens a pin on the retained state at the place `at`, or on the current state. Fails as `Machine::open_pin` does.
-    pub fn open_held(&mut self, at: Option<u64>) -> Result<Pinned, Refusal>
-        ensures done { IfOk result (λ p. IsDumped (OpenPin at) self.old (PinnedReply p.pin p.at) self.new) }
-        ensures refused { IfErr result (λ e. IsDumped (OpenPin at) self.old (Refused e) self.new) }
+    pub fn open_held(&mut self, at: Option<u64>) -> Result<PinAt, Refusal>
+        ensures done { IfOk result
+            (λ p. IsDumperAct (OpenPin at) self.old (PinnedReply p.pin p.at) self.new) }
+        ensures refused { IfErr result
+            (λ e. IsDumperAct (OpenPin at) self.old (Refused e) self.new) }
         ensures unchanged { OnErr result (self.new.machine ≡ self.old.machine) }
     {
         let done = self.machine.open_pin(at);
-        self.ledger.note::<Brand, Option<u64>, Result<Pinned, Refusal>>(&at, &done);
+        self.ledger
+            .note::<Brand, Option<u64>, Result<PinAt, Refusal>>(&at, &done);
         done
     }
 
     /// Gives the next piece of a pin's dump: a piece of the dump of a legal state. Fails as `Machine::piece` does.
     pub fn piece_held(&mut self, pin: u64, time: u64) -> Result<Piece, Refusal>
-        ensures done { IfOk result (λ p. IsDumped (NextPiece pin time) self.old (Part p) self.new) }
+        ensures done { IfOk result
+            (λ p. IsDumperAct (NextPiece pin time) self.old (Part p) self.new) }
         ensures legal { IfOk result (λ p. IsPieceOfLegal L.config.ids time p) }
         ensures small { IfOk result (λ p. length p.bytes ≤ 2 ^ 24) }
-        ensures refused { IfErr result (λ e. IsDumped (NextPiece pin time) self.old (Refused e) self.new) }
+        ensures refused { IfErr result
+            (λ e. IsDumperAct (NextPiece pin time) self.old (Refused e) self.new) }
         ensures unchanged { OnErr result (self.new.machine ≡ self.old.machine) }
     {
         let done = self.machine.piece(pin, time);
-        self.ledger.note::<Brand, (u64, u64), Result<Piece, Refusal>>(&(pin, time), &done);
+        self.ledger
+            .note::<Brand, (u64, u64), Result<Piece, Refusal>>(&(pin, time), &done);
         done
     }
 
     /// Closes a pin. Fails as `Machine::close_pin` does. Takes no memory.
     pub fn close_held(&mut self, pin: u64) -> Result<(), Refusal>
-        ensures done { IfOk result (λ u. IsDumped (ClosePin pin) self.old Closed self.new) }
-        ensures refused { IfErr result (λ e. IsDumped (ClosePin pin) self.old (Refused e) self.new) }
+        ensures done { IfOk result (λ u. IsDumperAct (ClosePin pin) self.old Closed self.new) }
+        ensures refused { IfErr result
+            (λ e. IsDumperAct (ClosePin pin) self.old (Refused e) self.new) }
         ensures unchanged { OnErr result (self.new.machine ≡ self.old.machine) }
     {
         let done = self.machine.close_pin(pin);
-        self.ledger.note::<Brand, u64, Result<(), Refusal>>(&pin, &done);
+        self.ledger
+            .note::<Brand, u64, Result<(), Refusal>>(&pin, &done);
         done
     }
 }
@@ -59,9 +67,12 @@ impl<L: Heap> Shared<L> {
         rt: &R,
         witness: &mut Witness<L>,
         at: Option<u64>,
-    ) -> Result<Pinned, Refusal>
-        ensures done { IfOk result (λ p. Witnesses L.config witness.old (OpenPin at) (PinnedReply p.pin p.at) witness.new) }
-        ensures refused { IfErr result (λ e. Witnesses L.config witness.old (OpenPin at) (Refused e) witness.new) }
+    ) -> Result<PinAt, Refusal>
+        ensures done { IfOk result
+            (λ p. Witnesses L.config witness.old (OpenPin at) (PinnedReply p.pin p.at)
+            witness.new) }
+        ensures refused { IfErr result
+            (λ e. Witnesses L.config witness.old (OpenPin at) (Refused e) witness.new) }
     {
         let mut kept = self.lock(rt);
         kept.show(witness);
@@ -79,10 +90,12 @@ impl<L: Heap> Shared<L> {
         pin: u64,
         time: u64,
     ) -> Result<Piece, Refusal>
-        ensures done { IfOk result (λ p. Witnesses L.config witness.old (NextPiece pin time) (Part p) witness.new) }
+        ensures done { IfOk result
+            (λ p. Witnesses L.config witness.old (NextPiece pin time) (Part p) witness.new) }
         ensures legal { IfOk result (λ p. IsPieceOfLegal L.config.ids time p) }
         ensures small { IfOk result (λ p. length p.bytes ≤ 2 ^ 24) }
-        ensures refused { IfErr result (λ e. Witnesses L.config witness.old (NextPiece pin time) (Refused e) witness.new) }
+        ensures refused { IfErr result
+            (λ e. Witnesses L.config witness.old (NextPiece pin time) (Refused e) witness.new) }
     {
         let mut kept = self.lock(rt);
         kept.show(witness);
@@ -99,8 +112,10 @@ impl<L: Heap> Shared<L> {
         witness: &mut Witness<L>,
         pin: u64,
     ) -> Result<(), Refusal>
-        ensures done { IfOk result (λ u. Witnesses L.config witness.old (ClosePin pin) Closed witness.new) }
-        ensures refused { IfErr result (λ e. Witnesses L.config witness.old (ClosePin pin) (Refused e) witness.new) }
+        ensures done { IfOk result
+            (λ u. Witnesses L.config witness.old (ClosePin pin) Closed witness.new) }
+        ensures refused { IfErr result
+            (λ e. Witnesses L.config witness.old (ClosePin pin) (Refused e) witness.new) }
     {
         let mut kept = self.lock(rt);
         kept.show(witness);

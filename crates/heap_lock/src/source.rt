@@ -1,7 +1,7 @@
 //! The source of a live dump: the pieces of a pin, with the lock for one at a time.
 ghost use Rattle.std.specs.Prelude.{◌≡◌, ◌<◌, ◌≤◌, length, None as Nothing};
-ghost use Rattle.dump_pump.specs.Sources.{IsNext, part_limit, part_size_limit};
-ghost use Rattle.heap_lock.specs.Sources.{IsLoss, IsPieceRefusal, Gives, Supplies, count_after, supply};
+ghost use Rattle.dump_pump.specs.Sources.{IsNextPart, part_limit, part_size_limit};
+ghost use Rattle.heap_lock.specs.Sources.{IsLoss, IsPieceRefusal, GivesPart, Supplies, count_after, locked_supply};
 
 use crate::heap::{Heap, Shared};
 use crate::witness::Witness;
@@ -50,8 +50,9 @@ impl<'a, L: Heap, R: Wait> LockedSource<'a, L, R> {
         pin: u64,
         time: u64,
     ) -> LockedSource<'a, L, R>
-        ensures names { (result.pin ≡ pin) × (result.time ≡ time) × (result.witness ≡ witness) × (result.count ≡ 0) }
-        ensures fresh { supply result.count result.ending ≡ supply 0 Nothing }
+        ensures names { (result.pin ≡ pin) × (result.time ≡ time) × (result.witness ≡ witness)
+            × (result.count ≡ 0) }
+        ensures fresh { locked_supply result.count result.ending ≡ locked_supply 0 Nothing }
     {
         LockedSource {
             shared,
@@ -69,12 +70,17 @@ impl<'a, L: Heap, R: Wait> LockedSource<'a, L, R> {
     /// would be the 66,178th and isn't the last. Never says Cancelled. May wait.
     pub fn next_part(&mut self) -> Next
         requires { self.old.count < part_limit }
-        ensures supplies { Supplies L.config self.old.pin self.old.time self.old.count self.old.witness self.new.witness result }
-        ensures next { IsNext (supply self.old.count self.old.ending) (supply self.new.count self.new.ending) result }
+        ensures supplies { Supplies L.config self.old.pin self.old.time self.old.count
+            self.old.witness self.new.witness result }
+        ensures next { IsNextPart (locked_supply self.old.count self.old.ending)
+            (locked_supply self.new.count self.new.ending) result }
         ensures names { (self.new.pin ≡ self.old.pin) × (self.new.time ≡ self.old.time) }
         ensures count { self.new.count ≡ count_after self.old.count result }
     {
-        match self.shared.next_piece(self.rt, &mut self.witness, self.pin, self.time) {
+        match self
+            .shared
+            .next_piece(self.rt, &mut self.witness, self.pin, self.time)
+        {
             Ok(piece) => self.gives(piece),
             Err(refusal) => {
                 let cause = cause_of(refusal);
@@ -88,9 +94,11 @@ impl<'a, L: Heap, R: Wait> LockedSource<'a, L, R> {
     fn gives(&mut self, piece: Piece) -> Next
         requires count { self.old.count < part_limit }
         requires small { length piece.bytes ≤ part_size_limit }
-        ensures next { IsNext (supply self.old.count self.old.ending) (supply self.new.count self.new.ending) result }
-        ensures given { Gives self.old.count piece result }
-        ensures names { (self.new.pin ≡ self.old.pin) × (self.new.time ≡ self.old.time) × (self.new.witness ≡ self.old.witness) }
+        ensures next { IsNextPart (locked_supply self.old.count self.old.ending)
+            (locked_supply self.new.count self.new.ending) result }
+        ensures given { GivesPart self.old.count piece result }
+        ensures names { (self.new.pin ≡ self.old.pin) × (self.new.time ≡ self.old.time)
+            × (self.new.witness ≡ self.old.witness) }
         ensures count { self.new.count ≡ count_after self.old.count result }
     {
         if piece.last {
@@ -106,13 +114,13 @@ impl<'a, L: Heap, R: Wait> LockedSource<'a, L, R> {
 
 impl<'a, L: Heap, R: Wait> Source for LockedSource<'a, L, R> {
     ghost use Rattle.std.specs.Prelude.{ℕ};
-    ghost use Rattle.heap_lock.specs.Sources.{supply};
+    ghost use Rattle.heap_lock.specs.Sources.{locked_supply};
 
     ghost Kept = { ℕ × ℕ };
 
     ghost kept = { λ s. (s.pin, s.time) };
 
-    ghost seen = { λ s. supply s.count s.ending };
+    ghost seen = { λ s. locked_supply s.count s.ending };
 
     fn next(&mut self) -> Next {
         self.next_part()

@@ -28,7 +28,8 @@ impl<L: Heap> Model for Witness<L> {
 
     ghost view = { λ w. calls_in w.sight.views };
 
-    ghost invariant = { λ w. IsSight L.ledger (calls_in w.sight.views) w.sight × IsLegalLedger L.config (calls_in w.sight.views) };
+    ghost invariant = { λ w. IsSight L.ledger (calls_in w.sight.views) w.sight
+        × IsLegalLedger L.config (calls_in w.sight.views) };
 }
 
 impl<L: Heap> Witness<L> {

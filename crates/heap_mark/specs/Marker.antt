@@ -10,7 +10,7 @@ use Rattle.heap_region.specs.Regions.{Object, Region, object_of}
 use Rattle.heap_region.specs.Legal.{EachObject}
 use Rattle.heap_mark.specs.declared.Phase.{Phase}
 use Rattle.heap_mark.specs.declared.Phase.TheVariants.{Idle}
-use Rattle.heap_mark.specs.Marking.{MarkState}
+use Rattle.heap_mark.specs.MarkSteps.{MarkState}
 
 -- the largest number of cells of a region
 abbrev pub cells_each : ℕ
@@ -60,7 +60,7 @@ HasSlots classes (Array k) n = Unit {0}
 HasSlots classes (Prim kind) n = kind ≢ Kind.Object
 
 -- no cycle runs, nothing is gray, and no object is marked
-pub record IsUnmarked (s : MarkState) : Type 0 where
+pub record IsIdle (s : MarkState) : Type 0 where
   pub phase : s.phase ≡ Idle
   pub gray : s.gray ≡ []
   pub unmarked : EachObject s.regions (λ at o. o.mark ≡ false)

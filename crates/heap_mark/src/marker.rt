@@ -7,11 +7,11 @@ ghost use Rattle.heap_class.specs.declared.Kind.{Kind};
 ghost use Rattle.heap_class.specs.declared.Refusal.TheVariants.{NoMemory};
 ghost use Rattle.heap_region.specs.Regions.{object_at, object_of};
 ghost use Rattle.heap_region.specs.Legal.{EachObject};
-ghost use Rattle.heap_mark.specs.Marking.{MarkState, shaded, unshaded, is_marking, children_of, snap_refusal, snapped, unsnapped, mark_refusal, marked, unmarked, drain_refusal, drained_once, undrained, finish_refusal, finished, unfinished, dead_count};
-ghost use Rattle.heap_mark.specs.Marker.{references_among, MarkerState, at_work, after_work, idle_marker, IsNullOrNames, IsGraySound, HasSlots, IsUnmarked};
+ghost use Rattle.heap_mark.specs.MarkSteps.{MarkState, shaded, unshaded, is_marking, children_of, snap_refusal, snapped, unsnapped, mark_refusal, marked, unmarked, drain_refusal, drained_once, undrained, finish_refusal, finished, unfinished, dead_count};
+ghost use Rattle.heap_mark.specs.Marker.{references_among, MarkerState, at_work, after_work, idle_marker, IsNullOrNames, IsGraySound, HasSlots, IsIdle};
 
 use crate::Phase;
-use crate::ends::{finish_all, first_pending, unfinish_all};
+use crate::finish::{finish_all, first_pending, unfinish_all};
 use heap_class::{Classes, Kind, ObjKind, ObjRef, Refusal};
 use heap_region::Regions;
 use std::alloc::Global;
@@ -164,7 +164,7 @@ impl Marker {
     /// Undoes `snap`, which must have led to this state: no object is marked, nothing is gray and no cycle runs. Takes no
     /// memory.
     pub fn unsnap(&mut self, regions: &mut Regions)
-        requires snapped { (before : MarkState) × (roots : List ℕ) × IsUnmarked before
+        requires snapped { (before : MarkState) × (roots : List ℕ) × IsIdle before
             × (at_work regions.old.regions self.old ≡ snapped roots before) }
         ensures marker { self.new
             ≡ after_work (unsnapped (at_work regions.old.regions self.old)) self.old }
@@ -173,7 +173,7 @@ impl Marker {
               regions = (unsnapped
                   (at_work regions.old.regions self.old)).regions;
             } }
-        ensures back { (before : MarkState) (roots : List ℕ) → IsUnmarked before
+        ensures back { (before : MarkState) (roots : List ℕ) → IsIdle before
             → at_work regions.old.regions self.old ≡ snapped roots before
             → at_work regions.new.regions self.new ≡ before }
     {

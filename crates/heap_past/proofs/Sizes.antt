@@ -9,7 +9,7 @@ use Rattle.std.proofs.lemmas.List.{length-set, length_push, get_or_push, get_or-
 use Rattle.std.proofs.lemmas.List.Elements.{All-push, All-set}
 use Rattle.std.proofs.lemmas.Option.{none-some, same_Some, slice_get_within}
 use Rattle.heap_class.specs.declared.ObjRef.{ObjRef}
-use Rattle.heap_region.specs.Frozen.{Frozen, frozen, frozen_word_set, region_frozen}
+use Rattle.heap_region.specs.RegionCopies.{Frozen, frozen, frozen_word_set, region_frozen}
 use Rattle.heap_region.specs.Legal.{IsCellTable}
 use Rattle.heap_region.specs.Limits.{cell_sizes, region_words}
 use Rattle.heap_region.specs.Regions.{Object, Region, UsedRegion, id_of, object_at, object_base, used_at}
@@ -21,13 +21,13 @@ use Rattle.heap_step.specs.declared.Undo.{Undo}
 use Rattle.heap_step.specs.declared.Undo.TheVariants.{Put, Store, Reg, New, Class, Snap, Mark, Drain, Finish, Sweep, Reclaim}
 use Rattle.heap_step.specs.Laws.{IsStep}
 use Rattle.heap_step.specs.Records.{undone}
-use Rattle.heap_step.proofs.EachTakenBack.{undo_takes_back}
+use Rattle.heap_step.proofs.UndoOfEach.{undo_takes_back}
 use Rattle.heap_step.proofs.Steps.{new_there, put_there, reclaim_inhabited, store_there}
 use Rattle.heap_pins.specs.Covers.{Covers}
-use Rattle.heap_pins.specs.Kept.{patched, touched, with_dead}
+use Rattle.heap_pins.specs.KeptCopies.{patched, touched, with_dead}
 use Rattle.heap_pins.specs.Walk.{TellsBefore, walked_copy}
-use Rattle.heap_pins.proofs.Covering.{covers_same}
-use Rattle.heap_pins.proofs.Fitting.{object_within, reclaim_within, used_within}
+use Rattle.heap_pins.proofs.CoveringCopies.{covers_same}
+use Rattle.heap_pins.proofs.RoomForCopies.{object_within, reclaim_within, used_within}
 use Rattle.heap_pins.proofs.Others.{length_undone}
 use Rattle.heap_past.specs.Newest.{AreSizes, id_by, size_of, sizes_before, written_at}
 use Rattle.heap_past.proofs.Told.{told}

@@ -7,11 +7,11 @@ use Rattle.heap_step.specs.declared.Undo.{Undo}
 use Rattle.heap_step.specs.Apply.{refusal_of, state_after}
 use Rattle.heap_step.specs.Laws.{IsStep}
 use Rattle.heap_step.specs.Records.{undo_record, undone}
-use Rattle.heap_region.specs.Frozen.{region_frozen}
+use Rattle.heap_region.specs.RegionCopies.{region_frozen}
 use Rattle.heap_pins.specs.Covers.{Covers}
 use Rattle.heap_pins.specs.Images.{image_of}
-use Rattle.heap_pins.specs.Kept.{touched, kept}
-use Rattle.heap_pins.specs.Pin.{Pinned, pin_image}
+use Rattle.heap_pins.specs.KeptCopies.{touched, kept}
+use Rattle.heap_pins.specs.Pin.{PinContents, pin_image}
 use Rattle.heap_pins.specs.Shows.{Holds}
 use Rattle.heap_pins.specs.Walk.{TellsBefore}
 
@@ -38,22 +38,22 @@ EventExtends e w =
     → take (length w.classes) (state_after e w).classes ≡ w.classes
 
 -- the record of each step from one state to another tells of the first
-abbrev pub IsTold : Undo → HeapState → HeapState → Type 0
-IsTold left before x = (e : Event) → IsStep e before x left → TellsBefore left before x
+abbrev pub IsRecordTold : Undo → HeapState → HeapState → Type 0
+IsRecordTold left before x = (e : Event) → IsStep e before x left → TellsBefore left before x
 
 -- a pin that keeps what a step overwrote holds its state after the step
-abbrev pub HoldsOn : Undo → HeapState → Pinned → HeapState → Type 0
+abbrev pub HoldsOn : Undo → HeapState → PinContents → HeapState → Type 0
 HoldsOn left v p u =
     (n k : ℕ) (past : List HeapState) → Holds p u n (undone left v ∷ past)
     → Holds (kept left v p) u (n + 1) (v ∷ take k (undone left v ∷ past))
 
 -- a pin that holds a state shows its image
-abbrev pub HoldsImage : HeapState → Pinned → HeapState → Type 0
+abbrev pub HoldsImage : HeapState → PinContents → HeapState → Type 0
 HoldsImage w p u =
     (n : ℕ) (past : List HeapState) → Holds p u n (w ∷ past) → pin_image p w ≡ image_of u
 
 -- a pin that holds a state still holds it after a rewind to a place that isn't before the pin's
-abbrev pub HoldsBack : Pinned → HeapState → Type 0
+abbrev pub HoldsBack : PinContents → HeapState → Type 0
 HoldsBack p u =
     (n : ℕ) (w v : HeapState) (past : List HeapState) → Holds p u (n + 1) (w ∷ v ∷ past)
     → Holds p u n (v ∷ past)

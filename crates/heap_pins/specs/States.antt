@@ -3,7 +3,7 @@ use Rattle.std.specs.Prelude.{◌≡◌, ◌⊎◌, ◌≤◌, ℕ, ◌+◌, ◌
 use Rattle.heap_region.specs.Regions.{UsedRegion, Region, used_at, object_at, cell_object}
 use Rattle.heap_region.specs.Live.{is_live, cells_of}
 use Rattle.heap_step.specs.declared.Undo.{Undo}
-use Rattle.heap_pins.specs.Pin.{Pinned, place}
+use Rattle.heap_pins.specs.Pin.{PinContents, place}
 use Rattle.heap_pins.specs.Walk.{cell_state, states_before}
 
 -- n bytes from `start` on have the values of f, the others their old ones
@@ -23,8 +23,8 @@ abbrev pub AreEmpty : List ℕ → Type 0
 AreEmpty bytes = (k : ℕ) → slice_index_or bytes k 0 ≡ 0
 
 -- the bytes of the cells of region r are their states, the others have their old values
-abbrev pub IsWritten : List Region → ℕ → List ℕ → List ℕ → Type 0
-IsWritten regions r old bytes =
+abbrev pub AreBytesWritten : List Region → ℕ → List ℕ → List ℕ → Type 0
+AreBytesWritten regions r old bytes =
     IsSetFrom (λ cell. cell_state (object_at regions (place (256 * r + cell)))) (256 * r)
     (length (cells_of (used_at regions r))) old bytes
 
@@ -43,7 +43,7 @@ IsCleared region old bytes =
     (k : ℕ) → slice_index_or bytes k 0 ≡ (if k / 256 == region then 0 else slice_index_or old k 0)
 
 -- the pin q is p with the bytes of the state before the step
-pub record HasBytesBefore (left : Undo) (p q : Pinned) : Type 0 where
+pub record HasBytesBefore (left : Undo) (p q : PinContents) : Type 0 where
   pub rest : q ≡ record p { live = q.live }
   pub count : length q.live ≡ length p.live
   pub each : AreBefore left p.live q.live

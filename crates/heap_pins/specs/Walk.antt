@@ -2,11 +2,11 @@
 use Rattle.std.specs.Prelude.{◌≡◌, ◌≢◌, ℕ, ◌+◌, ◌-◌, ◌*◌, Bool, true, false, ◌&&◌, ◌==◌, List, [], ◌∷◌, length, Option, Some, None, option_map, slice_index_or, slice_set, if◌then◌else◌}
 use Rattle.heap_class.specs.declared.ObjRef.{ObjRef}
 use Rattle.heap_region.specs.Regions.{Object, cell_object, object_at}
-use Rattle.heap_region.specs.Frozen.{Frozen, frozen, region_frozen}
+use Rattle.heap_region.specs.RegionCopies.{Frozen, frozen, region_frozen}
 use Rattle.heap_world.specs.State.{HeapState}
 use Rattle.heap_pins.specs.Covers.{Covers}
-use Rattle.heap_pins.specs.Kept.{touched, patched}
-use Rattle.heap_pins.specs.Pin.{Pinned, region_seen}
+use Rattle.heap_pins.specs.KeptCopies.{touched, patched}
+use Rattle.heap_pins.specs.Pin.{PinContents, region_seen}
 use Rattle.heap_step.specs.declared.Undo.{Undo}
 use Rattle.heap_step.specs.declared.Undo.TheVariants.{Reg, New, Class, Finish, Sweep, Reclaim}
 
@@ -70,7 +70,7 @@ pub record TellsBefore (left : Undo) (before x : HeapState) : Type 0 where
 
 -- q is p one record further back, beside the current state w: the touched region has a copy, or its copy is patched; the others
 -- stay
-pub record WalksFor (left : Undo) (w : HeapState) (p q : Pinned) : Type 0 where
+pub record WalksFor (left : Undo) (w : HeapState) (p q : PinContents) : Type 0 where
   pub others : (r : ℕ) → touched left ≢ Some r
       → slice_index_or q.copies r None ≡ slice_index_or p.copies r None
   pub patched_region : (r : ℕ) → touched left ≡ Some r

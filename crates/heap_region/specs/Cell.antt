@@ -29,16 +29,16 @@ sort_of (Objects.Array class) = Sorts.Array
 sort_of (Objects.Prim kind) = Sorts.Prim
 
 -- the class that a cell keeps of this kind, 0 if it has none
-abbrev pub class_of : ObjKind → ℕ
-class_of (Objects.Instance class) = class
-class_of (Objects.Array class) = class
-class_of (Objects.Prim kind) = 0
+abbrev pub class_kept : ObjKind → ℕ
+class_kept (Objects.Instance class) = class
+class_kept (Objects.Array class) = class
+class_kept (Objects.Prim kind) = 0
 
 -- the kind of values that a cell keeps of this kind, Object if it has none
-abbrev pub kind_of : ObjKind → Kind
-kind_of (Objects.Instance class) = Kinds.Object
-kind_of (Objects.Array class) = Kinds.Object
-kind_of (Objects.Prim kind) = kind
+abbrev pub kind_kept : ObjKind → Kind
+kind_kept (Objects.Instance class) = Kinds.Object
+kind_kept (Objects.Array class) = Kinds.Object
+kind_kept (Objects.Prim kind) = kind
 
 -- the cell with this header
 abbrev pub packed : Option Header → Inside
@@ -53,10 +53,10 @@ packed None =
     }
 packed (Some h) =
     record {
-      class = class_of h.kind;
+      class = class_kept h.kind;
       len = h.len;
       sort = sort_of h.kind;
-      kind = kind_of h.kind;
+      kind = kind_kept h.kind;
       live = h.live;
       mark = h.mark;
     }

@@ -2,7 +2,7 @@
 ghost use Rattle.std.specs.Prelude.{◌≡◌, ◌*◌, ◌+◌, ◌<◌, ◌≤◌, length, IfOk, IsSome, IfSome, Some};
 ghost use Rattle.heap_region.specs.Regions.{FitsWords};
 ghost use Rattle.heap_region.specs.Layout.{IsCellSize};
-ghost use Rattle.heap_region.specs.Frozen.{frozen, frozen_object, frozen_with, frozen_word_set, frozen_words};
+ghost use Rattle.heap_region.specs.RegionCopies.{frozen, frozen_object, frozen_with, frozen_word_set, frozen_words};
 
 use crate::cell::Header;
 use crate::storage::{Block, ObjectCopy, Storage, header_at, overwrite, part, set_header};
@@ -20,7 +20,7 @@ pub struct FrozenRegion {
 }
 
 impl Model for FrozenRegion {
-    ghost use Rattle.heap_region.specs.Frozen.{Frozen, IsLaid};
+    ghost use Rattle.heap_region.specs.RegionCopies.{Frozen, IsLaid};
 
     ghost Value = { Frozen };
 
@@ -38,7 +38,7 @@ impl Model for FrozenRegion {
 impl Block {
     // Copies the words and the headers. It is never inlined, so that no other function has a block on its stack.
     #[inline(never)]
-    fn copied(&self, alloc: Global) -> Result<Box<Block>, AllocError>
+    fn copy_block(&self, alloc: Global) -> Result<Box<Block>, AllocError>
         ensures { IfOk result
             (λ b. (b.value.words ≡ self.now.words)
             × (b.value.headers.items ≡ self.now.headers.items)) }
@@ -61,7 +61,7 @@ impl Storage {
         ensures { IfOk result (λ f. f ≡ frozen self.now) }
     {
         Ok(FrozenRegion {
-            block: self.block.copied(alloc)?,
+            block: self.block.copy_block(alloc)?,
             cell_size: self.cell_size,
         })
     }

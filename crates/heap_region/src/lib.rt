@@ -8,7 +8,7 @@ ghost use Rattle.heap_class.specs.Refusals.{IsAnswered};
 ghost use Rattle.heap_class.specs.declared.ObjRef.{ObjRef};
 ghost use Rattle.heap_class.specs.declared.Refusal.TheVariants.{NoMemory};
 ghost use Rattle.heap_region.specs.Limits.{region_limit};
-ghost use Rattle.heap_region.specs.Frozen.{region_frozen};
+ghost use Rattle.heap_region.specs.RegionCopies.{region_frozen};
 ghost use Rattle.heap_region.specs.Regions.{FitsWords, Object, UsedRegion, Region, cell_size_for, object_at, object_of, used_at, id_of, ref_of, with_mark, with_word, live_places};
 ghost use Rattle.heap_region.specs.Pool.{RegionPool, opening_pool, alloc_refusal, is_fresh, free_place, new_place, taken, freed, released, restored, allocated, unallocated, blank_object};
 ghost use Rattle.heap_region.specs.Legal.{IsCellTable, IsRegionPool};
@@ -26,8 +26,8 @@ pub use frozen_region::FrozenRegion;
 use heap_class::{ObjKind, ObjRef, Refusal};
 pub use lists::{FreeCells, PoolRegions};
 use slots::{
-    find_room, first_free_in, free_in, pool_head, room, set_live_in, set_mark_in, set_pending_in,
-    set_word_in, size_class, slot_at, take_in, unfree_in,
+    find_free_class, first_free_in, free_class, free_in, pool_head, set_live_in, set_mark_in,
+    set_pending_in, set_word_in, size_class, slot_at, take_in, unfree_in,
 };
 use std::alloc::{AllocError, Global};
 use std::marker::Model;
@@ -43,7 +43,7 @@ pub struct Regions {
     alloc: Global,
     slots: Vec<Option<Storage>>,
     // For each region the number of its cell size if one of its cells is free, else 0.
-    rooms: Vec<u8>,
+    free_classes: Vec<u8>,
     // The empty regions, the head last. It has room for all regions.
     pool: Vec<usize>,
 }
@@ -54,12 +54,12 @@ impl Model for Regions {
     ghost Value = { RegionPool };
 
     ghost use Rattle.std.specs.Prelude.{map, reverse, vec_capacity};
-    ghost use Rattle.heap_region.specs.Table.{IsTable, shown_region};
+    ghost use Rattle.heap_region.specs.Table.{IsRegionTable, shown_region};
 
     ghost view = { λ h.
         record { regions = map shown_region h.slots.items; pool = reverse h.pool.items } };
 
-    ghost invariant = { λ h. IsTable h.slots.items h.rooms.items (reverse h.pool.items)
+    ghost invariant = { λ h. IsRegionTable h.slots.items h.free_classes.items (reverse h.pool.items)
         (vec_capacity h.pool) };
 }
 
@@ -412,7 +412,7 @@ impl Regions {
     {
         let region = at.region as usize;
         free_in(&mut self.slots[region], at.cell as usize);
-        self.rooms[region] = room(&self.slots[region]);
+        self.free_classes[region] = free_class(&self.slots[region]);
     }
 
     /// Puts an object into the cell that heads its region's free list. The cells must have the least size that holds it. Undoes
@@ -427,7 +427,7 @@ impl Regions {
     {
         let region = at.region as usize;
         unfree_in(&mut self.slots[region], at.cell as usize, object);
-        self.rooms[region] = room(&self.slots[region]);
+        self.free_classes[region] = free_class(&self.slots[region]);
     }
 
     /// Moves the storage out of a region in use, which is then empty and heads the pool. Undoes `restore`. Takes no memory.
@@ -442,7 +442,7 @@ impl Regions {
     {
         let region = region as usize;
         let slot = self.slots[region].take();
-        self.rooms[region] = 0;
+        self.free_classes[region] = 0;
         self.pool.push_reserved(region);
         match slot {
             Some(storage) => storage,
@@ -463,7 +463,7 @@ impl Regions {
         let region = region as usize;
         self.pool.pop();
         self.slots[region] = Some(storage);
-        self.rooms[region] = room(&self.slots[region]);
+        self.free_classes[region] = free_class(&self.slots[region]);
     }
 
     /// Returns a copy of a region in use. Fails with NoMemory if the allocation fails.
@@ -500,8 +500,8 @@ impl Regions {
         requires { (1 ≤ count) × (count ≤ region_limit) }
         ensures { IfOk result (λ s. s ≡ opening_pool count) }
     {
-        let mut rooms = Vec::new(alloc);
-        rooms.resize(count, 0)?;
+        let mut free_classes = Vec::new(alloc);
+        free_classes.resize(count, 0)?;
         let mut slots = Vec::with_capacity(alloc, count)?;
         let mut pool = Vec::with_capacity(alloc, count)?;
         for i in 0..count {
@@ -511,7 +511,7 @@ impl Regions {
         Ok(Regions {
             alloc,
             slots,
-            rooms,
+            free_classes,
             pool,
         })
     }
@@ -557,7 +557,7 @@ impl Regions {
         ensures { result
             ≡ slice_get (filter_map (free_place size) (enumerate_from 0 self.now.regions)) 0 }
     {
-        let region = find_room(&self.rooms, size_class(size))?;
+        let region = find_free_class(&self.free_classes, size_class(size))?;
         let cell = first_free_in(&self.slots[region])?;
         Some(ObjRef {
             region: region as u16,
@@ -581,7 +581,7 @@ impl Regions {
     {
         let region = at.region as usize;
         take_in(&mut self.slots[region], at.cell as usize, kind, len, mark);
-        self.rooms[region] = room(&self.slots[region]);
+        self.free_classes[region] = free_class(&self.slots[region]);
     }
 
     // Returns the place of the first live object of a region from a cell on.

@@ -1,8 +1,8 @@
 -- Bytes that are written at once.
 use Rattle.std.proofs.Common.{◌≡◌, Bool, List, ℕ, subst}
 use Rattle.dump_pump.specs.Outlets.{Outgoing}
-use Rattle.session_text.specs.Writes.{IsWritten}
+use Rattle.session_text.specs.Writes.{IsTextWritten}
 
 -- the bytes may be told in another way
-pub written_as : (xs ys : List ℕ) (a b : Outgoing) (r : Bool) → xs ≡ ys → IsWritten xs a b r → IsWritten ys a b r
-written_as xs ys a b r e h = subst (λ l. IsWritten l a b r) e h
+pub written_as : (xs ys : List ℕ) (a b : Outgoing) (r : Bool) → xs ≡ ys → IsTextWritten xs a b r → IsTextWritten ys a b r
+written_as xs ys a b r e h = subst (λ l. IsTextWritten l a b r) e h

@@ -3,8 +3,8 @@
 
 mod late_outlet;
 mod line;
-mod place;
+mod outlets;
 mod save;
 
-pub use place::Place;
+pub use outlets::Outlets;
 pub use save::{Saved, save_into};

@@ -1,8 +1,8 @@
 //! The last line of a session that is saved.
 ghost use Rattle.std.specs.Prelude.{◌≡◌, ◌++◌, decimal};
 ghost use Rattle.session_text.specs.Replies.{line};
-ghost use Rattle.session_text.specs.Writes.{IsWritten};
-ghost use Rattle.heap_save.specs.Saves.{IsEnded, last_line};
+ghost use Rattle.session_text.specs.Writes.{IsTextWritten};
+ghost use Rattle.heap_save.specs.Saves.{IsUncancelled, last_line};
 
 use dump_pump::{Outlet, Pumped};
 use heap_class::LostCause;
@@ -10,7 +10,7 @@ use session_text::write_all;
 
 // Puts out a number and the end of its line.
 fn write_number<O: Outlet>(writer: &mut O, number: u64) -> bool
-    ensures { IsWritten (line (decimal number)) (O.seen writer.old) (O.seen writer.new) result }
+    ensures { IsTextWritten (line (decimal number)) (O.seen writer.old) (O.seen writer.new) result }
 {
     if !write_all(writer, itoa::Buffer::new().format(number).as_bytes()) {
         return false;
@@ -20,7 +20,8 @@ fn write_number<O: Outlet>(writer: &mut O, number: u64) -> bool
 
 // Puts out words and a number as a line.
 fn write_line<O: Outlet>(writer: &mut O, words: &[u8], number: u64) -> bool
-    ensures { IsWritten (words.now ++ line (decimal number)) (O.seen writer.old) (O.seen writer.new) result }
+    ensures { IsTextWritten (words.now ++ line (decimal number)) (O.seen writer.old)
+        (O.seen writer.new) result }
 {
     if !write_all(writer, words) {
         return false;
@@ -31,8 +32,8 @@ fn write_line<O: Outlet>(writer: &mut O, words: &[u8], number: u64) -> bool
 // Puts out the last line: how the dump ended, and the number of bytes that the outlet took. A dump that was cancelled has no
 // such line.
 pub(crate) fn write_last<O: Outlet>(writer: &mut O, pumped: Pumped) -> bool
-    requires { IsEnded pumped }
-    ensures { IsWritten (last_line pumped) (O.seen writer.old) (O.seen writer.new) result }
+    requires { IsUncancelled pumped }
+    ensures { IsTextWritten (last_line pumped) (O.seen writer.old) (O.seen writer.new) result }
 {
     match pumped {
         Pumped::Done { bytes } => write_line(writer, b"saved ", bytes),

@@ -5,7 +5,7 @@ ghost use Rattle.heap_trail.specs.Machine.{IsSmall};
 ghost use Rattle.heap_lock.specs.declared.entry.Role.TheVariants.{User};
 ghost use Rattle.heap_lock.specs.Calls.{Witnesses};
 ghost use Rattle.heap_lock.specs.History.{reply_of};
-ghost use Rattle.heap_server.specs.Joined.{IsReply, IsLegalPart};
+ghost use Rattle.heap_server.specs.JoinedActs.{IsReply, IsLegalPart};
 
 use heap_class::Refusal;
 use heap_lock::{Heap, Outcome, Receipt, Seat, Shared, Witness};
@@ -36,7 +36,7 @@ fn reply(outcome: Outcome) -> Reply
 }
 
 // Returns the reply to an act.
-fn replied(done: Result<Receipt, Refusal>) -> Reply
+fn reply_to_act(done: Result<Receipt, Refusal>) -> Reply
     ensures reply { IsReply done result }
     ensures small { IsSmall result }
 {
@@ -66,7 +66,7 @@ impl<'a, L: Heap, R: Wait> Joined<'a, L, R> {
     }
 
     // Opens a pin, and leaves the seat.
-    fn opened(&mut self, at: Option<u64>) -> Reply
+    fn reply_to_open(&mut self, at: Option<u64>) -> Reply
         ensures done { Witnesses L.config self.old.witness (OpenPin at) result self.new.witness }
         ensures seat { self.new.seat ≡ self.old.seat }
         ensures small { IsSmall result }
@@ -82,19 +82,23 @@ impl<'a, L: Heap, R: Wait> Joined<'a, L, R> {
 
     // Gives the next piece of a pin, and leaves the seat.
     fn part(&mut self, pin: u64, time: u64) -> Reply
-        ensures done { Witnesses L.config self.old.witness (NextPiece pin time) result self.new.witness }
+        ensures done { Witnesses L.config self.old.witness (NextPiece pin time) result
+            self.new.witness }
         ensures seat { self.new.seat ≡ self.old.seat }
         ensures legal { IsLegalPart L.config.ids time result }
         ensures small { IsSmall result }
     {
-        match self.shared.next_piece(self.rt, &mut self.witness, pin, time) {
+        match self
+            .shared
+            .next_piece(self.rt, &mut self.witness, pin, time)
+        {
             Ok(piece) => Reply::Part(piece),
             Err(refusal) => Reply::Refused(refusal),
         }
     }
 
     // Closes a pin, and leaves the seat.
-    fn closed(&mut self, pin: u64) -> Reply
+    fn reply_to_close(&mut self, pin: u64) -> Reply
         ensures done { Witnesses L.config self.old.witness (ClosePin pin) result self.new.witness }
         ensures seat { self.new.seat ≡ self.old.seat }
         ensures small { IsSmall result }
@@ -107,17 +111,17 @@ impl<'a, L: Heap, R: Wait> Joined<'a, L, R> {
 }
 
 impl<'a, L: Heap, R: Wait> Commands for Joined<'a, L, R> {
-    ghost use Rattle.heap_server.specs.Joined.{IsJoined};
+    ghost use Rattle.heap_server.specs.JoinedActs.{IsJoined};
 
     ghost acts = { λ c a r d. IsJoined L.config c.seat c.witness a r d.seat d.witness };
 
     fn act(&mut self, action: Action) -> Reply {
         match action {
-            Action::Step(event) => replied(self.shared.act(self.rt, &mut self.seat, event)),
-            Action::Rewind(n) => replied(self.shared.rewind(self.rt, &mut self.seat, n)),
-            Action::OpenPin(at) => self.opened(at),
+            Action::Step(event) => reply_to_act(self.shared.act(self.rt, &mut self.seat, event)),
+            Action::Rewind(n) => reply_to_act(self.shared.rewind(self.rt, &mut self.seat, n)),
+            Action::OpenPin(at) => self.reply_to_open(at),
             Action::NextPiece { pin, time } => self.part(pin, time),
-            Action::ClosePin(pin) => self.closed(pin),
+            Action::ClosePin(pin) => self.reply_to_close(pin),
         }
     }
 }

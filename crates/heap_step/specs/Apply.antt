@@ -4,7 +4,7 @@ use Rattle.heap_class.specs.declared.Refusal.{Refusal}
 use Rattle.heap_class.specs.declared.ObjKind.TheVariants.{Instance, Array, Prim}
 use Rattle.heap_class.specs.Classes.{class_refusal, instance_class, array_class, slots_of}
 use Rattle.heap_region.specs.Pool.{is_fresh}
-use Rattle.heap_mark.specs.Marking.{snap_refusal, mark_refusal, drain_refusal, finish_refusal, dead_count}
+use Rattle.heap_mark.specs.MarkSteps.{snap_refusal, mark_refusal, drain_refusal, finish_refusal, dead_count}
 use Rattle.heap_sweep.specs.Sweep.{sweep_refusal, dead_at, is_emptied, copies_dead}
 use Rattle.heap_world.specs.State.{HeapState, pool_of, marking_of, register, with_register, word_of}
 use Rattle.heap_world.specs.Events.{after_class, after_new, new_refusal, new_array_refusal, new_prim_refusal, is_reference_slot, load_refusal, after_load, is_logged, store_refusal, after_store, put_refusal, after_put, move_refusal, after_move, clear_refusal, after_snap, after_mark, after_drain, after_finish, after_sweep}

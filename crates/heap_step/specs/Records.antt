@@ -5,7 +5,7 @@ use Rattle.heap_class.specs.Classes.{slots_of}
 use Rattle.heap_region.specs.Limits.{region_words}
 use Rattle.heap_region.specs.Regions.{used_at, with_word}
 use Rattle.heap_region.specs.Pool.{new_place, unallocated, restored, fresh_region}
-use Rattle.heap_mark.specs.Marking.{unsnapped, unmarked, undrained, unfinished}
+use Rattle.heap_mark.specs.MarkSteps.{unsnapped, unmarked, undrained, unfinished}
 use Rattle.heap_sweep.specs.Sweep.{dead_at, is_emptied, unswept}
 use Rattle.heap_world.specs.State.{HeapState, pool_of, with_pool, marking_of, with_marking, register, with_register, place_of, word_of}
 use Rattle.heap_world.specs.Events.{is_logged, without_last, after_mark, after_drain}

@@ -51,7 +51,7 @@ pub fn undo(world: &mut World, left: Undo)
             old,
             logged,
         } => world.unstore(at, slot as u64, old, logged),
-        Undo::Reg { m, r, old } => world.unregister(m as u64, r as u64, old),
+        Undo::Reg { m, r, old } => world.restore_register(m as u64, r as u64, old),
         Undo::New {
             at,
             fresh,

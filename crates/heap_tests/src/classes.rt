@@ -133,7 +133,7 @@ fn names_have_ids_by_first_use(rt: HostRuntime) -> Result<(), Fail> {
 #[test]
 fn a_name_is_copied(rt: HostRuntime) -> Result<(), Fail> {
     let name = Name::new(rt.alloc(), b"[LPoint;")?;
-    let copy = name.copied(rt.alloc())?;
+    let copy = name.duplicate(rt.alloc())?;
     assert!(rt; name == copy);
     Ok(())
 }

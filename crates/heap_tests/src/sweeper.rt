@@ -56,7 +56,7 @@ fn is_refused(regions: &mut Regions, region: u64) -> bool {
 fn dead_objects_go_and_come_back_in(rt: &impl Abort, regions: &mut Regions) -> Result<(), Fail> {
     let _count = regions.count();
     let reclaimed = sweep(regions, 0)?;
-    let told = (reclaimed.dead(), reclaimed.emptied(), weight(&reclaimed));
+    let told = (reclaimed.dead(), reclaimed.is_emptied(), weight(&reclaimed));
     let swept = (first_free(regions), regions.pending(0));
     unsweep(regions, reclaimed);
     assert_eq!(rt; told, (2, false, Some(6)));
@@ -82,7 +82,7 @@ fn a_region_without_live_objects_goes_and_comes_back_in(
 ) -> Result<(), Fail> {
     let _count = regions.count();
     let reclaimed = sweep(regions, 0)?;
-    let told = (reclaimed.dead(), reclaimed.emptied());
+    let told = (reclaimed.dead(), reclaimed.is_emptied());
     let swept = regions.pool().next();
     unsweep(regions, reclaimed);
     assert_eq!(rt; (told, swept), ((3, true), Some(0)));
@@ -105,7 +105,7 @@ fn a_region_without_dead_objects_is_swept_once_in(
     regions: &mut Regions,
 ) -> Result<(), Fail> {
     let reclaimed = sweep(regions, 0)?;
-    assert_eq!(rt; (reclaimed.dead(), reclaimed.emptied()), (0, false));
+    assert_eq!(rt; (reclaimed.dead(), reclaimed.is_emptied()), (0, false));
     assert_eq!(rt; first_free(regions), Some(3));
     assert!(rt; is_refused(regions, 0));
     Ok(())

@@ -11,7 +11,7 @@ use Rattle.heap_step.specs.Records.{undone}
 use Rattle.heap_trail.specs.Records.{past_of, AreRecorded, machine_of}
 use Rattle.heap_trail.specs.Trail.{state_ago}
 use Rattle.heap_trail.specs.Views.{HasRecord}
-use Rattle.heap_trail.specs.declared.held.Slot.{Slot}
+use Rattle.heap_trail.specs.declared.held.NumberedPin.{NumberedPin}
 
 some_same : {A : Type 0} {x y : A} → Some x ≡ Some y → x ≡ y
 some_same e = cc
@@ -21,7 +21,7 @@ record_step w [] n left d told there = cc
 record_step w (r ∷ rs) zero left d told there = (told.0.0, subst (λ (l : Undo). IsStep told.0.0 (undone r w) w l) (some_same there) told.0.1)
 record_step w (r ∷ rs) (suc n) left d told there = record_step (undone r w) rs n left d told.1 there
 
-pub lent : (ids : IdSize) (w : HeapState) (ring : Buffer Undo) (place keep next : ℕ) (slots : List Slot) (n : ℕ) (left : Undo) → AreRecorded w ring.items → slice_get ring.items n ≡ Some left → HasRecord (machine_of ids w ring place keep next slots).trail n left
+pub lent : (ids : IdSize) (w : HeapState) (ring : Buffer Undo) (place keep next : ℕ) (slots : List NumberedPin) (n : ℕ) (left : Undo) → AreRecorded w ring.items → slice_get ring.items n ≡ Some left → HasRecord (machine_of ids w ring place keep next slots).trail n left
 unfolding state_ago
 lent ids w ring place keep next slots n left told there =
     let r = record_step w ring.items n left w told there in

@@ -5,30 +5,30 @@ use Rattle.heap_class.specs.declared.IdSize.{IdSize}
 use Rattle.heap_class.specs.declared.Refusal.{Refusal}
 use Rattle.heap_world.specs.State.{HeapState}
 use Rattle.heap_step.specs.declared.Undo.{Undo}
-use Rattle.heap_pins.specs.Pin.{Pinned, pin_image}
-use Rattle.heap_pins.specs.Shows.{Shows}
+use Rattle.heap_pins.specs.Pin.{PinContents, pin_image}
+use Rattle.heap_pins.specs.Shows.{ShowsState}
 use Rattle.heap_pins.specs.View.{PinShown}
-use Rattle.heap_pins.proofs.Holding.{first_of, held_image}
+use Rattle.heap_pins.proofs.HeldPins.{first_of, held_image}
 use Rattle.heap_trail.specs.declared.held.Held.{Held}
 use Rattle.heap_trail.specs.declared.held.Held.TheVariants.{Kept, Lost}
-use Rattle.heap_trail.specs.declared.held.Slot.{Slot}
+use Rattle.heap_trail.specs.declared.held.NumberedPin.{NumberedPin}
 use Rattle.heap_trail.specs.Pins.{PinState, pin_at}
 use Rattle.heap_trail.specs.Pins.{Kept as KeptState}
 use Rattle.heap_trail.specs.Trail.{state_ago}
 use Rattle.heap_trail.specs.Machine.{Machine}
-use Rattle.heap_trail.specs.Slots.{CanGive, state_of}
+use Rattle.heap_trail.specs.OpenPins.{CanGive, state_of}
 use Rattle.heap_trail.specs.Records.{past_of, machine_of}
 use Rattle.heap_trail.specs.Past.{HoldsPast, past_state}
 use Rattle.heap_trail.specs.Views.{CanShow, IsViewBeside, IsViewOf, RefusesView, ShowsAgo, view_refusal}
 
 -- a pin that holds a state of the past shows its image
-pub shows_ago : (ids : IdSize) (w : HeapState) (ring : Buffer Undo) (place keep next : ℕ) (slots : List Slot) (n : ℕ) (p : Pinned) → HoldsPast p w ring.items n → ShowsAgo (machine_of ids w ring place keep next slots).trail n p
+pub shows_ago : (ids : IdSize) (w : HeapState) (ring : Buffer Undo) (place keep next : ℕ) (slots : List NumberedPin) (n : ℕ) (p : PinContents) → HoldsPast p w ring.items n → ShowsAgo (machine_of ids w ring place keep next slots).trail n p
 unfolding state_ago
 shows_ago ids w ring place keep next slots n p h =
     let u = past_state w ring.items n in
     let past = past_of w ring.items in
     record {
-      shows = (u, h.pin, first_of (Shows p u) n w past h.shows);
+      shows = (u, h.pin, first_of (ShowsState p u) n w past h.shows);
       image = held_image p u n w past h;
     }
 

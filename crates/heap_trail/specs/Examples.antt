@@ -43,8 +43,9 @@ abbrev pub fresh_machine : ℕ → ℕ → Machine
 fresh_machine regions keep = opening_machine Eight regions 2 keep
 
 -- such a machine replies as the script says
-abbrev pub Replies : ℕ → ℕ → Script → Type 0
-Replies regions keep script = replies_to (fresh_machine regions keep) script ≡ map (λ l. l.1) script
+abbrev pub RepliesAs : ℕ → ℕ → Script → Type 0
+RepliesAs regions keep script =
+    replies_to (fresh_machine regions keep) script ≡ map (λ l. l.1) script
 
 -- the state to which the script leads from such a machine
 abbrev pub end_state : ℕ → ℕ → Script → HeapState
@@ -87,7 +88,7 @@ node = Event.Class (codes "Node") None node_fields
 
 -- one region holds one array of 1,024 elements
 abbrev pub LimitsOfOneRegion : Type 0
-LimitsOfOneRegion = Replies 1 1024
+LimitsOfOneRegion = RepliesAs 1 1024
     (does (NewPrim 0 0 Long 1024) (Made 0x10000000)
     ∷ refuses (NewPrim 0 1 Long 1025) TooLarge
     ∷ refuses (NewPrim 0 1 Long 1024) HeapFull
@@ -95,7 +96,7 @@ LimitsOfOneRegion = Replies 1 1024
 
 -- an object goes to the lowest region with a free cell of its size, and opens a region only if there is none
 abbrev pub LowestRegionFirst : Type 0
-LowestRegionFirst = Replies 2 1024
+LowestRegionFirst = RepliesAs 2 1024
     (does node (Answer.Class 0)
     ∷ does (NewPrim 0 0 Long 5) (Made 0x10000000)
     ∷ does (New 0 1 0) (Made 0x10002000)
@@ -107,7 +108,7 @@ LowestRegionFirst = Replies 2 1024
 
 -- a rewind gives cells back
 abbrev pub RewindGivesBackCells : Type 0
-RewindGivesBackCells = Replies 16 1024
+RewindGivesBackCells = RepliesAs 16 1024
     (does point (Answer.Class 0)
     ∷ does (New 0 0 0) (Made 0x10000000)
     ∷ does (New 0 1 0) (Made 0x10000020)
@@ -119,7 +120,7 @@ RewindGivesBackCells = Replies 16 1024
 
 -- a machine that keeps one record rewinds one step, and no second one
 abbrev pub KeepOne : Type 0
-KeepOne = Replies 16 1
+KeepOne = RepliesAs 16 1
     (does point (Answer.Class 0)
     ∷ does (New 0 0 0) (Made 0x10000000)
     ∷ does (New 0 1 0) (Made 0x10000020)
@@ -131,7 +132,7 @@ KeepOne = Replies 16 1
 
 -- a rewind of more steps than are retained is refused
 abbrev pub RewindTooFar : Type 0
-RewindTooFar = Replies 16 3
+RewindTooFar = RepliesAs 16 3
     (does (Clear 0 0) Done
     ∷ does (Clear 0 0) Done
     ∷ does (Clear 0 0) Done
@@ -144,7 +145,7 @@ RewindTooFar = Replies 16 3
 
 -- events of classes and of mutators, each with the refusal that its error meets
 abbrev pub RefusalsOfMutators : Type 0
-RefusalsOfMutators = Replies 16 1024
+RefusalsOfMutators = RepliesAs 16 1024
     (refuses
     (Event.Class (codes "A") None
     (record { name = codes "x"; kind = Int } ∷ record { name = codes "x"; kind = Int } ∷ []))
@@ -165,7 +166,7 @@ RefusalsOfMutators = Replies 16 1024
 
 -- a finish is refused while the log is undrained, and while a region is yet to be swept
 abbrev pub FinishRefusedUntilReady : Type 0
-FinishRefusedUntilReady = Replies 16 1024
+FinishRefusedUntilReady = RepliesAs 16 1024
     (does node (Answer.Class 0)
     ∷ does (New 0 0 0) (Made 0x10000000)
     ∷ does (New 0 1 0) (Made 0x10000020)
@@ -202,7 +203,7 @@ two_nodes_snapped =
 
 -- a drain that is undone can be done again, and marks and drains have refusals of their own
 abbrev pub MarkAndDrainRewound : Type 0
-MarkAndDrainRewound = Replies 16 1024
+MarkAndDrainRewound = RepliesAs 16 1024
     (two_nodes_snapped
     ++ does (Store 0 0 0 2) Done
     ∷ does Mark (Pushed 0)
@@ -216,7 +217,7 @@ MarkAndDrainRewound = Replies 16 1024
 
 -- a mark that is undone makes its object gray again
 abbrev pub MarkUndonePushesBack : Type 0
-MarkUndonePushesBack = Replies 16 1024
+MarkUndonePushesBack = RepliesAs 16 1024
     (two_nodes_snapped
     ++ does Mark (Pushed 1)
     ∷ rewinds 1 6
@@ -226,7 +227,7 @@ MarkUndonePushesBack = Replies 16 1024
 
 -- the cells of dead objects are used again, the highest first
 abbrev pub SweepOrderAndReuse : Type 0
-SweepOrderAndReuse = Replies 16 1024
+SweepOrderAndReuse = RepliesAs 16 1024
     (does point (Answer.Class 0)
     ∷ does (New 0 0 0) (Made 0x10000000)
     ∷ does (New 0 1 0) (Made 0x10000020)
@@ -296,7 +297,7 @@ node_condemned = record {
 -- the rewind of a sweep restores the condemned node in its region
 abbrev pub SweepAndReuseRewound : Type 0
 SweepAndReuseRewound =
-    Replies 2 1024 swept_and_rewound × (end_state 2 1024 swept_and_rewound ≡ node_condemned)
+    RepliesAs 2 1024 swept_and_rewound × (end_state 2 1024 swept_and_rewound ≡ node_condemned)
 
 -- ---- the barrier
 
@@ -328,7 +329,7 @@ words_after n x =
 
 -- the log has the old value of each store that overwrote a reference, and a rewind takes it out again
 pub record BarrierLogsOldValues : Type 0 where
-  pub replies : Replies 16 1024 stores_logged
+  pub replies : RepliesAs 16 1024 stores_logged
   pub null_overwritten : log_after 4 ≡ []
   pub null_again : log_after 5 ≡ []
   pub itself_overwritten : log_after 6 ≡ 0x10000000 ∷ []

@@ -2,7 +2,7 @@
 use Rattle.std.specs.Prelude.{◌≡◌, ℕ, ◌<◌, ◌≤◌, ◌^◌, Bool, true, false, not, ◌&&◌, ◌||◌, ◌==◌, List, [], ◌∷◌, ◌++◌, length, find, Some, None, if◌then◌else◌}
 use Rattle.heap_class.specs.declared.IdSize.{IdSize}
 use Rattle.heap_region.specs.Regions.{Object, object_of}
-use Rattle.heap_mark.specs.Marking.{is_marking}
+use Rattle.heap_mark.specs.MarkSteps.{is_marking}
 use Rattle.heap_world.specs.State.{HeapState}
 use Rattle.heap_world.specs.Reach.{Reaches}
 use Rattle.heap_world.specs.Legal.{IsLegal, IsLive, NamesOne}
@@ -18,7 +18,7 @@ use Rattle.hprof_text.specs.Image.{Image}
 use Rattle.hprof_text.specs.Fits.{HoldsWhole, ShowsWhole}
 use Rattle.heap_pins.specs.Images.{image_of}
 use Rattle.heap_trail.specs.declared.Action.{Action}
-use Rattle.heap_trail.specs.Machine.{Machine, Mark, acted, acted_under, machine_after, without_dumps}
+use Rattle.heap_trail.specs.Machine.{Machine, Allocation, acted, acted_under, machine_after, without_dumps}
 use Rattle.heap_trail.specs.Pins.{Kept, pin_at}
 use Rattle.heap_trail.specs.Trail.{Trail, retained}
 
@@ -58,12 +58,12 @@ FindsSnapshot past v =
     → NamesOne v (λ p. (p.kind ≡ o.kind) × (length p.words ≡ length o.words) × (p.live ≡ true)) x
 
 -- a dump leaves the trail as without it
-abbrev pub LeavesTrail : Machine → List (Action × Mark) → Type 0
+abbrev pub LeavesTrail : Machine → List (Action × Allocation) → Type 0
 LeavesTrail m actions =
     (machine_after m actions).trail ≡ (machine_after m (without_dumps actions)).trail
 
 -- a pin that isn't lost after an action has the image that it had
-abbrev pub KeepsImage : Machine → Action × Mark → ℕ → Type 0
+abbrev pub KeepsImage : Machine → Action × Allocation → ℕ → Type 0
 KeepsImage m a pin =
     (p q : ℕ) (i j : Image) (g h : ℕ) → pin_at pin m.pins ≡ Some (Kept p i g)
     → pin_at pin (acted_under m a).0.pins ≡ Some (Kept q j h) → (q ≡ p) × (j ≡ i)
@@ -91,13 +91,13 @@ last_given pin (NextPiece n time) (Part p) = (n == pin) && p.last
 last_given pin a r = false
 
 -- the bytes of all pieces of the pin, in order
-unfoldable pub bytes_given : ℕ → Machine → List (Action × Mark) → List ℕ
+unfoldable pub bytes_given : ℕ → Machine → List (Action × Allocation) → List ℕ
 bytes_given pin m [] = []
 bytes_given pin m (a ∷ as') =
     let r = acted_under m a in piece_given pin a.0 r.1 ++ bytes_given pin r.0 as'
 
 -- whether the last was among them
-unfoldable pub gave_last : ℕ → Machine → List (Action × Mark) → Bool
+unfoldable pub gave_last : ℕ → Machine → List (Action × Allocation) → Bool
 gave_last pin m [] = false
 gave_last pin m (a ∷ as') =
     let r = acted_under m a in last_given pin a.0 r.1 || gave_last pin r.0 as'
@@ -111,13 +111,13 @@ AsksAt pin time (OpenPin at) = Unit {0}
 AsksAt pin time (ClosePin n) = Unit {0}
 
 -- each action of the list asks for pieces of the pin with this time
-abbrev pub AskAt : ℕ → ℕ → List (Action × Mark) → Type 0
+abbrev pub AskAt : ℕ → ℕ → List (Action × Allocation) → Type 0
 AskAt pin time [] = Unit {0}
 AskAt pin time (a ∷ as') = AsksAt pin time a.0 × AskAt pin time as'
 
 -- whatever else is done, the pieces of a pin that gave none yet are a beginning of the text of its image, and all of it once
 -- the last was given
-abbrev pub GivesText : Machine → List (Action × Mark) → ℕ → ℕ → Type 0
+abbrev pub GivesText : Machine → List (Action × Allocation) → ℕ → ℕ → Type 0
 GivesText m actions pin time =
     (place : ℕ) (image : Image) → pin_at pin m.pins ≡ Some (Kept place image 0) → pin < m.pins.next
     → AskAt pin time actions

@@ -1,7 +1,7 @@
 pub mod Limits
 pub mod Trail
 pub mod Pins
-pub mod Slots
+pub mod OpenPins
 pub mod Machine
 pub mod Laws
 pub mod Records

@@ -94,25 +94,25 @@ acted m (ClosePin pin) = after_close pin m (pin_at pin m.pins)
 -- ---- marks: which actions failed to get memory
 
 -- an action got its memory; it got none and was refused; or the step lost the named pins for lack of memory
-pub data Mark : Type 0 where
-  Fine : Mark
-  Refusing : Mark
-  Losing : List ℕ → Mark
+pub data Allocation : Type 0 where
+  Granted : Allocation
+  Denied : Allocation
+  LosesPins : List ℕ → Allocation
 
 -- the machine after an action under a mark, and the reply
-unfoldable pub acted_under : Machine → Action × Mark → Machine × Reply
-acted_under m (a, Fine) = acted m a
-acted_under m (a, Refusing) = (m, Refused NoMemory)
-acted_under m (a, Losing pins) =
+unfoldable pub acted_under : Machine → Action × Allocation → Machine × Reply
+acted_under m (a, Granted) = acted m a
+acted_under m (a, Denied) = (m, Refused NoMemory)
+acted_under m (a, LosesPins pins) =
     let r = acted m a in (record r.0 { pins = with_lost pins r.0.pins }, r.1)
 
 -- the machine after all actions of a list
-unfoldable pub machine_after : Machine → List (Action × Mark) → Machine
+unfoldable pub machine_after : Machine → List (Action × Allocation) → Machine
 machine_after m [] = m
 machine_after m (a ∷ as') = machine_after (acted_under m a).0 as'
 
 -- the replies to the actions of a list, in order
-unfoldable pub replies_of : Machine → List (Action × Mark) → List Reply
+unfoldable pub replies_of : Machine → List (Action × Allocation) → List Reply
 replies_of m [] = []
 replies_of m (a ∷ as') = let r = acted_under m a in r.1 ∷ replies_of r.0 as'
 
@@ -140,30 +140,31 @@ is_accepted r = true
 
 -- the mark may stand beside the action: a refusal only beside one that may allocate and isn't refused anyway, and a loss of
 -- pins only beside one that may overwrite
-abbrev pub MayStand : Machine → Action × Mark → Type 0
-MayStand m (a, Fine) = ⊤
-MayStand m (a, Refusing) = (may_grow a m ≡ true) × (is_accepted (acted m a).1 ≡ true)
-MayStand m (a, Losing pins) = (may_overwrite a ≡ true) × (is_accepted (acted m a).1 ≡ true)
+abbrev pub MayStand : Machine → Action × Allocation → Type 0
+MayStand m (a, Granted) = ⊤
+MayStand m (a, Denied) = (may_grow a m ≡ true) × (is_accepted (acted m a).1 ≡ true)
+MayStand m (a, LosesPins pins) = (may_overwrite a ≡ true) × (is_accepted (acted m a).1 ≡ true)
 
 -- each mark may stand beside its action
-abbrev pub AreMarks : Machine → List (Action × Mark) → Type 0
-AreMarks m [] = ⊤
-AreMarks m (a ∷ as') = MayStand m a × AreMarks (acted_under m a).0 as'
+abbrev pub AreAllocations : Machine → List (Action × Allocation) → Type 0
+AreAllocations m [] = ⊤
+AreAllocations m (a ∷ as') = MayStand m a × AreAllocations (acted_under m a).0 as'
 
 -- ---- what a call may answer
 
 -- the action may leave n and give this reply, under a mark that may stand beside it
 abbrev pub MayReply : Machine → Action → Machine → Reply → Type 0
-MayReply m a n r = (mark : Mark) × MayStand m (a, mark) × (acted_under m (a, mark) ≡ (n, r))
+MayReply m a n r = (mark : Allocation) × MayStand m (a, mark) × (acted_under m (a, mark) ≡ (n, r))
 
 -- the action may leave n and be refused with r, also for lack of memory
 abbrev pub MayFail : Machine → Action → Machine → Refusal → Type 0
-MayFail m a n r = (acted m a ≡ (n, Refused r)) ⊎ (MayStand m (a, Refusing) × (r ≡ NoMemory))
+MayFail m a n r = (acted m a ≡ (n, Refused r)) ⊎ (MayStand m (a, Denied) × (r ≡ NoMemory))
 
 -- under some marks these actions lead from m to n, with these replies
 abbrev pub MayDrive : Machine → List Action → List Reply → Machine → Type 0
 MayDrive m actions replies n =
-    (marked : List (Action × Mark)) × (map (λ a. a.0) marked ≡ actions) × AreMarks m marked
+    (marked : List (Action × Allocation)) × (map (λ a. a.0) marked ≡ actions)
+    × AreAllocations m marked
     × (replies ≡ replies_of m marked) × (n ≡ machine_after m marked)
 
 -- a piece has at most 2 ^ 24 bytes
@@ -184,11 +185,11 @@ is_dump_action (Rewind n) = false
 is_dump_action a = true
 
 -- the actions of the list that aren't dump actions
-unfoldable pub without_dumps : List (Action × Mark) → List (Action × Mark)
+unfoldable pub without_dumps : List (Action × Allocation) → List (Action × Allocation)
 without_dumps actions = filter (λ a. not (is_dump_action a.0)) actions
 
 -- ---- the list with no marks
 
 -- the actions, each with the mark that it got its memory
-unfoldable pub unmarked_list : List Action → List (Action × Mark)
-unmarked_list actions = map (λ a. (a, Fine)) actions
+unfoldable pub all_granted : List Action → List (Action × Allocation)
+all_granted actions = map (λ a. (a, Granted)) actions

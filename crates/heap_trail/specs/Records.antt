@@ -13,8 +13,8 @@ use Rattle.heap_trail.specs.Limits.{last_place}
 use Rattle.heap_trail.specs.Machine.{Machine}
 use Rattle.heap_trail.specs.Limits.{pin_limit, last_pin}
 use Rattle.heap_trail.specs.Pins.{Pins}
-use Rattle.heap_trail.specs.declared.held.Slot.{Slot}
-use Rattle.heap_trail.specs.Slots.{pins_of, AreHeld}
+use Rattle.heap_trail.specs.declared.held.NumberedPin.{NumberedPin}
+use Rattle.heap_trail.specs.OpenPins.{pins_of, AreHeld}
 
 -- the states before this one, the newest first: each is the one after it, with its record undone
 abbrev pub past_of : HeapState → List Undo → List HeapState
@@ -31,7 +31,7 @@ abbrev pub with_record : Undo → Buffer Undo → Buffer Undo
 with_record left ring = buffer (take ring.capacity (left ∷ ring.items)) ring.capacity
 
 -- what holds of a machine's fields: the ring has room for `keep` records
-pub record IsKept (w : HeapState) (ring : Buffer Undo) (place keep : ℕ) : Type 0 where
+pub record IsRetaining (w : HeapState) (ring : Buffer Undo) (place keep : ℕ) : Type 0 where
   pub legal : IsLegal w
   pub recorded : AreRecorded w ring.items
   pub few : length ring.items ≤ keep
@@ -51,18 +51,19 @@ machine_with ids w ring place keep pins =
     }
 
 -- the machine whose pins are those of these slots, with this number for the next
-abbrev pub machine_of : IdSize → HeapState → Buffer Undo → ℕ → ℕ → ℕ → List Slot → Machine
+abbrev pub machine_of : IdSize → HeapState → Buffer Undo → ℕ → ℕ → ℕ → List NumberedPin → Machine
 machine_of ids w ring place keep next slots =
     machine_with ids w ring place keep (pins_of w next slots)
 
 -- what holds of the pins: there are at most `pin_limit`, and their numbers are within the limit
 pub record IsPinning (ids : IdSize) (w : HeapState) (ring : Buffer Undo) (place next : ℕ)
-    (slots : List Slot) : Type 0 where
+    (slots : List NumberedPin) : Type 0 where
   pub held : AreHeld ids (w ∷ past_of w ring.items) place next slots
   pub few : length slots ≤ pin_limit
   pub numbered : (1 ≤ next) × (next ≤ last_pin + 1)
 
 -- what holds of a machine's fields; `room` is the number of pins for which there is room
-abbrev pub IsWhole : IdSize → HeapState → Buffer Undo → ℕ → ℕ → ℕ → List Slot → ℕ → Type 0
-IsWhole ids w ring place keep next slots room =
-    IsKept w ring place keep × IsPinning ids w ring place next slots × (pin_limit ≤ room)
+abbrev pub IsWholeMachine : IdSize → HeapState → Buffer Undo → ℕ → ℕ → ℕ → List NumberedPin → ℕ
+    → Type 0
+IsWholeMachine ids w ring place keep next slots room =
+    IsRetaining w ring place keep × IsPinning ids w ring place next slots × (pin_limit ≤ room)

@@ -9,7 +9,7 @@ use Rattle.heap_step.specs.declared.Event.{Event}
 use Rattle.heap_step.specs.declared.Undo.{Undo}
 use Rattle.heap_step.specs.Laws.{IsStep}
 use Rattle.heap_pins.specs.Images.{image_of}
-use Rattle.heap_pins.specs.Pin.{Pinned, pin_image}
+use Rattle.heap_pins.specs.Pin.{PinContents, pin_image}
 use Rattle.heap_pins.specs.View.{PinShown, ShowsSome}
 use Rattle.heap_trail.specs.declared.held.Held.{Held}
 use Rattle.heap_trail.specs.declared.held.Held.TheVariants.{Kept, Lost}
@@ -23,12 +23,12 @@ abbrev pub HasRecord : Trail → ℕ → Undo → Type 0
 HasRecord t n left = (e : Event) × IsStep e (state_ago (n + 1) t) (state_ago n t) left
 
 -- beside the current state the pin shows the image of the state of n steps ago
-pub record ShowsAgo (t : Trail) (n : ℕ) (p : Pinned) : Type 0 where
+pub record ShowsAgo (t : Trail) (n : ℕ) (p : PinContents) : Type 0 where
   pub shows : ShowsSome p t.current
   pub image : pin_image p t.current ≡ image_of (state_ago n t)
 
 -- the view of a pin beside a machine's current state
-abbrev pub view_beside : Machine → Pinned → PinShown
+abbrev pub view_beside : Machine → PinContents → PinShown
 view_beside m p = record { pin = p; state = m.trail.current; ids = m.ids }
 
 -- the view shows the image of an open pin, with the machine's size of ids

@@ -4,8 +4,8 @@ ghost use Rattle.std.specs.List.{position};
 ghost use Rattle.heap_world.specs.State.{HeapState};
 ghost use Rattle.heap_step.specs.declared.Event.{Event};
 ghost use Rattle.heap_step.specs.Laws.{IsStep};
-ghost use Rattle.heap_pins.specs.Kept.{touched};
-ghost use Rattle.heap_trail.specs.Slots.{CanGive, HasGiven, IsNext, IsSized, IsWithin, MayCount, MayKeep, RefusesPiece, held_advanced, is_settled, slot_after_rewind};
+ghost use Rattle.heap_pins.specs.KeptCopies.{touched};
+ghost use Rattle.heap_trail.specs.OpenPins.{CanGive, HasGiven, IsNextPiece, IsSizedPin, IsRegionWithin, MayCount, MayKeep, RefusesPiece, held_advanced, is_settled, slot_after_rewind};
 ghost use Rattle.heap_trail.specs.Views.{CanShow, IsViewBeside, RefusesView};
 
 use heap_class::{IdSize, LostCause, Refusal};
@@ -31,24 +31,24 @@ pub(crate) enum Held {
 
 // An open pin with its number.
 #[derive(Drop)]
-pub(crate) struct Slot {
+pub(crate) struct NumberedPin {
     pub(crate) number: u64,
     pub(crate) held: Held,
 }
 
 // Finds the first slot with this number.
-pub(crate) fn slot_of(pins: &[Slot], number: u64) -> Option<usize>
+pub(crate) fn slot_of(pins: &[NumberedPin], number: u64) -> Option<usize>
     ensures { result ≡ position (λ s. s.number == number) pins.now }
 {
     pins.iter().position(|slot| slot.number == number)
 }
 
-impl Slot {
+impl NumberedPin {
     // Tells whether no write to a region matters to the pin: it has a copy of the region, or it is lost.
     #[inline(always)]
-    #[tactic(auto, unfolding(crate::specs::Slots::is_settled))]
+    #[tactic(auto, unfolding(crate::specs::OpenPins::is_settled))]
     fn is_settled(&self, region: u64) -> bool
-        requires { IsWithin region self.now.held }
+        requires { IsRegionWithin region self.now.held }
         ensures { result ≡ is_settled region self.now.held }
     {
         match &self.held {
@@ -63,7 +63,7 @@ impl Slot {
     pub(crate) fn keep(&mut self, world: &World, left: &Undo, region: u64)
         requires touched { touched left.now ≡ Some region }
         requires step { (e : Event) × (before : HeapState) × IsStep e before world.now left.now }
-        requires sized { IsSized (length world.now.regions) self.old }
+        requires sized { IsSizedPin (length world.now.regions) self.old }
         ensures { MayKeep left.now world.now self.old self.new }
     {
         if !self.is_settled(region) {
@@ -75,7 +75,7 @@ impl Slot {
     #[inline(never)]
     fn copy_region(&mut self, world: &World, left: &Undo)
         requires step { (e : Event) × (before : HeapState) × IsStep e before world.now left.now }
-        requires sized { IsSized (length world.now.regions) self.old }
+        requires sized { IsSizedPin (length world.now.regions) self.old }
         ensures { MayKeep left.now world.now self.old self.new }
     {
         let lost = match &mut self.held {
@@ -143,7 +143,7 @@ impl Slot {
         time: u64,
     ) -> Result<(Piece, Cursor), Refusal>
         requires { CanGive ids world.now self.now.held }
-        ensures piece { IfOk result (λ p. IsNext ids world.now time self.now.held p.0 p.1) }
+        ensures piece { IfOk result (λ p. IsNextPiece ids world.now time self.now.held p.0 p.1) }
         ensures refused { IfErr result (λ e. RefusesPiece self.now.held e) }
         ensures small { IfOk result (λ p. length p.0.bytes ≤ 2 ^ 24) }
     {

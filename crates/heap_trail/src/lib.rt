@@ -14,8 +14,8 @@ ghost use Rattle.heap_trail.specs.declared.Action.TheVariants.{OpenPin, Step, Re
 ghost use Rattle.heap_trail.specs.declared.Reply.TheVariants.{Answered, Pinned, Place, Refused};
 ghost use Rattle.heap_trail.specs.Headline.{Headline};
 ghost use Rattle.heap_trail.specs.Laws.{FindsSnapshot, IsTrail, GivesText, KeepsImage, DumpIsWhole, LeadsBack, LeavesTrail, ReachesLive, SparesReached};
-ghost use Rattle.heap_trail.specs.Machine.{IsSmall, Machine, Mark, MayFail, MayReply, acted, opening_machine};
-ghost use Rattle.heap_trail.specs.Slots.{AreAllBelow, EachMayKeep, EachSized, slot_after_rewind};
+ghost use Rattle.heap_trail.specs.Machine.{IsSmall, Machine, Allocation, MayFail, MayReply, acted, opening_machine};
+ghost use Rattle.heap_trail.specs.OpenPins.{AreAllBelow, EachMayKeep, EachSized, slot_after_rewind};
 ghost use Rattle.heap_trail.specs.Records.{with_record};
 ghost use Rattle.heap_trail.specs.Trail.{retained, rewound};
 ghost use Rattle.heap_trail.specs.Pins.{after_rewind};
@@ -36,7 +36,7 @@ use heap_pins::touched_region;
 use heap_step::step::undo;
 use heap_step::{Answer, Event, Undo, apply, undo_takes_back};
 use heap_world::{Config, World};
-use held::Slot;
+use held::NumberedPin;
 use hprof_text::{Cursor, Piece, piece_from};
 use std::alloc::Global;
 use std::marker::Model;
@@ -81,7 +81,7 @@ pub enum Reply {
 
 /// A pin that was opened: its number, counted from 1, and its place.
 #[derive(Clone, Copy, PartialEq, Eq, Debug)]
-pub struct Pinned {
+pub struct PinAt {
     pub pin: u64,
     pub at: u64,
 }
@@ -97,12 +97,12 @@ pub struct Machine {
     keep: u64,
     ids: IdSize,
     next: u64,
-    pins: Vec<Slot>,
+    pins: Vec<NumberedPin>,
 }
 
 impl Model for Machine {
     ghost use Rattle.heap_trail.specs.Machine.{Machine};
-    ghost use Rattle.heap_trail.specs.Records.{machine_of, IsWhole};
+    ghost use Rattle.heap_trail.specs.Records.{machine_of, IsWholeMachine};
 
     ghost Value = { Machine };
 
@@ -112,13 +112,13 @@ impl Model for Machine {
     ghost use Rattle.std.specs.Vec.{vec_capacity};
     ghost use Rattle.heap_trail.specs.Limits.{pin_limit};
 
-    ghost invariant = { λ m. IsWhole m.ids m.world m.records m.place m.keep m.next m.pins.items
-        (vec_capacity m.pins) };
+    ghost invariant = { λ m. IsWholeMachine m.ids m.world m.records m.place m.keep m.next
+        m.pins.items (vec_capacity m.pins) };
 }
 
 // Has each pin keep what the step that left this record and led to this state overwrote. A pin is lost if memory for it can't
 // be allocated.
-fn keep_each(pins: &mut [Slot], world: &World, left: &Undo)
+fn keep_each(pins: &mut [NumberedPin], world: &World, left: &Undo)
     requires step { (e : Event) × (before : HeapState) × IsStep e before world.now left.now }
     requires sized { EachSized (length world.now.regions) pins.old }
     ensures { EachMayKeep left.now world.now pins.old pins.new }
@@ -144,7 +144,7 @@ fn add_record(records: &mut HeapCircularBuffer<Undo>, left: Undo)
 // Has each pin keep what the step that left this record and led to this state overwrote, and puts the record into the ring.
 #[inline(never)]
 fn keep_and_add(
-    pins: &mut [Slot],
+    pins: &mut [NumberedPin],
     world: &World,
     records: &mut HeapCircularBuffer<Undo>,
     left: Undo,
@@ -160,7 +160,12 @@ fn keep_and_add(
 
 // Does what `keep_and_add` does. Without pins the record goes to the ring at once.
 #[inline(always)]
-fn remember(pins: &mut [Slot], world: &World, records: &mut HeapCircularBuffer<Undo>, left: Undo)
+fn remember(
+    pins: &mut [NumberedPin],
+    world: &World,
+    records: &mut HeapCircularBuffer<Undo>,
+    left: Undo,
+)
     requires step { (e : Event) × (before : HeapState) × IsStep e before world.now left }
     requires sized { EachSized (length world.now.regions) pins.old }
     ensures pins { EachMayKeep left world.now pins.old pins.new }
@@ -174,7 +179,7 @@ fn remember(pins: &mut [Slot], world: &World, records: &mut HeapCircularBuffer<U
 }
 
 // Loses the pins above a place.
-fn lose_above(pins: &mut [Slot], to: u64)
+fn lose_above(pins: &mut [NumberedPin], to: u64)
     ensures { pins.new ≡ map (slot_after_rewind to) pins.old }
 {
     for i in 0..pins.len() {
@@ -300,7 +305,7 @@ impl Machine {
                 Err(refusal) => Reply::Refused(refusal),
             },
             Action::OpenPin(at) => match self.open_pin(*at) {
-                Ok(Pinned { pin, at }) => Reply::Pinned { pin, at },
+                Ok(PinAt { pin, at }) => Reply::Pinned { pin, at },
                 Err(refusal) => Reply::Refused(refusal),
             },
             Action::NextPiece { pin, time } => match self.piece(*pin, *time) {
@@ -340,12 +345,12 @@ impl Machine {
 
 /// States that dumps leave the trail of every list of actions as it is without them.
 pub fn dumps_leave_trail()
-    ensures { (m : Machine) (actions : List (Action × Mark)) → LeavesTrail m actions }
+    ensures { (m : Machine) (actions : List (Action × Allocation)) → LeavesTrail m actions }
 {}
 
 /// States that a pin that isn't lost keeps its place and its image under every action.
 pub fn pins_keep_images()
-    ensures { (m : Machine) (a : Action × Mark) (pin : ℕ) → KeepsImage m a pin }
+    ensures { (m : Machine) (a : Action × Allocation) (pin : ℕ) → KeepsImage m a pin }
 {}
 
 /// States that a step that is answered and then a rewind of one lead back to the state and the place before.
@@ -361,7 +366,7 @@ pub fn dump_is_whole()
 /// States that the pieces of a pin, whatever else is done between them, are a beginning of the text of its image, and all of
 /// it once the last piece was given.
 pub fn dumps_are_text()
-    ensures { (m : Machine) (actions : List (Action × Mark)) (pin time : ℕ)
+    ensures { (m : Machine) (actions : List (Action × Allocation)) (pin time : ℕ)
         → GivesText m actions pin time }
 {}
 
@@ -370,5 +375,5 @@ pub fn dumps_are_text()
 /// its place. In the list, steps and rewinds go as without its dumps. The pieces of a pin, also if it is closed, lost or left
 /// in the middle, are a beginning of the text of its image, which it keeps, and all of it once its last piece was given.
 pub fn headline()
-    ensures { (m : Machine) (actions : List (Action × Mark)) → Headline m actions }
+    ensures { (m : Machine) (actions : List (Action × Allocation)) → Headline m actions }
 {}

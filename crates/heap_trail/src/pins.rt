@@ -6,9 +6,9 @@ ghost use Rattle.heap_trail.specs.Laws.{IsPieceOfLegal};
 ghost use Rattle.heap_trail.specs.Pins.{is_retained};
 ghost use Rattle.heap_trail.specs.Machine.{MayFail, acted};
 
-use crate::held::{Held, Slot, slot_of};
+use crate::held::{Held, NumberedPin, slot_of};
 use crate::opening::past_pin;
-use crate::{Machine, PIN_LIMIT, Pinned};
+use crate::{Machine, PIN_LIMIT, PinAt};
 use heap_class::Refusal;
 use hprof_text::{Cursor, Piece};
 
@@ -26,7 +26,7 @@ impl Machine {
     /// Opens a pin on the retained state at the place `at`, or on the current state. Fails with NotRetained if that state
     /// isn't retained, with PinLimit if 4 pins are open or all numbers are used, or with NoMemory if an allocation fails. A
     /// refused call uses no number.
-    pub fn open_pin(&mut self, at: Option<u64>) -> Result<Pinned, Refusal>
+    pub fn open_pin(&mut self, at: Option<u64>) -> Result<PinAt, Refusal>
         ensures done { IfOk result
             (λ p. acted self.old (OpenPin at) ≡ (self.new, PinnedReply p.pin p.at)) }
         ensures refused { IfErr result (λ e. MayFail self.old (OpenPin at) self.new e) }
@@ -42,7 +42,7 @@ impl Machine {
         let pin = past_pin(self.alloc, &self.world, &self.records, self.place - at)?;
         let number = self.next;
         self.next += 1;
-        self.pins.push_reserved(Slot {
+        self.pins.push_reserved(NumberedPin {
             number,
             held: Held::Kept {
                 place: at,
@@ -51,7 +51,7 @@ impl Machine {
                 given: 0,
             },
         });
-        Ok(Pinned { pin: number, at })
+        Ok(PinAt { pin: number, at })
     }
 
     /// Returns the next piece of a pin's dump; past the last it is empty. It is a piece of the dump of a legal state. The

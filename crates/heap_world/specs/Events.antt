@@ -12,7 +12,7 @@ use Rattle.heap_class.specs.Refusals.{first_refusal}
 use Rattle.heap_class.specs.Classes.{Class, is_instance_class, is_array_class, slots_of}
 use Rattle.heap_region.specs.Regions.{Object, with_word, id_of}
 use Rattle.heap_region.specs.Pool.{new_place, allocated}
-use Rattle.heap_mark.specs.Marking.{is_marking, logged, snapped, marked, drained_once, finished}
+use Rattle.heap_mark.specs.MarkSteps.{is_marking, logged, snapped, marked, drained_once, finished}
 use Rattle.heap_sweep.specs.Sweep.{swept}
 use Rattle.heap_world.specs.State.{HeapState, pool_of, with_pool, marking_of, with_marking, is_register, register, with_register, place_of, slot_kind, word_of}
 

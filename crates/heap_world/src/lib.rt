@@ -9,7 +9,7 @@ ghost use Rattle.heap_class.specs.declared.ObjKind.TheVariants.{Instance};
 ghost use Rattle.heap_class.specs.declared.Refusal.TheVariants.{NoMemory, NullRegister, BadSlot, HeapFull};
 ghost use Rattle.heap_region.specs.Regions.{object_at, ref_of, slot_kinds, with_word};
 ghost use Rattle.heap_region.specs.Pool.{new_place, is_fresh, unallocated};
-ghost use Rattle.heap_world.specs.Limits.{AreSettings, Settings};
+ghost use Rattle.heap_world.specs.Limits.{AreHeapSettings, HeapSettings};
 ghost use Rattle.heap_world.specs.State.{HeapState, opening_state, is_register, register, with_register, pool_of, with_pool, place_of, slot_kind, word_of};
 ghost use Rattle.heap_world.specs.Legal.{IsLegal, HasKind};
 ghost use Rattle.heap_world.specs.Events.{after_class, is_full, new_refusal, after_new, put_refusal, after_put};
@@ -54,9 +54,9 @@ pub struct Config {
 }
 
 impl Model for Config {
-    ghost use Rattle.heap_world.specs.Limits.{AreSettings, Settings};
+    ghost use Rattle.heap_world.specs.Limits.{AreHeapSettings, HeapSettings};
 
-    ghost Value = { Settings };
+    ghost Value = { HeapSettings };
 
     ghost view = { λ c.
         record { regions = c.regions; mutators = c.mutators; keep = c.keep; ids = c.ids } };
@@ -64,7 +64,7 @@ impl Model for Config {
     ghost inverse = { λ c.
         record { regions = c.regions; mutators = c.mutators; keep = c.keep; ids = c.ids } };
 
-    ghost invariant = { λ c. AreSettings c.regions c.mutators c.keep };
+    ghost invariant = { λ c. AreHeapSettings c.regions c.mutators c.keep };
 }
 
 impl Config {
@@ -72,7 +72,7 @@ impl Config {
     pub fn new(regions: u64, mutators: u64, keep: u64) -> Option<Config>
         ensures given { IfSome result
             (λ c. c ≡ record { regions = regions; mutators = mutators; keep = keep; ids = Eight }) }
-        ensures within { IsSome result ↔ AreSettings regions mutators keep }
+        ensures within { IsSome result ↔ AreHeapSettings regions mutators keep }
     {
         let sized = 1 <= regions
             && regions <= REGION_LIMIT
@@ -99,7 +99,7 @@ impl Config {
     /// Returns the number of regions, 1 to 256.
     pub fn regions(&self) -> u64
         ensures value { result ≡ self.now.regions }
-        ensures limits { AreSettings self.now.regions self.now.mutators self.now.keep }
+        ensures limits { AreHeapSettings self.now.regions self.now.mutators self.now.keep }
     {
         self.regions
     }
@@ -114,7 +114,7 @@ impl Config {
     /// Returns the number of steps that can be undone, 1 to 65,536.
     pub fn keep(&self) -> u64
         ensures value { result ≡ self.now.keep }
-        ensures limits { AreSettings self.now.regions self.now.mutators self.now.keep }
+        ensures limits { AreHeapSettings self.now.regions self.now.mutators self.now.keep }
     {
         self.keep
     }
@@ -228,14 +228,14 @@ pub struct World {
 
 impl Model for World {
     ghost use Rattle.heap_world.specs.State.{HeapState};
-    ghost use Rattle.heap_world.specs.Held.{held, IsHeld};
+    ghost use Rattle.heap_world.specs.HeapParts.{heap_of_parts, IsSoundHeap};
 
     ghost Value = { HeapState };
 
-    ghost view = { λ w. held w.classes w.regions w.registers.items w.marker };
+    ghost view = { λ w. heap_of_parts w.classes w.regions w.registers.items w.marker };
 
-    ghost invariant = { λ w. IsHeld (held w.classes w.regions w.registers.items w.marker)
-        w.marker.room };
+    ghost invariant = { λ w. IsSoundHeap
+        (heap_of_parts w.classes w.regions w.registers.items w.marker) w.marker.room };
 }
 
 impl World {

@@ -1,7 +1,7 @@
 //! The marker's steps on the heap, and the undoing of each.
 ghost use Rattle.std.specs.Prelude.{◌≡◌, ◌+◌, ◌-◌, ◌<◌, ◌≤◌, length, slice_index, None, false, IfOk, OnOk, OnErr};
 ghost use Rattle.heap_class.specs.Refusals.{IsAnswered};
-ghost use Rattle.heap_mark.specs.Marking.{snap_refusal, unsnapped, mark_refusal, unmarked, drain_refusal, undrained, finish_refusal, unfinished, dead_count};
+ghost use Rattle.heap_mark.specs.MarkSteps.{snap_refusal, unsnapped, mark_refusal, unmarked, drain_refusal, undrained, finish_refusal, unfinished, dead_count};
 ghost use Rattle.heap_world.specs.State.{HeapState, marking_of, with_marking};
 ghost use Rattle.heap_world.specs.Legal.{IsLegal};
 ghost use Rattle.heap_world.specs.Events.{after_snap, after_mark, after_drain, after_finish};

@@ -130,7 +130,7 @@ impl World {
 
     /// Undoes `load`, `move_register` or `clear_register`: writes the old word to register `r` of mutator `m`, which must be
     /// there. The heap must be legal afterwards. Takes no memory.
-    pub fn unregister(&mut self, m: u64, r: u64, old: u64)
+    pub fn restore_register(&mut self, m: u64, r: u64, old: u64)
         requires register { IsTrue (is_register self.old m r) }
         requires legal { IsLegal (with_register m r old self.old) }
         ensures { self.new ≡ with_register m r old self.old }

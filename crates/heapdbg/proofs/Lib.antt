@@ -1,4 +1,4 @@
 pub mod Words
-pub mod Asked
-pub mod Saved
-pub mod Telling
+pub mod AskedSettings
+pub mod SavedRuns
+pub mod WholePuts

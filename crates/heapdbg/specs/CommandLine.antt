@@ -12,8 +12,8 @@ use Rattle.clap.specs.Words.{App, Row, Rule, Text, fault_of, first_of, new_app, 
 use Rattle.clap.specs.declared.builder.ArgAction.TheVariants.{Set}
 use Rattle.heap_class.specs.declared.IdSize.{IdSize}
 use Rattle.heap_class.specs.declared.IdSize.TheVariants.{Four, Eight}
-use Rattle.heap_server.specs.Seating.{session_limit}
-use Rattle.heap_world.specs.Limits.{AreSettings}
+use Rattle.heap_server.specs.SessionSeats.{session_limit}
+use Rattle.heap_world.specs.Limits.{AreHeapSettings}
 use Rattle.heapdbg.specs.declared.settings.Task.{Task}
 use Rattle.heapdbg.specs.declared.settings.Task.TheVariants.{Run, Save, Serve, Ask}
 use Rattle.heapdbg.specs.declared.settings.Target.{Target}
@@ -34,12 +34,15 @@ value_option name = record (new_rule name) { long = Some name; action = Some Set
 abbrev pub heap_line : Text → App
 heap_line name =
     with_rule
-    (with_rule (with_rule (new_app name) (value_option (codes "regions"))) (value_option (codes "mutators")))
+    (with_rule (with_rule (new_app name) (value_option (codes "regions")))
+    (value_option (codes "mutators")))
     (value_option (codes "keep"))
 
 -- a command with the options of the heap, its history and its dumps
 abbrev pub session_line : Text → App
-session_line name = with_rule (with_rule (heap_line name) (value_option (codes "time"))) (value_option (codes "ids"))
+session_line name =
+    with_rule (with_rule (heap_line name) (value_option (codes "time")))
+    (value_option (codes "ids"))
 
 -- the option `--port VALUE`, which has to be given
 abbrev pub port_option : Rule
@@ -49,10 +52,14 @@ abbrev pub run_line : App
 run_line = session_line (codes "run")
 
 abbrev pub save_line : App
-save_line = with_rule (with_rule (session_line (codes "save")) (value_option (codes "out"))) (value_option (codes "to"))
+save_line =
+    with_rule (with_rule (session_line (codes "save")) (value_option (codes "out")))
+    (value_option (codes "to"))
 
 abbrev pub serve_line : App
-serve_line = with_rule (with_rule (session_line (codes "serve")) port_option) (value_option (codes "sessions"))
+serve_line =
+    with_rule (with_rule (session_line (codes "serve")) port_option)
+    (value_option (codes "sessions"))
 
 abbrev pub ask_line : App
 ask_line = with_rule (new_app (codes "ask")) port_option
@@ -62,7 +69,9 @@ abbrev pub local_line : App
 local_line =
     let named = new_app (codes "heapdbg") in
     with_subcommand
-    (with_subcommand (record named { top = record named.top { subcommand_required = true; has_version = true } }) run_line.top)
+    (with_subcommand
+    (record named { top = record named.top { subcommand_required = true; has_version = true } })
+    run_line.top)
     save_line.top
 
 -- all commands
@@ -81,8 +90,8 @@ abbrev pub number_or : ℕ → ℕ → ℕ → Option Text → Option ℕ
 number_or default least most None = Some default
 number_or default least most (Some text) = number_in least most text
 
-abbrev pub value_of : Text → ℕ → ℕ → ℕ → List Row → Option ℕ
-value_of name default least most rows = number_or default least most (first_of name rows)
+abbrev pub option_value : Text → ℕ → ℕ → ℕ → List Row → Option ℕ
+option_value name default least most rows = number_or default least most (first_of name rows)
 
 -- the size of an identifier of so many bytes
 abbrev pub id_size_of : ℕ → Option IdSize
@@ -90,25 +99,27 @@ id_size_of bytes = if bytes == 4 then Some Four else (if bytes == 8 then Some Ei
 
 -- the size of identifiers that the option is given, and its default where it is not given
 abbrev pub id_size_in : List Row → Option IdSize
-id_size_in rows = option_and_then id_size_of (value_of (codes "ids") 8 4 8 rows)
+id_size_in rows = option_and_then id_size_of (option_value (codes "ids") 8 4 8 rows)
 
 -- the settings, where each option has a value in its range
-abbrev pub settings_with : Task → Option ℕ → Option ℕ → Option ℕ → Option ℕ → Option IdSize → Option Settings
-settings_with task (Some regions) (Some mutators) (Some keep) (Some time) (Some ids) = Some (record {
-  task = task;
-  regions = regions;
-  mutators = mutators;
-  keep = keep;
-  time = time;
-  ids = ids;
-})
+abbrev pub settings_with : Task → Option ℕ → Option ℕ → Option ℕ → Option ℕ → Option IdSize
+    → Option Settings
+settings_with task (Some regions) (Some mutators) (Some keep) (Some time) (Some ids) =
+    Some (record {
+      task = task;
+      regions = regions;
+      mutators = mutators;
+      keep = keep;
+      time = time;
+      ids = ids;
+    })
 settings_with task _ _ _ _ _ = None
 
 abbrev pub settings_in : Task → List Row → Option Settings
-settings_in task rows = settings_with task (value_of (codes "regions") 16 1 256 rows)
-    (value_of (codes "mutators") 2 1 16 rows)
-    (value_of (codes "keep") 1024 1 65536 rows)
-    (value_of (codes "time") 0 0 18446744073709551615 rows)
+settings_in task rows = settings_with task (option_value (codes "regions") 16 1 256 rows)
+    (option_value (codes "mutators") 2 1 16 rows)
+    (option_value (codes "keep") 1024 1 65536 rows)
+    (option_value (codes "time") 0 0 18446744073709551615 rows)
     (id_size_in rows)
 
 -- the highest port
@@ -121,7 +132,7 @@ port_in rows = option_and_then (number_in 1 port_limit) (first_of (codes "port")
 
 -- how many sessions are asked for, and 1 where the option is not given
 abbrev pub sessions_in : List Row → Option ℕ
-sessions_in rows = value_of (codes "sessions") 1 1 session_limit rows
+sessions_in rows = option_value (codes "sessions") 1 1 session_limit rows
 
 -- where a dump goes: one of the two options is given, and a port has to be one
 abbrev pub target_in : Option Text → Option Text → Option Target
@@ -131,17 +142,24 @@ target_in None None = None
 target_in (Some path) (Some text) = None
 
 abbrev pub save_in : List Row → Option Task
-save_in rows = option_map (λ target. Save target) (target_in (first_of (codes "out") rows) (first_of (codes "to") rows))
+save_in rows =
+    option_map (λ target. Save target)
+    (target_in (first_of (codes "out") rows) (first_of (codes "to") rows))
 
 abbrev pub serve_in : List Row → Option Task
-serve_in rows = option_and_then (λ port. option_map (λ sessions. Serve port sessions) (sessions_in rows)) (port_in rows)
+serve_in rows =
+    option_and_then (λ port. option_map (λ sessions. Serve port sessions) (sessions_in rows))
+    (port_in rows)
 
 abbrev pub ask_in : List Row → Option Task
 ask_in rows = option_map (λ port. Ask port) (port_in rows)
 
 -- a task has this name
 abbrev pub is_task : Text → Bool
-is_task name = bytes_eq name (codes "run") || (bytes_eq name (codes "save") || (bytes_eq name (codes "serve") || bytes_eq name (codes "ask")))
+is_task name =
+    bytes_eq name (codes "run")
+    || (bytes_eq name (codes "save")
+    || (bytes_eq name (codes "serve") || bytes_eq name (codes "ask")))
 
 -- the task of a command's name and options
 abbrev pub task_in : Text → List Row → Option Task
@@ -170,19 +188,21 @@ is_given name words = list_any (names_option name) words
 
 -- the file that a dump goes to
 abbrev pub path_of : List Text → Option Text
-path_of words = option_and_then (λ found. first_of (codes "out") found.1) (subcommand_of heapdbg_line words)
+path_of words =
+    option_and_then (λ found. first_of (codes "out") found.1) (subcommand_of heapdbg_line words)
 
 -- the port and the number of sessions are within their limits
 abbrev pub IsTask : Task → Type 0
 IsTask Run = ⊤
 IsTask (Save Out) = ⊤
 IsTask (Save (To port)) = (1 ≤ port) × (port ≤ port_limit)
-IsTask (Serve port sessions) = (1 ≤ port) × (port ≤ port_limit) × (1 ≤ sessions) × (sessions ≤ session_limit)
+IsTask (Serve port sessions) =
+    (1 ≤ port) × (port ≤ port_limit) × (1 ≤ sessions) × (sessions ≤ session_limit)
 IsTask (Ask port) = (1 ≤ port) × (port ≤ port_limit)
 
 -- the settings are within their limits
-abbrev pub AreWithin : Settings → Type 0
-AreWithin s = AreSettings s.regions s.mutators s.keep × IsTask s.task
+abbrev pub AreSettingsWithin : Settings → Type 0
+AreSettingsWithin s = AreHeapSettings s.regions s.mutators s.keep × IsTask s.task
 
 -- how many sessions there are
 abbrev pub sessions_of : Task → ℕ

@@ -2,6 +2,6 @@
 pub mod CommandLine
 pub mod Refusals
 pub mod Endings
-pub mod Serving
-pub mod Saving
+pub mod ServeOutcomes
+pub mod SaveOutcomes
 pub mod Runs

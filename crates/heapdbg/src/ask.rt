@@ -1,6 +1,6 @@
 //! The client of a session that is served.
 ghost use Rattle.std.specs.Prelude.{◌≡◌};
-ghost use Rattle.heapdbg.specs.Serving.{IsAsked, asked_outcome};
+ghost use Rattle.heapdbg.specs.ServeOutcomes.{IsServerAsked, asked_outcome};
 
 use crate::failure::Fault;
 use dump_pump::Outlet;
@@ -22,7 +22,7 @@ pub fn ask_port<R, I: Inlet + Send + Drop + 'static, O: Outlet>(
 ) -> Result<(), Fault>
 where
     R: Net<Stream = TcpStream> + Threads + Wait + Copy + Send + Sync + Drop + 'static,
-    ensures { IsAsked (O.seen writer.old) (O.seen writer.new) result }
+    ensures { IsServerAsked (O.seen writer.old) (O.seen writer.new) result }
 {
     let Ok(stream) = TcpStream::connect(rt, (Ipv4Addr::LOCALHOST, port)) else {
         return Err(Fault::Connect);

@@ -6,8 +6,8 @@ ghost use Rattle.std.specs.Char.{is_ascii_digit};
 ghost use Rattle.clap.specs.Words.{FailsBy, app_of, fault_of, found_of, kind_of, rows_of};
 ghost use Rattle.clap.specs.declared.builder.Command.TheViews.{out-Command};
 ghost use Rattle.clap.specs.Words.{rule_of, subcommand_of, subcommand_rows_of};
-ghost use Rattle.heapdbg.specs.CommandLine.{AreWithin, HasDefaults, IsBadWith, heap_line, heapdbg_line, local_line, number_in, run_line};
-ghost use Rattle.heapdbg.specs.CommandLine.{settings_in, settings_of, settings_under, texts, value_of};
+ghost use Rattle.heapdbg.specs.CommandLine.{AreSettingsWithin, HasDefaults, IsBadWith, heap_line, heapdbg_line, local_line, number_in, run_line};
+ghost use Rattle.heapdbg.specs.CommandLine.{settings_in, settings_of, settings_under, texts, option_value};
 ghost use Rattle.heapdbg.specs.CommandLine.{id_size_in, id_size_of, path_of, session_line, task_in, value_option};
 ghost use Rattle.heapdbg.specs.Refusals.{IsMistake, IsMistakeIn, IsRefusalOf, version_text};
 
@@ -25,14 +25,14 @@ use std::alloc::{AllocError, Global};
 pub fn settings(alloc: Global, words: &[&str]) -> Result<Settings, LineFault>
     ensures ok { IfOk result (λ s. settings_of (texts words.now) ≡ Some s) }
     ensures refused { IfErr result (IsRefusalOf (texts words.now)) }
-    ensures limits { IfOk result AreWithin }
+    ensures limits { IfOk result AreSettingsWithin }
     ensures defaults { IfOk result (HasDefaults (texts words.now)) }
 {
-    let matches = match parsed(alloc, words) {
+    let matches = match parse(alloc, words) {
         Ok(matches) => matches,
         Err(error) => return Err(refusal(alloc, &error)),
     };
-    match asked(&matches) {
+    match settings_of_matches(&matches) {
         Ok(settings) => Ok(settings),
         Err(mistake) => Err(mistake.refusal(alloc)),
     }
@@ -42,7 +42,7 @@ pub fn settings(alloc: Global, words: &[&str]) -> Result<Settings, LineFault>
 pub fn out_path<'a>(alloc: Global, words: &'a [&'a str]) -> Option<&'a str>
     ensures { IfSome result (λ path. path_of (texts words.now) ≡ Some path.now) }
 {
-    match parsed(alloc, words) {
+    match parse(alloc, words) {
         Ok(matches) => match matches.subcommand() {
             Some((_, options)) => options.get_str("out"),
             None => None,
@@ -52,8 +52,9 @@ pub fn out_path<'a>(alloc: Global, words: &'a [&'a str]) -> Option<&'a str>
 }
 
 /// What clap makes of the words.
-fn parsed<'a>(alloc: Global, words: &'a [&'a str]) -> Result<ArgMatches<'a>, Error>
-    ensures ok { IfOk result (λ m. subcommand_rows_of m ≡ subcommand_of heapdbg_line (texts words.now)) }
+fn parse<'a>(alloc: Global, words: &'a [&'a str]) -> Result<ArgMatches<'a>, Error>
+    ensures ok { IfOk result
+        (λ m. subcommand_rows_of m ≡ subcommand_of heapdbg_line (texts words.now)) }
     ensures faults { FailsBy (fault_of heapdbg_line (texts words.now)) result }
 {
     let parser = parser(alloc)?;
@@ -156,9 +157,11 @@ pub(crate) fn value_arg<'a>(alloc: Global, name: &'a str, help: &'a str) -> Arg<
 }
 
 /// The settings that the matches ask for.
-fn asked(matches: &ArgMatches<'_>) -> Result<Settings, Mistake>
-    ensures ok { IfOk result (λ s. option_and_then settings_under (subcommand_rows_of matches.now) ≡ Some s) }
-    ensures none { IfErr result (λ m. option_and_then settings_under (subcommand_rows_of matches.now) ≡ None) }
+fn settings_of_matches(matches: &ArgMatches<'_>) -> Result<Settings, Mistake>
+    ensures ok { IfOk result
+        (λ s. option_and_then settings_under (subcommand_rows_of matches.now) ≡ Some s) }
+    ensures none { IfErr result
+        (λ m. option_and_then settings_under (subcommand_rows_of matches.now) ≡ None) }
     ensures mistake { IfErr result (λ m. IsMistake m (subcommand_rows_of matches.now)) }
 {
     let Some((name, options)) = matches.subcommand() else {
@@ -170,9 +173,11 @@ fn asked(matches: &ArgMatches<'_>) -> Result<Settings, Mistake>
 
 /// The task of a command's name and options.
 fn task_of(name: &str, options: &ArgMatches<'_>) -> Result<Task, Mistake>
-    ensures ok { IfOk result (λ task. task_in name.now (rows_of (found_of options.now)) ≡ Some task) }
+    ensures ok { IfOk result
+        (λ task. task_in name.now (rows_of (found_of options.now)) ≡ Some task) }
     ensures none { IfErr result (λ m. task_in name.now (rows_of (found_of options.now)) ≡ None) }
-    ensures mistake { IfErr result (λ m. IsMistake m (Some (name.now, rows_of (found_of options.now)))) }
+    ensures mistake { IfErr result
+        (λ m. IsMistake m (Some (name.now, rows_of (found_of options.now)))) }
 {
     if name == "run" {
         return Ok(Task::Run);
@@ -248,7 +253,7 @@ pub(crate) fn option_value(
     least: u64,
     most: u64,
 ) -> Option<u64>
-    ensures { result ≡ value_of name.now default least most (rows_of (found_of options.now)) }
+    ensures { result ≡ option_value name.now default least most (rows_of (found_of options.now)) }
 {
     match options.get_str(name) {
         Some(text) => number(text, least, most),

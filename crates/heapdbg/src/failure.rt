@@ -2,7 +2,7 @@
 ghost use Rattle.std.specs.Prelude.{◌≡◌, OnOk};
 ghost use Rattle.std.specs.Io.KnownBytes.{Appends};
 ghost use Rattle.std.specs.Process.{exit_status};
-ghost use Rattle.heapdbg.specs.Endings.{message_of, outcome_of, status_of, word_of};
+ghost use Rattle.heapdbg.specs.Endings.{message_of, outcome_of, status_of, word_of_fault};
 
 use crate::settings::LineFault;
 use session_text::Ended;
@@ -49,7 +49,7 @@ pub enum Failure {
 impl Fault {
     /// The word that standard error names the fault by.
     pub fn word(self) -> &'static str
-        ensures { result.now ≡ word_of self }
+        ensures { result.now ≡ word_of_fault self }
     {
         match self {
             Fault::Cut => "cut",
@@ -69,9 +69,9 @@ impl Fault {
 
 impl fmt::Display for Fault {
     ghost use Rattle.std.specs.Prelude.{Some};
-    ghost use Rattle.heapdbg.specs.Endings.{word_of};
+    ghost use Rattle.heapdbg.specs.Endings.{word_of_fault};
 
-    ghost output = { λ fault. Some (word_of fault) };
+    ghost output = { λ fault. Some (word_of_fault fault) };
 
     fn fmt<W: fmt::Write>(&self, f: &mut fmt::Formatter<W>) -> fmt::Result {
         f.write_str(self.word())
@@ -147,7 +147,8 @@ fn status(done: &Result<(), Failure>) -> u8
 
 /// Writes what standard error gets of a failure.
 fn tell<W: Write>(stderr: &mut W, failure: &Failure) -> io::Result<()>
-    ensures { OnOk result (Appends (W.contents stderr.old) (W.contents stderr.new) (message_of failure.now)) }
+    ensures { OnOk result
+        (Appends (W.contents stderr.old) (W.contents stderr.new) (message_of failure.now)) }
 {
     write!(stderr, "{failure}")
 }

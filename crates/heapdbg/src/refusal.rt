@@ -1,7 +1,7 @@
 //! What the program says of a command line that it does not do.
 ghost use Rattle.std.specs.Prelude.{◌≡◌, ◌++◌, IfOk, codes, string_bytes};
 ghost use Rattle.heapdbg.specs.CommandLine.{IsBadWith};
-ghost use Rattle.heapdbg.specs.Refusals.{mistake_of, refusal_of, version_text};
+ghost use Rattle.heapdbg.specs.Refusals.{mistake_of, text_of_mistake, version_text};
 
 use crate::settings::LineFault;
 use std::alloc::{AllocError, Global};
@@ -58,7 +58,7 @@ impl Mistake {
 
     /// Returns the refusal of a command line with this mistake, or Memory if there is none for its text.
     pub(crate) fn refusal(self, alloc: Global) -> LineFault
-        ensures { IsBadWith (refusal_of self) result }
+        ensures { IsBadWith (text_of_mistake self) result }
     {
         match refusal_text(alloc, self.text()) {
             Ok(text) => LineFault::Bad(text),
@@ -69,7 +69,10 @@ impl Mistake {
 
 // Returns the text of a refusal that says this.
 fn refusal_text(alloc: Global, mistake: &str) -> Result<String, AllocError>
-    ensures { IfOk result (λ s. string_bytes s ≡ codes "error: " ++ (mistake.now ++ codes "\n\nFor more information, try 'heapdbg --help'.\n")) }
+    ensures { IfOk result
+        (λ s. string_bytes s
+        ≡ codes "error: "
+        ++ (mistake.now ++ codes "\n\nFor more information, try 'heapdbg --help'.\n")) }
 {
     format!(in alloc; "error: {mistake}\n\nFor more information, try 'heapdbg --help'.\n")
 }

@@ -1,13 +1,13 @@
 //! A session whose last state is dumped to a file or a socket.
 ghost use Rattle.std.specs.Prelude.{◌≡◌, option_map};
-ghost use Rattle.heap_world.specs.Limits.{AreSettings};
-ghost use Rattle.heapdbg.specs.Saving.{IsSavedTo, save_outcome};
+ghost use Rattle.heap_world.specs.Limits.{AreHeapSettings};
+ghost use Rattle.heapdbg.specs.SaveOutcomes.{IsSavedTo, save_outcome};
 
 use crate::failure::{Fault, outcome};
 use crate::progress::TerminalGauge;
 use crate::settings::{Settings, config};
 use dump_pump::{Outlet, Pumped, WriteOutlet};
-use heap_save::{Place, save_into};
+use heap_save::{Outlets, save_into};
 use heap_trail::Machine;
 use pin_stream::Gauge;
 use session_text::{Ended, Inlet, Local};
@@ -26,7 +26,7 @@ struct OutFile<'a, R> {
     path: &'a str,
 }
 
-impl<R: Files> Place for OutFile<'_, R> {
+impl<R: Files> Outlets for OutFile<'_, R> {
     type Out = WriteOutlet<R::File>;
 
     ghost makes = { λ place outlet. Unit {0} };
@@ -46,7 +46,7 @@ struct Peer<'a, R> {
     port: u16,
 }
 
-impl<R: Net> Place for Peer<'_, R> {
+impl<R: Net> Outlets for Peer<'_, R> {
     type Out = WriteOutlet<R::Stream>;
 
     ghost makes = { λ place outlet. Unit {0} };
@@ -73,8 +73,9 @@ pub fn save_out<R, I: Inlet, O: Outlet>(
 ) -> Result<(), Fault>
 where
     R: Clock + Eprint + Files + Threads + Wait + Sync,
-    requires { AreSettings settings.now.regions settings.now.mutators settings.now.keep }
-    ensures { IsSavedTo Fault.Out settings.now (I.seen reader.old) (I.seen reader.new) (O.seen writer.old) (O.seen writer.new) result }
+    requires { AreHeapSettings settings.now.regions settings.now.mutators settings.now.keep }
+    ensures { IsSavedTo Fault.Out settings.now (I.seen reader.old) (I.seen reader.new)
+        (O.seen writer.old) (O.seen writer.new) result }
 {
     let place = OutFile { rt, path };
     let mut gauge = TerminalGauge::new(rt, alloc, settings.ids, is_terminal);
@@ -104,8 +105,9 @@ pub fn save_to<R, I: Inlet, O: Outlet>(
 ) -> Result<(), Fault>
 where
     R: Clock + Eprint + Net + Threads + Wait + Sync,
-    requires { AreSettings settings.now.regions settings.now.mutators settings.now.keep }
-    ensures { IsSavedTo Fault.Connect settings.now (I.seen reader.old) (I.seen reader.new) (O.seen writer.old) (O.seen writer.new) result }
+    requires { AreHeapSettings settings.now.regions settings.now.mutators settings.now.keep }
+    ensures { IsSavedTo Fault.Connect settings.now (I.seen reader.old) (I.seen reader.new)
+        (O.seen writer.old) (O.seen writer.new) result }
 {
     let place = Peer { rt, port };
     let mut gauge = TerminalGauge::new(rt, alloc, settings.ids, is_terminal);
@@ -122,7 +124,7 @@ where
 }
 
 /// Runs a session and dumps the state that it leaves into the outlet of a place. Fails with `unmade` if none can be made.
-fn save<I: Inlet, O: Outlet, P: Place + Drop, G: Gauge, R: Threads + Wait + Sync>(
+fn save<I: Inlet, O: Outlet, P: Outlets + Drop, G: Gauge, R: Threads + Wait + Sync>(
     rt: &R,
     alloc: Global,
     settings: &Settings,
@@ -132,8 +134,9 @@ fn save<I: Inlet, O: Outlet, P: Place + Drop, G: Gauge, R: Threads + Wait + Sync
     gauge: &mut G,
     unmade: Fault,
 ) -> Result<(), Fault>
-    requires { AreSettings settings.now.regions settings.now.mutators settings.now.keep }
-    ensures { IsSavedTo unmade settings.now (I.seen reader.old) (I.seen reader.new) (O.seen writer.old) (O.seen writer.new) result }
+    requires { AreHeapSettings settings.now.regions settings.now.mutators settings.now.keep }
+    ensures { IsSavedTo unmade settings.now (I.seen reader.old) (I.seen reader.new)
+        (O.seen writer.old) (O.seen writer.new) result }
 {
     match Machine::new(alloc, config(settings)) {
         Ok(machine) => {

@@ -58,9 +58,15 @@ pub(crate) fn save_task(options: &ArgMatches<'_>) -> Result<Task, Mistake>
 
 /// Where a dump goes whose path or port is given.
 fn target(path: Option<&str>, port: Option<&str>) -> Result<Target, Mistake>
-    ensures ok { IfOk result (λ t. target_in (option_map (λ s. s.now) path.entry) (option_map (λ s. s.now) port.entry) ≡ Some t) }
-    ensures none { IfErr result (λ m. target_in (option_map (λ s. s.now) path.entry) (option_map (λ s. s.now) port.entry) ≡ None) }
-    ensures mistake { IfErr result (λ m. IsTargetMistake m (option_map (λ s. s.now) path.entry) (option_map (λ s. s.now) port.entry)) }
+    ensures ok { IfOk result
+        (λ t. target_in (option_map (λ s. s.now) path.entry) (option_map (λ s. s.now) port.entry)
+        ≡ Some t) }
+    ensures none { IfErr result
+        (λ m. target_in (option_map (λ s. s.now) path.entry) (option_map (λ s. s.now) port.entry)
+        ≡ None) }
+    ensures mistake { IfErr result
+        (λ m. IsTargetMistake m (option_map (λ s. s.now) path.entry)
+        (option_map (λ s. s.now) port.entry)) }
 {
     match path {
         Some(_) => match port {

@@ -1,9 +1,9 @@
 //! Sessions over one shared heap, for clients of this computer.
 ghost use Rattle.std.specs.Prelude.{◌≡◌, ◌≤◌, []};
-ghost use Rattle.heap_server.specs.Seating.{session_limit};
-ghost use Rattle.heap_world.specs.Limits.{AreSettings};
-ghost use Rattle.session_text.specs.Writes.{IsWritten};
-ghost use Rattle.heapdbg.specs.Serving.{IsServed, IsTold, served_outcome};
+ghost use Rattle.heap_server.specs.SessionSeats.{session_limit};
+ghost use Rattle.heap_world.specs.Limits.{AreHeapSettings};
+ghost use Rattle.session_text.specs.Writes.{IsTextWritten};
+ghost use Rattle.heapdbg.specs.ServeOutcomes.{IsHeapServed, IsReportTold, served_outcome};
 
 use crate::failure::Fault;
 use crate::settings::{Settings, config};
@@ -32,9 +32,9 @@ pub fn serve_port<R, O: Outlet>(
 ) -> Result<(), Fault>
 where
     R: Net<Listener = TcpListener, Stream = TcpStream> + Eprint + Threads + Wait + Sync,
-    requires heap { AreSettings settings.now.regions settings.now.mutators settings.now.keep }
+    requires heap { AreHeapSettings settings.now.regions settings.now.mutators settings.now.keep }
     requires sessions { (1 ≤ sessions) × (sessions ≤ session_limit) }
-    ensures { IsServed settings.now sessions (O.seen writer.old) (O.seen writer.new) result }
+    ensures { IsHeapServed settings.now sessions (O.seen writer.old) (O.seen writer.new) result }
 {
     let Ok(blank) = users(alloc, config(settings), sessions) else {
         return Err(Fault::Memory);
@@ -58,7 +58,7 @@ where
 /// Puts out how sessions ended, from a report that is still empty.
 fn tell<O: Outlet>(served: &Served, report: Vec<u8>, writer: &mut O) -> Result<(), Fault>
     requires { report.items ≡ [] }
-    ensures { IsTold served.now (O.seen writer.old) (O.seen writer.new) result }
+    ensures { IsReportTold served.now (O.seen writer.old) (O.seen writer.new) result }
 {
     let mut report = report;
     if tell_sessions(&mut report, served.ends.as_slice()).is_err() {
@@ -69,9 +69,9 @@ fn tell<O: Outlet>(served: &Served, report: Vec<u8>, writer: &mut O) -> Result<(
 }
 
 /// Puts out all bytes, unless a put fails.
-#[tactic(auto, using(crate::proofs::Telling::put_whole, crate::proofs::Telling::put_part))]
+#[tactic(auto, using(crate::proofs::WholePuts::put_whole, crate::proofs::WholePuts::put_part))]
 fn put_text<O: Outlet>(writer: &mut O, text: &[u8]) -> bool
-    ensures { IsWritten text.now (O.seen writer.old) (O.seen writer.new) result }
+    ensures { IsTextWritten text.now (O.seen writer.old) (O.seen writer.new) result }
 {
     put_all(writer, text) >= text.len()
 }

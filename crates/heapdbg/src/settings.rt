@@ -1,6 +1,6 @@
 //! What a command line asks for.
 ghost use Rattle.std.specs.Prelude.{◌≡◌};
-ghost use Rattle.heap_world.specs.Limits.{AreSettings};
+ghost use Rattle.heap_world.specs.Limits.{AreHeapSettings};
 
 use heap_class::IdSize;
 use heap_world::Config;
@@ -67,8 +67,14 @@ pub enum LineFault {
 
 /// The heap that the settings ask for.
 pub fn config(settings: &Settings) -> Config
-    requires { AreSettings settings.now.regions settings.now.mutators settings.now.keep }
-    ensures { result ≡ record { regions = settings.now.regions; mutators = settings.now.mutators; keep = settings.now.keep; ids = settings.now.ids } }
+    requires { AreHeapSettings settings.now.regions settings.now.mutators settings.now.keep }
+    ensures { result
+        ≡ record {
+          regions = settings.now.regions;
+          mutators = settings.now.mutators;
+          keep = settings.now.keep;
+          ids = settings.now.ids;
+        } }
 {
     match Config::new(settings.regions, settings.mutators, settings.keep) {
         Some(config) => config.with_ids(settings.ids),

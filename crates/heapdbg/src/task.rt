@@ -1,10 +1,10 @@
 //! The tasks, from the words of the command line on.
 ghost use Rattle.std.specs.Prelude.{◌≡◌, Some, IfOk, IfErr, map, string_bytes};
 ghost use Rattle.std.specs.IoError.{error_kind};
-ghost use Rattle.heapdbg.specs.CommandLine.{AreWithin, IsBadWith, settings_of, texts};
+ghost use Rattle.heapdbg.specs.CommandLine.{AreSettingsWithin, IsBadWith, settings_of, texts};
 ghost use Rattle.heapdbg.specs.Refusals.{IsRefusalOf};
-ghost use Rattle.heapdbg.specs.Runs.{IsDone, IsRun, IsPerformed, IsSavedOut};
-ghost use Rattle.heap_world.specs.Limits.{AreSettings};
+ghost use Rattle.heapdbg.specs.Runs.{IsTaskDone, IsRun, IsPerformed, IsSavedOut};
+ghost use Rattle.heap_world.specs.Limits.{AreHeapSettings};
 
 use crate::ask::ask_port;
 use crate::command_line::{out_path, settings};
@@ -68,9 +68,10 @@ fn perform_words<R, I: Inlet + Send, J: Inlet + Send + Drop + 'static, O: Outlet
 where
     R: Net<Listener = TcpListener, Stream = TcpStream> + Threads + Wait,
     R: Clock + Eprint + Files + Copy + Send + Sync + Drop + 'static,
-    ensures { IsPerformed (map string_bytes words.now) (I.seen reader.old) (I.seen reader.new) (O.seen writer.old) (O.seen writer.new) result }
+    ensures { IsPerformed (map string_bytes words.now) (I.seen reader.old) (I.seen reader.new)
+        (O.seen writer.old) (O.seen writer.new) result }
 {
-    let asked = asked(alloc, words)?;
+    let asked = settings_of_words(alloc, words)?;
     work(rt, alloc, words, &asked, reader, input, writer, is_terminal)?;
     Ok(())
 }
@@ -89,8 +90,9 @@ fn work<R, I: Inlet + Send, J: Inlet + Send + Drop + 'static, O: Outlet>(
 where
     R: Net<Listener = TcpListener, Stream = TcpStream> + Threads + Wait,
     R: Clock + Eprint + Files + Copy + Send + Sync + Drop + 'static,
-    requires { AreWithin asked.now }
-    ensures { IsDone asked.now.task asked.now (I.seen reader.old) (I.seen reader.new) (O.seen writer.old) (O.seen writer.new) result }
+    requires { AreSettingsWithin asked.now }
+    ensures { IsTaskDone asked.now.task asked.now (I.seen reader.old) (I.seen reader.new)
+        (O.seen writer.old) (O.seen writer.new) result }
 {
     match asked.task {
         Task::Run => session(alloc, asked, reader, writer),
@@ -131,19 +133,19 @@ fn unread(alloc: Global, error: &Error) -> LineFault
 }
 
 /// The settings that the words ask for.
-fn asked(alloc: Global, words: &[String]) -> Result<Settings, LineFault>
+fn settings_of_words(alloc: Global, words: &[String]) -> Result<Settings, LineFault>
     ensures ok { IfOk result (λ s. settings_of (map string_bytes words.now) ≡ Some s) }
     ensures refused { IfErr result (IsRefusalOf (map string_bytes words.now)) }
-    ensures limits { IfOk result AreWithin }
+    ensures limits { IfOk result AreSettingsWithin }
 {
-    match borrowed(alloc, words) {
+    match borrow_words(alloc, words) {
         Ok(line) => settings(alloc, line.as_slice()),
         Err(_) => Err(LineFault::Memory),
     }
 }
 
 /// The words as text.
-fn borrowed<'a>(alloc: Global, words: &'a [String]) -> Result<Vec<&'a str>, AllocError>
+fn borrow_words<'a>(alloc: Global, words: &'a [String]) -> Result<Vec<&'a str>, AllocError>
     ensures { IfOk result (λ line. texts line.items ≡ map string_bytes words.now) }
 {
     let mut line = Vec::new(alloc);
@@ -160,8 +162,9 @@ fn session<I: Inlet, O: Outlet>(
     reader: &mut I,
     writer: &mut O,
 ) -> Result<(), Fault>
-    requires { AreSettings settings.now.regions settings.now.mutators settings.now.keep }
-    ensures { IsRun settings.now (I.seen reader.old) (I.seen reader.new) (O.seen writer.old) (O.seen writer.new) result }
+    requires { AreHeapSettings settings.now.regions settings.now.mutators settings.now.keep }
+    ensures { IsRun settings.now (I.seen reader.old) (I.seen reader.new) (O.seen writer.old)
+        (O.seen writer.new) result }
 {
     match Machine::new(alloc, config(settings)) {
         Ok(machine) => {
@@ -185,10 +188,11 @@ fn save_named<R, I: Inlet, O: Outlet>(
 ) -> Result<(), Fault>
 where
     R: Clock + Eprint + Files + Threads + Wait + Sync,
-    requires { AreSettings settings.now.regions settings.now.mutators settings.now.keep }
-    ensures { IsSavedOut settings.now (I.seen reader.old) (I.seen reader.new) (O.seen writer.old) (O.seen writer.new) result }
+    requires { AreHeapSettings settings.now.regions settings.now.mutators settings.now.keep }
+    ensures { IsSavedOut settings.now (I.seen reader.old) (I.seen reader.new) (O.seen writer.old)
+        (O.seen writer.new) result }
 {
-    let Ok(line) = borrowed(alloc, words) else {
+    let Ok(line) = borrow_words(alloc, words) else {
         return Err(Fault::Memory);
     };
     match out_path(alloc, line.as_slice()) {

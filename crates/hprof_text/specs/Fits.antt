@@ -25,8 +25,8 @@ FitsId ids n = FitsBytes (id_bytes ids) n
 -- ---- the ids of objects; the length of a whole record stands for that of its body, which is less
 
 -- the numbers of the header fit
-abbrev pub HeaderFits : IdSize → ℕ → Type 0
-HeaderFits ids time =
+abbrev pub FileHeaderFits : IdSize → ℕ → Type 0
+FileHeaderFits ids time =
     FitsBytes 4 (id_bytes ids) × FitsBytes 4 (time / 2 ^ 32) × FitsBytes 4 (time % 2 ^ 32)
 
 -- the numbers of a UTF8 record fit
@@ -63,7 +63,7 @@ DumpFits ids classes (Prim kind) words = FitsBytes 4 (length words) × FitsBytes
 
 -- all numbers of the text fit, but for the ids of objects and the words
 pub record HoldsWhole (ids : IdSize) (image : Image) (time : ℕ) : Type 0 where
-  pub header : HeaderFits ids time
+  pub header : FileHeaderFits ids time
   pub names : All (Utf8Fits ids) (enumerate_from 1 (name_table image.classes))
   pub loaded : All (LoadClassFits ids image.classes) (enumerate_from 0 image.classes)
   pub trace : FitsBytes 4 (length trace)

@@ -17,17 +17,17 @@ use heap_class::{ClassNo, FirstClasses, IdSize, ObjKind, ObjRef, Refusal};
 use std::alloc::Global;
 use std::marker::Model;
 
-mod buffer;
 mod list_view;
 mod measure;
 mod parts;
 mod pieces;
 mod records;
 mod segment;
+mod segment_bytes;
 mod sizes;
 
-pub use crate::buffer::Buffer;
 pub use crate::list_view::{ListView, ListedObject};
+pub use crate::segment_bytes::SegmentBytes;
 
 /// The most bytes of a segment's body, unless it is a single sub-record.
 pub const SEGMENT_LIMIT: u64 = 4096;

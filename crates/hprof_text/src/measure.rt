@@ -1,6 +1,6 @@
 //! The length of a dump, added up from the sizes of its sub-records.
 ghost use Rattle.std.specs.Prelude.{◌≡◌, ◌+◌, ◌*◌, ◌<◌, ◌≤◌, ◌^◌, ℕ, List, [], ◌∷◌, ◌++◌, length, map, replicate};
-ghost use Rattle.hprof_text.specs.Measured.{IsMeasured, total};
+ghost use Rattle.hprof_text.specs.SizeSums.{IsMeasured, total};
 ghost use Rattle.hprof_text.specs.Sizes.{class_size, object_size};
 
 use crate::sizes::{class_size, dump_size};

@@ -4,19 +4,19 @@ ghost use Rattle.std.specs.List.{enumerate_from};
 ghost use Rattle.byteorder.specs.Endian.{big_bytes};
 ghost use Rattle.heap_class.specs.Classes.{fields_of, name_table};
 ghost use Rattle.heap_class.specs.Limits.{class_limit, array_limit};
-ghost use Rattle.hprof_text.specs.Buffered.{HasRoom};
+ghost use Rattle.hprof_text.specs.SegmentContents.{HasRoom};
 ghost use Rattle.hprof_text.specs.Image.{IsKnown};
 ghost use Rattle.hprof_text.specs.Records.{opening_of};
 ghost use Rattle.hprof_text.specs.Text.{id, field_entry, utf8, load_class, value_bytes, dump_of};
 
-use crate::buffer::Buffer;
+use crate::segment_bytes::SegmentBytes;
 use byteorder::{BigEndian, ByteOrder};
 use heap_class::{ClassNo, FirstClasses, IdSize, Kind, ObjKind};
 
 // The number of words that are put in order before they are appended.
 const WORDS_AT_ONCE: usize = 32;
 
-impl Buffer {
+impl SegmentBytes {
     /// Appends the own fields of a class, in order. There must be room.
     pub fn fields(&mut self, ids: IdSize, classes: &FirstClasses<'_>, class: ClassNo)
         requires room { HasRoom self.old

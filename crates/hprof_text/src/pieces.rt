@@ -5,12 +5,12 @@ ghost use Rattle.heap_class.specs.declared.Refusal.TheVariants.{NoMemory};
 ghost use Rattle.hprof_text.specs.declared.Cursor.TheVariants.{Past};
 ghost use Rattle.hprof_text.specs.Records.{opening_of};
 ghost use Rattle.hprof_text.specs.Cursors.{IsAt, IsBefore, from_class, from_root, from_object, from_register};
-ghost use Rattle.hprof_text.specs.Filled.{IsFilledFrom, IsFilledTo, IsFilledBefore, IsFilledRoots, IsRest};
+ghost use Rattle.hprof_text.specs.SegmentFilling.{IsFilledFrom, IsFilledTo, IsFilledBefore, IsFilledRoots, IsRest};
 ghost use Rattle.hprof_text.specs.Segments.{piece_of};
 ghost use Rattle.hprof_text.specs.Text.{class_dump, root_sticky_class, object_records};
 
-use crate::buffer::Buffer;
 use crate::segment::Segment;
+use crate::segment_bytes::SegmentBytes;
 use crate::sizes::opening_size;
 use crate::{Bytes, Cursor, Piece, View};
 use heap_class::{ClassNo, FirstClasses, IdSize, ObjRef, Refusal};
@@ -175,7 +175,7 @@ fn opening_bytes(
     ensures small { IfOk result (λ b. length b ≤ 2 ^ 24) }
     ensures refused { IfErr result (λ e. e ≡ NoMemory) }
 {
-    match Buffer::new(alloc, opening_size(ids, classes) as usize) {
+    match SegmentBytes::new(alloc, opening_size(ids, classes) as usize) {
         Ok(mut buffer) => {
             buffer.opening_records(ids, classes, time);
             Ok(Bytes::from_vec(buffer.into_vec()))

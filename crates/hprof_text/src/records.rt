@@ -3,14 +3,14 @@ ghost use Rattle.std.specs.Prelude.{◌≡◌, ◌<◌, ◌≤◌, ◌++◌, [],
 ghost use Rattle.std.specs.Option.{option_map_or};
 ghost use Rattle.heap_class.specs.Classes.{sup_of};
 ghost use Rattle.heap_class.specs.Limits.{class_limit, name_limit, slot_limit, array_limit};
-ghost use Rattle.hprof_text.specs.Buffered.{HasRoom};
+ghost use Rattle.hprof_text.specs.SegmentContents.{HasRoom};
 ghost use Rattle.hprof_text.specs.Image.{IsKnown};
 ghost use Rattle.hprof_text.specs.Records.{class_at, record_head, field_bytes, class_ids, class_counts, instance_head, sticky_root};
 ghost use Rattle.heap_class.specs.declared.IdSize.TheVariants.{Eight};
 ghost use Rattle.heap_class.specs.declared.ObjKind.TheVariants.{Instance, Array, Prim};
 ghost use Rattle.hprof_text.specs.Text.{class_id, header, utf8, load_class, trace, class_dump, root_unknown, dump_of};
 
-use crate::buffer::Buffer;
+use crate::segment_bytes::SegmentBytes;
 use crate::sizes::instance_size;
 use byteorder::{BigEndian, ByteOrder};
 use heap_class::{ClassNo, FirstClasses, IdSize, Kind};
@@ -53,7 +53,7 @@ fn head_of_eight(object: u64, class: ClassNo, size: u32) -> [u8; HEAD_OF_EIGHT]
     head
 }
 
-impl Buffer {
+impl SegmentBytes {
     /// Appends the header: the format's name, the size of identifiers, and the time in milliseconds since 1970. There must be
     /// room.
     #[tactic(auto, unfolding(crate::specs::Text::header))]
@@ -80,7 +80,7 @@ impl Buffer {
     }
 
     /// Appends a UTF8 record: a name of at most 64 bytes with its id. There must be room.
-    #[tactic(auto, using(crate::proofs::Written::utf8_body), unfolding(crate::specs::Text::utf8, crate::specs::Text::record_of))]
+    #[tactic(auto, using(crate::proofs::WrittenRecords::utf8_body), unfolding(crate::specs::Text::utf8, crate::specs::Text::record_of))]
     pub fn utf8(&mut self, ids: IdSize, number: u64, name: &[u8])
         requires room { HasRoom self.old (utf8 ids (number, name.now)) }
         requires short { length name.now ≤ name_limit }
@@ -93,7 +93,7 @@ impl Buffer {
     }
 
     /// Appends a LOAD CLASS record. The serial of class k is k + 1. There must be room.
-    #[tactic(auto, using(crate::proofs::Written::load_body, crate::proofs::Written::name_at), unfolding(crate::specs::Text::load_class, crate::specs::Text::record_of))]
+    #[tactic(auto, using(crate::proofs::WrittenRecords::load_body, crate::proofs::WrittenRecords::name_at), unfolding(crate::specs::Text::load_class, crate::specs::Text::record_of))]
     pub fn load_class(&mut self, ids: IdSize, classes: &FirstClasses<'_>, class: ClassNo)
         requires room { HasRoom self.old
             (load_class ids classes.now (class, class_at classes.now class)) }

@@ -3,12 +3,12 @@ ghost use Rattle.std.specs.Prelude.{◌≡◌, ◌<◌, ◌≤◌, [], length, I
 ghost use Rattle.heap_class.specs.Limits.{class_limit, array_limit};
 ghost use Rattle.heap_class.specs.declared.ObjKind.TheVariants.{Instance};
 ghost use Rattle.heap_class.specs.declared.Refusal.TheVariants.{NoMemory};
-ghost use Rattle.hprof_text.specs.Filled.{takes, IsOffered};
+ghost use Rattle.hprof_text.specs.SegmentFilling.{takes, IsOffered};
 ghost use Rattle.hprof_text.specs.Image.{IsKnown};
 ghost use Rattle.hprof_text.specs.Records.{class_at};
 ghost use Rattle.hprof_text.specs.Text.{record_of, class_dump, root_sticky_class, root_unknown, dump_of};
 
-use crate::buffer::Buffer;
+use crate::segment_bytes::SegmentBytes;
 use crate::sizes::{class_size, dump_size, root_size};
 use crate::{Bytes, SEGMENT_LIMIT};
 use heap_class::{ClassNo, FirstClasses, IdSize, ObjKind, Refusal};
@@ -24,7 +24,7 @@ const LONGEST: usize = 8217;
 /// A segment that is being filled. Contracts see its body.
 #[derive(Drop)]
 pub struct Segment {
-    buffer: Buffer,
+    buffer: SegmentBytes,
 }
 
 impl Model for Segment {
@@ -44,7 +44,7 @@ impl Segment {
         ensures empty { IfOk result (λ s. s ≡ []) }
         ensures refused { IfErr result (λ e. e ≡ NoMemory) }
     {
-        match Buffer::new(alloc, HEAD + LONGEST) {
+        match SegmentBytes::new(alloc, HEAD + LONGEST) {
             Ok(mut buffer) => {
                 buffer.record_head(0, 0);
                 Ok(Segment { buffer })

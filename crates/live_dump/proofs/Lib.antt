@@ -1,2 +1,2 @@
-pub mod Supplying
-pub mod Streaming
+pub mod SupplySteps
+pub mod ToldStreams

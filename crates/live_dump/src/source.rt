@@ -1,7 +1,7 @@
 //! A source over the lock that tells what it gave.
 ghost use Rattle.std.specs.Prelude.{◌≡◌, ◌<◌};
 ghost use Rattle.heap_lock.specs.Calls.{IsLegalLedger};
-ghost use Rattle.live_dump.specs.Supplies.{IsSupplied, pieces_in, ended_by, given_with, nothing_of};
+ghost use Rattle.live_dump.specs.Supplies.{IsSupplied, pieces_in, ended_with, pieces_with, nothing_of};
 
 use dump_pump::source::PART_LIMIT;
 use dump_pump::{Ending, Next, Source};
@@ -23,19 +23,37 @@ pub struct ToldSource<'a, L: Heap, R: Wait> {
 }
 
 impl<'a, L: Heap, R: Wait> Model for ToldSource<'a, L, R> {
-    ghost use Rattle.live_dump.specs.Supplies.{Told, IsSupplied, pieces_in};
+    ghost use Rattle.live_dump.specs.Supplies.{ToldSupply, IsSupplied, pieces_in};
 
-    ghost Value = { Told };
+    ghost Value = { ToldSupply };
 
-    ghost view = { λ s. record { pin = s.source.pin; time = s.source.time; start = s.start.value; seen = s.source.witness; given = pieces_in s.given.items; count = s.source.count; ended = s.ended } };
+    ghost view = { λ s.
+        record {
+          pin = s.source.pin;
+          time = s.source.time;
+          start = s.start.value;
+          seen = s.source.witness;
+          given = pieces_in s.given.items;
+          count = s.source.count;
+          ended = s.ended;
+        } };
 
-    ghost invariant = { λ s. IsSupplied L.config (record { pin = s.source.pin; time = s.source.time; start = s.start.value; seen = s.source.witness; given = pieces_in s.given.items; count = s.source.count; ended = s.ended }) };
+    ghost invariant = { λ s. IsSupplied L.config
+        (record {
+          pin = s.source.pin;
+          time = s.source.time;
+          start = s.start.value;
+          seen = s.source.witness;
+          given = pieces_in s.given.items;
+          count = s.source.count;
+          ended = s.ended;
+        }) };
 }
 
 /// Notes what was given next, and how the source ended.
 fn note(given: &mut Log<Piece, ()>, ended: &mut Option<Ending>, next: &Next)
-    ensures given { pieces_in given.new.items ≡ given_with (pieces_in given.old.items) next.now }
-    ensures ended { ended.new ≡ ended_by ended.old next.now }
+    ensures given { pieces_in given.new.items ≡ pieces_with (pieces_in given.old.items) next.now }
+    ensures ended { ended.new ≡ ended_with ended.old next.now }
 {
     match next {
         Next::Part(piece) => {
@@ -98,13 +116,13 @@ impl<'a, L: Heap, R: Wait> ToldSource<'a, L, R> {
 impl<'a, L: Heap, R: Wait> Source for ToldSource<'a, L, R> {
     ghost use Rattle.std.specs.Prelude.{ℕ, List};
     ghost use Rattle.heap_lock.specs.Calls.{Call};
-    ghost use Rattle.live_dump.specs.Supplies.{supply};
+    ghost use Rattle.live_dump.specs.Supplies.{told_supply};
 
     ghost Kept = { ℕ × ℕ × List Call };
 
     ghost kept = { λ s. (s.pin, s.time, s.start) };
 
-    ghost seen = { λ s. supply s.given s.count s.ended };
+    ghost seen = { λ s. told_supply s.given s.count s.ended };
 
     fn next(&mut self) -> Next {
         let next = self.source.next_part();

@@ -35,7 +35,8 @@ pub fn stream<L: Heap + Send + Sync, O: Outlet, R: Threads + Wait + Sync>(
     requires out { out.old.meter ≡ meter.now }
     requires feed { feed.meter ≡ meter.now }
     requires room { out.old.sum + byte_limit < 2 ^ 64 }
-    ensures put { PutsLive L.config pin time witness result.2 result.1.found (O.seen outlet.old) (O.seen outlet.new) result.0 }
+    ensures put { PutsLive L.config pin time witness result.2 result.1.found (O.seen outlet.old)
+        (O.seen outlet.new) result.0 }
     ensures legal { IsLegalLedger L.config result.2 }
     ensures out { out.new ≡ sum meter.now (out.old.sum + bytes_of result.0) }
     ensures feed { result.1.meter ≡ meter.now }

@@ -5,7 +5,7 @@ use Rattle.dump_pump.specs.declared.transfer.Pumped.{Pumped}
 use Rattle.dump_pump.specs.declared.transfer.Pumped.TheVariants.{Lost}
 use Rattle.dump_pump.specs.Outlets.{Outgoing}
 use Rattle.heap_trail.specs.Machine.{Machine}
-use Rattle.heap_dump.specs.Dumped.{PutsPin}
+use Rattle.heap_dump.specs.PinDumps.{PutsPin}
 
 -- what a dump of the pin puts out, or nothing, for want of memory
 abbrev pub StreamsPin : ℕ → ℕ → Machine → Outgoing → Outgoing → Pumped → Type 0

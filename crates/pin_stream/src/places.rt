@@ -1,10 +1,10 @@
 //! Dumps of the current state through a pipe.
 ghost use Rattle.std.specs.Prelude.{◌≡◌, All, length};
 ghost use Rattle.dump_pump.specs.Pumps.{bytes_of};
-ghost use Rattle.dump_meter.specs.Seats.{sum, seen};
+ghost use Rattle.dump_meter.specs.Seats.{sum, sum_read};
 ghost use Rattle.heap_trail.specs.Pins.{pin_at};
-ghost use Rattle.heap_dump.specs.Handed.{given_of, ungiven};
-ghost use Rattle.heap_dump.specs.Dumped.{IsDumped, PutsPin};
+ghost use Rattle.heap_dump.specs.HandedPieces.{given_of, ungiven};
+ghost use Rattle.heap_dump.specs.PinDumps.{IsPlaceDumped, PutsPin};
 ghost use Rattle.pin_stream.specs.Streams.{StreamsPin};
 
 use crate::gauge::{Gauge, Shown};
@@ -68,7 +68,7 @@ fn stream_metered<O: Outlet, G: Gauge, R: Threads + Wait + Sync>(
     requires fresh { given_of (pin_at pin machine.old.pins) ≡ 0 }
     requires out { made.out ≡ sum made.meter 0 }
     requires reader_count { length made.readers.items ≡ 1 }
-    requires readers { All (λ s. s ≡ seen made.meter 0) made.readers.items }
+    requires readers { All (λ s. s ≡ sum_read made.meter 0) made.readers.items }
     ensures put { PutsPin pin time machine.old (O.seen outlet) (O.seen result.1) result.0 }
     ensures same { ungiven pin machine.new ≡ ungiven pin machine.old }
 {
@@ -138,7 +138,8 @@ pub fn stream_place<O: Outlet, G: Gauge, R: Threads + Wait + Sync>(
     outlet: O,
     gauge: &mut G,
 ) -> (Pumped, O)
-    ensures { IsDumped time machine.old machine.new (O.seen outlet) (O.seen result.1) result.0 }
+    ensures { IsPlaceDumped time machine.old machine.new (O.seen outlet) (O.seen result.1)
+        result.0 }
 {
     // Its contract says that no open pin has the next number.
     machine.next_pin();

@@ -14,7 +14,8 @@ use std::alloc::Global;
 /// No contract says that it was: callers may show no size.
 pub fn dump_size(alloc: Global, world: &World, ids: IdSize) -> Option<u64>
     requires { IsLegal world.now }
-    ensures { IfSome result (λ n. (time : ℕ) → n ≡ length (dump_text ids (image_of world.now) time)) }
+    ensures { IfSome result
+        (λ n. (time : ℕ) → n ≡ length (dump_text ids (image_of world.now) time)) }
 {
     match Pin::open(alloc, world) {
         Ok(pin) => {

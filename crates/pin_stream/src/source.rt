@@ -1,9 +1,9 @@
 //! A source of a machine's pin that may go to another thread.
 ghost use Rattle.std.specs.Prelude.{◌≡◌, None, false};
 ghost use Rattle.heap_trail.specs.Pins.{pin_at};
-ghost use Rattle.heap_dump.specs.Handed.{given_of};
-ghost use Rattle.heap_dump.specs.Endings.{is_whole};
-ghost use Rattle.heap_dump.specs.Pinned.{IsCaused};
+ghost use Rattle.heap_dump.specs.HandedPieces.{given_of};
+ghost use Rattle.heap_dump.specs.Endings.{is_whole_ending};
+ghost use Rattle.heap_dump.specs.PinSupplies.{IsCaused};
 
 use dump_pump::source::PART_LIMIT;
 use dump_pump::{Ending, Next, Source};
@@ -24,7 +24,8 @@ pub struct FreshSource<'a> {
     pub count: u64,
     /// How the source ended.
     pub ended: Option<Ending>,
-    ghost counted: { is_whole ended ≡ false → given_of (pin_at pin machine.now.pins) ≡ count },
+    ghost counted: { is_whole_ending ended ≡ false
+        → given_of (pin_at pin machine.now.pins) ≡ count },
     ghost caused: { IsCaused pin machine.now ended },
 }
 
@@ -51,16 +52,16 @@ impl<'a> FreshSource<'a> {
 
 /// Tells whether an ending is that with the last part.
 fn is_whole(ended: &Option<Ending>) -> bool
-    ensures { result ≡ is_whole ended.now }
+    ensures { result ≡ is_whole_ending ended.now }
 {
     matches!(ended, Some(Ending::Whole))
 }
 
 impl<'a> Source for FreshSource<'a> {
-    ghost use Rattle.heap_dump.specs.Pinned.{Pinned};
+    ghost use Rattle.heap_dump.specs.PinSupplies.{PinOrigin};
     ghost use Rattle.pin_stream.specs.Fresh.{fresh_pinned, fresh_supply};
 
-    ghost Kept = { Pinned };
+    ghost Kept = { PinOrigin };
 
     ghost kept = { λ s. fresh_pinned s.machine.ghost_name s.pin s.time s.machine.now };
 

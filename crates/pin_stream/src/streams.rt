@@ -3,8 +3,8 @@ ghost use Rattle.std.specs.Prelude.{◌≡◌, ◌+◌, ◌<◌, ◌^◌};
 ghost use Rattle.dump_pump.specs.Pumps.{bytes_of};
 ghost use Rattle.dump_pipe.specs.Pipes.{byte_limit};
 ghost use Rattle.heap_trail.specs.Pins.{pin_at};
-ghost use Rattle.heap_dump.specs.Dumped.{PutsPin};
-ghost use Rattle.heap_dump.specs.Handed.{given_of, ungiven};
+ghost use Rattle.heap_dump.specs.PinDumps.{PutsPin};
+ghost use Rattle.heap_dump.specs.HandedPieces.{given_of, ungiven};
 
 use crate::source::FreshSource;
 use dump_meter::{OutSeat, Progress};

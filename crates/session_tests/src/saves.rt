@@ -2,7 +2,7 @@
 use crate::examples::{DUMP_OF_ONE_POINT, POINT, POINT_MADE};
 use crate::sessions::local;
 use dump_pump::{Pumped, WriteOutlet};
-use heap_save::{Place, Saved, save_into};
+use heap_save::{Outlets, Saved, save_into};
 use pin_stream::{Gauge, Silent};
 use session_text::{Ended, Local, ReadInlet};
 use std::alloc::Global;
@@ -17,7 +17,7 @@ struct Memory {
     asked: u64,
 }
 
-impl Place for Memory {
+impl Outlets for Memory {
     type Out = WriteOutlet<Vec<u8>>;
 
     ghost makes = { λ place outlet. Unit {0} };

@@ -8,7 +8,7 @@ use Rattle.std.proofs.lemmas.Bool.Decides.{nat_tests}
 use Rattle.std.proofs.lemmas.Slice.{take-put_mid_below}
 use borrow.Rule.Slice.PartMut.{put_mid, post_of}
 use Rattle.session_text.specs.declared.inlet.Take.{Take}
-use Rattle.session_text.specs.Inlets.{Incoming, IsTake, IsRead, count_of}
+use Rattle.session_text.specs.Inlets.{Incoming, IsTake, IsInletRead, count_of}
 use Rattle.session_text.specs.Lines.{NoLf}
 
 pub split_at : (xs : List ℕ) (n : ℕ) → n < length xs → get_or xs n 0 ≡ 10 → xs ≡ take n xs ++ 10 ∷ drop (n + 1) xs
@@ -24,7 +24,7 @@ drop_window xs s e n se el le =
     sym (ap (λ k. drop n (take k (drop s xs))) q ∙ drop-take n (e - (s + n)) (drop s xs) ∙ ap (λ l. take (e - (s + n)) l) (drop-drop n s xs))
 
 -- a read into what lies behind the bytes in use
-pub refilled : (used : ℕ) (bytes room : List ℕ) (a b : Incoming) (t : Take) → used < length bytes → IsTake room a b t → IsRead (take used bytes) (take (used + count_of t) (put_mid used (length bytes - used) bytes room)) a b t
+pub refilled : (used : ℕ) (bytes room : List ℕ) (a b : Incoming) (t : Take) → used < length bytes → IsTake room a b t → IsInletRead (take used bytes) (take (used + count_of t) (put_mid used (length bytes - used) bytes room)) a b t
 refilled used bytes room a b (Take.Got n) lt h =
     let size : length (take used bytes) ≡ used = length-take-le used bytes (omega arith) in
     let behind = room ++ post_of used (length bytes - used) bytes in
@@ -64,10 +64,10 @@ still_none xs ys zs s used k le none moved kept =
     subst (λ l. NoLf l) (sym (sym (take-take k used zs le) ∙ ap (λ l. take k l) (kept ∙ moved) ∙ take-take k used (drop s xs) le)) none
 
 pub refilled_from : (used n : ℕ) (was bytes room : List ℕ) (start : ℕ) (a b : Incoming) (t : Take) → used ≡ n → used < length bytes → take used bytes ≡ take used (drop start was) → IsTake room a b t
-    → IsRead (take n (drop start was)) (take (n + count_of t) (put_mid used (length bytes - used) bytes room)) a b t
+    → IsInletRead (take n (drop start was)) (take (n + count_of t) (put_mid used (length bytes - used) bytes room)) a b t
 refilled_from used n was bytes room start a b t e lt same h =
-    subst (λ k. IsRead (take k (drop start was)) (take (k + count_of t) (put_mid used (length bytes - used) bytes room)) a b t) e
-    (subst (λ l. IsRead l (take (used + count_of t) (put_mid used (length bytes - used) bytes room)) a b t) same (refilled used bytes room a b t lt h))
+    subst (λ k. IsInletRead (take k (drop start was)) (take (k + count_of t) (put_mid used (length bytes - used) bytes room)) a b t) e
+    (subst (λ l. IsInletRead l (take (used + count_of t) (put_mid used (length bytes - used) bytes room)) a b t) same (refilled used bytes room a b t lt h))
 
 pub moved_none : (xs ys : List ℕ) (s used k : ℕ) → k ≤ used → NoLf (take k (drop s xs)) → take used ys ≡ take used (drop s xs) → NoLf (take k ys)
 moved_none xs ys s used k le none moved =

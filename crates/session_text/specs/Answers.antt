@@ -22,23 +22,23 @@ abbrev pub SaysTo : Type 0 → Type 1
 SaysTo S = Command → Reaction S
 
 -- the relation that a line stands for
-abbrev pub Says : Type 0 → Type 1
-Says S = List ℕ → Reaction S
+abbrev pub AnswerRelation : Type 0 → Type 1
+AnswerRelation S = List ℕ → Reaction S
 
 -- the answer `bad command`, which changes nothing
 abbrev pub IsBadCommand : {S : Type 0} → Reaction S
 IsBadCommand c text c' = (text ≡ codes "bad command\n") × (c' ≡ c)
 
 -- the commands act, or an allocation for the line failed and nothing is done
-abbrev pub Replies : {S : Type 0} → Acts S → S → Action → Reply → S → Type 0
-Replies acts c a r c' = acts c a r c' ⊎ (ActionTakesMemory a × (r ≡ Refused NoMemory) × (c' ≡ c))
+abbrev pub RepliesTo : {S : Type 0} → Acts S → S → Action → Reply → S → Type 0
+RepliesTo acts c a r c' = acts c a r c' ⊎ (ActionTakesMemory a × (r ≡ Refused NoMemory) × (c' ≡ c))
 
 -- the text of a command's answer, and the commands after it; `unknown` is the answer if the grammar doesn't know the line
 abbrev pub AnswersTo : {S : Type 0} → Acts S → Reaction S → ℕ → SaysTo S
 AnswersTo acts unknown time Blank c text c' = (text ≡ []) × (c' ≡ c)
 AnswersTo acts unknown time Bad c text c' = unknown c text c'
 AnswersTo acts unknown time (Ask a) c text c' =
-    (r : Reply) × Replies acts c a r c' × (text ≡ reply_text r)
+    (r : Reply) × RepliesTo acts c a r c' × (text ≡ reply_text r)
 AnswersTo acts unknown time (Piece pin) c text c' =
     (r : Reply) × acts c (NextPiece pin time) r c' × (text ≡ reply_text r)
 AnswersTo acts unknown time (Dump pin) c text c' = DumpsPin acts pin time part_limit c text c'
@@ -58,13 +58,13 @@ BeginsTo acts unknown time DumpNow c text c' =
 BeginsTo acts unknown time End c text c' = ⊥
 
 -- the answer of a line; `unknown` has those of the lines that the grammar doesn't know
-abbrev pub Answers : {S : Type 0} → Acts S → Says S → ℕ → Says S
-Answers acts unknown time l = AnswersTo acts (unknown (without_cr l)) time (command_of l)
+abbrev pub AnswersCommand : {S : Type 0} → Acts S → AnswerRelation S → ℕ → AnswerRelation S
+AnswersCommand acts unknown time l = AnswersTo acts (unknown (without_cr l)) time (command_of l)
 
 -- the same if a write fails in it
-abbrev pub Begins : {S : Type 0} → Acts S → Says S → ℕ → Says S
+abbrev pub Begins : {S : Type 0} → Acts S → AnswerRelation S → ℕ → AnswerRelation S
 Begins acts unknown time l = BeginsTo acts (unknown (without_cr l)) time (command_of l)
 
 -- the answer `bad command` to each line
-abbrev pub all_bad : {S : Type 0} → Says S
+abbrev pub all_bad : {S : Type 0} → AnswerRelation S
 all_bad l = IsBadCommand

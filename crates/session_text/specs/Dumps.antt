@@ -7,7 +7,7 @@ use Rattle.heap_trail.specs.declared.Action.TheVariants.{OpenPin, NextPiece, Clo
 use Rattle.heap_trail.specs.declared.Reply.{Reply}
 use Rattle.hprof_text.specs.declared.Piece.{Piece}
 use Rattle.session_text.specs.Replies.{line, and_number, reply_text, data_lines, piece_in, pin_in}
-use Rattle.session_text.specs.Writes.{IsAdded}
+use Rattle.session_text.specs.Writes.{IsTextAdded}
 
 -- a relation between commands, an action, its reply and the commands after
 abbrev pub Acts : Type 0 → Type 1
@@ -24,19 +24,19 @@ total_line total = line (codes "ok dump" ++ and_number total)
 
 -- after the reply to NextPiece: a piece's data lines, and then the last line or the text of the other pieces; or the line of
 -- a reply that gives no piece
-abbrev pub Goes : {S : Type 0} → Dumping S → Reply → Option Piece → Dumping S
-Goes more r (Some p) c so_far text c' =
+abbrev pub DumpsOn : {S : Type 0} → Dumping S → Reply → Option Piece → Dumping S
+DumpsOn more r (Some p) c so_far text c' =
     (rest : List ℕ) × (text ≡ data_lines p.bytes ++ rest)
     × (((p.last ≡ true) × (rest ≡ total_line (so_far + length p.bytes)) × (c' ≡ c))
     ⊎ ((p.last ≡ false) × more c (so_far + length p.bytes) rest c'))
-Goes more r None c so_far text c' = (text ≡ reply_text r) × (c' ≡ c)
+DumpsOn more r None c so_far text c' = (text ≡ reply_text r) × (c' ≡ c)
 
 -- at most n pieces of a pin
 abbrev pub Dumps : {S : Type 0} → Acts S → ℕ → ℕ → ℕ → Dumping S
 Dumps acts pin time zero c so_far text c' = (text ≡ []) × (c' ≡ c)
 Dumps {S} acts pin time (suc n) c so_far text c' =
     (r : Reply) × (next : S) × acts c (NextPiece pin time) r next
-    × Goes (Dumps acts pin time n) r (piece_in r) next so_far text c'
+    × DumpsOn (Dumps acts pin time n) r (piece_in r) next so_far text c'
 
 -- a relation between the largest number of pieces, the commands before, the text of a dump and the commands after
 abbrev pub DumpText : Type 0 → Type 1
@@ -63,7 +63,7 @@ DumpsNow {S} acts time n c text c' =
 abbrev pub WritesDump : {S : Type 0} → DumpText S → S → S → List ℕ → Outgoing → List ℕ → Outgoing
     → Bool → Type 0
 WritesDump dumps c c' page a page' b true =
-    (text : List ℕ) × dumps part_limit c text c' × IsAdded text page a page' b true
+    (text : List ℕ) × dumps part_limit c text c' × IsTextAdded text page a page' b true
 WritesDump dumps c c' page a page' b false =
     (pieces : ℕ) × (text : List ℕ) × (pieces ≤ part_limit) × dumps pieces c text c'
-    × IsAdded text page a page' b false
+    × IsTextAdded text page a page' b false

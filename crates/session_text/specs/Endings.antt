@@ -6,7 +6,7 @@ use Rattle.session_text.specs.declared.Ended.TheVariants.{Quit, Eof, CutLine, To
 use Rattle.session_text.specs.declared.answer.Step.{Step}
 use Rattle.session_text.specs.declared.answer.Step.TheVariants.{Next, Fault}
 use Rattle.session_text.specs.Inlets.{Incoming, NothingLeft}
-use Rattle.session_text.specs.Writes.{IsWritten}
+use Rattle.session_text.specs.Writes.{IsTextWritten}
 
 -- the next line comes, unless a write failed
 abbrev pub step_of : Bool → Step
@@ -21,7 +21,7 @@ ended_of ended false = WriteFault
 -- the page and an ending's line were put out, or the session ended by a write that failed in them
 abbrev pub EndsWith : List ℕ → List ℕ → Outgoing → Outgoing → Ended → Ended → Type 0
 EndsWith line page w w' ended result =
-    (written : Bool) × IsWritten (page ++ line) w w' written × (result ≡ ended_of ended written)
+    (written : Bool) × IsTextWritten (page ++ line) w w' written × (result ≡ ended_of ended written)
 
 -- the reader before and after, if no write failed
 abbrev pub ReaderEnds : Incoming → Incoming → Ended → Type 0
@@ -36,8 +36,8 @@ ReaderEnds a b WriteFault = ⊥
 ReaderEnds a b NoMemory = b ≡ a
 
 -- the reader and the writer before and after
-abbrev pub Ends : Incoming → Incoming → Outgoing → Outgoing → Ended → Type 0
-Ends a b w w' WriteFault =
+abbrev pub EndsSession : Incoming → Incoming → Outgoing → Outgoing → Ended → Type 0
+EndsSession a b w w' WriteFault =
     (w'.failures ≡ w.failures + 1) × ((b.failures ≡ a.failures) ⊎ (b.failures ≡ a.failures + 1))
-Ends a b w w' NoMemory = (b ≡ a) × (w' ≡ w)
-Ends a b w w' ended = (w'.failures ≡ w.failures) × ReaderEnds a b ended
+EndsSession a b w w' NoMemory = (b ≡ a) × (w' ≡ w)
+EndsSession a b w w' ended = (w'.failures ≡ w.failures) × ReaderEnds a b ended

@@ -17,22 +17,22 @@ use Rattle.session_text.specs.declared.command.Command.TheVariants.{Blank, Bad, 
 -- ---- words and numbers
 
 -- the words of a line: the longest runs of bytes other than space
-unfoldable pub words_of : List ℕ → List (List ℕ)
-words_of line = filter (λ w. nat_lt 0 (length w)) (slice_split (λ b. b == 32) line)
+unfoldable pub words_of_line : List ℕ → List (List ℕ)
+words_of_line line = filter (λ w. nat_lt 0 (length w)) (slice_split (λ b. b == 32) line)
 
 -- the value of decimal digits, if it is below 2 ^ 64
-abbrev pub value_of : List ℕ → Option ℕ
-value_of ds =
+abbrev pub value_of_digits : List ℕ → Option ℕ
+value_of_digits ds =
     if list_all is_ascii_digit ds && nat_lt (digits_value 10 ds) (2 ^ 64)
     then Some (digits_value 10 ds) else None
 
 -- 1 to 20 decimal digits with a value below 2 ^ 64
-unfoldable pub number : List ℕ → Option ℕ
-number w = if nat_lt 0 (length w) && nat_le (length w) 20 then value_of w else None
+unfoldable pub number_of_word : List ℕ → Option ℕ
+number_of_word w = if nat_lt 0 (length w) && nat_le (length w) 20 then value_of_digits w else None
 
 -- a number, or None for `-`
 abbrev pub number_or_dash : List ℕ → Option (Option ℕ)
-number_or_dash w = if bytes_eq w (codes "-") then Some None else option_map Some (number w)
+number_or_dash w = if bytes_eq w (codes "-") then Some None else option_map Some (number_of_word w)
 
 -- ---- kinds and fields
 
@@ -41,27 +41,28 @@ abbrev pub all_kinds : List Kind
 all_kinds = Kind.Object ∷ Boolean ∷ Char ∷ Float ∷ Double ∷ Byte ∷ Short ∷ Int ∷ Long ∷ []
 
 -- the kind that a word names
-unfoldable pub kind_of : List ℕ → Option Kind
-kind_of w = find (λ k. bytes_eq (kind_word k) w) all_kinds
+unfoldable pub kind_of_word : List ℕ → Option Kind
+kind_of_word w = find (λ k. bytes_eq (kind_word k) w) all_kinds
 
 -- NAME:KIND with one colon; no kind's word has one
-abbrev pub field_of : List ℕ → Option Field
-field_of w =
+abbrev pub field_of_word : List ℕ → Option Field
+field_of_word w =
     option_and_then
-    (λ n. option_map (λ k. record { name = take n w; kind = k }) (kind_of (drop (n + 1) w)))
+    (λ n. option_map (λ k. record { name = take n w; kind = k }) (kind_of_word (drop (n + 1) w)))
     (position (λ b. b == 58) w)
 
 -- the fields that these words are, if each is one
-abbrev pub fields_of : List (List ℕ) → Option (List Field)
-fields_of [] = Some []
-fields_of (w ∷ ws) = option_and_then (λ f. option_map (λ fs. f ∷ fs) (fields_of ws)) (field_of w)
+abbrev pub fields_of_words : List (List ℕ) → Option (List Field)
+fields_of_words [] = Some []
+fields_of_words (w ∷ ws) =
+    option_and_then (λ f. option_map (λ fs. f ∷ fs) (fields_of_words ws)) (field_of_word w)
 
 -- ---- the words after the first
 
 -- the number that the first word holds, and the other words
 abbrev pub next_number : List (List ℕ) → Option (ℕ × List (List ℕ))
 next_number [] = None
-next_number (w ∷ ws) = option_map (λ n. (n, ws)) (number w)
+next_number (w ∷ ws) = option_map (λ n. (n, ws)) (number_of_word w)
 
 -- the number that the first word holds, or None from a `-`, and the other words
 abbrev pub next_number_or_dash : List (List ℕ) → Option (Option ℕ × List (List ℕ))
@@ -71,7 +72,7 @@ next_number_or_dash (w ∷ ws) = option_map (λ n. (n, ws)) (number_or_dash w)
 -- the kind that the first word names, and the other words
 abbrev pub next_kind : List (List ℕ) → Option (Kind × List (List ℕ))
 next_kind [] = None
-next_kind (w ∷ ws) = option_map (λ k. (k, ws)) (kind_of w)
+next_kind (w ∷ ws) = option_map (λ k. (k, ws)) (kind_of_word w)
 
 -- x, if no word is left
 abbrev pub at_end : {A : Type 0} → A → List (List ℕ) → Option A
@@ -113,7 +114,7 @@ abbrev pub class_line : List (List ℕ) → Option Command
 class_line [] = None
 class_line (name ∷ []) = None
 class_line (name ∷ sup ∷ fields) =
-    option_and_then (λ s. option_map (λ fs. Ask (Step (Class name s fs))) (fields_of fields))
+    option_and_then (λ s. option_map (λ fs. Ask (Step (Class name s fs))) (fields_of_words fields))
     (number_or_dash sup)
 
 -- `array NAME`
@@ -179,13 +180,13 @@ abbrev pub piece_line : List (List ℕ) → Option Command
 piece_line ws = option_map (λ pin. Piece pin) (one_number ws)
 
 -- a dump of a pin, or of the current state
-abbrev pub dump_of : Option ℕ → Command
-dump_of (Some pin) = Dump pin
-dump_of None = DumpNow
+abbrev pub dump_command : Option ℕ → Command
+dump_command (Some pin) = Dump pin
+dump_command None = DumpNow
 
 -- `dump PIN` or `dump -`
 abbrev pub dump_line : List (List ℕ) → Option Command
-dump_line ws = option_map (λ pin. dump_of pin) (one_number_or_dash ws)
+dump_line ws = option_map (λ pin. dump_command pin) (one_number_or_dash ws)
 
 -- `close PIN`
 abbrev pub close_line : List (List ℕ) → Option Command
@@ -265,7 +266,7 @@ is_plain t = list_all (λ b. nat_le 0x20 b && nat_le b 0x7e) t
 
 -- the command of a line without its CR; a line with a bad byte is none of the grammar's
 abbrev pub command_of_text : List ℕ → Command
-command_of_text t = if is_plain t then command_of_words (words_of t) else Bad
+command_of_text t = if is_plain t then command_of_words (words_of_line t) else Bad
 
 -- what a line without its LF asks for
 unfoldable pub command_of : List ℕ → Command

@@ -14,7 +14,7 @@ pub record Incoming : Type 0 where
 
 -- an inlet's reader, the bytes that it gave since the inlet was made, the number of bytes of each read, and the number of
 -- reads that failed
-pub record Reading (R : Type 0) : Type 0 where
+pub record InletState (R : Type 0) : Type 0 where
   pub reader : R
   pub taken : List ℕ
   pub reads : List ℕ
@@ -41,15 +41,15 @@ IsTake room a b Failed =
     × Keeps (whole a) (whole b)
 
 -- the effect of a read on a buffer's bytes
-abbrev pub IsRead : List ℕ → List ℕ → Incoming → Incoming → Take → Type 0
-IsRead buf buf' a b (Got n) =
+abbrev pub IsInletRead : List ℕ → List ℕ → Incoming → Incoming → Take → Type 0
+IsInletRead buf buf' a b (Got n) =
     (more : List ℕ) × (0 < length more) × (buf' ≡ buf ++ more) × (b.taken ≡ a.taken ++ more)
     × (b.reads ≡ a.reads ++ length more ∷ []) × (b.failures ≡ a.failures)
     × Keeps (whole a) (whole b)
-IsRead buf buf' a b End =
+IsInletRead buf buf' a b End =
     (buf' ≡ buf) × NothingLeft b × (b.taken ≡ a.taken) × (b.reads ≡ a.reads ++ 0 ∷ [])
     × (b.failures ≡ a.failures) × Keeps (whole a) (whole b)
-IsRead buf buf' a b Failed =
+IsInletRead buf buf' a b Failed =
     (buf' ≡ buf) × (b.taken ≡ a.taken) × (b.reads ≡ a.reads ++ 0 ∷ [])
     × (b.failures ≡ a.failures + 1) × Keeps (whole a) (whole b)
 

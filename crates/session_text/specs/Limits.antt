@@ -8,7 +8,7 @@ abbrev pub buffer_limit : ℕ
 buffer_limit = 65536
 
 -- whether each line was run
-abbrev pub is_whole : Ended → Bool
-is_whole Quit = true
-is_whole Eof = true
-is_whole e = false
+abbrev pub is_whole_session : Ended → Bool
+is_whole_session Quit = true
+is_whole_session Eof = true
+is_whole_session e = false

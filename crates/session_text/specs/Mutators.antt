@@ -11,14 +11,14 @@ use Rattle.session_text.specs.declared.mutator.Quick.TheVariants.{No, Next, Faul
 use Rattle.session_text.specs.declared.mutator.Verb.{Verb}
 use Rattle.session_text.specs.declared.mutator.Verb.TheVariants.{Load, Store, Put, Move, Clear, New, Mark, Other}
 use Rattle.session_text.specs.Dumps.{Acts}
-use Rattle.session_text.specs.Grammar.{words_of, command_of_text, without_cr}
+use Rattle.session_text.specs.Grammar.{words_of_line, command_of_text, without_cr}
 use Rattle.session_text.specs.Lines.{NoLf, IsLineAt}
 use Rattle.session_text.specs.Replies.{reply_text}
-use Rattle.session_text.specs.Writes.{IsAdded}
+use Rattle.session_text.specs.Writes.{IsTextAdded}
 
 -- the line's words are this keyword and those from a place on
 abbrev pub Follows : List ℕ → List ℕ → ℕ → Type 0
-Follows key line at = words_of line ≡ key ∷ words_of (drop at line)
+Follows key line at = words_of_line line ≡ key ∷ words_of_line (drop at line)
 
 -- so it is with each line that begins as the text does up to that place, and no line ends before it
 abbrev pub FollowsIn : List ℕ → List ℕ → ℕ → Type 0
@@ -42,23 +42,25 @@ IsVerb text Mark = IsShortLine 4 text × (take 4 text ≡ codes "mark")
 IsVerb text Other = Unit {0}
 
 -- the event was done, and its reply was added
-abbrev pub IsDone : {S : Type 0} → Acts S → Event → S → List ℕ → Outgoing → S → List ℕ → Outgoing
+abbrev pub IsEventDone : {S : Type 0} → Acts S → Event → S → List ℕ → Outgoing → S → List ℕ
+    → Outgoing
     → Bool → Type 0
-IsDone acts e c page w c' page' w' added =
-    (r : Reply) × acts c (Step e) r c' × IsAdded (reply_text r) page w page' w' added
+IsEventDone acts e c page w c' page' w' added =
+    (r : Reply) × acts c (Step e) r c' × IsTextAdded (reply_text r) page w page' w' added
 
 -- the line's command asks for an event, which was done, and its reply was added
-abbrev pub IsAsked : {S : Type 0} → Acts S → Command → S → List ℕ → Outgoing → S → List ℕ → Outgoing
+abbrev pub IsEventAsked : {S : Type 0} → Acts S → Command → S → List ℕ → Outgoing → S → List ℕ
+    → Outgoing
     → Bool → Type 0
-IsAsked acts k c page w c' page' w' added =
-    (e : Event) × (k ≡ Ask (Step e)) × IsDone acts e c page w c' page' w' added
+IsEventAsked acts k c page w c' page' w' added =
+    (e : Event) × (k ≡ Ask (Step e)) × IsEventDone acts e c page w c' page' w' added
 
 -- the outcome of a fast reading of a line's command
 abbrev pub IsQuick : {S : Type 0} → Acts S → Command → S → List ℕ → Outgoing → S → List ℕ → Outgoing
     → Quick → Type 0
 IsQuick acts k c page w c' page' w' No = (c' ≡ c) × (page' ≡ page) × (w' ≡ w)
-IsQuick acts k c page w c' page' w' Next = IsAsked acts k c page w c' page' w' true
-IsQuick acts k c page w c' page' w' Fault = IsAsked acts k c page w c' page' w' false
+IsQuick acts k c page w c' page' w' Next = IsEventAsked acts k c page w c' page' w' true
+IsQuick acts k c page w c' page' w' Fault = IsEventAsked acts k c page w c' page' w' false
 
 -- if a text's first line was answered, it ends here
 abbrev pub IsPassed : List ℕ → Quick → ℕ → Type 0

@@ -7,9 +7,9 @@ use Rattle.heap_step.specs.declared.Event.{Event}
 use Rattle.heap_step.specs.declared.Event.TheVariants.{Class, ArrayClass, New, NewArray, NewPrim, Load, Store, Put, Move, Clear, Snap, Mark, Drain, Finish, Sweep}
 use Rattle.heap_trail.specs.declared.Action.{Action}
 use Rattle.heap_trail.specs.declared.Action.TheVariants.{Step, Rewind, OpenPin, NextPiece, ClosePin}
-use Rattle.session_text.specs.Grammar.{words_of, is_plain, Rule, value_of, number, next_number, field_of, next_number_or_dash, at_end, making_rules, access_rules, marking_rules, session_rules}
+use Rattle.session_text.specs.Grammar.{words_of_line, is_plain, Rule, value_of_digits, number_of_word, next_number, field_of_word, next_number_or_dash, at_end, making_rules, access_rules, marking_rules, session_rules}
 use Rattle.session_text.specs.Lines.{NoLf}
-use Rattle.session_text.specs.declared.marks.FieldMark.{FieldMark}
+use Rattle.session_text.specs.declared.spans.FieldSpan.{FieldSpan}
 use Rattle.session_text.specs.declared.command.Command.{Command}
 use Rattle.session_text.specs.declared.command.Command.TheVariants.{Blank, Bad, Ask, Piece, Dump, DumpNow, End}
 
@@ -70,7 +70,7 @@ with_size t o = option_map (λ x. (x, word_size t)) o
 
 -- the text that is left begins with a word, which is the first one, and goes on behind the space that ends it
 abbrev pub IsFront : List (List ℕ) → List ℕ → List ℕ → Type 0
-IsFront ws left t = (t ≡ left) × (ws ≡ first_word t ∷ words_of (drop (word_size t + 1) t))
+IsFront ws left t = (t ≡ left) × (ws ≡ first_word t ∷ words_of_line (drop (word_size t + 1) t))
 
 -- the end of a text
 abbrev pub IsRestOf : List ℕ → List ℕ → Type 0
@@ -91,19 +91,20 @@ value_from n (b ∷ bs) = option_and_then (λ m. value_from m bs) (with_digit n 
 abbrev pub IsReadTo : List ℕ → List ℕ → ℕ → ℕ → Type 0
 IsReadTo t rest size value =
     (word_size t ≡ size + word_size rest)
-    × (value_of (first_word t) ≡ value_from value (first_word rest))
+    × (value_of_digits (first_word t) ≡ value_from value (first_word rest))
 
 -- the number that the first word holds, and its size; or size 0, if it holds no number
 abbrev pub IsNumberAt : List ℕ → ℕ → ℕ → Type 0
 IsNumberAt t value size =
-    with_size t (number (first_word t)) ≡ (if size == 0 then None else Some (value, size))
+    with_size t (number_of_word (first_word t)) ≡ (if size == 0 then None else Some (value, size))
 
 -- the number that the word at a place holds, and the place behind it and the byte that ends it; or a place past the text by
 -- two
 abbrev pub IsNumberFrom : List ℕ → ℕ → ℕ → ℕ → Type 0
 IsNumberFrom t at value next =
     next ≤ length t + 1
-    → (at < length t) × (next_number (words_of (drop at t)) ≡ Some (value, words_of (drop next t)))
+    → (at < length t)
+    × (next_number (words_of_line (drop at t)) ≡ Some (value, words_of_line (drop next t)))
 
 -- digits that stand at a place, in any beginning of the text that has them: their number, and their value
 abbrev pub IsReadIn : List ℕ → ℕ → ℕ → ℕ → Type 0
@@ -131,7 +132,7 @@ name_at t = if is_plain (first_word t) then Some (word_size t) else None
 
 -- the field that a word is, if none of its bytes is bad
 abbrev pub plain_field : List ℕ → Option Field
-plain_field w = if is_plain w then field_of w else None
+plain_field w = if is_plain w then field_of_word w else None
 
 -- the fields that these words are, if each is one without a bad byte
 abbrev pub plain_fields : List (List ℕ) → Option (List Field)
@@ -140,12 +141,12 @@ plain_fields (w ∷ ws) =
     option_and_then (λ f. option_map (λ fs. f ∷ fs) (plain_fields ws)) (plain_field w)
 
 -- a field that stands in this text
-abbrev pub field_of_mark : List ℕ → FieldMark → Field
-field_of_mark text m = record { name = take m.size (drop m.start text); kind = m.kind }
+abbrev pub field_of_span : List ℕ → FieldSpan → Field
+field_of_span text m = record { name = take m.size (drop m.start text); kind = m.kind }
 
 -- each field is within the text
-abbrev pub AreWithin : List ℕ → List FieldMark → Type 0
-AreWithin text marks = All (λ m. m.start + m.size ≤ length text) marks
+abbrev pub AreSpansWithin : List ℕ → List FieldSpan → Type 0
+AreSpansWithin text marks = All (λ m. m.start + m.size ≤ length text) marks
 
 -- the name that the first word is, and the other words
 abbrev pub next_name : List (List ℕ) → Option (List ℕ × List (List ℕ))
@@ -177,6 +178,7 @@ plain_rules =
 -- ---- the words after the first
 
 -- a value that was read of the first word, or none, and the words that are left then
-abbrev pub IsNext : {A : Type 0} → Option (A × List (List ℕ)) → List (List ℕ) → Option A → Type 0
-IsNext o left None = o ≡ None
-IsNext o left (Some x) = o ≡ Some (x, left)
+abbrev pub IsNextWord : {A : Type 0} → Option (A × List (List ℕ)) → List (List ℕ) → Option A
+    → Type 0
+IsNextWord o left None = o ≡ None
+IsNextWord o left (Some x) = o ≡ Some (x, left)

@@ -6,7 +6,7 @@ use Rattle.dump_pump.specs.Outlets.{Outgoing}
 use Rattle.heap_trail.specs.declared.Action.{Action}
 use Rattle.heap_trail.specs.declared.Action.TheVariants.{OpenPin, NextPiece, ClosePin}
 use Rattle.heap_trail.specs.declared.Reply.{Reply}
-use Rattle.heap_trail.specs.Machine.{Machine, Mark, Fine, Refusing, MayStand, acted, acted_under}
+use Rattle.heap_trail.specs.Machine.{Machine, Allocation, Granted, Denied, MayStand, acted, acted_under}
 use Rattle.hprof_text.specs.declared.Piece.{Piece as GivenPiece}
 use Rattle.session_text.specs.declared.Ended.{Ended}
 use Rattle.session_text.specs.declared.Ended.TheVariants.{Quit, Eof, CutLine, TooLong, ReadFault, TooManyReads, WriteFault, NoMemory as NoRoom}
@@ -27,7 +27,7 @@ use Rattle.session_text.specs.Writes.{IsCutShort}
 -- written so far
 pub record Talk : Type 0 where
   pub machine : Machine
-  pub marks : List Mark
+  pub marks : List Allocation
   pub written : List ℕ
 
 -- the session with a text appended to what was written
@@ -35,22 +35,22 @@ abbrev pub wrote : List ℕ → Talk → Talk
 wrote text t = record { machine = t.machine; marks = t.marks; written = t.written ++ text }
 
 -- the mark of what comes next, and the session without it
-abbrev pub mark_of : List Mark → Mark
-mark_of [] = Fine
-mark_of (k ∷ ks) = k
+abbrev pub allocation_of : List Allocation → Allocation
+allocation_of [] = Granted
+allocation_of (k ∷ ks) = k
 
 -- the marks without the first
-abbrev pub marks_after : List Mark → List Mark
-marks_after [] = []
-marks_after (k ∷ ks) = ks
+abbrev pub allocations_after : List Allocation → List Allocation
+allocations_after [] = []
+allocations_after (k ∷ ks) = ks
 
 -- ---- the answers of lines
 
 -- the session after an action, and its reply, of which nothing is written yet
 abbrev pub done_quietly : Action → Talk → Talk × Reply
 done_quietly a t =
-    let r = acted_under t.machine (a, mark_of t.marks) in
-    (record { machine = r.0; marks = marks_after t.marks; written = t.written }, r.1)
+    let r = acted_under t.machine (a, allocation_of t.marks) in
+    (record { machine = r.0; marks = allocations_after t.marks; written = t.written }, r.1)
 
 -- the session after an action; if an allocation for its line failed, it is as an action that failed to get memory
 abbrev pub done : Action → Talk → Talk
@@ -65,11 +65,11 @@ after_reply more so_far r (Some p) t =
 after_reply more so_far r None t = wrote (reply_text r) t
 
 -- at most n pieces of a pin
-unfoldable pub dumped : ℕ → ℕ → ℕ → Talk → ℕ → Talk
-dumped zero pin time t so_far = t
-dumped (suc n) pin time t so_far =
+unfoldable pub pieces_dumped : ℕ → ℕ → ℕ → Talk → ℕ → Talk
+pieces_dumped zero pin time t so_far = t
+pieces_dumped (suc n) pin time t so_far =
     let r = done_quietly (NextPiece pin time) t in
-    after_reply (dumped n pin time) so_far r.1 (piece_in r.1) r.0
+    after_reply (pieces_dumped n pin time) so_far r.1 (piece_in r.1) r.0
 
 -- the session after a pin is closed, which allocates nothing and so has no mark
 abbrev pub closed : ℕ → Talk → Talk
@@ -77,9 +77,9 @@ closed pin t =
     record { machine = (acted t.machine (ClosePin pin)).0; marks = t.marks; written = t.written }
 
 -- a dump of the current state after the reply to OpenPin
-abbrev pub after_open : ℕ → ℕ → Reply → Option ℕ → Talk → Talk
-after_open most time r (Some pin) t = closed pin (dumped most pin time t 0)
-after_open most time r None t = wrote (reply_text r) t
+abbrev pub after_open_reply : ℕ → ℕ → Reply → Option ℕ → Talk → Talk
+after_open_reply most time r (Some pin) t = closed pin (pieces_dumped most pin time t 0)
+after_open_reply most time r None t = wrote (reply_text r) t
 
 -- after a command other than `end`, with at most `most` pieces of a dump
 abbrev pub after_up_to : ℕ → ℕ → Command → Talk → Talk
@@ -87,9 +87,9 @@ after_up_to most time Blank t = t
 after_up_to most time Bad t = wrote (codes "bad command\n") t
 after_up_to most time (Ask a) t = done a t
 after_up_to most time (Piece pin) t = done (NextPiece pin time) t
-after_up_to most time (Dump pin) t = dumped most pin time t 0
+after_up_to most time (Dump pin) t = pieces_dumped most pin time t 0
 after_up_to most time DumpNow t =
-    let r = done_quietly (OpenPin None) t in after_open most time r.1 (pin_in r.1) r.0
+    let r = done_quietly (OpenPin None) t in after_open_reply most time r.1 (pin_in r.1) r.0
 after_up_to most time End t = t
 
 -- ---- the session
@@ -133,7 +133,7 @@ talked time e (l ∷ m ∷ more) t =
     else go_on (talked time e (m ∷ more)) time (command_of l) t
 
 -- the session's end, from the machine at its start, the marks, the bytes read and how reading ended
-unfoldable pub session_of : Machine → List Mark → ℕ → List ℕ → ReadEnd → Talk × Ended
+unfoldable pub session_of : Machine → List Allocation → ℕ → List ℕ → ReadEnd → Talk × Ended
 session_of m marks time bytes e =
     talked time e (slice_split (λ b. b == 10) bytes)
     (record { machine = m; marks = marks; written = [] })
@@ -141,8 +141,8 @@ session_of m marks time bytes e =
 -- ---- which marks may stand
 
 -- the next mark may stand beside this action
-abbrev pub Fits : Action → Talk → Type 0
-Fits a t = MayStand t.machine (a, mark_of t.marks)
+abbrev pub FitsAction : Action → Talk → Type 0
+FitsAction a t = MayStand t.machine (a, allocation_of t.marks)
 
 -- the marks may stand in the rest of a dump, after the reply to NextPiece
 abbrev pub FitsRest : (Talk → ℕ → Type 0) → ℕ → Option GivenPiece → Talk → Type 0
@@ -155,7 +155,7 @@ unfoldable pub FitsDump : ℕ → ℕ → ℕ → Talk → ℕ → Type 0
 FitsDump zero pin time t so_far = Unit {0}
 FitsDump (suc n) pin time t so_far =
     let r = done_quietly (NextPiece pin time) t in
-    Fits (NextPiece pin time) t × FitsRest (FitsDump n pin time) so_far (piece_in r.1) r.0
+    FitsAction (NextPiece pin time) t × FitsRest (FitsDump n pin time) so_far (piece_in r.1) r.0
 
 -- the marks may stand in a dump of the current state, after the reply to OpenPin
 abbrev pub FitsOpen : ℕ → Option ℕ → Talk → Type 0
@@ -166,11 +166,14 @@ FitsOpen time None t = Unit {0}
 abbrev pub FitsCommand : ℕ → Command → Talk → Type 0
 FitsCommand time Blank t = Unit {0}
 FitsCommand time Bad t = Unit {0}
-FitsCommand time (Ask a) t = Fits a t ⊎ (ActionTakesMemory a × (mark_of t.marks ≡ Refusing))
-FitsCommand time (Piece pin) t = Fits (NextPiece pin time) t
+FitsCommand time (Ask a) t =
+    FitsAction a t ⊎ (ActionTakesMemory a × (allocation_of t.marks ≡ Denied))
+FitsCommand time (Piece pin) t = FitsAction (NextPiece pin time) t
 FitsCommand time (Dump pin) t = FitsDump part_limit pin time t 0
 FitsCommand time DumpNow t =
-    let r = done_quietly (OpenPin None) t in Fits (OpenPin None) t × FitsOpen time (pin_in r.1) r.0
+    let r =
+    done_quietly (OpenPin None) t in
+    FitsAction (OpenPin None) t × FitsOpen time (pin_in r.1) r.0
 FitsCommand time End t = Unit {0}
 
 -- the marks may stand in the answers of these lines
@@ -182,16 +185,17 @@ FitLines time (l ∷ m ∷ more) t =
     × FitLines time (m ∷ more) (after_command time (command_of l) t)
 
 -- the marks may stand in the session of these bytes
-abbrev pub MarksFit : Machine → List Mark → ℕ → List ℕ → Type 0
-MarksFit m marks time bytes =
+abbrev pub AllocationsFit : Machine → List Allocation → ℕ → List ℕ → Type 0
+AllocationsFit m marks time bytes =
     FitLines time (slice_split (λ b. b == 10) bytes)
     (record { machine = m; marks = marks; written = [] })
 
 -- ---- the output of a session
 
 -- all marks are used up, this was written, and the machine is so
-abbrev pub Shows : Machine → List Mark → ℕ → List ℕ → ReadEnd → List ℕ → Machine → Ended → Type 0
-Shows m marks time bytes e out m' ended =
+abbrev pub ShowsSession : Machine → List Allocation → ℕ → List ℕ → ReadEnd → List ℕ → Machine
+    → Ended → Type 0
+ShowsSession m marks time bytes e out m' ended =
     session_of m marks time bytes e ≡ (record { machine = m'; marks = []; written = out }, ended)
 
 -- the next line was acted on, a dump up to some piece, and the text with its answer was cut short
@@ -202,9 +206,10 @@ CutsLine time rest t out m' =
     × IsCutShort (after_up_to pieces time (command_of l) t).written [] out
 
 -- all lines were answered, and the text with what the ending prints was cut short
-abbrev pub CutsEnd : Machine → List Mark → ℕ → List ℕ → ReadEnd → Talk → List ℕ → Machine → Type 0
+abbrev pub CutsEnd : Machine → List Allocation → ℕ → List ℕ → ReadEnd → Talk → List ℕ → Machine
+    → Type 0
 CutsEnd m marks time bytes e t out m' =
-    (whole : List ℕ) × (ended : Ended) × Shows m marks time bytes e whole m' ended
+    (whole : List ℕ) × (ended : Ended) × ShowsSession m marks time bytes e whole m' ended
     × (m' ≡ t.machine) × IsCutShort whole [] out
 
 -- no whole line was left, and the text was cut short before a read
@@ -212,7 +217,7 @@ abbrev pub CutsPage : List ℕ → Talk → List ℕ → Machine → Type 0
 CutsPage rest t out m' = IsLine rest × (m' ≡ t.machine) × IsCutShort t.written [] out
 
 -- the lines at the front of the bytes were acted on and left t, and the text was cut in their answers or behind them
-abbrev pub StopsAfter : Machine → List Mark → ℕ → List ℕ → ReadEnd → List ℕ → Machine → Type 0
+abbrev pub StopsAfter : Machine → List Allocation → ℕ → List ℕ → ReadEnd → List ℕ → Machine → Type 0
 StopsAfter m marks time bytes e out m' =
     (lines : List ℕ) × (rest : List ℕ) × (t : Talk) × (bytes ≡ lines ++ rest)
     × (session_of m marks time lines Over ≡ (t, Eof))
@@ -220,24 +225,30 @@ StopsAfter m marks time bytes e out m' =
     ⊎ (CutsEnd m marks time bytes e t out m' ⊎ CutsPage rest t out m'))
 
 -- the output and the machine are those of the session, or a beginning of the output if a write failed
-abbrev pub IsShown : Machine → List Mark → ℕ → List ℕ → List ℕ → Machine → Ended → Type 0
-IsShown m marks time bytes out m' Quit = (e : ReadEnd) → Shows m marks time bytes e out m' Quit
-IsShown m marks time bytes out m' Eof = Shows m marks time bytes Over out m' Eof
-IsShown m marks time bytes out m' CutLine = Shows m marks time bytes Over out m' CutLine
-IsShown m marks time bytes out m' TooLong =
-    (e : ReadEnd) → Shows m marks time bytes e out m' TooLong
-IsShown m marks time bytes out m' ReadFault = Shows m marks time bytes Failed out m' ReadFault
-IsShown m marks time bytes out m' TooManyReads = Shows m marks time bytes Spent out m' TooManyReads
-IsShown m marks time bytes out m' WriteFault =
+abbrev pub IsSessionShown : Machine → List Allocation → ℕ → List ℕ → List ℕ → Machine → Ended
+    → Type 0
+IsSessionShown m marks time bytes out m' Quit =
+    (e : ReadEnd) → ShowsSession m marks time bytes e out m' Quit
+IsSessionShown m marks time bytes out m' Eof = ShowsSession m marks time bytes Over out m' Eof
+IsSessionShown m marks time bytes out m' CutLine =
+    ShowsSession m marks time bytes Over out m' CutLine
+IsSessionShown m marks time bytes out m' TooLong =
+    (e : ReadEnd) → ShowsSession m marks time bytes e out m' TooLong
+IsSessionShown m marks time bytes out m' ReadFault =
+    ShowsSession m marks time bytes Failed out m' ReadFault
+IsSessionShown m marks time bytes out m' TooManyReads =
+    ShowsSession m marks time bytes Spent out m' TooManyReads
+IsSessionShown m marks time bytes out m' WriteFault =
     (e : ReadEnd) × IsCutShort (session_of m marks time bytes e).0.written [] out
     × StopsAfter m marks time bytes e out m'
-IsShown m marks time bytes out m' NoRoom = (bytes ≡ []) × (out ≡ []) × (m' ≡ m)
+IsSessionShown m marks time bytes out m' NoRoom = (bytes ≡ []) × (out ≡ []) × (m' ≡ m)
 
 -- the bytes taken (those that the reader tells, if it tells them) and the bytes put out, for some marks of failed allocations
 -- that may stand there
 abbrev pub IsSession : Machine → ℕ → Incoming → Incoming → Outgoing → Outgoing → Machine → Ended
     → Type 0
 IsSession m time a b w w' m' ended =
-    (bytes : List ℕ) × (out : List ℕ) × (marks : List Mark) × MarksFit m marks time bytes
+    (bytes : List ℕ) × (out : List ℕ) × (marks : List Allocation)
+    × AllocationsFit m marks time bytes
     × (b.taken ≡ a.taken ++ bytes) × Keeps (whole a) (whole b) × (w'.out ≡ w.out ++ out)
-    × IsShown m marks time bytes out m' ended
+    × IsSessionShown m marks time bytes out m' ended

@@ -2,23 +2,23 @@
 ghost use Rattle.std.specs.Prelude.{◌≡◌, ◌≤◌, ℕ, List, length, [], true};
 ghost use Rattle.heap_step.specs.declared.Answer.TheVariants.{Done};
 ghost use Rattle.heap_trail.specs.declared.Reply.TheVariants.{Answered};
-ghost use Rattle.session_text.specs.Answers.{Answers, Begins, AnswersTo, BeginsTo};
+ghost use Rattle.session_text.specs.Answers.{AnswersCommand, Begins, AnswersTo, BeginsTo};
 ghost use Rattle.session_text.specs.Endings.{step_of};
 ghost use Rattle.session_text.specs.Grammar.{command_of, command_of_text};
 ghost use Rattle.heap_trail.specs.declared.Reply.{Reply};
 ghost use Rattle.session_text.specs.Replies.{line_answer_text, reply_text};
-ghost use Rattle.session_text.specs.Talks.{IsFirst, IsStep, IsAnswered};
-ghost use Rattle.session_text.specs.Writes.{IsAdded};
+ghost use Rattle.session_text.specs.Talks.{IsFirst, IsSessionStep, AreLinesAnswered};
+ghost use Rattle.session_text.specs.Writes.{IsTextAdded};
 
 use crate::LINE_LIMIT;
 use crate::buffer::Buffer;
 use crate::command::{Command, command_of_text, without_cr};
 use crate::commands::{Commands, LineAnswer};
 use crate::dump::{write_dump, write_dump_now};
-use crate::marks::FieldMarks;
 use crate::mutator::{Quick, answer_mutator};
 use crate::page::Page;
 use crate::reply::{write_answer, write_reply};
+use crate::spans::FieldSpans;
 use crate::write::{write_long, write_number_line, write_text};
 use dump_pump::Outlet;
 use heap_class::Refusal;
@@ -63,7 +63,8 @@ pub fn answer_action<O: Outlet, C: Commands>(
     commands: &mut C,
 ) -> bool
     ensures { (r : Reply) × C.acts commands.old action r commands.new
-        × IsAdded (reply_text r) page.old (O.seen writer.old) page.new (O.seen writer.new) result }
+        × IsTextAdded (reply_text r) page.old (O.seen writer.old) page.new (O.seen writer.new)
+        result }
 {
     let reply = commands.act(action);
     if is_done(&reply) {
@@ -78,15 +79,15 @@ pub fn answer_action<O: Outlet, C: Commands>(
 // Adds a reply to a page, which is flushed whenever it is full.
 #[inline(never)]
 fn write_other<O: Outlet>(page: &mut Page, writer: &mut O, reply: Reply) -> bool
-    ensures { IsAdded (reply_text reply) page.old (O.seen writer.old) page.new (O.seen writer.new)
-        result }
+    ensures { IsTextAdded (reply_text reply) page.old (O.seen writer.old) page.new
+        (O.seen writer.new) result }
 {
     write_reply(page, writer, &reply)
 }
 
 // Adds the answer of a line that the grammar doesn't know to a page, which is flushed whenever it is full.
 fn write_line_answer<O: Outlet>(page: &mut Page, writer: &mut O, answer: &LineAnswer) -> bool
-    ensures { IsAdded (line_answer_text answer.now) page.old (O.seen writer.old) page.new
+    ensures { IsTextAdded (line_answer_text answer.now) page.old (O.seen writer.old) page.new
         (O.seen writer.new) result }
 {
     match answer {
@@ -111,7 +112,7 @@ fn answer_unknown<O: Outlet, C: Commands>(
     commands: &mut C,
 ) -> bool
     ensures { (answer : List ℕ) × C.unknown text.now commands.old answer commands.new
-        × IsAdded answer page.old (O.seen writer.old) page.new (O.seen writer.new) result }
+        × IsTextAdded answer page.old (O.seen writer.old) page.new (O.seen writer.new) result }
 {
     let answer = commands.answer_unknown(alloc, text);
     write_line_answer(page, writer, &answer)
@@ -121,7 +122,7 @@ fn answer_unknown<O: Outlet, C: Commands>(
 #[inline(never)]
 fn answer_text<O: Outlet, C: Commands>(
     alloc: Global,
-    marks: &mut FieldMarks,
+    marks: &mut FieldSpans,
     text: &[u8],
     time: u64,
     page: &mut Page,
@@ -129,7 +130,7 @@ fn answer_text<O: Outlet, C: Commands>(
     commands: &mut C,
 ) -> Step
     requires { length text.now ≤ 4096 }
-    ensures { IsStep (AnswersTo C.acts (C.unknown text.now) time (command_of_text text.now))
+    ensures { IsSessionStep (AnswersTo C.acts (C.unknown text.now) time (command_of_text text.now))
         (BeginsTo C.acts (C.unknown text.now) time (command_of_text text.now))
         (command_of_text text.now) commands.old page.old (O.seen writer.old) commands.new page.new
         (O.seen writer.new) result }
@@ -152,7 +153,7 @@ fn answer_text<O: Outlet, C: Commands>(
 // Adds the answer to a line to a page, which is flushed whenever it is full.
 fn answer_line<O: Outlet, C: Commands>(
     alloc: Global,
-    marks: &mut FieldMarks,
+    marks: &mut FieldSpans,
     line: &[u8],
     time: u64,
     page: &mut Page,
@@ -160,7 +161,7 @@ fn answer_line<O: Outlet, C: Commands>(
     commands: &mut C,
 ) -> Step
     requires { length line.now ≤ 4096 }
-    ensures { IsStep (Answers C.acts C.unknown time line.now)
+    ensures { IsSessionStep (AnswersCommand C.acts C.unknown time line.now)
         (Begins C.acts C.unknown time line.now) (command_of line.now) commands.old page.old
         (O.seen writer.old) commands.new page.new (O.seen writer.new) result }
 {
@@ -172,15 +173,15 @@ fn answer_line<O: Outlet, C: Commands>(
 #[inline(never)]
 fn answer_first<O: Outlet, C: Commands>(
     alloc: Global,
-    marks: &mut FieldMarks,
+    marks: &mut FieldSpans,
     time: u64,
     buffer: &mut Buffer,
     page: &mut Page,
     writer: &mut O,
     commands: &mut C,
 ) -> Option<Step>
-    ensures { IsFirst (Answers C.acts C.unknown time) (Begins C.acts C.unknown time) buffer.old
-        commands.old page.old (O.seen writer.old) buffer.new commands.new page.new
+    ensures { IsFirst (AnswersCommand C.acts C.unknown time) (Begins C.acts C.unknown time)
+        buffer.old commands.old page.old (O.seen writer.old) buffer.new commands.new page.new
         (O.seen writer.new) result }
 {
     let Some(n) = buffer.line_end() else {
@@ -206,7 +207,7 @@ fn answer_first<O: Outlet, C: Commands>(
 /// flushed whenever it is full.
 pub fn answer_lines<O: Outlet, C: Commands>(
     alloc: Global,
-    marks: &mut FieldMarks,
+    marks: &mut FieldSpans,
     time: u64,
     buffer: &mut Buffer,
     page: &mut Page,
@@ -214,9 +215,9 @@ pub fn answer_lines<O: Outlet, C: Commands>(
     commands: &mut C,
 ) -> Step
     requires { page.old ≡ [] }
-    ensures { IsAnswered (Answers C.acts C.unknown time) (Begins C.acts C.unknown time) buffer.old
-        commands.old (O.seen writer.old) buffer.new commands.new page.new (O.seen writer.new)
-        result }
+    ensures { AreLinesAnswered (AnswersCommand C.acts C.unknown time) (Begins C.acts C.unknown time)
+        buffer.old commands.old (O.seen writer.old) buffer.new commands.new page.new
+        (O.seen writer.new) result }
 {
     loop {
         match answer_mutator(buffer.as_slice(), page, writer, commands) {

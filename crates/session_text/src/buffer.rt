@@ -1,6 +1,6 @@
 //! The bytes that were read and aren't answered yet.
 ghost use Rattle.std.specs.Prelude.{◌≡◌, ◌+◌, ◌-◌, ◌≤◌, ◌<◌, [], take, drop, length, IfOk, MatchOption};
-ghost use Rattle.session_text.specs.Inlets.{IsRead, count_of};
+ghost use Rattle.session_text.specs.Inlets.{IsInletRead, count_of};
 ghost use Rattle.session_text.specs.Limits.{buffer_limit};
 ghost use Rattle.session_text.specs.Lines.{NoLf, IsLineAt};
 
@@ -88,7 +88,7 @@ impl Buffer {
     /// Reads once, and appends the bytes.
     pub fn read<I: Inlet>(&mut self, inlet: &mut I) -> Take
         requires { length self.old ≤ 4096 }
-        ensures { IsRead self.old self.new (I.seen inlet.old) (I.seen inlet.new) result }
+        ensures { IsInletRead self.old self.new (I.seen inlet.old) (I.seen inlet.new) result }
     {
         let Buffer {
             bytes,
@@ -107,7 +107,7 @@ impl Buffer {
 // Moves a range to the front and reads once behind it.
 fn refill<I: Inlet>(bytes: &mut [u8], start: usize, end: usize, inlet: &mut I) -> Take
     requires { (start ≤ end) × (end ≤ length bytes.old) × (end - start < length bytes.old) }
-    ensures read { IsRead (take (end - start) (drop start bytes.old))
+    ensures read { IsInletRead (take (end - start) (drop start bytes.old))
         (take (end - start + count_of result) bytes.new) (I.seen inlet.old) (I.seen inlet.new)
         result }
     ensures kept { take (end - start) bytes.new ≡ take (end - start) (drop start bytes.old) }

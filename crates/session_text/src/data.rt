@@ -1,7 +1,7 @@
 //! Pieces, in data lines.
 ghost use Rattle.std.specs.Prelude.{◌≡◌, ◌≤◌, ◌++◌, length};
 ghost use Rattle.session_text.specs.Replies.{data_line, data_lines};
-ghost use Rattle.session_text.specs.Writes.{IsAdded};
+ghost use Rattle.session_text.specs.Writes.{IsTextAdded};
 
 use crate::page::Page;
 use crate::write::make_room;
@@ -22,7 +22,7 @@ fn add_data_line(page: &mut Page, bytes: &[u8])
 
 /// Adds the data lines of a piece to a page, which is flushed whenever it is full. Returns false if a write failed.
 pub fn write_data<O: Outlet>(page: &mut Page, outlet: &mut O, bytes: &[u8]) -> bool
-    ensures { IsAdded (data_lines bytes.now) page.old (O.seen outlet.old) page.new
+    ensures { IsTextAdded (data_lines bytes.now) page.old (O.seen outlet.old) page.new
         (O.seen outlet.new) result }
 {
     let mut rest = bytes;

@@ -1,7 +1,7 @@
 //! Dumps.
 ghost use Rattle.std.specs.Prelude.{◌≡◌, ◌≤◌, ◌++◌, length};
 ghost use Rattle.session_text.specs.Dumps.{DumpsNow, DumpsPin, WritesDump, total_line};
-ghost use Rattle.session_text.specs.Writes.{IsAdded};
+ghost use Rattle.session_text.specs.Writes.{IsTextAdded};
 
 use crate::commands::Commands;
 use crate::data::write_data;
@@ -25,8 +25,8 @@ fn add_total(page: &mut Page, total: u64)
 // Adds the last line of a dump to a page, which is flushed first unless it has room for one more line. Returns false if a
 // write failed.
 fn write_total<O: Outlet>(page: &mut Page, outlet: &mut O, total: u64) -> bool
-    ensures { IsAdded (total_line total) page.old (O.seen outlet.old) page.new (O.seen outlet.new)
-        result }
+    ensures { IsTextAdded (total_line total) page.old (O.seen outlet.old) page.new
+        (O.seen outlet.new) result }
 {
     if !make_room(page, outlet) {
         return false;

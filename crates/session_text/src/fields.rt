@@ -2,10 +2,10 @@
 ghost use Rattle.std.specs.Prelude.{◌≡◌, ◌==◌, ◌+◌, ◌<◌, ◌≤◌, ◌||◌, not, Some, None, take, IfOk, IfSome, MatchBool, option_map, map, length};
 ghost use Rattle.std.specs.Char.{is_ascii_graphic};
 ghost use Rattle.std.specs.List.{position, position_or_len};
-ghost use Rattle.session_text.specs.Grammar.{words_of, kind_of};
-ghost use Rattle.session_text.specs.Reads.{first_word, with_size, name_at, plain_field, plain_fields, field_of_mark, AreWithin};
+ghost use Rattle.session_text.specs.Grammar.{words_of_line, kind_of_word};
+ghost use Rattle.session_text.specs.Reads.{first_word, with_size, name_at, plain_field, plain_fields, field_of_span, AreSpansWithin};
 
-use crate::marks::{FieldMark, FieldMarks};
+use crate::spans::{FieldSpan, FieldSpans};
 use crate::words::{SPACE, Words, word_size};
 use heap_class::{Field, Fields, Kind, Name};
 use std::alloc::{AllocError, Global};
@@ -35,9 +35,9 @@ pub struct FieldSize {
 }
 
 // Returns the kind of this name.
-#[tactic(auto, unfolding(crate::specs::Grammar::kind_of))]
+#[tactic(auto, unfolding(crate::specs::Grammar::kind_of_word))]
 fn kind_of(word: &[u8]) -> Option<Kind>
-    ensures { result ≡ kind_of word.now }
+    ensures { result ≡ kind_of_word word.now }
 {
     for kind in KINDS {
         if kind.word().as_bytes() == word {
@@ -49,7 +49,7 @@ fn kind_of(word: &[u8]) -> Option<Kind>
 
 /// Returns the kind that the text's first word names, and the size of that word. Returns None if it names none.
 pub fn kind_at(text: &[u8]) -> Option<(Kind, usize)>
-    ensures value { result ≡ with_size text.now (kind_of (first_word text.now)) }
+    ensures value { result ≡ with_size text.now (kind_of_word (first_word text.now)) }
     ensures within { IfSome result (λ r. r.1 ≤ length text.now) }
     ensures long { IfSome result (λ r. 3 ≤ r.1) }
 {
@@ -117,11 +117,12 @@ pub fn field_at(text: &[u8]) -> Option<FieldSize>
 
 /// Reads all words that are left as fields, and marks their places in the text that isn't read yet. Returns false if one of
 /// them is no field.
-pub fn read_fields(mut words: Words, marks: &mut FieldMarks) -> bool
+pub fn read_fields(mut words: Words, marks: &mut FieldSpans) -> bool
     requires { length words ≤ 4096 }
     ensures { MatchBool result
-        ((plain_fields (words_of words.entry) ≡ Some (map (field_of_mark words.entry) marks.new))
-        × AreWithin words.entry marks.new) (plain_fields (words_of words.entry) ≡ None) }
+        ((plain_fields (words_of_line words.entry)
+        ≡ Some (map (field_of_span words.entry) marks.new)) × AreSpansWithin words.entry marks.new)
+        (plain_fields (words_of_line words.entry) ≡ None) }
 {
     marks.clear();
     let size = words.rest().len();
@@ -129,7 +130,7 @@ pub fn read_fields(mut words: Words, marks: &mut FieldMarks) -> bool
         let Some(field) = field_at(rest) else {
             return false;
         };
-        marks.push(FieldMark {
+        marks.push(FieldSpan {
             start: size - rest.len(),
             size: field.name,
             kind: field.kind,
@@ -140,9 +141,9 @@ pub fn read_fields(mut words: Words, marks: &mut FieldMarks) -> bool
 }
 
 // Returns a copy of a field of this text. Fails if the allocation fails.
-fn copied(alloc: Global, text: &[u8], mark: &FieldMark) -> Result<Field, AllocError>
+fn copy_field(alloc: Global, text: &[u8], mark: &FieldSpan) -> Result<Field, AllocError>
     requires { mark.now.start + mark.now.size ≤ length text.now }
-    ensures { IfOk result (λ f. f ≡ field_of_mark text.now mark.now) }
+    ensures { IfOk result (λ f. f ≡ field_of_span text.now mark.now) }
 {
     let name = &text[mark.start..mark.start + mark.size];
     Ok(Field {
@@ -152,13 +153,13 @@ fn copied(alloc: Global, text: &[u8], mark: &FieldMark) -> Result<Field, AllocEr
 }
 
 /// Returns copies of the fields of this text. Fails if an allocation fails.
-pub fn copied_all(alloc: Global, text: &[u8], marks: &[FieldMark]) -> Result<Fields, AllocError>
-    requires { AreWithin text.now marks.now }
-    ensures { IfOk result (λ fs. fs ≡ map (field_of_mark text.now) marks.now) }
+pub fn copied_all(alloc: Global, text: &[u8], marks: &[FieldSpan]) -> Result<Fields, AllocError>
+    requires { AreSpansWithin text.now marks.now }
+    ensures { IfOk result (λ fs. fs ≡ map (field_of_span text.now) marks.now) }
 {
     let mut copies = Vec::with_capacity(alloc, marks.len())?;
     for mark in marks {
-        copies.push(copied(alloc, text, mark)?)?;
+        copies.push(copy_field(alloc, text, mark)?)?;
     }
     Ok(Fields::from_vec(copies))
 }

@@ -2,10 +2,10 @@
 #![tactic(auto)]
 
 ghost use Rattle.std.specs.Prelude.{◌≡◌, ℕ, List};
-ghost use Rattle.heap_trail.specs.Machine.{Machine, Mark};
+ghost use Rattle.heap_trail.specs.Machine.{Machine, Allocation};
 ghost use Rattle.session_text.specs.declared.ReadEnd.{ReadEnd};
 ghost use Rattle.session_text.specs.Laws.{IsListed, IsCutListed};
-ghost use Rattle.session_text.specs.Limits.{is_whole};
+ghost use Rattle.session_text.specs.Limits.{is_whole_session};
 
 mod answer;
 mod buffer;
@@ -16,12 +16,12 @@ mod digits;
 mod dump;
 mod fields;
 pub mod inlet;
-mod marks;
 mod mutator;
 pub mod number;
 mod page;
 pub mod read_inlet;
 mod reply;
+mod spans;
 mod talk;
 pub mod words;
 mod write;
@@ -73,7 +73,7 @@ pub enum ReadEnd {
 impl Ended {
     /// Tells whether each line was run.
     pub fn is_whole(self) -> bool
-        ensures { result ≡ is_whole self }
+        ensures { result ≡ is_whole_session self }
     {
         matches!(self, Ended::Quit | Ended::Eof)
     }
@@ -82,7 +82,7 @@ impl Ended {
 /// States that a session of a private machine is a list of actions: those that its lines ask for, in order. It leaves the
 /// machine that they lead to, and writes their replies and the line of its ending.
 pub fn session_is_list()
-    ensures { (m : Machine) (marks : List Mark) (time : ℕ) (bytes : List ℕ) (e : ReadEnd)
+    ensures { (m : Machine) (marks : List Allocation) (time : ℕ) (bytes : List ℕ) (e : ReadEnd)
         → IsListed m marks time bytes e }
 {}
 
@@ -90,6 +90,6 @@ pub fn session_is_list()
 /// before one, and some of that one's, in the order in which it asks for them. A dump of the current state has closed its
 /// pin.
 pub fn cut_session_is_list()
-    ensures { (m : Machine) (marks : List Mark) (time : ℕ) (bytes : List ℕ) (e : ReadEnd)
+    ensures { (m : Machine) (marks : List Allocation) (time : ℕ) (bytes : List ℕ) (e : ReadEnd)
         → IsCutListed m marks time bytes e }
 {}

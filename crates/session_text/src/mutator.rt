@@ -2,7 +2,7 @@
 ghost use Rattle.std.specs.Prelude.{◌≡◌, ◌≤◌, Some, codes, length, take, drop, IfSome};
 ghost use Rattle.heap_trail.specs.declared.Action.TheVariants.{Step};
 ghost use Rattle.session_text.specs.declared.command.Command.TheVariants.{Ask};
-ghost use Rattle.session_text.specs.Grammar.{words_of, two_numbers, three_numbers, four_numbers, command_of_text};
+ghost use Rattle.session_text.specs.Grammar.{words_of_line, two_numbers, three_numbers, four_numbers, command_of_text};
 ghost use Rattle.session_text.specs.Lines.{NoLf};
 ghost use Rattle.session_text.specs.Mutators.{FollowsIn, IsVerb, IsQuick, IsQuickIn, IsShortLine};
 
@@ -50,7 +50,7 @@ pub enum Quick {
 
 // Returns the keyword that a text begins with.
 #[inline(always)]
-#[tactic(auto, using(crate::proofs::Mutating::load_in, crate::proofs::Mutating::store_in, crate::proofs::Mutating::put_in, crate::proofs::Mutating::move_in, crate::proofs::Mutating::clear_in, crate::proofs::Mutating::new_in, crate::proofs::Mutating::mark_in))]
+#[tactic(auto, using(crate::proofs::QuickLines::load_in, crate::proofs::QuickLines::store_in, crate::proofs::QuickLines::put_in, crate::proofs::QuickLines::move_in, crate::proofs::QuickLines::clear_in, crate::proofs::QuickLines::new_in, crate::proofs::QuickLines::mark_in))]
 fn verb_of(text: &[u8]) -> Verb
     ensures { IsVerb text.now result }
 {
@@ -72,7 +72,7 @@ fn two_in(text: &[u8], at: usize) -> Option<(u64, u64, usize)>
     requires { (at ≤ 6) × (at ≤ length text.now) × NoLf (take at text.now) }
     ensures line { IfSome result (λ r. IsShortLine r.2 text.now × (at ≤ r.2)) }
     ensures numbers { IfSome result
-        (λ r. two_numbers (words_of (drop at (take r.2 text.now))) ≡ Some (r.0, r.1)) }
+        (λ r. two_numbers (words_of_line (drop at (take r.2 text.now))) ≡ Some (r.0, r.1)) }
 {
     let (a, end) = number_then(text, at, SPACE);
     let (b, end) = number_then(text, end + 1, LF);
@@ -88,7 +88,7 @@ fn three_in(text: &[u8], at: usize) -> Option<(u64, u64, u64, usize)>
     requires { (at ≤ 6) × (at ≤ length text.now) × NoLf (take at text.now) }
     ensures line { IfSome result (λ r. IsShortLine r.3 text.now × (at ≤ r.3)) }
     ensures numbers { IfSome result
-        (λ r. three_numbers (words_of (drop at (take r.3 text.now))) ≡ Some (r.0, r.1, r.2)) }
+        (λ r. three_numbers (words_of_line (drop at (take r.3 text.now))) ≡ Some (r.0, r.1, r.2)) }
 {
     let (a, end) = number_then(text, at, SPACE);
     let (b, end) = number_then(text, end + 1, SPACE);
@@ -105,7 +105,8 @@ fn four_in(text: &[u8], at: usize) -> Option<(u64, u64, u64, u64, usize)>
     requires { (at ≤ 6) × (at ≤ length text.now) × NoLf (take at text.now) }
     ensures line { IfSome result (λ r. IsShortLine r.4 text.now × (at ≤ r.4)) }
     ensures numbers { IfSome result
-        (λ r. four_numbers (words_of (drop at (take r.4 text.now))) ≡ Some (r.0, r.1, r.2, r.3)) }
+        (λ r. four_numbers (words_of_line (drop at (take r.4 text.now)))
+        ≡ Some (r.0, r.1, r.2, r.3)) }
 {
     let (a, end) = number_then(text, at, SPACE);
     let (b, end) = number_then(text, end + 1, SPACE);

@@ -1,7 +1,7 @@
 //! Numbers in decimal.
 ghost use Rattle.std.specs.Prelude.{◌≡◌, ◌+◌, ◌^◌, ◌≤◌, ◌<◌, length, drop, codes, IfSome};
 ghost use Rattle.std.specs.Str.{bytes_eq};
-ghost use Rattle.session_text.specs.Grammar.{number, number_or_dash};
+ghost use Rattle.session_text.specs.Grammar.{number_of_word, number_or_dash};
 ghost use Rattle.session_text.specs.Reads.{first_word, with_digit, with_size, IsReadTo, IsReadIn, IsNumberAt, IsNumberThen};
 
 use crate::words::SPACE;
@@ -70,7 +70,7 @@ pub fn number_at(text: &[u8]) -> (u64, usize)
 
 /// Returns the number that a word is: 1 to 20 digits below 2^64, or None if it is no number.
 pub fn number_of(word: &[u8]) -> Option<u64>
-    ensures { result ≡ number word.now }
+    ensures { result ≡ number_of_word word.now }
 {
     let (value, size) = number_at(word);
     if size == 0 || size < word.len() {

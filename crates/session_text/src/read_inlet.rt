@@ -22,9 +22,9 @@ pub struct ReadInlet<R: Read> {
 impl<R: Read> Model for ReadInlet<R> {
     ghost use Rattle.std.specs.Prelude.{length, map};
     ghost use Rattle.dump_pump.specs.Outlets.{bytes_of};
-    ghost use Rattle.session_text.specs.Inlets.{Reading};
+    ghost use Rattle.session_text.specs.Inlets.{InletState};
 
-    ghost Value = { Reading R };
+    ghost Value = { InletState R };
 
     ghost view = { λ i.
         record {

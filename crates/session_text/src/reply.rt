@@ -4,7 +4,7 @@ ghost use Rattle.heap_class.specs.Table.{refusal_name};
 ghost use Rattle.heap_step.specs.declared.Answer.TheVariants.{Object, Swept};
 ghost use Rattle.heap_trail.specs.declared.Reply.TheVariants.{Answered, Pinned};
 ghost use Rattle.session_text.specs.Replies.{answer_text, cause_text, facts_text, refusal_text, line, piece_words, reply_words, reply_data, reply_text, data_lines, piece_in, pin_in};
-ghost use Rattle.session_text.specs.Writes.{IsAdded};
+ghost use Rattle.session_text.specs.Writes.{IsTextAdded};
 
 use crate::data::write_data;
 use crate::page::Page;
@@ -170,7 +170,7 @@ fn add_last_line(page: &mut Page, reply: &Reply)
 // Adds the last line of a reply to a page, which is flushed first unless it has room for one more line. Returns false if a
 // write failed.
 fn write_last_line<O: Outlet>(page: &mut Page, outlet: &mut O, reply: &Reply) -> bool
-    ensures { IsAdded (line (reply_words reply.now)) page.old (O.seen outlet.old) page.new
+    ensures { IsTextAdded (line (reply_words reply.now)) page.old (O.seen outlet.old) page.new
         (O.seen outlet.new) result }
 {
     if !make_room(page, outlet) {
@@ -193,7 +193,7 @@ fn add_answer_line(page: &mut Page, answer: Answer)
 /// if a write failed.
 #[inline(always)]
 pub fn write_answer<O: Outlet>(page: &mut Page, outlet: &mut O, answer: Answer) -> bool
-    ensures { IsAdded (reply_text (Answered answer)) page.old (O.seen outlet.old) page.new
+    ensures { IsTextAdded (reply_text (Answered answer)) page.old (O.seen outlet.old) page.new
         (O.seen outlet.new) result }
 {
     if !make_room(page, outlet) {
@@ -216,7 +216,7 @@ fn data_of(reply: &Reply) -> &[u8]
 
 /// Adds a reply to a page, which is flushed whenever it is full. Returns false if a write failed.
 pub fn write_reply<O: Outlet>(page: &mut Page, outlet: &mut O, reply: &Reply) -> bool
-    ensures { IsAdded (reply_text reply.now) page.old (O.seen outlet.old) page.new
+    ensures { IsTextAdded (reply_text reply.now) page.old (O.seen outlet.old) page.new
         (O.seen outlet.new) result }
 {
     write_data(page, outlet, data_of(reply)) && write_last_line(page, outlet, reply)

@@ -1,7 +1,7 @@
 //! Sessions.
 ghost use Rattle.std.specs.Prelude.{◌≡◌, ◌≤◌, [], length};
-ghost use Rattle.session_text.specs.Answers.{Answers, Begins};
-ghost use Rattle.session_text.specs.Endings.{Ends, EndsWith};
+ghost use Rattle.session_text.specs.Answers.{AnswersCommand, Begins};
+ghost use Rattle.session_text.specs.Endings.{EndsSession, EndsWith};
 ghost use Rattle.session_text.specs.Session.{IsSession};
 ghost use Rattle.session_text.specs.Talks.{Serves};
 
@@ -9,8 +9,8 @@ use crate::answer::{Step, answer_lines};
 use crate::buffer::Buffer;
 use crate::commands::{Commands, Local};
 use crate::inlet::{Inlet, Take};
-use crate::marks::FieldMarks;
 use crate::page::Page;
+use crate::spans::FieldSpans;
 use crate::write::{flush, write_text};
 use crate::{Ended, READ_LIMIT};
 use dump_pump::Outlet;
@@ -33,7 +33,7 @@ fn end_with<O: Outlet>(page: &mut Page, outlet: &mut O, ended: Ended, line: &[u8
 // Reads and answers lines until an ending, with an empty buffer and an empty page.
 fn talk<I: Inlet, O: Outlet, C: Commands>(
     alloc: Global,
-    marks: &mut FieldMarks,
+    marks: &mut FieldSpans,
     time: u64,
     buffer: &mut Buffer,
     page: &mut Page,
@@ -42,7 +42,7 @@ fn talk<I: Inlet, O: Outlet, C: Commands>(
     commands: &mut C,
 ) -> Ended
     requires { (buffer.old ≡ []) × (page.old ≡ []) }
-    ensures { Serves (Answers C.acts C.unknown time) (Begins C.acts C.unknown time)
+    ensures { Serves (AnswersCommand C.acts C.unknown time) (Begins C.acts C.unknown time)
         (I.seen reader.old) (I.seen reader.new) commands.old (O.seen writer.old) commands.new
         (O.seen writer.new) result }
 {
@@ -90,13 +90,13 @@ pub fn serve<I: Inlet, O: Outlet, C: Commands>(
     commands: &mut C,
     time: u64,
 ) -> Ended
-    ensures ends { Ends (I.seen reader.old) (I.seen reader.new) (O.seen writer.old)
+    ensures ends { EndsSession (I.seen reader.old) (I.seen reader.new) (O.seen writer.old)
         (O.seen writer.new) result }
-    ensures text { Serves (Answers C.acts C.unknown time) (Begins C.acts C.unknown time)
+    ensures text { Serves (AnswersCommand C.acts C.unknown time) (Begins C.acts C.unknown time)
         (I.seen reader.old) (I.seen reader.new) commands.old (O.seen writer.old) commands.new
         (O.seen writer.new) result }
 {
-    match (Buffer::new(alloc), Page::new(alloc), FieldMarks::new(alloc)) {
+    match (Buffer::new(alloc), Page::new(alloc), FieldSpans::new(alloc)) {
         (Ok(mut buffer), Ok(mut page), Ok(mut marks)) => {
             talk(
                 alloc,
@@ -126,7 +126,7 @@ pub fn serve_local<I: Inlet, O: Outlet>(
     local: &mut Local,
     time: u64,
 ) -> Ended
-    ensures ends { Ends (I.seen reader.old) (I.seen reader.new) (O.seen writer.old)
+    ensures ends { EndsSession (I.seen reader.old) (I.seen reader.new) (O.seen writer.old)
         (O.seen writer.new) result }
     ensures first { local.new.first_pin ≡ local.old.first_pin }
     ensures session { IsSession local.old.machine time (I.seen reader.old) (I.seen reader.new)

@@ -1,7 +1,7 @@
 //! The words of a line.
 ghost use Rattle.std.specs.Prelude.{◌≡◌, ◌+◌, ◌<◌, ◌≤◌, ◌==◌, not, [], ◌∷◌, length, drop, IfSome, MatchOption};
 ghost use Rattle.std.specs.List.{position};
-ghost use Rattle.session_text.specs.Grammar.{words_of};
+ghost use Rattle.session_text.specs.Grammar.{words_of_line};
 ghost use Rattle.session_text.specs.Reads.{word_size, IsFront, IsRestOf};
 
 use std::marker::Model;
@@ -64,8 +64,8 @@ impl<'a> Words<'a> {
 
     /// Skips spaces, and returns the text that is left from its first word on, or None if no word is left.
     pub fn front(&mut self) -> Option<&'a [u8]>
-        ensures front { MatchOption result (words_of self.old ≡ [])
-            (λ t. IsFront (words_of self.old) self.new t.now) }
+        ensures front { MatchOption result (words_of_line self.old ≡ [])
+            (λ t. IsFront (words_of_line self.old) self.new t.now) }
         ensures rest { IsRestOf self.old self.new }
     {
         let start = word_start(self.rest)?;
@@ -85,8 +85,8 @@ impl<'a> Words<'a> {
 
     /// Reads the next word.
     pub fn next_word(&mut self) -> Option<&'a [u8]>
-        ensures next { MatchOption result (words_of self.old ≡ [])
-            (λ w. words_of self.old ≡ w.now ∷ words_of self.new) }
+        ensures next { MatchOption result (words_of_line self.old ≡ [])
+            (λ w. words_of_line self.old ≡ w.now ∷ words_of_line self.new) }
         ensures shorter { length self.new ≤ length self.old }
     {
         let text = self.front()?;

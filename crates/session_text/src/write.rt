@@ -1,7 +1,7 @@
 //! The writing of a page.
 ghost use Rattle.std.specs.Prelude.{◌≡◌, ◌≤◌, ◌++◌, [], length};
 ghost use Rattle.session_text.specs.Replies.{and_number, line};
-ghost use Rattle.session_text.specs.Writes.{IsWritten, IsAdded};
+ghost use Rattle.session_text.specs.Writes.{IsTextWritten, IsTextAdded};
 
 use crate::page::Page;
 use dump_pump::Outlet;
@@ -11,16 +11,17 @@ use dump_pump::transfer::put_all;
 const LINE_START: usize = 8000;
 
 /// Puts out all bytes. Returns false if a put failed.
-#[tactic(auto, using(crate::proofs::Written::put_whole, crate::proofs::Written::put_part))]
+#[tactic(auto, using(crate::proofs::PageTexts::put_whole, crate::proofs::PageTexts::put_part))]
 pub fn write_all<O: Outlet>(outlet: &mut O, bytes: &[u8]) -> bool
-    ensures { IsWritten bytes.now (O.seen outlet.old) (O.seen outlet.new) result }
+    ensures { IsTextWritten bytes.now (O.seen outlet.old) (O.seen outlet.new) result }
 {
     put_all(outlet, bytes) >= bytes.len()
 }
 
 /// Puts out a page, which is empty afterwards. Returns false if a put failed.
 pub fn flush<O: Outlet>(page: &mut Page, outlet: &mut O) -> bool
-    ensures added { IsAdded [] page.old (O.seen outlet.old) page.new (O.seen outlet.new) result }
+    ensures added { IsTextAdded [] page.old (O.seen outlet.old) page.new (O.seen outlet.new)
+        result }
     ensures empty { page.new ≡ [] }
 {
     let written = write_all(outlet, page.as_slice());
@@ -30,7 +31,8 @@ pub fn flush<O: Outlet>(page: &mut Page, outlet: &mut O) -> bool
 
 /// Flushes a page unless it has room for one more line. Returns false if a put failed.
 pub fn make_room<O: Outlet>(page: &mut Page, outlet: &mut O) -> bool
-    ensures added { IsAdded [] page.old (O.seen outlet.old) page.new (O.seen outlet.new) result }
+    ensures added { IsTextAdded [] page.old (O.seen outlet.old) page.new (O.seen outlet.new)
+        result }
     ensures room { length page.new ≤ 8000 }
 {
     if page.as_slice().len() <= LINE_START {
@@ -42,7 +44,8 @@ pub fn make_room<O: Outlet>(page: &mut Page, outlet: &mut O) -> bool
 /// Adds a short text to a page, which is flushed first unless it has room for one more line. Returns false if a put failed.
 pub fn write_text<O: Outlet>(page: &mut Page, outlet: &mut O, text: &[u8]) -> bool
     requires { length text.now ≤ 192 }
-    ensures { IsAdded text.now page.old (O.seen outlet.old) page.new (O.seen outlet.new) result }
+    ensures { IsTextAdded text.now page.old (O.seen outlet.old) page.new (O.seen outlet.new)
+        result }
 {
     if !make_room(page, outlet) {
         return false;
@@ -53,7 +56,8 @@ pub fn write_text<O: Outlet>(page: &mut Page, outlet: &mut O, text: &[u8]) -> bo
 
 /// Flushes a page and puts out a long text.
 pub fn write_long<O: Outlet>(page: &mut Page, outlet: &mut O, text: &[u8]) -> bool
-    ensures { IsAdded text.now page.old (O.seen outlet.old) page.new (O.seen outlet.new) result }
+    ensures { IsTextAdded text.now page.old (O.seen outlet.old) page.new (O.seen outlet.new)
+        result }
 {
     flush(page, outlet) && write_all(outlet, text)
 }
@@ -69,7 +73,7 @@ fn add_number_line(page: &mut Page, n: u64)
 
 /// Adds a space, a number and LF to a page, which is flushed first unless it has room for one more line.
 pub fn write_number_line<O: Outlet>(page: &mut Page, outlet: &mut O, n: u64) -> bool
-    ensures { IsAdded (line (and_number n)) page.old (O.seen outlet.old) page.new
+    ensures { IsTextAdded (line (and_number n)) page.old (O.seen outlet.old) page.new
         (O.seen outlet.new) result }
 {
     if !make_room(page, outlet) {

@@ -6,7 +6,7 @@ use heap_class::{Field, Fields, Kind, LostCause, Name, Refusal};
 use heap_lock::{Blank, Heap, Kept, Outcome, Receipt, Role, Seat, Shared, audit};
 use heap_scripts::{FIRST, point};
 use heap_step::{Answer, Event};
-use heap_trail::{Action, Pinned};
+use heap_trail::{Action, PinAt};
 use heap_world::Config;
 use std::alloc::{AllocError, Global};
 use std::marker::Brand;
@@ -260,9 +260,9 @@ fn closes_held<L: Heap>(kept: &mut Kept<L>) -> bool {
 }
 
 fn all_held<L: Heap>(kept: &mut Kept<L>, seat: &mut Seat<L>) -> bool {
-    kept.open_held(None) == Ok(Pinned { pin: 1, at: 0 })
+    kept.open_held(None) == Ok(PinAt { pin: 1, at: 0 })
         && acts_held(kept, seat)
-        && kept.open_held(Some(1)) == Ok(Pinned { pin: 2, at: 1 })
+        && kept.open_held(Some(1)) == Ok(PinAt { pin: 2, at: 1 })
         && rewinds_held(kept, seat)
         && closes_held(kept)
         && kept.chronicle().len() == 2

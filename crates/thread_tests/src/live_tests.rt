@@ -1,6 +1,6 @@
 //! Dumps of a shared heap's pin, by `pump` and by `stream`.
 ghost use Rattle.std.specs.Prelude.{◌≡◌, All, false};
-ghost use Rattle.dump_meter.specs.Seats.{sum, asking, finding};
+ghost use Rattle.dump_meter.specs.Seats.{sum, cancel_asked, cancel_found};
 
 use crate::live::{pumped_beside, streamed_beside, streamed_cancelled};
 use crate::parts::{one_point, points, text_of};
@@ -136,8 +136,8 @@ fn cancelled_meanwhile<L: Heap + Send + Sync, R: Threads + Wait + Sync>(
     made: NewMeter,
 ) -> Option<(bool, Pumped, Vec<u8>)>
     requires out { made.out ≡ sum made.meter 0 }
-    requires askers { All (λ s. s ≡ asking made.meter false) made.askers.items }
-    requires feed { made.feed ≡ finding made.meter false }
+    requires askers { All (λ s. s ≡ cancel_asked made.meter false) made.askers.items }
+    requires feed { made.feed ≡ cancel_found made.meter false }
 {
     let NewMeter {
         meter,

@@ -1,7 +1,7 @@
 //! Streams of a shared heap's pin with a meter's seats: one that reads beside the stream, and one that asked before it.
 ghost use Rattle.std.specs.Prelude.{◌≡◌, All, false};
 ghost use denote.Param.Send.{IsSync};
-ghost use Rattle.dump_meter.specs.Seats.{sum, seen, asking, finding};
+ghost use Rattle.dump_meter.specs.Seats.{sum, sum_read, cancel_asked, cancel_found};
 
 use crate::shared::{has_points, pumped_now, streamed};
 use crate::streaming::read_along;
@@ -80,8 +80,8 @@ fn read_meanwhile<L: Heap + Send + Sync, R: Threads + Wait + Sync>(
     made: NewMeter,
 ) -> Option<Streamed>
     requires out { made.out ≡ sum made.meter 0 }
-    requires readers { All (λ s. s ≡ seen made.meter 0) made.readers.items }
-    requires feed { made.feed ≡ finding made.meter false }
+    requires readers { All (λ s. s ≡ sum_read made.meter 0) made.readers.items }
+    requires feed { made.feed ≡ cancel_found made.meter false }
 {
     let NewMeter {
         meter,
@@ -103,8 +103,8 @@ fn asked_before<L: Heap + Send + Sync, R: Threads + Wait + Sync>(
     made: NewMeter,
 ) -> Option<(Pumped, usize)>
     requires out { made.out ≡ sum made.meter 0 }
-    requires askers { All (λ s. s ≡ asking made.meter false) made.askers.items }
-    requires feed { made.feed ≡ finding made.meter false }
+    requires askers { All (λ s. s ≡ cancel_asked made.meter false) made.askers.items }
+    requires feed { made.feed ≡ cancel_found made.meter false }
 {
     let NewMeter {
         meter,

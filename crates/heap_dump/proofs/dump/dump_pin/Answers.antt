@@ -1,4 +1,4 @@
-use Rattle.heap_dump.proofs.Pumping.{puts}
+use Rattle.heap_dump.proofs.PumpedPins.{puts}
 use Rattle.heap_dump.proofs.dump.dump_pin.Goals as goal
 
 pub returns-clause-put : goal.returns-clause-put

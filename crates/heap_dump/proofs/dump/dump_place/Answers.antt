@@ -1,4 +1,4 @@
-use Rattle.heap_dump.proofs.Placing.{opened, not_opened, placed, some_reply}
+use Rattle.heap_dump.proofs.DumpPins.{opened, not_opened, placed, some_reply}
 use Rattle.heap_dump.proofs.dump.dump_place.Goals as goal
 
 pub returns-in-Ok : goal.returns-in-Ok

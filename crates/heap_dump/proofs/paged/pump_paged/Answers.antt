@@ -1,7 +1,7 @@
 use Rattle.std.proofs.Common.{◌∙◌, ◌≤◌, refl, subst, false, true, arith}
 use Rattle.dump_pump.specs.Sources.{part_limit}
-use Rattle.heap_dump.specs.Paged.{IsSent}
-use Rattle.heap_dump.proofs.Paging.{none_waits, few_after, one_more, part_fails, ends_whole}
+use Rattle.heap_dump.specs.PagedDumps.{IsSent}
+use Rattle.heap_dump.proofs.PageSteps.{none_waits, few_after, one_more, part_fails, ends_whole}
 use Rattle.heap_dump.proofs.paged.pump_paged.Goals as goal
 
 pub loop-piece-init : goal.loop-piece-init

@@ -1,5 +1,5 @@
 use Rattle.std.proofs.Common.{◌≡◌}
-use Rattle.heap_dump.proofs.Paging.{IsWaiting}
+use Rattle.heap_dump.proofs.PageSteps.{IsWaiting}
 use Rattle.heap_dump.proofs.paged.pump_paged.Given as goal
 
 abbrev pub invariant-loop-piece : goal.invariant-loop-piece

@@ -1,4 +1,4 @@
-use Rattle.heap_dump.proofs.Paging.{sent_alone}
+use Rattle.heap_dump.proofs.PageSteps.{sent_alone}
 use Rattle.heap_dump.proofs.paged.put_out.Goals as goal
 
 pub returns : goal.returns

@@ -1,5 +1,5 @@
 use Rattle.std.proofs.Common.{sym, ◌∙◌}
-use Rattle.hprof_text.proofs.Viewed.{is_there}
+use Rattle.hprof_text.proofs.ViewedObjects.{is_there}
 use Rattle.heap_questions.proofs.Named.{no_node, node_kind, node_placed}
 use Rattle.heap_questions.proofs.registers.kind_with.Goals as goal
 

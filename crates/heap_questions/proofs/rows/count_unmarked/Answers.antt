@@ -1,7 +1,7 @@
 use Rattle.std.proofs.Common.{◌≡◌, ◌<◌, ◌≤◌, take, false, length, replicate, sym, ap, ap₂, ◌+◌, ◌∙◌, subst, arith, rules}
 use Rattle.std.specs.Prelude.{slice_index_or}
 use Rattle.hprof_text.specs.Image.{IsKnown}
-use Rattle.hprof_text.proofs.Viewed.{here, is_there, within, none_left}
+use Rattle.hprof_text.proofs.ViewedObjects.{here, is_there, within, none_left}
 use Rattle.heap_questions.specs.Histogram.{AreRows, class_rows, counted_unless, no_objects, object_bytes, row_number, unmarked, value_size}
 use Rattle.heap_questions.proofs.Counting.{rows_begin, rows_more, rows_end, room}
 use Rattle.heap_questions.proofs.rows.count_unmarked.Goals as goal

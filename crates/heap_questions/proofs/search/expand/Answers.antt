@@ -2,7 +2,7 @@ use Rattle.std.proofs.Common.{ℕ, Vec, Global, Bool, List, ◌≡◌, ◌<◌, 
 use Rattle.std.specs.Prelude.{slice_get}
 use Rattle.std.proofs.lemmas.List.{get_or_default}
 use Rattle.hprof_text.specs.Image.{IsKnown}
-use Rattle.hprof_text.proofs.Viewed.{here, is_there}
+use Rattle.hprof_text.proofs.ViewedObjects.{here, is_there}
 use Rattle.heap_questions.specs.Graph.{is_reference_slot}
 use Rattle.heap_questions.specs.declared.search.Found.{Found}
 use Rattle.heap_questions.proofs.Looking.{looking_as, looking_begins, looked_at, looked_past, looked_through, named_is, slot_is, slot_is_none, stands}

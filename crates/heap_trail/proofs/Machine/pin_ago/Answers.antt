@@ -5,7 +5,7 @@ use Rattle.heap_trail.specs.Past.{HoldsPast}
 use Rattle.heap_trail.specs.Records.{machine_of}
 use Rattle.heap_trail.specs.Trail.{retained}
 use Rattle.heap_trail.specs.Views.{ShowsAgo}
-use Rattle.heap_trail.proofs.Recorded.{length-past_of}
+use Rattle.heap_trail.proofs.RecordedPast.{length-past_of}
 use Rattle.heap_trail.proofs.Shown.{shows_ago}
 use Rattle.heap_trail.proofs.Machine.pin_ago.Goals as goal
 

@@ -2,7 +2,7 @@ use Rattle.std.proofs.Common.{ℕ, List, sym, ap, subst}
 use Rattle.atomic_table.specs.Seated.{TableId}
 use Rattle.heap_lock.specs.Calls.{Call, IsLegalLedger}
 use Rattle.live_dump.specs.Streams.{PutsLive}
-use Rattle.live_dump.proofs.Streaming.{puts}
+use Rattle.live_dump.proofs.ToldStreams.{puts}
 use Rattle.live_dump.proofs.streams.stream.Goals as goal
 
 pub returns-clause-put : goal.returns-clause-put

@@ -1,4 +1,4 @@
-use Rattle.session_text.proofs.Mutating.{step_read}
+use Rattle.session_text.proofs.QuickLines.{step_read}
 use Rattle.session_text.proofs.answer.answer_line.Goals as goal
 
 pub returns : goal.returns

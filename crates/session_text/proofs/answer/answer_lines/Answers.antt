@@ -1,22 +1,22 @@
 use Rattle.std.proofs.Common.{◌++◌, [], Some, true, false, subst}
 use Rattle.session_text.specs.declared.answer.Step.{Step}
 use Rattle.session_text.specs.declared.answer.Step.TheVariants.{Next, Fault}
-use Rattle.session_text.specs.Answers.{Answers, Begins}
+use Rattle.session_text.specs.Answers.{AnswersCommand, Begins}
 use Rattle.session_text.specs.Lines.{IsLineAt}
 use Rattle.session_text.specs.Talks.{IsFirst}
-use Rattle.session_text.proofs.Mutating.{quick_next, quick_fault, quick_left}
-use Rattle.session_text.proofs.Talking.{talk_none, talk_then, first_left, line_answered, line_broken}
-use Rattle.session_text.proofs.Written.{added_here, added_more}
+use Rattle.session_text.proofs.QuickLines.{quick_next, quick_fault, quick_left}
+use Rattle.session_text.proofs.AnsweredLines.{talk_none, talk_then, first_left, line_answered, line_broken}
+use Rattle.session_text.proofs.PageTexts.{added_here, added_more}
 use Rattle.session_text.proofs.answer.answer_lines.Goals as goal
 
 pub loop-n-init : goal.loop-n-init
 loop-n-init g c =
-    ([], talk_none (Answers g.C.Commands.acts g.C.Commands.unknown c.args.time) c.args.buffer.now c.args.commands.now, added_here [] [] (g.O.Outlet.seen c.args.writer.now) c.args.page.now c.requires)
+    ([], talk_none (AnswersCommand g.C.Commands.acts g.C.Commands.unknown c.args.time) c.args.buffer.now c.args.commands.now, added_here [] [] (g.O.Outlet.seen c.args.writer.now) c.args.page.now c.requires)
 
 pub loop-n-preserved-in-Next-default : goal.loop-n-preserved-in-Next-default
 loop-n-preserved-in-Next-default g c =
     let i = c.loop-n.invariant in
-    let says = Answers g.C.Commands.acts g.C.Commands.unknown c.args.time in
+    let says = AnswersCommand g.C.Commands.acts g.C.Commands.unknown c.args.time in
     let bytes = c.loop-n.buffer in
     let s = c.as_slice.result.now in
     let n = c.answer_mutator.result.1 in
@@ -59,7 +59,7 @@ pub loop-n-preserved : goal.loop-n-preserved
 loop-n-preserved g c =
     let i = c.loop-n.invariant in
     let acts = g.C.Commands.acts in
-    let says = Answers acts g.C.Commands.unknown c.args.time in
+    let says = AnswersCommand acts g.C.Commands.unknown c.args.time in
     let begins = Begins acts g.C.Commands.unknown c.args.time in
     let bytes = c.loop-n.buffer in
     let rest = c.answer_first.new.buffer in
@@ -81,7 +81,7 @@ pub returns-in-Some-Fault : goal.returns-in-Some-Fault
 returns-in-Some-Fault g c =
     let i = c.loop-n.invariant in
     let acts = g.C.Commands.acts in
-    let says = Answers acts g.C.Commands.unknown c.args.time in
+    let says = AnswersCommand acts g.C.Commands.unknown c.args.time in
     let begins = Begins acts g.C.Commands.unknown c.args.time in
     let bytes = c.loop-n.buffer in
     let rest = c.answer_first.new.buffer in

@@ -1,6 +1,6 @@
 use Rattle.std.proofs.Common.{◌∙◌, sym}
 use Rattle.session_text.specs.Grammar.{command_of_text}
-use Rattle.session_text.proofs.Talking.{step_unread, step_blank, step_dumped}
+use Rattle.session_text.proofs.AnsweredLines.{step_unread, step_blank, step_dumped}
 use Rattle.session_text.proofs.answer.answer_text.Goals as goal
 
 pub returns-in-Err : goal.returns-in-Err

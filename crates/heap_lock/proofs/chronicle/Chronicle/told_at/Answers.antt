@@ -7,8 +7,8 @@ use Rattle.heap_lock.specs.Packs.{entry_in}
 use Rattle.heap_lock.proofs.Places.{reads, reads_none, at_placed}
 use Rattle.heap_lock.proofs.chronicle.Chronicle.told_at.Goals as goal
 
-pub told-requires : goal.told-requires
-told-requires c =
+pub answer_of_pack-requires : goal.answer_of_pack-requires
+answer_of_pack-requires c =
     let whole = c.self.inside.whole.items in
     let packs = c.self.inside.packs.items in
     let p = c.index-pack.result.now in
@@ -27,5 +27,5 @@ returns c =
     let p = c.index-pack.result.now in
     let lt : c.args.at < length packs = omega (arith, c.len.ensures, c.if-at-len.false) in
     let read = reads whole packs c.args.at p lt c.index-pack.ensures in
-    ap Some (c.told.ensures ∙ ap (λ (l : List Entry). seat_and_answer (entry_in l p)) c.as_slice.ensures.value)
+    ap Some (c.answer_of_pack.ensures ∙ ap (λ (l : List Entry). seat_and_answer (entry_in l p)) c.as_slice.ensures.value)
     ∙ sym (ap (λ (s : ChronicleState). told_at s.entries c.args.at) (sym c.self.view_is) ∙ ap (option_map seat_and_answer) read)

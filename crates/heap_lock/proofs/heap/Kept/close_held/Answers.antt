@@ -2,7 +2,7 @@ use Rattle.std.proofs.Common.{refl}
 use Rattle.heap_trail.specs.declared.Action.TheVariants.{ClosePin}
 use Rattle.heap_trail.specs.declared.Reply.TheVariants.{Closed}
 use Rattle.heap_lock.proofs.Histories.{kept_dumped}
-use Rattle.heap_lock.proofs.Dumping.{own_table, replied, may_reply, dumped_has, dumped_done, plainly}
+use Rattle.heap_lock.proofs.DumperCalls.{own_table, replied, may_reply, dumped_has, dumped_done, plainly}
 use Rattle.heap_lock.proofs.heap.Kept.close_held.Goals as goal
 
 pub note-requires : goal.note-requires

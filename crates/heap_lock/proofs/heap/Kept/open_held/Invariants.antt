@@ -1,6 +1,6 @@
 use Rattle.heap_trail.specs.declared.Action.TheVariants.{OpenPin}
 use Rattle.heap_trail.specs.declared.Reply.TheVariants.{Pinned}
-use Rattle.heap_lock.proofs.Dumping.{replied}
+use Rattle.heap_lock.proofs.DumperCalls.{replied}
 use Rattle.heap_lock.proofs.heap.Kept.open_held.Given as goal
 
 abbrev pub ghosts-note : goal.ghosts-note

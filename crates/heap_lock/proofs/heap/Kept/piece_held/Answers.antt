@@ -3,7 +3,7 @@ use Rattle.heap_trail.specs.declared.Action.TheVariants.{NextPiece}
 use Rattle.heap_trail.specs.declared.Reply.TheVariants.{Part}
 use Rattle.heap_trail.specs.Laws.{IsPieceOfLegal}
 use Rattle.heap_lock.proofs.Histories.{kept_dumped}
-use Rattle.heap_lock.proofs.Dumping.{own_table, replied, may_reply, dumped_has, dumped_done}
+use Rattle.heap_lock.proofs.DumperCalls.{own_table, replied, may_reply, dumped_has, dumped_done}
 use Rattle.heap_lock.proofs.heap.Kept.piece_held.Goals as goal
 
 pub note-requires : goal.note-requires

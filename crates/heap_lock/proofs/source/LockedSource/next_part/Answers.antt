@@ -1,4 +1,4 @@
-use Rattle.heap_lock.proofs.Sourcing.{piece_refused}
+use Rattle.heap_lock.proofs.PieceReplies.{piece_refused}
 use Rattle.heap_lock.proofs.source.LockedSource.next_part.Goals as goal
 
 pub cause_of-cause-requires : goal.cause_of-cause-requires

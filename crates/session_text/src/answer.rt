@@ -9,6 +9,7 @@ ghost use Rattle.heap_trail.specs.declared.Reply.{Reply};
 ghost use Rattle.session_text.specs.Replies.{line_answer_text, reply_text};
 ghost use Rattle.session_text.specs.Talks.{IsFirst, IsSessionStep, AreLinesAnswered};
 ghost use Rattle.session_text.specs.Writes.{IsTextAdded};
+ghost use Rattle.session_text.specs.declared.TheConstants.{LINE_LIMIT};
 
 use crate::LINE_LIMIT;
 use crate::buffer::Buffer;
@@ -129,7 +130,7 @@ fn answer_text<O: Outlet, C: Commands>(
     writer: &mut O,
     commands: &mut C,
 ) -> Step
-    requires { length text.now ≤ 4096 }
+    requires { length text.now ≤ LINE_LIMIT }
     ensures { IsSessionStep (AnswersTo C.acts (C.unknown text.now) time (command_of_text text.now))
         (BeginsTo C.acts (C.unknown text.now) time (command_of_text text.now))
         (command_of_text text.now) commands.old page.old (O.seen writer.old) commands.new page.new
@@ -160,7 +161,7 @@ fn answer_line<O: Outlet, C: Commands>(
     writer: &mut O,
     commands: &mut C,
 ) -> Step
-    requires { length line.now ≤ 4096 }
+    requires { length line.now ≤ LINE_LIMIT }
     ensures { IsSessionStep (AnswersCommand C.acts C.unknown time line.now)
         (Begins C.acts C.unknown time line.now) (command_of line.now) commands.old page.old
         (O.seen writer.old) commands.new page.new (O.seen writer.new) result }

@@ -3,6 +3,7 @@ ghost use Rattle.std.specs.Prelude.{◌≡◌, ◌+◌, ◌-◌, ◌≤◌, ◌<
 ghost use Rattle.session_text.specs.Inlets.{IsInletRead, count_of};
 ghost use Rattle.session_text.specs.Limits.{buffer_limit};
 ghost use Rattle.session_text.specs.Lines.{NoLf, IsLineAt};
+ghost use Rattle.session_text.specs.declared.TheConstants.{LINE_LIMIT};
 
 use crate::inlet::{Inlet, Take, count_of};
 use memchr::memchr;
@@ -87,7 +88,7 @@ impl Buffer {
 
     /// Reads once, and appends the bytes.
     pub fn read<I: Inlet>(&mut self, inlet: &mut I) -> Take
-        requires { length self.old ≤ 4096 }
+        requires { length self.old ≤ LINE_LIMIT }
         ensures { IsInletRead self.old self.new (I.seen inlet.old) (I.seen inlet.new) result }
     {
         let Buffer {

@@ -3,6 +3,7 @@ ghost use Rattle.std.specs.Prelude.{◌≡◌, ◌≤◌, ◌++◌, length, opti
 ghost use Rattle.std.specs.Str.{bytes_eq};
 ghost use Rattle.session_text.specs.Grammar.{words_of_line, next_number, next_number_or_dash, next_kind, at_end, one_number, one_number_or_dash, three_numbers, two_numbers, four_numbers, new_line, newarray_line, newprim_line, load_line, store_line, put_line, move_line, clear_line, step_line, sweep_line, rewind_line, open_line, piece_line, dump_line, close_line, end_line, making_rules, access_rules, marking_rules, session_rules, by_rule, without_cr, command_of_text, command_of};
 ghost use Rattle.session_text.specs.Reads.{TakesMemory, MayTakeMemory, IsNextWord, next_name, plain_class, plain_array, plain_rules};
+ghost use Rattle.session_text.specs.declared.TheConstants.{LINE_LIMIT};
 
 use crate::fields::{copied_all, kind_at, name_at, read_fields};
 use crate::number::{number_at, number_or_dash_at};
@@ -146,7 +147,7 @@ fn class_line(
     marks: &mut FieldSpans,
     mut words: Words,
 ) -> Result<Option<Command>, AllocError>
-    requires { length words ≤ 4096 }
+    requires { length words ≤ LINE_LIMIT }
     ensures { MatchResult result (λ c. c ≡ plain_class (words_of_line words.entry))
         (λ _. MayTakeMemory (plain_class (words_of_line words.entry))) }
 {
@@ -432,7 +433,7 @@ fn line_after(
     word: &[u8],
     words: Words,
 ) -> Result<Option<Command>, AllocError>
-    requires { length words ≤ 4096 }
+    requires { length words ≤ LINE_LIMIT }
     ensures { MatchResult result (λ c. c ≡ by_rule plain_rules word.now (words_of_line words.entry))
         (λ _. MayTakeMemory (by_rule plain_rules word.now (words_of_line words.entry))) }
 {
@@ -463,7 +464,7 @@ pub fn command_of_text(
     marks: &mut FieldSpans,
     text: &[u8],
 ) -> Result<Command, AllocError>
-    requires { length text.now ≤ 4096 }
+    requires { length text.now ≤ LINE_LIMIT }
     ensures { MatchResult result (λ c. c ≡ command_of_text text.now)
         (λ _. TakesMemory (command_of_text text.now)) }
 {

@@ -2,6 +2,7 @@
 ghost use Rattle.std.specs.Prelude.{◌≡◌, ◌≤◌, ◌++◌, length};
 ghost use Rattle.session_text.specs.Replies.{data_line, data_lines};
 ghost use Rattle.session_text.specs.Writes.{IsTextAdded};
+ghost use Rattle.session_text.specs.declared.write.TheConstants.{LINE_START};
 
 use crate::page::Page;
 use crate::write::make_room;
@@ -12,7 +13,7 @@ const DATA_LIMIT: usize = 64;
 
 // Adds a data line of at most 64 bytes.
 fn add_data_line(page: &mut Page, bytes: &[u8])
-    requires { (length page.old ≤ 8000) × (length bytes.now ≤ 64) }
+    requires { (length page.old ≤ LINE_START) × (length bytes.now ≤ 64) }
     ensures { page.new ≡ page.old ++ data_line bytes.now }
 {
     page.add(b"data ");

@@ -2,6 +2,7 @@
 ghost use Rattle.std.specs.Prelude.{◌≡◌, ◌≤◌, ◌++◌, length};
 ghost use Rattle.session_text.specs.Dumps.{DumpsNow, DumpsPin, WritesDump, total_line};
 ghost use Rattle.session_text.specs.Writes.{IsTextAdded};
+ghost use Rattle.session_text.specs.declared.write.TheConstants.{LINE_START};
 
 use crate::commands::Commands;
 use crate::data::write_data;
@@ -14,7 +15,7 @@ use heap_trail::Action;
 
 // Adds the last line of a dump.
 fn add_total(page: &mut Page, total: u64)
-    requires { length page.old ≤ 8000 }
+    requires { length page.old ≤ LINE_START }
     ensures { page.new ≡ page.old ++ total_line total }
 {
     page.add(b"ok dump");

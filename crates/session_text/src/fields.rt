@@ -4,6 +4,7 @@ ghost use Rattle.std.specs.Char.{is_ascii_graphic};
 ghost use Rattle.std.specs.List.{position, position_or_len};
 ghost use Rattle.session_text.specs.Grammar.{words_of_line, kind_of_word};
 ghost use Rattle.session_text.specs.Reads.{first_word, with_size, name_at, plain_field, plain_fields, field_of_span, AreSpansWithin};
+ghost use Rattle.session_text.specs.declared.TheConstants.{LINE_LIMIT};
 
 use crate::spans::{FieldSpan, FieldSpans};
 use crate::words::{SPACE, Words, word_size};
@@ -118,7 +119,7 @@ pub fn field_at(text: &[u8]) -> Option<FieldSize>
 /// Reads all words that are left as fields, and marks their places in the text that isn't read yet. Returns false if one of
 /// them is no field.
 pub fn read_fields(mut words: Words, marks: &mut FieldSpans) -> bool
-    requires { length words ≤ 4096 }
+    requires { length words ≤ LINE_LIMIT }
     ensures { MatchBool result
         ((plain_fields (words_of_line words.entry)
         ≡ Some (map (field_of_span words.entry) marks.new)) × AreSpansWithin words.entry marks.new)

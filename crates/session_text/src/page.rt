@@ -2,6 +2,7 @@
 ghost use Rattle.std.specs.Prelude.{◌≡◌, ◌+◌, ◌*◌, ◌≤◌, ◌++◌, [], ◌∷◌, take, decimal, length, IfOk};
 ghost use Rattle.hex.specs.Hex.{encode_lower};
 ghost use Rattle.session_text.specs.Replies.{and_number};
+ghost use Rattle.session_text.specs.declared.page.TheConstants.{PAGE_LIMIT};
 
 use crate::digits::write_digits;
 use std::alloc::{AllocError, Global};
@@ -19,12 +20,13 @@ pub struct Page {
 
 impl Model for Page {
     ghost use Rattle.std.specs.Prelude.{◌≡◌, ℕ, ◌≤◌, List, take, length};
+    ghost use Rattle.session_text.specs.declared.page.TheConstants.{PAGE_LIMIT};
 
     ghost Value = { List ℕ };
 
     ghost view = { λ p. take p.used p.bytes.items };
 
-    ghost invariant = { λ p. (p.used ≤ 8192) × (length p.bytes.items ≡ 8192) };
+    ghost invariant = { λ p. (p.used ≤ PAGE_LIMIT) × (length p.bytes.items ≡ PAGE_LIMIT) };
 }
 
 impl Page {
@@ -41,7 +43,7 @@ impl Page {
     /// Returns the bytes.
     pub fn as_slice(&self) -> &[u8]
         ensures value { result.now ≡ self.now }
-        ensures most { length self.now ≤ 8192 }
+        ensures most { length self.now ≤ PAGE_LIMIT }
     {
         &self.bytes[..self.used]
     }
@@ -55,7 +57,7 @@ impl Page {
 
     /// Adds a text, for which there must be room.
     pub fn add(&mut self, text: &[u8])
-        requires { length self.old + length text.now ≤ 8192 }
+        requires { length self.old + length text.now ≤ PAGE_LIMIT }
         ensures { self.new ≡ self.old ++ text.now }
     {
         place(&mut self.bytes, self.used, text);
@@ -64,7 +66,7 @@ impl Page {
 
     /// Adds the lower-case hexadecimal digits of some bytes, for which there must be room.
     pub fn add_hex(&mut self, given: &[u8])
-        requires { length self.old + 2 * length given.now ≤ 8192 }
+        requires { length self.old + 2 * length given.now ≤ PAGE_LIMIT }
         ensures { self.new ≡ self.old ++ encode_lower given.now }
     {
         place_hex(&mut self.bytes, self.used, given);
@@ -73,7 +75,7 @@ impl Page {
 
     /// Adds a space and a number.
     pub fn add_number(&mut self, n: u64)
-        requires { length self.old + 21 ≤ 8192 }
+        requires { length self.old + 21 ≤ PAGE_LIMIT }
         ensures text { self.new ≡ self.old ++ and_number n }
         ensures short { length self.new ≤ length self.old + 21 }
     {

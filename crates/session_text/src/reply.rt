@@ -5,6 +5,7 @@ ghost use Rattle.heap_step.specs.declared.Answer.TheVariants.{Object, Swept};
 ghost use Rattle.heap_trail.specs.declared.Reply.TheVariants.{Answered, Pinned};
 ghost use Rattle.session_text.specs.Replies.{answer_text, cause_text, facts_text, refusal_text, line, piece_words, reply_words, reply_data, reply_text, data_lines, piece_in, pin_in};
 ghost use Rattle.session_text.specs.Writes.{IsTextAdded};
+ghost use Rattle.session_text.specs.declared.write.TheConstants.{LINE_START};
 
 use crate::data::write_data;
 use crate::page::Page;
@@ -17,7 +18,7 @@ use hprof_text::Piece;
 
 // Adds the answer of an event that made or loaded an object.
 fn add_object(page: &mut Page, id: u64)
-    requires { length page.old ≤ 8000 }
+    requires { length page.old ≤ LINE_START }
     ensures text { page.new ≡ page.old ++ answer_text (Object id) }
     ensures short { length page.new ≤ length page.old + 21 }
 {
@@ -27,7 +28,7 @@ fn add_object(page: &mut Page, id: u64)
 
 // Adds the answer of a sweep.
 fn add_swept(page: &mut Page, dead: u64, emptied: bool)
-    requires { length page.old ≤ 8000 }
+    requires { length page.old ≤ LINE_START }
     ensures text { page.new ≡ page.old ++ answer_text (Swept dead emptied) }
     ensures short { length page.new ≤ length page.old + 35 }
 {
@@ -40,7 +41,7 @@ fn add_swept(page: &mut Page, dead: u64, emptied: bool)
 
 // Adds the answer of an event.
 fn add_answer(page: &mut Page, answer: Answer)
-    requires { length page.old ≤ 8000 }
+    requires { length page.old ≤ LINE_START }
     ensures text { page.new ≡ page.old ++ answer_text answer }
     ensures short { length page.new ≤ length page.old + 35 }
 {
@@ -115,7 +116,7 @@ fn name_of(refusal: Refusal) -> &'static [u8]
 
 // Adds a refusal's number, name and facts.
 fn add_refusal(page: &mut Page, refusal: Refusal)
-    requires { length page.old ≤ 8000 }
+    requires { length page.old ≤ LINE_START }
     ensures text { page.new ≡ page.old ++ refusal_text refusal }
     ensures short { length page.new ≤ length page.old + 80 }
 {
@@ -128,7 +129,7 @@ fn add_refusal(page: &mut Page, refusal: Refusal)
 
 // Adds the number of a new pin and its place.
 fn add_pinned(page: &mut Page, pin: u64, at: u64)
-    requires { length page.old ≤ 8000 }
+    requires { length page.old ≤ LINE_START }
     ensures text { page.new ≡ page.old ++ reply_words (Pinned pin at) }
     ensures short { length page.new ≤ length page.old + 51 }
 {
@@ -140,7 +141,7 @@ fn add_pinned(page: &mut Page, pin: u64, at: u64)
 
 // Adds the length of a piece, and whether it is the last.
 fn add_piece(page: &mut Page, piece: &Piece)
-    requires { length page.old ≤ 8000 }
+    requires { length page.old ≤ LINE_START }
     ensures text { page.new ≡ page.old ++ piece_words piece.now }
     ensures short { length page.new ≤ length page.old + 29 }
 {
@@ -150,7 +151,7 @@ fn add_piece(page: &mut Page, piece: &Piece)
 
 // Adds the last line of a reply.
 fn add_last_line(page: &mut Page, reply: &Reply)
-    requires { length page.old ≤ 8000 }
+    requires { length page.old ≤ LINE_START }
     ensures { page.new ≡ page.old ++ line (reply_words reply.now) }
 {
     match reply {
@@ -182,7 +183,7 @@ fn write_last_line<O: Outlet>(page: &mut Page, outlet: &mut O, reply: &Reply) ->
 
 // Adds the line of an event's answer.
 fn add_answer_line(page: &mut Page, answer: Answer)
-    requires { length page.old ≤ 8000 }
+    requires { length page.old ≤ LINE_START }
     ensures { page.new ≡ page.old ++ line (answer_text answer) }
 {
     add_answer(page, answer);

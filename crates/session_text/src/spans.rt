@@ -1,5 +1,6 @@
 //! The places of a line's fields.
 ghost use Rattle.std.specs.Prelude.{◌≡◌, ◌<◌, ◌++◌, [], ◌∷◌, length, IfOk};
+ghost use Rattle.session_text.specs.declared.spans.TheConstants.{SPAN_ROOM};
 
 use heap_class::Kind;
 use std::alloc::{AllocError, Global};
@@ -26,12 +27,13 @@ pub struct FieldSpans {
 impl Model for FieldSpans {
     ghost use Rattle.std.specs.Prelude.{◌≤◌, List, vec_capacity};
     ghost use Rattle.session_text.specs.declared.spans.FieldSpan.{FieldSpan};
+    ghost use Rattle.session_text.specs.declared.spans.TheConstants.{SPAN_ROOM};
 
     ghost Value = { List FieldSpan };
 
     ghost view = { λ m. m.marks.items };
 
-    ghost invariant = { λ m. 1024 ≤ vec_capacity m.marks };
+    ghost invariant = { λ m. SPAN_ROOM ≤ vec_capacity m.marks };
 }
 
 impl FieldSpans {
@@ -60,7 +62,7 @@ impl FieldSpans {
 
     /// Adds a field.
     pub fn push(&mut self, mark: FieldSpan)
-        requires { length self.old < 1024 }
+        requires { length self.old < SPAN_ROOM }
         ensures { self.new ≡ self.old ++ mark ∷ [] }
     {
         self.marks.push_reserved(mark);

@@ -2,13 +2,14 @@
 ghost use Rattle.std.specs.Prelude.{◌≡◌, ◌≤◌, ◌++◌, [], length};
 ghost use Rattle.session_text.specs.Replies.{and_number, line};
 ghost use Rattle.session_text.specs.Writes.{IsTextWritten, IsTextAdded};
+ghost use Rattle.session_text.specs.declared.write.TheConstants.{LINE_START};
 
 use crate::page::Page;
 use dump_pump::Outlet;
 use dump_pump::transfer::put_all;
 
 // The largest number of bytes of a page that has room for one more line.
-const LINE_START: usize = 8000;
+pub const LINE_START: usize = 8000;
 
 /// Puts out all bytes. Returns false if a put failed.
 #[tactic(auto, using(crate::proofs::PageTexts::put_whole, crate::proofs::PageTexts::put_part))]
@@ -33,7 +34,7 @@ pub fn flush<O: Outlet>(page: &mut Page, outlet: &mut O) -> bool
 pub fn make_room<O: Outlet>(page: &mut Page, outlet: &mut O) -> bool
     ensures added { IsTextAdded [] page.old (O.seen outlet.old) page.new (O.seen outlet.new)
         result }
-    ensures room { length page.new ≤ 8000 }
+    ensures room { length page.new ≤ LINE_START }
 {
     if page.as_slice().len() <= LINE_START {
         return true;
@@ -64,7 +65,7 @@ pub fn write_long<O: Outlet>(page: &mut Page, outlet: &mut O, text: &[u8]) -> bo
 
 // Adds a space, a number and LF to a page.
 fn add_number_line(page: &mut Page, n: u64)
-    requires { length page.old ≤ 8000 }
+    requires { length page.old ≤ LINE_START }
     ensures { page.new ≡ page.old ++ line (and_number n) }
 {
     page.add_number(n);

@@ -1,4 +1,4 @@
--- What the program says of a command line that it does not do.
+-- The texts for command lines that the program refuses.
 use Rattle.std.specs.Prelude.{◌≡◌, ◌⊎◌, ◌++◌, ℕ, List, Option, Some, None, [], ◌∷◌, ⊤, false, codes, is_some, string_bytes}
 use Rattle.std.specs.Option.{option_map_or}
 use Rattle.clap.specs.Words.{Row, Text, fault_of, first_of, subcommand_of}
@@ -43,7 +43,7 @@ abbrev pub IsMistake : Mistake → Option (Text × List Row) → Type 0
 IsMistake m found =
     IsMistakeIn m (option_map_or (λ f. f.1) found []) ⊎ ((m ≡ Command) × IsNoTask found)
 
--- what has to be given instead
+-- the text that says what has to be given instead
 abbrev pub mistake_of : Mistake → Text
 mistake_of Command = codes "heapdbg takes one of run, save, serve and ask"
 mistake_of Regions = codes "--regions takes 1 to 256"
@@ -61,7 +61,7 @@ abbrev pub text_of_mistake : Mistake → Text
 text_of_mistake m =
     codes "error: " ++ (mistake_of m ++ codes "\n\nFor more information, try 'heapdbg --help'.\n")
 
--- what `--version` is answered
+-- the answer to `--version`
 abbrev pub version_text : Text
 version_text = codes "heapdbg 1.0.0 (logic dac8208d650f15bf)\n"
 
@@ -70,8 +70,8 @@ abbrev pub NamesMistake : List Text → Text → Type 0
 NamesMistake words text =
     (m : Mistake) × IsMistake m (subcommand_of heapdbg_line words) × (text ≡ text_of_mistake m)
 
--- what a refusal says of the words: they ask for no settings. If the parser finds no fault in them, the text names a mistake; if
--- it finds that they ask for the version, the text is that
+-- a refusal fits the words: they ask for no settings. If the parser finds no fault in them, the text names a mistake; if it
+-- finds that they ask for the version, the text is that
 abbrev pub IsRefusalOf : List Text → LineFault → Type 0
 IsRefusalOf words (Bad text) =
     (settings_of words ≡ None)

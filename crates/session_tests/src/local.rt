@@ -6,7 +6,7 @@ use session_text::{Ended, Local, ReadInlet, serve_local};
 use std::alloc::Global;
 use std::test::*;
 
-/// Returns whether a machine of its own answers the lines of one point.
+// Returns whether a machine of its own answers the lines of one point.
 fn is_answered(alloc: Global, local: &mut Local) -> bool {
     let mut reader = ReadInlet::new(POINT_AND_DUMP.as_bytes());
     let mut writer = WriteOutlet::new(Vec::new(alloc));

@@ -12,8 +12,9 @@ use Rattle.clap.specs.Words.{App, Row, Rule, Text, fault_of, first_of, new_app, 
 use Rattle.clap.specs.declared.builder.ArgAction.TheVariants.{Set}
 use Rattle.heap_class.specs.declared.IdSize.{IdSize}
 use Rattle.heap_class.specs.declared.IdSize.TheVariants.{Four, Eight}
+use Rattle.heap_region.specs.Limits.{region_limit}
 use Rattle.heap_server.specs.SessionSeats.{session_limit}
-use Rattle.heap_world.specs.Limits.{AreHeapSettings}
+use Rattle.heap_world.specs.Limits.{AreHeapSettings, keep_limit, mutator_limit}
 use Rattle.heapdbg.specs.declared.settings.Task.{Task}
 use Rattle.heapdbg.specs.declared.settings.Task.TheVariants.{Run, Save, Serve, Ask}
 use Rattle.heapdbg.specs.declared.settings.Target.{Target}
@@ -120,12 +121,20 @@ settings_with task (Some regions) (Some mutators) (Some keep) (Some time) (Some 
     })
 settings_with task _ _ _ _ _ = None
 
+-- the number of steps that can be undone, if the option is not given
+abbrev pub keep_default : ℕ
+keep_default = 1024
+
+-- the largest time
+abbrev pub time_limit : ℕ
+time_limit = 18446744073709551615
+
 -- the settings of a task and its options
 abbrev pub settings_in : Task → List Row → Option Settings
-settings_in task rows = settings_with task (option_value (codes "regions") 16 1 256 rows)
-    (option_value (codes "mutators") 2 1 16 rows)
-    (option_value (codes "keep") 1024 1 65536 rows)
-    (option_value (codes "time") 0 0 18446744073709551615 rows)
+settings_in task rows = settings_with task (option_value (codes "regions") 16 1 region_limit rows)
+    (option_value (codes "mutators") 2 1 mutator_limit rows)
+    (option_value (codes "keep") keep_default 1 keep_limit rows)
+    (option_value (codes "time") 0 0 time_limit rows)
     (id_size_in rows)
 
 -- the highest port
@@ -225,7 +234,7 @@ sessions_of (Ask port) = 1
 pub record HasDefaults (words : List Text) (s : Settings) : Type 0 where
   pub regions : is_given (codes "regions") words ≡ false → s.regions ≡ 16
   pub mutators : is_given (codes "mutators") words ≡ false → s.mutators ≡ 2
-  pub keep : is_given (codes "keep") words ≡ false → s.keep ≡ 1024
+  pub keep : is_given (codes "keep") words ≡ false → s.keep ≡ keep_default
   pub time : is_given (codes "time") words ≡ false → s.time ≡ 0
   pub ids : is_given (codes "ids") words ≡ false → s.ids ≡ Eight
   pub sessions : is_given (codes "sessions") words ≡ false → sessions_of s.task ≡ 1

@@ -3,7 +3,9 @@ use Rattle.std.specs.Prelude.{◌≡◌, ◌⊎◌, ◌++◌, ℕ, List, Option,
 use Rattle.std.specs.Option.{option_map_or}
 use Rattle.clap.specs.Words.{Row, Text, fault_of, first_of, subcommand_of}
 use Rattle.clap.specs.declared.error.kind.ErrorKind.TheVariants.{DisplayVersion}
-use Rattle.heapdbg.specs.CommandLine.{heapdbg_line, id_size_in, is_task, number_in, port_in, port_limit, sessions_in, settings_of, option_value}
+use Rattle.heap_region.specs.Limits.{region_limit}
+use Rattle.heap_world.specs.Limits.{keep_limit, mutator_limit}
+use Rattle.heapdbg.specs.CommandLine.{heapdbg_line, id_size_in, is_task, keep_default, number_in, port_in, port_limit, sessions_in, settings_of, option_value, time_limit}
 use Rattle.heapdbg.specs.declared.refusal.Mistake.{Mistake}
 use Rattle.heapdbg.specs.declared.refusal.Mistake.TheVariants.{Command, Regions, Mutators, Keep, Time, Ids, Port, Sessions, To, Place}
 use Rattle.heapdbg.specs.declared.settings.LineFault.{LineFault}
@@ -22,10 +24,10 @@ IsTargetMistake m path port =
 -- the options of a command have this mistake
 abbrev pub IsMistakeIn : Mistake → List Row → Type 0
 IsMistakeIn Command rows = ⊥
-IsMistakeIn Regions rows = option_value (codes "regions") 16 1 256 rows ≡ None
-IsMistakeIn Mutators rows = option_value (codes "mutators") 2 1 16 rows ≡ None
-IsMistakeIn Keep rows = option_value (codes "keep") 1024 1 65536 rows ≡ None
-IsMistakeIn Time rows = option_value (codes "time") 0 0 18446744073709551615 rows ≡ None
+IsMistakeIn Regions rows = option_value (codes "regions") 16 1 region_limit rows ≡ None
+IsMistakeIn Mutators rows = option_value (codes "mutators") 2 1 mutator_limit rows ≡ None
+IsMistakeIn Keep rows = option_value (codes "keep") keep_default 1 keep_limit rows ≡ None
+IsMistakeIn Time rows = option_value (codes "time") 0 0 time_limit rows ≡ None
 IsMistakeIn Ids rows = id_size_in rows ≡ None
 IsMistakeIn Port rows = port_in rows ≡ None
 IsMistakeIn Sessions rows = sessions_in rows ≡ None

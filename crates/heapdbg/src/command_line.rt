@@ -18,6 +18,7 @@ use crate::socket_options::{ask_parser, ask_task, serve_parser, serve_task};
 use clap::error::ErrorKind;
 use clap::{Arg, ArgAction, ArgMatches, Command, Error};
 use heap_class::IdSize;
+use heap_world::{KEEP_LIMIT, MUTATOR_LIMIT, REGION_LIMIT};
 use std::alloc::{AllocError, Global};
 
 /// Returns the settings that the words ask for, the first of which is the program's name. Fails with Bad if they are no
@@ -201,13 +202,13 @@ fn settings_from(task: Task, options: &ArgMatches<'_>) -> Result<Settings, Mista
     ensures none { IfErr result (λ m. settings_in task (rows_of (found_of options.now)) ≡ None) }
     ensures mistake { IfErr result (λ m. IsMistakeIn m (rows_of (found_of options.now))) }
 {
-    let Some(regions) = option_value(options, "regions", 16, 1, 256) else {
+    let Some(regions) = option_value(options, "regions", 16, 1, REGION_LIMIT) else {
         return Err(Mistake::Regions);
     };
-    let Some(mutators) = option_value(options, "mutators", 2, 1, 16) else {
+    let Some(mutators) = option_value(options, "mutators", 2, 1, MUTATOR_LIMIT) else {
         return Err(Mistake::Mutators);
     };
-    let Some(keep) = option_value(options, "keep", 1024, 1, 65536) else {
+    let Some(keep) = option_value(options, "keep", 1024, 1, KEEP_LIMIT) else {
         return Err(Mistake::Keep);
     };
     let Some(time) = option_value(options, "time", 0, 0, u64::MAX) else {

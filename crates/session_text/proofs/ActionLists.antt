@@ -28,7 +28,8 @@ use Rattle.session_text.specs.Lines.{NoLf}
 use Rattle.session_text.specs.Replies.{reply_text, data_lines, piece_in, pin_in}
 use Rattle.session_text.specs.Session.{Talk, wrote, allocation_of, done_quietly, after_reply, pieces_dumped, after_open_reply, after_up_to, after_command, is_end, FitsRest, FitsDump, FitsOpen, FitsCommand, FitLines, at_end, at_long, talked, session_of, CutsLine, CutsEnd, CutsPage}
 use Rattle.session_text.specs.Talks.{IsLine, IsLong, AnswersAll, stream, IsQuit, BeginsWith}
-use Rattle.session_text.proofs.Sessions.{parts, talk, is_refused, not_zero, line_then, alone, too_long, quits}
+use Rattle.session_text.proofs.SessionCommands.{parts, talk, is_refused}
+use Rattle.session_text.proofs.SessionLines.{not_zero, line_then, alone, too_long, quits}
 
 -- ---- one action more
 

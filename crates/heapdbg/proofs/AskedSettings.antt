@@ -175,7 +175,7 @@ limits_of o s e =
 
 -- ---- defaults
 
--- the command's rules leave the option alone where no word names it, or the command is no task
+-- the command's rules leave the option alone if no word names it, or the command is no task
 abbrev is_free_command : Text → Shape → Bool
 is_free_command name s = not (is_task s.name) || list_all (is_plain_rule name) s.rules
 

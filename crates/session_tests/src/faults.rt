@@ -134,10 +134,12 @@ impl Example<'_> {
     }
 }
 
-// The half of an example's failing points that a test tries: those with an even number of bytes, or an odd one.
+// The half of an example's failing points that a test tries.
 #[derive(Clone, Copy)]
 enum Half {
+    // Those with an even number of bytes.
     Even,
+    // Those with an odd number of bytes.
     Odd,
 }
 

@@ -394,7 +394,7 @@ session_listed m marks time bytes e fit =
     let g : LinesListed time bytes m [] t (talked time e (parts bytes) t) = subst (λ x. LinesListed time x m [] t (talked time e (parts x) t)) (sym u.are) (lines_listed time e u.lines u.rest u.each u.none m [] t (none_lead m) (subst (λ x. FitLines time (parts x) t) u.are fit)) in
     (g.text, record { actions = g.after; marks = g.leads.1; rest = g.rest; talk = record { lines = g.lines; are = g.are; talks = g.talks }; stop = g.stop; machine = g.leads.0 }, g.written)
 
--- ---- where a write failed
+-- ---- if a write failed
 
 abbrev is_eof : Ended → Bool
 is_eof Eof = true

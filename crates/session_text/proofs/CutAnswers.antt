@@ -144,7 +144,7 @@ stays time e (l ∷ m ∷ ms) t = either_stays (nat_lt 4096 (length l)) t (go_on
 
 -- ---- a dump of fewer pieces
 
--- where a dump of fewer pieces uses up the marks, one of more has no others, and goes on from its text
+-- if a dump of fewer pieces uses up the marks, one of more has no others, and goes on from its text
 record GoesOn (k n pin time : ℕ) (t : Talk) (so_far : ℕ) : Type 0 where
   stays : IsPrefix (pieces_dumped k pin time t so_far).written (pieces_dumped n pin time t so_far).written
   spent : (pieces_dumped k pin time t so_far).marks ≡ [] → (pieces_dumped n pin time t so_far).marks ≡ []

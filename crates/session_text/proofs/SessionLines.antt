@@ -119,7 +119,7 @@ too_long time e rest t h =
 pub quits : (time : ℕ) (e : ReadEnd) (rest : List ℕ) (t : Talk) → IsQuit rest → talked time e (parts rest) t ≡ (t, Quit)
 quits time e rest t q = ap (λ bs. talked time e (parts bs) t) q.1.2 ∙ line_then time e q.0 q.1.1 t q.1.0 ∙ ap (λ k. go_on (talked time e (parts q.1.1)) time k t) q.2
 
--- how reading ended, where an ending says it
+-- how reading ended, if an ending says it
 abbrev pub FitsEnd : ReadEnd → Ended → Type 0
 FitsEnd e Quit = Unit {0}
 FitsEnd e Eof = e ≡ Over

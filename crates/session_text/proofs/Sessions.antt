@@ -76,7 +76,7 @@ cut_in text full a b h p = record {
   some = omega (arith, h.some, length-append h.rest p.0);
 }
 
--- where the text was cut short, told of the rest of a session
+-- the place at which the text was cut short, told of the rest of a session
 abbrev Stops : ℕ → ReadEnd → List ℕ → Talk → List ℕ → List ℕ → Machine → Type 0
 Stops time e rest t full out left =
     CutsLine time rest t out left ⊎ (((ended : Ended) × (talked time e (parts rest) t ≡ (talk t.machine [] full, ended)) × (left ≡ t.machine)) ⊎ CutsPage rest t out left)
@@ -128,7 +128,7 @@ broken_tail time a b rest c text d w w' (inr (inr (line, none, same, cut))) =
       stops = inr (inr (line, ap (λ (x : Local). x.machine) same, cut_in (text ++ []) text w.out w'.out all.0 (subst (λ l. IsPrefix l text) (sym (append-nil text)) (begins_itself text))));
     }
 
--- where the text of a whole session was cut
+-- the place at which the text of a whole session was cut
 stops_so : (time : ℕ) (bytes rest : List ℕ) (start : Machine) (marks : List Allocation) (e : ReadEnd) (t : Talk) (full out : List ℕ) (left : Machine) → session_of start marks time bytes e ≡ talked time e (parts rest) t → IsCutShort full [] out
     → Stops time e rest t full out left → CutsLine time rest t out left ⊎ (CutsEnd start marks time bytes e t out left ⊎ CutsPage rest t out left)
 stops_so time bytes rest start marks e t full out left lines cut (inl h) = inl h

@@ -17,10 +17,12 @@ pub record ChronicleState : Type 0 where
 abbrev pub HasPlace : ℕ → Pack → Type 0
 HasPlace n p = p.is_whole ≡ true → p.first < n
 
+-- each pack that stands for a whole entry names one of the first n
 abbrev pub AllPlaced : ℕ → List Pack → Type 0
 AllPlaced n [] = Unit {0}
 AllPlaced n (p ∷ ps) = HasPlace n p × AllPlaced n ps
 
+-- the entries that packs stand for
 unfoldable pub entries_in : List Entry → List Pack → List Entry
 entries_in whole packs = map (entry_in whole) packs
 
@@ -28,6 +30,7 @@ entries_in whole packs = map (entry_in whole) packs
 abbrev pub room_in : Vec Entry → Vec Pack → ℕ
 room_in whole packs = min (vec_capacity packs - vec_len packs) (vec_capacity whole - vec_len whole)
 
+-- whose entry it is, and its answer
 abbrev pub seat_and_answer : Entry → ℕ × Outcome
 seat_and_answer e = (e.seat, e.answer)
 

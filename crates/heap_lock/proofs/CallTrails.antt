@@ -30,17 +30,17 @@ entries_enter keep t (e ∷ es) legal = All-cons Enters (call_of e) (map call_of
 acts_enter : (cs : List Call) → All Enters (acts_in cs) → Enter cs
 unfolding acts_in
 acts_enter [] all = tt
-acts_enter (c ∷ cs) all = go (is_dump_action c.0) refl all
+acts_enter (c ∷ cs) all = go (is_dump_action c.0) refl (acts_enter cs) all
   where
     rest : List Call
     rest = filter (λ (x : Call). not (is_dump_action x.0)) cs
 
-    go : (b : Bool) → is_dump_action c.0 ≡ b → All Enters (if not b then c ∷ rest else rest) → Enter (c ∷ cs)
-    go true is h = (λ no. absurd (clash (sym is ∙ no)), acts_enter cs h)
+    go : (b : Bool) → is_dump_action c.0 ≡ b → (All Enters rest → Enter cs) → All Enters (if not b then c ∷ rest else rest) → Enter (c ∷ cs)
+    go true is later h = (λ no. absurd (clash (sym is ∙ no)), later h)
       where
         clash : true ≡ false → ⊥
         clash e = cc
-    go false is h = (λ no. All-head Enters c rest h, acts_enter cs (All-tail Enters c rest h))
+    go false is later h = (λ no. All-head Enters c rest h, later (All-tail Enters c rest h))
 
 enter_front : (cs ds : List Call) → Enter (cs ++ ds) → Enter cs
 enter_front [] ds h = tt

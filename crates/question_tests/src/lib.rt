@@ -1,0 +1,11 @@
+//! Questions about small heaps, answered by hand.
+#![tactic(auto)]
+
+#[cfg(test)]
+mod answers;
+#[cfg(test)]
+mod graphs;
+#[cfg(test)]
+mod past;
+#[cfg(test)]
+mod views;

@@ -6,6 +6,8 @@ mod answers;
 #[cfg(test)]
 mod graphs;
 #[cfg(test)]
+mod losses;
+#[cfg(test)]
 mod past;
 #[cfg(test)]
 mod views;

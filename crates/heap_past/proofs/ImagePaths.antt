@@ -185,7 +185,7 @@ live_shown w x l =
 abbrev IsReferenceAt : List Class → ObjKind → ℕ → ℕ → Type 0
 IsReferenceAt classes kind n s = (k : Kind) × (slice_get (slot_kinds_of classes kind n) s ≡ Some k) × (is_reference k ≡ true)
 
-pub replicated : (n s : ℕ) (k : Kind) → s < n → slice_get (replicate n k) s ≡ Some k
+replicated : (n s : ℕ) (k : Kind) → s < n → slice_get (replicate n k) s ≡ Some k
 replicated n s k l = slice_get-get_or (replicate n k) s k (omega (arith, l, length-replicate n k)) ∙ ap Some (get_or-replicate n s k k l)
 
 reference_at : (classes : List Class) (kind : ObjKind) (n s : ℕ) → s < n → is_reference_slot classes kind s ≡ true → IsReferenceAt classes kind n s

@@ -1,5 +1,5 @@
 -- What no register reaches isn't reached after an event either.
-use Rattle.std.proofs.Common.{◌≡◌, ◌≢◌, ◌⊎◌, ℕ, ◌+◌, ◌*◌, ◌/◌, ◌<◌, Bool, true, false, not, ◌&&◌, cond, List, [], ◌∷◌, ◌++◌, length, drop, set, replicate, Option, Some, None, IsSome, Contains, refl, sym, ap, subst, ◌∙◌, inl, inr, arith}
+use Rattle.std.proofs.Common.{◌≡◌, ◌≢◌, ◌⊎◌, ℕ, zero, suc, ◌+◌, ◌*◌, ◌/◌, ◌<◌, Bool, true, false, not, ◌&&◌, cond, List, [], ◌∷◌, ◌++◌, length, drop, set, replicate, Option, Some, None, IsSome, Contains, refl, sym, ap, subst, ◌∙◌, inl, inr, arith}
 use Rattle.std.specs.Prelude.{slice_get, slice_index, option_map, option_and_then, if◌then◌else◌}
 use Rattle.std.specs.Option.{option_map_or}
 use Rattle.std.proofs.lemmas.Bool.{false≢true}
@@ -13,7 +13,7 @@ use Rattle.heap_class.specs.Classes.{Class, array_class, instance_class, slot_ki
 use Rattle.heap_class.specs.Kinds.{is_reference}
 use Rattle.heap_class.proofs.Refusals.{none_holds}
 use Rattle.heap_class.proofs.Slots.{instance_within, slots_more}
-use Rattle.heap_region.specs.Regions.{Object, UsedRegion, id_of, object_at, object_of, ref_of, references_of, slot_kinds, used_at, with_object, with_word}
+use Rattle.heap_region.specs.Regions.{Object, Region, UsedRegion, id_of, object_at, object_of, ref_of, references_of, slot_kinds, used_at, with_object, with_word}
 use Rattle.heap_region.specs.Pool.{RegionPool, allocated, new_place, taken}
 use Rattle.heap_region.proofs.AllocatedRegions.{IsNewCell, new_cell}
 use Rattle.heap_region.proofs.ChangedLookups.{null_names_none, object_of_with_object, object_of_with_object_other, place_found, same_or_not}
@@ -42,7 +42,7 @@ use Rattle.heap_step.specs.Apply.{refusal_of, state_after}
 use Rattle.heap_step.proofs.CreationUndo.{head_empty, pool_empty}
 use Rattle.heap_step.proofs.Legal.{new_array_fits, new_fits, new_prim_fits}
 use Rattle.heap_past.specs.Losses.{StaysUnreached}
-use Rattle.heap_past.proofs.ImagePaths.{reaches_next, replicated}
+use Rattle.heap_past.proofs.ImagePaths.{reaches_next}
 
 -- ---- from one state to another
 
@@ -230,10 +230,10 @@ is_new w legal at fresh o place = subst (IsNew w at o) (sym c.is_taken) (record 
     c : IsNewCell at fresh o (pool_of w)
     c = new_cell at fresh o (pool_of w) place (head_empty w legal at) (pool_empty w legal at)
 
-    before : _
+    before : List Region
     before = c.before.regions
 
-    after : _
+    after : List Region
     after = (taken at o c.before).regions
 
     bare : object_at before at ≡ None
@@ -261,6 +261,11 @@ is_new w legal at fresh o place = subst (IsNew w at o) (sym c.is_taken) (record 
     none : object_of w.regions (id_of after at) ≡ None
     none = sym (c.found (id_of after at)) ∙ ap (option_and_then (object_at before)) (sym (ref_taken at o c.before (id_of after at)) ∙ back) ∙ bare
 
+zero_there : (n i : ℕ) → i < n → slice_get (replicate n 0) i ≡ Some 0
+zero_there zero i h = absurd (omega (arith, h))
+zero_there (suc n) zero h = refl
+zero_there (suc n) (suc i) h = zero_there n i (omega (arith, h))
+
 -- a new object names nothing
 names_none : (w : HeapState) (classes : List Class) (kind : ObjKind) (n y : ℕ) → Contains (references_of classes (new_object kind n w)) y → ⊥
 unfolding new_object
@@ -268,10 +273,7 @@ names_none w classes kind n y c =
     let o : Object = new_object kind n w in
     let r = found_in (slot_kinds classes o) o.words y (subst (λ l. Contains l y) (references_by_slots classes o) c) in
     let l = slice_get_within (replicate n 0) r.0 y r.4 in
-    r.5 (sym (same_Some 0 y (sym (replicated_zero n r.0 (omega (arith, l, length-replicate n 0))) ∙ r.4)))
-  where
-    replicated_zero : (n s : ℕ) → s < n → slice_get (replicate n 0) s ≡ Some 0
-    replicated_zero n s l = replicated n s 0 l
+    r.5 (sym (same_Some 0 y (sym (zero_there n r.0 (omega (arith, l, length-replicate n 0))) ∙ r.4)))
 
 -- the heap with the object at its place, and its id in the register
 abbrev made : HeapState → ℕ → ℕ → ObjRef → Bool → Object → HeapState
@@ -300,11 +302,11 @@ made_less w legal m r n kind at fresh place = reached_before w v roots names
     ]
 
     names : NamesLess w v
-    names x y n =
-        let b = namer v x y n in
+    names x y q =
+        let b = namer v x y q in
         elim (new.named x) [
           | inl e ↦ inl (names_of w x y b.0 (sym e ∙ b.1) b.2)
-          | inr e ↦ absurd (names_none w w.classes kind (length o.words) y (subst (λ (p : Object). Contains (references_of w.classes p) y) (same_Some b.0 o (sym b.1 ∙ e)) b.2))
+          | inr e ↦ absurd (names_none w w.classes kind n y (subst (λ (p : Object). Contains (references_of w.classes p) y) (same_Some b.0 o (sym b.1 ∙ e)) b.2))
         ]
 
 new_less : (w : HeapState) → IsLegal w → (m r n : ℕ) (kind : ObjKind) → ReachesLess w (after_new m r kind n w)

@@ -131,18 +131,15 @@ clear_less w m r = write_less w m r 0 (λ there. absurd (null_is_none w 0 refl t
 
 load_less : (w : HeapState) (m to from slot : ℕ) → load_refusal m to from slot w ≡ None → ReachesLess w (after_load m to from slot w)
 unfolding load_refusal after_load
-load_less w m to from slot accepted = go (is_reference_slot w (register w m from) slot) refl
+load_less w m to from slot accepted = go (register_member w m from (second_register _ _ (none_holds _ accepted).0)) (is_reference_slot w (register w m from) slot) refl
   where
-    held : Contains w.registers (register w m from)
-    held = register_member w m from (second_register _ _ (none_holds _ accepted).0)
-
-    go : (b : Bool) → is_reference_slot w (register w m from) slot ≡ b → ReachesLess w (if b then with_register m to (word_of w (register w m from) slot) w else w)
-    go true e = write_less w m to (word_of w (register w m from) slot)
+    go : Contains w.registers (register w m from) → (b : Bool) → is_reference_slot w (register w m from) slot ≡ b → ReachesLess w (if b then with_register m to (word_of w (register w m from) slot) w else w)
+    go held true e = write_less w m to (word_of w (register w m from) slot)
         (λ there. elim (slot_names w (register w m from) slot e) [
           | inl z ↦ absurd (null_is_none w (word_of w (register w m from) slot) z there)
           | inr n ↦ reaches_next w (register w m from) (word_of w (register w m from) slot) (reaches_register w (register w m from) held (namer_there w (register w m from) (word_of w (register w m from) slot) n)) n there
         ])
-    go false e = λ x there r. r
+    go held false e = λ x there r. r
 
 -- ---- the marker
 
@@ -261,7 +258,7 @@ is_new w legal at fresh o place = subst (IsNew w at o) (sym c.is_taken) (record 
     none : object_of w.regions (id_of after at) ≡ None
     none = sym (c.found (id_of after at)) ∙ ap (option_and_then (object_at before)) (sym (ref_taken at o c.before (id_of after at)) ∙ back) ∙ bare
 
-zero_there : (n i : ℕ) → i < n → slice_get (replicate n 0) i ≡ Some 0
+zero_there : (n i : ℕ) → i < n → slice_get {X = ℕ} (replicate n 0) i ≡ Some 0
 zero_there zero i h = absurd (omega (arith, h))
 zero_there (suc n) zero h = refl
 zero_there (suc n) (suc i) h = zero_there n i (omega (arith, h))

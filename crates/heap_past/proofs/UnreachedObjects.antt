@@ -270,7 +270,7 @@ names_none w classes kind n y c =
     let o : Object = new_object kind n w in
     let r = found_in (slot_kinds classes o) o.words y (subst (λ l. Contains l y) (references_by_slots classes o) c) in
     let l = slice_get_within (replicate n 0) r.0 y r.4 in
-    r.5 (sym (same_Some 0 y (sym (zero_there n r.0 (omega (arith, l, length-replicate n 0))) ∙ r.4)))
+    r.5 (sym (same_Some 0 y (sym (zero_there n r.0 (omega (arith, l, length-replicate {A = ℕ} n 0))) ∙ r.4)))
 
 -- the heap with the object at its place, and its id in the register
 abbrev made : HeapState → ℕ → ℕ → ObjRef → Bool → Object → HeapState
@@ -290,7 +290,7 @@ made_less w legal m r n kind at fresh place = reached_before w v roots names
     v = made w m r at fresh o
 
     new : IsNew w at o s
-    new = is_new w legal at fresh o (ap (λ k. new_place k (pool_of w)) (length-replicate n 0) ∙ place)
+    new = is_new w legal at fresh o (ap (λ k. new_place k (pool_of w)) (length-replicate {A = ℕ} n 0) ∙ place)
 
     roots : HoldsReached w v
     roots x c there = elim (member_set w.registers (8 * m + r) (id_of s.regions at) x c) [

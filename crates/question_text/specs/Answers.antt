@@ -1,0 +1,21 @@
+-- The answers of questions.
+use Rattle.std.specs.Prelude.{◌≡◌, ℕ, List, codes, Option, Some, None}
+use Rattle.heap_trail.specs.Machine.{Machine}
+use Rattle.question_text.specs.declared.question.Question.{Question}
+use Rattle.question_text.specs.declared.question.Question.TheVariants.{Histogram}
+use Rattle.question_text.specs.Histograms.{IsHistogramText}
+use Rattle.question_text.specs.Moments.{IsAnswerAbout, image_at}
+use Rattle.question_text.specs.Questions.{question_of}
+
+-- the text of a question's answer
+abbrev pub IsAnswer : Question → Machine → List ℕ → Type 0
+IsAnswer (Histogram at) m text = IsAnswerAbout (IsHistogramText m.ids) (image_at at m) text
+
+-- the answer of a line that asks this question, or none
+abbrev pub IsAnswerOf : Option Question → Machine → List ℕ → Type 0
+IsAnswerOf None m text = text ≡ codes "bad command\n"
+IsAnswerOf (Some q) m text = IsAnswer q m text
+
+-- the answer of a line that the grammar of sessions doesn't know
+abbrev pub IsAnswerOfLine : List ℕ → Machine → List ℕ → Type 0
+IsAnswerOfLine l m text = IsAnswerOf (question_of l) m text

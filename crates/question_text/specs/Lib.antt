@@ -1,0 +1,5 @@
+pub mod Questions
+pub mod Moments
+pub mod Histograms
+pub mod Answers
+pub mod Sessions

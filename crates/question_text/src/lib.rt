@@ -1,0 +1,15 @@
+//! Questions as lines, and their answers.
+#![tactic(auto)]
+
+mod answer;
+mod asking;
+mod at;
+mod histogram;
+mod question;
+mod rows;
+mod session;
+
+pub use answer::answer;
+pub use asking::Asking;
+pub use question::{At, Question, question_of};
+pub use session::serve_asking;

@@ -26,7 +26,7 @@ test:
 	@python3 checks/cases.py crates/heapdbg/out/heapdbg crates/heapdbg/out/heapdbg.by-rattle
 	@python3 checks/streams.py crates/heapdbg/out/heapdbg crates/heapdbg/out/heapdbg.by-rattle
 	@python3 checks/model crates/heapdbg/out/heapdbg crates/heapdbg/out/heapdbg.by-rattle
-	@python3 checks/program.py crates/heapdbg/out/heapdbg crates/heapdbg/out/heapdbg.by-rattle
+	@python3 checks/program crates/heapdbg/out/heapdbg crates/heapdbg/out/heapdbg.by-rattle
 	@python3 checks/sockets.py crates/heapdbg/out/heapdbg
 
 # Tries the edits that are not in the gate: of all crates, or of those that CRATE names.

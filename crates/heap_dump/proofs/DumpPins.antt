@@ -93,7 +93,7 @@ open_cause : (m : Machine) (e : Refusal) → open_refusal m.trail.place m.trail 
 unfolding open_refusal
 open_cause m e is = refusal_cause (not (is_retained m.trail.place m.trail)) (nat_le pin_limit (length m.pins.open_pins) || nat_lt last_pin m.pins.next) e is
 
--- nothing is put out where the pin is refused
+-- nothing is put out if the pin is refused
 pub not_opened : (m n : Machine) (w : Outgoing) (time : ℕ) (e : Refusal) (cause : LostCause) → cause ≡ cause_of e → n ≡ m → MayFail m (OpenPin None) n e → IsPlaceDumped time m n w w (Lost cause 0)
 unfolding acted unless after_open is_accepted
 not_opened m n w time e cause why_lost same may = go (open_refusal m.trail.place m.trail m.pins) refl may

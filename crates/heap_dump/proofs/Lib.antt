@@ -3,4 +3,3 @@ pub mod PieceGiving
 pub mod Texts
 pub mod DumpPins
 pub mod PumpedPins
-pub mod PageSteps

@@ -47,7 +47,7 @@ goes_on ps first (suc n) =
     ∙ ap (λ k. piece ++ concat (drop k ps)) s
     ∙ one_more ps first
 
--- the last of these is marked so only where none is left
+-- the last of these is marked so only if none is left
 none_after : (ps : List (List ℕ)) (first n : ℕ) → ends (nths ps first n) ≡ true → length ps ≤ first + n
 unfolding nth_piece
 none_after ps first zero e = absurd (clash e)

@@ -1,4 +1,4 @@
--- How a source of a machine's pin ends, and how many parts it has left.
+-- The endings of a source of a machine's pin, and the parts that it has left.
 use Rattle.std.specs.Prelude.{◌≡◌, ℕ, ◌+◌, ◌-◌, ◌<◌, ◌≤◌, Bool, true, false, length, Option, Some, None, if◌then◌else◌}
 use Rattle.heap_class.specs.declared.LostCause.{LostCause}
 use Rattle.heap_class.specs.declared.LostCause.TheVariants.{Rewound, Memory, Closed}
@@ -20,17 +20,17 @@ is_whole_ending (Some Whole) = true
 is_whole_ending (Some (Lost cause)) = false
 is_whole_ending (Some Cancelled) = false
 
--- how many parts are left at most, after so many
+-- the largest number of parts left, after `count`
 abbrev pub pieces_left : Option Ending → ℕ → ℕ
 pieces_left ended count = if is_whole_ending ended then 0 else part_limit - count
 
--- why a dump is lost whose piece was refused so
+-- the cause by which a dump is lost whose piece meets this refusal
 abbrev pub cause_of : Refusal → LostCause
 cause_of Refused.NoMemory = Memory
 cause_of (Refused.Lost cause) = cause
 cause_of e = Closed
 
--- whether this is why the dump of a pin may be lost: the pin is lost so, or it isn't open; else for want of memory
+-- whether the dump of a pin may be lost by this cause: the pin is lost by it, or it isn't open; else for lack of memory
 abbrev pub may_lose : Option PinState → LostCause → Bool
 may_lose None Closed = true
 may_lose None Rewound = false

@@ -8,24 +8,24 @@ use Rattle.hprof_text.specs.Segments.{piece_of}
 use Rattle.heap_trail.specs.Pins.{PinState, Kept, Gone, pin_at, each_kept}
 use Rattle.heap_trail.specs.Machine.{Machine}
 
--- how many pieces a pin gave
+-- the number of pieces that a pin gave
 abbrev pub given_of : Option PinState → ℕ
 given_of None = 0
 given_of (Some (Gone cause)) = 0
 given_of (Some (Kept place image given)) = given
 
--- so many pieces of a pin's dump, from this number on
+-- `count` pieces of a pin's dump, from this number on
 abbrev pub pieces_at : IdSize → ℕ → ℕ → ℕ → Option PinState → List Piece
 pieces_at ids time first count None = []
 pieces_at ids time first count (Some (Gone cause)) = []
 pieces_at ids time first count (Some (Kept place image given)) =
     map (piece_of ids image time) (range_with_len first count)
 
--- so many pieces of a machine's pin, from the first that it has not given
+-- `count` pieces of a machine's pin, from the first that it has not given
 abbrev pub handed : Machine → ℕ → ℕ → ℕ → List Piece
 handed m pin time count = let s = pin_at pin m.pins in pieces_at m.ids time (given_of s) count s
 
--- the machine, but for how many pieces the pin gave
+-- the machine, but for the number of pieces that the pin gave
 unfoldable pub ungiven : ℕ → Machine → Machine
 ungiven pin m =
     record m {

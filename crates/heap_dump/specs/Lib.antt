@@ -2,4 +2,3 @@ pub mod HandedPieces
 pub mod Endings
 pub mod PinSupplies
 pub mod PinDumps
-pub mod PagedDumps

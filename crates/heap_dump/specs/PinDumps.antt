@@ -1,4 +1,4 @@
--- What is put out of a pin, and of the current state.
+-- The output of a dump of a pin, and of the current state.
 use Rattle.std.specs.Prelude.{◌≡◌, ◌⊎◌, ℕ, ◌+◌, true, List, ◌++◌, length, Option, Some, None}
 use mathlib.Core.List.{IsPrefix}
 use Rattle.heap_class.specs.declared.LostCause.TheVariants.{Memory, Closed}
@@ -16,7 +16,7 @@ use Rattle.dump_pump.specs.Pumps.{joined, ends, bytes_of}
 use Rattle.heap_dump.specs.HandedPieces.{handed}
 use Rattle.heap_dump.specs.Endings.{may_lose}
 
--- what an answer says of the pieces handed out, of the bytes put out, of the pin and of the failures
+-- an answer fits the pieces handed out, the bytes put out, the pin and the failures
 abbrev pub FitsPin : List Piece → List ℕ → Option PinState → ℕ → ℕ → Pumped → Type 0
 FitsPin given out s failures failures' (Done n) =
     (out ≡ joined given) × (ends given ≡ true) × (failures' ≡ failures)
@@ -25,7 +25,7 @@ FitsPin given out s failures failures' (Lost cause n) =
     (out ≡ joined given) × (may_lose s cause ≡ true) × (failures' ≡ failures)
 FitsPin given out s failures failures' (Cancelled n) = ⊥
 
--- so many pieces of a pin were handed out, from the first not yet given; a beginning of their bytes was put out
+-- `count` pieces of a pin were handed out, from the first not yet given; a beginning of their bytes was put out
 pub record PutsPin (pin time : ℕ) (m : Machine) (w w' : Outgoing) (r : Pumped) : Type 0 where
   pub count : ℕ
   pub out : List ℕ
@@ -48,14 +48,14 @@ AreText m pin time count =
 abbrev pub with_number_used : Machine → Machine
 with_number_used m = record m { pins = record m.pins { next = m.pins.next + 1 } }
 
--- what an answer says of the text, of the bytes put out and of the failures
+-- an answer fits the text, the bytes put out and the failures
 abbrev pub FitsText : List ℕ → List ℕ → ℕ → ℕ → Pumped → Type 0
 FitsText text out failures failures' (Done n) = (out ≡ text) × (failures' ≡ failures)
 FitsText text out failures failures' (OutletFailed n) = failures' ≡ failures + 1
 FitsText text out failures failures' (Lost cause n) = (cause ≡ Memory) × (failures' ≡ failures)
 FitsText text out failures failures' (Cancelled n) = ⊥
 
--- a beginning of the text was put out, as many bytes as the answer says, and all of it where it is done
+-- a beginning of the text was put out, as many bytes as the answer says, and all of it if it is done
 pub record PutsText (text : List ℕ) (w w' : Outgoing) (r : Pumped) : Type 0 where
   pub out : List ℕ
   pub grows : w'.out ≡ w.out ++ out
@@ -67,20 +67,20 @@ pub record PutsText (text : List ℕ) (w w' : Outgoing) (r : Pumped) : Type 0 wh
 abbrev pub PutsNothing : Machine → Machine → Outgoing → Outgoing → Type 0
 PutsNothing m m' w w' = (m' ≡ m) × (w' ≡ w)
 
--- the dump of the current state is put out, or the pin isn't opened for want of memory
+-- the dump of the current state is put out, or the pin isn't opened for lack of memory
 abbrev pub MayDump : ℕ → Machine → Machine → Outgoing → Outgoing → Pumped → Type 0
 MayDump time m m' w w' r =
     (PutsNothing m m' w w' × (r ≡ Lost Memory 0))
     ⊎ ((m' ≡ with_number_used m)
     × PutsText (dump_text m.ids (image_of m.trail.current) time) w w' r)
 
--- nothing is put out where a pin is refused
+-- nothing is put out if a pin is refused
 abbrev pub DumpsUnless : Option Refusal → ℕ → Machine → Machine → Outgoing → Outgoing → Pumped
     → Type 0
 DumpsUnless (Some e) time m m' w w' r = PutsNothing m m' w w' × (r ≡ Lost Closed 0)
 DumpsUnless None time m m' w w' r = MayDump time m m' w w' r
 
--- of the current place
+-- the dump of the current state is put out, or nothing if its pin is refused
 abbrev pub IsPlaceDumped : ℕ → Machine → Machine → Outgoing → Outgoing → Pumped → Type 0
 IsPlaceDumped time m m' w w' r =
     DumpsUnless (open_refusal m.trail.place m.trail m.pins) time m m' w w' r

@@ -1,4 +1,4 @@
--- What a source of a machine's pin tells and keeps.
+-- The supply of a source of a machine's pin, and what no call changes.
 use Rattle.std.specs.Prelude.{◌≡◌, ℕ, ◌+◌, true, false, Option, Some}
 use Rattle.dump_pump.specs.declared.source.Ending.{Ending}
 use Rattle.dump_pump.specs.Sources.{Supply}
@@ -11,7 +11,7 @@ use Rattle.heap_dump.specs.Endings.{is_whole_ending, pieces_left, may_end}
 abbrev pub first_at : ℕ → Machine → ℕ
 first_at pin start = given_of (pin_at pin start.pins)
 
--- so many parts of m's pin were handed out, from the first of a source that was made at the machine `start`
+-- `count` parts of m's pin were handed out, from the first of a source that was made at the machine `start`
 abbrev pub pin_supply : ℕ → ℕ → Machine → Machine → ℕ → Option Ending → Supply
 pin_supply pin time start m count ended = record {
   told = Some (pieces_at m.ids time (first_at pin start) count (pin_at pin m.pins));
@@ -19,8 +19,8 @@ pin_supply pin time start m count ended = record {
   left = pieces_left ended count;
 }
 
--- what no call changes: the name of what the source borrows, the machine but for how many pieces the pin gave, the pin, the
--- time and the first piece
+-- what no call changes: the name of what the source borrows, the machine but for the number of pieces that the pin gave, the
+-- pin, the time and the first piece
 pub record PinOrigin : Type 0 where
   pub name : ℕ
   pub machine : Machine
@@ -28,6 +28,7 @@ pub record PinOrigin : Type 0 where
   pub time : ℕ
   pub first : ℕ
 
+-- what no call of such a source changes
 abbrev pub pin_origin : ℕ → ℕ → ℕ → Machine → Machine → PinOrigin
 pin_origin name pin time start m =
     record {

@@ -12,9 +12,10 @@ use Rattle.clap.specs.Walk.{answers_to, stop_after}
 use Rattle.clap.specs.Words.{Row, Text, first_of, subcommand_of}
 use Rattle.heap_class.specs.declared.IdSize.{IdSize}
 use Rattle.heap_class.specs.declared.IdSize.TheVariants.{Eight}
-use Rattle.heap_world.specs.Limits.{AreHeapSettings}
+use Rattle.heap_region.specs.Limits.{region_limit}
+use Rattle.heap_world.specs.Limits.{AreHeapSettings, keep_limit, mutator_limit}
 use Rattle.heap_server.specs.SessionSeats.{session_limit}
-use Rattle.heapdbg.specs.CommandLine.{AreSettingsWithin, HasDefaults, IsTask, ask_in, heapdbg_line, id_size_in, id_size_of, is_given, is_task, number_in, number_or, port_in, port_limit, save_in, serve_in, sessions_in, sessions_of, settings_in, settings_under, settings_with, target_in, task_in, option_value}
+use Rattle.heapdbg.specs.CommandLine.{AreSettingsWithin, HasDefaults, IsTask, ask_in, heapdbg_line, id_size_in, id_size_of, is_given, is_task, keep_default, number_in, number_or, port_in, port_limit, save_in, serve_in, sessions_in, sessions_of, settings_in, settings_under, settings_with, target_in, task_in, time_limit, option_value}
 use Rattle.heapdbg.specs.declared.settings.Settings.{Settings}
 use Rattle.heapdbg.specs.declared.settings.Task.{Task}
 use Rattle.heapdbg.specs.declared.settings.Task.TheVariants.{Run, Explore, Save, Serve, Ask}
@@ -65,10 +66,10 @@ value_within default least most (Some text) n low high e = number_within least m
 
 -- the rows have the settings' values
 pub record AreRead (rows : List Row) (s : Settings) : Type 0 where
-  pub regions : option_value (codes "regions") 16 1 256 rows ≡ Some s.regions
-  pub mutators : option_value (codes "mutators") 2 1 16 rows ≡ Some s.mutators
-  pub keep : option_value (codes "keep") 1024 1 65536 rows ≡ Some s.keep
-  pub time : option_value (codes "time") 0 0 18446744073709551615 rows ≡ Some s.time
+  pub regions : option_value (codes "regions") 16 1 region_limit rows ≡ Some s.regions
+  pub mutators : option_value (codes "mutators") 2 1 mutator_limit rows ≡ Some s.mutators
+  pub keep : option_value (codes "keep") keep_default 1 keep_limit rows ≡ Some s.keep
+  pub time : option_value (codes "time") 0 0 time_limit rows ≡ Some s.time
   pub ids : id_size_in rows ≡ Some s.ids
 
 all_there : (task : Task) (r m k t : Option ℕ) (i : Option IdSize) (s : Settings) → settings_with task r m k t i ≡ Some s
@@ -105,8 +106,8 @@ are_asked (Some f) s e = go (task_in f.0 f.1) refl e
     go : (t : Option Task) → task_in f.0 f.1 ≡ t → option_and_then (λ task. settings_in task f.1) t ≡ Some s → AreAsked (Some f) s
     go None h found = cc
     go (Some task) h found =
-        let there = all_there task (option_value (codes "regions") 16 1 256 f.1) (option_value (codes "mutators") 2 1 16 f.1)
-        (option_value (codes "keep") 1024 1 65536 f.1) (option_value (codes "time") 0 0 18446744073709551615 f.1) (id_size_in f.1) s found in
+        let there = all_there task (option_value (codes "regions") 16 1 region_limit f.1) (option_value (codes "mutators") 2 1 mutator_limit f.1)
+        (option_value (codes "keep") keep_default 1 keep_limit f.1) (option_value (codes "time") 0 0 time_limit f.1) (id_size_in f.1) s found in
         record {
           found = f;
           is = refl;
@@ -119,9 +120,9 @@ heap_within : (o : Option (Text × List Row)) (s : Settings) (a : AreAsked o s) 
 heap_within o s asked =
     let rows = asked.found.1 in
     record {
-      regions_within = value_within 16 1 256 (first_of (codes "regions") rows) s.regions (omega arith) (omega arith) asked.read.regions;
-      mutators_within = value_within 2 1 16 (first_of (codes "mutators") rows) s.mutators (omega arith) (omega arith) asked.read.mutators;
-      keep_within = value_within 1024 1 65536 (first_of (codes "keep") rows) s.keep (omega arith) (omega arith) asked.read.keep;
+      regions_within = value_within 16 1 region_limit (first_of (codes "regions") rows) s.regions (omega arith) (omega arith) asked.read.regions;
+      mutators_within = value_within 2 1 mutator_limit (first_of (codes "mutators") rows) s.mutators (omega arith) (omega arith) asked.read.mutators;
+      keep_within = value_within keep_default 1 keep_limit (first_of (codes "keep") rows) s.keep (omega arith) (omega arith) asked.read.keep;
     }
 
 port_within : (given : Option Text) (port : ℕ) → option_and_then (number_in 1 port_limit) given ≡ Some port → (1 ≤ port) × (port ≤ port_limit)
@@ -176,7 +177,7 @@ limits_of o s e =
 
 -- ---- defaults
 
--- the command's rules leave the option alone where no word names it, or the command is no task
+-- the command's rules leave the option alone if no word names it, or the command is no task
 abbrev is_free_command : Text → Shape → Bool
 is_free_command name s = not (is_task s.name) || list_all (is_plain_rule name) s.rules
 
@@ -277,10 +278,10 @@ defaults_of words s e =
     let name = asked.found.0 in
     let one : is_given (codes "sessions") words ≡ false → (k : ℕ) → sessions_in asked.found.1 ≡ Some k → k ≡ 1 = λ other k is. default_of (codes "sessions") 1 1 session_limit words asked.found k sessions_free asked.is asked.named is other in
     record {
-      regions = default_of (codes "regions") 16 1 256 words asked.found s.regions regions_free asked.is asked.named asked.read.regions;
-      mutators = default_of (codes "mutators") 2 1 16 words asked.found s.mutators mutators_free asked.is asked.named asked.read.mutators;
-      keep = default_of (codes "keep") 1024 1 65536 words asked.found s.keep keep_free asked.is asked.named asked.read.keep;
-      time = default_of (codes "time") 0 0 18446744073709551615 words asked.found s.time time_free asked.is asked.named asked.read.time;
+      regions = default_of (codes "regions") 16 1 region_limit words asked.found s.regions regions_free asked.is asked.named asked.read.regions;
+      mutators = default_of (codes "mutators") 2 1 mutator_limit words asked.found s.mutators mutators_free asked.is asked.named asked.read.mutators;
+      keep = default_of (codes "keep") keep_default 1 keep_limit words asked.found s.keep keep_free asked.is asked.named asked.read.keep;
+      time = default_of (codes "time") 0 0 time_limit words asked.found s.time time_free asked.is asked.named asked.read.time;
       ids = default_size words asked.found s.ids asked.is asked.named asked.read.ids;
       sessions = default_sessions (bytes_eq name (codes "run")) (bytes_eq name (codes "explore")) (bytes_eq name (codes "save")) (bytes_eq name (codes "serve")) (bytes_eq name (codes "ask")) asked.found.1 s.task words
           one asked.task;

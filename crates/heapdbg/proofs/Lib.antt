@@ -1,4 +1,3 @@
 pub mod Words
 pub mod AskedSettings
 pub mod SavedRuns
-pub mod WholePuts

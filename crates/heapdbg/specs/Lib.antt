@@ -1,4 +1,4 @@
--- What the program's command line means, and how the program ends.
+-- The meaning of the program's command line, and the endings of the program.
 pub mod CommandLine
 pub mod Refusals
 pub mod Endings

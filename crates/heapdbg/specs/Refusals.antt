@@ -1,9 +1,11 @@
--- What the program says of a command line that it does not do.
+-- The texts for command lines that the program refuses.
 use Rattle.std.specs.Prelude.{◌≡◌, ◌⊎◌, ◌++◌, ℕ, List, Option, Some, None, [], ◌∷◌, ⊤, false, codes, is_some, string_bytes}
 use Rattle.std.specs.Option.{option_map_or}
 use Rattle.clap.specs.Words.{Row, Text, fault_of, first_of, subcommand_of}
 use Rattle.clap.specs.declared.error.kind.ErrorKind.TheVariants.{DisplayVersion}
-use Rattle.heapdbg.specs.CommandLine.{heapdbg_line, id_size_in, is_task, number_in, port_in, port_limit, sessions_in, settings_of, option_value}
+use Rattle.heap_region.specs.Limits.{region_limit}
+use Rattle.heap_world.specs.Limits.{keep_limit, mutator_limit}
+use Rattle.heapdbg.specs.CommandLine.{heapdbg_line, id_size_in, is_task, keep_default, number_in, port_in, port_limit, sessions_in, settings_of, option_value, time_limit}
 use Rattle.heapdbg.specs.declared.refusal.Mistake.{Mistake}
 use Rattle.heapdbg.specs.declared.refusal.Mistake.TheVariants.{Command, Regions, Mutators, Keep, Time, Ids, Port, Sessions, To, Place}
 use Rattle.heapdbg.specs.declared.settings.LineFault.{LineFault}
@@ -22,10 +24,10 @@ IsTargetMistake m path port =
 -- the options of a command have this mistake
 abbrev pub IsMistakeIn : Mistake → List Row → Type 0
 IsMistakeIn Command rows = ⊥
-IsMistakeIn Regions rows = option_value (codes "regions") 16 1 256 rows ≡ None
-IsMistakeIn Mutators rows = option_value (codes "mutators") 2 1 16 rows ≡ None
-IsMistakeIn Keep rows = option_value (codes "keep") 1024 1 65536 rows ≡ None
-IsMistakeIn Time rows = option_value (codes "time") 0 0 18446744073709551615 rows ≡ None
+IsMistakeIn Regions rows = option_value (codes "regions") 16 1 region_limit rows ≡ None
+IsMistakeIn Mutators rows = option_value (codes "mutators") 2 1 mutator_limit rows ≡ None
+IsMistakeIn Keep rows = option_value (codes "keep") keep_default 1 keep_limit rows ≡ None
+IsMistakeIn Time rows = option_value (codes "time") 0 0 time_limit rows ≡ None
 IsMistakeIn Ids rows = id_size_in rows ≡ None
 IsMistakeIn Port rows = port_in rows ≡ None
 IsMistakeIn Sessions rows = sessions_in rows ≡ None
@@ -43,7 +45,7 @@ abbrev pub IsMistake : Mistake → Option (Text × List Row) → Type 0
 IsMistake m found =
     IsMistakeIn m (option_map_or (λ f. f.1) found []) ⊎ ((m ≡ Command) × IsNoTask found)
 
--- what has to be given instead
+-- the text that says what has to be given instead
 abbrev pub mistake_of : Mistake → Text
 mistake_of Command = codes "heapdbg takes one of run, explore, save, serve and ask"
 mistake_of Regions = codes "--regions takes 1 to 256"
@@ -61,7 +63,7 @@ abbrev pub text_of_mistake : Mistake → Text
 text_of_mistake m =
     codes "error: " ++ (mistake_of m ++ codes "\n\nFor more information, try 'heapdbg --help'.\n")
 
--- what `--version` is answered
+-- the answer to `--version`
 abbrev pub version_text : Text
 version_text = codes "heapdbg 1.0.0 (logic dac8208d650f15bf)\n"
 
@@ -70,8 +72,8 @@ abbrev pub NamesMistake : List Text → Text → Type 0
 NamesMistake words text =
     (m : Mistake) × IsMistake m (subcommand_of heapdbg_line words) × (text ≡ text_of_mistake m)
 
--- what a refusal says of the words: they ask for no settings. If the parser finds no fault in them, the text names a mistake; if
--- it finds that they ask for the version, the text is that
+-- a refusal fits the words: they ask for no settings. If the parser finds no fault in them, the text names a mistake; if it
+-- finds that they ask for the version, the text is that
 abbrev pub IsRefusalOf : List Text → LineFault → Type 0
 IsRefusalOf words (Bad text) =
     (settings_of words ≡ None)

@@ -1,4 +1,4 @@
--- What a run of the program does between its reader and its writer.
+-- A run of the program between its reader and its writer.
 use Rattle.std.specs.Prelude.{◌≡◌, ℕ, ◌⊎◌, List, Result, Some, Err}
 use Rattle.dump_pump.specs.Outlets.{Outgoing}
 use Rattle.heap_trail.specs.Machine.{Machine, opening_machine}
@@ -22,8 +22,8 @@ use Rattle.heapdbg.specs.Refusals.{IsRefusalOf}
 use Rattle.heapdbg.specs.SaveOutcomes.{IsSavedTo}
 use Rattle.heapdbg.specs.ServeOutcomes.{IsServerAsked, IsHeapServed}
 
--- a session over a heap with these settings as it begins, and how it ended; or no memory for one, and then nothing is read
--- or written
+-- a session over a heap with these settings as it begins, and how it ended; or the heap couldn't be allocated, and nothing is
+-- read or written
 abbrev pub IsRun : Settings → Incoming → Incoming → Outgoing → Outgoing → Result (Unit {0}) Fault
     → Type 0
 IsRun s a b w w' result =

@@ -1,4 +1,4 @@
--- What a session is for the program whose last state is dumped. Files and sockets tell nothing of their bytes.
+-- The outcomes of a session whose last state is dumped. Files and sockets tell nothing of their bytes.
 use Rattle.std.specs.Prelude.{◌≡◌, ℕ, ◌⊎◌, Bool, true, false, Option, Some, None, Result, Ok, Err, is_some}
 use Rattle.dump_pump.specs.declared.transfer.Pumped.{Pumped}
 use Rattle.dump_pump.specs.declared.transfer.Pumped.TheVariants.{Done, OutletFailed, Lost, Cancelled}
@@ -12,7 +12,7 @@ use Rattle.heapdbg.specs.declared.failure.Fault.TheVariants as fault
 use Rattle.heapdbg.specs.declared.settings.Settings.{Settings}
 use Rattle.heapdbg.specs.Endings.{outcome_of}
 
--- what the end of a dump is; `unmade` is the fault where no outlet was made
+-- the outcome of the end of a dump; `unmade` is the fault if no outlet was made
 abbrev pub dump_outcome : Fault → Bool → Option Pumped → Result (Unit {0}) Fault
 dump_outcome unmade made None = Ok tt
 dump_outcome unmade made (Some (Done n)) = Ok tt
@@ -21,6 +21,7 @@ dump_outcome unmade false (Some (OutletFailed n)) = Err unmade
 dump_outcome unmade made (Some (Lost cause n)) = Err fault.Lost
 dump_outcome unmade made (Some (Cancelled n)) = Err fault.Lost
 
+-- the first outcome if it is a failure, else the second
 abbrev pub unless_failed : Result (Unit {0}) Fault → Result (Unit {0}) Fault
     → Result (Unit {0}) Fault
 unless_failed (Ok done) next = next
@@ -35,8 +36,8 @@ save_outcome unmade made ended pumped =
 abbrev pub any_outlet : Option Outgoing → Type 0
 any_outlet o = Unit {0}
 
--- a session over a heap with these settings as it begins, which was saved; or no memory for one, and then nothing is read or
--- written
+-- a session over a heap with these settings as it begins, which was saved; or the heap couldn't be allocated, and nothing is
+-- read or written
 abbrev pub IsSavedTo : Fault → Settings → Incoming → Incoming → Outgoing → Outgoing
     → Result (Unit {0}) Fault → Type 0
 IsSavedTo unmade s a b w w' result =

@@ -20,6 +20,7 @@ mod task;
 use std::io::IsTerminal;
 use std::process::ExitCode;
 
+// Runs the program, and reports its failure, if any, on standard error.
 fn main(rt: HostRuntime) -> ExitCode {
     let is_terminal = rt.stderr().is_terminal();
     failure::report(&mut rt.stderr(), &task::perform(&rt, is_terminal))

@@ -19,7 +19,7 @@ use std::sync::Wait;
 use std::thread::Threads;
 use std::time::Clock;
 
-/// A file that is made, or cut to nothing if it is there.
+// A file that is made, or cut to nothing if it is there.
 #[derive(Drop)]
 struct OutFile<'a, R> {
     rt: &'a R,
@@ -39,7 +39,7 @@ impl<R: Files> Outlets for OutFile<'_, R> {
     }
 }
 
-/// A port of this computer that is connected to.
+// A port of this computer that is connected to.
 #[derive(Drop)]
 struct Peer<'a, R> {
     rt: &'a R,
@@ -92,8 +92,8 @@ where
 }
 
 /// Runs a session and dumps the state that it leaves to a port. Shows the progress of the dump on standard error if that is a
-/// terminal. Fails as a session does, with Connect if no connection can be had, with Out if a write to it fails, and with Lost
-/// if the dump is lost. May wait.
+/// terminal. Fails as a session does, with Connect if no connection can be made, with Out if a write to it fails, and with
+/// Lost if the dump is lost. May wait.
 pub fn save_to<R, I: Inlet, O: Outlet>(
     rt: &R,
     alloc: Global,
@@ -123,7 +123,7 @@ where
     )
 }
 
-/// Runs a session and dumps the state that it leaves into the outlet of a place. Fails with `unmade` if none can be made.
+// Runs a session and dumps the state that it leaves into the outlet of a place. Fails with `unmade` if none can be made.
 fn save<I: Inlet, O: Outlet, P: Outlets + Drop, G: Gauge, R: Threads + Wait + Sync>(
     rt: &R,
     alloc: Global,
@@ -157,7 +157,7 @@ fn save<I: Inlet, O: Outlet, P: Outlets + Drop, G: Gauge, R: Threads + Wait + Sy
     }
 }
 
-/// What a session that was saved is for the program, which made an outlet or didn't.
+// Returns the outcome of a session that was saved. `made` tells whether an outlet was made.
 fn save_outcome(
     unmade: Fault,
     made: bool,

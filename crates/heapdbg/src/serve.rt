@@ -2,25 +2,24 @@
 ghost use Rattle.std.specs.Prelude.{◌≡◌, ◌≤◌, []};
 ghost use Rattle.heap_server.specs.SessionSeats.{session_limit};
 ghost use Rattle.heap_world.specs.Limits.{AreHeapSettings};
-ghost use Rattle.session_text.specs.Writes.{IsTextWritten};
 ghost use Rattle.heapdbg.specs.ServeOutcomes.{IsHeapServed, IsReportTold, served_outcome};
 
 use crate::failure::Fault;
 use crate::settings::{Settings, config};
 use dump_pump::Outlet;
-use dump_pump::transfer::put_all;
 use heap_server::{Served, serve_heap, tell_sessions, users};
+use session_text::write_all;
 use std::alloc::Global;
 use std::net::{Ipv4Addr, Net, TcpListener, TcpStream};
 use std::sync::Wait;
 use std::thread::Threads;
 
-/// The bytes of the longest line of the report: `session 1000 memory` and its end.
+// The size in bytes of the longest line of the report: `session 1000 memory` and its end.
 const LINE: usize = 20;
 
-/// Serves so many sessions to clients of a port, and puts out how each ended. Fails with Memory if there is none for the heap,
-/// with Listen if the port can't be listened on, with Accept if a client could not be accepted, and else with Write if a write
-/// failed. Says on standard error that it listens, if that is a terminal. May wait.
+/// Serves `sessions` sessions to clients of a port, and puts out how each ended. Fails with Memory if the heap can't be
+/// allocated, with Listen if the port can't be listened on, with Accept if a client could not be accepted, and else with
+/// Write if a write failed. Says on standard error that it listens, if that is a terminal. May wait.
 pub fn serve_port<R, O: Outlet>(
     rt: &R,
     alloc: Global,
@@ -55,7 +54,7 @@ where
     }
 }
 
-/// Puts out how sessions ended, from a report that is still empty.
+// Puts out how sessions ended, by way of a report that is still empty.
 fn tell<O: Outlet>(served: &Served, report: Vec<u8>, writer: &mut O) -> Result<(), Fault>
     requires { report.items ≡ [] }
     ensures { IsReportTold served.now (O.seen writer.old) (O.seen writer.new) result }
@@ -64,19 +63,11 @@ fn tell<O: Outlet>(served: &Served, report: Vec<u8>, writer: &mut O) -> Result<(
     if tell_sessions(&mut report, served.ends.as_slice()).is_err() {
         return Err(Fault::Memory);
     }
-    let written = put_text(writer, report.as_slice());
+    let written = write_all(writer, report.as_slice());
     outcome(served.refused, written)
 }
 
-/// Puts out all bytes, unless a put fails.
-#[tactic(auto, using(crate::proofs::WholePuts::put_whole, crate::proofs::WholePuts::put_part))]
-fn put_text<O: Outlet>(writer: &mut O, text: &[u8]) -> bool
-    ensures { IsTextWritten text.now (O.seen writer.old) (O.seen writer.new) result }
-{
-    put_all(writer, text) >= text.len()
-}
-
-/// What ended sessions are for the program. An accept that failed goes before a write that did.
+// Returns the outcome of sessions that have ended. An accept that failed goes before a write that did.
 fn outcome(refused: bool, written: bool) -> Result<(), Fault>
     ensures { result ≡ served_outcome refused written }
 {

@@ -1,4 +1,4 @@
-//! What a command line asks for.
+//! The settings that a command line asks for.
 ghost use Rattle.std.specs.Prelude.{◌≡◌};
 ghost use Rattle.heap_world.specs.Limits.{AreHeapSettings};
 
@@ -7,7 +7,7 @@ use heap_world::Config;
 use std::fmt;
 use thiserror::Error;
 
-/// Where a save puts its dump.
+/// The place for the dump of a save.
 #[derive(Clone, Copy, Debug, PartialEq, Eq)]
 pub enum Target {
     /// In the file that the command line names.
@@ -16,7 +16,7 @@ pub enum Target {
     To(u16),
 }
 
-/// What the program does.
+/// A task of the program.
 #[derive(Clone, Copy, Debug, PartialEq, Eq)]
 pub enum Task {
     /// Runs one session between standard input and standard output.
@@ -29,7 +29,7 @@ pub enum Task {
     Serve {
         /// The port to listen on, 1 to 65,535.
         port: u16,
-        /// How many sessions, 1 to 1,000.
+        /// The number of sessions, 1 to 1,000.
         sessions: u64,
     },
     /// Asks a session that is served: sends standard input, and copies what comes back to standard output.
@@ -42,7 +42,7 @@ pub enum Task {
 /// The task, and the value of each option.
 #[derive(Clone, Copy, Debug, PartialEq, Eq)]
 pub struct Settings {
-    /// What to do.
+    /// The task.
     pub task: Task,
     /// Regions of the heap, 1 to 256.
     pub regions: u64,
@@ -56,7 +56,7 @@ pub struct Settings {
     pub ids: IdSize,
 }
 
-/// Why a command line gives no settings.
+/// The reason why a command line gives no settings.
 #[derive(Debug, Drop, Error)]
 pub enum LineFault {
     /// The words are no command line of this program, or ask for help. It holds a text for the user.
@@ -67,7 +67,7 @@ pub enum LineFault {
     Memory,
 }
 
-/// The heap that the settings ask for.
+/// Returns the configuration of the heap that the settings ask for.
 pub fn config(settings: &Settings) -> Config
     requires { AreHeapSettings settings.now.regions settings.now.mutators settings.now.keep }
     ensures { result

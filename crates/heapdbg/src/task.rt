@@ -28,8 +28,8 @@ use std::thread::Threads;
 use std::time::Clock;
 use std::{env, io};
 
-/// Reads the command line, and does what it asks for between standard input and standard output. `is_terminal` tells whether
-/// standard error is one.
+/// Reads the command line, and does the task that it asks for between standard input and standard output. `is_terminal` tells
+/// whether standard error is a terminal.
 pub fn perform<R>(rt: &R, is_terminal: bool) -> Result<(), Failure>
 where
     R: AllocGlobal + Clock + Env + Eprint + Files + Input + Print,
@@ -54,9 +54,9 @@ where
     )
 }
 
-/// Does what the words ask for: a session of the program's own between a reader and a writer, and a client's between `input`,
-/// which a thread takes that may outlive this call, and the writer. Where they ask for nothing, or there is no memory to read
-/// them, nothing is read or written.
+// Does the task that the words ask for: a private session between a reader and a writer, or a client's between `input`, which
+// a thread takes that may outlive this call, and the writer. If they ask for none, or an allocation for reading them fails,
+// nothing is read or written.
 fn perform_words<R, I: Inlet + Send, J: Inlet + Send + Drop + 'static, O: Outlet>(
     rt: &R,
     alloc: Global,
@@ -77,7 +77,7 @@ where
     Ok(())
 }
 
-/// Does the task of the settings, which the words ask for.
+// Does the task of the settings, which the words ask for.
 fn work<R, I: Inlet + Send, J: Inlet + Send + Drop + 'static, O: Outlet>(
     rt: &R,
     alloc: Global,
@@ -121,9 +121,10 @@ where
     }
 }
 
+// The text for a word that is no UTF-8.
 const NOT_UTF8: &str = "error: a word of the command line is not UTF-8\n";
 
-/// The fault of a command line that can't be read.
+// Returns the fault of a command line that can't be read.
 fn unread(alloc: Global, error: &Error) -> LineFault
     ensures memory { error_kind error.now ≡ ErrorKind.OutOfMemory → result ≡ LineFault.Memory }
     ensures text { IsBadWith NOT_UTF8.now result }
@@ -134,7 +135,7 @@ fn unread(alloc: Global, error: &Error) -> LineFault
     bad(alloc, NOT_UTF8)
 }
 
-/// The settings that the words ask for.
+// Returns the settings that the words ask for.
 fn settings_of_words(alloc: Global, words: &[String]) -> Result<Settings, LineFault>
     ensures ok { IfOk result (λ s. settings_of (map string_bytes words.now) ≡ Some s) }
     ensures refused { IfErr result (IsRefusalOf (map string_bytes words.now)) }
@@ -146,7 +147,7 @@ fn settings_of_words(alloc: Global, words: &[String]) -> Result<Settings, LineFa
     }
 }
 
-/// The words as text.
+// Returns the words as text. Fails if an allocation fails.
 fn borrow_words<'a>(alloc: Global, words: &'a [String]) -> Result<Vec<&'a str>, AllocError>
     ensures { IfOk result (λ line. texts line.items ≡ map string_bytes words.now) }
 {
@@ -157,7 +158,7 @@ fn borrow_words<'a>(alloc: Global, words: &'a [String]) -> Result<Vec<&'a str>, 
     Ok(line)
 }
 
-/// One session over a heap of its own.
+// Runs one session over a private heap.
 fn session<I: Inlet, O: Outlet>(
     alloc: Global,
     settings: &Settings,
@@ -177,8 +178,8 @@ fn session<I: Inlet, O: Outlet>(
     }
 }
 
-/// One session over a heap of its own, whose last state is dumped to the file that the words name. Fails with Out before it if
-/// the folder of that file is not there.
+// Runs one session over a private heap, and dumps its last state to the file that the words name. Fails with Out, before the
+// session, if the folder of that file is not there.
 fn save_named<R, I: Inlet, O: Outlet>(
     rt: &R,
     alloc: Global,

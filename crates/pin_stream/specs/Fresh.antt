@@ -1,4 +1,4 @@
--- What a source of a pin that had given no piece tells and keeps.
+-- The supply of a source of a pin that had given no piece, and what no call changes.
 use Rattle.std.specs.Prelude.{ℕ, Option, Some}
 use Rattle.dump_pump.specs.declared.source.Ending.{Ending}
 use Rattle.dump_pump.specs.Sources.{Supply}
@@ -8,7 +8,7 @@ use Rattle.heap_dump.specs.HandedPieces.{pieces_at, ungiven}
 use Rattle.heap_dump.specs.Endings.{pieces_left}
 use Rattle.heap_dump.specs.PinSupplies.{PinOrigin}
 
--- so many parts of m's pin were handed out, from the first
+-- `count` parts of m's pin were handed out, from the first
 abbrev pub fresh_supply : ℕ → ℕ → Machine → ℕ → Option Ending → Supply
 fresh_supply pin time m count ended =
     record {
@@ -17,7 +17,7 @@ fresh_supply pin time m count ended =
       left = pieces_left ended count;
     }
 
--- what no call changes
+-- what no call of such a source changes
 abbrev pub fresh_pinned : ℕ → ℕ → ℕ → Machine → PinOrigin
 fresh_pinned name pin time m =
     record { name = name; machine = ungiven pin m; pin = pin; time = time; first = 0 }

@@ -18,7 +18,7 @@ use std::alloc::Global;
 use std::sync::Wait;
 use std::thread::Threads;
 
-/// Streams a pin by a meter, whose progress a gauge sees after each put.
+// Streams a pin by a meter, whose progress a gauge sees after each put.
 fn stream_seen<'a, O: Outlet, G: Gauge, R: Threads + Wait + Sync>(
     rt: &R,
     alloc: Global,
@@ -54,7 +54,7 @@ fn stream_seen<'a, O: Outlet, G: Gauge, R: Threads + Wait + Sync>(
     (pumped, taken)
 }
 
-/// Streams a pin by a new meter, whose progress a gauge sees.
+// Streams a pin by a new meter, whose progress a gauge sees.
 fn stream_metered<O: Outlet, G: Gauge, R: Threads + Wait + Sync>(
     rt: &R,
     alloc: Global,
@@ -87,7 +87,7 @@ fn stream_metered<O: Outlet, G: Gauge, R: Threads + Wait + Sync>(
     )
 }
 
-/// Returns how many bytes are out.
+// Returns the number of bytes that are out.
 fn bytes_of(pumped: Pumped) -> u64
     ensures { result ≡ bytes_of pumped }
 {
@@ -99,7 +99,7 @@ fn bytes_of(pumped: Pumped) -> u64
     }
 }
 
-/// Streams a pin, and shows a gauge its progress. Lost by Memory, with 0 bytes, if there is no memory for a meter.
+// Streams a pin, and shows a gauge its progress. The dump is lost by Memory, with 0 bytes, if a meter can't be allocated.
 fn stream_shown<O: Outlet, G: Gauge, R: Threads + Wait + Sync>(
     rt: &R,
     alloc: Global,
@@ -126,10 +126,9 @@ fn stream_shown<O: Outlet, G: Gauge, R: Threads + Wait + Sync>(
     (pumped, taken)
 }
 
-/// Puts out the dump of the current state as `dump_place` does: opens a pin on it, streams its pieces by pages, and closes it.
-/// If the pin is refused, nothing is put out: the dump is lost for want of memory if that is why, and else because the pin is
-/// closed. Lost by Memory, with 0 bytes, also if there is no memory for a meter. While it goes out, a gauge sees the progress.
-/// Returns the outlet, too. May wait.
+/// Puts out the dump of the current state: opens a pin on it, streams its pieces by pages, and closes it. If the pin is
+/// refused, nothing is put out: the dump is lost by Memory if an allocation failed, and else by Closed. It is lost by Memory,
+/// with 0 bytes, also if a meter can't be allocated. A gauge sees the progress. Returns the outlet, too. May wait.
 pub fn stream_place<O: Outlet, G: Gauge, R: Threads + Wait + Sync>(
     rt: &R,
     alloc: Global,

@@ -15,10 +15,10 @@ use std::alloc::Global;
 use std::sync::Wait;
 use std::thread::Threads;
 
-/// Puts out the pieces of a pin that has given none, as `dump_pin` does. A thread of its own asks for the pieces and joins them
-/// to pages, and the caller's puts each page out at once; without a pipe or such a thread, the caller's does both. What is put
-/// out is added to the progress. May wait. The seat is one of the progress's meter, and its sum has room for the bytes of a
-/// dump.
+/// Puts out the pieces of a pin that has given none. A second thread asks for the pieces and joins them to pages, and the
+/// caller's puts each page out at once; without a pipe or such a thread, the caller's does both. The bytes put out are added
+/// to the progress. Nothing of the machine changes but the number of pieces that the pin gave. May wait. The seat is one of
+/// the progress's meter, and its sum has room for the bytes of a dump.
 pub fn stream_pin<O: Outlet, R: Threads + Wait + Sync>(
     rt: &R,
     alloc: Global,

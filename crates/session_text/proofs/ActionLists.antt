@@ -28,7 +28,8 @@ use Rattle.session_text.specs.Lines.{NoLf}
 use Rattle.session_text.specs.Replies.{reply_text, data_lines, piece_in, pin_in}
 use Rattle.session_text.specs.Session.{Talk, wrote, allocation_of, done_quietly, after_reply, pieces_dumped, after_open_reply, after_up_to, after_command, is_end, FitsRest, FitsDump, FitsOpen, FitsCommand, FitLines, at_end, at_long, talked, session_of, CutsLine, CutsEnd, CutsPage}
 use Rattle.session_text.specs.Talks.{IsLine, IsLong, AnswersAll, stream, IsQuit, BeginsWith}
-use Rattle.session_text.proofs.Sessions.{parts, talk, is_refused, not_zero, line_then, alone, too_long, quits}
+use Rattle.session_text.proofs.SessionCommands.{parts, talk, is_refused}
+use Rattle.session_text.proofs.SessionLines.{not_zero, line_then, alone, too_long, quits}
 
 -- ---- one action more
 
@@ -393,7 +394,7 @@ session_listed m marks time bytes e fit =
     let g : LinesListed time bytes m [] t (talked time e (parts bytes) t) = subst (λ x. LinesListed time x m [] t (talked time e (parts x) t)) (sym u.are) (lines_listed time e u.lines u.rest u.each u.none m [] t (none_lead m) (subst (λ x. FitLines time (parts x) t) u.are fit)) in
     (g.text, record { actions = g.after; marks = g.leads.1; rest = g.rest; talk = record { lines = g.lines; are = g.are; talks = g.talks }; stop = g.stop; machine = g.leads.0 }, g.written)
 
--- ---- where a write failed
+-- ---- if a write failed
 
 abbrev is_eof : Ended → Bool
 is_eof Eof = true

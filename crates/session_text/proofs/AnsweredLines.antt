@@ -280,12 +280,12 @@ no_line rest l none h = omega (arith, none, ap (λ x. length x) h.2, length-appe
 no_cut : (text : List ℕ) (a b : List ℕ) → text ≡ [] → IsCutShort text a b → ⊥
 no_cut text a b none h = omega (arith, h.some, ap (λ x. length x) (sym none ∙ h.lacks), length-append h.part h.rest)
 
--- where nothing was read, no line is answered
+-- if nothing was read, no line is answered
 no_talk : {S : Type 0} (says : AnswerRelation S) (lines : List (List ℕ)) (rest : List ℕ) (c : S) (text : List ℕ) (c' : S) → length (stream lines ++ rest) ≡ 0 → AnswersAll says lines c text c' → (text ≡ []) × (length rest ≡ 0)
 no_talk says [] rest c text c' none t = (t.0, none)
 no_talk says (l ∷ ls) rest c text c' none t = absurd (omega (arith, none, length-append (stream (l ∷ ls)) rest, length-append (l ++ 10 ∷ []) (stream ls), length-append l (10 ∷ [])))
 
--- where nothing was read, no ending's line can fail
+-- if nothing was read, no ending's line can fail
 closes_none : (rest text tail : List ℕ) (a b : Incoming) (w w' : Outgoing) (ended : Ended) → length rest ≡ 0 → text ≡ [] → length b.reads ≡ length a.reads → b.failures ≡ a.failures → EndsCleanly rest a b ended tail → IsTextWritten (text ++ tail) w w' false → ⊥
 closes_none rest text tail a b w w' Quit none empty same fine h k = no_line rest h.0.0 none h.0.1
 closes_none rest text tail a b w w' Eof none empty same fine h k = no_cut (text ++ tail) w.out w'.out (ap (λ l. l ++ tail) empty ∙ h.2) k.0

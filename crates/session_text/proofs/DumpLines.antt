@@ -84,7 +84,7 @@ piece_none acts pin time n c total r c1 given is = (r, c1, given, subst (λ o. D
 
 -- ---- pieces from the first on
 
--- whatever the pieces from here on make, the text so far and then that is made by so many more from the start
+-- whatever the next `n` pieces make, the text so far and then that is made by all pieces from the start
 abbrev pub Onward : {S : Type 0} → Acts S → ℕ → ℕ → S → ℕ → S → ℕ → List ℕ → Type 0
 Onward {S} acts pin time start number c total text = (n : ℕ) (more : List ℕ) (c' : S) → Dumps acts pin time n c total more c' → Dumps acts pin time (number + n) start 0 (text ++ more) c'
 
@@ -98,7 +98,7 @@ onward_piece acts pin time start number c total text p r c1 total' o given is la
     let made = o (suc n) (data_lines p.bytes ++ more) c' (piece_then acts pin time n c total p r c1 more c' given is last (subst (λ t. Dumps acts pin time n c1 t more c') e d)) in
     subst (λ k. Dumps acts pin time k start 0 ((text ++ data_lines p.bytes) ++ more) c') count (subst (λ l. Dumps acts pin time (number + suc n) start 0 l c') (sym (append_assoc text (data_lines p.bytes) more)) made)
 
--- at most so many pieces, of which one more comes
+-- the pieces before one, it, and those that may come after it make the limit
 room_for : (number : ℕ) → number < 66178 → number + suc (66177 - number) ≡ 66178
 room_for number h = omega (arith, h)
 

@@ -14,7 +14,7 @@ use Rattle.dump_pump.specs.Sources.{part_limit}
 use Rattle.session_text.specs.Inlets.{Incoming}
 use Rattle.session_text.specs.Replies.{piece_in, pin_in}
 use Rattle.session_text.specs.Talks.{AnswersAll, FailsWhileWriting, IsTruncatedRun, IsSessionServed, Serves}
-use Rattle.session_text.proofs.Sessions.{acts}
+use Rattle.session_text.proofs.SessionCommands.{acts}
 
 -- ---- dumps
 

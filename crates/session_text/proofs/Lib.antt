@@ -10,6 +10,9 @@ pub mod Numbers
 pub mod WholeWords
 pub mod FieldSpans
 pub mod AnsweredLines
+pub mod SessionCommands
+pub mod SessionLines
+pub mod CutAnswers
 pub mod Sessions
 pub mod FirstPin
 pub mod DumpLines

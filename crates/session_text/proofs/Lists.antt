@@ -58,7 +58,7 @@ is_empty_of s m b e f h = empty_of b (sym (ap (λ l. length l) (e ∙ f)) ∙ ze
 pub is_some_of : (s m b : List ℕ) → s ≡ m → m ≡ b → false ≡ (length s == 0) → 0 < length b
 is_some_of s m b e f h = omega (arith, some_of (length s) h, ap (λ l. length l) (e ∙ f))
 
--- what had no LF has none where it moved
+-- bytes without an LF have none after a move
 pub still_none : (xs ys zs : List ℕ) (s used k : ℕ) → k ≤ used → NoLf (take k (drop s xs)) → take used ys ≡ take used (drop s xs) → take used zs ≡ take used ys → NoLf (take k zs)
 still_none xs ys zs s used k le none moved kept =
     subst (λ l. NoLf l) (sym (sym (take-take k used zs le) ∙ ap (λ l. take k l) (kept ∙ moved) ∙ take-take k used (drop s xs) le)) none

@@ -68,7 +68,7 @@ name_cons b t false e h =
     let n : name_end (b ∷ t) ≡ 0 = ap (λ v. cond (not (not v)) (1 + name_end t) 0) e in
     name_none b t (b == 32) refl e ∙ ap (λ m. named_to m (drop m (b ∷ t))) (sym n)
 
--- the first word is a name where its good bytes end with it
+-- the first word is a name if its good bytes end with it
 pub name_is : (t : List ℕ) → name_at t ≡ cond (stops (drop (name_end t) t)) (Some (name_end t)) None
 name_is [] = refl
 name_is (b ∷ t) = name_cons b t (is_ascii_graphic b) refl (name_is t)
@@ -207,7 +207,7 @@ field_cons b t false e is =
     let p = not_stop b (b == 58) (is_ascii_graphic b) refl refl e in
     field_on b t p.1 p.0 (end_more b t e) is
 
--- the first word is a field where its good bytes end at a colon, and a kind follows
+-- the first word is a field if its good bytes end at a colon, and a kind follows
 pub field_is : (t : List ℕ) → plain_field (first_word t) ≡ field_after (take (colon_end t) t) (drop (colon_end t) t)
 field_is [] = refl
 field_is (b ∷ t) = field_cons b t (is_stop b) refl (field_is t)
@@ -240,7 +240,7 @@ field_none t h =
     let all = none_position (colon_end t) (length t) _ refl h in
     sym (ap (with_size t) (field_is t ∙ ap (λ l. field_after (take (colon_end t) t) l) (drop_all (colon_end t) t all)))
 
--- what is told of a field where its name ends at n
+-- what is told of a field if its name ends at n
 field_here : (t : List ℕ) (n : ℕ) → Some n ≡ position is_stop t → (n < length t) × (n ≡ colon_end t) × (plain_field (first_word t) ≡ field_after (take n t) (get_or t n 0 ∷ drop (n + 1) t))
 field_here t n h =
     let p = some_position (colon_end t) (length t) n _ refl h in

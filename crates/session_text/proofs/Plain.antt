@@ -50,7 +50,7 @@ some_plain ((b ∷ w) ∷ ws) =
     let others = filter (λ l. nat_lt 0 (length l)) ws in
     ap (λ v. is_plain (b ∷ w) && v) (some_plain ws) ∙ ap (λ v. are_plain (cond v ((b ∷ w) ∷ others) others)) (sym (lt-ltb 0 (length (b ∷ w)) (omega arith)))
 
--- a text is plain where its words are
+-- a text is plain if its words are
 words_plain : (t : List ℕ) → is_plain t ≡ are_plain (words_of_line t)
 unfolding words_of_line
 words_plain t = split_plain t ∙ some_plain (slice_split is_space t)
@@ -123,11 +123,11 @@ kind_long w k e = subst (λ l. 3 ≤ length l) ((bytes_eq-Decides (kind_word k) 
 abbrev Read : Type 0 → Type 0
 Read A = A × List (List ℕ)
 
--- a reading of the first word, which is plain where it gives something
+-- a reading of the first word, which is plain if it gives something
 abbrev IsPlainRead : {A : Type 0} → List (List ℕ) → Option (Read A) → Type 0
 IsPlainRead {A = A} ws o = (r : Read A) → o ≡ Some r → are_plain ws ≡ are_plain r.1
 
--- all words are plain where they give something
+-- all words are plain if they give something
 abbrev OnlyPlain : {A : Type 0} → List (List ℕ) → Option A → Type 0
 OnlyPlain {A = A} ws o = (c : A) → o ≡ Some c → are_plain ws ≡ true
 
@@ -343,7 +343,7 @@ read_if w ws true a e h = class_plain ws ∙ ap (λ v. cond (v && are_plain ws) 
 read_if w ws false true e h = array_plain ws ∙ ap (λ v. cond (v && are_plain ws) (array_line ws) None) (sym (keyword_plain w (codes "array") h))
 read_if w ws false false e h = guarded (by_rule other_rules w ws) (are_plain (w ∷ ws)) (making_plain w ws)
 
--- a line is read where its words are plain
+-- a line is read if its words are plain
 read_plain : (w : List ℕ) (ws : List (List ℕ)) → by_rule plain_rules w ws ≡ cond (are_plain (w ∷ ws)) (by_rule all_rules w ws) None
 unfolding class_rules plain_class_rules
 read_plain w ws =

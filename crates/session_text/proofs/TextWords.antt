@@ -50,7 +50,7 @@ pub some_position : (k m n : ℕ) (b : Bool) → nat_lt k m ≡ b → Some n ≡
 some_position k m n true e h = let lt : k < m = grind (arith, nat_tests) in (lt, cc)
 some_position k m n false e h = cc
 
--- no word where there is no other byte
+-- no word if there is no other byte
 pub words_none : (xs : List ℕ) → None ≡ position is_other xs → words_of_line xs ≡ []
 words_none xs h =
     let all = none_position (position_or_len is_other xs) (length xs) _ refl h in

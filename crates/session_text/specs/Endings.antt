@@ -3,6 +3,7 @@ use Rattle.std.specs.Prelude.{◌≡◌, ℕ, ◌+◌, ◌⊎◌, Bool, true, fa
 use Rattle.dump_pump.specs.Outlets.{Outgoing}
 use Rattle.session_text.specs.declared.Ended.{Ended}
 use Rattle.session_text.specs.declared.Ended.TheVariants.{Quit, Eof, CutLine, TooLong, ReadFault, TooManyReads, WriteFault, NoMemory}
+use Rattle.session_text.specs.declared.TheConstants.{READ_LIMIT}
 use Rattle.session_text.specs.declared.answer.Step.{Step}
 use Rattle.session_text.specs.declared.answer.Step.TheVariants.{Next, Fault}
 use Rattle.session_text.specs.Inlets.{Incoming, NothingLeft}
@@ -31,7 +32,7 @@ ReaderEnds a b CutLine = NothingLeft b × (b.failures ≡ a.failures)
 ReaderEnds a b TooLong = b.failures ≡ a.failures
 ReaderEnds a b ReadFault = b.failures ≡ a.failures + 1
 ReaderEnds a b TooManyReads =
-    (length b.reads ≡ length a.reads + 1000000) × (b.failures ≡ a.failures)
+    (length b.reads ≡ length a.reads + READ_LIMIT) × (b.failures ≡ a.failures)
 ReaderEnds a b WriteFault = ⊥
 ReaderEnds a b NoMemory = b ≡ a
 

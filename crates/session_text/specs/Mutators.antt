@@ -4,6 +4,7 @@ use Rattle.dump_pump.specs.Outlets.{Outgoing}
 use Rattle.heap_step.specs.declared.Event.{Event}
 use Rattle.heap_trail.specs.declared.Action.TheVariants.{Step}
 use Rattle.heap_trail.specs.declared.Reply.{Reply}
+use Rattle.session_text.specs.declared.TheConstants.{LINE_LIMIT}
 use Rattle.session_text.specs.declared.command.Command.{Command}
 use Rattle.session_text.specs.declared.command.Command.TheVariants.{Ask}
 use Rattle.session_text.specs.declared.mutator.Quick.{Quick}
@@ -28,7 +29,7 @@ FollowsIn key text at =
 
 -- the text's first line ends here, it isn't too long, and no CR ends it
 abbrev pub IsShortLine : ℕ → List ℕ → Type 0
-IsShortLine n text = IsLineAt n text × (n ≤ 4096) × (take n text ≡ without_cr (take n text))
+IsShortLine n text = IsLineAt n text × (n ≤ LINE_LIMIT) × (take n text ≡ without_cr (take n text))
 
 -- the verb is that of a text's beginning
 abbrev pub IsVerb : List ℕ → Verb → Type 0

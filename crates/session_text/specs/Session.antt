@@ -12,6 +12,7 @@ use Rattle.session_text.specs.declared.Ended.{Ended}
 use Rattle.session_text.specs.declared.Ended.TheVariants.{Quit, Eof, CutLine, TooLong, ReadFault, TooManyReads, WriteFault, NoMemory as NoRoom}
 use Rattle.session_text.specs.declared.ReadEnd.{ReadEnd}
 use Rattle.session_text.specs.declared.ReadEnd.TheVariants.{Over, Failed, Spent}
+use Rattle.session_text.specs.declared.TheConstants.{LINE_LIMIT}
 use Rattle.session_text.specs.declared.command.Command.{Command}
 use Rattle.session_text.specs.declared.command.Command.TheVariants.{Blank, Bad, Ask, Piece, Dump, DumpNow, End}
 use Rattle.session_text.specs.Dumps.{total_line}
@@ -127,9 +128,9 @@ at_long t = (wrote (codes "bad long\n") t, TooLong)
 abbrev pub talked : ℕ → ReadEnd → List (List ℕ) → Talk → Talk × Ended
 talked time e [] t = at_end e true t
 talked time e (rest ∷ []) t =
-    if nat_lt 4096 (length rest) then at_long t else at_end e (length rest == 0) t
+    if nat_lt LINE_LIMIT (length rest) then at_long t else at_end e (length rest == 0) t
 talked time e (l ∷ m ∷ more) t =
-    if nat_lt 4096 (length l) then at_long t
+    if nat_lt LINE_LIMIT (length l) then at_long t
     else go_on (talked time e (m ∷ more)) time (command_of l) t
 
 -- the session's end, from the machine at its start, the marks, the bytes read and how reading ended

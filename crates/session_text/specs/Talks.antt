@@ -4,6 +4,7 @@ use Rattle.std.specs.Io.KnownBytes.{Keeps}
 use Rattle.dump_pump.specs.Outlets.{Outgoing}
 use Rattle.session_text.specs.declared.Ended.{Ended}
 use Rattle.session_text.specs.declared.Ended.TheVariants.{Quit, Eof, CutLine, TooLong, ReadFault, TooManyReads, WriteFault, NoMemory}
+use Rattle.session_text.specs.declared.TheConstants.{LINE_LIMIT, READ_LIMIT}
 use Rattle.session_text.specs.declared.answer.Step.{Step}
 use Rattle.session_text.specs.declared.answer.Step.TheVariants.{Next, Quit as Stop, Long, Fault}
 use Rattle.session_text.specs.declared.command.Command.{Command}
@@ -16,12 +17,12 @@ use Rattle.session_text.specs.Writes.{IsTextWritten, IsTextAdded}
 
 -- a line without its LF, or the beginning of one
 pub record IsLine (l : List ℕ) : Type 0 where
-  pub most : length l ≤ 4096
+  pub most : length l ≤ LINE_LIMIT
   pub no_lf : NoLf l
 
 -- bytes that begin with a line that is too long, or with the beginning of one
 abbrev pub IsLong : List ℕ → Type 0
-IsLong rest = (4096 < length rest) × NoLf (take 4097 rest)
+IsLong rest = (LINE_LIMIT < length rest) × NoLf (take (LINE_LIMIT + 1) rest)
 
 -- ---- lines
 
@@ -124,7 +125,7 @@ EndsCleanly rest a b TooLong tail =
 EndsCleanly rest a b ReadFault tail =
     IsLine rest × (tail ≡ codes "bad read\n") × (b.failures ≡ a.failures + 1)
 EndsCleanly rest a b TooManyReads tail =
-    IsLine rest × (length b.reads ≡ length a.reads + 1000000) × (tail ≡ codes "bad reads\n")
+    IsLine rest × (length b.reads ≡ length a.reads + READ_LIMIT) × (tail ≡ codes "bad reads\n")
     × (b.failures ≡ a.failures)
 EndsCleanly rest a b WriteFault tail = ⊥
 EndsCleanly rest a b NoMemory tail = ⊥

@@ -5,6 +5,7 @@ ghost use Rattle.heap_step.specs.declared.Answer.TheVariants.{Object, Swept};
 ghost use Rattle.heap_trail.specs.declared.Reply.TheVariants.{Answered, Pinned};
 ghost use Rattle.session_text.specs.Replies.{answer_text, cause_text, facts_text, refusal_text, line, piece_words, reply_words, reply_data, reply_text, data_lines, piece_in, pin_in};
 ghost use Rattle.session_text.specs.Writes.{IsTextAdded};
+ghost use Rattle.session_text.specs.declared.page.TheConstants.{PAGE_LIMIT};
 ghost use Rattle.session_text.specs.declared.write.TheConstants.{LINE_START};
 
 use crate::data::write_data;
@@ -83,7 +84,7 @@ fn cause_word(cause: LostCause) -> &'static [u8]
 
 // Adds the facts of a refusal beside its name.
 fn add_facts(page: &mut Page, refusal: Refusal)
-    requires { length page.old ≤ 8100 }
+    requires { length page.old + 42 ≤ PAGE_LIMIT }
     ensures text { page.new ≡ page.old ++ facts_text refusal }
     ensures short { length page.new ≤ length page.old + 42 }
 {

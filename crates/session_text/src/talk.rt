@@ -4,6 +4,7 @@ ghost use Rattle.session_text.specs.Answers.{AnswersCommand, Begins};
 ghost use Rattle.session_text.specs.Endings.{EndsSession, EndsWith};
 ghost use Rattle.session_text.specs.Session.{IsSession};
 ghost use Rattle.session_text.specs.Talks.{Serves};
+ghost use Rattle.session_text.specs.declared.write.TheConstants.{TEXT_LIMIT};
 
 use crate::answer::{Step, answer_lines};
 use crate::buffer::Buffer;
@@ -18,7 +19,7 @@ use std::alloc::Global;
 
 // Puts out a page and the line of an ending.
 fn end_with<O: Outlet>(page: &mut Page, outlet: &mut O, ended: Ended, line: &[u8]) -> Ended
-    requires { length line.now ≤ 192 }
+    requires { length line.now ≤ TEXT_LIMIT }
     ensures { EndsWith line.now page.old (O.seen outlet.old) (O.seen outlet.new) ended result }
 {
     if !write_text(page, outlet, line) {

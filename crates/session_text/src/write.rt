@@ -2,14 +2,17 @@
 ghost use Rattle.std.specs.Prelude.{◌≡◌, ◌≤◌, ◌++◌, [], length};
 ghost use Rattle.session_text.specs.Replies.{and_number, line};
 ghost use Rattle.session_text.specs.Writes.{IsTextWritten, IsTextAdded};
-ghost use Rattle.session_text.specs.declared.write.TheConstants.{LINE_START};
+ghost use Rattle.session_text.specs.declared.write.TheConstants.{LINE_START, TEXT_LIMIT};
 
 use crate::page::Page;
 use dump_pump::Outlet;
 use dump_pump::transfer::put_all;
 
-// The largest number of bytes of a page that has room for one more line.
+/// The largest number of bytes of a page that has room for one more line.
 pub const LINE_START: usize = 8000;
+
+/// The largest number of bytes of a text that is added as a line.
+pub const TEXT_LIMIT: usize = 192;
 
 /// Puts out all bytes. Returns false if a put failed.
 #[tactic(auto, using(crate::proofs::PageTexts::put_whole, crate::proofs::PageTexts::put_part))]
@@ -44,7 +47,7 @@ pub fn make_room<O: Outlet>(page: &mut Page, outlet: &mut O) -> bool
 
 /// Adds a short text to a page, which is flushed first unless it has room for one more line. Returns false if a put failed.
 pub fn write_text<O: Outlet>(page: &mut Page, outlet: &mut O, text: &[u8]) -> bool
-    requires { length text.now ≤ 192 }
+    requires { length text.now ≤ TEXT_LIMIT }
     ensures { IsTextAdded text.now page.old (O.seen outlet.old) page.new (O.seen outlet.new)
         result }
 {

@@ -58,7 +58,7 @@ whole_size u t = size_is u.cell_size (length u.cells) t.size t.cells
 -- ---- one step back
 
 -- where a copy of a region has all that the region had, the size is the same
-covered_size : (before after : Option UsedRegion) (u : UsedRegion) → Covers (option_map frozen before) (option_map frozen after) → before ≡ Some u → (v : UsedRegion) × (after ≡ Some v) × (v.cell_size ≡ u.cell_size)
+pub covered_size : (before after : Option UsedRegion) (u : UsedRegion) → Covers (option_map frozen before) (option_map frozen after) → before ≡ Some u → (v : UsedRegion) × (after ≡ Some v) × (v.cell_size ≡ u.cell_size)
 covered_size before after u c e =
     let g = c (frozen u) (ap (option_map frozen) e) in
     go after g.0 g.1 g.2.size
@@ -68,7 +68,7 @@ covered_size before after u c e =
     go (Some v) g h s = (v, refl, ap (λ (f : Frozen). f.cell_size) (same_Some (frozen v) g h) ∙ s)
 
 -- so it is where the copy was patched without a change of size
-patched_size : (f : Frozen → Frozen) → ((x : Frozen) → (f x).cell_size ≡ x.cell_size) → (before after : Option UsedRegion) (u : UsedRegion) → Covers (option_map frozen before) (option_map f (option_map frozen after)) → before ≡ Some u → (v : UsedRegion) × (after ≡ Some v) × (v.cell_size ≡ u.cell_size)
+pub patched_size : (f : Frozen → Frozen) → ((x : Frozen) → (f x).cell_size ≡ x.cell_size) → (before after : Option UsedRegion) (u : UsedRegion) → Covers (option_map frozen before) (option_map f (option_map frozen after)) → before ≡ Some u → (v : UsedRegion) × (after ≡ Some v) × (v.cell_size ≡ u.cell_size)
 patched_size f same before after u c e =
     let g = c (frozen u) (ap (option_map frozen) e) in
     go after g.0 g.1 g.2.size
@@ -77,11 +77,11 @@ patched_size f same before after u c e =
     go None g h s = absurd (none-some g h)
     go (Some v) g h s = (v, refl, sym (same (frozen v)) ∙ ap (λ (f : Frozen). f.cell_size) (same_Some (f (frozen v)) g h) ∙ s)
 
-word_size : (cell slot word : ℕ) (f : Frozen) → (frozen_word_set cell slot word f).cell_size ≡ f.cell_size
+pub word_size : (cell slot word : ℕ) (f : Frozen) → (frozen_word_set cell slot word f).cell_size ≡ f.cell_size
 unfolding frozen_word_set
 word_size cell slot word f = refl
 
-dead_size : (dead : List (ℕ × Object)) (f : Frozen) → (with_dead dead f).cell_size ≡ f.cell_size
+pub dead_size : (dead : List (ℕ × Object)) (f : Frozen) → (with_dead dead f).cell_size ≡ f.cell_size
 unfolding with_dead
 dead_size [] f = refl
 dead_size (d ∷ dead) f = dead_size dead (record f { cells = set f.cells d.0 (Some d.1) })
@@ -236,7 +236,7 @@ there_is (Reclaim region storage) e before after at s h = absurd (none-some at h
 pub written_within : (left : Undo) (e : Event) (before after : HeapState) (sizes : List ℕ) → IsStep e before after left → AreSizes after sizes → (at : ObjRef) → written_at left ≡ Some at → at.region < length sizes
 written_within left e before after sizes s a at h = omega (arith, a.many, object_within after.regions at (there_is left e before after at s h))
 
-used_of : (regions : List Region) (at : ObjRef) → IsSome (object_at regions at) → (u : UsedRegion) × (used_at regions at.region ≡ Some u)
+pub used_of : (regions : List Region) (at : ObjRef) → IsSome (object_at regions at) → (u : UsedRegion) × (used_at regions at.region ≡ Some u)
 unfolding object_at
 used_of regions at = go (used_at regions at.region) refl
   where

@@ -5,11 +5,13 @@ ghost use Rattle.std.specs.Prelude.{◌≡◌, IsSome, IfSome, IfNone};
 ghost use Rattle.heap_region.specs.Regions.{object_at};
 ghost use Rattle.heap_past.specs.Changes.{IsBirth, IsLastWrite, IsOld, IsUnwritten, changed_by, made_by, slot_word};
 
+mod losses;
 mod steps;
 
 use heap_class::ObjRef;
 use heap_step::Undo;
 use heap_trail::Machine;
+pub use losses::{Loss, loss_of, path_is_reach, unreached_stays};
 pub use steps::{PastStep, history};
 
 // Tells whether the step that left this record changed the word of a slot, which is `now` after the step. A new object in a

@@ -61,14 +61,15 @@ no_reference classes x o s r = ap (λ b. option_map_or (λ y. y == x) (cond b (s
 
 -- ---- object by object
 
-pub slots_more : (classes : List Class) (x : ℕ) (objects : List DumpedObject) (i : ℕ) (o : DumpedObject) (now new : List Referrer) → slice_get objects i ≡ Some o → now ≡ flat_map (naming_slots classes x) (take i objects) → new ≡ now ++ naming_slots classes x o
-    → new ≡ flat_map (naming_slots classes x) (take (i + 1) objects)
-slots_more classes x objects i o now new h a e =
+pub slots_more : (classes : List Class) (x : ℕ) (objects : List DumpedObject) (i : ℕ) (o : DumpedObject) (first now new : List Referrer) → slice_get objects i ≡ Some o → now ≡ first ++ flat_map (naming_slots classes x) (take i objects) → new ≡ now ++ naming_slots classes x o
+    → new ≡ first ++ flat_map (naming_slots classes x) (take (i + 1) objects)
+slots_more classes x objects i o first now new h a e =
     let f = naming_slots classes x in
     e ∙ ap (λ l. l ++ f o) a
-    ∙ ap (λ l. flat_map f (take i objects) ++ l) (sym (append-nil (f o)))
-    ∙ sym (flat_map-append f (take i objects) (o ∷ []))
-    ∙ ap (flat_map f) (ap (λ y. take i objects ++ y ∷ []) (sym (get_or_from_slice_get objects i o o h)) ∙ sym (take_more objects i o (slice_get_within objects i o h)))
+    ∙ append_assoc first (flat_map f (take i objects)) (f o)
+    ∙ ap (λ l. first ++ (flat_map f (take i objects) ++ l)) (sym (append-nil (f o)))
+    ∙ ap (λ l. first ++ l) (sym (flat_map-append f (take i objects) (o ∷ [])))
+    ∙ ap (λ l. first ++ flat_map f l) (ap (λ y. take i objects ++ y ∷ []) (sym (get_or_from_slice_get objects i o o h)) ∙ sym (take_more objects i o (slice_get_within objects i o h)))
 
 -- the object here, by what a view tells of it
 pub same_object : (image : Image) (i : ℕ) (o : DumpedObject) (x : ℕ) (kind : ObjKind) (words : List ℕ) → slice_get image.objects i ≡ Some o → IfSome (slice_get image.objects i) (λ o. x ≡ o.id) → kind ≡ o.kind → words ≡ o.words

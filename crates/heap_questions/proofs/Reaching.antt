@@ -39,7 +39,7 @@ followed_push image y (t ∷ ts) s = go (named image y t) (λ z. followed_push i
 abbrev pub Leads : Image → ℕ → List ℕ → ℕ → Type 0
 Leads image r slots x = option_and_then (λ y. followed image y slots) (slice_get image.registers r) ≡ Some x
 
-leads_more : (image : Image) (r : ℕ) (slots : List ℕ) (x s y : ℕ) → Leads image r slots x → named image x s ≡ Some y → Leads image r (slots ++ s ∷ []) y
+pub leads_more : (image : Image) (r : ℕ) (slots : List ℕ) (x s y : ℕ) → Leads image r slots x → named image x s ≡ Some y → Leads image r (slots ++ s ∷ []) y
 leads_more image r slots x s y l e = go (slice_get image.registers r) l
   where
     go : (n : Option ℕ) → option_and_then (λ z. followed image z slots) n ≡ Some x → option_and_then (λ z. followed image z (slots ++ s ∷ [])) n ≡ Some y

@@ -27,7 +27,7 @@ unfolding named
 named_object image x s y h = some_first (λ o. slot_names image.classes o s) (object_with image x) y h
 
 -- what slots lead from to an object is an object
-first_object : (image : Image) (x : ℕ) (slots : List ℕ) (y : ℕ) → followed image x slots ≡ Some y → HasId image y → HasId image x
+pub first_object : (image : Image) (x : ℕ) (slots : List ℕ) (y : ℕ) → followed image x slots ≡ Some y → HasId image y → HasId image x
 first_object image x [] y h o = subst (HasId image) (sym (same_Some x y h)) o
 first_object image x (s ∷ ss) y h o = after (named image x s) refl h
   where

@@ -27,7 +27,7 @@ unfoldable pub naming_registers : ℕ → List ℕ → List Referrer
 naming_registers x registers =
     map Register (filter (λ r. slice_index registers r == x) (range_with_len 0 (length registers)))
 
--- all that names x, in the order of a dump: slots by object, then registers
+-- all that names x: registers by number, then slots in the order of a dump
 abbrev pub referrers_of : Image → ℕ → List Referrer
 referrers_of image x =
-    flat_map (naming_slots image.classes x) image.objects ++ naming_registers x image.registers
+    naming_registers x image.registers ++ flat_map (naming_slots image.classes x) image.objects

@@ -9,10 +9,12 @@ use heap_class::{FirstClasses, ObjKind, Refusal};
 use hprof_text::View;
 use std::alloc::Global;
 
-/// What names an object: a slot of an object, or a register by its number among all registers.
+/// What names an object.
 #[derive(Clone, Copy, PartialEq, Eq, Debug)]
 pub enum Referrer {
+    /// A slot of the object with this id.
     Slot { object: u64, slot: u64 },
+    /// A register, by its number among all registers.
     Register(u64),
 }
 
@@ -74,7 +76,7 @@ fn add_registers(registers: &[u64], id: u64, all: &mut Vec<Referrer>) -> Result<
     Ok(())
 }
 
-/// Returns all slots and registers that name `id`: slots in the order of a dump, then registers by number. Fails with
+/// Returns all registers and slots that name `id`: registers by number, then slots in the order of a dump. Fails with
 /// NoMemory if an allocation fails. Reads each object once.
 pub fn referrers<V: View>(alloc: Global, view: &V, id: u64) -> Result<Vec<Referrer>, Refusal>
     ensures all { IfOk result (λ all. all.items ≡ referrers_of (V.image view.now) id) }
@@ -82,6 +84,7 @@ pub fn referrers<V: View>(alloc: Global, view: &V, id: u64) -> Result<Vec<Referr
 {
     let classes = view.classes();
     let mut all = Vec::new(alloc);
+    add_registers(view.registers(), id, &mut all)?;
     let mut passed = 0u64;
     let mut here = view.first();
     while let Some(at) = here {
@@ -96,6 +99,5 @@ pub fn referrers<V: View>(alloc: Global, view: &V, id: u64) -> Result<Vec<Referr
         passed += 1;
         here = view.next(at);
     }
-    add_registers(view.registers(), id, &mut all)?;
     Ok(all)
 }

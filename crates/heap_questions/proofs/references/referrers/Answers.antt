@@ -1,6 +1,6 @@
-use Rattle.std.proofs.Common.{◌≤◌, ◌++◌, length, sym, ap, ap₂, ◌∙◌, arith}
+use Rattle.std.proofs.Common.{◌≤◌, ◌++◌, length, take, sym, ap, ap₂, ◌∙◌, arith}
 use Rattle.std.specs.Prelude.{flat_map}
-use Rattle.std.proofs.lemmas.List.{take_all}
+use Rattle.std.proofs.lemmas.List.{append-nil, take_all}
 use Rattle.hprof_text.proofs.ViewedObjects.{here, within, none_left}
 use Rattle.heap_questions.specs.Referrers.{naming_slots, naming_registers}
 use Rattle.heap_questions.proofs.Passing.{same_object, slots_more}
@@ -13,8 +13,7 @@ returns-clause-all g c =
     let i = c.loop-here.passed in
     let n = none_left (g.V.View.places v) i (sym c.in_default.is ∙ c.loop-here.invariant.here) in
     let e : length image.objects ≤ i = omega (arith, n, c.classes-classes.ensures.placed) in
-    let s = c.loop-here.invariant.named ∙ ap (flat_map (naming_slots image.classes c.args.id)) (take_all i image.objects e) in
-    c.in_ok-add_registers.ensures.added ∙ ap₂ (λ l r. l ++ naming_registers c.args.id r) s c.registers.ensures
+    c.loop-here.invariant.named ∙ ap (λ os. naming_registers c.args.id image.registers ++ flat_map (naming_slots image.classes c.args.id) os) (take_all i image.objects e)
 
 pub loop-here-preserved : goal.loop-here-preserved
 loop-here-preserved g c =
@@ -28,7 +27,7 @@ loop-here-preserved g c =
     let same = same_object image i o c.id.result c.kind.result c.words.result.now h.there (c.id.ensures i e) h.same_kind h.same_words in
     record {
       here = c.next-here.ensures i e;
-      named = slots_more image.classes c.args.id image.objects i o c.loop-here.all.items c.add_slots.new.all.items h.there c.loop-here.invariant.named
+      named = slots_more image.classes c.args.id image.objects i o (naming_registers c.args.id image.registers) c.loop-here.all.items c.add_slots.new.all.items h.there c.loop-here.invariant.named
           (c.in_ok-add_slots.ensures.added ∙ ap₂ (λ cs o. c.loop-here.all.items ++ naming_slots cs c.args.id o) c.classes-classes.ensures.value same);
       passed = within (g.V.View.places v) i at e;
     }

@@ -1,9 +1,9 @@
 -- The rows of a count together: their total is that of the objects.
 use Rattle.std.proofs.Common.{◌≡◌, ◌∙◌, ℕ, zero, suc, Bool, true, false, ◌+◌, ◌*◌, ◌<◌, ◌≤◌, cond, List, [], ◌∷◌, length, map, refl, sym, ap, ap₂, inl, inr, arith}
-use Rattle.std.specs.Prelude.{All, slice_index_or, sum_by, ◌==◌, filter}
+use Rattle.std.specs.Prelude.{slice_index_or, sum_by, ◌==◌, filter}
 use Rattle.std.specs.List.{AllByRecursion, range_with_len}
 use Rattle.std.proofs.lemmas.List.Sums.{sum_by-cons, sum_by-le}
-use Rattle.std.proofs.lemmas.List.Elements.{All-weaker, recursion_from_All}
+use Rattle.std.proofs.lemmas.List.Elements.{recursion_from_All}
 use Rattle.std.proofs.lemmas.List.FromFn.{length-map-range_with_len}
 use Rattle.std.proofs.lemmas.Bool.{cases_eq, eq-eqb, ne_eqb}
 use Rattle.heap_class.specs.declared.IdSize.{IdSize}
@@ -85,35 +85,6 @@ all_of m v is n (o ∷ os) within =
     ∙ ap₂ (λ (a b : ℕ). a + b) (once (row_number o.kind) (v o) n 0 (omega arith) (omega (arith, within.0))) (all_of m v is n os within.1)
     ∙ sym (is.cons o os)
 
--- ---- rows
-
-sum_map : {X : Type 0} (f : X → ℕ) (h : ℕ → X) (gs : List ℕ) → sum_by f (map h gs) ≡ sum_by (λ g. f (h g)) gs
-sum_map f h [] = refl
-sum_map f h (g ∷ gs) = sum_by-cons f (h g) (map h gs) ∙ ap (λ (r : ℕ). f (h g) + r) (sum_map f h gs) ∙ sym (sum_by-cons (λ g. f (h g)) g gs)
-
-lengths : IsMeasure length (λ o. 1)
-lengths = record { nil = refl; cons = λ o os. omega arith }
-
-bytes : (ids : IdSize) (classes : List Class) → IsMeasure (sum_by (object_bytes ids classes)) (object_bytes ids classes)
-bytes ids classes = record { nil = refl; cons = λ o os. sum_by-cons (object_bytes ids classes) o os }
-
-abbrev pub AreWithin : List Class → List DumpedObject → Type 0
-AreWithin classes objects = All (λ o. row_number o.kind < class_rows + length classes) objects
-
--- the total of all rows is that of the objects
-pub total : (ids : IdSize) (classes : List Class) (objects : List DumpedObject) → AreWithin classes objects
-    → sum_of (rows_of ids classes objects) ≡ total_of ids classes objects
-unfolding row_of
-total ids classes objects within =
-    let n = class_rows + length classes in
-    let gs = range_with_len 0 n in
-    let all = recursion_from_All (λ o. row_number o.kind < n) objects within in
-    let a : (sum_of (rows_of ids classes objects)).objects ≡ length objects =
-    sum_map (λ (r : Row). r.objects) (row_of ids classes objects) gs ∙ all_of length (λ o. 1) lengths n objects all in
-    let b : (sum_of (rows_of ids classes objects)).bytes ≡ sum_by (object_bytes ids classes) objects =
-    sum_map (λ (r : Row). r.bytes) (row_of ids classes objects) gs ∙ all_of (sum_by (object_bytes ids classes)) (object_bytes ids classes) (bytes ids classes) n objects all in
-    ap₂ (λ (a b : ℕ). let r : Row = record { objects = a; bytes = b } in r) a b
-
 -- ---- bounds
 
 code_small : (kind : Kind) → type_code kind < 12
@@ -132,11 +103,6 @@ unfolding row_number
 kind_row classes (Instance k) n known = omega (arith, known.0)
 kind_row classes (Array k) n known = omega (arith, known)
 kind_row classes (Prim kind) n known = omega (arith, code_small kind)
-
--- each object of an image is counted in a row
-pub within_rows : (image : Image) → IsDumpable image → AreWithin image.classes image.objects
-within_rows image d = All-weaker (λ (o : DumpedObject). IsKnown image.classes o.kind (length o.words)) (λ o. row_number o.kind < class_rows + length image.classes)
-    (λ o known. kind_row image.classes o.kind (length o.words) known) image.objects d.known
 
 width_within : (ids : IdSize) (kind : Kind) (n : ℕ) → n ≤ 1024 → width_of ids kind * n ≤ 8192
 width_within Four Kind.Object n h = omega (arith, h)
@@ -164,11 +130,72 @@ value_small ids classes (Instance k) n known small = omega (arith, instance_with
 value_small ids classes (Array k) n known small = array_within ids n small
 value_small ids classes (Prim kind) n known small = width_within ids kind n small
 
--- the objects of an image have few bytes together
-pub bytes_few : (ids : IdSize) (image : Image) → IsDumpable image → (total_of ids image.classes image.objects).bytes ≤ length image.objects * 8192
-bytes_few ids image d = sum_by-le (object_bytes ids image.classes) 8192 image.objects
-    (λ i o h. value_small ids image.classes (slice_index_or image.objects i o).kind (length (slice_index_or image.objects i o).words) (d.known i o h) (d.small i o h))
+-- ---- objects that can be counted
+
+abbrev IsCountable : List Class → DumpedObject → Type 0
+IsCountable classes o = IsKnown classes o.kind (length o.words) × (length o.words ≤ 1024)
+
+abbrev pub AreCountable : List Class → List DumpedObject → Type 0
+AreCountable classes objects = AllByRecursion (IsCountable classes) objects
+
+rows_there : (classes : List Class) (objects : List DumpedObject) → AreCountable classes objects
+    → AllByRecursion (λ o. row_number o.kind < class_rows + length classes) objects
+rows_there classes [] all = tt
+rows_there classes (o ∷ os) all = (kind_row classes o.kind (length o.words) all.0.0, rows_there classes os all.1)
+
+-- countable objects have few bytes together
+pub bytes_few : (ids : IdSize) (classes : List Class) (objects : List DumpedObject) → AreCountable classes objects
+    → (total_of ids classes objects).bytes ≤ length objects * 8192
+bytes_few ids classes [] all = omega arith
+bytes_few ids classes (o ∷ os) all =
+    let e = sum_by-cons (object_bytes ids classes) o os in
+    let h = value_small ids classes o.kind (length o.words) all.0.0 all.0.1 in
+    let r = bytes_few ids classes os all.1 in
+    omega (arith, e, h, r)
+
+-- the objects of an image can be counted
+pub countable : (image : Image) → IsDumpable image → AreCountable image.classes image.objects
+countable image d = recursion_from_All (IsCountable image.classes) image.objects (λ i o h. (d.known i o h, d.small i o h))
+
+-- and those that pass a test
+pub some_countable : (classes : List Class) (test : DumpedObject → Bool) (objects : List DumpedObject) → AreCountable classes objects
+    → AreCountable classes (filter test objects)
+some_countable classes test [] all = tt
+some_countable classes test (o ∷ os) all = go (test o)
+  where
+    more : AreCountable classes (filter test os)
+    more = some_countable classes test os all.1
+
+    go : (b : Bool) → AreCountable classes (cond b (o ∷ filter test os) (filter test os))
+    go true = (all.0, more)
+    go false = more
 
 -- as many rows as an image needs
 pub row_count : (ids : IdSize) (classes : List Class) (objects : List DumpedObject) → length (rows_of ids classes objects) ≡ class_rows + length classes
 row_count ids classes objects = length-map-range_with_len (row_of ids classes objects) 0 (class_rows + length classes)
+
+-- ---- rows
+
+sum_map : {X : Type 0} (f : X → ℕ) (h : ℕ → X) (gs : List ℕ) → sum_by f (map h gs) ≡ sum_by (λ g. f (h g)) gs
+sum_map f h [] = refl
+sum_map f h (g ∷ gs) = sum_by-cons f (h g) (map h gs) ∙ ap (λ (r : ℕ). f (h g) + r) (sum_map f h gs) ∙ sym (sum_by-cons (λ g. f (h g)) g gs)
+
+lengths : IsMeasure length (λ o. 1)
+lengths = record { nil = refl; cons = λ o os. omega arith }
+
+bytes : (ids : IdSize) (classes : List Class) → IsMeasure (sum_by (object_bytes ids classes)) (object_bytes ids classes)
+bytes ids classes = record { nil = refl; cons = λ o os. sum_by-cons (object_bytes ids classes) o os }
+
+-- the total of all rows is that of the objects
+pub total : (ids : IdSize) (classes : List Class) (objects : List DumpedObject) → AreCountable classes objects
+    → sum_of (rows_of ids classes objects) ≡ total_of ids classes objects
+unfolding row_of
+total ids classes objects countable =
+    let n = class_rows + length classes in
+    let gs = range_with_len 0 n in
+    let all = rows_there classes objects countable in
+    let a : (sum_of (rows_of ids classes objects)).objects ≡ length objects =
+    sum_map (λ (r : Row). r.objects) (row_of ids classes objects) gs ∙ all_of length (λ o. 1) lengths n objects all in
+    let b : (sum_of (rows_of ids classes objects)).bytes ≡ sum_by (object_bytes ids classes) objects =
+    sum_map (λ (r : Row). r.bytes) (row_of ids classes objects) gs ∙ all_of (sum_by (object_bytes ids classes)) (object_bytes ids classes) (bytes ids classes) n objects all in
+    ap₂ (λ (a b : ℕ). let r : Row = record { objects = a; bytes = b } in r) a b

@@ -2,14 +2,19 @@
 use Rattle.std.specs.Prelude.{◌≡◌, ℕ, List, codes, Option, Some, None}
 use Rattle.heap_trail.specs.Machine.{Machine}
 use Rattle.question_text.specs.declared.question.Question.{Question}
-use Rattle.question_text.specs.declared.question.Question.TheVariants.{Histogram}
-use Rattle.question_text.specs.Histograms.{IsHistogramText}
+use Rattle.question_text.specs.declared.question.Question.TheVariants.{Histogram, Garbage, Registers, Referrers}
+use Rattle.question_text.specs.Histograms.{IsGarbageText, IsHistogramText}
 use Rattle.question_text.specs.Moments.{IsAnswerAbout, image_at}
+use Rattle.question_text.specs.Registers.{IsRegistersText}
+use Rattle.question_text.specs.Referrers.{IsReferrersText}
 use Rattle.question_text.specs.Questions.{question_of}
 
 -- the text of a question's answer
 abbrev pub IsAnswer : Question → Machine → List ℕ → Type 0
 IsAnswer (Histogram at) m text = IsAnswerAbout (IsHistogramText m.ids) (image_at at m) text
+IsAnswer (Garbage at) m text = IsAnswerAbout (IsGarbageText m.ids) (image_at at m) text
+IsAnswer (Registers at) m text = IsAnswerAbout IsRegistersText (image_at at m) text
+IsAnswer (Referrers at x) m text = IsAnswerAbout (IsReferrersText x) (image_at at m) text
 
 -- the answer of a line that asks this question, or none
 abbrev pub IsAnswerOf : Option Question → Machine → List ℕ → Type 0

@@ -1,25 +1,14 @@
 -- The text of a histogram.
-use Rattle.std.specs.Prelude.{◌≡◌, ℕ, ◌-◌, ◌==◌, nat_lt, List, ◌∷◌, [], ◌++◌, codes, flat_map, sum_by, length, find, if◌then◌else◌}
-use Rattle.std.specs.Option.{option_map_or}
+use Rattle.std.specs.Prelude.{◌≡◌, ℕ, Bool, filter, List, ◌∷◌, ◌++◌, codes, flat_map, sum_by, length}
 use Rattle.heap_class.specs.declared.IdSize.{IdSize}
-use Rattle.heap_class.specs.Kinds.{kind_word, type_code}
-use Rattle.heap_class.specs.Classes.{Class, name_of}
+use Rattle.heap_class.specs.Classes.{Class}
 use Rattle.hprof_text.specs.Image.{DumpedObject, Image}
 use Rattle.heap_questions.specs.declared.rows.Row.{Row}
-use Rattle.heap_questions.specs.Histogram.{class_rows, histogram_of, object_bytes, row_at, rows_of}
+use Rattle.heap_questions.specs.Garbage.{TellsUnreached}
+use Rattle.heap_questions.specs.Histogram.{object_bytes, row_at, rows_of}
 use Rattle.heap_questions.specs.Ranking.{IsRanking}
-use Rattle.session_text.specs.Grammar.{all_kinds}
 use Rattle.session_text.specs.Replies.{and_number, line}
-
--- the name of the arrays of values whose kind has this type code
-unfoldable pub array_name : ℕ → List ℕ
-array_name code =
-    option_map_or (λ k. kind_word k ++ codes "[]") (find (λ k. type_code k == code) all_kinds) []
-
--- the name of what row g counts
-unfoldable pub row_name : List Class → ℕ → List ℕ
-row_name classes g =
-    if nat_lt g class_rows then array_name g else name_of classes (g - class_rows)
+use Rattle.question_text.specs.Names.{row_name}
 
 -- two numbers, each after a space
 abbrev pub and_counts : Row → List ℕ
@@ -58,3 +47,9 @@ IsCountText ids classes objects text =
 -- the answer of `histogram`
 abbrev pub IsHistogramText : IdSize → Image → List ℕ → Type 0
 IsHistogramText ids image text = IsCountText ids image.classes image.objects text
+
+-- the answer of `garbage`: the objects that no register reaches
+abbrev pub IsGarbageText : IdSize → Image → List ℕ → Type 0
+IsGarbageText ids image text =
+    (test : DumpedObject → Bool) × TellsUnreached image test
+    × IsCountText ids image.classes (filter test image.objects) text

@@ -1,5 +1,9 @@
+pub mod Ids
 pub mod Questions
 pub mod Moments
+pub mod Names
 pub mod Histograms
+pub mod Referrers
+pub mod Registers
 pub mod Answers
 pub mod Sessions

@@ -1,5 +1,5 @@
 -- The states that questions are about.
-use Rattle.std.specs.Prelude.{◌≡◌, ℕ, ◌-◌, ◌⊎◌, List, Option, Some, None, Result, Ok, Err, Vec, if◌then◌else◌}
+use Rattle.std.specs.Prelude.{◌≡◌, ℕ, ◌-◌, ◌⊎◌, List, codes, Option, Some, None, Result, Ok, Err, Vec, if◌then◌else◌}
 use Rattle.heap_class.specs.declared.Refusal.{Refusal}
 use Rattle.heap_class.specs.declared.Refusal.TheVariants.{NoMemory, NoPin, NotRetained}
 use Rattle.heap_class.specs.declared.Refusal.TheVariants.{Lost as LostPin}
@@ -14,6 +14,8 @@ use Rattle.hprof_text.specs.Image.{Image}
 use Rattle.session_text.specs.Replies.{reply_text}
 use Rattle.question_text.specs.declared.question.At.{At}
 use Rattle.question_text.specs.declared.question.At.TheVariants.{Current, Pin, Place}
+use Rattle.question_text.specs.declared.rows.Unanswered.{Unanswered}
+use Rattle.question_text.specs.declared.rows.Unanswered.TheVariants.{NoObject, Unreachable}
 use Rattle.question_text.specs.declared.at.Moment.{Moment}
 use Rattle.question_text.specs.declared.at.Moment.TheVariants.{Own, Open}
 
@@ -35,14 +37,32 @@ image_at (Place place) m =
 abbrev pub refused_text : Refusal → List ℕ
 refused_text e = reply_text (Refused e)
 
--- what is printed: the lines, or that of a refusal
-abbrev pub told_text : Result (Vec ℕ) Refusal → List ℕ
-told_text (Ok text) = text.items
-told_text (Err e) = refused_text e
+-- the line of an id that names no object
+abbrev pub no_object_text : List ℕ
+no_object_text = codes "no 28 NoObject\n"
 
--- the answer about an image, or memory for it was refused; or why there is no image
+-- the line of an object that no register reaches
+abbrev pub unreachable_text : List ℕ
+unreachable_text = codes "no 27 Unreachable\n"
+
+-- the line of a question that has no answer
+abbrev pub unanswered_text : Unanswered → List ℕ
+unanswered_text (Unanswered.Refused e) = refused_text e
+unanswered_text NoObject = no_object_text
+unanswered_text Unreachable = unreachable_text
+
+-- what is printed: the lines, or why there are none
+abbrev pub told_text : Result (Vec ℕ) Unanswered → List ℕ
+told_text (Ok text) = text.items
+told_text (Err e) = unanswered_text e
+
+-- the answer about an image, or memory for it was refused
+abbrev pub IsToldOf : (Image → List ℕ → Type 0) → Image → List ℕ → Type 0
+IsToldOf answers image text = answers image text ⊎ (text ≡ refused_text NoMemory)
+
+-- the same, or why there is no image
 abbrev pub IsAnswerAbout : (Image → List ℕ → Type 0) → Result Image Refusal → List ℕ → Type 0
-IsAnswerAbout answers (Ok image) text = answers image text ⊎ (text ≡ refused_text NoMemory)
+IsAnswerAbout answers (Ok image) text = IsToldOf answers image text
 IsAnswerAbout answers (Err e) text = text ≡ refused_text e
 
 -- ---- moments

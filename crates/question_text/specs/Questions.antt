@@ -5,7 +5,8 @@ use Rattle.session_text.specs.Grammar.{at_end, number_of_word, words_of_line}
 use Rattle.question_text.specs.declared.question.At.{At}
 use Rattle.question_text.specs.declared.question.At.TheVariants.{Current, Pin, Place}
 use Rattle.question_text.specs.declared.question.Question.{Question}
-use Rattle.question_text.specs.declared.question.Question.TheVariants.{Histogram}
+use Rattle.question_text.specs.declared.question.Question.TheVariants.{Histogram, Garbage, Registers, Referrers}
+use Rattle.question_text.specs.Ids.{id_of_word}
 
 -- the state that a word names: `-`, `@` and a place, or the number of a pin
 unfoldable pub at_of_word : List ℕ → Option At
@@ -26,9 +27,31 @@ next_at (w ∷ ws) = option_map (λ at. (at, ws)) (at_of_word w)
 abbrev pub one_at : List (List ℕ) → Option At
 one_at ws = option_and_then (λ a. at_end a.0 a.1) (next_at ws)
 
+-- the id that the first word is, and the other words
+abbrev pub next_id : List (List ℕ) → Option (ℕ × List (List ℕ))
+next_id [] = None
+next_id (w ∷ ws) = option_map (λ x. (x, ws)) (id_of_word w)
+
+-- the state and the id that the words name
+abbrev pub at_and_id : List (List ℕ) → Option (At × ℕ)
+at_and_id ws =
+    option_and_then (λ a. option_and_then (λ x. at_end (a.0, x.0) x.1) (next_id a.1)) (next_at ws)
+
 -- `histogram AT`
 abbrev pub histogram_line : List (List ℕ) → Option Question
 histogram_line ws = option_map (λ at. Histogram at) (one_at ws)
+
+-- `garbage AT`
+abbrev pub garbage_line : List (List ℕ) → Option Question
+garbage_line ws = option_map (λ at. Garbage at) (one_at ws)
+
+-- `registers AT`
+abbrev pub registers_line : List (List ℕ) → Option Question
+registers_line ws = option_map (λ at. Registers at) (one_at ws)
+
+-- `referrers AT ID`
+abbrev pub referrers_line : List (List ℕ) → Option Question
+referrers_line ws = option_map (λ a. Referrers a.0 a.1) (at_and_id ws)
 
 -- ---- the table of questions
 
@@ -38,7 +61,12 @@ QuestionRule = List ℕ × (List (List ℕ) → Option Question)
 
 -- all questions
 unfoldable pub question_rules : List QuestionRule
-question_rules = (codes "histogram", histogram_line) ∷ []
+question_rules =
+    (codes "histogram", histogram_line)
+    ∷ (codes "garbage", garbage_line)
+    ∷ (codes "registers", registers_line)
+    ∷ (codes "referrers", referrers_line)
+    ∷ []
 
 -- the question of these words, by the rule of the first
 unfoldable pub question_of_words : List (List ℕ) → Option Question

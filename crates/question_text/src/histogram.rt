@@ -1,75 +1,15 @@
-//! The answer of `histogram`.
-ghost use Rattle.std.specs.Prelude.{◌≡◌, ◌++◌, ◌==◌, ◌<◌, ◌+◌, ◌^◌, All, length, flat_map, find, IfOk, IfErr, OnOk};
+//! The answers of `histogram` and `garbage`.
+ghost use Rattle.std.specs.Prelude.{◌≡◌, ◌++◌, ◌<◌, ◌+◌, ◌^◌, All, length, flat_map, IfOk, IfErr, OnOk};
 ghost use Rattle.heap_class.specs.declared.Refusal.TheVariants.{NoMemory};
-ghost use Rattle.heap_class.specs.Kinds.{type_code};
 ghost use Rattle.heap_questions.specs.Histogram.{class_rows};
-ghost use Rattle.session_text.specs.Grammar.{all_kinds};
-ghost use Rattle.question_text.specs.Histograms.{IsHistogramText, IsRowsText, and_counts, array_name, row_name, row_text, sum_of, total_text};
+ghost use Rattle.question_text.specs.Histograms.{IsGarbageText, IsHistogramText, IsRowsText, and_counts, row_text, sum_of, total_text};
 
+use crate::names::push_row_name;
 use crate::rows::{push_number, push_words};
-use heap_class::{FirstClasses, Kind, Refusal};
-use heap_questions::{Histogram, Row, count_by_class, ranking};
+use heap_class::{FirstClasses, Refusal};
+use heap_questions::{Histogram, Row, count_by_class, count_garbage, ranking};
 use hprof_text::View;
 use std::alloc::Global;
-
-// Rows before those of the classes.
-const CLASS_ROWS: usize = 12;
-
-// All kinds of slots.
-const KINDS: [Kind; 9] = [
-    Kind::Object,
-    Kind::Boolean,
-    Kind::Char,
-    Kind::Float,
-    Kind::Double,
-    Kind::Byte,
-    Kind::Short,
-    Kind::Int,
-    Kind::Long,
-];
-
-// Returns the kind with a type code.
-fn kind_with(code: usize) -> Option<Kind>
-    ensures { result ≡ find (λ k. type_code k == code) all_kinds }
-{
-    for kind in KINDS {
-        if kind.type_code() as usize == code {
-            return Some(kind);
-        }
-    }
-    None
-}
-
-// Appends the name of the arrays of values whose kind has a type code. Fails with NoMemory.
-fn push_array_name(text: &mut Vec<u8>, code: usize) -> Result<(), Refusal>
-    ensures ok { OnOk result (text.new.items ≡ text.old.items ++ array_name code) }
-    ensures refused { IfErr result (λ e. e ≡ NoMemory) }
-{
-    match kind_with(code) {
-        Some(kind) => {
-            push_words(text, kind.word().as_bytes())?;
-            push_words(text, b"[]")
-        }
-        None => Ok(()),
-    }
-}
-
-// Appends the name of what a row counts. Fails with NoMemory.
-fn push_row_name(
-    text: &mut Vec<u8>,
-    classes: &FirstClasses<'_>,
-    index: usize,
-) -> Result<(), Refusal>
-    requires { index < class_rows + length classes.now }
-    ensures ok { OnOk result (text.new.items ≡ text.old.items ++ row_name classes.now index) }
-    ensures refused { IfErr result (λ e. e ≡ NoMemory) }
-{
-    if index < CLASS_ROWS {
-        push_array_name(text, index)
-    } else {
-        push_words(text, classes.name((index - CLASS_ROWS) as u64))
-    }
-}
 
 // Appends the numbers of a row, each after a space. Fails with NoMemory.
 fn push_counts(text: &mut Vec<u8>, row: Row) -> Result<(), Refusal>
@@ -81,6 +21,7 @@ fn push_counts(text: &mut Vec<u8>, row: Row) -> Result<(), Refusal>
 }
 
 // Appends the line of a row. Fails with NoMemory.
+#[tactic(auto, unfolding(crate::specs::Histograms::row_text))]
 fn push_row(
     text: &mut Vec<u8>,
     classes: &FirstClasses<'_>,
@@ -174,6 +115,17 @@ pub(crate) fn histogram_text<V: View>(alloc: Global, view: &V) -> Result<Vec<u8>
     ensures refused { IfErr result (λ e. e ≡ NoMemory) }
 {
     let histogram = count_by_class(alloc, view)?;
+    let classes = view.classes();
+    rows_text(alloc, &classes, &histogram)
+}
+
+/// Returns the answer of `garbage` about a view. Fails with NoMemory if an allocation fails. Reads each object at most twice.
+pub(crate) fn garbage_text<V: View>(alloc: Global, view: &V) -> Result<Vec<u8>, Refusal>
+    ensures text { IfOk result
+        (λ text. IsGarbageText (V.ids view.now) (V.image view.now) text.items) }
+    ensures refused { IfErr result (λ e. e ≡ NoMemory) }
+{
+    let histogram = count_garbage(alloc, view)?;
     let classes = view.classes();
     rows_text(alloc, &classes, &histogram)
 }

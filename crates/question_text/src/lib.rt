@@ -5,7 +5,11 @@ mod answer;
 mod asking;
 mod at;
 mod histogram;
+mod id;
+mod names;
 mod question;
+mod referrers;
+mod registers;
 mod rows;
 mod session;
 
@@ -13,3 +17,8 @@ pub use answer::answer;
 pub use asking::Asking;
 pub use question::{At, Question, question_of};
 pub use session::serve_asking;
+
+#[test]
+fn compiles(rt: HostRuntime) {
+    let _alloc = rt.alloc();
+}

@@ -3,8 +3,9 @@ ghost use Rattle.std.specs.Prelude.{◌≡◌};
 ghost use Rattle.std.specs.Str.{bytes_eq};
 ghost use Rattle.session_text.specs.Grammar.{at_end, words_of_line};
 ghost use Rattle.session_text.specs.Reads.{IsNextWord};
-ghost use Rattle.question_text.specs.Questions.{at_of_word, histogram_line, next_at, one_at, question_of, question_of_words};
+ghost use Rattle.question_text.specs.Questions.{at_and_id, at_of_word, garbage_line, histogram_line, next_at, next_id, one_at, question_of, referrers_line, registers_line};
 
+use crate::id::id_of;
 use session_text::number::number_of;
 use session_text::words::Words;
 
@@ -24,6 +25,12 @@ pub enum At {
 pub enum Question {
     /// How many objects there are of each class, and their bytes.
     Histogram(At),
+    /// The same of the objects that no register reaches.
+    Garbage(At),
+    /// What each register names.
+    Registers(At),
+    /// What names an object.
+    Referrers { at: At, id: u64 },
 }
 
 // Tells whether a word is this one.
@@ -34,6 +41,7 @@ fn is_word(word: &[u8], name: &[u8]) -> bool
 }
 
 // Returns the state that a word names.
+#[tactic(auto, unfolding(crate::specs::Questions::at_of_word))]
 fn at_of(word: &[u8]) -> Option<At>
     ensures { result ≡ at_of_word word.now }
 {
@@ -72,6 +80,23 @@ fn one_at(mut words: Words) -> Option<At>
     at_end(at, words)
 }
 
+// Reads the id that the next word is. Returns None if it is none.
+fn next_id(words: &mut Words) -> Option<u64>
+    ensures { IsNextWord (next_id (words_of_line words.old)) (words_of_line words.new) result }
+{
+    let word = words.next_word()?;
+    id_of(word)
+}
+
+// Returns the state and the id that the words name.
+fn at_and_id(mut words: Words) -> Option<(At, u64)>
+    ensures { result ≡ at_and_id (words_of_line words.entry) }
+{
+    let at = next_at(&mut words)?;
+    let id = next_id(&mut words)?;
+    at_end((at, id), words)
+}
+
 // Reads the words of `histogram AT`.
 fn histogram_line(words: Words) -> Option<Question>
     ensures { result ≡ histogram_line (words_of_line words.entry) }
@@ -80,7 +105,32 @@ fn histogram_line(words: Words) -> Option<Question>
     Some(Question::Histogram(at))
 }
 
+// Reads the words of `garbage AT`.
+fn garbage_line(words: Words) -> Option<Question>
+    ensures { result ≡ garbage_line (words_of_line words.entry) }
+{
+    let at = one_at(words)?;
+    Some(Question::Garbage(at))
+}
+
+// Reads the words of `registers AT`.
+fn registers_line(words: Words) -> Option<Question>
+    ensures { result ≡ registers_line (words_of_line words.entry) }
+{
+    let at = one_at(words)?;
+    Some(Question::Registers(at))
+}
+
+// Reads the words of `referrers AT ID`.
+fn referrers_line(words: Words) -> Option<Question>
+    ensures { result ≡ referrers_line (words_of_line words.entry) }
+{
+    let (at, id) = at_and_id(words)?;
+    Some(Question::Referrers { at, id })
+}
+
 /// Returns the question that a line asks, or None if it asks none.
+#[tactic(auto, unfolding(crate::specs::Questions::question_of_words, crate::specs::Questions::question_rules))]
 pub fn question_of(line: &[u8]) -> Option<Question>
     ensures { result ≡ question_of line.now }
 {
@@ -88,6 +138,15 @@ pub fn question_of(line: &[u8]) -> Option<Question>
     let word = words.next_word()?;
     if is_word(word, b"histogram") {
         return histogram_line(words);
+    }
+    if is_word(word, b"garbage") {
+        return garbage_line(words);
+    }
+    if is_word(word, b"registers") {
+        return registers_line(words);
+    }
+    if is_word(word, b"referrers") {
+        return referrers_line(words);
     }
     None
 }

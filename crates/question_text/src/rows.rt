@@ -5,6 +5,28 @@ ghost use Rattle.session_text.specs.Replies.{and_number};
 
 use heap_class::Refusal;
 
+/// The reason why a question has no answer.
+#[derive(Clone, Copy, PartialEq, Eq, Debug)]
+pub(crate) enum Unanswered {
+    /// A refusal that lines of sessions have too.
+    Refused(Refusal),
+    /// The id names no object.
+    NoObject,
+    /// No register reaches the object.
+    Unreachable,
+}
+
+impl From<Refusal> for Unanswered {
+    ghost use Rattle.std.specs.Prelude.{◌≡◌};
+    ghost use Rattle.question_text.specs.declared.rows.Unanswered.TheVariants.{Refused};
+
+    ghost from_gives = { λ r e. e ≡ Refused r };
+
+    fn from(refusal: Refusal) -> Unanswered {
+        Unanswered::Refused(refusal)
+    }
+}
+
 /// Appends words. Fails with NoMemory.
 pub(crate) fn push_words(text: &mut Vec<u8>, words: &[u8]) -> Result<(), Refusal>
     ensures ok { OnOk result (text.new.items ≡ text.old.items ++ words.now) }

@@ -2,9 +2,10 @@
 use Rattle.std.specs.Prelude.{◌≡◌, ℕ, List, codes, Option, Some, None}
 use Rattle.heap_trail.specs.Machine.{Machine}
 use Rattle.question_text.specs.declared.question.Question.{Question}
-use Rattle.question_text.specs.declared.question.Question.TheVariants.{Histogram, Garbage, Registers, Referrers}
+use Rattle.question_text.specs.declared.question.Question.TheVariants.{Histogram, Garbage, Growth, Registers, Referrers}
 use Rattle.question_text.specs.Histograms.{IsGarbageText, IsHistogramText}
-use Rattle.question_text.specs.Moments.{IsAnswerAbout, image_at}
+use Rattle.question_text.specs.Moments.{IsAnswerAbout, IsAnswerBetween, image_at}
+use Rattle.question_text.specs.Growths.{IsGrowthText}
 use Rattle.question_text.specs.Registers.{IsRegistersText}
 use Rattle.question_text.specs.Referrers.{IsReferrersText}
 use Rattle.question_text.specs.Questions.{question_of}
@@ -13,6 +14,8 @@ use Rattle.question_text.specs.Questions.{question_of}
 abbrev pub IsAnswer : Question → Machine → List ℕ → Type 0
 IsAnswer (Histogram at) m text = IsAnswerAbout (IsHistogramText m.ids) (image_at at m) text
 IsAnswer (Garbage at) m text = IsAnswerAbout (IsGarbageText m.ids) (image_at at m) text
+IsAnswer (Growth older newer) m text =
+    IsAnswerBetween (IsGrowthText m.ids) (image_at older m) (image_at newer m) text
 IsAnswer (Registers at) m text = IsAnswerAbout IsRegistersText (image_at at m) text
 IsAnswer (Referrers at x) m text = IsAnswerAbout (IsReferrersText x) (image_at at m) text
 

@@ -5,5 +5,6 @@ pub mod Names
 pub mod Histograms
 pub mod Referrers
 pub mod Registers
+pub mod Growths
 pub mod Answers
 pub mod Sessions

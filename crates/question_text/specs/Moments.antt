@@ -65,6 +65,18 @@ abbrev pub IsAnswerAbout : (Image → List ℕ → Type 0) → Result Image Refu
 IsAnswerAbout answers (Ok image) text = IsToldOf answers image text
 IsAnswerAbout answers (Err e) text = text ≡ refused_text e
 
+-- the answer about two images, or memory for it was refused; or why the second is missing
+abbrev pub IsAnswerBesides : (Image → List ℕ → Type 0) → Result Image Refusal → List ℕ → Type 0
+IsAnswerBesides answers (Ok newer) text = IsToldOf answers newer text
+IsAnswerBesides answers (Err e) text = (text ≡ refused_text e) ⊎ (text ≡ refused_text NoMemory)
+
+-- the same, or why the first is missing
+abbrev pub IsAnswerBetween : (Image → Image → List ℕ → Type 0) → Result Image Refusal
+    → Result Image Refusal
+    → List ℕ → Type 0
+IsAnswerBetween answers (Ok older) newer text = IsAnswerBesides (answers older) newer text
+IsAnswerBetween answers (Err e) newer text = text ≡ refused_text e
+
 -- ---- moments
 
 -- the image of a moment

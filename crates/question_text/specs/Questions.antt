@@ -5,7 +5,7 @@ use Rattle.session_text.specs.Grammar.{at_end, number_of_word, words_of_line}
 use Rattle.question_text.specs.declared.question.At.{At}
 use Rattle.question_text.specs.declared.question.At.TheVariants.{Current, Pin, Place}
 use Rattle.question_text.specs.declared.question.Question.{Question}
-use Rattle.question_text.specs.declared.question.Question.TheVariants.{Histogram, Garbage, Registers, Referrers}
+use Rattle.question_text.specs.declared.question.Question.TheVariants.{Histogram, Garbage, Growth, Registers, Referrers}
 use Rattle.question_text.specs.Ids.{id_of_word}
 
 -- the state that a word names: `-`, `@` and a place, or the number of a pin
@@ -27,6 +27,11 @@ next_at (w ∷ ws) = option_map (λ at. (at, ws)) (at_of_word w)
 abbrev pub one_at : List (List ℕ) → Option At
 one_at ws = option_and_then (λ a. at_end a.0 a.1) (next_at ws)
 
+-- the two states that the words name
+abbrev pub two_ats : List (List ℕ) → Option (At × At)
+two_ats ws =
+    option_and_then (λ a. option_and_then (λ b. at_end (a.0, b.0) b.1) (next_at a.1)) (next_at ws)
+
 -- the id that the first word is, and the other words
 abbrev pub next_id : List (List ℕ) → Option (ℕ × List (List ℕ))
 next_id [] = None
@@ -44,6 +49,10 @@ histogram_line ws = option_map (λ at. Histogram at) (one_at ws)
 -- `garbage AT`
 abbrev pub garbage_line : List (List ℕ) → Option Question
 garbage_line ws = option_map (λ at. Garbage at) (one_at ws)
+
+-- `growth AT AT`
+abbrev pub growth_line : List (List ℕ) → Option Question
+growth_line ws = option_map (λ a. Growth a.0 a.1) (two_ats ws)
 
 -- `registers AT`
 abbrev pub registers_line : List (List ℕ) → Option Question
@@ -64,6 +73,7 @@ unfoldable pub question_rules : List QuestionRule
 question_rules =
     (codes "histogram", histogram_line)
     ∷ (codes "garbage", garbage_line)
+    ∷ (codes "growth", growth_line)
     ∷ (codes "registers", registers_line)
     ∷ (codes "referrers", referrers_line)
     ∷ []

@@ -3,11 +3,13 @@ ghost use Rattle.std.specs.Prelude.{◌≡◌};
 ghost use Rattle.session_text.specs.Replies.{line_answer_text};
 ghost use Rattle.question_text.specs.Answers.{IsAnswer};
 ghost use Rattle.question_text.specs.Histograms.{IsGarbageText, IsHistogramText};
+ghost use Rattle.question_text.specs.Growths.{IsGrowthText};
 ghost use Rattle.question_text.specs.Registers.{IsRegistersText};
 ghost use Rattle.question_text.specs.Referrers.{IsReferrersText};
-ghost use Rattle.question_text.specs.Moments.{IsAnswerAbout, image_at, told_text};
+ghost use Rattle.question_text.specs.Moments.{IsAnswerAbout, IsAnswerBetween, image_at, told_text};
 
 use crate::at::{moment_at, view_of};
+use crate::growth::growth_answer;
 use crate::histogram::{garbage_text, histogram_text};
 use crate::question::{At, Question};
 use crate::referrers::referrers_answer;
@@ -49,6 +51,23 @@ fn garbage(alloc: Global, machine: &Machine, at: At) -> Result<Vec<u8>, Unanswer
     Ok(garbage_text(alloc, &view)?)
 }
 
+// Returns the lines of `growth AT AT`. Both states are held before either is looked at.
+fn growth(
+    alloc: Global,
+    machine: &Machine,
+    older: At,
+    newer: At,
+) -> Result<Vec<u8>, Unanswered>
+    ensures { IsAnswerBetween (IsGrowthText machine.now.ids) (image_at older machine.now)
+        (image_at newer machine.now) (told_text result) }
+{
+    let before = moment_at(machine, older)?;
+    let older_view = view_of(machine, &before)?;
+    let after = moment_at(machine, newer)?;
+    let newer_view = view_of(machine, &after)?;
+    Ok(growth_answer(alloc, &older_view, &newer_view)?)
+}
+
 // Returns the lines of `registers AT`.
 fn registers(alloc: Global, machine: &Machine, at: At) -> Result<Vec<u8>, Unanswered>
     ensures { IsAnswerAbout IsRegistersText (image_at at machine.now) (told_text result) }
@@ -79,6 +98,7 @@ pub fn answer(alloc: Global, machine: &Machine, question: Question) -> LineAnswe
     match question {
         Question::Histogram(at) => told(histogram(alloc, machine, at)),
         Question::Garbage(at) => told(garbage(alloc, machine, at)),
+        Question::Growth { older, newer } => told(growth(alloc, machine, older, newer)),
         Question::Registers(at) => told(registers(alloc, machine, at)),
         Question::Referrers { at, id } => told(referrers(alloc, machine, at, id)),
     }

@@ -11,8 +11,8 @@ use heap_questions::{Histogram, Row, count_by_class, count_garbage, ranking};
 use hprof_text::View;
 use std::alloc::Global;
 
-// Appends the numbers of a row, each after a space. Fails with NoMemory.
-fn push_counts(text: &mut Vec<u8>, row: Row) -> Result<(), Refusal>
+/// Appends the numbers of a row, each after a space. Fails with NoMemory.
+pub(crate) fn push_counts(text: &mut Vec<u8>, row: Row) -> Result<(), Refusal>
     ensures ok { OnOk result (text.new.items ≡ text.old.items ++ and_counts row) }
     ensures refused { IfErr result (λ e. e ≡ NoMemory) }
 {

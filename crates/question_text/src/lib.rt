@@ -4,6 +4,7 @@
 mod answer;
 mod asking;
 mod at;
+mod growth;
 mod histogram;
 mod id;
 mod names;

@@ -3,7 +3,7 @@ ghost use Rattle.std.specs.Prelude.{◌≡◌};
 ghost use Rattle.std.specs.Str.{bytes_eq};
 ghost use Rattle.session_text.specs.Grammar.{at_end, words_of_line};
 ghost use Rattle.session_text.specs.Reads.{IsNextWord};
-ghost use Rattle.question_text.specs.Questions.{at_and_id, at_of_word, garbage_line, histogram_line, next_at, next_id, one_at, question_of, referrers_line, registers_line};
+ghost use Rattle.question_text.specs.Questions.{at_and_id, at_of_word, garbage_line, growth_line, histogram_line, next_at, next_id, one_at, question_of, referrers_line, registers_line, two_ats};
 
 use crate::id::id_of;
 use session_text::number::number_of;
@@ -27,6 +27,8 @@ pub enum Question {
     Histogram(At),
     /// The same of the objects that no register reaches.
     Garbage(At),
+    /// The rows of a histogram that differ between two states.
+    Growth { older: At, newer: At },
     /// What each register names.
     Registers(At),
     /// What names an object.
@@ -113,6 +115,23 @@ fn garbage_line(words: Words) -> Option<Question>
     Some(Question::Garbage(at))
 }
 
+// Returns the two states that the words name.
+fn two_ats(mut words: Words) -> Option<(At, At)>
+    ensures { result ≡ two_ats (words_of_line words.entry) }
+{
+    let older = next_at(&mut words)?;
+    let newer = next_at(&mut words)?;
+    at_end((older, newer), words)
+}
+
+// Reads the words of `growth AT AT`.
+fn growth_line(words: Words) -> Option<Question>
+    ensures { result ≡ growth_line (words_of_line words.entry) }
+{
+    let (older, newer) = two_ats(words)?;
+    Some(Question::Growth { older, newer })
+}
+
 // Reads the words of `registers AT`.
 fn registers_line(words: Words) -> Option<Question>
     ensures { result ≡ registers_line (words_of_line words.entry) }
@@ -141,6 +160,9 @@ pub fn question_of(line: &[u8]) -> Option<Question>
     }
     if is_word(word, b"garbage") {
         return garbage_line(words);
+    }
+    if is_word(word, b"growth") {
+        return growth_line(words);
     }
     if is_word(word, b"registers") {
         return registers_line(words);

@@ -6,5 +6,6 @@ pub mod Histograms
 pub mod Referrers
 pub mod Registers
 pub mod Growths
+pub mod Paths
 pub mod Answers
 pub mod Sessions

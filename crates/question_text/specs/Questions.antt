@@ -5,7 +5,7 @@ use Rattle.session_text.specs.Grammar.{at_end, number_of_word, words_of_line}
 use Rattle.question_text.specs.declared.question.At.{At}
 use Rattle.question_text.specs.declared.question.At.TheVariants.{Current, Pin, Place}
 use Rattle.question_text.specs.declared.question.Question.{Question}
-use Rattle.question_text.specs.declared.question.Question.TheVariants.{Histogram, Garbage, Growth, Registers, Referrers}
+use Rattle.question_text.specs.declared.question.Question.TheVariants.{Histogram, Garbage, Growth, Registers, Referrers, Path}
 use Rattle.question_text.specs.Ids.{id_of_word}
 
 -- the state that a word names: `-`, `@` and a place, or the number of a pin
@@ -62,6 +62,10 @@ registers_line ws = option_map (λ at. Registers at) (one_at ws)
 abbrev pub referrers_line : List (List ℕ) → Option Question
 referrers_line ws = option_map (λ a. Referrers a.0 a.1) (at_and_id ws)
 
+-- `path AT ID`
+abbrev pub path_line : List (List ℕ) → Option Question
+path_line ws = option_map (λ a. Path a.0 a.1) (at_and_id ws)
+
 -- ---- the table of questions
 
 -- a keyword, and what the words after it ask
@@ -76,6 +80,7 @@ question_rules =
     ∷ (codes "growth", growth_line)
     ∷ (codes "registers", registers_line)
     ∷ (codes "referrers", referrers_line)
+    ∷ (codes "path", path_line)
     ∷ []
 
 -- the question of these words, by the rule of the first

@@ -4,6 +4,7 @@ ghost use Rattle.session_text.specs.Replies.{line_answer_text};
 ghost use Rattle.question_text.specs.Answers.{IsAnswer};
 ghost use Rattle.question_text.specs.Histograms.{IsGarbageText, IsHistogramText};
 ghost use Rattle.question_text.specs.Growths.{IsGrowthText};
+ghost use Rattle.question_text.specs.Paths.{IsPathText};
 ghost use Rattle.question_text.specs.Registers.{IsRegistersText};
 ghost use Rattle.question_text.specs.Referrers.{IsReferrersText};
 ghost use Rattle.question_text.specs.Moments.{IsAnswerAbout, IsAnswerBetween, image_at, told_text};
@@ -11,6 +12,7 @@ ghost use Rattle.question_text.specs.Moments.{IsAnswerAbout, IsAnswerBetween, im
 use crate::at::{moment_at, view_of};
 use crate::growth::growth_answer;
 use crate::histogram::{garbage_text, histogram_text};
+use crate::path::path_answer;
 use crate::question::{At, Question};
 use crate::referrers::referrers_answer;
 use crate::registers::registers_answer;
@@ -91,6 +93,15 @@ fn referrers(
     referrers_answer(alloc, &view, id)
 }
 
+// Returns the lines of `path AT ID`.
+fn path(alloc: Global, machine: &Machine, at: At, id: u64) -> Result<Vec<u8>, Unanswered>
+    ensures { IsAnswerAbout (IsPathText id) (image_at at machine.now) (told_text result) }
+{
+    let moment = moment_at(machine, at)?;
+    let view = view_of(machine, &moment)?;
+    path_answer(alloc, &view, id)
+}
+
 /// Returns the answer of a question about a machine, or the refusal NoMemory if an allocation fails.
 pub fn answer(alloc: Global, machine: &Machine, question: Question) -> LineAnswer
     ensures { IsAnswer question machine.now (line_answer_text result) }
@@ -101,5 +112,6 @@ pub fn answer(alloc: Global, machine: &Machine, question: Question) -> LineAnswe
         Question::Growth { older, newer } => told(growth(alloc, machine, older, newer)),
         Question::Registers(at) => told(registers(alloc, machine, at)),
         Question::Referrers { at, id } => told(referrers(alloc, machine, at, id)),
+        Question::Path { at, id } => told(path(alloc, machine, at, id)),
     }
 }

@@ -8,6 +8,7 @@ mod growth;
 mod histogram;
 mod id;
 mod names;
+mod path;
 mod question;
 mod referrers;
 mod registers;

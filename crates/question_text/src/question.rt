@@ -3,7 +3,7 @@ ghost use Rattle.std.specs.Prelude.{◌≡◌};
 ghost use Rattle.std.specs.Str.{bytes_eq};
 ghost use Rattle.session_text.specs.Grammar.{at_end, words_of_line};
 ghost use Rattle.session_text.specs.Reads.{IsNextWord};
-ghost use Rattle.question_text.specs.Questions.{at_and_id, at_of_word, garbage_line, growth_line, histogram_line, next_at, next_id, one_at, question_of, referrers_line, registers_line, two_ats};
+ghost use Rattle.question_text.specs.Questions.{at_and_id, at_of_word, garbage_line, growth_line, histogram_line, next_at, next_id, one_at, path_line, question_of, referrers_line, registers_line, two_ats};
 
 use crate::id::id_of;
 use session_text::number::number_of;
@@ -33,6 +33,8 @@ pub enum Question {
     Registers(At),
     /// What names an object.
     Referrers { at: At, id: u64 },
+    /// Why an object is alive: a shortest path from a register.
+    Path { at: At, id: u64 },
 }
 
 // Tells whether a word is this one.
@@ -148,6 +150,14 @@ fn referrers_line(words: Words) -> Option<Question>
     Some(Question::Referrers { at, id })
 }
 
+// Reads the words of `path AT ID`.
+fn path_line(words: Words) -> Option<Question>
+    ensures { result ≡ path_line (words_of_line words.entry) }
+{
+    let (at, id) = at_and_id(words)?;
+    Some(Question::Path { at, id })
+}
+
 /// Returns the question that a line asks, or None if it asks none.
 #[tactic(auto, unfolding(crate::specs::Questions::question_of_words, crate::specs::Questions::question_rules))]
 pub fn question_of(line: &[u8]) -> Option<Question>
@@ -169,6 +179,9 @@ pub fn question_of(line: &[u8]) -> Option<Question>
     }
     if is_word(word, b"referrers") {
         return referrers_line(words);
+    }
+    if is_word(word, b"path") {
+        return path_line(words);
     }
     None
 }

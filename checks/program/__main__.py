@@ -5,6 +5,7 @@ Prints a line for each difference and ends with status 1 if there is one. Prints
 import os
 import sys
 
+from explore_cases import questions
 from line_cases import bad_lines
 from run_cases import faults, lines_at_the_limits, sessions, would_block
 from save_cases import saved_faults, saved_files, saved_on_terminals, saved_to_listeners, saved_to_long_names
@@ -17,7 +18,7 @@ def differences(program):
     parts = ("status", "standard output", "standard error", "first of the clients or the dump", "second", "third", "fourth")
     saves = (saved_files, saved_to_long_names, saved_faults, saved_to_listeners, saved_on_terminals)
     serves = (served_sessions, served_on_terminals, pins_of_ended_sessions, worked, asking, served_faults)
-    for cases in (sessions, settings_shown, lines_at_the_limits, faults, would_block, bad_lines, *saves, *serves):
+    for cases in (sessions, questions, settings_shown, lines_at_the_limits, faults, would_block, bad_lines, *saves, *serves):
         for name, happened, wanted in cases(program):
             if not len(happened) == len(wanted) <= len(parts):
                 yield f"{program}, {name}: {len(happened)} facts, and must be {len(wanted)}, at most {len(parts)}"

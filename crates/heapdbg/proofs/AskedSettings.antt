@@ -18,7 +18,7 @@ use Rattle.heap_server.specs.SessionSeats.{session_limit}
 use Rattle.heapdbg.specs.CommandLine.{AreSettingsWithin, HasDefaults, IsTask, ask_in, heapdbg_line, id_size_in, id_size_of, is_given, is_task, keep_default, number_in, number_or, port_in, port_limit, save_in, serve_in, sessions_in, sessions_of, settings_in, settings_under, settings_with, target_in, task_in, time_limit, option_value}
 use Rattle.heapdbg.specs.declared.settings.Settings.{Settings}
 use Rattle.heapdbg.specs.declared.settings.Task.{Task}
-use Rattle.heapdbg.specs.declared.settings.Task.TheVariants.{Run, Save, Serve, Ask}
+use Rattle.heapdbg.specs.declared.settings.Task.TheVariants.{Run, Explore, Save, Serve, Ask}
 use Rattle.heapdbg.specs.declared.settings.Target.{Target}
 use Rattle.heapdbg.specs.declared.settings.Target.TheVariants.{Out, To}
 use Rattle.heapdbg.proofs.Words.{IsPlainRules, IsTailFree, both_true, found_passes, is_plain_rule, no_value, right_false, tail_free}
@@ -81,15 +81,16 @@ all_there task (Some r) (Some m) (Some k) None i s e = cc
 all_there task (Some r) (Some m) (Some k) (Some t) None s e = cc
 all_there task (Some r) (Some m) (Some k) (Some t) (Some i) s e = (cc, cc, cc, cc, cc, cc)
 
-abbrev task_by : Bool → Bool → Bool → Bool → List Row → Option Task
-task_by runs saves serves asks rows = cond runs (Some Run) (cond saves (save_in rows) (cond serves (serve_in rows) (cond asks (ask_in rows) None)))
+abbrev task_by : Bool → Bool → Bool → Bool → Bool → List Row → Option Task
+task_by runs explores saves serves asks rows = cond runs (Some Run) (cond explores (Some Explore) (cond saves (save_in rows) (cond serves (serve_in rows) (cond asks (ask_in rows) None))))
 
-is_named : (runs saves serves asks : Bool) (rows : List Row) (task : Task) → task_by runs saves serves asks rows ≡ Some task → (runs || (saves || (serves || asks))) ≡ true
-is_named true saves serves asks rows task e = refl
-is_named false true serves asks rows task e = refl
-is_named false false true asks rows task e = refl
-is_named false false false true rows task e = refl
-is_named false false false false rows task e = cc
+is_named : (runs explores saves serves asks : Bool) (rows : List Row) (task : Task) → task_by runs explores saves serves asks rows ≡ Some task → (runs || (explores || (saves || (serves || asks)))) ≡ true
+is_named true explores saves serves asks rows task e = refl
+is_named false true saves serves asks rows task e = refl
+is_named false false true serves asks rows task e = refl
+is_named false false false true asks rows task e = refl
+is_named false false false false true rows task e = refl
+is_named false false false false false rows task e = cc
 
 pub record AreAsked (o : Option (Text × List Row)) (s : Settings) : Type 0 where
   pub found : Text × List Row
@@ -110,7 +111,7 @@ are_asked (Some f) s e = go (task_in f.0 f.1) refl e
         record {
           found = f;
           is = refl;
-          named = is_named (bytes_eq f.0 (codes "run")) (bytes_eq f.0 (codes "save")) (bytes_eq f.0 (codes "serve")) (bytes_eq f.0 (codes "ask")) f.1 task h;
+          named = is_named (bytes_eq f.0 (codes "run")) (bytes_eq f.0 (codes "explore")) (bytes_eq f.0 (codes "save")) (bytes_eq f.0 (codes "serve")) (bytes_eq f.0 (codes "ask")) f.1 task h;
           task = h ∙ ap (λ t. Some t) (sym there.0);
           read = record { regions = there.1; mutators = there.2; keep = there.3; time = there.4; ids = there.5 };
         }
@@ -158,19 +159,20 @@ save_within None (Some text) task e = go (number_in 1 port_limit text) refl e
         let same : Save (To port) ≡ task = cc in
         subst IsTask same (number_within 1 port_limit text port at)
 
-task_within : (runs saves serves asks : Bool) (rows : List Row) (task : Task) → task_by runs saves serves asks rows ≡ Some task → IsTask task
-task_within true saves serves asks rows task e = let same : Run ≡ task = cc in subst IsTask same tt
-task_within false true serves asks rows task e = save_within (first_of (codes "out") rows) (first_of (codes "to") rows) task e
-task_within false false true asks rows task e = serve_within rows (port_in rows) (sessions_in rows) task refl refl e
-task_within false false false true rows task e = ask_within rows (port_in rows) task refl e
-task_within false false false false rows task e = cc
+task_within : (runs explores saves serves asks : Bool) (rows : List Row) (task : Task) → task_by runs explores saves serves asks rows ≡ Some task → IsTask task
+task_within true explores saves serves asks rows task e = let same : Run ≡ task = cc in subst IsTask same tt
+task_within false true saves serves asks rows task e = let same : Explore ≡ task = cc in subst IsTask same tt
+task_within false false true serves asks rows task e = save_within (first_of (codes "out") rows) (first_of (codes "to") rows) task e
+task_within false false false true asks rows task e = serve_within rows (port_in rows) (sessions_in rows) task refl refl e
+task_within false false false false true rows task e = ask_within rows (port_in rows) task refl e
+task_within false false false false false rows task e = cc
 
 pub limits_of : (o : Option (Text × List Row)) (s : Settings) → option_and_then settings_under o ≡ Some s → AreSettingsWithin s
 limits_of o s e =
     let asked = are_asked o s e in
     let name = asked.found.0 in (
       heap_within o s asked,
-      task_within (bytes_eq name (codes "run")) (bytes_eq name (codes "save")) (bytes_eq name (codes "serve")) (bytes_eq name (codes "ask")) asked.found.1 s.task asked.task,
+      task_within (bytes_eq name (codes "run")) (bytes_eq name (codes "explore")) (bytes_eq name (codes "save")) (bytes_eq name (codes "serve")) (bytes_eq name (codes "ask")) asked.found.1 s.task asked.task,
     )
 
 -- ---- defaults
@@ -248,14 +250,15 @@ one_saved : (target : Option Target) (task : Task) → option_map (λ target. Sa
 one_saved None task e = cc
 one_saved (Some target) task e = let same : Save target ≡ task = cc in subst (λ t. sessions_of t ≡ 1) same refl
 
-default_sessions : (runs saves serves asks : Bool) (rows : List Row) (task : Task) (words : List Text)
+default_sessions : (runs explores saves serves asks : Bool) (rows : List Row) (task : Task) (words : List Text)
     → (is_given (codes "sessions") words ≡ false → (k : ℕ) → sessions_in rows ≡ Some k → k ≡ 1)
-    → task_by runs saves serves asks rows ≡ Some task → is_given (codes "sessions") words ≡ false → sessions_of task ≡ 1
-default_sessions true saves serves asks rows task words is e other = let same : Run ≡ task = cc in subst (λ t. sessions_of t ≡ 1) same refl
-default_sessions false true serves asks rows task words is e other = one_saved (target_in (first_of (codes "out") rows) (first_of (codes "to") rows)) task e
-default_sessions false false true asks rows task words is e other = served_sessions (port_in rows) (sessions_in rows) task words is e other
-default_sessions false false false true rows task words is e other = one_asked (port_in rows) task e
-default_sessions false false false false rows task words is e other = cc
+    → task_by runs explores saves serves asks rows ≡ Some task → is_given (codes "sessions") words ≡ false → sessions_of task ≡ 1
+default_sessions true explores saves serves asks rows task words is e other = let same : Run ≡ task = cc in subst (λ t. sessions_of t ≡ 1) same refl
+default_sessions false true saves serves asks rows task words is e other = let same : Explore ≡ task = cc in subst (λ t. sessions_of t ≡ 1) same refl
+default_sessions false false true serves asks rows task words is e other = one_saved (target_in (first_of (codes "out") rows) (first_of (codes "to") rows)) task e
+default_sessions false false false true asks rows task words is e other = served_sessions (port_in rows) (sessions_in rows) task words is e other
+default_sessions false false false false true rows task words is e other = one_asked (port_in rows) task e
+default_sessions false false false false false rows task words is e other = cc
 
 -- identifiers of which no word tells the size have 8 bytes
 default_size : (words : List Text) (f : Text × List Row) (x : IdSize) → subcommand_of heapdbg_line words ≡ Some f → is_task f.0 ≡ true
@@ -280,6 +283,6 @@ defaults_of words s e =
       keep = default_of (codes "keep") keep_default 1 keep_limit words asked.found s.keep keep_free asked.is asked.named asked.read.keep;
       time = default_of (codes "time") 0 0 time_limit words asked.found s.time time_free asked.is asked.named asked.read.time;
       ids = default_size words asked.found s.ids asked.is asked.named asked.read.ids;
-      sessions = default_sessions (bytes_eq name (codes "run")) (bytes_eq name (codes "save")) (bytes_eq name (codes "serve")) (bytes_eq name (codes "ask")) asked.found.1 s.task words
+      sessions = default_sessions (bytes_eq name (codes "run")) (bytes_eq name (codes "explore")) (bytes_eq name (codes "save")) (bytes_eq name (codes "serve")) (bytes_eq name (codes "ask")) asked.found.1 s.task words
           one asked.task;
     }

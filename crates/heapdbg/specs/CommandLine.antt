@@ -16,7 +16,7 @@ use Rattle.heap_region.specs.Limits.{region_limit}
 use Rattle.heap_server.specs.SessionSeats.{session_limit}
 use Rattle.heap_world.specs.Limits.{AreHeapSettings, keep_limit, mutator_limit}
 use Rattle.heapdbg.specs.declared.settings.Task.{Task}
-use Rattle.heapdbg.specs.declared.settings.Task.TheVariants.{Run, Save, Serve, Ask}
+use Rattle.heapdbg.specs.declared.settings.Task.TheVariants.{Run, Explore, Save, Serve, Ask}
 use Rattle.heapdbg.specs.declared.settings.Target.{Target}
 use Rattle.heapdbg.specs.declared.settings.Target.TheVariants.{Out, To}
 use Rattle.heapdbg.specs.declared.settings.Settings.{Settings}
@@ -53,6 +53,10 @@ port_option = record (value_option (codes "port")) { required = true }
 abbrev pub run_line : App
 run_line = session_line (codes "run")
 
+-- the command `explore`
+abbrev pub explore_line : App
+explore_line = session_line (codes "explore")
+
 -- the command `save`
 abbrev pub save_line : App
 save_line =
@@ -75,8 +79,10 @@ local_line =
     let named = new_app (codes "heapdbg") in
     with_subcommand
     (with_subcommand
+    (with_subcommand
     (record named { top = record named.top { subcommand_required = true; has_version = true } })
     run_line.top)
+    explore_line.top)
     save_line.top
 
 -- all commands
@@ -176,16 +182,18 @@ ask_in rows = option_map (λ port. Ask port) (port_in rows)
 abbrev pub is_task : Text → Bool
 is_task name =
     bytes_eq name (codes "run")
+    || (bytes_eq name (codes "explore")
     || (bytes_eq name (codes "save")
-    || (bytes_eq name (codes "serve") || bytes_eq name (codes "ask")))
+    || (bytes_eq name (codes "serve") || bytes_eq name (codes "ask"))))
 
 -- the task of a command's name and options
 abbrev pub task_in : Text → List Row → Option Task
 task_in name rows =
     if bytes_eq name (codes "run") then Some Run
+    else (if bytes_eq name (codes "explore") then Some Explore
     else (if bytes_eq name (codes "save") then save_in rows
     else (if bytes_eq name (codes "serve") then serve_in rows
-    else (if bytes_eq name (codes "ask") then ask_in rows else None)))
+    else (if bytes_eq name (codes "ask") then ask_in rows else None))))
 
 -- the settings of a command and its options
 abbrev pub settings_under : Text × List Row → Option Settings
@@ -213,6 +221,7 @@ path_of words =
 -- the port and the number of sessions are within their limits
 abbrev pub IsTask : Task → Type 0
 IsTask Run = ⊤
+IsTask Explore = ⊤
 IsTask (Save Out) = ⊤
 IsTask (Save (To port)) = (1 ≤ port) × (port ≤ port_limit)
 IsTask (Serve port sessions) =
@@ -226,6 +235,7 @@ AreSettingsWithin s = AreHeapSettings s.regions s.mutators s.keep × IsTask s.ta
 -- the number of sessions
 abbrev pub sessions_of : Task → ℕ
 sessions_of Run = 1
+sessions_of Explore = 1
 sessions_of (Save target) = 1
 sessions_of (Serve port sessions) = sessions
 sessions_of (Ask port) = 1

@@ -4,4 +4,5 @@ pub mod Refusals
 pub mod Endings
 pub mod ServeOutcomes
 pub mod SaveOutcomes
+pub mod Explorations
 pub mod Runs

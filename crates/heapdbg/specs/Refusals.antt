@@ -47,7 +47,7 @@ IsMistake m found =
 
 -- the text that says what has to be given instead
 abbrev pub mistake_of : Mistake → Text
-mistake_of Command = codes "heapdbg takes one of run, save, serve and ask"
+mistake_of Command = codes "heapdbg takes one of run, explore, save, serve and ask"
 mistake_of Regions = codes "--regions takes 1 to 256"
 mistake_of Mutators = codes "--mutators takes 1 to 16"
 mistake_of Keep = codes "--keep takes 1 to 65536"

@@ -6,7 +6,7 @@ ghost use Rattle.std.specs.Char.{is_ascii_digit};
 ghost use Rattle.clap.specs.Words.{FailsBy, app_of, fault_of, found_of, kind_of, rows_of};
 ghost use Rattle.clap.specs.declared.builder.Command.TheViews.{out-Command};
 ghost use Rattle.clap.specs.Words.{rule_of, subcommand_of, subcommand_rows_of};
-ghost use Rattle.heapdbg.specs.CommandLine.{AreSettingsWithin, HasDefaults, IsBadWith, heap_line, heapdbg_line, local_line, number_in, run_line};
+ghost use Rattle.heapdbg.specs.CommandLine.{AreSettingsWithin, HasDefaults, IsBadWith, explore_line, heap_line, heapdbg_line, local_line, number_in, run_line};
 ghost use Rattle.heapdbg.specs.CommandLine.{settings_in, settings_of, settings_under, texts, option_value};
 ghost use Rattle.heapdbg.specs.CommandLine.{id_size_in, id_size_of, path_of, session_line, task_in, value_option};
 ghost use Rattle.heapdbg.specs.Refusals.{IsMistake, IsMistakeIn, IsRefusalOf, version_text};
@@ -76,11 +76,13 @@ fn local_parser<'a>(alloc: Global) -> Result<Command<'a>, AllocError>
     ensures { IfOk result (λ c. app_of c ≡ local_line) }
 {
     let run = run_parser(alloc)?;
+    let explore = explore_parser(alloc)?;
     let save = save_parser(alloc)?;
     Command::new(alloc, "heapdbg")
         .version(VERSION)
         .subcommand_required(true)
         .subcommand(run)?
+        .subcommand(explore)?
         .subcommand(save)
 }
 
@@ -93,6 +95,18 @@ fn run_parser<'a>(alloc: Global) -> Result<Command<'a>, AllocError>
         alloc,
         "run",
         "Reads commands from standard input and writes replies to standard output",
+    )
+}
+
+// Creates the parser of the command `explore`.
+fn explore_parser<'a>(alloc: Global) -> Result<Command<'a>, AllocError>
+    ensures app { IfOk result (λ c. app_of c ≡ explore_line) }
+    ensures local { IfOk result (λ c. (out-Command c).has_globals ≡ false) }
+{
+    session_parser(
+        alloc,
+        "explore",
+        "Reads commands and questions from standard input and writes answers to standard output",
     )
 }
 
@@ -182,6 +196,9 @@ fn task_of(name: &str, options: &ArgMatches<'_>) -> Result<Task, Mistake>
 {
     if name == "run" {
         return Ok(Task::Run);
+    }
+    if name == "explore" {
+        return Ok(Task::Explore);
     }
     if name == "save" {
         return save_task(options);

@@ -43,7 +43,7 @@ impl Mistake {
         ensures { result.now ≡ mistake_of self }
     {
         match self {
-            Mistake::Command => "heapdbg takes one of run, save, serve and ask",
+            Mistake::Command => "heapdbg takes one of run, explore, save, serve and ask",
             Mistake::Regions => "--regions takes 1 to 256",
             Mistake::Mutators => "--mutators takes 1 to 16",
             Mistake::Keep => "--keep takes 1 to 65536",

@@ -21,7 +21,9 @@ pub enum Target {
 pub enum Task {
     /// Runs one session between standard input and standard output.
     Run,
-    /// Runs one session likewise, and dumps the state that it leaves.
+    /// Runs one session likewise, in which questions are answered.
+    Explore,
+    /// Runs one session as `Run` does, and dumps the state that it leaves.
     Save(Target),
     /// Serves sessions over one shared heap to clients of this computer.
     Serve {

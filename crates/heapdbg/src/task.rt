@@ -8,6 +8,7 @@ ghost use Rattle.heap_world.specs.Limits.{AreHeapSettings};
 
 use crate::ask::ask_port;
 use crate::command_line::{out_path, settings};
+use crate::explore::explore;
 use crate::failure::{Failure, Fault, outcome};
 use crate::folder::has_folder;
 use crate::refusal::bad;
@@ -96,6 +97,7 @@ where
 {
     match asked.task {
         Task::Run => session(alloc, asked, reader, writer),
+        Task::Explore => explore(alloc, asked, reader, writer),
         Task::Save(Target::Out) => save_named(rt, alloc, words, asked, reader, writer, is_terminal),
         Task::Save(Target::To(port)) => save_to(
             rt,

@@ -8,6 +8,8 @@ trap 'rm -rf "$folder"' EXIT
 make --no-print-directory install DESTDIR="$folder/$name" PREFIX=
 cp -r examples "$folder/$name/share/doc/heapdbg/"
 cp -r clients "$folder/$name/share/"
+# It needs the checks' model, which isn't packed.
+rm -f "$folder/$name/share/doc/heapdbg/examples/leak.py"
 find "$folder/$name" -name __pycache__ -prune -exec rm -rf {} +
 {
     echo "heapdbg $version"

@@ -352,9 +352,9 @@ class Session(Calls):
         self.status: Any = None
 
     @classmethod
-    def run(cls, *command: str) -> "Session":
-        """Starts a command, such as `Session.run("heapdbg", "run", "--keep", "4096")`."""
-        child = subprocess.Popen(command, stdin=subprocess.PIPE, stdout=subprocess.PIPE)
+    def run(cls, *command: str, stderr: Optional[int] = None) -> "Session":
+        """Starts a command, such as `Session.run("heapdbg", "run", "--keep", "4096")`. `stderr` is what subprocess makes of it."""
+        child = subprocess.Popen(command, stdin=subprocess.PIPE, stdout=subprocess.PIPE, stderr=stderr)
         assert child.stdin and child.stdout
         return cls(child.stdout, child.stdin, child.wait)
 

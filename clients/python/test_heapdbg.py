@@ -1,5 +1,7 @@
 #!/usr/bin/env python3
-"""Tests of the client: `test_heapdbg.py PROGRAM`, over the built program, and over streams that a test wrote."""
+"""Tests of the client: `test_heapdbg.py PROGRAM`, over the built program, and over streams that a test wrote.
+
+Prints what fails, and ends with status 1 then. Prints nothing where all is well."""
 import io
 import os
 import socket
@@ -10,13 +12,13 @@ import unittest
 
 from heapdbg import BadCommand, Ended, ObjectId, Piece, PinAt, Refused, Session, Swept
 
-PROGRAM = os.path.abspath(sys.argv.pop()) if len(sys.argv) > 1 else "heapdbg"
+PROGRAM = os.path.abspath(sys.argv[1]) if len(sys.argv) > 1 else "heapdbg"
 NODE = [("next", "object"), ("v", "long")]
 
 
 def session(*options):
     """Returns a session with a heapdbg of its own."""
-    return Session.run(PROGRAM, "run", *options)
+    return Session.run(PROGRAM, "run", *options, stderr=subprocess.DEVNULL)
 
 
 def canned(*lines):
@@ -286,5 +288,15 @@ class Sockets(unittest.TestCase):
         self.assertEqual(server.returncode, 0)
 
 
+def main():
+    """Returns the exit status."""
+    told = io.StringIO()
+    tests = unittest.defaultTestLoader.loadTestsFromModule(sys.modules[__name__])
+    passed = unittest.TextTestRunner(told).run(tests).wasSuccessful()
+    if not passed:
+        print(told.getvalue(), end="")
+    return 0 if passed else 1
+
+
 if __name__ == "__main__":
-    unittest.main()
+    sys.exit(main())

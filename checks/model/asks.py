@@ -53,8 +53,8 @@ class AskingDraw(Draw):
         if self.seen and lots.once_in(4):
             word = lots.pick(self.seen)
         if lots.once_in(12):
-            word = lots.pick([0, 8, word + 8, FIRST_OBJECT + 8 * REGION_WORDS * len(self.state.regions), (1 << 64) - 8])
-        return f"0x{word:08x}" if lots.below(8) else word
+            word = lots.pick([0, 8, word + 8, FIRST_OBJECT + 8 * REGION_WORDS * len(self.state.regions), (1 << 32) - 8])
+        return f"0x{word:08x}" if lots.below(24) else lots.pick([word, f"0x{word:x}0", f"0x{word:08X}", f"{word:08x}"])
 
     def ask(self):
         """Asks a question."""

@@ -1,9 +1,9 @@
 -- Paths in an image, and paths along references.
-use Rattle.std.proofs.Common.{◌≡◌, ◌≢◌, ◌⊎◌, ℕ, zero, suc, ◌+◌, ◌/◌, ◌<◌, Bool, true, false, cond, List, [], ◌∷◌, ◌++◌, length, map, replicate, get_or, Option, Some, None, refl, sym, ap, ◌∙◌, subst, inl, inr, arith}
+use Rattle.std.proofs.Common.{◌≡◌, ◌≢◌, ◌⊎◌, ℕ, zero, suc, ◌+◌, ◌<◌, Bool, true, false, cond, List, [], ◌∷◌, ◌++◌, length, map, replicate, get_or, Option, Some, None, refl, sym, ap, ◌∙◌, subst, inl, inr, arith}
 use Rattle.std.specs.Prelude.{All, Contains, IsSome, filter, find, flat_map, option_and_then, option_map, slice_get, ◌==◌}
 use Rattle.std.specs.List.{enumerate_from, filter_map}
 use Rattle.std.specs.Option.{option_map_or}
-use Rattle.std.proofs.lemmas.Bool.{cases_Bool, eq-eqb, eqb-true, false≢true, true≢false}
+use Rattle.std.proofs.lemmas.Bool.{eq-eqb, eqb-true, false≢true, true≢false}
 use Rattle.std.proofs.lemmas.List.{get_or-replicate, length-replicate}
 use Rattle.std.proofs.lemmas.List.Elements.{All-cons, All-head, All-nil, All-tail, Contains-append_left, Contains-append_right}
 use Rattle.std.proofs.lemmas.Option.{none-some, same_Some, slice_get_within, slice_get-get_or}
@@ -22,11 +22,11 @@ use Rattle.heap_world.specs.Reach.{IsObject, IsPath, Names, Reaches, end_of_path
 use Rattle.heap_world.specs.State.{HeapState}
 use Rattle.heap_world.proofs.Registers.{namer, names_of, object_not_null}
 use Rattle.heap_world.proofs.Shelter.{reach_induction}
-use Rattle.hprof_text.specs.Image.{DumpedObject, Image}
+use Rattle.hprof_text.specs.Image.{DumpedObject}
 use Rattle.heap_pins.specs.Images.{dumped_objects, image_of}
 use Rattle.heap_pins.proofs.LiveCounts.{Stands, live_stand}
-use Rattle.heap_questions.specs.Graph.{HasId, IsPathTo, followed, is_reference_slot, named, object_with, slot_names}
-use Rattle.heap_questions.proofs.Reaching.{Leads, leads_more}
+use Rattle.heap_questions.specs.Graph.{HasId, followed, is_reference_slot, named, object_with, slot_names}
+use Rattle.heap_questions.proofs.Reaching.{leads_more}
 use Rattle.heap_questions.proofs.Traced.{first_object}
 use Rattle.heap_past.specs.Losses.{HasPath, PathIsReach}
 use Rattle.heap_past.proofs.Sizes.{table_of, used_of}

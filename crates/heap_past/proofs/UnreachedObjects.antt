@@ -1,16 +1,14 @@
 -- What no register reaches isn't reached after an event either.
-use Rattle.std.proofs.Common.{◌≡◌, ◌≢◌, ◌⊎◌, ℕ, zero, suc, ◌+◌, ◌*◌, ◌/◌, ◌<◌, Bool, true, false, not, ◌&&◌, cond, List, [], ◌∷◌, ◌++◌, length, drop, set, replicate, Option, Some, None, IsSome, Contains, refl, sym, ap, subst, ◌∙◌, inl, inr, arith}
+use Rattle.std.proofs.Common.{◌≡◌, ◌≢◌, ◌⊎◌, ℕ, zero, suc, ◌+◌, ◌*◌, ◌/◌, ◌<◌, Bool, true, false, List, [], ◌∷◌, ◌++◌, length, drop, set, replicate, Option, Some, None, IsSome, Contains, refl, sym, ap, subst, ◌∙◌, inl, inr, arith}
 use Rattle.std.specs.Prelude.{slice_get, slice_index, option_map, option_and_then, if◌then◌else◌}
 use Rattle.std.specs.Option.{option_map_or}
 use Rattle.std.proofs.lemmas.Bool.{false≢true}
 use Rattle.std.proofs.lemmas.List.{length-replicate}
-use Rattle.std.proofs.lemmas.Option.{none-some, same_Some, slice_get_within}
-use Rattle.heap_class.specs.declared.Kind.{Kind}
+use Rattle.std.proofs.lemmas.Option.{same_Some, slice_get_within}
 use Rattle.heap_class.specs.declared.ObjKind.{ObjKind}
 use Rattle.heap_class.specs.declared.ObjKind.TheVariants.{Array, Instance, Prim}
 use Rattle.heap_class.specs.declared.ObjRef.{ObjRef}
 use Rattle.heap_class.specs.Classes.{Class, array_class, instance_class, slot_kinds_of, slots_of}
-use Rattle.heap_class.specs.Kinds.{is_reference}
 use Rattle.heap_class.proofs.Refusals.{none_holds}
 use Rattle.heap_class.proofs.Slots.{instance_within, slots_more}
 use Rattle.heap_region.specs.Regions.{Object, Region, UsedRegion, id_of, object_at, object_of, ref_of, references_of, slot_kinds, used_at, with_object, with_word}
@@ -25,14 +23,14 @@ use Rattle.heap_mark.specs.declared.Phase.{Phase}
 use Rattle.heap_mark.specs.declared.Phase.TheVariants.{Marking}
 use Rattle.heap_mark.specs.MarkSteps.{children_of, drained_once, each_region, finished, finished_region, marked, snapped}
 use Rattle.heap_mark.proofs.Shades.{children_same, shades_all}
-use Rattle.heap_world.specs.Events.{after_class, after_drain, after_finish, after_load, after_mark, after_move, after_new, after_snap, after_sweep, is_full, is_reference_slot, load_refusal, move_refusal, new_object}
+use Rattle.heap_world.specs.Events.{after_class, after_drain, after_finish, after_load, after_mark, after_move, after_new, after_snap, after_sweep, is_reference_slot, load_refusal, move_refusal, new_object}
 use Rattle.heap_world.specs.Legal.{HasKind, IsLegal, IsLive}
 use Rattle.heap_world.specs.Reach.{IsObject, Names, Reaches}
-use Rattle.heap_world.specs.State.{HeapState, is_register, place_of, pool_of, register, with_pool, with_register, word_of}
+use Rattle.heap_world.specs.State.{HeapState, pool_of, register, with_pool, with_register, word_of}
 use Rattle.heap_world.proofs.Clauses.{clauses_of}
 use Rattle.heap_world.proofs.Finish.{named_settled, settled}
 use Rattle.heap_world.proofs.Marks.{begun, shaded_heap}
-use Rattle.heap_world.proofs.Registers.{member_set, namer, names_of, object_not_null, register_member, second_register, slot_names}
+use Rattle.heap_world.proofs.Registers.{member_set, namer, names_of, register_member, second_register, slot_names}
 use Rattle.heap_world.proofs.Shelter.{reach_induction}
 use Rattle.heap_world.proofs.Sweep.{sweep_leaves_live}
 use Rattle.heap_world.proofs.WordWrites.{IsReferenceSlot, WriteForm, place_is, put_form, store_form, with_object_word, written}
@@ -40,7 +38,6 @@ use Rattle.heap_step.specs.declared.Event.{Event}
 use Rattle.heap_step.specs.declared.Event.TheVariants.{ArrayClass, Clear, Drain, Finish, Load, Mark, Move, New, NewArray, NewPrim, Put, Snap, Store, Sweep}
 use Rattle.heap_step.specs.Apply.{refusal_of, state_after}
 use Rattle.heap_step.proofs.CreationUndo.{head_empty, pool_empty}
-use Rattle.heap_step.proofs.Legal.{new_array_fits, new_fits, new_prim_fits}
 use Rattle.heap_past.specs.Losses.{StaysUnreached}
 use Rattle.heap_past.proofs.ImagePaths.{reaches_next}
 

@@ -1,3 +1,4 @@
 pub mod Totals
 pub mod RankedRows
 pub mod PinImages
+pub mod NewWords

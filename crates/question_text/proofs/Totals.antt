@@ -1,8 +1,8 @@
 -- The rows of a count together: their total is that of the objects.
-use Rattle.std.proofs.Common.{◌≡◌, ◌∙◌, ℕ, zero, suc, Bool, true, false, ◌+◌, ◌*◌, ◌<◌, ◌≤◌, cond, List, [], ◌∷◌, length, map, refl, sym, ap, ap₂, inl, inr, arith}
+use Rattle.std.proofs.Common.{◌≡◌, ◌∙◌, ℕ, zero, suc, Bool, true, false, ◌+◌, ◌*◌, ◌^◌, ◌<◌, ◌≤◌, cond, List, [], ◌∷◌, length, map, refl, sym, ap, ap₂, subst, inl, inr, arith}
 use Rattle.std.specs.Prelude.{slice_index_or, sum_by, ◌==◌, filter}
 use Rattle.std.specs.List.{AllByRecursion, range_with_len}
-use Rattle.std.proofs.lemmas.List.Sums.{sum_by-cons, sum_by-le}
+use Rattle.std.proofs.lemmas.List.Sums.{count_by-le-length, length-filter, sum_by-cons, sum_by-le}
 use Rattle.std.proofs.lemmas.List.Elements.{recursion_from_All}
 use Rattle.std.proofs.lemmas.List.FromFn.{length-map-range_with_len}
 use Rattle.std.proofs.lemmas.Bool.{cases_eq, eq-eqb, ne_eqb}
@@ -18,16 +18,22 @@ use Rattle.hprof_text.specs.Image.{DumpedObject, Image, IsDumpable, IsKnown}
 use Rattle.hprof_text.proofs.Bounds.{width_small}
 use Rattle.heap_questions.specs.declared.rows.Row.{Row}
 use Rattle.heap_questions.specs.Histogram.{class_rows, members, object_bytes, row_number, row_of, rows_of, value_size}
-use Rattle.question_text.specs.Histograms.{sum_of, total_of}
+use Rattle.question_text.specs.Histograms.{IsCountText, IsRowsText, sum_of, total_of}
 
 -- a measure of lists: 0 of none, and so much more with each object
 record IsMeasure (m : List DumpedObject → ℕ) (v : DumpedObject → ℕ) : Type 0 where
   nil : m [] ≡ 0
   cons : (o : DumpedObject) (os : List DumpedObject) → m (o ∷ os) ≡ v o + m os
 
+left_zero : (n : ℕ) → n ≡ 0 + n
+left_zero n = omega arith
+
+right_zero : (n : ℕ) → n + 0 ≡ n
+right_zero n = omega arith
+
 -- ---- one object
 
-here : (k v : ℕ) (gs : List ℕ) → ℕ
+abbrev here : (k v : ℕ) (gs : List ℕ) → ℕ
 here k v gs = sum_by (λ g. cond (k == g) v 0) gs
 
 none : (k v n a : ℕ) → k < a → here k v (range_with_len a n) ≡ 0
@@ -42,18 +48,13 @@ once k v zero a low high = absurd (omega (arith, low, high))
 once k v (suc n) a low high =
     let c = sum_by-cons (λ g. cond (k == g) v 0) a (range_with_len (a + 1) n) in
     elim (cases_eq k a) [
-      | inl e ↦
-          let z = none k v n (a + 1) (omega (arith, e)) in
-          let r = c ∙ ap₂ (λ (b : Bool) (r : ℕ). cond b v 0 + r) (eq-eqb k a e) z in
-          omega (arith, r)
-      | inr e ↦
-          let low' : a + 1 ≤ k = omega (arith, low, e) in
-          c ∙ ap₂ (λ (b : Bool) (r : ℕ). cond b v 0 + r) (ne_eqb k a e) (once k v n (a + 1) low' (omega (arith, high)))
+      | inl e ↦ c ∙ ap₂ (λ (b : Bool) (r : ℕ). cond b v 0 + r) (eq-eqb k a e) (none k v n (a + 1) (omega (arith, e))) ∙ right_zero v
+      | inr e ↦ c ∙ ap₂ (λ (b : Bool) (r : ℕ). cond b v 0 + r) (ne_eqb k a e) (once k v n (a + 1) (omega (arith, low, e)) (omega (arith, high))) ∙ sym (left_zero v)
     ]
 
 -- ---- all objects
 
-by_rows : (m : List DumpedObject → ℕ) (objects : List DumpedObject) (gs : List ℕ) → ℕ
+abbrev by_rows : (m : List DumpedObject → ℕ) (objects : List DumpedObject) (gs : List ℕ) → ℕ
 by_rows m objects gs = sum_by (λ g. m (members objects g)) gs
 
 nothing : (m : List DumpedObject → ℕ) (v : DumpedObject → ℕ) → IsMeasure m v → (gs : List ℕ) → by_rows m [] gs ≡ 0
@@ -63,11 +64,11 @@ nothing m v is (g ∷ gs) = sum_by-cons (λ g. m (members [] g)) g gs ∙ ap₂ 
 split : (m : List DumpedObject → ℕ) (v : DumpedObject → ℕ) → IsMeasure m v → (b : Bool) (o : DumpedObject) (ms : List DumpedObject)
     → m (cond b (o ∷ ms) ms) ≡ cond b (v o) 0 + m ms
 split m v is true o ms = is.cons o ms
-split m v is false o ms = refl
+split m v is false o ms = left_zero (m ms)
 
 one_more : (m : List DumpedObject → ℕ) (v : DumpedObject → ℕ) → IsMeasure m v → (o : DumpedObject) (os : List DumpedObject) (gs : List ℕ)
     → by_rows m (o ∷ os) gs ≡ here (row_number o.kind) (v o) gs + by_rows m os gs
-one_more m v is o os [] = refl
+one_more m v is o os [] = left_zero 0
 one_more m v is o os (g ∷ gs) =
     let k = row_number o.kind in
     let a : by_rows m (o ∷ os) (g ∷ gs) ≡ m (cond (k == g) (o ∷ members os g) (members os g)) + by_rows m (o ∷ os) gs = sum_by-cons (λ g. m (members (o ∷ os) g)) g gs in
@@ -161,14 +162,15 @@ countable image d = recursion_from_All (IsCountable image.classes) image.objects
 pub some_countable : (classes : List Class) (test : DumpedObject → Bool) (objects : List DumpedObject) → AreCountable classes objects
     → AreCountable classes (filter test objects)
 some_countable classes test [] all = tt
-some_countable classes test (o ∷ os) all = go (test o)
+some_countable classes test (o ∷ os) all = go (some_countable classes test os all.1) (test o)
   where
-    more : AreCountable classes (filter test os)
-    more = some_countable classes test os all.1
+    go : AreCountable classes (filter test os) → (b : Bool) → AreCountable classes (cond b (o ∷ filter test os) (filter test os))
+    go more true = (all.0, more)
+    go more false = more
 
-    go : (b : Bool) → AreCountable classes (cond b (o ∷ filter test os) (filter test os))
-    go true = (all.0, more)
-    go false = more
+-- they are no more
+pub filter_few : (test : DumpedObject → Bool) (objects : List DumpedObject) → length (filter test objects) ≤ length objects
+filter_few test objects = omega (arith, length-filter test objects, count_by-le-length test objects)
 
 -- as many rows as an image needs
 pub row_count : (ids : IdSize) (classes : List Class) (objects : List DumpedObject) → length (rows_of ids classes objects) ≡ class_rows + length classes
@@ -190,12 +192,29 @@ bytes ids classes = record { nil = refl; cons = λ o os. sum_by-cons (object_byt
 pub total : (ids : IdSize) (classes : List Class) (objects : List DumpedObject) → AreCountable classes objects
     → sum_of (rows_of ids classes objects) ≡ total_of ids classes objects
 unfolding row_of
-total ids classes objects countable =
+total ids classes objects each =
     let n = class_rows + length classes in
     let gs = range_with_len 0 n in
-    let all = rows_there classes objects countable in
+    let all = rows_there classes objects each in
     let a : (sum_of (rows_of ids classes objects)).objects ≡ length objects =
     sum_map (λ (r : Row). r.objects) (row_of ids classes objects) gs ∙ all_of length (λ o. 1) lengths n objects all in
     let b : (sum_of (rows_of ids classes objects)).bytes ≡ sum_by (object_bytes ids classes) objects =
     sum_map (λ (r : Row). r.bytes) (row_of ids classes objects) gs ∙ all_of (sum_by (object_bytes ids classes)) (object_bytes ids classes) (bytes ids classes) n objects all in
     ap₂ (λ (a b : ℕ). let r : Row = record { objects = a; bytes = b } in r) a b
+
+-- the total of countable rows is small
+pub sums_small : (ids : IdSize) (classes : List Class) (objects : List DumpedObject) (rows : List Row) → rows ≡ rows_of ids classes objects
+    → AreCountable classes objects → length objects ≤ 65536 → ((sum_of rows).objects < 2 ^ 64) × ((sum_of rows).bytes < 2 ^ 64)
+sums_small ids classes objects rows e each few =
+    let t = ap (λ (rs : List Row). sum_of rs) e ∙ total ids classes objects each in
+    let a : (sum_of rows).objects ≡ length objects = ap (λ (r : Row). r.objects) t in
+    let b : (sum_of rows).bytes ≡ (total_of ids classes objects).bytes = ap (λ (r : Row). r.bytes) t in
+    (omega (arith, a, few), omega (arith, b, bytes_few ids classes objects each, few))
+
+-- the lines of rows and their sum count the objects
+pub as_count : (ids : IdSize) (classes : List Class) (objects : List DumpedObject) (rows : List Row) (text : List ℕ) → rows ≡ rows_of ids classes objects
+    → AreCountable classes objects → IsRowsText classes rows (sum_of rows) text → IsCountText ids classes objects text
+as_count ids classes objects rows text e each h =
+    let t = ap (λ (rs : List Row). sum_of rs) e ∙ total ids classes objects each in
+    subst (λ (r : Row). IsRowsText classes (rows_of ids classes objects) r text) t
+    (subst (λ (rs : List Row). IsRowsText classes rs (sum_of rows) text) e h)

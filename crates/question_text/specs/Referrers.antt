@@ -1,6 +1,5 @@
 -- The texts of `referrers` and `registers`.
 use Rattle.std.specs.Prelude.{◌≡◌, ℕ, ◌/◌, ◌%◌, ◌<◌, List, ◌∷◌, ◌++◌, codes, flat_map, length, map, Option, Some, None}
-use Rattle.std.specs.List.{enumerate}
 use Rattle.heap_class.specs.declared.ObjKind.{ObjKind}
 use Rattle.heap_class.specs.declared.ObjKind.TheVariants.{Instance, Array, Prim}
 use Rattle.heap_class.specs.Classes.{Class}

@@ -1,5 +1,5 @@
 //! Commands with questions.
-use crate::answer::answer;
+use crate::answers::answer;
 use crate::question::question_of;
 use heap_trail::{Action, Reply};
 use session_text::{Commands, LineAnswer, Local};

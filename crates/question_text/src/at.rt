@@ -1,8 +1,8 @@
 //! The states that questions are about.
-ghost use Rattle.std.specs.Prelude.{◌≡◌, ◌×◌, Ok, Err, IfOk, IfErr};
+ghost use Rattle.std.specs.Prelude.{◌≡◌, Ok, Err, IfOk, IfErr};
 ghost use Rattle.heap_pins.specs.Pin.{pin_image};
 ghost use Rattle.heap_trail.specs.Pins.{is_retained};
-ghost use Rattle.question_text.specs.declared.question.At.TheVariants.{Place};
+ghost use Rattle.question_text.specs.declared.question.At.TheVariants.{Current, Place};
 ghost use Rattle.question_text.specs.Moments.{IsMomentOf, IsRefusedAt, image_at, moment_image};
 
 use crate::question::At;
@@ -34,10 +34,23 @@ fn moment_of_place(machine: &Machine, place: u64) -> Result<Moment, Refusal>
         × (moment_image machine.now h ≡ image_at (Place place) machine.now)) }
     ensures refused { IfErr result (IsRefusedAt (image_at (Place place) machine.now)) }
 {
-    if !has_retained(machine, place) {
-        return Err(Refusal::NotRetained);
+    if has_retained(machine, place) {
+        let pin = machine.pin_ago(machine.place() - place)?;
+        Ok(Moment::Own(pin))
+    } else {
+        Err(Refusal::NotRetained)
     }
-    Ok(Moment::Own(machine.pin_ago(machine.place() - place)?))
+}
+
+// Returns the moment of the current state. Fails with NoMemory.
+fn moment_now(machine: &Machine) -> Result<Moment, Refusal>
+    ensures image { IfOk result
+        (λ h. IsMomentOf machine.now h
+        × (moment_image machine.now h ≡ image_at Current machine.now)) }
+    ensures refused { IfErr result (IsRefusedAt (image_at Current machine.now)) }
+{
+    let pin = machine.pin_ago(0)?;
+    Ok(Moment::Own(pin))
 }
 
 /// Returns the moment that a question is about. Fails with NotRetained if the state of its place isn't retained, and with
@@ -49,7 +62,7 @@ pub(crate) fn moment_at(machine: &Machine, at: At) -> Result<Moment, Refusal>
     ensures refused { IfErr result (IsRefusedAt (image_at at machine.now)) }
 {
     match at {
-        At::Current => Ok(Moment::Own(machine.pin_ago(0)?)),
+        At::Current => moment_now(machine),
         At::Pin(pin) => Ok(Moment::Open(pin)),
         At::Place(place) => moment_of_place(machine, place),
     }

@@ -1,5 +1,6 @@
 //! Ids, as lines have them.
 ghost use Rattle.std.specs.Prelude.{◌≡◌, ◌++◌, ◌<◌, ◌^◌, length, drop, option_and_then, IfErr, IfSome, OnOk};
+ghost use Rattle.std.specs.Str.{bytes_eq};
 ghost use Rattle.byteorder.specs.Endian.{big_bytes};
 ghost use Rattle.heap_class.specs.declared.Refusal.TheVariants.{NoMemory};
 ghost use Rattle.hex.specs.Hex.{encode_lower};
@@ -10,6 +11,13 @@ use heap_class::Refusal;
 
 // The number of bytes of an id in a line.
 const ID_SIZE: usize = 10;
+
+/// Tells whether a word is this one.
+pub(crate) fn is_word(word: &[u8], name: &[u8]) -> bool
+    ensures { result ≡ bytes_eq word.now name.now }
+{
+    word == name
+}
 
 // Returns the value of a lower-case hexadecimal digit.
 fn hex_digit(b: u8) -> Option<u64>
@@ -55,7 +63,7 @@ fn hex_value(digits: &[u8]) -> Option<u64>
 pub(crate) fn id_of(word: &[u8]) -> Option<u64>
     ensures { result ≡ id_of_word word.now }
 {
-    if word.len() != ID_SIZE || &word[..2] != b"0x" {
+    if word.len() != ID_SIZE || !is_word(&word[..2], b"0x") {
         return None;
     }
     hex_value(&word[2..])

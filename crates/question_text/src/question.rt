@@ -1,11 +1,10 @@
 //! The grammar of questions.
 ghost use Rattle.std.specs.Prelude.{◌≡◌};
-ghost use Rattle.std.specs.Str.{bytes_eq};
 ghost use Rattle.session_text.specs.Grammar.{at_end, words_of_line};
 ghost use Rattle.session_text.specs.Reads.{IsNextWord};
 ghost use Rattle.question_text.specs.Questions.{at_and_id, at_of_word, garbage_line, growth_line, histogram_line, next_at, next_id, one_at, path_line, question_of, referrers_line, registers_line, two_ats};
 
-use crate::id::id_of;
+use crate::id::{id_of, is_word};
 use session_text::number::number_of;
 use session_text::words::Words;
 
@@ -35,13 +34,6 @@ pub enum Question {
     Referrers { at: At, id: u64 },
     /// Why an object is alive: a shortest path from a register.
     Path { at: At, id: u64 },
-}
-
-// Tells whether a word is this one.
-fn is_word(word: &[u8], name: &[u8]) -> bool
-    ensures { result ≡ bytes_eq word.now name.now }
-{
-    word == name
 }
 
 // Returns the state that a word names.

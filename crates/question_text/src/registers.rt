@@ -34,6 +34,7 @@ fn push_named(
 }
 
 // Appends the line of a register. Fails with NoMemory.
+#[tactic(auto, unfolding(crate::specs::Registers::register_text))]
 fn push_line(
     text: &mut Vec<u8>,
     classes: &FirstClasses<'_>,

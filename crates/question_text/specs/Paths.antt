@@ -2,7 +2,7 @@
 use Rattle.std.specs.Prelude.{◌≡◌, ◌⊎◌, ℕ, List, [], ◌∷◌, ◌++◌, codes, length, slice_get, Option, Some, None}
 use Rattle.std.specs.Option.{option_map_or}
 use Rattle.hprof_text.specs.Image.{DumpedObject, Image}
-use Rattle.heap_questions.specs.Graph.{IsPathTo, IsShortest, IsUnreached, named, object_with}
+use Rattle.heap_questions.specs.Graph.{IsFirst, IsPathTo, IsShortest, IsUnreached, named, object_with}
 use Rattle.session_text.specs.Replies.{and_number, line}
 use Rattle.question_text.specs.Ids.{and_id}
 use Rattle.question_text.specs.Moments.{no_object_text, unreachable_text}
@@ -28,11 +28,11 @@ IsRouteText image r slots text =
     (y : ℕ) × (slice_get image.registers r ≡ Some y)
     × (text ≡ (root_text r y ++ step_texts image y slots) ++ count_text (length slots))
 
--- a shortest path to x, or no register reaches it
+-- of all shortest paths to x the first by register, then by slot; or no register reaches x
 abbrev pub IsFoundText : ℕ → Image → List ℕ → Type 0
 IsFoundText x image text =
     ((r : ℕ) × (slots : List ℕ) × IsPathTo image r slots x × IsShortest image slots x
-    × IsRouteText image r slots text)
+    × IsFirst image r slots x × IsRouteText image r slots text)
     ⊎ (IsUnreached image x × (text ≡ unreachable_text))
 
 -- the same about the object with this id, if there is one

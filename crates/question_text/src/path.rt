@@ -72,12 +72,7 @@ fn push_root(text: &mut Vec<u8>, register: u64, id: u64) -> Result<(), Refusal>
 }
 
 // Returns the lines of a path to an object. Fails with NoMemory.
-fn route_text<V: View>(
-    alloc: Global,
-    view: &V,
-    path: &Path,
-    id: u64,
-) -> Result<Vec<u8>, Refusal>
+fn route_text<V: View>(alloc: Global, view: &V, path: &Path, id: u64) -> Result<Vec<u8>, Refusal>
     requires { IsPathTo (V.image view.now) path.now.register path.now.slots.items id }
     ensures text { IfOk result (λ text. IsRouteText (V.image view.now) path.now.register
         path.now.slots.items text.items) }
@@ -93,11 +88,7 @@ fn route_text<V: View>(
 
 /// Returns the answer of `path` about a view. Fails with NoObject if the id names no object, with Unreachable if no register
 /// reaches it, and with NoMemory if an allocation fails.
-pub(crate) fn path_answer<V: View>(
-    alloc: Global,
-    view: &V,
-    id: u64,
-) -> Result<Vec<u8>, Unanswered>
+pub(crate) fn path_answer<V: View>(alloc: Global, view: &V, id: u64) -> Result<Vec<u8>, Unanswered>
     ensures { IsToldOf (IsPathText id) (V.image view.now) (told_text result) }
 {
     if object_with(view, id).is_none() {

@@ -41,6 +41,10 @@ returns-clause-text g c =
     let h = c.in_ok-histogram.ensures.rows in
     IfOk-weaker c.rows_text.result (λ text. IsRowsText c.classes-classes.result rows (sum_of rows) text.items)
     (λ text. IsGarbageText (g.V.View.ids v) image text.items)
-    (λ text told. (h.0, h.1, as_count (g.V.View.ids v) image.classes (filter h.0 image.objects) rows text.items h.2
-    (some_countable image.classes h.0 image.objects (countable image c.classes-classes.ensures.limits))
-    (subst (λ (cs : List Class). IsRowsText cs rows (sum_of rows) text.items) c.classes-classes.ensures.value told))) c.rows_text.ensures.text
+    (λ text told. (
+      h.0,
+      h.1,
+      as_count (g.V.View.ids v) image.classes (filter h.0 image.objects) rows text.items h.2
+          (some_countable image.classes h.0 image.objects (countable image c.classes-classes.ensures.limits))
+          (subst (λ (cs : List Class). IsRowsText cs rows (sum_of rows) text.items) c.classes-classes.ensures.value told),
+    )) c.rows_text.ensures.text

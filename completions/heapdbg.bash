@@ -19,11 +19,11 @@ _heapdbg() {
             ;;
     esac
     if ((COMP_CWORD == 1)); then
-        mapfile -t COMPREPLY < <(compgen -W "run save serve ask --help --version" -- "$word")
+        mapfile -t COMPREPLY < <(compgen -W "run explore save serve ask --help --version" -- "$word")
         return
     fi
     case ${COMP_WORDS[1]} in
-        run) options=$heap ;;
+        run | explore) options=$heap ;;
         save) options="$heap --out --to" ;;
         serve) options="$heap --port --sessions" ;;
         ask) options="--port" ;;

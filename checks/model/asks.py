@@ -3,23 +3,15 @@ from draws import Draw
 from heap import FIRST_OBJECT, REGION_WORDS
 from questions import QUESTIONS, Asking
 
-# What questions have to be answered, and how often at least: refusals by number, others by the words after `ok`.
+# What questions have to be answered, and how often at least: refusals by number.
 ABOUT_A_MOMENT = ("ok", "no 22", "no 23", "no 24")
 WANTED = {
-    "show": (*ABOUT_A_MOMENT, "no 28"),
-    "registers": ABOUT_A_MOMENT,
-    "classes": ABOUT_A_MOMENT,
     "histogram": ABOUT_A_MOMENT,
+    "garbage": ABOUT_A_MOMENT,
     "growth": ABOUT_A_MOMENT,
     "path": (*ABOUT_A_MOMENT, "no 27", "no 28"),
     "referrers": (*ABOUT_A_MOMENT, "no 28"),
-    "garbage": ABOUT_A_MOMENT,
-    "wrote": ("ok place", "ok older", "no 9", "no 28"),
-    "born": ("ok place", "ok older", "no 28"),
-    "dropped": ("ok place", "ok older", "ok reached", "no 28"),
-    "history": ("ok",),
-    "pins": ("ok",),
-    "collect": ("ok",),
+    "registers": ABOUT_A_MOMENT,
 }
 LEAST = 3
 
@@ -59,12 +51,10 @@ class AskingDraw(Draw):
     def ask(self):
         """Asks a question."""
         word = self.lots.pick(list(QUESTIONS))
-        if word == b"collect" and self.lots.below(4):
-            return None
-        draws = {"a": self.moment, "i": self.identifier, "n": lambda: self.lots.near(self.lots.below(8), 70)}
+        draws = {"a": self.moment, "i": self.identifier}
         accepted = self.say(word.decode(), *(draws[form]() for form in QUESTIONS[word]))
         last = self.lines[-1][1].split(b"\n")[-2].decode().split()
-        sort = " ".join(last[:2]) if last[0] == "no" or last[1:2] in (["place"], ["older"], ["reached"]) else last[0]
+        sort = " ".join(last[:2]) if last[0] == "no" else last[0]
         self.machine.sights.met[f"{word.decode()}: {sort}"] += 1
         return accepted
 

@@ -73,17 +73,17 @@ serve_line =
 abbrev pub ask_line : App
 ask_line = with_rule (new_app (codes "ask")) port_option
 
--- the program's name and `--version`, and a command that has to follow, of those that use no socket to serve or ask
-abbrev pub local_line : App
-local_line =
+-- the program's name and `--version`, and a command that has to follow, such as `run`
+abbrev pub named_line : App
+named_line =
     let named = new_app (codes "heapdbg") in
     with_subcommand
-    (with_subcommand
-    (with_subcommand
     (record named { top = record named.top { subcommand_required = true; has_version = true } })
-    run_line.top)
-    explore_line.top)
-    save_line.top
+    run_line.top
+
+-- the same, with the other commands that use no socket to serve or ask
+abbrev pub local_line : App
+local_line = with_subcommand (with_subcommand named_line explore_line.top) save_line.top
 
 -- all commands
 abbrev pub heapdbg_line : App

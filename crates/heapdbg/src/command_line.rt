@@ -6,7 +6,7 @@ ghost use Rattle.std.specs.Char.{is_ascii_digit};
 ghost use Rattle.clap.specs.Words.{FailsBy, app_of, fault_of, found_of, kind_of, rows_of};
 ghost use Rattle.clap.specs.declared.builder.Command.TheViews.{out-Command};
 ghost use Rattle.clap.specs.Words.{rule_of, subcommand_of, subcommand_rows_of};
-ghost use Rattle.heapdbg.specs.CommandLine.{AreSettingsWithin, HasDefaults, IsBadWith, explore_line, heap_line, heapdbg_line, local_line, number_in, run_line};
+ghost use Rattle.heapdbg.specs.CommandLine.{AreSettingsWithin, HasDefaults, IsBadWith, explore_line, heap_line, heapdbg_line, local_line, named_line, number_in, run_line};
 ghost use Rattle.heapdbg.specs.CommandLine.{settings_in, settings_of, settings_under, texts, option_value};
 ghost use Rattle.heapdbg.specs.CommandLine.{id_size_in, id_size_of, path_of, session_line, task_in, value_option};
 ghost use Rattle.heapdbg.specs.Refusals.{IsMistake, IsMistakeIn, IsRefusalOf, version_text};
@@ -75,15 +75,20 @@ fn parser<'a>(alloc: Global) -> Result<Command<'a>, AllocError>
 fn local_parser<'a>(alloc: Global) -> Result<Command<'a>, AllocError>
     ensures { IfOk result (λ c. app_of c ≡ local_line) }
 {
-    let run = run_parser(alloc)?;
     let explore = explore_parser(alloc)?;
     let save = save_parser(alloc)?;
+    named_parser(alloc)?.subcommand(explore)?.subcommand(save)
+}
+
+// Creates the parser of the program's name and of the command `run`.
+fn named_parser<'a>(alloc: Global) -> Result<Command<'a>, AllocError>
+    ensures { IfOk result (λ c. app_of c ≡ named_line) }
+{
+    let run = run_parser(alloc)?;
     Command::new(alloc, "heapdbg")
         .version(VERSION)
         .subcommand_required(true)
-        .subcommand(run)?
-        .subcommand(explore)?
-        .subcommand(save)
+        .subcommand(run)
 }
 
 // Creates the parser of the command `run`.

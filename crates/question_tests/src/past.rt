@@ -26,17 +26,23 @@ fn machine(alloc: Global, keep: u64) -> Result<Machine, Fail> {
 }
 
 // Returns the place of the last write to a slot of the object with this id, in this machine.
-fn writer_of(machine: &Machine, id: u64, slot: u64) -> Result<Option<u64>, Fail> {
-    let at: ObjRef = machine.world().regions().find(id).ok_or("no object")?;
-    if slot >= machine.world().regions().len(at) {
-        return Ok(None);
+fn writer_of(machine: &Machine, id: u64, slot: u64) -> Option<u64> {
+    let regions = machine.world().regions();
+    match regions.find(id) {
+        Some(at) => {
+            if slot < regions.len(at) {
+                last_write(machine, at, slot)
+            } else {
+                None
+            }
+        }
+        None => None,
     }
-    Ok(last_write(machine, at, slot))
 }
 
 // Returns the place of the last write to a slot of the object with this id, in a machine that keeps `keep` steps.
 fn writer(alloc: Global, keep: u64, id: u64, slot: u64) -> Result<Option<u64>, Fail> {
-    writer_of(&machine(alloc, keep)?, id, slot)
+    Ok(writer_of(&machine(alloc, keep)?, id, slot))
 }
 
 // Returns the place of the step that created the object with this id, in this machine.
@@ -93,7 +99,7 @@ fn reused(alloc: Global) -> Result<Machine, Fail> {
 
 // Returns the place of the last write to a node's value, in a machine in which a cell is used again.
 fn writer_again(alloc: Global, id: u64) -> Result<Option<u64>, Fail> {
-    writer_of(&reused(alloc)?, id, 1)
+    Ok(writer_of(&reused(alloc)?, id, 1))
 }
 
 // Returns the place of a node's creation, in a machine in which a cell is used again.

@@ -1,10 +1,12 @@
 -- The answers of questions.
-use Rattle.std.specs.Prelude.{◌≡◌, ℕ, List, codes, Option, Some, None}
+use Rattle.std.specs.Prelude.{◌≡◌, ◌⊎◌, ℕ, List, codes, Option, Some, None}
+use Rattle.heap_class.specs.declared.Refusal.TheVariants.{NoMemory}
 use Rattle.heap_trail.specs.Machine.{Machine}
 use Rattle.question_text.specs.declared.question.Question.{Question}
-use Rattle.question_text.specs.declared.question.Question.TheVariants.{Histogram, Garbage, Growth, Registers, Referrers, Path}
+use Rattle.question_text.specs.declared.question.Question.TheVariants.{Histogram, Garbage, Growth, Registers, Referrers, Path, Help}
 use Rattle.question_text.specs.Histograms.{IsGarbageText, IsHistogramText}
-use Rattle.question_text.specs.Moments.{IsAnswerAbout, IsAnswerBetween, image_at}
+use Rattle.question_text.specs.Moments.{IsAnswerAbout, IsAnswerBetween, image_at, refused_text}
+use Rattle.question_text.specs.Help.{help_text}
 use Rattle.question_text.specs.Growths.{IsGrowthText}
 use Rattle.question_text.specs.Paths.{IsPathText}
 use Rattle.question_text.specs.Registers.{IsRegistersText}
@@ -20,6 +22,7 @@ IsAnswer (Growth older newer) m text =
 IsAnswer (Registers at) m text = IsAnswerAbout IsRegistersText (image_at at m) text
 IsAnswer (Referrers at x) m text = IsAnswerAbout (IsReferrersText x) (image_at at m) text
 IsAnswer (Path at x) m text = IsAnswerAbout (IsPathText x) (image_at at m) text
+IsAnswer Help m text = (text ≡ help_text) ⊎ (text ≡ refused_text NoMemory)
 
 -- the answer of a line that asks this question, or none
 abbrev pub IsAnswerOf : Option Question → Machine → List ℕ → Type 0

@@ -1,16 +1,19 @@
 //! The answers of questions.
-ghost use Rattle.std.specs.Prelude.{◌≡◌};
+ghost use Rattle.std.specs.Prelude.{◌≡◌, ◌⊎◌};
 ghost use Rattle.session_text.specs.Replies.{line_answer_text};
 ghost use Rattle.question_text.specs.Answers.{IsAnswer};
 ghost use Rattle.question_text.specs.Histograms.{IsGarbageText, IsHistogramText};
+ghost use Rattle.heap_class.specs.declared.Refusal.TheVariants.{NoMemory};
+ghost use Rattle.question_text.specs.Help.{help_text};
 ghost use Rattle.question_text.specs.Growths.{IsGrowthText};
 ghost use Rattle.question_text.specs.Paths.{IsPathText};
 ghost use Rattle.question_text.specs.Registers.{IsRegistersText};
 ghost use Rattle.question_text.specs.Referrers.{IsReferrersText};
-ghost use Rattle.question_text.specs.Moments.{IsAnswerAbout, IsAnswerBetween, image_at, told_text};
+ghost use Rattle.question_text.specs.Moments.{IsAnswerAbout, IsAnswerBetween, image_at, refused_text, told_text};
 
 use crate::at::{moment_at, view_of};
 use crate::growth::growth_answer;
+use crate::help::help_answer;
 use crate::histogram::{garbage_text, histogram_text};
 use crate::path::path_answer;
 use crate::question::{At, Question};
@@ -92,6 +95,13 @@ fn path(alloc: Global, machine: &Machine, at: At, id: u64) -> Result<Vec<u8>, Un
     path_answer(alloc, &view, id)
 }
 
+// Returns the lines of `help`.
+fn help(alloc: Global) -> Result<Vec<u8>, Unanswered>
+    ensures { (told_text result ≡ help_text) ⊎ (told_text result ≡ refused_text NoMemory) }
+{
+    Ok(help_answer(alloc)?)
+}
+
 /// Returns the answer of a question about a machine, or the refusal NoMemory if an allocation fails.
 pub fn answer(alloc: Global, machine: &Machine, question: Question) -> LineAnswer
     ensures { IsAnswer question machine.now (line_answer_text result) }
@@ -103,5 +113,6 @@ pub fn answer(alloc: Global, machine: &Machine, question: Question) -> LineAnswe
         Question::Registers(at) => told(registers(alloc, machine, at)),
         Question::Referrers { at, id } => told(referrers(alloc, machine, at, id)),
         Question::Path { at, id } => told(path(alloc, machine, at, id)),
+        Question::Help => told(help(alloc)),
     }
 }

@@ -11,6 +11,7 @@ mod answers;
 mod asking;
 mod at;
 mod growth;
+mod help;
 mod histogram;
 mod id;
 mod names;

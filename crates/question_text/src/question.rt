@@ -2,7 +2,7 @@
 ghost use Rattle.std.specs.Prelude.{◌≡◌};
 ghost use Rattle.session_text.specs.Grammar.{at_end, words_of_line};
 ghost use Rattle.session_text.specs.Reads.{IsNextWord};
-ghost use Rattle.question_text.specs.Questions.{at_and_id, at_of_word, garbage_line, growth_line, histogram_line, next_at, next_id, one_at, path_line, question_of, referrers_line, registers_line, two_ats};
+ghost use Rattle.question_text.specs.Questions.{at_and_id, at_of_word, garbage_line, growth_line, help_line, histogram_line, next_at, next_id, one_at, path_line, question_of, referrers_line, registers_line, two_ats};
 
 use crate::id::{id_of, is_word};
 use session_text::number::number_of;
@@ -34,6 +34,8 @@ pub enum Question {
     Referrers { at: At, id: u64 },
     /// Why an object is alive: a shortest path from a register.
     Path { at: At, id: u64 },
+    /// All lines.
+    Help,
 }
 
 // Returns the state that a word names.
@@ -150,6 +152,13 @@ fn path_line(words: Words) -> Option<Question>
     Some(Question::Path { at, id })
 }
 
+// Reads the words of `help`, of which there must be none.
+fn help_line(words: Words) -> Option<Question>
+    ensures { result ≡ help_line (words_of_line words.entry) }
+{
+    at_end(Question::Help, words)
+}
+
 /// Returns the question that a line asks, or None if it asks none.
 #[tactic(auto, unfolding(crate::specs::Questions::question_of_words, crate::specs::Questions::question_rules))]
 pub fn question_of(line: &[u8]) -> Option<Question>
@@ -174,6 +183,9 @@ pub fn question_of(line: &[u8]) -> Option<Question>
     }
     if is_word(word, b"path") {
         return path_line(words);
+    }
+    if is_word(word, b"help") {
+        return help_line(words);
     }
     None
 }

@@ -1,4 +1,5 @@
-"""Cases of `explore`: examples/questions/NAME.session with what it must be answered in NAME.expected."""
+"""Cases of `explore`: examples/questions/NAME.session with what it must be answered in NAME.expected, and words for `explore` in
+NAME.args if it needs any."""
 from runs import EXAMPLE, EXAMPLE_REPLIES, TOP, run
 
 
@@ -6,7 +7,9 @@ def questions(program):
     """Yields sessions with questions as (name, what happened, what must happen)."""
     yield "explore on the example", run(program, ["explore"], EXAMPLE), (0, EXAMPLE_REPLIES, b"")
     for path in sorted(TOP.glob("examples/questions/*.session")):
-        ran = run(program, ["explore"], path.read_bytes())
+        file = path.with_suffix(".args")
+        words = file.read_text().split() if file.exists() else []
+        ran = run(program, ["explore", *words], path.read_bytes())
         yield path.stem, ran, (0, path.with_suffix(".expected").read_bytes(), b"")
     asked = run(program, ["run"], b"histogram -\n")
     yield "no questions in run", asked, (0, b"bad command\n", b"")

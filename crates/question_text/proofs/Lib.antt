@@ -3,3 +3,4 @@ pub mod RankedRows
 pub mod PinImages
 pub mod NewWords
 pub mod NamedObjects
+pub mod PastSlots

@@ -2,11 +2,12 @@
 use Rattle.std.specs.Prelude.{◌≡◌, ℕ, List, codes, Option, Some, None}
 use Rattle.heap_trail.specs.Machine.{Machine}
 use Rattle.question_text.specs.declared.question.Question.{Question}
-use Rattle.question_text.specs.declared.question.Question.TheVariants.{Histogram, Garbage, Growth, Registers, Referrers, Path}
+use Rattle.question_text.specs.declared.question.Question.TheVariants.{Histogram, Garbage, Growth, Registers, Referrers, Path, Wrote, Born, Dropped}
 use Rattle.question_text.specs.Histograms.{IsGarbageText, IsHistogramText}
 use Rattle.question_text.specs.Moments.{IsAnswerAbout, IsAnswerBetween, image_at}
 use Rattle.question_text.specs.Growths.{IsGrowthText}
 use Rattle.question_text.specs.Paths.{IsPathText}
+use Rattle.question_text.specs.Pasts.{IsBornText, IsDroppedText, IsWroteText}
 use Rattle.question_text.specs.Registers.{IsRegistersText}
 use Rattle.question_text.specs.Referrers.{IsReferrersText}
 use Rattle.question_text.specs.Questions.{question_of}
@@ -20,6 +21,9 @@ IsAnswer (Growth older newer) m text =
 IsAnswer (Registers at) m text = IsAnswerAbout IsRegistersText (image_at at m) text
 IsAnswer (Referrers at x) m text = IsAnswerAbout (IsReferrersText x) (image_at at m) text
 IsAnswer (Path at x) m text = IsAnswerAbout (IsPathText x) (image_at at m) text
+IsAnswer (Wrote x s) m text = IsWroteText x s m.trail text
+IsAnswer (Born x) m text = IsBornText x m.trail text
+IsAnswer (Dropped x) m text = IsDroppedText x m.trail text
 
 -- the answer of a line that asks this question, or none
 abbrev pub IsAnswerOf : Option Question → Machine → List ℕ → Type 0

@@ -7,5 +7,6 @@ pub mod Referrers
 pub mod Registers
 pub mod Growths
 pub mod Paths
+pub mod Pasts
 pub mod Answers
 pub mod Sessions

@@ -12,6 +12,7 @@ ghost use Rattle.question_text.specs.Moments.{IsAnswerAbout, IsAnswerBetween, im
 use crate::at::{moment_at, view_of};
 use crate::growth::growth_answer;
 use crate::histogram::{garbage_text, histogram_text};
+use crate::past::{born, dropped, wrote};
 use crate::path::path_answer;
 use crate::question::{At, Question};
 use crate::referrers::referrers_answer;
@@ -103,5 +104,8 @@ pub fn answer(alloc: Global, machine: &Machine, question: Question) -> LineAnswe
         Question::Registers(at) => told(registers(alloc, machine, at)),
         Question::Referrers { at, id } => told(referrers(alloc, machine, at, id)),
         Question::Path { at, id } => told(path(alloc, machine, at, id)),
+        Question::Wrote { id, slot } => wrote(machine, id, slot),
+        Question::Born(id) => born(machine, id),
+        Question::Dropped(id) => dropped(alloc, machine, id),
     }
 }

@@ -14,6 +14,7 @@ mod growth;
 mod histogram;
 mod id;
 mod names;
+mod past;
 mod path;
 mod question;
 mod referrers;

@@ -1,10 +1,10 @@
 -- Paths in an image, and paths along references.
-use Rattle.std.proofs.Common.{◌≡◌, ◌≢◌, ◌⊎◌, ℕ, zero, suc, ◌+◌, ◌/◌, ◌<◌, Bool, true, false, cond, List, [], ◌∷◌, ◌++◌, length, map, replicate, get_or, Option, Some, None, refl, sym, ap, ◌∙◌, subst, inl, inr, arith, length-replicate}
+use Rattle.std.proofs.Common.{◌≡◌, ◌≢◌, ◌⊎◌, ℕ, zero, suc, ◌+◌, ◌<◌, Bool, true, false, cond, List, [], ◌∷◌, ◌++◌, length, map, replicate, get_or, Option, Some, None, refl, sym, ap, ◌∙◌, subst, inl, inr, arith}
 use Rattle.std.specs.Prelude.{All, Contains, IsSome, filter, find, flat_map, option_and_then, option_map, slice_get, ◌==◌}
 use Rattle.std.specs.List.{enumerate_from, filter_map}
 use Rattle.std.specs.Option.{option_map_or}
-use Rattle.std.proofs.lemmas.Bool.{cases_Bool, eq-eqb, eqb-true, false≢true, true≢false}
-use Rattle.std.proofs.lemmas.List.{get_or-replicate}
+use Rattle.std.proofs.lemmas.Bool.{eq-eqb, eqb-true, false≢true, true≢false}
+use Rattle.std.proofs.lemmas.List.{get_or-replicate, length-replicate}
 use Rattle.std.proofs.lemmas.List.Elements.{All-cons, All-head, All-nil, All-tail, Contains-append_left, Contains-append_right}
 use Rattle.std.proofs.lemmas.Option.{none-some, same_Some, slice_get_within, slice_get-get_or}
 use Rattle.heap_class.specs.declared.Kind.{Kind}
@@ -22,11 +22,11 @@ use Rattle.heap_world.specs.Reach.{IsObject, IsPath, Names, Reaches, end_of_path
 use Rattle.heap_world.specs.State.{HeapState}
 use Rattle.heap_world.proofs.Registers.{namer, names_of, object_not_null}
 use Rattle.heap_world.proofs.Shelter.{reach_induction}
-use Rattle.hprof_text.specs.Image.{DumpedObject, Image}
+use Rattle.hprof_text.specs.Image.{DumpedObject}
 use Rattle.heap_pins.specs.Images.{dumped_objects, image_of}
 use Rattle.heap_pins.proofs.LiveCounts.{Stands, live_stand}
-use Rattle.heap_questions.specs.Graph.{HasId, IsPathTo, followed, is_reference_slot, named, object_with, slot_names}
-use Rattle.heap_questions.proofs.Reaching.{Leads, leads_more}
+use Rattle.heap_questions.specs.Graph.{HasId, followed, is_reference_slot, named, object_with, slot_names}
+use Rattle.heap_questions.proofs.Reaching.{leads_more}
 use Rattle.heap_questions.proofs.Traced.{first_object}
 use Rattle.heap_past.specs.Losses.{HasPath, PathIsReach}
 use Rattle.heap_past.proofs.Sizes.{table_of, used_of}
@@ -185,7 +185,7 @@ live_shown w x l =
 abbrev IsReferenceAt : List Class → ObjKind → ℕ → ℕ → Type 0
 IsReferenceAt classes kind n s = (k : Kind) × (slice_get (slot_kinds_of classes kind n) s ≡ Some k) × (is_reference k ≡ true)
 
-pub replicated : (n s : ℕ) (k : Kind) → s < n → slice_get (replicate n k) s ≡ Some k
+replicated : (n s : ℕ) (k : Kind) → s < n → slice_get (replicate n k) s ≡ Some k
 replicated n s k l = slice_get-get_or (replicate n k) s k (omega (arith, l, length-replicate n k)) ∙ ap Some (get_or-replicate n s k k l)
 
 reference_at : (classes : List Class) (kind : ObjKind) (n s : ℕ) → s < n → is_reference_slot classes kind s ≡ true → IsReferenceAt classes kind n s

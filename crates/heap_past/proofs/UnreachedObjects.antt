@@ -1,19 +1,17 @@
 -- What no register reaches isn't reached after an event either.
-use Rattle.std.proofs.Common.{◌≡◌, ◌≢◌, ◌⊎◌, ℕ, ◌+◌, ◌*◌, ◌/◌, ◌<◌, Bool, true, false, not, ◌&&◌, cond, List, [], ◌∷◌, ◌++◌, length, drop, set, replicate, Option, Some, None, IsSome, Contains, refl, sym, ap, subst, ◌∙◌, inl, inr, arith}
+use Rattle.std.proofs.Common.{◌≡◌, ◌≢◌, ◌⊎◌, ℕ, zero, suc, ◌+◌, ◌*◌, ◌/◌, ◌<◌, Bool, true, false, List, [], ◌∷◌, ◌++◌, length, drop, set, replicate, Option, Some, None, IsSome, Contains, refl, sym, ap, subst, ◌∙◌, inl, inr, arith}
 use Rattle.std.specs.Prelude.{slice_get, slice_index, option_map, option_and_then, if◌then◌else◌}
 use Rattle.std.specs.Option.{option_map_or}
 use Rattle.std.proofs.lemmas.Bool.{false≢true}
 use Rattle.std.proofs.lemmas.List.{length-replicate}
-use Rattle.std.proofs.lemmas.Option.{none-some, same_Some, slice_get_within}
-use Rattle.heap_class.specs.declared.Kind.{Kind}
+use Rattle.std.proofs.lemmas.Option.{same_Some, slice_get_within}
 use Rattle.heap_class.specs.declared.ObjKind.{ObjKind}
 use Rattle.heap_class.specs.declared.ObjKind.TheVariants.{Array, Instance, Prim}
 use Rattle.heap_class.specs.declared.ObjRef.{ObjRef}
 use Rattle.heap_class.specs.Classes.{Class, array_class, instance_class, slot_kinds_of, slots_of}
-use Rattle.heap_class.specs.Kinds.{is_reference}
 use Rattle.heap_class.proofs.Refusals.{none_holds}
 use Rattle.heap_class.proofs.Slots.{instance_within, slots_more}
-use Rattle.heap_region.specs.Regions.{Object, UsedRegion, id_of, object_at, object_of, ref_of, references_of, slot_kinds, used_at, with_object, with_word}
+use Rattle.heap_region.specs.Regions.{Object, Region, UsedRegion, id_of, object_at, object_of, ref_of, references_of, slot_kinds, used_at, with_object, with_word}
 use Rattle.heap_region.specs.Pool.{RegionPool, allocated, new_place, taken}
 use Rattle.heap_region.proofs.AllocatedRegions.{IsNewCell, new_cell}
 use Rattle.heap_region.proofs.ChangedLookups.{null_names_none, object_of_with_object, object_of_with_object_other, place_found, same_or_not}
@@ -25,14 +23,14 @@ use Rattle.heap_mark.specs.declared.Phase.{Phase}
 use Rattle.heap_mark.specs.declared.Phase.TheVariants.{Marking}
 use Rattle.heap_mark.specs.MarkSteps.{children_of, drained_once, each_region, finished, finished_region, marked, snapped}
 use Rattle.heap_mark.proofs.Shades.{children_same, shades_all}
-use Rattle.heap_world.specs.Events.{after_class, after_drain, after_finish, after_load, after_mark, after_move, after_new, after_snap, after_sweep, is_full, is_reference_slot, load_refusal, move_refusal, new_object}
+use Rattle.heap_world.specs.Events.{after_class, after_drain, after_finish, after_load, after_mark, after_move, after_new, after_snap, after_sweep, is_reference_slot, load_refusal, move_refusal, new_object}
 use Rattle.heap_world.specs.Legal.{HasKind, IsLegal, IsLive}
 use Rattle.heap_world.specs.Reach.{IsObject, Names, Reaches}
-use Rattle.heap_world.specs.State.{HeapState, is_register, place_of, pool_of, register, with_pool, with_register, word_of}
+use Rattle.heap_world.specs.State.{HeapState, pool_of, register, with_pool, with_register, word_of}
 use Rattle.heap_world.proofs.Clauses.{clauses_of}
 use Rattle.heap_world.proofs.Finish.{named_settled, settled}
 use Rattle.heap_world.proofs.Marks.{begun, shaded_heap}
-use Rattle.heap_world.proofs.Registers.{member_set, namer, names_of, object_not_null, register_member, second_register, slot_names}
+use Rattle.heap_world.proofs.Registers.{member_set, namer, names_of, register_member, second_register, slot_names}
 use Rattle.heap_world.proofs.Shelter.{reach_induction}
 use Rattle.heap_world.proofs.Sweep.{sweep_leaves_live}
 use Rattle.heap_world.proofs.WordWrites.{IsReferenceSlot, WriteForm, place_is, put_form, store_form, with_object_word, written}
@@ -40,9 +38,8 @@ use Rattle.heap_step.specs.declared.Event.{Event}
 use Rattle.heap_step.specs.declared.Event.TheVariants.{ArrayClass, Clear, Drain, Finish, Load, Mark, Move, New, NewArray, NewPrim, Put, Snap, Store, Sweep}
 use Rattle.heap_step.specs.Apply.{refusal_of, state_after}
 use Rattle.heap_step.proofs.CreationUndo.{head_empty, pool_empty}
-use Rattle.heap_step.proofs.Legal.{new_array_fits, new_fits, new_prim_fits}
 use Rattle.heap_past.specs.Losses.{StaysUnreached}
-use Rattle.heap_past.proofs.ImagePaths.{reaches_next, replicated}
+use Rattle.heap_past.proofs.ImagePaths.{reaches_next}
 
 -- ---- from one state to another
 
@@ -131,18 +128,15 @@ clear_less w m r = write_less w m r 0 (λ there. absurd (null_is_none w 0 refl t
 
 load_less : (w : HeapState) (m to from slot : ℕ) → load_refusal m to from slot w ≡ None → ReachesLess w (after_load m to from slot w)
 unfolding load_refusal after_load
-load_less w m to from slot accepted = go (is_reference_slot w (register w m from) slot) refl
+load_less w m to from slot accepted = go (register_member w m from (second_register _ _ (none_holds _ accepted).0)) (is_reference_slot w (register w m from) slot) refl
   where
-    held : Contains w.registers (register w m from)
-    held = register_member w m from (second_register _ _ (none_holds _ accepted).0)
-
-    go : (b : Bool) → is_reference_slot w (register w m from) slot ≡ b → ReachesLess w (if b then with_register m to (word_of w (register w m from) slot) w else w)
-    go true e = write_less w m to (word_of w (register w m from) slot)
+    go : Contains w.registers (register w m from) → (b : Bool) → is_reference_slot w (register w m from) slot ≡ b → ReachesLess w (if b then with_register m to (word_of w (register w m from) slot) w else w)
+    go held true e = write_less w m to (word_of w (register w m from) slot)
         (λ there. elim (slot_names w (register w m from) slot e) [
           | inl z ↦ absurd (null_is_none w (word_of w (register w m from) slot) z there)
           | inr n ↦ reaches_next w (register w m from) (word_of w (register w m from) slot) (reaches_register w (register w m from) held (namer_there w (register w m from) (word_of w (register w m from) slot) n)) n there
         ])
-    go false e = λ x there r. r
+    go held false e = λ x there r. r
 
 -- ---- the marker
 
@@ -230,10 +224,10 @@ is_new w legal at fresh o place = subst (IsNew w at o) (sym c.is_taken) (record 
     c : IsNewCell at fresh o (pool_of w)
     c = new_cell at fresh o (pool_of w) place (head_empty w legal at) (pool_empty w legal at)
 
-    before : _
+    before : List Region
     before = c.before.regions
 
-    after : _
+    after : List Region
     after = (taken at o c.before).regions
 
     bare : object_at before at ≡ None
@@ -261,6 +255,11 @@ is_new w legal at fresh o place = subst (IsNew w at o) (sym c.is_taken) (record 
     none : object_of w.regions (id_of after at) ≡ None
     none = sym (c.found (id_of after at)) ∙ ap (option_and_then (object_at before)) (sym (ref_taken at o c.before (id_of after at)) ∙ back) ∙ bare
 
+zero_there : (n i : ℕ) → i < n → slice_get {X = ℕ} (replicate n 0) i ≡ Some 0
+zero_there zero i h = absurd (omega (arith, h))
+zero_there (suc n) zero h = refl
+zero_there (suc n) (suc i) h = zero_there n i (omega (arith, h))
+
 -- a new object names nothing
 names_none : (w : HeapState) (classes : List Class) (kind : ObjKind) (n y : ℕ) → Contains (references_of classes (new_object kind n w)) y → ⊥
 unfolding new_object
@@ -268,10 +267,7 @@ names_none w classes kind n y c =
     let o : Object = new_object kind n w in
     let r = found_in (slot_kinds classes o) o.words y (subst (λ l. Contains l y) (references_by_slots classes o) c) in
     let l = slice_get_within (replicate n 0) r.0 y r.4 in
-    r.5 (sym (same_Some 0 y (sym (replicated_zero n r.0 (omega (arith, l, length-replicate n 0))) ∙ r.4)))
-  where
-    replicated_zero : (n s : ℕ) → s < n → slice_get (replicate n 0) s ≡ Some 0
-    replicated_zero n s l = replicated n s 0 l
+    r.5 (sym (same_Some 0 y (sym (zero_there n r.0 (omega (arith, l, length-replicate {A = ℕ} n 0))) ∙ r.4)))
 
 -- the heap with the object at its place, and its id in the register
 abbrev made : HeapState → ℕ → ℕ → ObjRef → Bool → Object → HeapState
@@ -291,7 +287,7 @@ made_less w legal m r n kind at fresh place = reached_before w v roots names
     v = made w m r at fresh o
 
     new : IsNew w at o s
-    new = is_new w legal at fresh o (ap (λ k. new_place k (pool_of w)) (length-replicate n 0) ∙ place)
+    new = is_new w legal at fresh o (ap (λ k. new_place k (pool_of w)) (length-replicate {A = ℕ} n 0) ∙ place)
 
     roots : HoldsReached w v
     roots x c there = elim (member_set w.registers (8 * m + r) (id_of s.regions at) x c) [
@@ -300,11 +296,11 @@ made_less w legal m r n kind at fresh place = reached_before w v roots names
     ]
 
     names : NamesLess w v
-    names x y n =
-        let b = namer v x y n in
+    names x y q =
+        let b = namer v x y q in
         elim (new.named x) [
           | inl e ↦ inl (names_of w x y b.0 (sym e ∙ b.1) b.2)
-          | inr e ↦ absurd (names_none w w.classes kind (length o.words) y (subst (λ (p : Object). Contains (references_of w.classes p) y) (same_Some b.0 o (sym b.1 ∙ e)) b.2))
+          | inr e ↦ absurd (names_none w w.classes kind n y (subst (λ (p : Object). Contains (references_of w.classes p) y) (same_Some b.0 o (sym b.1 ∙ e)) b.2))
         ]
 
 new_less : (w : HeapState) → IsLegal w → (m r n : ℕ) (kind : ObjKind) → ReachesLess w (after_new m r kind n w)

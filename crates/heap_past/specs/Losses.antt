@@ -1,5 +1,5 @@
 -- What registers reached, from state to state.
-use Rattle.std.specs.Prelude.{◌≡◌, ◌↔◌, ℕ, ◌+◌, ◌-◌, ◌<◌, ◌≤◌, List, None, IsSome}
+use Rattle.std.specs.Prelude.{◌≡◌, ◌↔◌, ℕ, ◌+◌, ◌-◌, ◌<◌, ◌≤◌, List, Option, Some, None, IsSome}
 use Rattle.hprof_text.specs.Image.{Image}
 use Rattle.heap_class.specs.declared.ObjRef.{ObjRef}
 use Rattle.heap_region.specs.Regions.{id_of, object_at}
@@ -64,11 +64,22 @@ IsLoss t at Reached = Reaches t.current (id_now t at)
 IsLoss t at (At place) = IsLostAt t at place
 IsLoss t at Older = IsNeverReached t at
 
--- ---- how long it stood
+-- ---- halving
 
--- it stood there in each of the newest n states, and in no retained state just before them
+-- it has stood there since n steps ago, and in the retained state before that it didn't
 pub record HasStood (t : Trail) (at : ObjRef) (n : ℕ) : Type 0 where
-  pub some : 0 < n
-  pub within : n ≤ retained t + 1
-  pub stood : StoodFor t at n
-  pub before : n < retained t + 1 → object_at (state_ago n t).regions at ≡ None
+  pub within : n ≤ retained t
+  pub stood : StoodFor t at (n + 1)
+  pub before : n < retained t → object_at (state_ago (n + 1) t).regions at ≡ None
+
+-- the newest state, of those since `oldest` steps ago, in which a register reached it; or none has since then
+abbrev pub IsNewest : Trail → ObjRef → ℕ → Option ℕ → Type 0
+IsNewest t at oldest None = UnreachedFor t at (oldest + 1)
+IsNewest t at oldest (Some n) =
+    (n ≤ oldest) × Reaches (state_ago n t) (id_now t at) × UnreachedFor t at n
+
+-- the states older than `last` steps are left out: none is as old, or a register reached it in the next one
+abbrev pub LeavesOut : Trail → ObjRef → ℕ → ℕ → Option ℕ → Type 0
+LeavesOut t at oldest last None = last ≡ oldest
+LeavesOut t at oldest last (Some n) =
+    (n ≡ last + 1) × (n ≤ oldest) × Reaches (state_ago n t) (id_now t at)

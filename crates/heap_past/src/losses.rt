@@ -1,12 +1,12 @@
 //! When registers lost an object.
-ghost use Rattle.std.specs.Prelude.{◌≡◌, ◌↔◌, ◌+◌, ◌<◌, ◌≤◌, ℕ, IsSome, IsTrue, IfOk, IfErr};
+ghost use Rattle.std.specs.Prelude.{◌≡◌, ◌↔◌, ◌≤◌, ℕ, IsSome, IsTrue, IfOk, IfErr};
 ghost use Rattle.heap_class.specs.declared.Refusal.TheVariants.{NoMemory};
 ghost use Rattle.heap_region.specs.Regions.{object_at};
 ghost use Rattle.heap_step.specs.declared.Event.{Event};
 ghost use Rattle.heap_world.specs.Reach.{Reaches};
 ghost use Rattle.heap_world.specs.State.{HeapState};
 ghost use Rattle.heap_trail.specs.Trail.{retained, state_ago};
-ghost use Rattle.heap_past.specs.Losses.{HasStood, IsLoss, PathIsReach, StaysUnreached, StoodFor, UnreachedFor, id_now};
+ghost use Rattle.heap_past.specs.Losses.{HasStood, IsLoss, IsNewest, PathIsReach, StaysUnreached};
 
 use crate::birth;
 use heap_class::{ObjRef, Refusal};
@@ -48,61 +48,68 @@ fn was_reached(alloc: Global, machine: &Machine, id: u64, n: u64) -> Result<bool
     Ok(path.is_some())
 }
 
-// Returns in how many of the newest states the object at `at` stood there.
-fn states_of(machine: &Machine, at: ObjRef) -> u64
+// Returns how many steps ago the oldest retained state was since which the object at `at` has stood there.
+fn oldest_state(machine: &Machine, at: ObjRef) -> u64
     requires { IsSome (object_at machine.now.trail.current.regions at) }
     ensures { HasStood machine.now.trail at result }
 {
     let now = machine.place();
     match birth(machine, at) {
-        Some(place) => now - place + 1,
-        None => machine.retained() + 1,
+        Some(place) => now - place,
+        None => machine.retained(),
     }
 }
 
-// Returns in how many of the newest states no register reached the object at `at`, of the `count` in which it stood. Halves them,
-// since an object that isn't reached is never reached again. Fails with NoMemory.
-fn unreached_states(
+// Returns how many steps ago the newest state was in which a register reached the object at `at`, which has stood there since
+// `oldest` steps ago, or None if no register has reached it since then. Halves the states, since an object that isn't reached is
+// never reached again. Fails with NoMemory.
+fn newest_reached(
     alloc: Global,
     machine: &Machine,
     at: ObjRef,
-    count: u64,
-) -> Result<u64, Refusal>
-    requires { HasStood machine.now.trail at count }
-    ensures within { IfOk result (λ n. n ≤ count) }
-    ensures unreached { IfOk result (λ n. UnreachedFor machine.now.trail at n) }
-    ensures reached { IfOk result (λ n. n < count
-        → Reaches (state_ago n machine.now.trail) (id_now machine.now.trail at)) }
+    oldest: u64,
+) -> Result<Option<u64>, Refusal>
+    requires { HasStood machine.now.trail at oldest }
+    ensures newest { IfOk result (λ newest. IsNewest machine.now.trail at oldest newest) }
     ensures refused { IfErr result (λ e. e ≡ NoMemory) }
 {
+    // Its contract says that each retained state came from the one before it.
+    let _place = machine.place();
     let id = machine.world().regions().id(at);
+    let mut newest = None;
     let mut low = 0;
-    let mut high = count;
-    while low < high {
-        let middle = low + (high - low) / 2;
+    let mut last = oldest;
+    loop {
+        let middle = low + (last - low) / 2;
         if was_reached(alloc, machine, id, middle)? {
-            high = middle;
+            newest = Some(middle);
+            if middle == low {
+                return Ok(newest);
+            }
+            last = middle - 1;
         } else {
+            if middle == last {
+                return Ok(newest);
+            }
             low = middle + 1;
         }
     }
-    Ok(low)
 }
 
 /// Tells whether a register reaches the object at `at`, or which retained step took the last path from it. Fails with NoMemory
-/// if an allocation fails. Searches the heap at most once for each halving of the retained steps: 17 times for 65,536 of them.
+/// if an allocation fails. Searches the heap once for each halving of the retained states: 17 times for 65,536 steps.
 pub fn loss_of(alloc: Global, machine: &Machine, at: ObjRef) -> Result<Loss, Refusal>
     requires { IsSome (object_at machine.now.trail.current.regions at) }
     ensures loss { IfOk result (λ loss. IsLoss machine.now.trail at loss) }
     ensures refused { IfErr result (λ e. e ≡ NoMemory) }
 {
-    let count = states_of(machine, at);
-    let unreached = unreached_states(alloc, machine, at, count)?;
-    if unreached == 0 {
+    let oldest = oldest_state(machine, at);
+    let newest = newest_reached(alloc, machine, at, oldest)?;
+    let Some(ago) = newest else {
+        return Ok(Loss::Older);
+    };
+    if ago == 0 {
         return Ok(Loss::Reached);
     }
-    if unreached == count {
-        return Ok(Loss::Older);
-    }
-    Ok(Loss::At(machine.place() - (unreached - 1)))
+    Ok(Loss::At(machine.place() - (ago - 1)))
 }

@@ -9,3 +9,5 @@ pub mod Halving
 pub mod Reaching
 pub mod Named
 pub mod Ranked
+pub mod SearchOrder
+pub mod PathOrder

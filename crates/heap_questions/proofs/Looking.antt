@@ -8,11 +8,12 @@ use Rattle.heap_class.specs.Classes.{Class}
 use Rattle.hprof_text.specs.Image.{Image, DumpedObject}
 use Rattle.hprof_text.proofs.Loops.{some_item}
 use Rattle.heap_questions.specs.Graph.{HasId, is_reference_slot, named, object_with, slot_names}
-use Rattle.heap_questions.specs.Search.{AreNodes, HasRoots, HasChildren, IsFound, IsNear, IsOffered, IsSearching, IsWithin, node_with}
+use Rattle.heap_questions.specs.Search.{AreNodes, HasAllRoots, HasRoots, HasChildren, IsFound, IsNear, IsOffered, IsOrdered, IsSearching, IsWithin, node_with}
 use Rattle.heap_questions.specs.declared.nodes.Node.{Node}
 use Rattle.heap_questions.specs.declared.search.Found.{Found}
 use Rattle.heap_questions.specs.declared.search.Via.TheVariants.{Register, Slot}
 use Rattle.heap_questions.proofs.Placed.{node_place, node_within, object_of_node}
+use Rattle.heap_questions.proofs.SearchOrder.{next_register, next_slot, ordered_more, ordered_next, registers_looked_at, slots_looked_at}
 use Rattle.heap_questions.proofs.Searching.{IsKept, kept, stepped}
 
 -- ---- the slots of an object
@@ -61,10 +62,12 @@ pub record IsLooking (image : Image) (nodes : List Node) (first : List Found) (h
   pub children : HasChildren image queue f.id slot (f.depth + 1)
   pub longer : length first ≤ length queue
   pub roots : (n : ℕ) → HasRoots image first n → HasRoots image queue n
+  pub all_roots : HasAllRoots image queue
+  pub ordered : IsOrdered image queue (Slot head slot)
 
-pub looking_begins : (image : Image) (nodes : List Node) (queue : List Found) (head : ℕ) (f : Found) (seen : List Bool) → IsSearching image nodes seen queue head → IsNear queue head → slice_get queue head ≡ Some f → IsLooking image nodes queue head f seen queue 0
-looking_begins image nodes queue head f seen s n h =
-    record { search = s; within = n f h; here = h; children = λ s y l. absurd (omega (arith, l)); longer = omega arith; roots = λ n r. r }
+pub looking_begins : (image : Image) (nodes : List Node) (queue : List Found) (head : ℕ) (f : Found) (seen : List Bool) → IsSearching image nodes seen queue head → IsNear queue head → HasAllRoots image queue → IsOrdered image queue (Slot head 0) → slice_get queue head ≡ Some f → IsLooking image nodes queue head f seen queue 0
+looking_begins image nodes queue head f seen s n r o h =
+    record { search = s; within = n f h; here = h; children = λ s y l. absurd (omega (arith, l)); longer = omega arith; roots = λ n r. r; all_roots = r; ordered = o }
 
 -- a slot that names nothing
 pub looked_past : (image : Image) (nodes : List Node) (first : List Found) (head : ℕ) (f : Found) (seen : List Bool) (queue : List Found) (slot : ℕ) → IsLooking image nodes first head f seen queue slot → named image f.id slot ≡ None → IsLooking image nodes first head f seen queue (slot + 1)
@@ -79,6 +82,8 @@ looked_past image nodes first head f seen queue slot l n =
       ];
       longer = l.longer;
       roots = l.roots;
+      all_roots = l.all_roots;
+      ordered = ordered_next image queue (Slot head slot) (Slot head (slot + 1)) (next_slot head slot) l.ordered;
     }
 
 -- a slot that names x, which was offered
@@ -101,6 +106,9 @@ looked_at image places nodes first head f seen queue slot x seen_after new n l e
       ];
       longer = omega (arith, k.longer, l.longer);
       roots = λ m r n y lt q h. k.stays y 0 (l.roots m r n y lt q h);
+      all_roots = λ r y lt q h. k.stays y 0 (l.all_roots r y lt q h);
+      ordered = ordered_more image places nodes seen queue head x (f.depth + 1) (Slot head slot) (Slot head (slot + 1)) seen_after new n l.search l.ordered
+          (slots_looked_at image nodes seen queue head slot f l.search l.all_roots l.here l.children) (next_slot head slot) (inr (refl, omega arith)) (f, l.here, refl, e) o;
     }
 
 -- all slots
@@ -115,9 +123,10 @@ pub record IsRooting (image : Image) (nodes : List Node) (seen : List Bool) (que
   pub search : IsSearching image nodes seen queue 0
   pub within : IsWithin queue 0
   pub roots : HasRoots image queue r
+  pub ordered : IsOrdered image queue (Register r)
 
-pub rooting_begins : (image : Image) (nodes : List Node) (seen : List Bool) (queue : List Found) → IsSearching image nodes seen queue 0 → IsWithin queue 0 → IsRooting image nodes seen queue 0
-rooting_begins image nodes seen queue s w = record { search = s; within = w; roots = λ n y l. absurd (omega (arith, l)) }
+pub rooting_begins : (image : Image) (nodes : List Node) (seen : List Bool) (queue : List Found) → IsSearching image nodes seen queue 0 → IsWithin queue 0 → IsOrdered image queue (Register 0) → IsRooting image nodes seen queue 0
+rooting_begins image nodes seen queue s w o = record { search = s; within = w; roots = λ n y l. absurd (omega (arith, l)); ordered = o }
 
 pub rooted : (image : Image) (places : List ObjRef) (nodes : List Node) (seen : List Bool) (queue : List Found) (r x : ℕ) (seen_after : List Bool) (new : List Found) → AreNodes image places nodes → IsRooting image nodes seen queue r → slice_get image.registers r ≡ Some x
     → IsOffered nodes x 0 (Register r) seen queue seen_after new → IsRooting image nodes seen_after new (r + 1)
@@ -132,6 +141,7 @@ rooted image places nodes seen queue r x seen_after new n l e o =
             subst (λ z. IsFound new z 0) same (k.found (subst (HasId image) (sym same) h))
         | inr p ↦ k.stays y 0 (l.roots s y (omega (arith, lt, p)) q h)
       ];
+      ordered = ordered_more image places nodes seen queue 0 x 0 (Register r) (Register (r + 1)) seen_after new n l.search l.ordered (registers_looked_at image queue r l.roots) (next_register r) (omega arith) (refl, e) o;
     }
 
 pub looking_as : (image : Image) (nodes : List Node) (first : List Found) (head : ℕ) (f : Found) (seen others : List Bool) (queue same : List Found) (slot : ℕ) → others ≡ seen → same ≡ queue → IsLooking image nodes first head f seen queue slot → IsLooking image nodes first head f others same slot

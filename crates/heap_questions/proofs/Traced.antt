@@ -1,5 +1,5 @@
 -- Paths and what was found.
-use Rattle.std.proofs.Common.{◌≡◌, ℕ, ◌+◌, ◌≤◌, List, [], ◌∷◌, ◌++◌, length, refl, sym, ap, ◌∙◌, subst, inl, inr, arith, rules}
+use Rattle.std.proofs.Common.{append_assoc, ◌≡◌, ℕ, ◌+◌, ◌≤◌, List, [], ◌∷◌, ◌++◌, length, refl, sym, ap, ◌∙◌, subst, inl, inr, arith, rules}
 use Rattle.std.specs.Prelude.{slice_get, Option, Some, None, IsSome, option_and_then, ◌==◌, reverse}
 use Rattle.std.specs.List.{position, position_or_len}
 use Rattle.std.proofs.lemmas.Option.{none-some, same_Some, slice_get_within, get_or_from_slice_get}
@@ -7,8 +7,8 @@ use Rattle.std.proofs.lemmas.List.Quantifiers.{position-Some}
 use Rattle.std.proofs.lemmas.Bool.{eqb-true, eq-eqb, cases_lt, true≢false}
 use Rattle.hprof_text.specs.Image.{Image}
 use Rattle.heap_questions.specs.Graph.{HasId, IsPathTo, object_with, named, followed, slot_names}
-use Rattle.heap_questions.specs.Search.{AreReached, IsFound, IsReachedBy, IsSearched, IsTraced}
-use Rattle.std.proofs.lemmas.List.{reverse-append, length-reverse, length_push}
+use Rattle.heap_questions.specs.Search.{AreReached, IsChain, IsFound, IsReachedBy, IsSearched, IsTraced}
+use Rattle.std.proofs.lemmas.List.{append-nil, reverse-append, reverse-reverse, length-reverse, length_push}
 use Rattle.heap_questions.specs.declared.search.Found.{Found}
 use Rattle.heap_questions.specs.declared.search.Via.{Via}
 use Rattle.heap_questions.specs.declared.search.Via.TheVariants.{Register, Slot}
@@ -94,6 +94,20 @@ pub record IsTracing (queue : List Found) (here f : Found) (slots : List ℕ) : 
 pub trace_begins : (queue : List Found) (k : ℕ) (f : Found) → slice_get queue k ≡ Some f → IsTracing queue f f []
 trace_begins queue k f h = record { there = (k, h); leads = λ image r. refl; many = omega arith }
 
+-- the chain of what stands here goes on to that of what is sought
+abbrev pub GoesOn : List Found → ℕ → Found → List ℕ → Type 0
+GoesOn queue index here slots = (k : ℕ) × (slice_get queue k ≡ Some here) × ((r : ℕ) (back : List ℕ) → IsChain queue k r back → IsChain queue index r (slots ++ back))
+
+pub goes_on : (queue : List Found) (index : ℕ) (here : Found) → slice_get queue index ≡ Some here → GoesOn queue index here []
+goes_on queue index here h = (index, h, λ r back i. i)
+
+pub goes_on_more : (queue : List Found) (index : ℕ) (here next : Found) (slots : List ℕ) (parent s : ℕ) → GoesOn queue index here slots → here.via ≡ Slot parent s → slice_get queue parent ≡ Some next → GoesOn queue index next (slots ++ s ∷ [])
+goes_on_more queue index here next slots parent s g e n = (parent, n, λ r back i. subst (IsChain queue index r) (sym (append_assoc slots (s ∷ []) back)) (g.2 r (s ∷ back) (here, parent, g.1, e, i)))
+
+pub goes_on_ends : (queue : List Found) (index : ℕ) (here : Found) (slots turned : List ℕ) (register : ℕ) → GoesOn queue index here slots → here.via ≡ Register register → turned ≡ reverse slots → IsChain queue index register (reverse turned)
+goes_on_ends queue index here slots turned register g e v =
+    subst (IsChain queue index register) (sym (ap reverse v ∙ reverse-reverse slots)) (subst (IsChain queue index register) (append-nil slots) (g.2 register [] (here, g.1, e)))
+
 -- it was reached by this slot of the object that stands at `parent`
 by_slot : (image : Image) (queue : List Found) (x d : ℕ) (via : Via) (parent s : ℕ) → via ≡ Slot parent s → IsReachedBy image queue x d via → IsReachedBy image queue x d (Slot parent s)
 by_slot image queue x d via parent s e = subst (IsReachedBy image queue x d) e
@@ -157,3 +171,9 @@ path_is_shortest image queue found traced index x register slots a b s e t r oth
     let q : position (λ f. f.id == x) queue ≡ Some index = ap (λ (q : List Found). position (λ f. f.id == x) q) (sym a) ∙ sym e in
     let l = shortest image queue index f.0 r others x s q f.1 p in
     omega (arith, l, f.3.1)
+
+pub path_is_first : (image : Image) (queue found traced : List Found) (index x register : ℕ) (slots : List ℕ) → found ≡ queue → traced ≡ queue → IsSearched image queue → Some index ≡ position (λ f. f.id == x) found
+    → ((f : Found) → AreReached image traced → slice_get traced index ≡ Some f → IsTraced image register slots f) → IsChain traced index register (reverse slots) → (f : Found) × (slice_get queue index ≡ Some f) × (f.id ≡ x) × IsChain queue index register (reverse slots)
+path_is_first image queue found traced index x register slots a b s e t i =
+    let f = first_found image queue found traced index x register slots a b s e t in
+    (f.0, f.1, f.2, subst (λ (q : List Found). IsChain q index register (reverse slots)) b i)

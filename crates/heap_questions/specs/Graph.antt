@@ -1,5 +1,5 @@
 -- References between the objects of an image, and paths along them.
-use Rattle.std.specs.Prelude.{◌≡◌, ◌≤◌, ℕ, Bool, length, true, false, ◌==◌, List, [], ◌∷◌, slice_get, Option, Some, None, IsSome, option_and_then, if◌then◌else◌}
+use Rattle.std.specs.Prelude.{◌≡◌, ◌⊎◌, ◌<◌, ◌≤◌, ℕ, Bool, length, true, false, ◌==◌, List, [], ◌∷◌, slice_get, Option, Some, None, IsSome, option_and_then, if◌then◌else◌}
 use Rattle.std.specs.Option.{option_map_or}
 use Rattle.std.specs.List.{find}
 use Rattle.heap_class.specs.declared.ObjKind.{ObjKind}
@@ -45,6 +45,18 @@ pub record IsPathTo (image : Image) (r : ℕ) (slots : List ℕ) (x : ℕ) : Typ
 abbrev pub IsShortest : Image → List ℕ → ℕ → Type 0
 IsShortest image slots x =
     (r : ℕ) (others : List ℕ) → IsPathTo image r others x → length slots ≤ length others
+
+-- the first list comes before the second, or they are the same: by the first number in which they differ
+abbrev pub AreAtMost : List ℕ → List ℕ → Type 0
+AreAtMost [] ys = Unit {0}
+AreAtMost (x ∷ xs) [] = ⊥
+AreAtMost (x ∷ xs) (y ∷ ys) = (x < y) ⊎ ((x ≡ y) × AreAtMost xs ys)
+
+-- of all paths to x with as many slots, it is the first by register, then by slot
+abbrev pub IsFirst : Image → ℕ → List ℕ → ℕ → Type 0
+IsFirst image r slots x =
+    (q : ℕ) (others : List ℕ) → IsPathTo image q others x → length others ≡ length slots
+    → AreAtMost (r ∷ slots) (q ∷ others)
 
 -- no register reaches x
 abbrev pub IsUnreached : Image → ℕ → Type 0

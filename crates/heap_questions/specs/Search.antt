@@ -152,3 +152,37 @@ pub record AreSeen (nodes : List Node) (seen : List Bool) (queue : List Found) :
   pub found : (k : ℕ) (f : Found) → slice_get queue k ≡ Some f
       → slice_index_or seen f.node false ≡ true
   pub as_many : length seen ≡ length nodes
+
+-- ---- the order of a search
+
+-- the first way to an object is looked at before the second
+abbrev pub Earlier : Via → Via → Type 0
+Earlier (Register q) (Register r) = q < r
+Earlier (Register q) (Slot p s) = Unit {0}
+Earlier (Slot p s) (Register r) = ⊥
+Earlier (Slot p s) (Slot q t) = (p < q) ⊎ ((p ≡ q) × (s < t))
+
+-- this way leads to x: by a register, or by a slot of what stands in the queue
+abbrev pub LeadsBy : Image → List Found → Via → ℕ → Type 0
+LeadsBy image queue (Register r) x = slice_get image.registers r ≡ Some x
+LeadsBy image queue (Slot p s) x =
+    (g : Found) × (slice_get queue p ≡ Some g) × (named image g.id s ≡ Some x)
+
+-- the queue is in the order of the ways to what was found, each is the first to it, and all are looked at before this one
+pub record IsOrdered (image : Image) (queue : List Found) (next : Via) : Type 0 where
+  pub sorted : (i j : ℕ) (a b : Found) → i < j → slice_get queue i ≡ Some a
+      → slice_get queue j ≡ Some b → Earlier a.via b.via
+  pub first : (k : ℕ) (f : Found) (via : Via) → slice_get queue k ≡ Some f
+      → LeadsBy image queue via f.id → ¬ Earlier via f.via
+  pub behind : (k : ℕ) (f : Found) → slice_get queue k ≡ Some f → Earlier f.via next
+
+-- so is a queue whose search has ended
+abbrev pub HasOrder : Image → List Found → Type 0
+HasOrder image queue = (next : Via) × IsOrdered image queue next
+
+-- register r and these slots, the last first, are the way on which what stands at place k of the queue was found
+abbrev pub IsChain : List Found → ℕ → ℕ → List ℕ → Type 0
+IsChain queue k r [] = (f : Found) × (slice_get queue k ≡ Some f) × (f.via ≡ Register r)
+IsChain queue k r (s ∷ back) =
+    (f : Found) × (p : ℕ) × (slice_get queue k ≡ Some f) × (f.via ≡ Slot p s)
+    × IsChain queue p r back

@@ -1,7 +1,8 @@
 //! A search for all that the registers reach, breadth first.
 ghost use Rattle.std.specs.Prelude.{◌≡◌, ◌+◌, ◌<◌, ◌≤◌, ℕ, length, Some, IfOk, IfErr, OnOk, slice_get};
 ghost use Rattle.heap_class.specs.declared.Refusal.TheVariants.{NoMemory};
-ghost use Rattle.heap_questions.specs.Search.{AreNodes, AreSeen, HasAllRoots, IsNear, IsOffered, IsSearched, IsSearching, IsWithin, KeepsRoots};
+ghost use Rattle.heap_questions.specs.Search.{AreNodes, AreSeen, HasAllRoots, HasOrder, IsNear, IsOffered, IsOrdered, IsSearched, IsSearching, IsWithin, KeepsRoots};
+ghost use Rattle.heap_questions.specs.declared.search.Via.TheVariants.{Register, Slot};
 
 use crate::nodes::NodeList;
 use crate::references::is_reference_slot;
@@ -78,10 +79,12 @@ fn find_roots<V: View>(
     requires nodes { AreNodes (V.image view.now) (V.places view.now) nodes.now }
     requires search { IsSearching (V.image view.now) nodes.now seen.old.items queue.old.items 0 }
     requires within { IsWithin queue.old.items 0 }
+    requires ordered { IsOrdered (V.image view.now) queue.old.items (Register 0) }
     ensures search { OnOk result (IsSearching (V.image view.now)
         nodes.now seen.new.items queue.new.items 0) }
     ensures within { OnOk result (IsWithin queue.new.items 0) }
     ensures roots { OnOk result (HasAllRoots (V.image view.now) queue.new.items) }
+    ensures ordered { OnOk result (IsOrdered (V.image view.now) queue.new.items (Slot 0 0)) }
     ensures refused { IfErr result (λ e. e ≡ NoMemory) }
 {
     let registers = view.registers();
@@ -103,11 +106,15 @@ fn expand<V: View>(
     requires search { IsSearching (V.image view.now) nodes.now seen.old.items queue.old.items head }
     requires there { head < length queue.old.items }
     requires near { IsNear queue.old.items head }
+    requires roots { HasAllRoots (V.image view.now) queue.old.items }
+    requires ordered { IsOrdered (V.image view.now) queue.old.items (Slot head 0) }
     ensures search { OnOk result (IsSearching (V.image view.now)
         nodes.now seen.new.items queue.new.items (head + 1)) }
     ensures near { OnOk result (IsNear queue.new.items (head + 1)) }
     ensures longer { OnOk result (length queue.old.items ≤ length queue.new.items) }
     ensures roots { OnOk result (KeepsRoots (V.image view.now) queue.old.items queue.new.items) }
+    ensures ordered { OnOk result (IsOrdered (V.image view.now)
+        queue.new.items (Slot (head + 1) 0)) }
     ensures refused { IfErr result (λ e. e ≡ NoMemory) }
 {
     let found = found_at(queue.as_slice(), head);
@@ -133,6 +140,7 @@ pub(crate) fn search<V: View>(alloc: Global, view: &V, nodes: &NodeList) -> Resu
     requires { AreNodes (V.image view.now) (V.places view.now) nodes.now }
     ensures searched { IfOk result (λ r. IsSearched (V.image view.now) r.queue.items) }
     ensures seen { IfOk result (λ r. AreSeen nodes.now r.seen.items r.queue.items) }
+    ensures order { IfOk result (λ r. HasOrder (V.image view.now) r.queue.items) }
     ensures refused { IfErr result (λ e. e ≡ NoMemory) }
 {
     let mut seen = vec![in alloc; false; nodes.len()]?;

@@ -91,18 +91,23 @@ fn reused(alloc: Global) -> Result<Machine, Fail> {
     machine_after(alloc, settings(2, 1, 16)?, &events)
 }
 
-// Returns the place of the last write to a node's value, and that of the node's creation, in a machine in which a cell is used
-// again.
-fn reused_facts(alloc: Global, id: u64) -> Result<(Option<u64>, Option<u64>), Fail> {
-    let machine = reused(alloc)?;
-    Ok((writer_of(&machine, id, 1)?, maker_of(&machine, id)?))
+// Returns the place of the last write to a node's value, in a machine in which a cell is used again.
+fn writer_again(alloc: Global, id: u64) -> Result<Option<u64>, Fail> {
+    writer_of(&reused(alloc)?, id, 1)
+}
+
+// Returns the place of a node's creation, in a machine in which a cell is used again.
+fn maker_again(alloc: Global, id: u64) -> Result<Option<u64>, Fail> {
+    maker_of(&reused(alloc)?, id)
 }
 
 #[test]
 fn a_cell_used_again_has_a_new_object(rt: HostRuntime) -> Result<(), Fail> {
     let alloc = rt.alloc();
-    let right = reused_facts(alloc, FIRST)? == (Some(10), Some(10))
-        && reused_facts(alloc, SECOND)? == (Some(3), Some(3));
+    let right = writer_again(alloc, FIRST)? == Some(10)
+        && maker_again(alloc, FIRST)? == Some(10)
+        && writer_again(alloc, SECOND)? == Some(3)
+        && maker_again(alloc, SECOND)? == Some(3);
     assert!(rt; right);
     Ok(())
 }

@@ -44,10 +44,15 @@ fn seen<V: View>(alloc: Global, view: &V) -> Result<(Option<u64>, Option<usize>)
     Ok((value, slots))
 }
 
-// Returns what the state of `n` steps ago shows once the value is 9 and the reference is gone.
-fn seen_ago(alloc: Global, n: u64) -> Result<(Option<u64>, Option<usize>), Fail> {
-    let mut machine = machine(alloc)?;
-    take(&mut machine, &[put(9), store(0, 1)])?;
+// Opens a pin on place 6, and goes on: the value is 9, and the reference is gone. Returns the number of the pin.
+fn go_on(machine: &mut Machine) -> Result<u64, Fail> {
+    let opened = machine.open_pin(None)?;
+    take(machine, &[put(9), store(0, 1)])?;
+    Ok(opened.pin)
+}
+
+// Returns what the state of `n` steps ago of this machine shows.
+fn seen_of(alloc: Global, machine: &Machine, n: u64) -> Result<(Option<u64>, Option<usize>), Fail> {
     if n > machine.retained() {
         return Ok((None, None));
     }
@@ -55,15 +60,30 @@ fn seen_ago(alloc: Global, n: u64) -> Result<(Option<u64>, Option<usize>), Fail>
     seen(alloc, &machine.view(&pin))
 }
 
-// Returns what a pin on place 6 shows once the value is 9 and the reference is gone.
-fn seen_at_pin(alloc: Global) -> Result<(Option<u64>, Option<usize>), Fail> {
+// Returns what the state of `n` steps ago shows once the machine has gone on.
+fn seen_ago(alloc: Global, n: u64) -> Result<(Option<u64>, Option<usize>), Fail> {
     let mut machine = machine(alloc)?;
-    let opened = machine.open_pin(None)?;
-    take(&mut machine, &[put(9), store(0, 1)])?;
-    match machine.pin_view(opened.pin) {
+    go_on(&mut machine)?;
+    seen_of(alloc, &machine, n)
+}
+
+// Returns what a pin of this machine shows.
+fn seen_at(
+    alloc: Global,
+    machine: &Machine,
+    pin: u64,
+) -> Result<(Option<u64>, Option<usize>), Fail> {
+    match machine.pin_view(pin) {
         Ok(view) => seen(alloc, &view),
         Err(_) => Ok((None, None)),
     }
+}
+
+// Returns what a pin on place 6 shows once the machine has gone on.
+fn seen_at_pin(alloc: Global) -> Result<(Option<u64>, Option<usize>), Fail> {
+    let mut machine = machine(alloc)?;
+    let pin = go_on(&mut machine)?;
+    seen_at(alloc, &machine, pin)
 }
 
 #[test]
@@ -79,16 +99,26 @@ fn past_states_are_seen(rt: HostRuntime) -> Result<(), Fail> {
     Ok(())
 }
 
+// Opens a pin, and goes back behind it. Returns the number of the pin.
+fn go_back(machine: &mut Machine) -> Result<u64, Fail> {
+    let opened = machine.open_pin(None)?;
+    machine.rewind(1)?;
+    Ok(opened.pin)
+}
+
+// Returns why a pin of this machine has no view.
+fn refusal_of(machine: &Machine, pin: u64) -> Option<Refusal> {
+    match machine.pin_view(pin) {
+        Ok(_) => None,
+        Err(refusal) => Some(refusal),
+    }
+}
+
 // Returns why a pin that was opened has no view, after a rewind below it; or a pin that wasn't.
 fn refusal(alloc: Global, opened: bool) -> Result<Option<Refusal>, Fail> {
     let mut machine = machine(alloc)?;
-    let pin = machine.open_pin(None)?.pin;
-    machine.rewind(1)?;
-    let number = if opened { pin } else { 9 };
-    match machine.pin_view(number) {
-        Ok(_) => Ok(None),
-        Err(refusal) => Ok(Some(refusal)),
-    }
+    let pin = go_back(&mut machine)?;
+    Ok(refusal_of(&machine, if opened { pin } else { 9 }))
 }
 
 #[test]
@@ -103,9 +133,8 @@ fn lost_pins_are_not_seen(rt: HostRuntime) -> Result<(), Fail> {
     Ok(())
 }
 
-// Creates a machine at place 12 whose second node was dropped at place 7, condemned at 11 and swept at 12.
-fn swept(alloc: Global) -> Result<Machine, Fail> {
-    let mut machine = machine(alloc)?;
+// Goes on to place 12: the second node is dropped at place 7, condemned at 11 and swept at 12.
+fn sweep(machine: &mut Machine) -> Result<(), Fail> {
     let end = [
         store(0, 1),
         put(9),
@@ -114,8 +143,7 @@ fn swept(alloc: Global) -> Result<Machine, Fail> {
         Event::Finish,
         Event::Sweep { region: 0 },
     ];
-    take(&mut machine, &end)?;
-    Ok(machine)
+    take(machine, &end)
 }
 
 // Tells whether a view has the second node, whether a path leads to it, and how many slots and registers name it.
@@ -126,14 +154,20 @@ fn second_of<V: View>(alloc: Global, view: &V) -> Result<(bool, bool, usize), Fa
     Ok((there, reached, naming.len()))
 }
 
-// Tells the same of the state of `n` steps before the sweep and of the sweep itself.
-fn second_ago(alloc: Global, n: u64) -> Result<(bool, bool, usize), Fail> {
-    let machine = swept(alloc)?;
+// Tells the same of the state of `n` steps ago of this machine.
+fn second_in(alloc: Global, machine: &Machine, n: u64) -> Result<(bool, bool, usize), Fail> {
     if n > machine.retained() {
         return Ok((false, false, 9));
     }
     let pin = machine.pin_ago(n)?;
     second_of(alloc, &machine.view(&pin))
+}
+
+// Tells the same of the state of `n` steps ago once the second node is swept.
+fn second_ago(alloc: Global, n: u64) -> Result<(bool, bool, usize), Fail> {
+    let mut machine = machine(alloc)?;
+    sweep(&mut machine)?;
+    second_in(alloc, &machine, n)
 }
 
 #[test]

@@ -1,6 +1,6 @@
-use Rattle.std.proofs.Common.{◌≤◌, ◌++◌, length, take, sym, ap, ap₂, ◌∙◌, arith}
+use Rattle.std.proofs.Common.{◌≤◌, ◌++◌, length, sym, ap, ap₂, ◌∙◌, arith}
 use Rattle.std.specs.Prelude.{flat_map}
-use Rattle.std.proofs.lemmas.List.{append-nil, take_all}
+use Rattle.std.proofs.lemmas.List.{take_all}
 use Rattle.hprof_text.proofs.ViewedObjects.{here, within, none_left}
 use Rattle.heap_questions.specs.Referrers.{naming_slots, naming_registers}
 use Rattle.heap_questions.proofs.Passing.{same_object, slots_more}

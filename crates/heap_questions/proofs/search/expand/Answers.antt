@@ -5,8 +5,10 @@ use Rattle.hprof_text.specs.Image.{IsKnown}
 use Rattle.hprof_text.proofs.ViewedObjects.{here, is_there}
 use Rattle.heap_questions.specs.Graph.{is_reference_slot}
 use Rattle.heap_questions.specs.declared.search.Found.{Found}
+use Rattle.heap_questions.specs.declared.search.Via.TheVariants.{Slot}
 use Rattle.heap_questions.proofs.Looking.{looking_as, looking_begins, looked_at, looked_past, looked_through, named_is, slot_is, slot_is_none, stands}
 use Rattle.heap_questions.proofs.Placed.{node_within}
+use Rattle.heap_questions.proofs.SearchOrder.{next_head, ordered_next}
 use Rattle.heap_questions.proofs.search.expand.Goals.{then-is_reference_slot+in_ok-offer, else-is_reference_slot}
 use Rattle.heap_questions.proofs.search.expand.Goals as goal
 
@@ -62,7 +64,7 @@ loop-slot-init g c =
     let head = c.args.head in
     let f = c.found_at-found.result in
     let fe = ap (λ (q : List Found). slice_get q head) (sym c.as_slice.ensures.value) ∙ c.found_at-found.ensures in
-    looking_begins image nodes queue head f c.args.seen.now.items c.requires.search c.requires.near fe
+    looking_begins image nodes queue head f c.args.seen.now.items c.requires.search c.requires.near c.requires.roots c.requires.ordered fe
 
 pub is_reference_slot-requires-clause-known : goal.is_reference_slot-requires-clause-known
 is_reference_slot-requires-clause-known g c =
@@ -135,3 +137,9 @@ returns-clause-search g c =
     let words = c.words-words.result.now in
     let many : length words ≡ length o.words = ap length h.same_words in
     looked_through image nodes queue head f c.loop-slot.seen.items c.loop-slot.queue.items c.loop-slot.slot o c.loop-slot.invariant oe (omega (arith, many))
+
+pub returns-clause-ordered : goal.returns-clause-ordered
+returns-clause-ordered g c =
+    let head = c.args.head in
+    let s = c.loop-slot.slot in
+    ordered_next (g.V.View.image c.args.view.now) c.loop-slot.queue.items (Slot head s) (Slot (head + 1) 0) (next_head head s) c.loop-slot.invariant.ordered

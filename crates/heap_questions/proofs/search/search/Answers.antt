@@ -1,5 +1,7 @@
 use Rattle.std.proofs.Common.{length, arith}
+use Rattle.heap_questions.specs.declared.search.Via.TheVariants.{Register, Slot}
 use Rattle.heap_questions.proofs.Searching.{are_seen, searched}
+use Rattle.heap_questions.proofs.SearchOrder.{ordered_none}
 use Rattle.heap_questions.proofs.search.search.Goals as goal
 
 pub loop-head-preserved : goal.loop-head-preserved
@@ -10,6 +12,7 @@ loop-head-preserved g c =
       near = c.in_ok-expand.ensures.near;
       roots = c.in_ok-expand.ensures.roots (length image.registers) c.loop-head.invariant.roots;
       within = omega (arith, c.in_ok-expand.ensures.longer, c.loop-head-test.true, c.len-in-loop-head.ensures, c.loop-head.queue.ok.0);
+      ordered = c.in_ok-expand.ensures.ordered;
     }
 
 pub returns-clause-searched : goal.returns-clause-searched
@@ -21,3 +24,6 @@ returns-clause-searched g c =
 pub returns-clause-seen : goal.returns-clause-seen
 returns-clause-seen g c =
     are_seen (g.V.View.image c.args.view.now) c.args.nodes.now c.loop-head.seen.items c.loop-head.queue.items c.loop-head.head c.loop-head.invariant.search
+
+pub returns-clause-order : goal.returns-clause-order
+returns-clause-order g c = (Slot c.loop-head.head 0, c.loop-head.invariant.ordered)

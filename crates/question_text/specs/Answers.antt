@@ -2,7 +2,8 @@
 use Rattle.std.specs.Prelude.{◌≡◌, ℕ, List, codes, Option, Some, None}
 use Rattle.heap_trail.specs.Machine.{Machine}
 use Rattle.question_text.specs.declared.question.Question.{Question}
-use Rattle.question_text.specs.declared.question.Question.TheVariants.{Histogram, Garbage, Growth, Registers, Referrers, Path}
+use Rattle.question_text.specs.declared.question.Question.TheVariants.{Histogram, Garbage, Growth, Registers, Referrers, Path, Born}
+use Rattle.question_text.specs.Births.{IsBornText}
 use Rattle.question_text.specs.Histograms.{IsGarbageText, IsHistogramText}
 use Rattle.question_text.specs.Moments.{IsAnswerAbout, IsAnswerBetween, image_at}
 use Rattle.question_text.specs.Growths.{IsGrowthText}
@@ -20,6 +21,7 @@ IsAnswer (Growth older newer) m text =
 IsAnswer (Registers at) m text = IsAnswerAbout IsRegistersText (image_at at m) text
 IsAnswer (Referrers at x) m text = IsAnswerAbout (IsReferrersText x) (image_at at m) text
 IsAnswer (Path at x) m text = IsAnswerAbout (IsPathText x) (image_at at m) text
+IsAnswer (Born x) m text = IsBornText x m.trail text
 
 -- the answer of a line that asks this question, or none
 abbrev pub IsAnswerOf : Option Question → Machine → List ℕ → Type 0

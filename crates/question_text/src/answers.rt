@@ -10,6 +10,7 @@ ghost use Rattle.question_text.specs.Referrers.{IsReferrersText};
 ghost use Rattle.question_text.specs.Moments.{IsAnswerAbout, IsAnswerBetween, image_at, told_text};
 
 use crate::at::{moment_at, view_of};
+use crate::birth::born_answer;
 use crate::growth::growth_answer;
 use crate::histogram::{garbage_text, histogram_text};
 use crate::path::path_answer;
@@ -113,5 +114,6 @@ pub fn answer(alloc: Global, machine: &Machine, question: Question) -> LineAnswe
         Question::Registers(at) => told(registers(alloc, machine, at)),
         Question::Referrers { at, id } => told(referrers(alloc, machine, at, id)),
         Question::Path { at, id } => told(path(alloc, machine, at, id)),
+        Question::Born(id) => told(born_answer(alloc, machine, id)),
     }
 }

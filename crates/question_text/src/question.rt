@@ -2,7 +2,7 @@
 ghost use Rattle.std.specs.Prelude.{◌≡◌};
 ghost use Rattle.session_text.specs.Grammar.{at_end, words_of_line};
 ghost use Rattle.session_text.specs.Reads.{IsNextWord};
-ghost use Rattle.question_text.specs.Questions.{at_and_id, at_of_word, garbage_line, growth_line, histogram_line, next_at, next_id, one_at, path_line, question_of, referrers_line, registers_line, two_ats};
+ghost use Rattle.question_text.specs.Questions.{at_and_id, at_of_word, born_line, garbage_line, growth_line, histogram_line, next_at, next_id, one_at, one_id, path_line, question_of, referrers_line, registers_line, two_ats};
 
 use crate::id::{id_of, is_word};
 use session_text::number::number_of;
@@ -34,6 +34,8 @@ pub enum Question {
     Referrers { at: At, id: u64 },
     /// Why an object is alive: a shortest path from a register.
     Path { at: At, id: u64 },
+    /// When an object was made.
+    Born(u64),
 }
 
 // Returns the state that a word names.
@@ -150,6 +152,22 @@ fn path_line(words: Words) -> Option<Question>
     Some(Question::Path { at, id })
 }
 
+// Returns the one id that the words name.
+fn one_id(mut words: Words) -> Option<u64>
+    ensures { result ≡ one_id (words_of_line words.entry) }
+{
+    let id = next_id(&mut words)?;
+    at_end(id, words)
+}
+
+// Reads the words of `born ID`.
+fn born_line(words: Words) -> Option<Question>
+    ensures { result ≡ born_line (words_of_line words.entry) }
+{
+    let id = one_id(words)?;
+    Some(Question::Born(id))
+}
+
 /// Returns the question that a line asks, or None if it asks none.
 #[tactic(auto, unfolding(crate::specs::Questions::question_of_words, crate::specs::Questions::question_rules))]
 pub fn question_of(line: &[u8]) -> Option<Question>
@@ -174,6 +192,9 @@ pub fn question_of(line: &[u8]) -> Option<Question>
     }
     if is_word(word, b"path") {
         return path_line(words);
+    }
+    if is_word(word, b"born") {
+        return born_line(words);
     }
     None
 }

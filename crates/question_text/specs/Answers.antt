@@ -2,7 +2,7 @@
 use Rattle.std.specs.Prelude.{◌≡◌, ℕ, List, codes, Option, Some, None}
 use Rattle.heap_trail.specs.Machine.{Machine}
 use Rattle.question_text.specs.declared.question.Question.{Question}
-use Rattle.question_text.specs.declared.question.Question.TheVariants.{Histogram, Garbage, Growth, Registers, Referrers, Path, Born}
+use Rattle.question_text.specs.declared.question.Question.TheVariants.{Histogram, Garbage, Growth, Registers, Referrers, Path, Born, Wrote}
 use Rattle.question_text.specs.Births.{IsBornText}
 use Rattle.question_text.specs.Histograms.{IsGarbageText, IsHistogramText}
 use Rattle.question_text.specs.Moments.{IsAnswerAbout, IsAnswerBetween, image_at}
@@ -11,6 +11,7 @@ use Rattle.question_text.specs.Paths.{IsPathText}
 use Rattle.question_text.specs.Registers.{IsRegistersText}
 use Rattle.question_text.specs.Referrers.{IsReferrersText}
 use Rattle.question_text.specs.Questions.{question_of}
+use Rattle.question_text.specs.Writes.{IsWroteText}
 
 -- the text of a question's answer
 abbrev pub IsAnswer : Question → Machine → List ℕ → Type 0
@@ -22,6 +23,7 @@ IsAnswer (Registers at) m text = IsAnswerAbout IsRegistersText (image_at at m) t
 IsAnswer (Referrers at x) m text = IsAnswerAbout (IsReferrersText x) (image_at at m) text
 IsAnswer (Path at x) m text = IsAnswerAbout (IsPathText x) (image_at at m) text
 IsAnswer (Born x) m text = IsBornText x m.trail text
+IsAnswer (Wrote x s) m text = IsWroteText x s m.trail text
 
 -- the answer of a line that asks this question, or none
 abbrev pub IsAnswerOf : Option Question → Machine → List ℕ → Type 0

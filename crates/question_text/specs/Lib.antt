@@ -9,5 +9,6 @@ pub mod Growths
 pub mod Paths
 pub mod Places
 pub mod Births
+pub mod Writes
 pub mod Answers
 pub mod Sessions

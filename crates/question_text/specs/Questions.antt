@@ -5,7 +5,7 @@ use Rattle.session_text.specs.Grammar.{at_end, number_of_word, words_of_line}
 use Rattle.question_text.specs.declared.question.At.{At}
 use Rattle.question_text.specs.declared.question.At.TheVariants.{Current, Pin, Place}
 use Rattle.question_text.specs.declared.question.Question.{Question}
-use Rattle.question_text.specs.declared.question.Question.TheVariants.{Histogram, Garbage, Growth, Registers, Referrers, Path, Born}
+use Rattle.question_text.specs.declared.question.Question.TheVariants.{Histogram, Garbage, Growth, Registers, Referrers, Path, Born, Wrote}
 use Rattle.question_text.specs.Ids.{id_of_word}
 
 -- the state that a word names: `-`, `@` and a place, or the number of a pin
@@ -74,6 +74,21 @@ one_id ws = option_and_then (λ x. at_end x.0 x.1) (next_id ws)
 abbrev pub born_line : List (List ℕ) → Option Question
 born_line ws = option_map (λ x. Born x) (one_id ws)
 
+-- the number that the first word is, and the other words
+abbrev pub next_number : List (List ℕ) → Option (ℕ × List (List ℕ))
+next_number [] = None
+next_number (w ∷ ws) = option_map (λ n. (n, ws)) (number_of_word w)
+
+-- the id and the number that the words name
+abbrev pub id_and_number : List (List ℕ) → Option (ℕ × ℕ)
+id_and_number ws =
+    option_and_then (λ x. option_and_then (λ n. at_end (x.0, n.0) n.1) (next_number x.1))
+    (next_id ws)
+
+-- `wrote ID SLOT`
+abbrev pub wrote_line : List (List ℕ) → Option Question
+wrote_line ws = option_map (λ a. Wrote a.0 a.1) (id_and_number ws)
+
 -- ---- the table of questions
 
 -- a keyword, and what the words after it ask
@@ -90,6 +105,7 @@ question_rules =
     ∷ (codes "referrers", referrers_line)
     ∷ (codes "path", path_line)
     ∷ (codes "born", born_line)
+    ∷ (codes "wrote", wrote_line)
     ∷ []
 
 -- the question of these words, by the rule of the first

@@ -18,6 +18,7 @@ use crate::question::{At, Question};
 use crate::referrers::referrers_answer;
 use crate::registers::registers_answer;
 use crate::rows::Unanswered;
+use crate::write::wrote_answer;
 use heap_trail::{Machine, Reply};
 use session_text::LineAnswer;
 use std::alloc::Global;
@@ -115,5 +116,6 @@ pub fn answer(alloc: Global, machine: &Machine, question: Question) -> LineAnswe
         Question::Referrers { at, id } => told(referrers(alloc, machine, at, id)),
         Question::Path { at, id } => told(path(alloc, machine, at, id)),
         Question::Born(id) => told(born_answer(alloc, machine, id)),
+        Question::Wrote { id, slot } => told(wrote_answer(alloc, machine, id, slot)),
     }
 }

@@ -22,6 +22,7 @@ mod referrers;
 mod registers;
 mod rows;
 mod session;
+mod write;
 
 pub use answers::answer;
 pub use asking::Asking;

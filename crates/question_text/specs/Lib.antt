@@ -10,5 +10,6 @@ pub mod Paths
 pub mod Places
 pub mod Births
 pub mod Writes
+pub mod Losses
 pub mod Answers
 pub mod Sessions

@@ -5,7 +5,7 @@ use Rattle.session_text.specs.Grammar.{at_end, number_of_word, words_of_line}
 use Rattle.question_text.specs.declared.question.At.{At}
 use Rattle.question_text.specs.declared.question.At.TheVariants.{Current, Pin, Place}
 use Rattle.question_text.specs.declared.question.Question.{Question}
-use Rattle.question_text.specs.declared.question.Question.TheVariants.{Histogram, Garbage, Growth, Registers, Referrers, Path, Born, Wrote}
+use Rattle.question_text.specs.declared.question.Question.TheVariants.{Histogram, Garbage, Growth, Registers, Referrers, Path, Born, Wrote, Dropped}
 use Rattle.question_text.specs.Ids.{id_of_word}
 
 -- the state that a word names: `-`, `@` and a place, or the number of a pin
@@ -89,6 +89,10 @@ id_and_number ws =
 abbrev pub wrote_line : List (List ℕ) → Option Question
 wrote_line ws = option_map (λ a. Wrote a.0 a.1) (id_and_number ws)
 
+-- `dropped ID`
+abbrev pub dropped_line : List (List ℕ) → Option Question
+dropped_line ws = option_map (λ x. Dropped x) (one_id ws)
+
 -- ---- the table of questions
 
 -- a keyword, and what the words after it ask
@@ -106,6 +110,7 @@ question_rules =
     ∷ (codes "path", path_line)
     ∷ (codes "born", born_line)
     ∷ (codes "wrote", wrote_line)
+    ∷ (codes "dropped", dropped_line)
     ∷ []
 
 -- the question of these words, by the rule of the first

@@ -13,6 +13,7 @@ use crate::at::{moment_at, view_of};
 use crate::birth::born_answer;
 use crate::growth::growth_answer;
 use crate::histogram::{garbage_text, histogram_text};
+use crate::loss::dropped_answer;
 use crate::path::path_answer;
 use crate::question::{At, Question};
 use crate::referrers::referrers_answer;
@@ -117,5 +118,6 @@ pub fn answer(alloc: Global, machine: &Machine, question: Question) -> LineAnswe
         Question::Path { at, id } => told(path(alloc, machine, at, id)),
         Question::Born(id) => told(born_answer(alloc, machine, id)),
         Question::Wrote { id, slot } => told(wrote_answer(alloc, machine, id, slot)),
+        Question::Dropped(id) => told(dropped_answer(alloc, machine, id)),
     }
 }

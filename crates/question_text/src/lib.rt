@@ -14,6 +14,7 @@ mod birth;
 mod growth;
 mod histogram;
 mod id;
+mod loss;
 mod names;
 mod path;
 mod place;

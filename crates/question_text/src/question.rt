@@ -2,7 +2,7 @@
 ghost use Rattle.std.specs.Prelude.{◌≡◌};
 ghost use Rattle.session_text.specs.Grammar.{at_end, words_of_line};
 ghost use Rattle.session_text.specs.Reads.{IsNextWord};
-ghost use Rattle.question_text.specs.Questions.{at_and_id, at_of_word, born_line, garbage_line, growth_line, histogram_line, id_and_number, next_at, next_id, next_number, one_at, one_id, path_line, question_of, referrers_line, registers_line, two_ats, wrote_line};
+ghost use Rattle.question_text.specs.Questions.{at_and_id, at_of_word, born_line, dropped_line, garbage_line, growth_line, histogram_line, id_and_number, next_at, next_id, next_number, one_at, one_id, path_line, question_of, referrers_line, registers_line, two_ats, wrote_line};
 
 use crate::id::{id_of, is_word};
 use session_text::number::number_of;
@@ -38,6 +38,8 @@ pub enum Question {
     Born(u64),
     /// When a slot of an object last changed.
     Wrote { id: u64, slot: u64 },
+    /// When registers lost an object.
+    Dropped(u64),
 }
 
 // Returns the state that a word names.
@@ -195,6 +197,14 @@ fn wrote_line(words: Words) -> Option<Question>
     Some(Question::Wrote { id, slot })
 }
 
+// Reads the words of `dropped ID`.
+fn dropped_line(words: Words) -> Option<Question>
+    ensures { result ≡ dropped_line (words_of_line words.entry) }
+{
+    let id = one_id(words)?;
+    Some(Question::Dropped(id))
+}
+
 /// Returns the question that a line asks, or None if it asks none.
 #[tactic(auto, unfolding(crate::specs::Questions::question_of_words, crate::specs::Questions::question_rules))]
 pub fn question_of(line: &[u8]) -> Option<Question>
@@ -225,6 +235,9 @@ pub fn question_of(line: &[u8]) -> Option<Question>
     }
     if is_word(word, b"wrote") {
         return wrote_line(words);
+    }
+    if is_word(word, b"dropped") {
+        return dropped_line(words);
     }
     None
 }

@@ -57,12 +57,7 @@ fn garbage(alloc: Global, machine: &Machine, at: At) -> Result<Vec<u8>, Unanswer
 }
 
 // Returns the lines of `growth AT AT`. Both states are held before either is looked at.
-fn growth(
-    alloc: Global,
-    machine: &Machine,
-    older: At,
-    newer: At,
-) -> Result<Vec<u8>, Unanswered>
+fn growth(alloc: Global, machine: &Machine, older: At, newer: At) -> Result<Vec<u8>, Unanswered>
     ensures { IsAnswerBetween (IsGrowthText machine.now.ids) (image_at older machine.now)
         (image_at newer machine.now) (told_text result) }
 {
@@ -83,12 +78,7 @@ fn registers(alloc: Global, machine: &Machine, at: At) -> Result<Vec<u8>, Unansw
 }
 
 // Returns the lines of `referrers AT ID`.
-fn referrers(
-    alloc: Global,
-    machine: &Machine,
-    at: At,
-    id: u64,
-) -> Result<Vec<u8>, Unanswered>
+fn referrers(alloc: Global, machine: &Machine, at: At, id: u64) -> Result<Vec<u8>, Unanswered>
     ensures { IsAnswerAbout (IsReferrersText id) (image_at at machine.now) (told_text result) }
 {
     let moment = moment_at(machine, at)?;

@@ -26,11 +26,7 @@ fn birth_text(alloc: Global, machine: &Machine, at: ObjRef) -> Result<Vec<u8>, R
 
 /// Returns the answer of `born`. Fails with NoObject if the id names no object, and with NoMemory if an allocation fails. Reads
 /// each record since the object was made once.
-pub(crate) fn born_answer(
-    alloc: Global,
-    machine: &Machine,
-    id: u64,
-) -> Result<Vec<u8>, Unanswered>
+pub(crate) fn born_answer(alloc: Global, machine: &Machine, id: u64) -> Result<Vec<u8>, Unanswered>
     ensures { IsBornText id machine.now.trail (told_text result) }
 {
     let at = place_of_object(machine, id)?;

@@ -23,12 +23,7 @@ fn has_slot(machine: &Machine, at: ObjRef, slot: u64) -> bool
 }
 
 // Returns the line of the last write to a slot of the object at a place. Fails with NoMemory.
-fn write_text(
-    alloc: Global,
-    machine: &Machine,
-    at: ObjRef,
-    slot: u64,
-) -> Result<Vec<u8>, Refusal>
+fn write_text(alloc: Global, machine: &Machine, at: ObjRef, slot: u64) -> Result<Vec<u8>, Refusal>
     requires { IsSome (slot_word machine.now.trail.current at slot) }
     ensures text { IfOk result (λ text. IsWriteText machine.now.trail at slot text.items) }
     ensures refused { IfErr result (λ e. e ≡ NoMemory) }

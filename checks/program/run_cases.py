@@ -38,7 +38,7 @@ def sessions(program):
     yield "a line of 4,097 bytes", run(program, ["run"], b"a" * 4097 + b"\n"), (1, b"bad long\n", b"heapdbg: long\n")
 
 
-# Lines at their limits, and what each is answered in a session of its own.
+# Lines at their limits, and what each is answered in a session with no other.
 LINES_AT_THE_LIMITS = (
     (b"clear 0 " + b"0" * 20, b"ok"),
     (b"clear 0 " + b"0" * 21, b"bad command"),
@@ -60,7 +60,7 @@ def lines_at_the_limits(program):
 
 
 def read_by_one(program, count, ends):
-    """Returns what happened to a session each of whose reads gives one LF, so many times, and then the end if it has one."""
+    """Returns what happened to a session each of whose `count` reads gives one LF, and then the end if it has one."""
     ours, theirs = socket.socketpair(socket.AF_UNIX, socket.SOCK_SEQPACKET)
     pipes = {"stdin": theirs, "stdout": subprocess.PIPE, "stderr": subprocess.PIPE}
     with ours, subprocess.Popen(["heapdbg", "run"], executable=program, **pipes) as child:

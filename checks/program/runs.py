@@ -27,7 +27,7 @@ def record(tag, body):
 
 
 def dump_of_longs(count, size=8, time=0):
-    """Returns the replies to a new array of so many longs, all 0, and to the dump of that heap with ids of `size` bytes and a
+    """Returns the replies to a new array of `count` longs, all 0, and to the dump of that heap with ids of `size` bytes and a
     time. The array and its root stand in one segment if they have at most 4,096 bytes, and else in one each."""
     object_id = 0x10000000.to_bytes(size, "big")
     array = b"\x23" + object_id + bytes.fromhex("00000001") + count.to_bytes(4, "big") + b"\x0b" + bytes(8 * count)
@@ -68,7 +68,7 @@ def limited(size):
 
 
 def files(count):
-    """Returns what a child does first: it gives up all but so many open files."""
+    """Returns what a child does first: it gives up all but `count` open files."""
     return lambda: resource.setrlimit(resource.RLIMIT_NOFILE, (count, count))
 
 

@@ -17,7 +17,7 @@ use Rattle.heap_lock.specs.History.{reply_of}
 use Rattle.heap_lock.specs.Sights.{calls_of}
 use Rattle.heap_lock.specs.Ledgers.{table_of, all_in, HasCalls, HasLedger, CallsAs}
 use Rattle.heap_lock.specs.LockStates.{LockState, IsDumperAct, IsUnderLock}
-use Rattle.heap_lock.proofs.Calling.{acted_more, dumped_more}
+use Rattle.heap_lock.proofs.CallLists.{acted_more, dumped_more}
 
 done_moves : (m m' : Machine) (a : Action) (r : Reply) → acted m a ≡ (m', r) → MayReply m a m' r
 unfolding acted_under

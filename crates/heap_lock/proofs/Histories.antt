@@ -24,7 +24,7 @@ use Rattle.heap_lock.specs.LockStates.{AllSeated, table_at, IsDesk, IsUnderLock}
 use Rattle.heap_trail.proofs.ByTrail.{acts_alike, dumps_leave, place_after}
 
 -- an act that is entered leaves the trail and is answered by the trail alone
-by_trail : (m m' : Machine) (a : Action) (r : Reply) → is_dump_action a ≡ false → MayReply m a m' r → MayEnter r → (m'.trail ≡ trail_after m.keep m.trail a) × (r ≡ reply_at m.keep m.trail a) × (m'.keep ≡ m.keep) × (m'.ids ≡ m.ids)
+pub by_trail : (m m' : Machine) (a : Action) (r : Reply) → is_dump_action a ≡ false → MayReply m a m' r → MayEnter r → (m'.trail ≡ trail_after m.keep m.trail a) × (r ≡ reply_at m.keep m.trail a) × (m'.keep ≡ m.keep) × (m'.ids ≡ m.ids)
 unfolding trail_after reply_at
 by_trail m m' a r deed (mark, stands, is) enters = acts_alike Eight m m' a mark r deed is enters.0
 

@@ -8,5 +8,8 @@ pub mod Fields
 pub mod Refusals
 pub mod DumperCalls
 pub mod PieceReplies
-pub mod Sighted
-pub mod Calling
+pub mod SightSteps
+pub mod CallLists
+pub mod NumberedPins
+pub mod CallTrails
+pub mod PinTexts

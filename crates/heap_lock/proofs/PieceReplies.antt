@@ -10,7 +10,7 @@ use Rattle.heap_trail.specs.Machine.{Machine, Allocation, Granted, Denied, Loses
 use Rattle.heap_trail.specs.Pins.{PinState, Kept, Gone, pin_at}
 use Rattle.heap_lock.specs.Calls.{Call, LeadsTo, Witnesses}
 use Rattle.heap_lock.specs.Sources.{IsPieceRefusal}
-use Rattle.heap_lock.proofs.Calling.{last_replied}
+use Rattle.heap_lock.proofs.CallLists.{last_replied}
 
 -- a piece, or a refusal that one may get
 IsPieceReply : Reply → Type 0

@@ -17,7 +17,7 @@ use Rattle.heap_lock.specs.declared.sight.Sight.TheVariants.{Full}
 use Rattle.heap_lock.specs.Calls.{IsLedger}
 use Rattle.heap_lock.specs.Sights.{calls_of}
 use Rattle.heap_lock.specs.Ledgers.{table_of, all_in, HasCalls, HasLedger}
-use Rattle.heap_lock.proofs.Calling.{none_yet}
+use Rattle.heap_lock.proofs.CallLists.{none_yet}
 use Rattle.heap_lock.proofs.DumperCalls.{gained}
 use Rattle.heap_lock.specs.LockStates.{IsUnderLock, Chair, table_at, IsChair, IsDesk}
 use Rattle.heap_lock.specs.Blanks.{tables_of, chair_of, chairs, AllStubs, AllFresh}

@@ -25,20 +25,25 @@ abbrev pub chairs : ℕ → List Role → List Chair
 chairs n [] = []
 chairs n (r ∷ rs) = record { number = n; role = r; share = [] } ∷ chairs (n + 1) rs
 
+-- a seat as contracts see it
 abbrev pub chair_of : Stub → Chair
 chair_of s = record { number = s.number; role = s.role; share = tally_in s.share.views }
 
+-- the tables of all desks, in order
 abbrev pub tables_of : List Desk → List TableId
 tables_of desks = map (λ d. d.table.shared.table_id) desks
 
+-- each half of a seat fits its table
 abbrev pub AllStubs : List TableId → List Stub → Type 0
 AllStubs tables [] = Unit {0}
 AllStubs tables (s ∷ ss) = IsChair tables s.number s.share × AllStubs tables ss
 
+-- each desk has its own table, and its book is empty
 abbrev pub AllFresh : List Desk → Type 0
 AllFresh desks =
     (n : ℕ) (d : Desk) → get_elem? desks n ≡ some d → IsDesk (table_at (tables_of desks) n) [] d
 
+-- a lock that nobody has used: an opening machine, empty books, no call seen
 pub record IsBlank (config : HeapSettings) (machine : Machine) (desks : List Desk)
     (stubs : List Stub) (ledger : Ledger) : Type 0 where
   pub machine_is : machine ≡ opening_machine config.ids config.regions config.mutators config.keep

@@ -9,9 +9,11 @@ use Rattle.heap_trail.specs.Machine.{Machine, MayDrive, opening_machine, is_dump
 use Rattle.heap_lock.specs.declared.entry.Entry.{Entry}
 use Rattle.heap_lock.specs.History.{reply_of, opening, IsLegalHistory}
 
+-- an action and its reply
 abbrev pub Call : Type 0
 Call = Action × Reply
 
+-- a call that stands for none
 abbrev pub no_call : Call
 no_call = (Rewind 0, Place 0)
 

@@ -7,6 +7,7 @@ use Rattle.heap_lock.specs.declared.view.SeatView.{SeatView}
 use Rattle.heap_lock.specs.declared.view.SeatView.TheVariants.{Whole, Book, Share}
 use Rattle.heap_lock.specs.Tally.{TurnedEntry, tally_of}
 
+-- the table of a desk
 abbrev pub table_of : Desk → TableId
 table_of d = d.table.shared.table_id
 

@@ -21,6 +21,7 @@ reply_of (Told a) = Answered a
 reply_of (At p) = Place p
 reply_of (Denied r) = Refused r
 
+-- a seat's action and its outcome
 abbrev pub entry : ℕ → Action → Outcome → Entry
 entry seat action answer = record { seat = seat; action = action; answer = answer }
 

@@ -11,6 +11,7 @@ use Rattle.heap_lock.specs.declared.sight.Sight.TheVariants.{Full, Seen}
 use Rattle.heap_lock.specs.Calls.{Call, IsLedger}
 use Rattle.heap_lock.specs.Sights.{calls_of}
 
+-- the table of a ledger
 abbrev pub table_of : Ledger → TableId
 table_of l = l.table.shared.table_id
 

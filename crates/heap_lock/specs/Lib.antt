@@ -13,3 +13,4 @@ pub mod Blanks
 pub mod Audits
 pub mod Details
 pub mod Sources
+pub mod Laws

@@ -39,6 +39,7 @@ abbrev pub AllSeated : ℕ → List Entry → Type 0
 AllSeated n [] = Unit {0}
 AllSeated n (e ∷ es) = (e.seat < n) × AllSeated n es
 
+-- a table that stands for none
 abbrev pub no_table : TableId
 no_table =
     record {
@@ -51,14 +52,17 @@ no_table =
       slot_names = [];
     }
 
+-- the table of seat n
 abbrev pub table_at : List TableId → ℕ → TableId
 table_at tables n = slice_index_or tables n no_table
 
+-- a badge of seat n's table that holds a share
 abbrev pub IsChair : List TableId → ℕ → Badge SeatView → Type 0
 IsChair tables n b =
     (n < length tables) × (b.table_id ≡ table_at tables n)
     × (b.views ≡ Share (tally_in b.views) ∷ [])
 
+-- a desk with this table, whose book has these marks
 abbrev pub IsDesk : TableId → List (ℕ × Entry) → Desk → Type 0
 IsDesk table marks d =
     (d.table.shared.table_id.words ≡ 1) × (d.table.shared.table_id ≡ table)

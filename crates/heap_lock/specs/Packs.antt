@@ -103,6 +103,7 @@ has_second t = false
 abbrev pub action_with : DeedPack → ℕ → Action
 action_with d fourth = action_in d.deed d.kind d.first d.second d.third fourth
 
+-- the action of a deed, with its own last number
 abbrev pub action_by : DeedPack → Action
 action_by d = action_with d d.fourth
 
@@ -110,6 +111,7 @@ action_by d = action_with d d.fourth
 abbrev pub outcome_with : AnswerPack → ℕ → Outcome
 outcome_with a second = outcome_in a.told a.reason a.first second
 
+-- the outcome of an answer, with its own second number
 abbrev pub outcome_by : AnswerPack → Outcome
 outcome_by a = outcome_with a a.second
 

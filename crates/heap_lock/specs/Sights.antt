@@ -15,12 +15,15 @@ calls_of (Seen ys) = ys
 calls_of (Both xs ys) = xs
 calls_of Blind = []
 
+-- the same calls, as a full view
 abbrev pub full_of : Sight → Sight
 full_of v = Full (calls_of v)
 
+-- the same calls, as seen
 abbrev pub seen_of : Sight → Sight
 seen_of v = Seen (calls_of v)
 
+-- the calls of two views, side by side
 abbrev pub both_of : Sight → Sight → Sight
 both_of v w = Both (calls_of v) (calls_of w)
 
@@ -44,6 +47,7 @@ IsAdded call (Seen ys) w = Unit {0}
 IsAdded call (Both xs ys) w = Unit {0}
 IsAdded call Blind w = Unit {0}
 
+-- the view after a call is added, whose side is kept
 abbrev pub Added : Call → Me (Unit {0}) Sight → Me (Unit {0}) Sight → Type 0
 Added call m n = IsAdded call m.0 n.0 × (n.1 ≡ m.1)
 
@@ -54,5 +58,6 @@ IsCompared (Full xs) w = Unit {0}
 IsCompared (Seen ys) w = Unit {0}
 IsCompared Blind w = Unit {0}
 
+-- the view after the two sides are compared
 abbrev pub Compared : Me (Unit {0}) Sight → Me (Unit {0}) Sight → Type 0
 Compared m n = IsCompared m.0 n.0 × (n.1 ≡ m.1)

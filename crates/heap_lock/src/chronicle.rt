@@ -1,6 +1,6 @@
 //! What was done, in order.
 ghost use Rattle.std.specs.Prelude.{◌≡◌, ◌↔◌, ◌<◌, ◌++◌, ◌∷◌, [], true, length, slice_get, Some, IsTrue, OnOk};
-ghost use Rattle.heap_lock.specs.Chronicles.{HasPlace, seat_and_answer, told_at};
+ghost use Rattle.heap_lock.specs.Chronicles.{HasPlace};
 ghost use Rattle.heap_lock.specs.History.{entry};
 ghost use Rattle.heap_lock.specs.Packs.{entry_by, entry_in, TellsEntry};
 
@@ -94,19 +94,6 @@ fn tells(whole: &[Entry], pack: &Pack, seat: u64, action: &Action, answer: Outco
     }
 }
 
-// Returns the seat and the answer of the entry that a pack tells.
-fn answer_of_pack(whole: &[Entry], pack: &Pack) -> (u64, Outcome)
-    requires { HasPlace (length whole.now) pack.now }
-    ensures { result ≡ seat_and_answer (entry_in whole.now pack.now) }
-{
-    if pack.is_whole {
-        let entry = &whole[pack.first as usize];
-        return (entry.seat, entry.answer);
-    }
-    let answer = outcome_in(pack.told, pack.reason, pack.told_first, pack.fourth);
-    (pack.seat as u64, answer)
-}
-
 impl Chronicle {
     /// Creates a chronicle without entries. Takes no memory.
     #[tactic(auto, unfolding(crate::specs::Chronicles::entries_in))]
@@ -167,17 +154,6 @@ impl Chronicle {
             Some(pack) => self.push_pack(pack, &entry),
             None => self.push_whole(entry),
         }
-    }
-
-    /// Returns the seat and the answer of the entry at an index, or None if there is none. Takes no memory.
-    pub fn told_at(&self, at: usize) -> Option<(u64, Outcome)>
-        ensures { result ≡ told_at self.now.entries at }
-    {
-        if at >= self.packs.len() {
-            return None;
-        }
-        let pack = &self.packs[at];
-        Some(answer_of_pack(self.whole.as_slice(), pack))
     }
 
     /// Returns whether the entry at an index is that of the seat, the action and the answer. Returns false if there is none at

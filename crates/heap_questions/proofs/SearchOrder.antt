@@ -1,5 +1,5 @@
 -- The order in which a search finds what it finds.
-use Rattle.std.proofs.Common.{◌≡◌, ◌⊎◌, ℕ, ◌+◌, ◌<◌, ◌≤◌, Bool, true, false, List, [], ◌∷◌, ◌++◌, length, get_or, Some, refl, sym, ap, ◌∙◌, subst, inl, inr, arith}
+use Rattle.std.proofs.Common.{◌≡◌, ◌⊎◌, ℕ, ◌+◌, ◌<◌, Bool, false, List, [], ◌∷◌, ◌++◌, length, get_or, Some, sym, ap, ◌∙◌, subst, inl, inr, arith}
 use Rattle.std.specs.Prelude.{slice_get}
 use Rattle.std.proofs.lemmas.Option.{none-some, same_Some, slice_get_within}
 use Rattle.std.proofs.lemmas.Bool.{true≢false}
@@ -11,7 +11,7 @@ use Rattle.heap_questions.specs.declared.nodes.Node.{Node}
 use Rattle.heap_questions.specs.declared.search.Found.{Found}
 use Rattle.heap_questions.specs.declared.search.Via.{Via}
 use Rattle.heap_questions.specs.declared.search.Via.TheVariants.{Register, Slot}
-use Rattle.heap_questions.proofs.Got.{got_before, got_cases, got_last, got_same}
+use Rattle.heap_questions.proofs.Got.{got_cases, got_same}
 use Rattle.heap_questions.proofs.Placed.{object_found}
 
 pub ordered_none : (image : Image) (next : Via) → IsOrdered image [] next

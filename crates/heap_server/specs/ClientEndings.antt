@@ -19,6 +19,7 @@ SendsAfter between w' failed Whole = (failed ≡ false) × PutsLastLine between 
 SendsAfter between w' failed ReadFault = (failed ≡ true) × PutsLastLine between w'
 SendsAfter between w' failed WriteFault = (failed ≡ false) × (w' ≡ between)
 
+-- what is read is written on until the input ends, a read fails or a write does
 abbrev pub Sends : Incoming → Incoming → Outgoing → Outgoing → Bool → Type 0
 Sends a b w w' failed =
     (copied : Copied) × (between : Outgoing) × Copies a b w between copied

@@ -3,6 +3,7 @@ use Rattle.std.specs.Prelude.{ℕ, ◌+◌, List, [], ◌∷◌, ◌++◌, codes
 use Rattle.session_text.specs.declared.Ended.{Ended}
 use Rattle.session_text.specs.declared.Ended.TheVariants.{Quit, Eof, CutLine, TooLong, ReadFault, TooManyReads, WriteFault, NoMemory}
 
+-- the word that names how a session ended
 abbrev pub word_of_ending : Ended → List ℕ
 word_of_ending Quit = codes "quit"
 word_of_ending Eof = codes "eof"

@@ -10,7 +10,8 @@ ghost use Rattle.heap_server.specs.JoinedActs.{IsReply, IsLegalPart};
 use heap_class::Refusal;
 use heap_lock::{Heap, Outcome, Receipt, Seat, Shared, Witness};
 use heap_trail::{Action, Reply};
-use session_text::Commands;
+use session_text::{Commands, LineAnswer};
+use std::alloc::Global;
 use std::sync::Wait;
 
 /// A user's seat, with its heap. What others do on the heap goes on between any two actions. Contracts see the seat, whose
@@ -111,9 +112,12 @@ impl<'a, L: Heap, R: Wait> Joined<'a, L, R> {
 }
 
 impl<'a, L: Heap, R: Wait> Commands for Joined<'a, L, R> {
+    ghost use Rattle.session_text.specs.Answers.{all_bad};
     ghost use Rattle.heap_server.specs.JoinedActs.{IsJoined};
 
     ghost acts = { λ c a r d. IsJoined L.config c.seat c.witness a r d.seat d.witness };
+
+    ghost unknown = { all_bad };
 
     fn act(&mut self, action: Action) -> Reply {
         match action {
@@ -123,5 +127,9 @@ impl<'a, L: Heap, R: Wait> Commands for Joined<'a, L, R> {
             Action::NextPiece { pin, time } => self.part(pin, time),
             Action::ClosePin(pin) => self.reply_to_close(pin),
         }
+    }
+
+    fn answer_unknown(&mut self, _alloc: Global, _line: &[u8]) -> LineAnswer {
+        LineAnswer::BadCommand
     }
 }

@@ -150,7 +150,7 @@ fn condemned(world: &mut World) -> Result<u64, Fail> {
 // Returns the number of objects that a sweep takes out of the first region, and whether it leaves none.
 fn swept(world: &mut World) -> Result<(u64, bool), Fail> {
     let reclaimed = world.sweep(0)?;
-    Ok((reclaimed.dead(), reclaimed.emptied()))
+    Ok((reclaimed.dead(), reclaimed.is_emptied()))
 }
 
 // Asserts that a cycle condemns an array and that a sweep empties its region.

@@ -1,2 +1,3 @@
 pub mod SupplySteps
 pub mod ToldStreams
+pub mod LiveTexts

@@ -48,6 +48,11 @@ abbrev pub told_supply : List Piece → ℕ → Option Ending → Supply
 told_supply given count ended =
     record { told = Some given; ended = ended; left = part_limit - count }
 
+-- the calls that a log has first
+abbrev pub first_in : List (List Call × Unit {0}) → List Call
+first_in [] = []
+first_in (e ∷ es) = e.0
+
 -- the pieces of a log
 abbrev pub pieces_in : List (Piece × Unit {0}) → List Piece
 pieces_in entries = map (λ e. e.0) entries

@@ -9,7 +9,6 @@ use heap_lock::{Heap, LockedSource, Shared, Witness};
 use hprof_text::Piece;
 use http_server::Log;
 use std::marker::Model;
-use std::snapshot::Snapshot;
 use std::sync::Wait;
 
 /// A source over the lock of a shared heap. Contracts see its pin, its time, what its witness had seen and has seen, the pieces
@@ -17,13 +16,13 @@ use std::sync::Wait;
 #[derive(Drop)]
 pub struct ToldSource<'a, L: Heap, R: Wait> {
     source: LockedSource<'a, L, R>,
-    start: Snapshot<Witness<L>>,
+    start: Log<Witness<L>, ()>,
     given: Log<Piece, ()>,
     ended: Option<Ending>,
 }
 
 impl<'a, L: Heap, R: Wait> Model for ToldSource<'a, L, R> {
-    ghost use Rattle.live_dump.specs.Supplies.{ToldSupply, IsSupplied, pieces_in};
+    ghost use Rattle.live_dump.specs.Supplies.{ToldSupply, IsSupplied, first_in, pieces_in};
 
     ghost Value = { ToldSupply };
 
@@ -31,7 +30,7 @@ impl<'a, L: Heap, R: Wait> Model for ToldSource<'a, L, R> {
         record {
           pin = s.source.pin;
           time = s.source.time;
-          start = s.start.value;
+          start = first_in s.start.items;
           seen = s.source.witness;
           given = pieces_in s.given.items;
           count = s.source.count;
@@ -42,7 +41,7 @@ impl<'a, L: Heap, R: Wait> Model for ToldSource<'a, L, R> {
         (record {
           pin = s.source.pin;
           time = s.source.time;
-          start = s.start.value;
+          start = first_in s.start.items;
           seen = s.source.witness;
           given = pieces_in s.given.items;
           count = s.source.count;
@@ -78,7 +77,7 @@ impl<'a, L: Heap, R: Wait> ToldSource<'a, L, R> {
     ) -> ToldSource<'a, L, R>
         ensures { result ≡ nothing_of pin time witness }
     {
-        let start = Snapshot::of(&witness);
+        let start = Log::new().and(&witness, &());
         ToldSource {
             source: LockedSource::new(shared, rt, witness, pin, time),
             start,

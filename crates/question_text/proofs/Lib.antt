@@ -2,3 +2,4 @@ pub mod Totals
 pub mod RankedRows
 pub mod PinImages
 pub mod NewWords
+pub mod NamedObjects

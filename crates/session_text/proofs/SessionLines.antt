@@ -1,5 +1,5 @@
 -- The lines of a session over a private machine, and its endings.
-use Rattle.std.proofs.Common.{ℕ, ◌≡◌, zero, suc, ◌+◌, ◌<◌, ◌≤◌, true, false, List, [], ◌∷◌, ◌++◌, take, length, refl, ap, sym, ◌∙◌, subst, arith, append_assoc}
+use Rattle.std.proofs.Common.{◌≡◌, ℕ, zero, suc, ◌<◌, ◌≤◌, true, false, List, [], ◌∷◌, ◌++◌, take, length, refl, ap, sym, ◌∙◌, subst, arith, append_assoc}
 use Rattle.std.specs.Prelude.{nat_lt, if◌then◌else◌}
 use Rattle.std.specs.Bool.{◌==◌}
 use Rattle.std.specs.List.{onto_first}
@@ -15,7 +15,7 @@ use Rattle.session_text.specs.declared.ReadEnd.TheVariants.{Over, Failed, Spent}
 use Rattle.session_text.specs.declared.commands.Local.{Local}
 use Rattle.session_text.specs.Answers.{AnswersCommand, all_bad}
 use Rattle.session_text.specs.Grammar.{command_of}
-use Rattle.session_text.specs.Inlets.{Incoming, whole}
+use Rattle.session_text.specs.Inlets.{Incoming}
 use Rattle.session_text.specs.Lines.{NoLf}
 use Rattle.session_text.specs.Session.{Talk, after_command, go_on, FitsCommand, FitLines, at_end, at_long, talked}
 use Rattle.session_text.specs.Talks.{IsLine, IsLong, AnswersAll, stream, IsQuit, EndsCleanly}

@@ -1,5 +1,5 @@
 -- The session of a private machine, from that for any commands.
-use Rattle.std.proofs.Common.{◌≡◌, ◌+◌, ◌⊎◌, inl, inr, false, List, [], ◌++◌, refl, ap, sym, ◌∙◌, subst, arith, append_assoc, length-append, ℕ}
+use Rattle.std.proofs.Common.{◌≡◌, ℕ, ◌⊎◌, inl, inr, false, List, [], ◌++◌, refl, ap, sym, ◌∙◌, subst, arith, append_assoc, length-append}
 use Rattle.std.proofs.lemmas.List.{append-nil}
 use Rattle.std.specs.Io.KnownBytes.{Keeps}
 use mathlib.Core.List.{IsPrefix}
@@ -18,7 +18,7 @@ use Rattle.session_text.specs.Talks.{stream, IsTalk, EndsCleanly, FailsWhileWrit
 use Rattle.session_text.specs.Writes.{IsCutShort, IsTextWritten}
 use Rattle.session_text.proofs.AnsweredLines.{served_fails}
 use Rattle.session_text.proofs.SessionCommands.{parts, talk, acts}
-use Rattle.session_text.proofs.SessionLines.{line_then, line_fit, passes, alone, FitsEnd, closes_so}
+use Rattle.session_text.proofs.SessionLines.{line_then, line_fit, passes, FitsEnd, closes_so}
 use Rattle.session_text.proofs.CutAnswers.{fine, begins_itself, stays, begins_so}
 
 session_lines : (time : ℕ) (e : ReadEnd) (bytes rest : List ℕ) (c : Local) (text : List ℕ) (d : Local) (k : IsTalk (AnswersCommand acts all_bad time) bytes c rest text d) (ms : List Allocation)

@@ -1,7 +1,6 @@
 use Rattle.std.proofs.Common.{length, arith}
-use Rattle.heap_questions.specs.declared.search.Via.TheVariants.{Register, Slot}
+use Rattle.heap_questions.specs.declared.search.Via.TheVariants.{Slot}
 use Rattle.heap_questions.proofs.Searching.{are_seen, searched}
-use Rattle.heap_questions.proofs.SearchOrder.{ordered_none}
 use Rattle.heap_questions.proofs.search.search.Goals as goal
 
 pub loop-head-preserved : goal.loop-head-preserved

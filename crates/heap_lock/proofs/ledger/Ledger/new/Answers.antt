@@ -1,4 +1,4 @@
-use Rattle.heap_lock.proofs.Sighted.{begins}
+use Rattle.heap_lock.proofs.SightSteps.{begins}
 use Rattle.heap_lock.proofs.ledger.Ledger.new.Goals as goal
 
 pub of_words-requires : goal.of_words-requires

@@ -1,5 +1,5 @@
 use Rattle.std.proofs.Common.{ap, sym, ◌∙◌, arith}
-use Rattle.heap_lock.proofs.Sighted.{adds_as}
+use Rattle.heap_lock.proofs.SightSteps.{adds_as}
 use Rattle.heap_lock.proofs.ledger.Ledger.note.Goals as goal
 
 pub load-requires : goal.load-requires

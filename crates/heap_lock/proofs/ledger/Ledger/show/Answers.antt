@@ -2,7 +2,7 @@ use Rattle.std.proofs.Common.{◌≡◌, [], ap, ◌∙◌, arith}
 use Rattle.heap_lock.specs.declared.sight.Sight.TheVariants.{Both}
 use Rattle.heap_lock.specs.Sights.{calls_of}
 use Rattle.heap_lock.specs.Ledgers.{calls_in, all_in}
-use Rattle.heap_lock.proofs.Sighted.{splits_as, joins_as, compares_as, compared_as, head_is}
+use Rattle.heap_lock.proofs.SightSteps.{splits_as, joins_as, compares_as, compared_as, head_is}
 use Rattle.heap_lock.proofs.ledger.Ledger.show.Goals as goal
 
 pub join_seat-requires : goal.join_seat-requires

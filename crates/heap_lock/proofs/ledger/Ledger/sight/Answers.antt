@@ -1,5 +1,5 @@
 use Rattle.std.proofs.Common.{ap, arith}
-use Rattle.heap_lock.proofs.Sighted.{splits_as}
+use Rattle.heap_lock.proofs.SightSteps.{splits_as}
 use Rattle.heap_lock.proofs.ledger.Ledger.sight.Goals as goal
 
 pub split_seat-requires : goal.split_seat-requires

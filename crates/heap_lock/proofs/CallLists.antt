@@ -60,7 +60,7 @@ none_yet config = record { leads = driven_none _; acts = refl }
 abbrev pub Leads : Machine → List Call → Machine → Type 0
 Leads m cs n = MayDrive m (map (λ c. c.0) cs) (map (λ c. c.1) cs) n
 
-leads_head : (m n : Machine) (c : Call) (cs : List Call) → Leads m (c ∷ cs) n → (k : Machine) × MayReply m c.0 k c.1 × Leads k cs n
+pub leads_head : (m n : Machine) (c : Call) (cs : List Call) → Leads m (c ∷ cs) n → (k : Machine) × MayReply m c.0 k c.1 × Leads k cs n
 unfolding machine_after replies_of
 leads_head m n c cs ([], actions, marks, replies, ends) = absurd (cc actions)
 leads_head m n c cs (x ∷ marked, actions, marks, replies, ends) =

@@ -29,6 +29,8 @@ fn birth_text(alloc: Global, machine: &Machine, at: ObjRef) -> Result<Vec<u8>, R
 pub(crate) fn born_answer(alloc: Global, machine: &Machine, id: u64) -> Result<Vec<u8>, Unanswered>
     ensures { IsBornText id machine.now.trail (told_text result) }
 {
-    let at = place_of_object(machine, id)?;
+    let Some(at) = place_of_object(machine, id) else {
+        return Err(Unanswered::NoObject);
+    };
     Ok(birth_text(alloc, machine, at)?)
 }

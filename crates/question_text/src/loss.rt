@@ -53,6 +53,8 @@ pub(crate) fn dropped_answer(
 ) -> Result<Vec<u8>, Unanswered>
     ensures { IsDroppedText id machine.now.trail (told_text result) }
 {
-    let at = place_of_object(machine, id)?;
+    let Some(at) = place_of_object(machine, id) else {
+        return Err(Unanswered::NoObject);
+    };
     Ok(loss_text_at(alloc, machine, at)?)
 }

@@ -1,26 +1,21 @@
 //! Answers that name a place.
-ghost use Rattle.std.specs.Prelude.{◌≡◌, ◌++◌, None, IfErr, IfOk};
+ghost use Rattle.std.specs.Prelude.{◌≡◌, ◌++◌, None, MatchOption, IfErr, IfOk};
 ghost use Rattle.heap_class.specs.declared.Refusal.TheVariants.{NoMemory};
 ghost use Rattle.heap_region.specs.Regions.{object_of};
 ghost use Rattle.session_text.specs.Replies.{and_number, line};
-ghost use Rattle.question_text.specs.declared.rows.Unanswered.TheVariants.{NoObject};
 ghost use Rattle.question_text.specs.Places.{StandsAt, older_text, place_text};
 
-use crate::rows::{Unanswered, push_number, push_words};
+use crate::rows::{push_number, push_words};
 use heap_class::{ObjRef, Refusal};
 use heap_trail::Machine;
 use std::alloc::Global;
 
-/// Returns the place of the object that an id names in the current state, dead or not. Fails with NoObject if it names none.
-pub(crate) fn place_of_object(machine: &Machine, id: u64) -> Result<ObjRef, Unanswered>
-    ensures found { IfOk result (λ at. StandsAt machine.now.trail.current id at) }
-    ensures missing { IfErr result
-        (λ e. (e ≡ NoObject) × (object_of machine.now.trail.current.regions id ≡ None)) }
+/// Returns the place of the object that an id names in the current state, dead or not, or None if it names none.
+pub(crate) fn place_of_object(machine: &Machine, id: u64) -> Option<ObjRef>
+    ensures { MatchOption result (object_of machine.now.trail.current.regions id ≡ None)
+        (λ at. StandsAt machine.now.trail.current id at) }
 {
-    match machine.world().regions().find(id) {
-        Some(at) => Ok(at),
-        None => Err(Unanswered::NoObject),
-    }
+    machine.world().regions().find(id)
 }
 
 // Returns a line of some words and a number. Fails with NoMemory.

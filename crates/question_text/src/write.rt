@@ -44,7 +44,9 @@ pub(crate) fn wrote_answer(
 ) -> Result<Vec<u8>, Unanswered>
     ensures { IsWroteText id slot machine.now.trail (told_text result) }
 {
-    let at = place_of_object(machine, id)?;
+    let Some(at) = place_of_object(machine, id) else {
+        return Err(Unanswered::NoObject);
+    };
     if !has_slot(machine, at, slot) {
         return Err(Unanswered::Refused(Refusal::BadSlot));
     }

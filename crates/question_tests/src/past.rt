@@ -1,6 +1,6 @@
 //! Who wrote a slot, when an object was created, and the newest steps.
 use heap_class::ObjRef;
-use heap_past::{PastStep, birth, history, last_write};
+use heap_past::{PastEvent, PastStep, birth, history, last_write};
 use heap_scripts::{FIRST, SECOND, machine_after, new, settings, store};
 use heap_step::Event;
 use heap_trail::Machine;
@@ -113,8 +113,48 @@ fn a_cell_used_again_has_a_new_object(rt: HostRuntime) -> Result<(), Fail> {
 }
 
 // Returns a step that led to a place.
-fn step(place: u64, object: Option<u64>) -> PastStep {
-    PastStep { place, object }
+fn step(place: u64, event: PastEvent) -> PastStep {
+    PastStep { place, event }
+}
+
+// Returns the making of a node in a register that was null.
+fn made(object: u64, r: u64) -> PastEvent {
+    PastEvent::New {
+        object,
+        m: 0,
+        r,
+        old: 0,
+    }
+}
+
+// Returns the steps of the machine in which a cell is used again, the newest first.
+fn all_steps() -> [PastStep; 10] {
+    let cleared = PastEvent::Register {
+        m: 0,
+        r: 0,
+        old: FIRST,
+    };
+    let put = PastEvent::Put {
+        object: FIRST,
+        slot: 1,
+        old: 0,
+    };
+    let marked = PastEvent::Mark {
+        parent: SECOND,
+        pushed: 0,
+    };
+    [
+        step(10, made(FIRST, 0)),
+        step(9, PastEvent::Sweep { region: 0, dead: 1 }),
+        step(8, PastEvent::Finish { log: 0 }),
+        step(7, marked),
+        step(6, PastEvent::Snap),
+        step(5, cleared),
+        step(4, put),
+        step(3, made(SECOND, 1)),
+        step(2, made(FIRST, 0)),
+        step(1, PastEvent::Class),
+    ]
 }
 
 // Tells whether these are the newest steps in the machine in which a cell is used again.
@@ -126,27 +166,15 @@ fn has_steps(alloc: Global, count: u64, steps: &[PastStep]) -> Result<bool, Fail
 #[test]
 fn newest_steps_come_first(rt: HostRuntime) -> Result<(), Fail> {
     let alloc = rt.alloc();
-    let last = [step(10, Some(FIRST)), step(9, None), step(8, None)];
-    let right = has_steps(alloc, 3, &last)? && has_steps(alloc, 0, &[])?;
+    let all = all_steps();
+    let right = has_steps(alloc, 3, &all[..3])? && has_steps(alloc, 0, &[])?;
     assert!(rt; right);
     Ok(())
 }
 
 #[test]
 fn all_steps_are_told(rt: HostRuntime) -> Result<(), Fail> {
-    let all = [
-        step(10, Some(FIRST)),
-        step(9, None),
-        step(8, None),
-        step(7, None),
-        step(6, None),
-        step(5, None),
-        step(4, Some(FIRST)),
-        step(3, Some(SECOND)),
-        step(2, Some(FIRST)),
-        step(1, None),
-    ];
-    let right = has_steps(rt.alloc(), 99, &all)?;
+    let right = has_steps(rt.alloc(), 99, &all_steps())?;
     assert!(rt; right);
     Ok(())
 }

@@ -11,5 +11,6 @@ pub mod Places
 pub mod Births
 pub mod Writes
 pub mod Losses
+pub mod Histories
 pub mod Answers
 pub mod Sessions

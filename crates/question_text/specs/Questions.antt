@@ -5,7 +5,7 @@ use Rattle.session_text.specs.Grammar.{at_end, number_of_word, words_of_line}
 use Rattle.question_text.specs.declared.question.At.{At}
 use Rattle.question_text.specs.declared.question.At.TheVariants.{Current, Pin, Place}
 use Rattle.question_text.specs.declared.question.Question.{Question}
-use Rattle.question_text.specs.declared.question.Question.TheVariants.{Histogram, Garbage, Growth, Registers, Referrers, Path, Born, Wrote, Dropped}
+use Rattle.question_text.specs.declared.question.Question.TheVariants.{Histogram, Garbage, Growth, Registers, Referrers, Path, Born, Wrote, Dropped, History}
 use Rattle.question_text.specs.Ids.{id_of_word}
 
 -- the state that a word names: `-`, `@` and a place, or the number of a pin
@@ -93,6 +93,14 @@ wrote_line ws = option_map (λ a. Wrote a.0 a.1) (id_and_number ws)
 abbrev pub dropped_line : List (List ℕ) → Option Question
 dropped_line ws = option_map (λ x. Dropped x) (one_id ws)
 
+-- the one number that the words name
+abbrev pub one_number : List (List ℕ) → Option ℕ
+one_number ws = option_and_then (λ n. at_end n.0 n.1) (next_number ws)
+
+-- `history N`
+abbrev pub history_line : List (List ℕ) → Option Question
+history_line ws = option_map (λ n. History n) (one_number ws)
+
 -- ---- the table of questions
 
 -- a keyword, and what the words after it ask
@@ -111,6 +119,7 @@ question_rules =
     ∷ (codes "born", born_line)
     ∷ (codes "wrote", wrote_line)
     ∷ (codes "dropped", dropped_line)
+    ∷ (codes "history", history_line)
     ∷ []
 
 -- the question of these words, by the rule of the first

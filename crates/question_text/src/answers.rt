@@ -13,6 +13,7 @@ use crate::at::{moment_at, view_of};
 use crate::birth::born_answer;
 use crate::growth::growth_answer;
 use crate::histogram::{garbage_text, histogram_text};
+use crate::history::history_answer;
 use crate::loss::dropped_answer;
 use crate::path::path_answer;
 use crate::question::{At, Question};
@@ -109,5 +110,6 @@ pub fn answer(alloc: Global, machine: &Machine, question: Question) -> LineAnswe
         Question::Born(id) => told(born_answer(alloc, machine, id)),
         Question::Wrote { id, slot } => told(wrote_answer(alloc, machine, id, slot)),
         Question::Dropped(id) => told(dropped_answer(alloc, machine, id)),
+        Question::History(count) => told(history_answer(alloc, machine, count)),
     }
 }

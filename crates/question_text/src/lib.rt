@@ -13,6 +13,7 @@ mod at;
 mod birth;
 mod growth;
 mod histogram;
+mod history;
 mod id;
 mod loss;
 mod names;

@@ -2,7 +2,7 @@
 ghost use Rattle.std.specs.Prelude.{◌≡◌};
 ghost use Rattle.session_text.specs.Grammar.{at_end, words_of_line};
 ghost use Rattle.session_text.specs.Reads.{IsNextWord};
-ghost use Rattle.question_text.specs.Questions.{at_and_id, at_of_word, born_line, dropped_line, garbage_line, growth_line, histogram_line, id_and_number, next_at, next_id, next_number, one_at, one_id, path_line, question_of, referrers_line, registers_line, two_ats, wrote_line};
+ghost use Rattle.question_text.specs.Questions.{at_and_id, at_of_word, born_line, dropped_line, garbage_line, growth_line, histogram_line, history_line, id_and_number, next_at, next_id, next_number, one_at, one_id, one_number, path_line, question_of, referrers_line, registers_line, two_ats, wrote_line};
 
 use crate::id::{id_of, is_word};
 use session_text::number::number_of;
@@ -40,6 +40,8 @@ pub enum Question {
     Wrote { id: u64, slot: u64 },
     /// When registers lost an object.
     Dropped(u64),
+    /// What the newest retained steps did: how many of them.
+    History(u64),
 }
 
 // Returns the state that a word names.
@@ -205,6 +207,22 @@ fn dropped_line(words: Words) -> Option<Question>
     Some(Question::Dropped(id))
 }
 
+// Returns the one number that the words name.
+fn one_number(mut words: Words) -> Option<u64>
+    ensures { result ≡ one_number (words_of_line words.entry) }
+{
+    let number = next_number(&mut words)?;
+    at_end(number, words)
+}
+
+// Reads the words of `history N`.
+fn history_line(words: Words) -> Option<Question>
+    ensures { result ≡ history_line (words_of_line words.entry) }
+{
+    let count = one_number(words)?;
+    Some(Question::History(count))
+}
+
 /// Returns the question that a line asks, or None if it asks none.
 #[tactic(auto, unfolding(crate::specs::Questions::question_of_words, crate::specs::Questions::question_rules))]
 pub fn question_of(line: &[u8]) -> Option<Question>
@@ -238,6 +256,9 @@ pub fn question_of(line: &[u8]) -> Option<Question>
     }
     if is_word(word, b"dropped") {
         return dropped_line(words);
+    }
+    if is_word(word, b"history") {
+        return history_line(words);
     }
     None
 }

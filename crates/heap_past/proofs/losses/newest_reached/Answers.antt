@@ -15,7 +15,7 @@ returns-then-middle-low-clause-newest c =
     let at = c.args.at in
     let n = c.loop-newest.low + (c.loop-newest.last - c.loop-newest.low) / 2 in
     let id : c.id-id.result ≡ id_now t at =
-        c.id-id.ensures.value ∙ ap (λ (s : RegionPool). id_of s.regions at) c.regions.ensures ∙ ap (λ (w : HeapState). id_of w.regions at) c.world.ensures.value in
+    c.id-id.ensures.value ∙ ap (λ (s : RegionPool). id_of s.regions at) c.regions.ensures ∙ ap (λ (w : HeapState). id_of w.regions at) c.world.ensures.value in
     let within : n ≤ c.args.oldest = omega (arith, c.loop-newest.invariant.within, c.loop-newest.invariant.ordered) in
     let reached = subst (Reaches (state_ago n t)) id (c.in_ok-was_reached.ensures.told.0 c.if-branch.true) in
     newest_here t at c.args.oldest n within reached (subst (UnreachedFor t at) (sym c.if-middle-low.true) c.loop-newest.invariant.below)
@@ -26,10 +26,10 @@ returns-then-middle-last-clause-newest c =
     let at = c.args.at in
     let n = c.loop-newest.low + (c.loop-newest.last - c.loop-newest.low) / 2 in
     let id : c.id-id.result ≡ id_now t at =
-        c.id-id.ensures.value ∙ ap (λ (s : RegionPool). id_of s.regions at) c.regions.ensures ∙ ap (λ (w : HeapState). id_of w.regions at) c.world.ensures.value in
+    c.id-id.ensures.value ∙ ap (λ (s : RegionPool). id_of s.regions at) c.regions.ensures ∙ ap (λ (w : HeapState). id_of w.regions at) c.world.ensures.value in
     let within : n ≤ c.args.oldest = omega (arith, c.loop-newest.invariant.within, c.loop-newest.invariant.ordered) in
     let unreached : ¬ Reaches (state_ago n t) (id_now t at) =
-        λ r. true≢false (sym (c.in_ok-was_reached.ensures.told.1 (subst (Reaches (state_ago n t)) (sym id) r)) ∙ c.if-branch.false) in
+    λ r. true≢false (sym (c.in_ok-was_reached.ensures.told.1 (subst (Reaches (state_ago n t)) (sym id) r)) ∙ c.if-branch.false) in
     newest_left t at c.args.oldest c.loop-newest.last c.loop-newest.newest c.loop-newest.invariant.above
     (subst (λ k. UnreachedFor t at (k + 1)) c.if-middle-last.true (unreached_more c.args.machine.now.keep t at c.args.oldest n c.place-place.ensures.trail c.requires within unreached))
 
@@ -39,10 +39,10 @@ loop-newest-preserved c =
     let at = c.args.at in
     let n = c.loop-newest.low + (c.loop-newest.last - c.loop-newest.low) / 2 in
     let id : c.id-id.result ≡ id_now t at =
-        c.id-id.ensures.value ∙ ap (λ (s : RegionPool). id_of s.regions at) c.regions.ensures ∙ ap (λ (w : HeapState). id_of w.regions at) c.world.ensures.value in
+    c.id-id.ensures.value ∙ ap (λ (s : RegionPool). id_of s.regions at) c.regions.ensures ∙ ap (λ (w : HeapState). id_of w.regions at) c.world.ensures.value in
     let within : n ≤ c.args.oldest = omega (arith, c.loop-newest.invariant.within, c.loop-newest.invariant.ordered) in
     let unreached : ¬ Reaches (state_ago n t) (id_now t at) =
-        λ r. true≢false (sym (c.in_ok-was_reached.ensures.told.1 (subst (Reaches (state_ago n t)) (sym id) r)) ∙ c.if-branch.false) in
+    λ r. true≢false (sym (c.in_ok-was_reached.ensures.told.1 (subst (Reaches (state_ago n t)) (sym id) r)) ∙ c.if-branch.false) in
     record {
       ordered = omega (arith, c.loop-newest.invariant.ordered, c.if-middle-last.false);
       within = c.loop-newest.invariant.within;

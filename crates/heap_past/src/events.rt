@@ -1,5 +1,6 @@
 //! What retained steps did, and what they overwrote.
 ghost use Rattle.std.specs.Prelude.{◌≡◌};
+ghost use Rattle.heap_past.specs.declared.events.PastEvent.TheVariants.{New, Register};
 ghost use Rattle.heap_past.specs.Newest.{event_with};
 
 use heap_step::Undo;
@@ -60,6 +61,29 @@ pub enum PastEvent {
     },
 }
 
+// Returns the writing of a register.
+fn register_event(m: u8, r: u8, old: u64) -> PastEvent
+    ensures { result ≡ Register m r old }
+{
+    PastEvent::Register {
+        m: m as u64,
+        r: r as u64,
+        old,
+    }
+}
+
+// Returns the making of an object.
+fn new_event(object: u64, m: u8, r: u8, old: u64) -> PastEvent
+    ensures { result ≡ New object m r old }
+{
+    PastEvent::New {
+        object,
+        m: m as u64,
+        r: r as u64,
+        old,
+    }
+}
+
 /// Returns what the step with this record did, given the id of the object that it wrote or created.
 pub(crate) fn event_with(left: &Undo, object: u64) -> PastEvent
     ensures { result ≡ event_with left.now object }
@@ -75,17 +99,8 @@ pub(crate) fn event_with(left: &Undo, object: u64) -> PastEvent
             slot: *slot as u64,
             old: *old,
         },
-        Undo::Reg { m, r, old } => PastEvent::Register {
-            m: *m as u64,
-            r: *r as u64,
-            old: *old,
-        },
-        Undo::New { m, r, old, .. } => PastEvent::New {
-            object,
-            m: *m as u64,
-            r: *r as u64,
-            old: *old,
-        },
+        Undo::Reg { m, r, old } => register_event(*m, *r, *old),
+        Undo::New { m, r, old, .. } => new_event(object, *m, *r, *old),
         Undo::Class => PastEvent::Class,
         Undo::Snap => PastEvent::Snap,
         Undo::Mark { parent, pushed } => PastEvent::Mark {

@@ -1,5 +1,5 @@
 # The commands of this repository. README says what each is for.
-.PHONY: run build prove test edits bench bench-lock soak audit
+.PHONY: run build prove test edits bench bench-lock soak audit install uninstall dist
 
 # How many crates `make prove` checks side by side. Each takes up to 6 GB of memory.
 JOBS ?= 3
@@ -26,8 +26,9 @@ test:
 	@python3 checks/cases.py crates/heapdbg/out/heapdbg crates/heapdbg/out/heapdbg.by-rattle
 	@python3 checks/streams.py crates/heapdbg/out/heapdbg crates/heapdbg/out/heapdbg.by-rattle
 	@python3 checks/model crates/heapdbg/out/heapdbg crates/heapdbg/out/heapdbg.by-rattle
-	@python3 checks/program.py crates/heapdbg/out/heapdbg crates/heapdbg/out/heapdbg.by-rattle
+	@python3 checks/program crates/heapdbg/out/heapdbg crates/heapdbg/out/heapdbg.by-rattle
 	@python3 checks/sockets.py crates/heapdbg/out/heapdbg
+	@python3 clients/python/test_heapdbg.py crates/heapdbg/out/heapdbg
 
 # Tries the edits that are not in the gate: of all crates, or of those that CRATE names.
 edits:
@@ -51,3 +52,28 @@ soak:
 # Has 16 threads act on a heap under its lock, and their receipts audited. Builds a program of its own in a temporary folder.
 audit:
 	SECONDS=$(SECONDS) python3 bench/audit.py
+
+# Where `make install` puts things: below DESTDIR if that is given.
+PREFIX ?= /usr/local
+VERSION := $(shell sed -n 's/.*VERSION: &str = "\(.*\)";/\1/p' crates/heapdbg/src/refusal.rt)
+DOCS := README.md CHANGES.md $(wildcard docs/*.md)
+BINDIR = $(DESTDIR)$(PREFIX)/bin
+MANDIR = $(DESTDIR)$(PREFIX)/share/man/man1
+BASHDIR = $(DESTDIR)$(PREFIX)/share/bash-completion/completions
+DOCDIR = $(DESTDIR)$(PREFIX)/share/doc/heapdbg
+
+# Installs what `make build` left: the program, its manual page, completions for bash and the documents.
+install:
+	install -D bin/heapdbg $(BINDIR)/heapdbg
+	install -D -m 644 man/heapdbg.1 $(MANDIR)/heapdbg.1
+	install -D -m 644 completions/heapdbg.bash $(BASHDIR)/heapdbg
+	install -d $(DOCDIR)
+	install -m 644 $(DOCS) $(DOCDIR)
+
+uninstall:
+	rm -f $(BINDIR)/heapdbg $(MANDIR)/heapdbg.1 $(BASHDIR)/heapdbg
+	rm -rf $(DOCDIR)
+
+# Packs the same, with an account of what proved it, into dist/.
+dist:
+	bash bench/dist.sh $(VERSION)

@@ -10,7 +10,7 @@ atomic_table"""
 PICKS = """use Rattle.{name}.proofs.done.Given as goal
 
 abbrev pub ghosts-{opener} : goal.ghosts-{opener}
-ghosts-{opener} g a = record {{ config = a.blank.config; tables = a.blank.tables }}
+ghosts-{opener} g a = record {{ config = a.blank.config; tables = a.blank.tables; ledger = a.blank.ledger }}
 """
 
 

@@ -15,11 +15,13 @@ import sys
 import tempfile
 
 TOP = pathlib.Path(__file__).resolve().parent.parent
-sys.path[:0] = [str(TOP / "checks"), str(TOP / "checks/model")]
+sys.path[:0] = [str(TOP / "checks"), str(TOP / "checks/model"), str(TOP / "checks/program")]
 
 from cases import stored  # noqa: E402
-from program import ARRAY, EXAMPLE, EXAMPLE_REPLIES, POINT, POINT_DUMP, POINT_MADE, dump_of_longs  # noqa: E402
-from program import asked, ended_by, received, saved_to, served  # noqa: E402
+from clients import asked, ended_by, served  # noqa: E402
+from runs import EXAMPLE, EXAMPLE_REPLIES, POINT, POINT_DUMP, POINT_MADE, dump_of_longs  # noqa: E402
+from save_cases import received, saved_to  # noqa: E402
+from serve_cases import ARRAY  # noqa: E402
 from session import answers_of  # noqa: E402
 
 SOURCE = TOP / "checks/streams.c"

@@ -12,6 +12,7 @@ import os
 import subprocess
 import sys
 
+from asks import LEAST, WANTED, AskingDraw
 from draws import Draw
 from sights import Sights
 
@@ -32,8 +33,12 @@ SESSIONS = {
     "spread": (Draw.spread, (1500,), 6, {"regions": 40, "mutators": 6, "keep": 100}),
     "spoken": (Draw.speak, (600,), 2, {"regions": 2, "keep": 50}),
     "limits": (Draw.reach_limits, (), 1, {"regions": 256, "mutators": 16, "keep": 65536}),
+    "asked": (AskingDraw.play, (1500,), 8, {"regions": 5, "keep": 40}),
+    "asked-short": (AskingDraw.play, (1000,), 4, {"regions": 4, "keep": 300, "ids": 4}),
 }
 NAMES = [f"{name}-{number}" for name, (_, _, count, _) in SESSIONS.items() for number in range(1, count + 1)]
+# The sessions with questions, which go to `explore`.
+ASKED = ("asked", "asked-short")
 # How sessions end: what stands behind the last line, what it is answered, and the status and standard error of the program.
 ENDS = (
     (b"", b"", 0, b""),
@@ -47,7 +52,7 @@ def drawn(name):
     """Returns the session of a name, drawn."""
     kind, _, number = name.rpartition("-")
     draws, arguments, _, settings = SESSIONS[kind]
-    draw = Draw(NAMES.index(name), **settings)
+    draw = (AskingDraw if kind in ASKED else Draw)(NAMES.index(name), **settings)
     draws(draw, *arguments)
     return draw
 
@@ -79,7 +84,8 @@ def checked(name, programs):
     words = [f"--{option}={value}" for option, value in draw.settings.items()]
     found = []
     for program in programs:
-        ran = subprocess.run([program, "run", *words], input=given(draw, end), capture_output=True, timeout=SECONDS)
+        task = "explore" if isinstance(draw, AskingDraw) else "run"
+        ran = subprocess.run([program, task, *words], input=given(draw, end), capture_output=True, timeout=SECONDS)
         if ran.stdout != b"".join(answer for _, answer in lines):
             found.append(f"{program}, session {name}: {difference(lines, ran.stdout)}")
         elif [ran.returncode, ran.stderr] != wanted:
@@ -102,6 +108,9 @@ def main(words):
             found += lines
             sights.add(met)
     found += [f"the sessions lack {line}" for line in sights.lacking()]
+    for word, answers in WANTED.items():
+        lacking = [answer for answer in answers if sights.met[f"{word}: {answer}"] < LEAST]
+        found += [f"the sessions lack {word} answered {answer}" for answer in lacking]
     print("\n".join(found), end="\n" if found else "")
     return 1 if found else 0
 

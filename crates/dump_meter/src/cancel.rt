@@ -1,17 +1,17 @@
 //! The cancel word.
 ghost use Rattle.std.specs.Prelude.{◌≡◌, true};
-ghost use Rattle.dump_meter.specs.Seats.{asking, finding};
+ghost use Rattle.dump_meter.specs.Seats.{cancel_asked, cancel_found};
 
 use crate::rule::{Asks, Counts, Looks};
 use crate::seats::{AskSeat, FeedSeat};
-use crate::view::View;
+use crate::view::MeterView;
 use atomic_table::Shared;
 use std::marker::Model;
 
 /// The cancel word of a meter: whether one of its askers asked. Contracts see the meter.
 #[derive(Drop)]
 pub struct Cancel<'a> {
-    pub(crate) table: &'a Shared<(), View, (), Counts>,
+    pub(crate) table: &'a Shared<(), MeterView, (), Counts>,
 }
 
 impl<'a> Model for Cancel<'a> {
@@ -31,7 +31,7 @@ impl<'a> Cancel<'a> {
     /// Asks to cancel, by a seat of this meter. The request can't be withdrawn. Waits for nothing.
     pub fn ask(&self, seat: &mut AskSeat)
         requires { seat.old.meter ≡ self.now }
-        ensures { seat.new ≡ asking self.now true }
+        ensures { seat.new ≡ cancel_asked self.now true }
     {
         let _ = self.table.fetch_or::<Asks>(&mut seat.seat, 1, 1);
     }
@@ -39,7 +39,7 @@ impl<'a> Cancel<'a> {
     /// Tells whether anybody asked, by a seat of this meter. Once it is true it stays so. Waits for nothing.
     pub fn asked(&self, seat: &mut FeedSeat) -> bool
         requires { seat.old.meter ≡ self.now }
-        ensures found { seat.new ≡ finding self.now result }
+        ensures found { seat.new ≡ cancel_found self.now result }
         ensures lasting { seat.old.found ≡ true → result ≡ true }
     {
         self.table.load::<Looks>(&mut seat.seat, 1) == 1

@@ -1,12 +1,12 @@
 //! Meters, and the making of one with its seats.
 ghost use Rattle.std.specs.Prelude.{◌≡◌, ◌+◌, ◌<◌, ◌≤◌, All, length, IfOk, false};
-ghost use Rattle.dump_meter.specs.Seats.{sum, seen, asking, finding, seat_limit};
+ghost use Rattle.dump_meter.specs.Seats.{sum, sum_read, cancel_asked, cancel_found, meter_seat_limit};
 
 use crate::cancel::Cancel;
 use crate::progress::Progress;
 use crate::rule::{Counts, NewAsker, NewFeeder, NewReader};
 use crate::seats::{AskSeat, FeedSeat, OutSeat, ReadSeat};
-use crate::view::View;
+use crate::view::MeterView;
 use atomic_table::{Seat, Shared, Table};
 use std::alloc::{AllocError, Global};
 use std::marker::Model;
@@ -17,7 +17,7 @@ pub const SEAT_LIMIT: usize = 16;
 /// A progress word and a cancel word. Contracts see which meter it is.
 #[derive(Drop)]
 pub struct Meter {
-    table: Table<(), View, (), Counts, Global>,
+    table: Table<(), MeterView, (), Counts, Global>,
 }
 
 impl Model for Meter {
@@ -51,14 +51,14 @@ pub struct NewMeter {
 // Creates `count` seats that read. Fails if an allocation fails.
 fn new_readers(
     alloc: Global,
-    table: &Shared<(), View, (), Counts>,
-    out: &mut Seat<(), View>,
+    table: &Shared<(), MeterView, (), Counts>,
+    out: &mut Seat<(), MeterView>,
     count: usize,
 ) -> Result<Vec<ReadSeat>, AllocError>
     requires { (out.old.table_id ≡ table.now.table_id) × (0 < table.now.table_id.words) }
     ensures out { (out.new.table_id ≡ out.old.table_id) × (out.new.me ≡ out.old.me) }
     ensures count { IfOk result (λ v. length v.items ≡ count) }
-    ensures seats { IfOk result (λ v. All (λ s. s ≡ seen table.now.table_id 0) v.items) }
+    ensures seats { IfOk result (λ v. All (λ s. s ≡ sum_read table.now.table_id 0) v.items) }
 {
     let mut seats = Vec::new(alloc);
     for _ in 0..count {
@@ -71,14 +71,15 @@ fn new_readers(
 // Creates `count` seats that ask. Fails if an allocation fails.
 fn new_askers(
     alloc: Global,
-    table: &Shared<(), View, (), Counts>,
-    out: &mut Seat<(), View>,
+    table: &Shared<(), MeterView, (), Counts>,
+    out: &mut Seat<(), MeterView>,
     count: usize,
 ) -> Result<Vec<AskSeat>, AllocError>
     requires { (out.old.table_id ≡ table.now.table_id) × (0 < table.now.table_id.words) }
     ensures out { (out.new.table_id ≡ out.old.table_id) × (out.new.me ≡ out.old.me) }
     ensures count { IfOk result (λ v. length v.items ≡ count) }
-    ensures seats { IfOk result (λ v. All (λ s. s ≡ asking table.now.table_id false) v.items) }
+    ensures seats { IfOk result
+        (λ v. All (λ s. s ≡ cancel_asked table.now.table_id false) v.items) }
 {
     let mut seats = Vec::new(alloc);
     for _ in 0..count {
@@ -92,13 +93,14 @@ impl Meter {
     /// Creates a meter at 0 that nobody asked to cancel, with `readers` seats that read and `askers` seats that ask, together
     /// at most 16. Fails if an allocation fails.
     pub fn new(alloc: Global, readers: usize, askers: usize) -> Result<NewMeter, AllocError>
-        requires { readers + askers ≤ seat_limit }
+        requires { readers + askers ≤ meter_seat_limit }
         ensures out { IfOk result (λ m. m.out ≡ sum m.meter 0) }
         ensures reader_count { IfOk result (λ m. length m.readers.items ≡ readers) }
-        ensures readers { IfOk result (λ m. All (λ s. s ≡ seen m.meter 0) m.readers.items) }
+        ensures readers { IfOk result (λ m. All (λ s. s ≡ sum_read m.meter 0) m.readers.items) }
         ensures asker_count { IfOk result (λ m. length m.askers.items ≡ askers) }
-        ensures askers { IfOk result (λ m. All (λ s. s ≡ asking m.meter false) m.askers.items) }
-        ensures feed { IfOk result (λ m. m.feed ≡ finding m.meter false) }
+        ensures askers { IfOk result
+            (λ m. All (λ s. s ≡ cancel_asked m.meter false) m.askers.items) }
+        ensures feed { IfOk result (λ m. m.feed ≡ cancel_found m.meter false) }
     {
         let (table, mut out) = Table::of_words(alloc, &[0, 0], &())?;
         let read = new_readers(alloc, &table.shared, &mut out, readers)?;

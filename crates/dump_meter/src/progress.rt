@@ -1,17 +1,17 @@
 //! The progress word.
 ghost use Rattle.std.specs.Prelude.{◌≡◌, ◌+◌, ◌<◌, ◌≤◌, ◌^◌};
-ghost use Rattle.dump_meter.specs.Seats.{sum, seen};
+ghost use Rattle.dump_meter.specs.Seats.{sum, sum_read};
 
 use crate::rule::{Adds, Counts, Reads};
 use crate::seats::{OutSeat, ReadSeat};
-use crate::view::View;
+use crate::view::MeterView;
 use atomic_table::Shared;
 use std::marker::Model;
 
 /// The progress word of a meter: the bytes that its out seat added. Contracts see the meter.
 #[derive(Drop)]
 pub struct Progress<'a> {
-    pub(crate) table: &'a Shared<(), View, (), Counts>,
+    pub(crate) table: &'a Shared<(), MeterView, (), Counts>,
 }
 
 impl<'a> Model for Progress<'a> {
@@ -40,7 +40,7 @@ impl<'a> Progress<'a> {
     /// Returns the bytes added so far, by a seat of this meter: no fewer than it read before. Waits for nothing.
     pub fn read(&self, seat: &mut ReadSeat) -> u64
         requires { seat.old.meter ≡ self.now }
-        ensures seen { seat.new ≡ seen self.now result }
+        ensures seen { seat.new ≡ sum_read self.now result }
         ensures later { seat.old.seen ≤ result }
     {
         self.table.load::<Reads>(&mut seat.seat, 0)

@@ -1,13 +1,13 @@
 //! The rule of the two words, and the effect of each step on its seat.
-use crate::view::View;
+use crate::view::MeterView;
 use atomic_table::{Play, Split, TableRule};
 
 /// The rule: the progress word is the sum of the out seat, and no reader saw more. The cancel word is 1 if an asker asked, else
 /// 0, and it is 1 if a feeder found it so.
 pub struct Counts;
 
-impl TableRule<(), View, ()> for Counts {
-    ghost use Rattle.dump_meter.specs.declared.view.View.TheVariants.{Out};
+impl TableRule<(), MeterView, ()> for Counts {
+    ghost use Rattle.dump_meter.specs.declared.view.MeterView.TheVariants.{Out};
     ghost use Rattle.dump_meter.specs.Meters.{IsMeter};
 
     ghost holds = { λ _ s. IsMeter s.words s.views };
@@ -18,8 +18,8 @@ impl TableRule<(), View, ()> for Counts {
 /// A reader's seat, made beside another seat.
 pub struct NewReader;
 
-impl Split<View> for NewReader {
-    ghost use Rattle.dump_meter.specs.declared.view.View.TheVariants.{Read};
+impl Split<MeterView> for NewReader {
+    ghost use Rattle.dump_meter.specs.declared.view.MeterView.TheVariants.{Read};
 
     ghost left = { λ v. v };
 
@@ -29,9 +29,9 @@ impl Split<View> for NewReader {
 /// An asker's seat, made beside another seat.
 pub struct NewAsker;
 
-impl Split<View> for NewAsker {
+impl Split<MeterView> for NewAsker {
     ghost use Rattle.std.specs.Prelude.{false};
-    ghost use Rattle.dump_meter.specs.declared.view.View.TheVariants.{Ask};
+    ghost use Rattle.dump_meter.specs.declared.view.MeterView.TheVariants.{Ask};
 
     ghost left = { λ v. v };
 
@@ -41,9 +41,9 @@ impl Split<View> for NewAsker {
 /// A feeder's seat, made beside another seat.
 pub struct NewFeeder;
 
-impl Split<View> for NewFeeder {
+impl Split<MeterView> for NewFeeder {
     ghost use Rattle.std.specs.Prelude.{false};
-    ghost use Rattle.dump_meter.specs.declared.view.View.TheVariants.{Feed};
+    ghost use Rattle.dump_meter.specs.declared.view.MeterView.TheVariants.{Feed};
 
     ghost left = { λ v. v };
 
@@ -53,16 +53,16 @@ impl Split<View> for NewFeeder {
 /// The step of the out seat, which adds.
 pub struct Adds;
 
-impl Play<(), View> for Adds {
-    ghost use Rattle.dump_meter.specs.Meters.{Added};
+impl Play<(), MeterView> for Adds {
+    ghost use Rattle.dump_meter.specs.Meters.{WasAdded};
 
-    ghost then = { Added };
+    ghost then = { WasAdded };
 }
 
 /// The step of a reader, which reads.
 pub struct Reads;
 
-impl Play<(), View> for Reads {
+impl Play<(), MeterView> for Reads {
     ghost use Rattle.dump_meter.specs.Meters.{WasRead};
 
     ghost then = { WasRead };
@@ -71,17 +71,17 @@ impl Play<(), View> for Reads {
 /// The step of an asker, which asks.
 pub struct Asks;
 
-impl Play<(), View> for Asks {
-    ghost use Rattle.dump_meter.specs.Meters.{Asked};
+impl Play<(), MeterView> for Asks {
+    ghost use Rattle.dump_meter.specs.Meters.{WasAsked};
 
-    ghost then = { Asked };
+    ghost then = { WasAsked };
 }
 
 /// The step of a feeder, which looks.
 pub struct Looks;
 
-impl Play<(), View> for Looks {
-    ghost use Rattle.dump_meter.specs.Meters.{Looked};
+impl Play<(), MeterView> for Looks {
+    ghost use Rattle.dump_meter.specs.Meters.{WasLookedAt};
 
-    ghost then = { Looked };
+    ghost then = { WasLookedAt };
 }

@@ -1,56 +1,56 @@
 //! The seats of a meter.
-use crate::view::View;
+use crate::view::MeterView;
 use atomic_table::Seat;
 use std::marker::Model;
 
 /// The seat that adds bytes. A meter has one. Contracts see its meter and the sum of the bytes that it added.
 #[derive(Drop)]
 pub struct OutSeat {
-    pub(crate) seat: Seat<(), View>,
+    pub(crate) seat: Seat<(), MeterView>,
 }
 
 impl Model for OutSeat {
     ghost use Rattle.std.specs.Prelude.{◌≡◌, []};
-    ghost use Rattle.dump_meter.specs.declared.view.View.TheVariants.{Out};
-    ghost use Rattle.dump_meter.specs.Seats.{Sum, number};
+    ghost use Rattle.dump_meter.specs.declared.view.MeterView.TheVariants.{Out};
+    ghost use Rattle.dump_meter.specs.Seats.{Sum, count_of_seat};
 
     ghost Value = { Sum };
 
-    ghost view = { λ s. record { meter = s.seat.table_id; sum = number s.seat.me.0 } };
+    ghost view = { λ s. record { meter = s.seat.table_id; sum = count_of_seat s.seat.me.0 } };
 
-    ghost invariant = { λ s. s.seat.me ≡ (Out (number s.seat.me.0), []) };
+    ghost invariant = { λ s. s.seat.me ≡ (Out (count_of_seat s.seat.me.0), []) };
 }
 
 /// A seat that reads the sum. Contracts see its meter and the sum that it read last, 0 at first.
 #[derive(Drop)]
 pub struct ReadSeat {
-    pub(crate) seat: Seat<(), View>,
+    pub(crate) seat: Seat<(), MeterView>,
 }
 
 impl Model for ReadSeat {
     ghost use Rattle.std.specs.Prelude.{◌≡◌, []};
-    ghost use Rattle.dump_meter.specs.declared.view.View.TheVariants.{Read};
-    ghost use Rattle.dump_meter.specs.Seats.{Reading, number};
+    ghost use Rattle.dump_meter.specs.declared.view.MeterView.TheVariants.{Read};
+    ghost use Rattle.dump_meter.specs.Seats.{ReadSeatState, count_of_seat};
 
-    ghost Value = { Reading };
+    ghost Value = { ReadSeatState };
 
-    ghost view = { λ s. record { meter = s.seat.table_id; seen = number s.seat.me.0 } };
+    ghost view = { λ s. record { meter = s.seat.table_id; seen = count_of_seat s.seat.me.0 } };
 
-    ghost invariant = { λ s. s.seat.me ≡ (Read (number s.seat.me.0), []) };
+    ghost invariant = { λ s. s.seat.me ≡ (Read (count_of_seat s.seat.me.0), []) };
 }
 
 /// A seat that asks to cancel. Contracts see its meter and whether it asked.
 #[derive(Drop)]
 pub struct AskSeat {
-    pub(crate) seat: Seat<(), View>,
+    pub(crate) seat: Seat<(), MeterView>,
 }
 
 impl Model for AskSeat {
     ghost use Rattle.std.specs.Prelude.{◌≡◌, []};
-    ghost use Rattle.dump_meter.specs.declared.view.View.TheVariants.{Ask};
-    ghost use Rattle.dump_meter.specs.Seats.{Asking, flag};
+    ghost use Rattle.dump_meter.specs.declared.view.MeterView.TheVariants.{Ask};
+    ghost use Rattle.dump_meter.specs.Seats.{AskSeatState, flag};
 
-    ghost Value = { Asking };
+    ghost Value = { AskSeatState };
 
     ghost view = { λ s. record { meter = s.seat.table_id; asked = flag s.seat.me.0 } };
 
@@ -60,15 +60,15 @@ impl Model for AskSeat {
 /// The seat that looks whether anybody asked. Contracts see its meter and whether it found that somebody had.
 #[derive(Drop)]
 pub struct FeedSeat {
-    pub(crate) seat: Seat<(), View>,
+    pub(crate) seat: Seat<(), MeterView>,
 }
 
 impl Model for FeedSeat {
     ghost use Rattle.std.specs.Prelude.{◌≡◌, []};
-    ghost use Rattle.dump_meter.specs.declared.view.View.TheVariants.{Feed};
-    ghost use Rattle.dump_meter.specs.Seats.{Finding, flag};
+    ghost use Rattle.dump_meter.specs.declared.view.MeterView.TheVariants.{Feed};
+    ghost use Rattle.dump_meter.specs.Seats.{FeedSeatState, flag};
 
-    ghost Value = { Finding };
+    ghost Value = { FeedSeatState };
 
     ghost view = { λ s. record { meter = s.seat.table_id; found = flag s.seat.me.0 } };
 

@@ -1,7 +1,7 @@
 //! The knowledge of the seats.
 
 /// The knowledge of a seat of a meter, for contracts alone. No value of it is made.
-pub enum View {
+pub enum MeterView {
     /// The bytes that the out seat added.
     Out(u64),
     /// The sum that a reader read last.

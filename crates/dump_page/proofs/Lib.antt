@@ -1,2 +1,2 @@
-pub mod Filling
-pub mod Paging
+pub mod PageFilling
+pub mod PageStreams

@@ -5,55 +5,61 @@ use Rattle.dump_pump.specs.declared.source.Ending.TheVariants as End
 use Rattle.dump_pump.specs.declared.source.Next.{Next}
 use Rattle.dump_pump.specs.declared.source.Next.TheVariants.{Part, Lost, Cancelled}
 use Rattle.dump_pump.specs.Pumps.{joined, ends}
-use Rattle.dump_pump.specs.Sources.{Supply, IsNext, more, part_limit, part_size_limit}
+use Rattle.dump_pump.specs.Sources.{Supply, IsNextPart, more, part_limit, part_size_limit}
 use Rattle.dump_page.specs.declared.surplus.Surplus.{Surplus}
 
--- the most bytes of a page that has several parts
+-- the largest number of bytes of a page that has several parts
 abbrev pub page_room : ℕ
 page_room = 65536
 
--- ---- what a source gave that is in no page yet
+-- ---- the surplus: an answer of a source that is in no page yet
 
--- how many parts are left at most
-abbrev pub left_of : Option Surplus → ℕ → ℕ
-left_of None left = left
-left_of (Some x) left = x.left
+-- the largest number of parts left
+abbrev pub parts_left : Option Surplus → ℕ → ℕ
+parts_left None left = left
+parts_left (Some x) left = x.left
 
--- a source that told these parts and has so many left
+-- a source that told these parts and has this number left
 abbrev pub supply_at : Option (List Piece) → ℕ → Supply
 supply_at told left = record { told = told; ended = None; left = left }
 
 -- the source told these parts, and then the surplus
 abbrev pub IsAhead : Option (List Piece) → Supply → Option Surplus → Type 0
 IsAhead told s None = s.told ≡ told
-IsAhead told s (Some x) = IsNext (supply_at told x.left) s x.next × (x.left ≤ part_limit)
+IsAhead told s (Some x) = IsNextPart (supply_at told x.left) s x.next × (x.left ≤ part_limit)
 
 -- there are parts left
 abbrev pub IsReady : Supply → Option Surplus → Type 0
-IsReady s surplus = (told : Option (List Piece)) × IsAhead told s surplus × (0 < left_of surplus s.left)
+IsReady s surplus =
+    (told : Option (List Piece)) × IsAhead told s surplus × (0 < parts_left surplus s.left)
 
--- the surplus was taken, or else what the source gave next
+-- the surplus was taken, or else the next answer of the source
 abbrev pub IsDrawn : Supply → Supply → Option Surplus → Next → Type 0
-IsDrawn a b surplus r = (told : Option (List Piece)) → IsAhead told a surplus → IsNext (supply_at told (left_of surplus a.left)) b r
+IsDrawn a b surplus r =
+    (told : Option (List Piece)) → IsAhead told a surplus
+    → IsNextPart (supply_at told (parts_left surplus a.left)) b r
 
 -- ---- a page
 
--- what is left after a page
-pub record IsLeft (told : Option (List Piece)) (most : ℕ) (b : Supply) (surplus : Option Surplus) (last : Bool) : Type 0 where
+-- the rest of a source after a page
+pub record IsLeft (told : Option (List Piece)) (most : ℕ) (b : Supply) (surplus : Option Surplus)
+    (last : Bool) : Type 0 where
   pub ahead : IsAhead told b surplus
-  pub less : left_of surplus b.left ≤ most
-  pub some : last ≡ false → 0 < left_of surplus b.left
+  pub less : parts_left surplus b.left ≤ most
+  pub some : last ≡ false → 0 < parts_left surplus b.left
   pub whole : last ≡ true → (surplus ≡ None) × (b.ended ≡ Some End.Whole)
 
 -- a part was appended to a page, or nothing
 abbrev pub IsAppended : List ℕ → List ℕ → Next → Option Bool → Type 0
 IsAppended page page' next None = page' ≡ page
-IsAppended page page' (Part p) (Some last) = (page' ≡ page ++ p.bytes) × (length page' ≤ page_room) × (last ≡ p.last)
+IsAppended page page' (Part p) (Some last) =
+    (page' ≡ page ++ p.bytes) × (length page' ≤ page_room) × (last ≡ p.last)
 IsAppended page page' (Lost cause) (Some last) = ⊥
 IsAppended page page' Cancelled (Some last) = ⊥
 
 -- parts of a source were appended to a page
-pub record IsFilled (a b : Supply) (page page' : List ℕ) (surplus : Option Surplus) (last : Bool) : Type 0 where
+pub record IsFilled (a b : Supply) (page page' : List ℕ) (surplus : Option Surplus)
+    (last : Bool) : Type 0 where
   pub parts : List Piece
   pub bytes : page' ≡ page ++ joined parts
   pub room : length page' ≤ page_room
@@ -68,20 +74,27 @@ pub record IsPage (a b : Supply) (first page : Piece) (surplus : Option Surplus)
   pub small : length page.bytes ≤ part_size_limit
   pub rest : IsLeft (more a.told parts) a.left b surplus page.last
 
--- what the next page says of its parts, or why there is none
-abbrev pub Says : List Piece → ℕ → Supply → Option Surplus → Next → Type 0
-Says parts left b surplus (Part page) =
-    (page.bytes ≡ joined parts) × (page.last ≡ ends parts) × (0 < length parts) × (length page.bytes ≤ part_size_limit)
-    × (left_of surplus b.left < left) × (page.last ≡ false → 0 < left_of surplus b.left)
+-- the next page fits its parts, or the reason why there is none fits the end of the source
+abbrev pub SaysOfPage : List Piece → ℕ → Supply → Option Surplus → Next → Type 0
+SaysOfPage parts left b surplus (Part page) =
+    (page.bytes ≡ joined parts) × (page.last ≡ ends parts) × (0 < length parts)
+    × (length page.bytes ≤ part_size_limit)
+    × (parts_left surplus b.left < left) × (page.last ≡ false → 0 < parts_left surplus b.left)
     × (page.last ≡ true → (surplus ≡ None) × (b.ended ≡ Some End.Whole))
-Says parts left b surplus (Lost cause) = (parts ≡ []) × (surplus ≡ None) × (b.ended ≡ Some (End.Lost cause))
-Says parts left b surplus Cancelled = (parts ≡ []) × (surplus ≡ None) × (b.ended ≡ Some End.Cancelled)
+SaysOfPage parts left b surplus (Lost cause) =
+    (parts ≡ []) × (surplus ≡ None) × (b.ended ≡ Some (End.Lost cause))
+SaysOfPage parts left b surplus Cancelled =
+    (parts ≡ []) × (surplus ≡ None) × (b.ended ≡ Some End.Cancelled)
 
--- the next page of a source that told these parts and has so many left
-pub record Pages (told : Option (List Piece)) (left : ℕ) (b : Supply) (surplus : Option Surplus) (r : Next) : Type 0 where
+-- the next page of a source that told these parts and has this number left
+pub record Pages (told : Option (List Piece)) (left : ℕ) (b : Supply) (surplus : Option Surplus)
+    (r : Next) : Type 0 where
   pub parts : List Piece
   pub ahead : IsAhead (more told parts) b surplus
-  pub says : Says parts left b surplus r
+  pub says : SaysOfPage parts left b surplus r
 
+-- the next page, whatever parts the source told
 abbrev pub IsPaged : Supply → Supply → Option Surplus → Option Surplus → Next → Type 0
-IsPaged a b surplus surplus' r = (told : Option (List Piece)) → IsAhead told a surplus → Pages told (left_of surplus a.left) b surplus' r
+IsPaged a b surplus surplus' r =
+    (told : Option (List Piece)) → IsAhead told a surplus
+    → Pages told (parts_left surplus a.left) b surplus' r

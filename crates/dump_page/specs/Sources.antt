@@ -8,48 +8,50 @@ use Rattle.dump_pump.specs.declared.source.Next.TheVariants.{Part, Lost, Cancell
 use Rattle.dump_pump.specs.Pumps.{joined, ends}
 use Rattle.dump_pump.specs.Sources.{Supply, more}
 use Rattle.dump_page.specs.declared.surplus.Surplus.{Surplus}
-use Rattle.dump_page.specs.Pages.{IsAhead, left_of}
+use Rattle.dump_page.specs.Pages.{IsAhead, parts_left}
 
--- a source, the pages that were given of it, how that ended, and what is in no page yet
-pub record Paging (S : Type 0) : Type 0 where
+-- a source, the pages given of it, how that ended, and the surplus
+pub record PagingState (S : Type 0) : Type 0 where
   pub source : S
   pub given : List Piece
   pub ended : Option Ending
   pub surplus : Option Surplus
 
 -- no page was given
-abbrev pub unpaged : {S : Type 0} → S → Paging S
+abbrev pub unpaged : {S : Type 0} → S → PagingState S
 unpaged source = record { source = source; given = []; ended = None; surplus = None }
 
--- what is seen of it, where its source has so many parts left
+-- the supply by pages of a source that has this number of parts left
 abbrev pub paged_supply : List Piece → Option Ending → Option Surplus → ℕ → Supply
-paged_supply given ended surplus left = record { told = Some given; ended = ended; left = left_of surplus left }
+paged_supply given ended surplus left =
+    record { told = Some given; ended = ended; left = parts_left surplus left }
 
 -- the pages of a ledger
 abbrev pub pages_in : List (Piece × Unit {0}) → List Piece
 pages_in entries = map (λ e. e.0) entries
 
--- the pages given, with what is given next
-abbrev pub given_with : List Piece → Next → List Piece
-given_with given (Part page) = given ++ page ∷ []
-given_with given (Lost cause) = given
-given_with given Cancelled = given
+-- the pages given, with the next answer's
+abbrev pub pages_with : List Piece → Next → List Piece
+pages_with given (Part page) = given ++ page ∷ []
+pages_with given (Lost cause) = given
+pages_with given Cancelled = given
 
--- how a source ended that gave this last
-abbrev pub ended_by : Next → Option Ending
-ended_by (Part page) = if page.last then Some End.Whole else None
-ended_by (Lost cause) = Some (End.Lost cause)
-ended_by Cancelled = Some End.Cancelled
+-- the ending of a source whose last answer this is
+abbrev pub ended_by_page : Next → Option Ending
+ended_by_page (Part page) = if page.last then Some End.Whole else None
+ended_by_page (Lost cause) = Some (End.Lost cause)
+ended_by_page Cancelled = Some End.Cancelled
 
--- it ended as its own source did, and then nothing is left over
-abbrev pub EndsAs : Supply → Option Surplus → Option Ending → Type 0
-EndsAs s surplus None = Unit {0}
-EndsAs s surplus (Some e) = (surplus ≡ None) × (s.ended ≡ Some e)
+-- the pages ended as their source did, and nothing is left over
+abbrev pub EndsAsSource : Supply → Option Surplus → Option Ending → Type 0
+EndsAsSource s surplus None = Unit {0}
+EndsAsSource s surplus (Some e) = (surplus ≡ None) × (s.ended ≡ Some e)
 
 -- the pages that were given are the parts, joined, that the source told since it had told `start`, but for the surplus
-pub record ArePages (start : Option (List Piece)) (s : Supply) (given : List Piece) (ended : Option Ending) (surplus : Option Surplus) : Type 0 where
+pub record ArePages (start : Option (List Piece)) (s : Supply) (given : List Piece)
+    (ended : Option Ending) (surplus : Option Surplus) : Type 0 where
   pub parts : List Piece
   pub same : joined parts ≡ joined given
   pub ends : ends parts ≡ ends given
   pub ahead : IsAhead (more start parts) s surplus
-  pub whole : EndsAs s surplus ended
+  pub whole : EndsAsSource s surplus ended

@@ -9,19 +9,20 @@ use dump_pump::{Next, Source};
 use hprof_text::{Bytes, Piece};
 use std::alloc::Global;
 
-/// The most bytes of a page that has several parts.
+/// The largest number of bytes of a page that has several parts.
 pub const PAGE_ROOM: usize = 65_536;
 
-/// Appends bytes to a page if it has room for them.
+// Appends bytes to a page if it has room for them.
 fn add(page: &mut Vec<u8>, bytes: &[u8]) -> bool
     requires { length page.old.items ≤ page_room }
-    ensures added { page.new.items ≡ (if result then page.old.items ++ bytes.now else page.old.items) }
+    ensures added { page.new.items
+        ≡ (if result then page.old.items ++ bytes.now else page.old.items) }
     ensures room { length page.new.items ≤ page_room }
 {
     bytes.len() <= PAGE_ROOM - page.len() && page.extend_from_slice(bytes).is_ok()
 }
 
-/// Creates a page that begins with these bytes. Returns None if it has no room for them, or if there is no memory for it.
+// Creates a page that begins with these bytes. Returns None if it has no room for them, or if the allocation fails.
 fn page_of(alloc: Global, bytes: &[u8]) -> Option<Vec<u8>>
     ensures bytes { IfSome result (λ page. page.items ≡ bytes.now) }
     ensures room { IfSome result (λ page. length page.items ≤ page_room) }
@@ -36,7 +37,7 @@ fn page_of(alloc: Global, bytes: &[u8]) -> Option<Vec<u8>>
     }
 }
 
-/// Appends a part to a page if it has room for it. Returns whether it is the last part, or None if nothing was appended.
+// Appends a part to a page if it has room for it. Returns whether it is the last part, or None if nothing was appended.
 fn append(page: &mut Vec<u8>, next: &Next) -> Option<bool>
     requires { length page.old.items ≤ page_room }
     ensures { IsAppended page.old.items page.new.items next.now result }
@@ -51,13 +52,15 @@ fn append(page: &mut Vec<u8>, next: &Next) -> Option<bool>
     }
 }
 
-/// Appends the parts of a source to a page, until it has no room for the next one, the last part is in it, or the source ends.
-/// What the source gave and is not in the page is the surplus. Returns whether the last part is in the page.
+// Appends the parts of a source to a page, until it has no room for the next one, the last part is in it, or the source ends.
+// A part or an end that the source gave and that isn't in the page is the surplus. Returns whether the last part is in the
+// page.
 fn fill<S: Source>(source: &mut S, page: &mut Vec<u8>, surplus: &mut Option<Surplus>) -> bool
     requires left { 0 < (S.seen source.old).left }
     requires room { length page.old.items ≤ page_room }
     requires empty { surplus.old ≡ None }
-    ensures filled { IsFilled (S.seen source.old) (S.seen source.new) page.old.items page.new.items surplus.new result }
+    ensures filled { IsFilled (S.seen source.old) (S.seen source.new) page.old.items page.new.items
+        surplus.new result }
     ensures kept { S.kept source.new ≡ S.kept source.old }
 {
     loop {
@@ -74,7 +77,7 @@ fn fill<S: Source>(source: &mut S, page: &mut Vec<u8>, surplus: &mut Option<Surp
     }
 }
 
-/// Takes the surplus, or else what the source gives next.
+// Returns the surplus, or else the next answer of the source.
 fn draw<S: Source>(source: &mut S, surplus: &mut Option<Surplus>) -> Next
     requires { IsReady (S.seen source.old) surplus.old }
     ensures drawn { IsDrawn (S.seen source.old) (S.seen source.new) surplus.old result }
@@ -87,8 +90,8 @@ fn draw<S: Source>(source: &mut S, surplus: &mut Option<Surplus>) -> Next
     }
 }
 
-/// Gives the page that begins with a part, or the part alone if it is the last, or if no page has room for it, or if there is no
-/// memory for one.
+// Returns the page that begins with a part, or the part alone if it is the last, if no page has room for it, or if the
+// allocation of one fails.
 fn page_from<S: Source>(
     alloc: Global,
     source: &mut S,
@@ -115,7 +118,7 @@ fn page_from<S: Source>(
     }
 }
 
-/// Gives the next page of a source's parts, or says why there is none.
+// Returns the next page of a source's parts, or the reason why there is none.
 pub(crate) fn next_page<S: Source>(
     alloc: Global,
     source: &mut S,

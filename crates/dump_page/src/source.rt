@@ -1,6 +1,6 @@
 //! Sources whose parts are pages.
 ghost use Rattle.std.specs.Prelude.{◌≡◌};
-ghost use Rattle.dump_page.specs.Sources.{ArePages, ended_by, given_with, pages_in, unpaged};
+ghost use Rattle.dump_page.specs.Sources.{ArePages, ended_by_page, pages_with, pages_in, unpaged};
 
 use crate::page::next_page;
 use crate::surplus::Surplus;
@@ -10,24 +10,24 @@ use http_server::Log;
 use std::alloc::Global;
 use std::marker::{Brand, Model, PhantomData};
 
-/// What a source had told when its pages began. Each call of a stream picks it.
-pub trait Start {
+/// The parts that a source had told when its pages began. Each call of a stream picks them.
+pub trait PartsBefore {
     ghost use Rattle.std.specs.Prelude.{List, Option};
     ghost use Rattle.hprof_text.specs.declared.Piece.{Piece};
 
     ghost told: { Option (List Piece) };
 }
 
-impl Start for Brand {
+impl PartsBefore for Brand {
     ghost use Rattle.std.specs.Prelude.{None};
 
     ghost told = { None };
 }
 
-/// A source that gives the parts of its own source by pages: the bytes of several parts, joined. Contracts see its own source, the
-/// pages that it gave, how it ended, and what its source gave that is in no page yet.
+// A source that gives the parts of its own source by pages: the bytes of several parts, joined. Contracts see its own source,
+// the pages that it gave, how it ended, and the surplus.
 #[derive(Drop)]
-pub(crate) struct PagedSource<S: Source, B: Start> {
+pub(crate) struct PagedSource<S: Source, B: PartsBefore> {
     source: S,
     alloc: Global,
     surplus: Option<Surplus>,
@@ -36,20 +36,27 @@ pub(crate) struct PagedSource<S: Source, B: Start> {
     of: PhantomData<B>,
 }
 
-impl<S: Source, B: Start> Model for PagedSource<S, B> {
-    ghost use Rattle.dump_page.specs.Sources.{Paging, ArePages, pages_in};
+impl<S: Source, B: PartsBefore> Model for PagedSource<S, B> {
+    ghost use Rattle.dump_page.specs.Sources.{PagingState, ArePages, pages_in};
 
-    ghost Value = { Paging S };
+    ghost Value = { PagingState S };
 
-    ghost view = { λ p. record { source = p.source; given = pages_in p.given.items; ended = p.ended; surplus = p.surplus } };
+    ghost view = { λ p.
+        record {
+          source = p.source;
+          given = pages_in p.given.items;
+          ended = p.ended;
+          surplus = p.surplus;
+        } };
 
-    ghost invariant = { λ p. ArePages B.told (S.seen p.source) (pages_in p.given.items) p.ended p.surplus };
+    ghost invariant = { λ p. ArePages B.told (S.seen p.source) (pages_in p.given.items) p.ended
+        p.surplus };
 }
 
-/// Notes a page that was given. Returns how the source ended, if it did.
+// Notes a page that was given. Returns how the source ended, if it did.
 fn note(given: &mut Log<Piece, ()>, next: &Next) -> Option<Ending>
-    ensures given { pages_in given.new.items ≡ given_with (pages_in given.old.items) next.now }
-    ensures ended { result ≡ ended_by next.now }
+    ensures given { pages_in given.new.items ≡ pages_with (pages_in given.old.items) next.now }
+    ensures ended { result ≡ ended_by_page next.now }
 {
     match next {
         Next::Part(piece) => {
@@ -65,8 +72,8 @@ fn note(given: &mut Log<Piece, ()>, next: &Next) -> Option<Ending>
     }
 }
 
-impl<S: Source, B: Start> PagedSource<S, B> {
-    /// Creates a source that has given no page. Takes no memory yet.
+impl<S: Source, B: PartsBefore> PagedSource<S, B> {
+    // Creates a source that has given no page. Takes no memory yet.
     pub(crate) fn new(alloc: Global, source: S) -> PagedSource<S, B>
         requires { (S.seen source).told ≡ B.told }
         ensures { result ≡ unpaged source }
@@ -81,7 +88,7 @@ impl<S: Source, B: Start> PagedSource<S, B> {
         }
     }
 
-    /// Returns the source of the parts. Its contract says what the pages that were given are.
+    // Returns the source of the parts. The contract says what the pages that were given are.
     pub(crate) fn into_source(self) -> S
         ensures source { result ≡ self.source }
         ensures pages { ArePages B.told (S.seen self.source) self.given self.ended self.surplus }
@@ -98,7 +105,7 @@ impl<S: Source, B: Start> PagedSource<S, B> {
     }
 }
 
-impl<S: Source, B: Start> Source for PagedSource<S, B> {
+impl<S: Source, B: PartsBefore> Source for PagedSource<S, B> {
     ghost use Rattle.dump_page.specs.Sources.{paged_supply};
 
     ghost Kept = { S.Kept };

@@ -4,7 +4,7 @@ ghost use Rattle.dump_pump.specs.Pumps.{bytes_of};
 ghost use Rattle.dump_pipe.specs.Pipes.{byte_limit};
 ghost use Rattle.dump_pipe.specs.Streams.{IsStreamed};
 
-use crate::source::{PagedSource, Start};
+use crate::source::{PagedSource, PartsBefore};
 use dump_meter::{OutSeat, Progress};
 use dump_pipe::stream_parts;
 use dump_pump::{Outlet, Pumped, Source};
@@ -13,8 +13,8 @@ use std::marker::Brand;
 use std::sync::Wait;
 use std::thread::Threads;
 
-/// Streams the pages of a source that had told what `B` says.
-fn stream_by<S: Source + Send, O: Outlet, B: Start + Send, R: Threads + Wait + Sync>(
+// Streams the pages of a source that had told what `B` says.
+fn stream_by<S: Source + Send, O: Outlet, B: PartsBefore + Send, R: Threads + Wait + Sync>(
     rt: &R,
     alloc: Global,
     source: S,
@@ -26,7 +26,8 @@ fn stream_by<S: Source + Send, O: Outlet, B: Start + Send, R: Threads + Wait + S
     requires start { (S.seen source).told ≡ B.told }
     requires meter { seat.old.meter ≡ progress.now }
     requires room { seat.old.sum + byte_limit < 2 ^ 64 }
-    ensures streamed { IsStreamed (S.seen source) (S.seen result.1) (O.seen outlet.old) (O.seen outlet.new) result.0 }
+    ensures streamed { IsStreamed (S.seen source) (S.seen result.1) (O.seen outlet.old)
+        (O.seen outlet.new) result.0 }
     ensures kept { S.kept result.1 ≡ S.kept source }
     ensures meter { seat.new.meter ≡ progress.now }
     ensures counted { seat.new.sum ≡ seat.old.sum + bytes_of result.0 }
@@ -36,9 +37,10 @@ fn stream_by<S: Source + Send, O: Outlet, B: Start + Send, R: Threads + Wait + S
     (pumped, pages.into_source())
 }
 
-/// Puts out the parts of a source as `stream_parts` does, by pages: parts are joined in the feeding thread until a page has no room
-/// for the next one, and each page goes through the pipe and to the outlet as one part. Without memory for a page the parts go one
-/// by one. Returns the source, too. May wait. The seat is one of the progress's meter, and its sum has room for the bytes of a dump.
+/// Puts out the parts of a source as `stream_parts` does, by pages: parts are joined in the feeding thread until a page has
+/// no room for the next one, and each page goes through the pipe and to the outlet as one part. If the allocation of a page
+/// fails, the parts go one by one. Returns the source, too. May wait. The seat is one of the progress's meter, and its sum
+/// has room for the bytes of a dump.
 pub fn stream_paged<S: Source + Send, O: Outlet, R: Threads + Wait + Sync>(
     rt: &R,
     alloc: Global,
@@ -50,7 +52,8 @@ pub fn stream_paged<S: Source + Send, O: Outlet, R: Threads + Wait + Sync>(
     requires left { 0 < (S.seen source).left }
     requires meter { seat.old.meter ≡ progress.now }
     requires room { seat.old.sum + byte_limit < 2 ^ 64 }
-    ensures streamed { IsStreamed (S.seen source) (S.seen result.1) (O.seen outlet.old) (O.seen outlet.new) result.0 }
+    ensures streamed { IsStreamed (S.seen source) (S.seen result.1) (O.seen outlet.old)
+        (O.seen outlet.new) result.0 }
     ensures kept { S.kept result.1 ≡ S.kept source }
     ensures meter { seat.new.meter ≡ progress.now }
     ensures counted { seat.new.sum ≡ seat.old.sum + bytes_of result.0 }

@@ -1,7 +1,7 @@
-//! What a source gave that is in no page yet.
+//! The surplus: an answer of a source that is in no page yet.
 use dump_pump::Next;
 
-/// What a source gave that is in no page yet, and how many parts it had left at most before.
+/// An answer of a source that is in no page yet, and the largest number of parts that it had left before.
 #[derive(Drop)]
 pub struct Surplus {
     pub next: Next,

@@ -1,5 +1,5 @@
-pub mod Piping
-pub mod Feeding
-pub mod Draining
-pub mod Watching
-pub mod Streaming
+pub mod PipeSteps
+pub mod FeedSteps
+pub mod DrainSteps
+pub mod WatchedSources
+pub mod StreamEnds

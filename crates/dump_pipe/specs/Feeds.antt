@@ -1,16 +1,16 @@
--- What the end that sends does.
+-- The effect of a feed.
 use Rattle.std.specs.Prelude.{◌≡◌, true, List, Some}
 use Rattle.hprof_text.specs.declared.Piece.{Piece}
 use Rattle.dump_pump.specs.declared.source.Ending.{Ending}
 use Rattle.dump_pump.specs.declared.source.Ending.TheVariants.{Whole}
 use Rattle.dump_pump.specs.Sources.{Supply, more}
 use Rattle.dump_pump.specs.Pumps.{ends}
-use Rattle.dump_pipe.specs.declared.view.View.{View}
-use Rattle.dump_pipe.specs.declared.view.View.TheVariants.{Sends}
+use Rattle.dump_pipe.specs.declared.view.EndView.{EndView}
+use Rattle.dump_pipe.specs.declared.view.EndView.TheVariants.{Sends}
 use Rattle.dump_pipe.specs.Pipes.{dump}
 
--- what was sent is the parts that the source gave, and then how it ended
-pub record IsFed (a b : Supply) (v : View) (e : Ending) : Type 0 where
+-- the parts that the source gave were sent, and then how it ended
+pub record IsFed (a b : Supply) (v : EndView) (e : Ending) : Type 0 where
   pub given : List Piece
   pub told : b.told ≡ more a.told given
   pub sent : v ≡ Sends (dump given e)

@@ -7,77 +7,83 @@ use Rattle.dump_pump.specs.declared.source.Ending.{Ending}
 use Rattle.dump_pump.specs.Sources.{part_limit, part_size_limit}
 use Rattle.dump_pipe.specs.declared.message.Message.{Message}
 use Rattle.dump_pipe.specs.declared.message.Message.TheVariants.{Part, End}
-use Rattle.dump_pipe.specs.declared.view.View.{View}
-use Rattle.dump_pipe.specs.declared.view.View.TheVariants.{Both, Sends, Gets, Spent}
+use Rattle.dump_pipe.specs.declared.view.EndView.{EndView}
+use Rattle.dump_pipe.specs.declared.view.EndView.TheVariants.{Both, Sends, Gets, Spent}
 
 -- parts, and then an ending
 abbrev pub dump : List Piece → Ending → List Message
 dump parts e = map Part parts ++ End e ∷ []
 
 -- the bytes of a message
-abbrev pub weight : Message → ℕ
-weight (Part p) = length p.bytes
-weight (End e) = 0
+abbrev pub message_size : Message → ℕ
+message_size (Part p) = length p.bytes
+message_size (End e) = 0
 
 -- the bytes of all messages
 abbrev pub weigh : List Message → ℕ
 weigh [] = 0
-weigh (m ∷ ms) = weight m + weigh ms
+weigh (m ∷ ms) = message_size m + weigh ms
 
--- the most bytes that are sent through a pipe
+-- the largest number of bytes that are sent through a pipe
 abbrev pub byte_limit : ℕ
 byte_limit = part_limit * part_size_limit
 
--- what an end sent, or received
-abbrev pub list_of : View → List Message
+-- the messages that an end sent, or received
+abbrev pub list_of : EndView → List Message
 list_of (Both xs ys) = xs
 list_of (Sends xs) = xs
 list_of (Gets ys) = ys
 list_of Spent = []
 
 -- an end that sends
-abbrev pub IsSending : View → Type 0
+abbrev pub IsSending : EndView → Type 0
 IsSending v = v ≡ Sends (list_of v)
 
 -- an end that receives
-abbrev pub IsReceiving : View → Type 0
+abbrev pub IsReceiving : EndView → Type 0
 IsReceiving v = v ≡ Gets (list_of v)
 
-abbrev pub sends_of : View → View
+-- the end that sends, split off a view
+abbrev pub sends_of : EndView → EndView
 sends_of v = Sends (list_of v)
 
-abbrev pub gets_of : View → View
+-- the end that receives, split off a view
+abbrev pub gets_of : EndView → EndView
 gets_of (Both xs ys) = Gets ys
 gets_of (Sends xs) = Gets []
 gets_of (Gets ys) = Gets []
 gets_of Spent = Gets []
 
-abbrev pub both_of : View → View → View
+-- both ends as one
+abbrev pub both_of : EndView → EndView → EndView
 both_of v w = Both (list_of v) (list_of w)
 
--- what the rule says of one end, where sent was sent and got was received
-abbrev pub Sits : ℕ → ℕ → List Message → List Message → ℕ → View → Type 0
-Sits sender receiver sent got seat (Both xs ys) = (seat ≡ sender) × (seat ≡ receiver) × (xs ≡ sent) × (ys ≡ got)
-Sits sender receiver sent got seat (Sends xs) = (seat ≡ sender) × (xs ≡ sent)
-Sits sender receiver sent got seat (Gets ys) = (seat ≡ receiver) × (ys ≡ got)
-Sits sender receiver sent got seat Spent = Unit {0}
+-- the rule for one end, if `sent` was sent and `got` was received
+abbrev pub SitsAtEnd : ℕ → ℕ → List Message → List Message → ℕ → EndView → Type 0
+SitsAtEnd sender receiver sent got seat (Both xs ys) =
+    (seat ≡ sender) × (seat ≡ receiver) × (xs ≡ sent) × (ys ≡ got)
+SitsAtEnd sender receiver sent got seat (Sends xs) = (seat ≡ sender) × (xs ≡ sent)
+SitsAtEnd sender receiver sent got seat (Gets ys) = (seat ≡ receiver) × (ys ≡ got)
+SitsAtEnd sender receiver sent got seat Spent = Unit {0}
 
--- what was received, and then what the pipe holds, is what was sent
-abbrev pub IsInOrder : List Message → List View → Type 0
+-- the messages received, and then those in the pipe, are those sent
+abbrev pub IsInOrder : List Message → List EndView → Type 0
 IsInOrder items views =
-    (sender receiver : ℕ) × (sent got : List Message) × (got ++ items ≡ sent) × (weigh sent ≤ byte_limit)
-    × ((seat : ℕ) (v : View) → get_elem? views seat ≡ some v → Sits sender receiver sent got seat v)
+    (sender receiver : ℕ) × (sent got : List Message) × (got ++ items ≡ sent)
+    × (weigh sent ≤ byte_limit)
+    × ((seat : ℕ) (v : EndView) → get_elem? views seat ≡ some v
+    → SitsAtEnd sender receiver sent got seat v)
 
--- a message more was sent
-abbrev pub HasSent : View → Message → View → Type 0
+-- one more message was sent
+abbrev pub HasSent : EndView → Message → EndView → Type 0
 HasSent v x w = w ≡ Sends (list_of v ++ x ∷ [])
 
--- a message more was received
-abbrev pub HasGot : View → Message → View → Type 0
+-- one more message was received
+abbrev pub HasGot : EndView → Message → EndView → Type 0
 HasGot v x w = (w ≡ Gets (list_of v ++ x ∷ [])) × (weigh (list_of v ++ x ∷ []) ≤ byte_limit)
 
--- what was received is a beginning of what was sent
-abbrev pub HasOrder : View → List Message → Type 0
+-- the messages received are a beginning of those sent
+abbrev pub HasOrder : EndView → List Message → Type 0
 HasOrder (Both xs ys) items = ys ++ items ≡ xs
 HasOrder (Sends xs) items = Unit {0}
 HasOrder (Gets ys) items = Unit {0}

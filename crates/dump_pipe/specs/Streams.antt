@@ -1,4 +1,4 @@
--- What a stream does.
+-- The effect of a stream.
 use Rattle.std.specs.Prelude.{◌≡◌, ℕ, ◌+◌, ◌<◌, ◌^◌, [], Option, Some, None}
 use Rattle.atomic_table.specs.Seated.{TableId}
 use Rattle.dump_pump.specs.declared.source.Ending.{Ending}
@@ -7,37 +7,39 @@ use Rattle.dump_pump.specs.Outlets.{Outgoing}
 use Rattle.dump_pump.specs.Pumps.{IsPumped, bytes_of}
 use Rattle.dump_pump.specs.Sources.{Supply}
 use Rattle.dump_meter.specs.Seats.{Sum}
-use Rattle.dump_pipe.specs.declared.view.View.{View}
-use Rattle.dump_pipe.specs.declared.view.View.TheVariants.{Sends, Gets}
+use Rattle.dump_pipe.specs.declared.view.EndView.{EndView}
+use Rattle.dump_pipe.specs.declared.view.EndView.TheVariants.{Sends, Gets}
 use Rattle.dump_pipe.specs.Pipes.{byte_limit}
 use Rattle.dump_pipe.specs.Feeds.{IsFed}
 use Rattle.dump_pipe.specs.Drains.{IsDrained}
 
--- what a pump does
+-- the effect is that of a pump
 abbrev pub IsStreamed : Supply → Supply → Outgoing → Outgoing → Pumped → Type 0
 IsStreamed a b w w' r = IsPumped a b w w' r
 
 -- the source has parts left, and nothing was sent
-abbrev pub CanFeed : Supply → View → Type 0
+abbrev pub CanFeed : Supply → EndView → Type 0
 CanFeed a v = (0 < a.left) × (v ≡ Sends [])
 
 -- nothing was received, and the meter's seat has room for the bytes of a dump
-abbrev pub CanDrain : View → Sum → TableId → Type 0
+abbrev pub CanDrain : EndView → Sum → TableId → Type 0
 CanDrain v seat meter = (v ≡ Gets []) × (seat.meter ≡ meter) × (seat.sum + byte_limit < 2 ^ 64)
 
 -- the source was fed, or nothing was asked of it and sent
-abbrev pub MayFeed : Supply → Supply → View → Option Ending → Type 0
+abbrev pub MayFeed : Supply → Supply → EndView → Option Ending → Type 0
 MayFeed a b v (Some e) = IsFed a b v e
 MayFeed a b v None = (v ≡ Sends []) × (b ≡ a)
 
 -- the pipe was drained, or nothing was received and put out
-abbrev pub MayDrain : View → Outgoing → Outgoing → Option Pumped → Type 0
+abbrev pub MayDrain : EndView → Outgoing → Outgoing → Option Pumped → Type 0
 MayDrain v w w' (Some r) = IsDrained [] v w w' r
 MayDrain v w w' None = (v ≡ Gets []) × (w' ≡ w)
 
 -- the pipe was drained of what was sent, or neither of its ends did anything
-abbrev pub MayStream : Supply → Supply → View → View → Outgoing → Outgoing → Option Pumped → Type 0
-MayStream a b v1 v2 w w' (Some r) = ((fed : Option Ending) × MayFeed a b v1 fed) × IsDrained [] v2 w w' r
+abbrev pub MayStream : Supply → Supply → EndView → EndView → Outgoing → Outgoing → Option Pumped
+    → Type 0
+MayStream a b v1 v2 w w' (Some r) =
+    ((fed : Option Ending) × MayFeed a b v1 fed) × IsDrained [] v2 w w' r
 MayStream a b v1 v2 w w' None = (b ≡ a) × (w' ≡ w)
 
 -- the bytes that a drain put out, if there was one

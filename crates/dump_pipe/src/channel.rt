@@ -2,25 +2,25 @@
 ghost use Rattle.std.specs.Prelude.{◌≡◌, ◌≤◌, ◌∷◌, ◌++◌, [], IfOk};
 ghost use Rattle.crossbeam_channel.specs.Claims.{view, IsSeatAt};
 ghost use Rattle.crossbeam_channel.specs.Ends.{sends_on, receives_on};
-ghost use Rattle.dump_pipe.specs.declared.view.View.TheVariants.{Sends, Gets};
+ghost use Rattle.dump_pipe.specs.declared.view.EndView.TheVariants.{Sends, Gets};
 ghost use Rattle.dump_pipe.specs.Pipes.{weigh, list_of, byte_limit, IsSending, IsReceiving};
 
 use crate::message::Message;
-use crate::view::View;
+use crate::view::EndView;
 use crossbeam_channel::protocol::{Join, Lesson, Outcome, Protocol, Split};
 use crossbeam_channel::{Pass, RuledReceiver, RuledSender, bounded_with};
 use std::alloc::{AllocError, Global};
 use std::sync::Wait;
 
-/// The most messages that a pipe holds.
+/// The largest number of messages in a pipe.
 pub const PIPE_LIMIT: usize = 8;
 
 /// The rule: what was received, and then what the pipe holds, is what was sent.
 pub struct InOrder;
 
-impl Protocol<Message, View> for InOrder {
+impl Protocol<Message, EndView> for InOrder {
     ghost use Rattle.std.specs.Prelude.{[]};
-    ghost use Rattle.dump_pipe.specs.declared.view.View.TheVariants.{Both};
+    ghost use Rattle.dump_pipe.specs.declared.view.EndView.TheVariants.{Both};
     ghost use Rattle.dump_pipe.specs.Pipes.{IsInOrder};
 
     ghost holds = { IsInOrder };
@@ -28,10 +28,10 @@ impl Protocol<Message, View> for InOrder {
     ghost first = { Both [] [] };
 }
 
-/// A pipe's two ends, made of one and made one again.
+/// The split of a pipe's one end into two, and their join.
 pub struct Ends;
 
-impl Split<View> for Ends {
+impl Split<EndView> for Ends {
     ghost use Rattle.dump_pipe.specs.Pipes.{sends_of, gets_of};
 
     ghost left = { sends_of };
@@ -39,8 +39,8 @@ impl Split<View> for Ends {
     ghost right = { gets_of };
 }
 
-impl Join<View> for Ends {
-    ghost use Rattle.dump_pipe.specs.declared.view.View.TheVariants.{Spent};
+impl Join<EndView> for Ends {
+    ghost use Rattle.dump_pipe.specs.declared.view.EndView.TheVariants.{Spent};
     ghost use Rattle.dump_pipe.specs.Pipes.{both_of};
 
     ghost both = { both_of };
@@ -48,51 +48,51 @@ impl Join<View> for Ends {
     ghost spent = { Spent };
 }
 
-/// What both ends together know: what was received is a beginning of what was sent.
+/// The fact that both ends together know: the messages received are a beginning of those sent.
 pub struct Order;
 
-impl Lesson<Message, View> for Order {
+impl Lesson<Message, EndView> for Order {
     ghost use Rattle.dump_pipe.specs.Pipes.{HasOrder};
 
     ghost fact = { HasOrder };
 }
 
-/// A message was sent.
+/// The outcome that a message was sent.
 pub struct Sent;
 
-impl Outcome<Message, View> for Sent {
+impl Outcome<Message, EndView> for Sent {
     ghost use Rattle.dump_pipe.specs.Pipes.{HasSent};
 
     ghost then = { HasSent };
 }
 
-impl Lesson<Message, View> for Sent {
+impl Lesson<Message, EndView> for Sent {
     ghost fact = { λ v items. Unit {0} };
 }
 
-/// A message was received.
+/// The outcome that a message was received.
 pub struct Got;
 
-impl Outcome<Message, View> for Got {
+impl Outcome<Message, EndView> for Got {
     ghost use Rattle.dump_pipe.specs.Pipes.{HasGot};
 
     ghost then = { HasGot };
 }
 
-impl Lesson<Message, View> for Got {
+impl Lesson<Message, EndView> for Got {
     ghost fact = { λ v items. Unit {0} };
 }
 
 /// The end that sends.
-pub type Sender = RuledSender<Message, View, InOrder>;
+pub type Sender = RuledSender<Message, EndView, InOrder>;
 
 /// The end that receives.
-pub type Receiver = RuledReceiver<Message, View, InOrder>;
+pub type Receiver = RuledReceiver<Message, EndView, InOrder>;
 
-/// What an end knows. It has no bytes.
-pub type End = Pass<Message, View>;
+/// The knowledge of an end. It has no bytes.
+pub type End = Pass<Message, EndView>;
 
-/// Creates an empty pipe for the messages of one dump, with what its two ends know. Fails if memory is refused.
+/// Creates an empty pipe for the messages of one dump, with the knowledge of its two ends. Fails if the allocation fails.
 pub fn pipe(alloc: Global) -> Result<(Sender, Receiver, End, End), AllocError>
     ensures ends { IfOk result (λ p. receives_on p.1 ≡ sends_on p.0) }
     ensures sender { IfOk result (λ p. IsSeatAt (sends_on p.0) p.2 × (view p.2 ≡ Sends [])) }
@@ -103,7 +103,7 @@ pub fn pipe(alloc: Global) -> Result<(Sender, Receiver, End, End), AllocError>
     Ok((sender, receiver, one, other))
 }
 
-/// Sends a message. Waits while the pipe is full. A message that is handed back is sent again.
+/// Sends a message. Waits while the pipe is full. A message that comes back is sent again.
 pub fn send<R: Wait>(rt: &R, sender: &Sender, end: &mut End, message: Message)
     requires end { IsSeatAt (sends_on sender.now) end.old × IsSending (view end.old) }
     requires room { weigh (list_of (view end.old) ++ message ∷ []) ≤ byte_limit }

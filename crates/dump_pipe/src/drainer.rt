@@ -4,7 +4,7 @@ ghost use Rattle.crossbeam_channel.specs.Claims.{view, IsSeatAt};
 ghost use Rattle.crossbeam_channel.specs.Ends.{receives_on};
 ghost use Rattle.dump_pump.specs.Pumps.{bytes_of};
 ghost use Rattle.dump_pipe.specs.Pipes.{list_of, byte_limit, IsReceiving};
-ghost use Rattle.dump_pipe.specs.Drains.{IsDrained, IsSkipped, answer_to};
+ghost use Rattle.dump_pipe.specs.Drains.{IsDrained, IsSkipped, answer_to_ending};
 
 use crate::channel::{End, Receiver, receive};
 use crate::message::Message;
@@ -13,7 +13,7 @@ use dump_pump::transfer::put_all;
 use dump_pump::{Ending, Outlet, Pumped};
 use std::sync::Wait;
 
-/// Receives messages until the ending, and lets them go.
+/// Receives messages until the ending, and drops them.
 pub fn skip<R: Wait>(rt: &R, receiver: &Receiver, end: &mut End)
     requires { IsSeatAt (receives_on receiver.now) end.old × IsReceiving (view end.old) }
     ensures end { IsSeatAt (receives_on receiver.now) end.new }
@@ -27,9 +27,9 @@ pub fn skip<R: Wait>(rt: &R, receiver: &Receiver, end: &mut End)
     unreachable!()
 }
 
-/// Returns how a drain ends if no put failed.
+// Returns the outcome of a drain in which no put failed.
 fn answer(ending: Ending, bytes: u64) -> Pumped
-    ensures answer { result ≡ answer_to ending bytes }
+    ensures answer { result ≡ answer_to_ending ending bytes }
     ensures counted { bytes_of result ≡ bytes }
 {
     match ending {
@@ -39,9 +39,9 @@ fn answer(ending: Ending, bytes: u64) -> Pumped
     }
 }
 
-/// Puts out the parts that are received, each whole and in order, and adds what is put out to the progress, until the ending.
-/// Once a put fails it puts out nothing more, and receives what is left. Waits while the pipe is empty. The seat is one of the
-/// progress's meter, and its sum has room for the bytes of a dump.
+/// Puts out the parts that are received, each whole and in order, and adds their bytes to the progress, until the ending.
+/// After a put that failed it puts out nothing more, and receives all that is left. Waits while the pipe is empty. The seat
+/// is one of the progress's meter, and its sum has room for the bytes of a dump.
 pub fn drain_pipe<O: Outlet, R: Wait>(
     rt: &R,
     receiver: &Receiver,
@@ -54,7 +54,8 @@ pub fn drain_pipe<O: Outlet, R: Wait>(
     requires meter { seat.old.meter ≡ progress.now }
     requires room { seat.old.sum + byte_limit < 2 ^ 64 }
     ensures end { IsSeatAt (receives_on receiver.now) end.new }
-    ensures drained { IsDrained (list_of (view end.old)) (view end.new) (O.seen outlet.old) (O.seen outlet.new) result }
+    ensures drained { IsDrained (list_of (view end.old)) (view end.new) (O.seen outlet.old)
+        (O.seen outlet.new) result }
     ensures meter { seat.new.meter ≡ progress.now }
     ensures counted { seat.new.sum ≡ seat.old.sum + bytes_of result }
 {

@@ -2,7 +2,7 @@
 ghost use Rattle.std.specs.Prelude.{◌≡◌, ◌<◌, []};
 ghost use Rattle.crossbeam_channel.specs.Claims.{view, IsSeatAt};
 ghost use Rattle.crossbeam_channel.specs.Ends.{sends_on};
-ghost use Rattle.dump_pipe.specs.declared.view.View.TheVariants.{Sends};
+ghost use Rattle.dump_pipe.specs.declared.view.EndView.TheVariants.{Sends};
 ghost use Rattle.dump_pipe.specs.Feeds.{IsFed};
 
 use crate::channel::{End, Sender, send};
@@ -10,7 +10,7 @@ use crate::message::Message;
 use dump_pump::{Ending, Next, Source};
 use std::sync::Wait;
 
-/// Sends the parts of a source, in order, and then how it ended, which it returns. Waits while the pipe is full.
+/// Sends the parts of a source, in order, and then how the source ended. Returns that ending. Waits while the pipe is full.
 pub fn feed<S: Source, R: Wait>(rt: &R, source: &mut S, sender: &Sender, end: &mut End) -> Ending
     requires source { 0 < (S.seen source.old).left }
     requires end { IsSeatAt (sends_on sender.now) end.old × (view end.old ≡ Sends []) }

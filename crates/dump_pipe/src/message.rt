@@ -1,8 +1,8 @@
-//! What goes through a pipe.
+//! The messages of a pipe.
 use dump_pump::Ending;
 use hprof_text::Piece;
 
-/// What a pipe carries: the parts of a dump, in order, and then how it ended.
+/// A message of a pipe: the parts of a dump come, in order, and then how it ended.
 #[derive(Drop)]
 pub enum Message {
     /// A part of the dump.

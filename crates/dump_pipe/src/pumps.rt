@@ -7,8 +7,8 @@ use dump_meter::{OutSeat, Progress};
 use dump_pump::transfer::put_all;
 use dump_pump::{Next, Outlet, Pumped, Source};
 
-/// Puts out the parts of a source as `pump` does, and adds what is put out to the progress, part by part. Takes no memory of
-/// its own. The seat is one of the progress's meter, and its sum has room for the bytes of a dump.
+/// Puts out the parts of a source as `pump` does, and adds their bytes to the progress, part by part. Takes no memory of its
+/// own. The seat is one of the progress's meter, and its sum has room for the bytes of a dump.
 pub fn pump_counted<S: Source, O: Outlet>(
     source: &mut S,
     outlet: &mut O,
@@ -18,7 +18,8 @@ pub fn pump_counted<S: Source, O: Outlet>(
     requires source { 0 < (S.seen source.old).left }
     requires meter { seat.old.meter ≡ progress.now }
     requires room { seat.old.sum + byte_limit < 2 ^ 64 }
-    ensures pumped { IsPumped (S.seen source.old) (S.seen source.new) (O.seen outlet.old) (O.seen outlet.new) result }
+    ensures pumped { IsPumped (S.seen source.old) (S.seen source.new) (O.seen outlet.old)
+        (O.seen outlet.new) result }
     ensures kept { S.kept source.new ≡ S.kept source.old }
     ensures meter { seat.new.meter ≡ progress.now }
     ensures counted { seat.new.sum ≡ seat.old.sum + bytes_of result }

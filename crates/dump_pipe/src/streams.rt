@@ -3,7 +3,7 @@ ghost use Rattle.std.specs.Prelude.{◌≡◌, ◌+◌, ◌<◌, ◌^◌, []};
 ghost use Rattle.crossbeam_channel.specs.Claims.{view, IsSeatAt};
 ghost use Rattle.crossbeam_channel.specs.Ends.{sends_on, receives_on};
 ghost use Rattle.dump_pump.specs.Pumps.{bytes_of};
-ghost use Rattle.dump_pipe.specs.declared.view.View.TheVariants.{Sends, Gets};
+ghost use Rattle.dump_pipe.specs.declared.view.EndView.TheVariants.{Sends, Gets};
 ghost use Rattle.dump_pipe.specs.Pipes.{byte_limit};
 ghost use Rattle.dump_pipe.specs.Streams.{IsStreamed, CanFeed, CanDrain, MayFeed, MayDrain, MayStream, drained_bytes};
 
@@ -18,7 +18,7 @@ use std::alloc::Global;
 use std::sync::Wait;
 use std::thread::{Threads, join_mut};
 
-/// Begins and feeds. None if it was given up.
+// Begins and feeds. Returns None if the thread was given up.
 fn begin_feed<S: Source, R: Wait>(
     rt: &R,
     start: &Start,
@@ -38,7 +38,7 @@ fn begin_feed<S: Source, R: Wait>(
     Some(feed(rt, source, sender, end))
 }
 
-/// Drains once the other end has begun. None if it was given up.
+// Drains once the other end has begun. Returns None if that was given up.
 fn drain_begun<O: Outlet, R: Wait>(
     rt: &R,
     start: &Start,
@@ -62,7 +62,7 @@ fn drain_begun<O: Outlet, R: Wait>(
     Some(drain_pipe(rt, receiver, end, outlet, progress, seat))
 }
 
-/// Feeds in a thread of its own, and drains in the caller's.
+// Feeds in a new thread, and drains in the caller's.
 fn join_ends<S: Source + Send, O: Outlet, R: Threads + Wait + Sync>(
     rt: &R,
     sender: &Sender,
@@ -89,15 +89,17 @@ fn join_ends<S: Source + Send, O: Outlet, R: Threads + Wait + Sync>(
 {
     let start = Start::new();
     let mut feeder = || -> Option<Ending>
-        requires { CanFeed (S.seen source.now) (view one.now) × IsSeatAt (sends_on sender.now) one.now }
+        requires { CanFeed (S.seen source.now) (view one.now)
+            × IsSeatAt (sends_on sender.now) one.now }
     { begin_feed(rt, &start, source, sender, one) };
     let mut drainer = || -> Option<Pumped>
-        requires { CanDrain (view other.now) seat.now progress.now × IsSeatAt (receives_on receiver.now) other.now }
+        requires { CanDrain (view other.now) seat.now progress.now
+            × IsSeatAt (receives_on receiver.now) other.now }
     { drain_begun(rt, &start, receiver, other, outlet, progress, seat) };
     join_mut(rt, &mut feeder, &mut drainer)
 }
 
-/// Feeds and drains. If only the feeding was begun, drains once it has ended. None if neither was begun.
+// Feeds and drains. If only the feeding was begun, drains once it has ended. Returns None if neither was begun.
 fn pass_parts<S: Source + Send, O: Outlet, R: Threads + Wait + Sync>(
     rt: &R,
     sender: &Sender,
@@ -116,7 +118,8 @@ fn pass_parts<S: Source + Send, O: Outlet, R: Threads + Wait + Sync>(
     requires room { seat.old.sum + byte_limit < 2 ^ 64 }
     ensures one { IsSeatAt (sends_on sender.now) one.new }
     ensures other { IsSeatAt (receives_on receiver.now) other.new }
-    ensures passed { MayStream (S.seen source.old) (S.seen source.new) (view one.new) (view other.new) (O.seen outlet.old) (O.seen outlet.new) result }
+    ensures passed { MayStream (S.seen source.old) (S.seen source.new) (view one.new)
+        (view other.new) (O.seen outlet.old) (O.seen outlet.new) result }
     ensures kept { S.kept source.new ≡ S.kept source.old }
     ensures meter { seat.new.meter ≡ progress.now }
     ensures counted { seat.new.sum ≡ seat.old.sum + drained_bytes result }
@@ -131,10 +134,10 @@ fn pass_parts<S: Source + Send, O: Outlet, R: Threads + Wait + Sync>(
     Some(drain_pipe(rt, receiver, other, outlet, progress, seat))
 }
 
-/// Puts out the parts of a source as `pump` does, while a thread of its own asks the source for the next ones, and adds what is
-/// put out to the progress. If there is no memory for a pipe, or the thread hasn't begun in time, the caller's own thread does
-/// both. Waits for the source and for the outlet, and both threads have ended when it returns. The seat is one of the
-/// progress's meter, and its sum has room for the bytes of a dump.
+/// Puts out the parts of a source as `pump` does, while a second thread asks the source for the next ones, and adds their
+/// bytes to the progress. If a pipe can't be allocated, or the thread hasn't begun in time, the caller's thread does both.
+/// Waits for the source and for the outlet; both threads have ended when it returns. The seat is one of the progress's meter,
+/// and its sum has room for the bytes of a dump.
 pub fn stream_parts<S: Source + Send, O: Outlet, R: Threads + Wait + Sync>(
     rt: &R,
     alloc: Global,
@@ -146,7 +149,8 @@ pub fn stream_parts<S: Source + Send, O: Outlet, R: Threads + Wait + Sync>(
     requires source { 0 < (S.seen source.old).left }
     requires meter { seat.old.meter ≡ progress.now }
     requires room { seat.old.sum + byte_limit < 2 ^ 64 }
-    ensures streamed { IsStreamed (S.seen source.old) (S.seen source.new) (O.seen outlet.old) (O.seen outlet.new) result }
+    ensures streamed { IsStreamed (S.seen source.old) (S.seen source.new) (O.seen outlet.old)
+        (O.seen outlet.new) result }
     ensures kept { S.kept source.new ≡ S.kept source.old }
     ensures meter { seat.new.meter ≡ progress.now }
     ensures counted { seat.new.sum ≡ seat.old.sum + bytes_of result }

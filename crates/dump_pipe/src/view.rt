@@ -2,10 +2,14 @@
 use crate::message::Message;
 use std::collections::LinkedList;
 
-/// What an end of a pipe knows: what was sent, what was received, both, or nothing. No value of it is made.
-pub enum View {
+/// The knowledge of an end of a pipe: the messages sent, those received, both, or nothing. No value of it is made.
+pub enum EndView {
+    /// Both ends as one: the messages sent and those received.
     Both(LinkedList<Message>, LinkedList<Message>),
+    /// The end that sends: the messages sent.
     Sends(LinkedList<Message>),
+    /// The end that receives: the messages received.
     Gets(LinkedList<Message>),
+    /// No end.
     Spent,
 }

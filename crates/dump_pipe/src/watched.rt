@@ -4,8 +4,8 @@ ghost use Rattle.std.specs.Prelude.{◌≡◌};
 use dump_meter::{Cancel, FeedSeat};
 use dump_pump::{Next, Source};
 
-/// A source that looks before each part whether anybody asked to cancel: it gives Cancelled if so, else what its own source
-/// gives. The seat is one of the meter whose cancel word it is.
+/// A source that looks before each part whether anybody asked to cancel. It gives Cancelled if so, else the answer of its own
+/// source. The seat is one of the meter whose cancel word it is.
 #[derive(Drop)]
 pub struct Watched<'a, S: Source> {
     pub source: S,

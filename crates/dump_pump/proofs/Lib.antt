@@ -1,1 +1,1 @@
-pub mod Pumping
+pub mod PumpSteps

@@ -28,7 +28,8 @@ out_of (Some start) put = start ++ put
 
 -- a put takes a part at the front of what it is given, or fails and takes nothing
 abbrev pub IsPut : List ℕ → Outgoing → Outgoing → Put → Type 0
-IsPut given a b (Took n) = (0 < n) × (n ≤ length given) × (b.out ≡ a.out ++ take n given) × (b.failures ≡ a.failures)
+IsPut given a b (Took n) =
+    (0 < n) × (n ≤ length given) × (b.out ≡ a.out ++ take n given) × (b.failures ≡ a.failures)
 IsPut given a b Failed = (b.out ≡ a.out) × (b.failures ≡ a.failures + 1)
 
 -- a write appended to the bytes that a writer holds, if those are known, the part that it took, or nothing

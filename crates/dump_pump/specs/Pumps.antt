@@ -31,16 +31,17 @@ bytes_of (Cancelled n) = n
 abbrev pub PutsAll : List ℕ → Outgoing → Outgoing → ℕ → Type 0
 PutsAll bytes w w' n =
     (n ≤ length bytes) × (w'.out ≡ w.out ++ take n bytes)
-    × (n ≡ length bytes → w'.failures ≡ w.failures) × (n < length bytes → w'.failures ≡ w.failures + 1)
+    × (n ≡ length bytes → w'.failures ≡ w.failures)
+    × (n < length bytes → w'.failures ≡ w.failures + 1)
 
 -- an outcome fits the parts given, the bytes put out, the end of the source, and the failures before and after
-abbrev pub Fits : List Piece → List ℕ → Option Ending → ℕ → ℕ → Pumped → Type 0
-Fits given out ended failures failures' (Done n) =
+abbrev pub FitsPump : List Piece → List ℕ → Option Ending → ℕ → ℕ → Pumped → Type 0
+FitsPump given out ended failures failures' (Done n) =
     (out ≡ joined given) × (ends given ≡ true) × (ended ≡ Some End.Whole) × (failures' ≡ failures)
-Fits given out ended failures failures' (OutletFailed n) = failures' ≡ failures + 1
-Fits given out ended failures failures' (Lost cause n) =
+FitsPump given out ended failures failures' (OutletFailed n) = failures' ≡ failures + 1
+FitsPump given out ended failures failures' (Lost cause n) =
     (out ≡ joined given) × (ended ≡ Some (End.Lost cause)) × (failures' ≡ failures)
-Fits given out ended failures failures' (Cancelled n) =
+FitsPump given out ended failures failures' (Cancelled n) =
     (out ≡ joined given) × (ended ≡ Some End.Cancelled) × (failures' ≡ failures)
 
 -- the source gave these parts, and a beginning of their bytes was put out, as many as the outcome says, and all of them unless
@@ -53,4 +54,4 @@ pub record IsPumped (a b : Supply) (w w' : Outgoing) (r : Pumped) : Type 0 where
   pub grows : w'.out ≡ w.out ++ out
   pub begins : IsPrefix out (joined given)
   pub counted : bytes_of r ≡ length out
-  pub fits : Fits given out b.ended w.failures w'.failures r
+  pub fits : FitsPump given out b.ended w.failures w'.failures r

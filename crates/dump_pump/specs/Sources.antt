@@ -26,9 +26,9 @@ more (Some before) parts = Some (before ++ parts)
 more None parts = None
 
 -- a source in the state a gave this answer, and is in the state b
-abbrev pub IsNext : Supply → Supply → Next → Type 0
-IsNext a b (Part p) =
+abbrev pub IsNextPart : Supply → Supply → Next → Type 0
+IsNextPart a b (Part p) =
     (b.told ≡ more a.told (p ∷ [])) × (length p.bytes ≤ part_size_limit) × (b.left < a.left)
     × (p.last ≡ false → 0 < b.left) × (p.last ≡ true → b.ended ≡ Some End.Whole)
-IsNext a b (Lost cause) = (b.told ≡ a.told) × (b.ended ≡ Some (End.Lost cause))
-IsNext a b Cancelled = (b.told ≡ a.told) × (b.ended ≡ Some End.Cancelled)
+IsNextPart a b (Lost cause) = (b.told ≡ a.told) × (b.ended ≡ Some (End.Lost cause))
+IsNextPart a b Cancelled = (b.told ≡ a.told) × (b.ended ≡ Some End.Cancelled)

@@ -31,7 +31,7 @@ pub enum Ending {
 /// them, how it ended, how many parts are left at most, and what stays as it was.
 pub trait Source {
     ghost use Rattle.std.specs.Prelude.{◌≡◌, ◌<◌, ◌≤◌};
-    ghost use Rattle.dump_pump.specs.Sources.{Supply, IsNext, part_limit};
+    ghost use Rattle.dump_pump.specs.Sources.{Supply, IsNextPart, part_limit};
 
     // The type of what no call of `next` changes.
     ghost Kept: { Type 0 } = { Unit {0} };
@@ -44,7 +44,7 @@ pub trait Source {
     /// and one that isn't the last leaves it above 0.
     fn next(&mut self) -> Next
         requires { 0 < (Self.seen self.old).left }
-        ensures next { IsNext (Self.seen self.old) (Self.seen self.new) result }
+        ensures next { IsNextPart (Self.seen self.old) (Self.seen self.new) result }
         ensures kept { Self.kept self.new ≡ Self.kept self.old };
 
     /// Returns the largest number of parts that may be left, at most PART_LIMIT.

@@ -37,7 +37,8 @@ pub fn put_all<O: Outlet>(outlet: &mut O, bytes: &[u8]) -> usize
 /// part must be left. Takes no memory of its own.
 pub fn pump<S: Source, O: Outlet>(source: &mut S, outlet: &mut O) -> Pumped
     requires { 0 < (S.seen source.old).left }
-    ensures pumped { IsPumped (S.seen source.old) (S.seen source.new) (O.seen outlet.old) (O.seen outlet.new) result }
+    ensures pumped { IsPumped (S.seen source.old) (S.seen source.new) (O.seen outlet.old)
+        (O.seen outlet.new) result }
     ensures kept { S.kept source.new ≡ S.kept source.old }
 {
     let _most = source.left();

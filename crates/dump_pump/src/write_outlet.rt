@@ -10,7 +10,7 @@ use std::io::{ErrorKind, Write};
 use std::marker::Model;
 use std::snapshot::Snapshot;
 
-/// The number of times that an interrupted write is tried.
+/// The number of times that an interrupted write or read is tried.
 pub const INTERRUPT_LIMIT: u32 = 100;
 
 /// An outlet over a writer. A write that takes nothing is a failure, and so is one that stays interrupted. Contracts see the
@@ -31,15 +31,23 @@ impl<W: Write> Model for WriteOutlet<W> {
 
     ghost Value = { Writing W };
 
-    ghost view = { λ o. record { writer = o.writer; held = W.contents o.start.value; put = bytes_of o.written.items; failures = length o.failed.items } };
+    ghost view = { λ o.
+        record {
+          writer = o.writer;
+          held = W.contents o.start.value;
+          put = bytes_of o.written.items;
+          failures = length o.failed.items;
+        } };
 
-    ghost invariant = { λ o. Appends (W.contents o.start.value) (W.contents o.writer) (bytes_of o.written.items) };
+    ghost invariant = { λ o. Appends (W.contents o.start.value) (W.contents o.writer)
+        (bytes_of o.written.items) };
 }
 
 impl<W: Write> WriteOutlet<W> {
     /// Creates an outlet that has put out nothing yet.
     pub fn new(writer: W) -> WriteOutlet<W>
-        ensures { result ≡ record { writer = writer; held = W.contents writer; put = []; failures = 0 } }
+        ensures { result
+            ≡ record { writer = writer; held = W.contents writer; put = []; failures = 0 } }
     {
         WriteOutlet {
             start: Snapshot::of(&writer),

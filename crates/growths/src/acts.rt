@@ -76,7 +76,7 @@ fn all_acted<L: Heap>(kept: &mut Kept<L>, seat: &mut Seat<L>) -> Option<usize> {
 }
 
 fn done_in<L: Heap, R: Wait>(rt: &R, blank: Blank) -> Option<usize>
-    requires { (blank.config ≡ L.config) × (blank.tables ≡ L.tables) }
+    requires { (blank.config ≡ L.config) × (blank.tables ≡ L.tables) × (blank.ledger ≡ L.ledger) }
 {
     let (shared, mut seats) = blank.open::<L>();
     let mut user = seats.take()?;

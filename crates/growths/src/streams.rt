@@ -1,13 +1,13 @@
 //! Streams of a shared heap's dump, one of which may be lost for want of memory.
 ghost use Rattle.std.specs.Prelude.{◌≡◌, IfSome, false};
-ghost use Rattle.dump_meter.specs.Seats.{sum, finding};
+ghost use Rattle.dump_meter.specs.Seats.{sum, cancel_found};
 
 use crate::digest::Digest;
 use crate::states::seen;
 use dump_meter::{Meter, NewMeter};
 use dump_pump::{Pumped, WriteOutlet};
 use heap_class::{Kind, LostCause, Refusal};
-use heap_lock::{Blank, Heap, Role, Seat, Shared};
+use heap_lock::{Blank, Heap, Role, Seat, Shared, Witness};
 use heap_step::Event;
 use heap_world::Config;
 use live_dump::stream;
@@ -63,10 +63,10 @@ fn are_made<L: Heap, R: Wait>(rt: &R, shared: &Shared<L>, user: &mut Seat<L>) ->
 }
 
 /// Opens a pin. If memory is refused, asks once more.
-fn opened<L: Heap, R: Wait>(rt: &R, shared: &Shared<L>) -> Option<u64> {
-    match shared.open_pin(rt, None) {
+fn opened<L: Heap, R: Wait>(rt: &R, shared: &Shared<L>, witness: &mut Witness<L>) -> Option<u64> {
+    match shared.open_pin(rt, witness, None) {
         Ok(pinned) => Some(pinned.pin),
-        Err(Refusal::NoMemory) => Some(shared.open_pin(rt, None).ok()?.pin),
+        Err(Refusal::NoMemory) => Some(shared.open_pin(rt, witness, None).ok()?.pin),
         Err(_) => None,
     }
 }
@@ -74,7 +74,7 @@ fn opened<L: Heap, R: Wait>(rt: &R, shared: &Shared<L>) -> Option<u64> {
 /// Creates a meter. If memory is refused, asks once more.
 fn metered(alloc: Global) -> Option<NewMeter>
     ensures out { IfSome result (λ m. m.out ≡ sum m.meter 0) }
-    ensures feed { IfSome result (λ m. m.feed ≡ finding m.meter false) }
+    ensures feed { IfSome result (λ m. m.feed ≡ cancel_found m.meter false) }
 {
     match Meter::new(alloc, 1, 1) {
         Ok(made) => Some(made),
@@ -103,12 +103,13 @@ fn put_out<L: Heap + Send + Sync, R: Threads + Wait + Sync>(
     rt: &R,
     alloc: Global,
     shared: &Shared<L>,
+    witness: Witness<L>,
     pin: u64,
     made: NewMeter,
     text: Vec<u8>,
-) -> (Pumped, Vec<u8>)
+) -> (Pumped, Vec<u8>, Witness<L>)
     requires out { made.out ≡ sum made.meter 0 }
-    requires feed { made.feed ≡ finding made.meter false }
+    requires feed { made.feed ≡ cancel_found made.meter false }
 {
     let NewMeter {
         meter,
@@ -118,10 +119,11 @@ fn put_out<L: Heap + Send + Sync, R: Threads + Wait + Sync>(
         feed,
     } = made;
     let mut outlet = WriteOutlet::new(text);
-    let (pumped, _) = stream(
+    let (pumped, _, witness) = stream(
         rt,
         alloc,
         shared,
+        witness,
         pin,
         7,
         &mut outlet,
@@ -129,7 +131,7 @@ fn put_out<L: Heap + Send + Sync, R: Threads + Wait + Sync>(
         &mut out,
         feed,
     );
-    (pumped, outlet.into_writer())
+    (pumped, outlet.into_writer(), witness)
 }
 
 /// Streams the dump of a new pin, and closes it.
@@ -138,13 +140,14 @@ fn stream_once<L: Heap + Send + Sync, R: Threads + Wait + Sync>(
     alloc: Global,
     shared: &Shared<L>,
 ) -> Option<Streamed> {
-    let pin = opened(rt, shared)?;
+    let mut witness = shared.witness(rt);
+    let pin = opened(rt, shared, &mut witness)?;
     let made = metered(alloc)?;
     let text = reserved(alloc)?;
     let before = told(rt, shared);
-    let (pumped, text) = put_out(rt, alloc, shared, pin, made, text);
+    let (pumped, text, mut witness) = put_out(rt, alloc, shared, witness, pin, made, text);
     let is_as_before = told(rt, shared) == before;
-    shared.close_pin(rt, pin).ok()?;
+    shared.close_pin(rt, &mut witness, pin).ok()?;
     Some(Streamed {
         pumped,
         text,
@@ -181,7 +184,7 @@ fn done_in<L: Heap + Send + Sync, R: Threads + Wait + Sync>(
     alloc: Global,
     blank: Blank,
 ) -> Option<bool>
-    requires { (blank.config ≡ L.config) × (blank.tables ≡ L.tables) }
+    requires { (blank.config ≡ L.config) × (blank.tables ≡ L.tables) × (blank.ledger ≡ L.ledger) }
 {
     let (shared, mut seats) = blank.open::<L>();
     let mut user = seats.take()?;

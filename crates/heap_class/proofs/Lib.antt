@@ -1,4 +1,4 @@
-pub mod Refused
+pub mod Refusals
 pub mod Lists
 pub mod Slots
 pub mod FirstUses
@@ -6,8 +6,8 @@ pub mod Distinct
 pub mod Tables
 pub mod Readers
 pub mod Places
-pub mod Named
-pub mod Accepted
-pub mod Defined
+pub mod ClassNames
+pub mod Acceptance
+pub mod Definitions
 pub mod Front
-pub mod Counted
+pub mod NameCounts

@@ -7,13 +7,13 @@ use Rattle.std.specs.Option.{option_map_or, option_map}
 use Rattle.std.proofs.lemmas.Bool.{not-false}
 use Rattle.std.proofs.lemmas.List.{length-map}
 use Rattle.std.proofs.lemmas.Option.{slice_get-map, slice_get_read, slice_get_past}
-use Rattle.heap_class.specs.declared.Entry.{Entry}
+use Rattle.heap_class.specs.declared.ClassEntry.{ClassEntry}
 use Rattle.heap_class.specs.declared.IdSize.{IdSize}
 use Rattle.heap_class.specs.Kinds.{width_of}
 use Rattle.heap_class.specs.declared.OwnField.{OwnField}
 use Rattle.heap_class.specs.Classes.{Class, name_table, name_id, name_of, fields_of, sup_of, slots_of, instance_size, slot_table_after, is_instance_class, is_array_class, class_refusal, IsClassTable}
-use Rattle.heap_class.specs.Entries.{field_of, class_of, IsWithin, IsRoomy, AreSizes, IsTable}
-use Rattle.heap_class.proofs.Refused.{none_holds}
+use Rattle.heap_class.specs.Entries.{field_of_entry, class_of_entry, IsEntryWithin, IsRoomy, AreSizes, IsEntryTable}
+use Rattle.heap_class.proofs.Refusals.{none_holds}
 use Rattle.heap_class.proofs.Slots.{instance_within}
 use Rattle.heap_class.proofs.FirstUses.{table_distinct, position_is}
 use Rattle.heap_class.proofs.Tables.{table_names, all_within}
@@ -47,9 +47,9 @@ sup_earlier before (d ∷ cs) (suc k) c t h = go c.sup (sup_earlier (before ++ d
     go None e = tt
     go (Some s) e = omega (arith, e, length-append before (d ∷ []))
 
-module _ (names : List (List ℕ)) (es : List Entry) (t : IsTable names es) (v : List Class) (view_is : map (class_of names) es ≡ v) where
+module _ (names : List (List ℕ)) (es : List ClassEntry) (t : IsEntryTable names es) (v : List Class) (view_is : map (class_of_entry names) es ≡ v) where
   pub as_many : length es ≡ length v
-  as_many = sym (length-map es (class_of names)) ∙ ap length view_is
+  as_many = sym (length-map es (class_of_entry names)) ∙ ap length view_is
 
   -- the id of the name at a place
   pub id_at : (i : ℕ) → i < length names → i + 1 ≡ name_id v (get_or names i [])
@@ -60,18 +60,18 @@ module _ (names : List (List ℕ)) (es : List Entry) (t : IsTable names es) (v :
       = ap (position_or_len (bytes_eq (get_or names i []))) table ∙ position_is names i (subst (IsDistinct bytes_eq) table (table_distinct v)) lt in
       omega (arith, place)
 
-  module _ (k : ℕ) (e : Entry) (lt : k < length v) (is : e ≡ get_or es k e) where
-    pub class_at : slice_get v k ≡ Some (class_of names e)
+  module _ (k : ℕ) (e : ClassEntry) (lt : k < length v) (is : e ≡ get_or es k e) where
+    pub class_at : slice_get v k ≡ Some (class_of_entry names e)
     class_at =
         ap (λ l. slice_get l k) (sym view_is)
-        ∙ slice_get-map (class_of names) es k
-        ∙ ap (option_map (class_of names)) (slice_get_read es (length es) k e refl (omega (arith, as_many)) is)
+        ∙ slice_get-map (class_of_entry names) es k
+        ∙ ap (option_map (class_of_entry names)) (slice_get_read es (length es) k e refl (omega (arith, as_many)) is)
 
     pub name_at : name_of v k ≡ get_or names e.name []
     unfolding name_of
     name_at = ap (λ (o : Option Class). option_map_or (λ (c : Class). c.name) o []) class_at
 
-    pub fields_at : fields_of v k ≡ map (field_of names) e.fields.items
+    pub fields_at : fields_of v k ≡ map (field_of_entry names) e.fields.items
     unfolding fields_of
     fields_at = ap (λ (o : Option Class). option_map_or (λ (c : Class). c.fields) o []) class_at
 
@@ -88,37 +88,37 @@ module _ (names : List (List ℕ)) (es : List Entry) (t : IsTable names es) (v :
     array_at = ap (λ (o : Option Class). option_map_or (λ (c : Class). c.is_array) o false) class_at
 
     pub sup_below : IfSome e.sup (λ s. s < k)
-    sup_below = subst (λ n. IfSome e.sup (λ s. s < n)) (zero-add k) (sup_earlier [] (map (class_of names) es) k (class_of names e) t.classes (ap (λ l. slice_get l k) view_is ∙ class_at))
+    sup_below = subst (λ n. IfSome e.sup (λ s. s < n)) (zero-add k) (sup_earlier [] (map (class_of_entry names) es) k (class_of_entry names e) t.classes (ap (λ l. slice_get l k) view_is ∙ class_at))
 
     pub slots_at : slots_of v k ≡ e.slots.items
     unfolding slots_of
     slots_at =
         ap (λ l. unwrap_or (slice_get (slot_table_after [] l) k) []) (sym view_is)
         ∙ ap (λ l. unwrap_or (slice_get l k) []) (sym t.slots)
-        ∙ ap (λ o. unwrap_or o []) (slice_get-map (λ (d : Entry). d.slots.items) es k ∙ ap (option_map (λ (d : Entry). d.slots.items)) (slice_get_read es (length es) k e refl (omega (arith, as_many)) is))
+        ∙ ap (λ o. unwrap_or o []) (slice_get-map (λ (d : ClassEntry). d.slots.items) es k ∙ ap (option_map (λ (d : ClassEntry). d.slots.items)) (slice_get_read es (length es) k e refl (omega (arith, as_many)) is))
 
     pub size_at : (ids : IdSize) → instance_size ids v k ≡ sum_by (width_of ids) e.slots.items
     unfolding instance_size
     size_at ids = ap (sum_by (width_of ids)) slots_at
 
     pub sized_at : AreSizes e.slots.items e.sizes
-    sized_at = subst (λ (d : Entry). AreSizes d.slots.items d.sizes) (sym is) (t.sized k e (omega (arith, as_many)))
+    sized_at = subst (λ (d : ClassEntry). AreSizes d.slots.items d.sizes) (sym is) (t.sized k e (omega (arith, as_many)))
 
-    pub within_at : IsWithin (length names) e
-    within_at = subst (IsWithin (length names)) (sym is) (all_within names es t.placed k e (omega (arith, as_many)))
+    pub within_at : IsEntryWithin (length names) e
+    within_at = subst (IsEntryWithin (length names)) (sym is) (all_within names es t.placed k e (omega (arith, as_many)))
 
     pub roomy_at : IsRoomy e
     roomy_at = subst IsRoomy (sym is) (t.roomy k e (omega (arith, as_many)))
 
     -- an own field
     pub field_there : (i : ℕ) → i < length (fields_of v k) → i < length e.fields.items
-    field_there i h = omega (arith, h, ap length fields_at, length-map e.fields.items (field_of names))
+    field_there i h = omega (arith, h, ap length fields_at, length-map e.fields.items (field_of_entry names))
 
-    pub field_at : (i : ℕ) (f : OwnField) → i < length (fields_of v k) → f ≡ get_or e.fields.items i f → slice_get (fields_of v k) i ≡ Some (field_of names f)
+    pub field_at : (i : ℕ) (f : OwnField) → i < length (fields_of v k) → f ≡ get_or e.fields.items i f → slice_get (fields_of v k) i ≡ Some (field_of_entry names f)
     field_at i f h at =
         ap (λ l. slice_get l i) fields_at
-        ∙ slice_get-map (field_of names) e.fields.items i
-        ∙ ap (option_map (field_of names)) (slice_get_read e.fields.items (length e.fields.items) i f refl (field_there i h) at)
+        ∙ slice_get-map (field_of_entry names) e.fields.items i
+        ∙ ap (option_map (field_of_entry names)) (slice_get_read e.fields.items (length e.fields.items) i f refl (field_there i h) at)
 
     pub field_within : (i : ℕ) (f : OwnField) → i < length (fields_of v k) → f ≡ get_or e.fields.items i f → f.name < length names
     field_within i f h at = subst (λ (g : OwnField). g.name < length names) (sym at) (within_at.each i f (field_there i h))

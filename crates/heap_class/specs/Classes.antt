@@ -24,7 +24,8 @@ pub record Class : Type 0 where
 
 -- the slots of a class: its own fields, then its super's slots, which `above` has
 unfoldable pub slots_under : List (List Kind) → Class → List Kind
-slots_under above c = map (λ f. f.kind) c.fields ++ option_map_or (λ s. unwrap_or (slice_get above s) []) c.sup []
+slots_under above c =
+    map (λ f. f.kind) c.fields ++ option_map_or (λ s. unwrap_or (slice_get above s) []) c.sup []
 
 -- the slots of each class, in order of definition, after `above`, those of the classes before them
 unfoldable pub slot_table_after : List (List Kind) → List Class → List (List Kind)
@@ -81,7 +82,8 @@ is_array_class classes k = option_map_or (λ c. c.is_array) (slice_get classes k
 
 -- an instance class with this name, super and own fields
 abbrev pub instance_class : List ℕ → Option ℕ → List Field → Class
-instance_class name sup fields = record { name = name; sup = sup; fields = fields; is_array = false }
+instance_class name sup fields =
+    record { name = name; sup = sup; fields = fields; is_array = false }
 
 -- an array class with this name, which has no super and no fields
 abbrev pub array_class : List ℕ → Class
@@ -93,7 +95,11 @@ class_refusal classes c = first_refusal
     ((not (option_map_or (is_instance_class classes) c.sup true), NoClass)
     ∷ (nat_le class_limit (length classes), ClassLimit)
     ∷ (not (list_all is_name (names_in c)), BadName)
-    ∷ (list_any (λ d. bytes_eq d.name c.name) classes || not (all_distinct (map (λ f. f.name) c.fields)), DuplicateName)
+    ∷ (
+      list_any (λ d. bytes_eq d.name c.name) classes
+          || not (all_distinct (map (λ f. f.name) c.fields)),
+      DuplicateName,
+    )
     ∷ (nat_lt slot_limit (length (slots_under (slot_table_after [] classes) c)), FieldLimit)
     ∷ [])
 
@@ -101,7 +107,9 @@ class_refusal classes c = first_refusal
 -- field
 abbrev pub IsClassTable : List Class → List Class → Type 0
 IsClassTable before [] = Unit {0}
-IsClassTable before (c ∷ cs) = (class_refusal before c ≡ None) × (c.is_array ≡ true → (c.sup ≡ None) × (c.fields ≡ [])) × IsClassTable (before ++ c ∷ []) cs
+IsClassTable before (c ∷ cs) =
+    (class_refusal before c ≡ None) × (c.is_array ≡ true → (c.sup ≡ None) × (c.fields ≡ []))
+    × IsClassTable (before ++ c ∷ []) cs
 
 -- the name of class k, which must be there
 unfoldable pub name_of : List Class → ℕ → List ℕ

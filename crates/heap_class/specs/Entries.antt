@@ -6,7 +6,7 @@ use Rattle.std.specs.Str.{bytes_eq}
 use Rattle.indexmap.specs.IndexSet.{insert_all}
 use Rattle.heap_class.specs.declared.Field.{Field}
 use Rattle.heap_class.specs.declared.OwnField.{OwnField}
-use Rattle.heap_class.specs.declared.Entry.{Entry}
+use Rattle.heap_class.specs.declared.ClassEntry.{ClassEntry}
 use Rattle.heap_class.specs.declared.IdSize.TheVariants.{Four, Eight}
 use Rattle.heap_class.specs.declared.Kind.{Kind}
 use Rattle.heap_class.specs.declared.Sizes.{Sizes}
@@ -15,39 +15,40 @@ use Rattle.heap_class.specs.Classes.{Class, names_in, slot_table_after, IsClassT
 use Rattle.heap_class.specs.Limits.{class_limit, slot_limit, name_limit}
 
 -- the field that an entry's field stands for
-abbrev pub field_of : List (List ℕ) → OwnField → Field
-field_of names f = record { name = slice_index_or names f.name []; kind = f.kind }
+abbrev pub field_of_entry : List (List ℕ) → OwnField → Field
+field_of_entry names f = record { name = slice_index_or names f.name []; kind = f.kind }
 
 -- the class that an entry stands for
-abbrev pub class_of : List (List ℕ) → Entry → Class
-class_of names e = record {
+abbrev pub class_of_entry : List (List ℕ) → ClassEntry → Class
+class_of_entry names e = record {
   name = slice_index_or names e.name [];
   sup = e.sup;
-  fields = map (field_of names) e.fields.items;
+  fields = map (field_of_entry names) e.fields.items;
   is_array = e.is_array;
 }
 
 -- the places in an entry are below n
-pub record IsWithin (n : ℕ) (e : Entry) : Type 0 where
+pub record IsEntryWithin (n : ℕ) (e : ClassEntry) : Type 0 where
   pub own : e.name < n
   pub each : All (λ (f : OwnField). f.name < n) e.fields.items
 
 -- `at` is the place of the name among the names, and `own` stands for the fields
-pub record AreNamed (names : List (List ℕ)) (name : List ℕ) (fields : List Field) (at : ℕ) (own : List OwnField) : Type 0 where
+pub record AreNamed (names : List (List ℕ)) (name : List ℕ) (fields : List Field) (at : ℕ)
+    (own : List OwnField) : Type 0 where
   pub name_within : at < length names
   pub name_is : slice_index_or names at [] ≡ name
   pub fields_within : All (λ (f : OwnField). f.name < length names) own
-  pub fields_are : map (field_of names) own ≡ fields
+  pub fields_are : map (field_of_entry names) own ≡ fields
 
 -- the names are those of the entries, newest first, each of which appended those of its names that were new
-abbrev pub IsPlaced : List (List ℕ) → List Entry → Type 0
+abbrev pub IsPlaced : List (List ℕ) → List ClassEntry → Type 0
 IsPlaced names [] = names ≡ []
-IsPlaced names (e ∷ es) = IsWithin (length names) e × (e.names_before ≤ length names)
-    × (names ≡ insert_all bytes_eq (take e.names_before names) (names_in (class_of names e)))
+IsPlaced names (e ∷ es) = IsEntryWithin (length names) e × (e.names_before ≤ length names)
+    × (names ≡ insert_all bytes_eq (take e.names_before names) (names_in (class_of_entry names e)))
     × IsPlaced (take e.names_before names) es
 
 -- the class has at most `slot_limit` fields and slots
-pub record IsRoomy (e : Entry) : Type 0 where
+pub record IsRoomy (e : ClassEntry) : Type 0 where
   pub few_fields : length e.fields.items ≤ slot_limit
   pub few_slots : length e.slots.items ≤ slot_limit
 
@@ -57,11 +58,12 @@ pub record AreSizes (slots : List Kind) (sizes : Sizes) : Type 0 where
   pub of_eight : sizes.of_eight ≡ sum_by (width_of Eight) slots
 
 -- the names and the entries fit together, and stand for a list of classes
-pub record IsTable (names : List (List ℕ)) (entries : List Entry) : Type 0 where
+pub record IsEntryTable (names : List (List ℕ)) (entries : List ClassEntry) : Type 0 where
   pub placed : IsPlaced names (reverse entries)
-  pub classes : IsClassTable [] (map (class_of names) entries)
-  pub slots : map (λ (e : Entry). e.slots.items) entries ≡ slot_table_after [] (map (class_of names) entries)
+  pub classes : IsClassTable [] (map (class_of_entry names) entries)
+  pub slots : map (λ (e : ClassEntry). e.slots.items) entries
+      ≡ slot_table_after [] (map (class_of_entry names) entries)
   pub roomy : All IsRoomy entries
-  pub sized : All (λ (e : Entry). AreSizes e.slots.items e.sizes) entries
+  pub sized : All (λ (e : ClassEntry). AreSizes e.slots.items e.sizes) entries
   pub short : All (λ (n : List ℕ). length n ≤ name_limit) names
   pub few : length entries ≤ class_limit

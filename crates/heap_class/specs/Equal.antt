@@ -16,7 +16,9 @@ fields_eq = pointwise field_eq
 
 -- both are equivalences
 pub field_equiv : IsEquivalence field_eq
-field_equiv = and_equiv (on_equiv (λ (f : Field). f.name) nat_list_eq_equiv) (on_equiv (λ (f : Field). type_code f.kind) nat_eq_equiv)
+field_equiv =
+    and_equiv (on_equiv (λ (f : Field). f.name) nat_list_eq_equiv)
+    (on_equiv (λ (f : Field). type_code f.kind) nat_eq_equiv)
 
 pub fields_equiv : IsEquivalence fields_eq
 fields_equiv = lists_equiv field_equiv

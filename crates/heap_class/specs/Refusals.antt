@@ -17,4 +17,5 @@ NoneHolds (t ∷ ts) = (t.0 ≡ false) × NoneHolds ts
 -- refusal, or NoMemory if nothing else refuses it and it `grows`, so that an allocation may fail
 abbrev pub IsAnswered : {A : Type 0} → Option Refusal → Bool → Result A Refusal → Type 0
 IsAnswered refusal grows (Ok a) = refusal ≡ None
-IsAnswered refusal grows (Err e) = (refusal ≡ Some e) ⊎ ((refusal ≡ None) × (grows ≡ true) × (e ≡ NoMemory))
+IsAnswered refusal grows (Err e) =
+    (refusal ≡ Some e) ⊎ ((refusal ≡ None) × (grows ≡ true) × (e ≡ NoMemory))

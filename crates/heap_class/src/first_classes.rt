@@ -138,7 +138,8 @@ impl<'a> FirstClasses<'a> {
     /// Returns the id of the name of an own field of a class. The class must have the field.
     pub fn field_name_id(&self, class: ClassNo, field: u64) -> u64
         requires { field < length (fields_of self.now class) }
-        ensures { IfSome (slice_get (fields_of self.now class) field) (λ f. result ≡ name_id self.now f.name) }
+        ensures { IfSome (slice_get (fields_of self.now class) field)
+            (λ f. result ≡ name_id self.now f.name) }
     {
         self.classes.field_name_id(class, field)
     }

@@ -285,7 +285,7 @@ impl Name {
     }
 
     /// Returns a copy of the name. Fails if the allocation fails.
-    pub fn copied(&self, alloc: Global) -> Result<Name, AllocError>
+    pub fn duplicate(&self, alloc: Global) -> Result<Name, AllocError>
         ensures { IfOk result (λ n. n ≡ self.now) }
     {
         Name::new(alloc, self.as_bytes())
@@ -517,7 +517,7 @@ impl Sizes {
 
 // A class. Names are kept as places among the names.
 #[derive(Drop)]
-struct Entry {
+struct ClassEntry {
     name: usize,
     sup: Option<ClassNo>,
     fields: Vec<OwnField>,
@@ -530,7 +530,7 @@ struct Entry {
 }
 
 // Tells whether one of the classes has its name at the place.
-fn has_name_at(entries: &[Entry], place: usize) -> bool
+fn has_name_at(entries: &[ClassEntry], place: usize) -> bool
     ensures { result ≡ list_any (λ e. e.name == place) entries.now }
 {
     entries.iter().any(|entry| entry.name == place)
@@ -542,7 +542,7 @@ pub struct Classes {
     alloc: Global,
     // The distinct names of classes and fields, in order of first use.
     names: IndexSet<Name>,
-    entries: Vec<Entry>,
+    entries: Vec<ClassEntry>,
 }
 
 impl Model for Classes {
@@ -551,11 +551,11 @@ impl Model for Classes {
 
     ghost Value = { List Class };
 
-    ghost use Rattle.heap_class.specs.Entries.{class_of, IsTable};
+    ghost use Rattle.heap_class.specs.Entries.{class_of_entry, IsEntryTable};
 
-    ghost view = { λ a. map (class_of a.names.keys) a.entries.items };
+    ghost view = { λ a. map (class_of_entry a.names.keys) a.entries.items };
 
-    ghost invariant = { λ a. IsTable a.names.keys a.entries.items };
+    ghost invariant = { λ a. IsEntryTable a.names.keys a.entries.items };
 }
 
 impl Classes {
@@ -601,7 +601,9 @@ impl Classes {
 
     // Tells whether a class has the name, or two of the fields share one.
     fn has_duplicate(&self, name: &Name, fields: &[Field]) -> bool
-        ensures { result ≡ (list_any (λ d. bytes_eq d.name name.now) self.now || not (all_distinct (map (λ f. f.name) fields.now))) }
+        ensures { result
+            ≡ (list_any (λ d. bytes_eq d.name name.now) self.now
+            || not (all_distinct (map (λ f. f.name) fields.now))) }
     {
         self.has_class(name) || !are_distinct(fields)
     }
@@ -620,7 +622,10 @@ impl Classes {
 
     // Returns the first refusal of a new class, or None if it is accepted.
     fn refusal(&self, name: &Name, sup: Option<ClassNo>, fields: &[Field]) -> Option<Refusal>
-        ensures { (is_array : Bool) → result ≡ class_refusal self.now (record { name = name.now; sup = sup; fields = fields.now; is_array = is_array }) }
+        ensures { (is_array : Bool)
+            → result
+            ≡ class_refusal self.now
+            (record { name = name.now; sup = sup; fields = fields.now; is_array = is_array }) }
     {
         if !self.has_super(sup) {
             return Some(Refusal::NoClass);
@@ -649,8 +654,15 @@ impl Classes {
         is_array: bool,
     ) -> Result<ClassNo, Refusal>
         requires { IsTrue is_array → (sup ≡ None) × (fields.now ≡ []) }
-        ensures answered { IsAnswered (class_refusal self.old (record { name = name.now; sup = sup; fields = fields.now; is_array = is_array })) true result }
-        ensures defined { OnOk result (self.new ≡ self.old ++ record { name = name.now; sup = sup; fields = fields.now; is_array = is_array } ∷ []) }
+        ensures answered { IsAnswered
+            (class_refusal self.old
+            (record { name = name.now; sup = sup; fields = fields.now; is_array = is_array })) true
+            result }
+        ensures defined { OnOk result
+            (self.new
+            ≡ self.old
+            ++ record { name = name.now; sup = sup; fields = fields.now; is_array = is_array }
+            ∷ []) }
         ensures number { IfOk result (λ k. k ≡ length self.old) }
         ensures unchanged { OnErr result (self.new ≡ self.old) }
     {
@@ -663,7 +675,7 @@ impl Classes {
         let number = self.entries.len() as u64;
         let names_before = self.names.len();
         let (name, fields) = place_names(self.alloc, &mut self.names, name, fields)?;
-        self.entries.push_reserved(Entry {
+        self.entries.push_reserved(ClassEntry {
             name,
             sup,
             fields,
@@ -683,8 +695,10 @@ impl Classes {
         sup: Option<ClassNo>,
         fields: &Fields,
     ) -> Result<ClassNo, Refusal>
-        ensures answered { IsAnswered (class_refusal self.old (instance_class name.now sup fields.now)) true result }
-        ensures defined { OnOk result (self.new ≡ self.old ++ instance_class name.now sup fields.now ∷ []) }
+        ensures answered { IsAnswered
+            (class_refusal self.old (instance_class name.now sup fields.now)) true result }
+        ensures defined { OnOk result
+            (self.new ≡ self.old ++ instance_class name.now sup fields.now ∷ []) }
         ensures number { IfOk result (λ k. k ≡ length self.old) }
         ensures unchanged { OnErr result (self.new ≡ self.old) }
     {
@@ -836,7 +850,8 @@ impl Classes {
     /// Returns the id of the name of an own field of a class. The class must have the field.
     pub fn field_name_id(&self, class: ClassNo, field: u64) -> u64
         requires { field < length (fields_of self.now class) }
-        ensures { IfSome (slice_get (fields_of self.now class) field) (λ f. result ≡ name_id self.now f.name) }
+        ensures { IfSome (slice_get (fields_of self.now class) field)
+            (λ f. result ≡ name_id self.now f.name) }
     {
         self.entries[class as usize].fields[field as usize].name as u64 + 1
     }

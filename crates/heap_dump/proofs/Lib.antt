@@ -1,6 +1,5 @@
-pub mod Ungiven
-pub mod Handing
+pub mod UngivenMachines
+pub mod PieceGiving
 pub mod Texts
-pub mod Placing
-pub mod Pumping
-pub mod Paging
+pub mod DumpPins
+pub mod PumpedPins

@@ -8,12 +8,12 @@ use Rattle.heap_class.specs.declared.IdSize.{IdSize}
 use Rattle.hprof_text.specs.Image.{Image}
 use Rattle.hprof_text.specs.declared.Piece.{Piece}
 use Rattle.hprof_text.specs.Segments.{pieces_of, dump_text, piece_of, nth_piece}
-use Rattle.hprof_text.proofs.Joined.{pieces_join}
+use Rattle.hprof_text.proofs.JoinedPieces.{pieces_join}
 use Rattle.dump_pump.specs.Pumps.{joined, ends}
 use Rattle.heap_trail.specs.Pins.{Kept}
 use Rattle.heap_trail.specs.Machine.{Machine}
-use Rattle.heap_dump.specs.Handed.{given_of, pieces_at, handed}
-use Rattle.heap_dump.specs.Dumped.{AreText}
+use Rattle.heap_dump.specs.HandedPieces.{given_of, pieces_at, handed}
+use Rattle.heap_dump.specs.PinDumps.{AreText}
 
 abbrev nths : List (List ℕ) → ℕ → ℕ → List Piece
 nths ps first n = map (λ k. nth_piece k ps) (range_with_len first n)
@@ -47,7 +47,7 @@ goes_on ps first (suc n) =
     ∙ ap (λ k. piece ++ concat (drop k ps)) s
     ∙ one_more ps first
 
--- the last of these is marked so only where none is left
+-- the last of these is marked so only if none is left
 none_after : (ps : List (List ℕ)) (first n : ℕ) → ends (nths ps first n) ≡ true → length ps ≤ first + n
 unfolding nth_piece
 none_after ps first zero e = absurd (clash e)

@@ -1,4 +1,4 @@
--- How a source of a machine's pin ends, and how many parts it has left.
+-- The endings of a source of a machine's pin, and the parts that it has left.
 use Rattle.std.specs.Prelude.{◌≡◌, ℕ, ◌+◌, ◌-◌, ◌<◌, ◌≤◌, Bool, true, false, length, Option, Some, None, if◌then◌else◌}
 use Rattle.heap_class.specs.declared.LostCause.{LostCause}
 use Rattle.heap_class.specs.declared.LostCause.TheVariants.{Rewound, Memory, Closed}
@@ -11,26 +11,26 @@ use Rattle.dump_pump.specs.declared.source.Next.TheVariants as Gave
 use Rattle.dump_pump.specs.Sources.{part_limit, part_size_limit}
 use Rattle.heap_trail.specs.Pins.{PinState, Kept, Gone, pin_at}
 use Rattle.heap_trail.specs.Machine.{Machine}
-use Rattle.heap_dump.specs.Handed.{Gives}
+use Rattle.heap_dump.specs.HandedPieces.{GivesPiece}
 
 -- whether the source gave its last part
-abbrev pub is_whole : Option Ending → Bool
-is_whole None = false
-is_whole (Some Whole) = true
-is_whole (Some (Lost cause)) = false
-is_whole (Some Cancelled) = false
+abbrev pub is_whole_ending : Option Ending → Bool
+is_whole_ending None = false
+is_whole_ending (Some Whole) = true
+is_whole_ending (Some (Lost cause)) = false
+is_whole_ending (Some Cancelled) = false
 
--- how many parts are left at most, after so many
-abbrev pub left_of : Option Ending → ℕ → ℕ
-left_of ended count = if is_whole ended then 0 else part_limit - count
+-- the largest number of parts left, after `count`
+abbrev pub pieces_left : Option Ending → ℕ → ℕ
+pieces_left ended count = if is_whole_ending ended then 0 else part_limit - count
 
--- why a dump is lost whose piece was refused so
+-- the cause by which a dump is lost whose piece meets this refusal
 abbrev pub cause_of : Refusal → LostCause
 cause_of Refused.NoMemory = Memory
 cause_of (Refused.Lost cause) = cause
 cause_of e = Closed
 
--- whether this is why the dump of a pin may be lost: the pin is lost so, or it isn't open; else for want of memory
+-- whether the dump of a pin may be lost by this cause: the pin is lost by it, or it isn't open; else for lack of memory
 abbrev pub may_lose : Option PinState → LostCause → Bool
 may_lose None Closed = true
 may_lose None Rewound = false
@@ -51,9 +51,11 @@ may_end s (Some (Lost cause)) = may_lose s cause
 may_end s (Some Cancelled) = false
 
 -- the next part of a source of a machine's pin, or why there is none; the numbers are of the parts handed out
-abbrev pub HandsOut : ℕ → ℕ → Machine → Machine → ℕ → ℕ → Option Ending → Option Ending → Next → Type 0
+abbrev pub HandsOut : ℕ → ℕ → Machine → Machine → ℕ → ℕ → Option Ending → Option Ending → Next
+    → Type 0
 HandsOut pin time m m' n n' ended ended' (Gave.Part p) =
-    Gives pin time m m' p × (length p.bytes ≤ part_size_limit) × (n' ≡ n + 1) × (ended' ≡ (if p.last then Some Whole else ended))
+    GivesPiece pin time m m' p × (length p.bytes ≤ part_size_limit) × (n' ≡ n + 1)
+    × (ended' ≡ (if p.last then Some Whole else ended))
     × (p.last ≡ false → n' < part_limit)
 HandsOut pin time m m' n n' ended ended' (Gave.Lost cause) =
     (m' ≡ m) × (n' ≡ n) × (ended' ≡ Some (Lost cause)) × (may_lose (pin_at pin m.pins) cause ≡ true)

@@ -1,5 +1,4 @@
-pub mod Handed
+pub mod HandedPieces
 pub mod Endings
-pub mod Pinned
-pub mod Dumped
-pub mod Paged
+pub mod PinSupplies
+pub mod PinDumps

@@ -1,10 +1,8 @@
-//! Dumps of a machine's pins, through the pump.
+//! The pieces of a machine's pins, as a source, and their law.
 #![tactic(auto)]
 
-mod dump;
-mod paged;
 mod source;
+mod text;
 
-pub use dump::{dump_pin, dump_place, pieces_are_text};
-pub use paged::pump_paged;
-pub use source::{PinSource, cause_of, hand_out};
+pub use source::{PinSource, cause_of, hand_out, parts_left};
+pub use text::pieces_are_text;

@@ -2,9 +2,9 @@
 ghost use Rattle.std.specs.Prelude.{◌≡◌, ◌<◌, ◌≤◌, None};
 ghost use Rattle.dump_pump.specs.Sources.{part_limit};
 ghost use Rattle.heap_trail.specs.Pins.{pin_at};
-ghost use Rattle.heap_dump.specs.Handed.{given_of};
-ghost use Rattle.heap_dump.specs.Endings.{HandsOut, cause_of, is_whole};
-ghost use Rattle.heap_dump.specs.Pinned.{IsCounted, IsCaused};
+ghost use Rattle.heap_dump.specs.HandedPieces.{given_of};
+ghost use Rattle.heap_dump.specs.Endings.{HandsOut, cause_of, pieces_left};
+ghost use Rattle.heap_dump.specs.PinSupplies.{IsCounted, IsCaused};
 
 use dump_pump::source::PART_LIMIT;
 use dump_pump::{Ending, Next, Source};
@@ -23,7 +23,7 @@ pub struct PinSource<'a> {
     pub pin: u64,
     /// The time in the header, in milliseconds.
     pub time: u64,
-    /// How many parts were handed out, at most 66,178.
+    /// The number of parts handed out, at most 66,178.
     pub count: u64,
     /// How the source ended.
     pub ended: Option<Ending>,
@@ -32,7 +32,7 @@ pub struct PinSource<'a> {
 }
 
 impl<'a> PinSource<'a> {
-    /// Returns a source of a pin's pieces that has handed out none. If no such pin is open, it will be lost. Takes no memory.
+    /// Creates a source of a pin's pieces that has handed out none. If no such pin is open, it will be lost. Takes no memory.
     pub fn new(machine: &'a mut Machine, pin: u64, time: u64) -> PinSource<'a>
         ensures machine { result.machine.ghost_name ≡ machine.entry.ghost_name }
         ensures now { result.machine.now ≡ machine.old }
@@ -54,7 +54,7 @@ impl<'a> PinSource<'a> {
     }
 }
 
-/// Tells why a dump is lost whose piece was refused so.
+/// Returns the cause by which a dump is lost whose piece meets this refusal.
 pub fn cause_of(refusal: Refusal) -> LostCause
     ensures { result ≡ cause_of refusal }
 {
@@ -65,11 +65,15 @@ pub fn cause_of(refusal: Refusal) -> LostCause
     }
 }
 
-/// Tells whether an ending is that with the last part.
-fn is_whole(ended: &Option<Ending>) -> bool
-    ensures { result ≡ is_whole ended.now }
+/// Returns the largest number of parts left to a source that handed out `count` parts and ended in this way, if it has ended.
+pub fn parts_left(ended: &Option<Ending>, count: u64) -> u64
+    ensures left { result ≡ pieces_left ended.now count }
+    ensures most { result ≤ part_limit }
 {
-    matches!(ended, Some(Ending::Whole))
+    match ended {
+        Some(Ending::Whole) => 0,
+        _ => PART_LIMIT.saturating_sub(count),
+    }
 }
 
 /// Takes a pin's next piece, counts it, and notes how the source ended.
@@ -82,7 +86,8 @@ pub fn hand_out(
 ) -> Next
     requires few { count.old < part_limit }
     requires counted { count.old ≤ given_of (pin_at pin machine.old.pins) }
-    ensures { HandsOut pin time machine.old machine.new count.old count.new ended.old ended.new result }
+    ensures { HandsOut pin time machine.old machine.new count.old count.new ended.old ended.new
+        result }
 {
     // Its contract says that the images are within a dump's limits.
     machine.next_pin();
@@ -103,13 +108,13 @@ pub fn hand_out(
 }
 
 impl<'a> Source for PinSource<'a> {
-    ghost use Rattle.heap_dump.specs.Pinned.{Pinned, pinned, supply};
+    ghost use Rattle.heap_dump.specs.PinSupplies.{PinOrigin, pin_origin, pin_supply};
 
-    ghost Kept = { Pinned };
+    ghost Kept = { PinOrigin };
 
-    ghost kept = { λ s. pinned s.machine.ghost_name s.pin s.time s.start.value s.machine.now };
+    ghost kept = { λ s. pin_origin s.machine.ghost_name s.pin s.time s.start.value s.machine.now };
 
-    ghost seen = { λ s. supply s.pin s.time s.start.value s.machine.now s.count s.ended };
+    ghost seen = { λ s. pin_supply s.pin s.time s.start.value s.machine.now s.count s.ended };
 
     fn next(&mut self) -> Next {
         hand_out(
@@ -122,10 +127,6 @@ impl<'a> Source for PinSource<'a> {
     }
 
     fn left(&self) -> u64 {
-        if is_whole(&self.ended) {
-            0
-        } else {
-            PART_LIMIT.saturating_sub(self.count)
-        }
+        parts_left(&self.ended, self.count)
     }
 }

@@ -9,7 +9,7 @@ use Rattle.std.proofs.lemmas.List.{length-set}
 use Rattle.std.proofs.lemmas.List.Elements.{filter-append}
 use Rattle.atomic_table.specs.Seated.{TableId}
 use Rattle.atomic_table.proofs.Lists.{at_set, at_index}
-use Rattle.heap_world.specs.Limits.{Settings}
+use Rattle.heap_world.specs.Limits.{HeapSettings}
 use Rattle.heap_trail.specs.declared.Action.{Action}
 use Rattle.heap_trail.specs.Limits.{last_place}
 use Rattle.heap_trail.specs.Trail.{Trail}
@@ -20,11 +20,11 @@ use Rattle.heap_lock.specs.declared.desk.Desk.{Desk}
 use Rattle.heap_lock.specs.declared.entry.Entry.{Entry}
 use Rattle.heap_lock.specs.declared.entry.Outcome.{Outcome}
 use Rattle.heap_lock.specs.History.{entry, reply_of, opening, machine_at, trail_after, reply_at, MayEnter, IsDue, IsLegalHistory, history_trail, tally}
-use Rattle.heap_lock.specs.Held.{AllSeated, table_at, IsDesk, IsKept}
+use Rattle.heap_lock.specs.LockStates.{AllSeated, table_at, IsDesk, IsUnderLock}
 use Rattle.heap_trail.proofs.ByTrail.{acts_alike, dumps_leave, place_after}
 
 -- an act that is entered leaves the trail and is answered by the trail alone
-by_trail : (m m' : Machine) (a : Action) (r : Reply) → is_dump_action a ≡ false → MayReply m a m' r → MayEnter r → (m'.trail ≡ trail_after m.keep m.trail a) × (r ≡ reply_at m.keep m.trail a) × (m'.keep ≡ m.keep) × (m'.ids ≡ m.ids)
+pub by_trail : (m m' : Machine) (a : Action) (r : Reply) → is_dump_action a ≡ false → MayReply m a m' r → MayEnter r → (m'.trail ≡ trail_after m.keep m.trail a) × (r ≡ reply_at m.keep m.trail a) × (m'.keep ≡ m.keep) × (m'.ids ≡ m.ids)
 unfolding trail_after reply_at
 by_trail m m' a r deed (mark, stands, is) enters = acts_alike Eight m m' a mark r deed is enters.0
 
@@ -71,15 +71,15 @@ tally_other n es e ne =
     ∙ ap (λ (l : List (ℕ × Entry)). filter (λ (p : ℕ × Entry). p.1.seat == n) (enumerate_from 1 es) ++ l) (ap (λ (b : Bool). if b then (1 + length es, e) ∷ [] else []) (ne_eqb e.seat n ne))
     ∙ append-nil _
 
-pub desk_of : (config : Settings) (tables : List TableId) (m : Machine) (es : List Entry) (desks : List Desk) (n : ℕ) (d : Desk) → IsKept config tables m es desks → n < length tables → d ≡ get_or desks n d → IsDesk (table_at tables n) (tally n es) d
+pub desk_of : (config : HeapSettings) (tables : List TableId) (m : Machine) (es : List Entry) (desks : List Desk) (n : ℕ) (d : Desk) → IsUnderLock config tables m es desks → n < length tables → d ≡ get_or desks n d → IsDesk (table_at tables n) (tally n es) d
 desk_of config tables m es desks n d k lt is = k.booked n d (at_index desks n d (omega (arith, k.count, lt)) is)
 
 -- a machine under a chronicle that isn't full isn't at the last place
-pub not_last : (config : Settings) (tables : List TableId) (m : Machine) (es : List Entry) (desks : List Desk) → IsKept config tables m es desks → length es < 1000000 → m.trail.place < last_place
+pub not_last : (config : HeapSettings) (tables : List TableId) (m : Machine) (es : List Entry) (desks : List Desk) → IsUnderLock config tables m es desks → length es < 1000000 → m.trail.place < last_place
 not_last config tables m es desks k lt = omega (arith, place_within config.keep (opening config) es, ap (λ (t : Trail). t.place) k.folds, lt)
 
 -- an entry with the machine's reply is due
-pub is_due : (config : Settings) (tables : List TableId) (m m' : Machine) (es : List Entry) (desks : List Desk) (e : Entry) → IsKept config tables m es desks → is_dump_action e.action ≡ false → MayReply m e.action m' (reply_of e.answer) → MayEnter (reply_of e.answer)
+pub is_due : (config : HeapSettings) (tables : List TableId) (m m' : Machine) (es : List Entry) (desks : List Desk) (e : Entry) → IsUnderLock config tables m es desks → is_dump_action e.action ≡ false → MayReply m e.action m' (reply_of e.answer) → MayEnter (reply_of e.answer)
     → IsDue config.keep (history_trail config.keep (opening config) es) e
 is_due config tables m m' es desks e k deed move enters = record {
   deed = deed;
@@ -88,8 +88,8 @@ is_due config tables m m' es desks e k deed move enters = record {
 }
 
 -- one entry more, with the seat's desk
-pub kept_more : (config : Settings) (tables : List TableId) (m m' : Machine) (es : List Entry) (desks : List Desk) (e : Entry) (d' : Desk) → IsKept config tables m es desks → e.seat < length tables
-    → is_dump_action e.action ≡ false → MayReply m e.action m' (reply_of e.answer) → MayEnter (reply_of e.answer) → IsDesk (table_at tables e.seat) (tally e.seat (es ++ e ∷ [])) d' → IsKept config tables m' (es ++ e ∷ []) (set desks e.seat d')
+pub kept_more : (config : HeapSettings) (tables : List TableId) (m m' : Machine) (es : List Entry) (desks : List Desk) (e : Entry) (d' : Desk) → IsUnderLock config tables m es desks → e.seat < length tables
+    → is_dump_action e.action ≡ false → MayReply m e.action m' (reply_of e.answer) → MayEnter (reply_of e.answer) → IsDesk (table_at tables e.seat) (tally e.seat (es ++ e ∷ [])) d' → IsUnderLock config tables m' (es ++ e ∷ []) (set desks e.seat d')
 kept_more config tables m m' es desks e d' k lt deed move enters desk =
     let alike = by_trail m m' e.action (reply_of e.answer) deed move enters in record {
       legal = goes_on config.keep (opening config) es e k.legal (is_due config tables m m' es desks e k deed move enters);
@@ -105,14 +105,14 @@ kept_more config tables m m' es desks e d' k lt deed move enters desk =
     }
 
 -- what a move of the kept machine makes of its trail, and that its answer is due there
-pub moved_as : (config : Settings) (tables : List TableId) (m m' : Machine) (es : List Entry) (desks : List Desk) (seat : ℕ) (a : Action) (o : Outcome) → IsKept config tables m es desks → is_dump_action a ≡ false → MayReply m a m' (reply_of o) → MayEnter (reply_of o)
+pub moved_as : (config : HeapSettings) (tables : List TableId) (m m' : Machine) (es : List Entry) (desks : List Desk) (seat : ℕ) (a : Action) (o : Outcome) → IsUnderLock config tables m es desks → is_dump_action a ≡ false → MayReply m a m' (reply_of o) → MayEnter (reply_of o)
     → (m'.trail ≡ trail_after config.keep m.trail a) × IsDue config.keep m.trail (entry seat a o)
 moved_as config tables m m' es desks seat a o k deed move enters =
     let alike = by_trail m m' a (reply_of o) deed move enters in
     (alike.0 ∙ ap (λ n. trail_after n m.trail a) k.keep, record { deed = deed; answer = alike.1 ∙ ap (λ n. reply_at n m.trail a) k.keep; enters = enters })
 
 -- the machine after a dumper's action may be kept in the place of the one before
-pub kept_dumped : (config : Settings) (tables : List TableId) (m m' : Machine) (es : List Entry) (desks : List Desk) (a : Action) (r : Reply) → IsKept config tables m es desks → is_dump_action a ≡ true → MayReply m a m' r → IsKept config tables m' es desks
+pub kept_dumped : (config : HeapSettings) (tables : List TableId) (m m' : Machine) (es : List Entry) (desks : List Desk) (a : Action) (r : Reply) → IsUnderLock config tables m es desks → is_dump_action a ≡ true → MayReply m a m' r → IsUnderLock config tables m' es desks
 kept_dumped config tables m m' es desks a r k dump (mark, stands, is) =
     let left = dumps_leave m m' a mark r dump is in
     record { legal = k.legal; keep = left.1 ∙ k.keep; ids = left.2 ∙ k.ids; folds = left.0 ∙ k.folds; seated = k.seated; count = k.count; booked = k.booked }

@@ -3,8 +3,13 @@ pub mod Spare
 pub mod Places
 pub mod Plain
 pub mod Histories
-pub mod Making
+pub mod SeatedHeaps
 pub mod Fields
 pub mod Refusals
-pub mod Dumping
-pub mod Sourcing
+pub mod DumperCalls
+pub mod PieceReplies
+pub mod SightSteps
+pub mod CallLists
+pub mod NumberedPins
+pub mod CallTrails
+pub mod PinTexts

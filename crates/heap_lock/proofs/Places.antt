@@ -10,7 +10,7 @@ use Rattle.std.proofs.lemmas.List.{length-map, map-append}
 use Rattle.std.proofs.lemmas.Option.{slice_get-map, slice_get_past, slice_get_read}
 use Rattle.heap_lock.specs.declared.entry.Entry.{Entry}
 use Rattle.heap_lock.specs.declared.pack.Pack.{Pack}
-use Rattle.heap_lock.specs.Packs.{entry_by, entry_in, Tells}
+use Rattle.heap_lock.specs.Packs.{entry_by, entry_in, TellsEntry}
 use Rattle.heap_lock.specs.Chronicles.{HasPlace, AllPlaced, entries_in, room_in}
 
 pub has_room : (whole : Vec Entry) (packs : Vec Pack) → 0 < room_in whole packs → (vec_len packs < vec_capacity packs) × (vec_len whole < vec_capacity whole)
@@ -53,14 +53,14 @@ placed_more : (n m : ℕ) (ps : List Pack) → n ≤ m → AllPlaced n ps → Al
 placed_more n m [] le all = tt
 placed_more n m (q ∷ ps) le all = (λ h. omega (arith, all.0 h, le), placed_more n m ps le all.1)
 
-pub numbers_placed : (n : ℕ) (ps : List Pack) (p : Pack) (e : Entry) → AllPlaced n ps → Tells p e → AllPlaced n (ps ++ p ∷ [])
+pub numbers_placed : (n : ℕ) (ps : List Pack) (p : Pack) (e : Entry) → AllPlaced n ps → TellsEntry p e → AllPlaced n (ps ++ p ∷ [])
 numbers_placed n ps p e all t = placed_push n ps p all (λ h. let no : false ≡ true = sym t.0 ∙ h in absurd (cc))
 
 pub whole_placed : (whole : List Entry) (ps : List Pack) (p : Pack) (e : Entry) → AllPlaced (length whole) ps → p.first ≡ length whole → AllPlaced (length (whole ++ e ∷ [])) (ps ++ p ∷ [])
 whole_placed whole ps p e all at = placed_push _ ps p (placed_more (length whole) _ ps (omega (arith, length-append whole (e ∷ []))) all) (λ _. omega (arith, at, length-append whole (e ∷ [])))
 
 -- one entry more, by its numbers
-pub numbers_read : (whole : List Entry) (ps : List Pack) (p : Pack) (e : Entry) → Tells p e → entries_in whole (ps ++ p ∷ []) ≡ entries_in whole ps ++ e ∷ []
+pub numbers_read : (whole : List Entry) (ps : List Pack) (p : Pack) (e : Entry) → TellsEntry p e → entries_in whole (ps ++ p ∷ []) ≡ entries_in whole ps ++ e ∷ []
 unfolding entries_in
 numbers_read whole ps p e t = map-append (entry_in whole) ps (p ∷ []) ∙ ap (λ x. map (entry_in whole) ps ++ x ∷ []) (by_numbers whole p t.0 ∙ t.1)
 

@@ -5,7 +5,7 @@ use Rattle.heap_class.specs.declared.Refusal.{Refusal}
 use Rattle.heap_class.specs.declared.Refusal.TheVariants.{NoMemory, ChronicleFull}
 use Rattle.heap_class.specs.Classes.{class_refusal}
 use Rattle.heap_class.specs.Refusals.{first_refusal}
-use Rattle.heap_mark.specs.Marking.{snap_refusal, mark_refusal, drain_refusal, finish_refusal}
+use Rattle.heap_mark.specs.MarkSteps.{snap_refusal, mark_refusal, drain_refusal, finish_refusal}
 use Rattle.heap_sweep.specs.Sweep.{sweep_refusal}
 use Rattle.heap_world.specs.State.{HeapState}
 use Rattle.heap_world.specs.Events.{new_refusal, new_array_refusal, new_prim_refusal, load_refusal, store_refusal, put_refusal, move_refusal, clear_refusal}
@@ -19,7 +19,7 @@ use Rattle.heap_trail.specs.declared.Reply.{Reply}
 use Rattle.heap_trail.specs.declared.Reply.TheVariants.{Answered, Place, Pinned, Part, Closed, Refused}
 use Rattle.heap_trail.specs.Limits.{last_place}
 use Rattle.heap_trail.specs.Trail.{rewind_refusal}
-use Rattle.heap_trail.specs.Machine.{MayReply, Machine, Fine, Refusing, MayStand, acted, acted_under, after_step_at, after_result, unless, after_rewind_by, is_dump_action}
+use Rattle.heap_trail.specs.Machine.{MayReply, Machine, Granted, Denied, MayStand, acted, acted_under, after_step_at, after_result, unless, after_rewind_by, is_dump_action}
 use Rattle.heap_lock.specs.History.{MayEnter}
 
 is_rare : Refusal → Bool
@@ -114,10 +114,10 @@ reply_enters m m' a r deed h is = plain_enters r (subst IsPlainReply (ap (λ (x 
 -- an action that is done or refused for another reason than memory
 pub fine_enters : (m m' : Machine) (a b : Action) (r : Reply) → is_dump_action b ≡ false → m.trail.place < last_place → a ≡ b → acted m b ≡ (m', r) → MayReply m a m' r × MayEnter r
 unfolding acted_under
-fine_enters m m' a b r deed h same is = ((Fine, tt, ap (acted m) same ∙ is), reply_enters m m' b r deed h is)
+fine_enters m m' a b r deed h same is = ((Granted, tt, ap (acted m) same ∙ is), reply_enters m m' b r deed h is)
 
 -- a refusal that isn't for want of memory
-pub refused_enters : (m m' : Machine) (a b : Action) (r : Refusal) → is_dump_action b ≡ false → m.trail.place < last_place → a ≡ b → r ≢ NoMemory → (acted m b ≡ (m', Refused r)) ⊎ (MayStand m (b, Refusing) × (r ≡ NoMemory)) → MayReply m a m' (Refused r) × MayEnter (Refused r)
+pub refused_enters : (m m' : Machine) (a b : Action) (r : Refusal) → is_dump_action b ≡ false → m.trail.place < last_place → a ≡ b → r ≢ NoMemory → (acted m b ≡ (m', Refused r)) ⊎ (MayStand m (b, Denied) × (r ≡ NoMemory)) → MayReply m a m' (Refused r) × MayEnter (Refused r)
 refused_enters m m' a b r deed h same ne (inl is) = fine_enters m m' a b (Refused r) deed h same is
 refused_enters m m' a b r deed h same ne (inr t) = absurd (ne t.1)
 

@@ -11,7 +11,7 @@ use Rattle.heap_lock.specs.declared.pack.Reason.{Reason}
 use Rattle.heap_lock.specs.declared.pack.Told.{Told}
 use Rattle.heap_lock.specs.declared.pack.Told.TheVariants.{Class, Object, Null, Value, Done, Pushed, Condemned, Swept, Emptied, Place, NotDone, TooFar, Refused}
 use Rattle.heap_lock.specs.History.{entry}
-use Rattle.heap_lock.specs.Packs.{action_in, action_by, action_with, outcome_in, outcome_by, outcome_with, has_fourth, has_second, Tells}
+use Rattle.heap_lock.specs.Packs.{action_in, action_by, action_with, outcome_in, outcome_by, outcome_with, has_fourth, has_second, TellsEntry}
 
 spare_fourth : (d : Deed) (kind : Kind) (a b c u v : ℕ) → has_fourth d ≡ false → action_in d kind a b c u ≡ action_in d kind a b c v
 unfolding action_in
@@ -47,9 +47,9 @@ spare_second TooFar why n u v h = absurd (cc)
 spare_second Refused why n u v h = refl
 
 -- the shared place has the deed's fourth number
-pub tells_deed : (p : Pack) (seat : ℕ) (d : DeedPack) (a : AnswerPack) → has_second a.told ≡ false → Tells p (entry seat (action_with d d.fourth) (outcome_with a d.fourth)) → Tells p (entry seat (action_by d) (outcome_by a))
+pub tells_deed : (p : Pack) (seat : ℕ) (d : DeedPack) (a : AnswerPack) → has_second a.told ≡ false → TellsEntry p (entry seat (action_with d d.fourth) (outcome_with a d.fourth)) → TellsEntry p (entry seat (action_by d) (outcome_by a))
 tells_deed p seat d a h t = (t.0, t.1 ∙ ap (λ (o : Outcome). entry seat (action_by d) o) (spare_second a.told a.reason a.first d.fourth a.second h))
 
 -- the shared place has the answer's second number
-pub tells_answer : (p : Pack) (seat : ℕ) (d : DeedPack) (a : AnswerPack) → has_fourth d.deed ≡ false → Tells p (entry seat (action_with d a.second) (outcome_with a a.second)) → Tells p (entry seat (action_by d) (outcome_by a))
+pub tells_answer : (p : Pack) (seat : ℕ) (d : DeedPack) (a : AnswerPack) → has_fourth d.deed ≡ false → TellsEntry p (entry seat (action_with d a.second) (outcome_with a a.second)) → TellsEntry p (entry seat (action_by d) (outcome_by a))
 tells_answer p seat d a h t = (t.0, t.1 ∙ ap (λ o. entry seat o (outcome_by a)) (spare_fourth d.deed d.kind d.first d.second d.third a.second d.fourth h))

@@ -3,18 +3,21 @@ use Rattle.std.specs.Prelude.{◌≡◌, ℕ, ◌+◌, List, [], ◌∷◌, map}
 use mathlib.Core.Option.{some}
 use lib.ListN.{get_elem?}
 use Rattle.atomic_table.specs.Seated.{TableId}
-use Rattle.heap_world.specs.Limits.{Settings}
+use Rattle.heap_world.specs.Limits.{HeapSettings}
 use Rattle.heap_trail.specs.Machine.{Machine, opening_machine}
 use Rattle.heap_lock.specs.declared.desk.Desk.{Desk}
 use Rattle.heap_lock.specs.declared.entry.Role.{Role}
 use Rattle.heap_lock.specs.declared.stub.Stub.{Stub}
 use Rattle.heap_lock.specs.Tally.{tally_in}
-use Rattle.heap_lock.specs.Held.{Chair, table_at, IsChair, IsDesk}
+use Rattle.heap_lock.specs.declared.ledger.Ledger.{Ledger}
+use Rattle.heap_lock.specs.LockStates.{Chair, table_at, IsChair, IsDesk}
+use Rattle.heap_lock.specs.Ledgers.{HasCalls, table_of}
 
--- a heap that isn't open yet: its settings, the table of each seat, and its seats
+-- a heap that isn't open yet: its settings, the table of each seat and that of the ledger, and its seats
 pub record Maker : Type 0 where
-  pub config : Settings
+  pub config : HeapSettings
   pub tables : List TableId
+  pub ledger : TableId
   pub seats : List Chair
 
 -- seats of these roles, numbered from n, that have done nothing
@@ -22,20 +25,28 @@ abbrev pub chairs : ℕ → List Role → List Chair
 chairs n [] = []
 chairs n (r ∷ rs) = record { number = n; role = r; share = [] } ∷ chairs (n + 1) rs
 
+-- a seat as contracts see it
 abbrev pub chair_of : Stub → Chair
 chair_of s = record { number = s.number; role = s.role; share = tally_in s.share.views }
 
+-- the tables of all desks, in order
 abbrev pub tables_of : List Desk → List TableId
 tables_of desks = map (λ d. d.table.shared.table_id) desks
 
+-- each half of a seat fits its table
 abbrev pub AllStubs : List TableId → List Stub → Type 0
 AllStubs tables [] = Unit {0}
 AllStubs tables (s ∷ ss) = IsChair tables s.number s.share × AllStubs tables ss
 
+-- each desk has its own table, and its book is empty
 abbrev pub AllFresh : List Desk → Type 0
-AllFresh desks = (n : ℕ) (d : Desk) → get_elem? desks n ≡ some d → IsDesk (table_at (tables_of desks) n) [] d
+AllFresh desks =
+    (n : ℕ) (d : Desk) → get_elem? desks n ≡ some d → IsDesk (table_at (tables_of desks) n) [] d
 
-pub record IsBlank (config : Settings) (machine : Machine) (desks : List Desk) (stubs : List Stub) : Type 0 where
+-- a lock that nobody has used: an opening machine, empty books, no call seen
+pub record IsBlank (config : HeapSettings) (machine : Machine) (desks : List Desk)
+    (stubs : List Stub) (ledger : Ledger) : Type 0 where
   pub machine_is : machine ≡ opening_machine config.ids config.regions config.mutators config.keep
   pub desks_are : AllFresh desks
   pub stubs_are : AllStubs (tables_of desks) stubs
+  pub ledger_is : HasCalls (table_of ledger) [] ledger

@@ -1,10 +1,8 @@
 -- The chronicle as packs, and whole entries beside them.
-use Rattle.std.specs.Prelude.{◌≡◌, ℕ, ◌-◌, ◌<◌, true, List, [], ◌∷◌, map, min, Option, slice_get, vec_len}
+use Rattle.std.specs.Prelude.{◌≡◌, ℕ, ◌-◌, ◌<◌, true, List, [], ◌∷◌, map, min, vec_len}
 use Rattle.std.specs.Global.{Vec}
-use Rattle.std.specs.Option.{option_map}
 use Rattle.std.specs.Vec.{vec_capacity}
 use Rattle.heap_lock.specs.declared.entry.Entry.{Entry}
-use Rattle.heap_lock.specs.declared.entry.Outcome.{Outcome}
 use Rattle.heap_lock.specs.declared.pack.Pack.{Pack}
 use Rattle.heap_lock.specs.Packs.{entry_in}
 
@@ -17,10 +15,12 @@ pub record ChronicleState : Type 0 where
 abbrev pub HasPlace : ℕ → Pack → Type 0
 HasPlace n p = p.is_whole ≡ true → p.first < n
 
+-- each pack that stands for a whole entry names one of the first n
 abbrev pub AllPlaced : ℕ → List Pack → Type 0
 AllPlaced n [] = Unit {0}
 AllPlaced n (p ∷ ps) = HasPlace n p × AllPlaced n ps
 
+-- the entries that packs stand for
 unfoldable pub entries_in : List Entry → List Pack → List Entry
 entries_in whole packs = map (entry_in whole) packs
 
@@ -28,9 +28,4 @@ entries_in whole packs = map (entry_in whole) packs
 abbrev pub room_in : Vec Entry → Vec Pack → ℕ
 room_in whole packs = min (vec_capacity packs - vec_len packs) (vec_capacity whole - vec_len whole)
 
-abbrev pub seat_and_answer : Entry → ℕ × Outcome
-seat_and_answer e = (e.seat, e.answer)
-
--- the seat and the answer of the entry at an index
-abbrev pub told_at : List Entry → ℕ → Option (ℕ × Outcome)
-told_at entries at = option_map seat_and_answer (slice_get entries at)
+-- whose entry it is, and its answer

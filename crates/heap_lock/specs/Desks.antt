@@ -3,29 +3,35 @@ use Rattle.std.specs.Prelude.{◌≡◌, List, [], ◌∷◌, ◌++◌}
 use Rattle.atomic_table.specs.Seated.{TableId}
 use Rattle.atomic_table.specs.declared.badge.Badge.{Badge}
 use Rattle.heap_lock.specs.declared.desk.Desk.{Desk}
-use Rattle.heap_lock.specs.declared.view.View.{View}
-use Rattle.heap_lock.specs.declared.view.View.TheVariants.{Whole, Book, Share}
-use Rattle.heap_lock.specs.Tally.{Mark, tally_of}
+use Rattle.heap_lock.specs.declared.view.SeatView.{SeatView}
+use Rattle.heap_lock.specs.declared.view.SeatView.TheVariants.{Whole, Book, Share}
+use Rattle.heap_lock.specs.Tally.{TurnedEntry, tally_of}
 
+-- the table of a desk
 abbrev pub table_of : Desk → TableId
 table_of d = d.table.shared.table_id
 
 -- no share is split off yet, and nothing is noted
-abbrev pub IsWhole : Desk → Type 0
-IsWhole d = ((table_of d).words ≡ 1) × (d.book.table_id ≡ table_of d) × (d.book.me ≡ (Whole [] [], []))
+abbrev pub IsUnsplit : Desk → Type 0
+IsUnsplit d =
+    ((table_of d).words ≡ 1) × (d.book.table_id ≡ table_of d) × (d.book.me ≡ (Whole [] [], []))
 
 -- the share is split off, and the book has its list
 abbrev pub HasBook : Desk → Type 0
-HasBook d = ((table_of d).words ≡ 1) × (d.book.table_id ≡ table_of d) × (d.book.me ≡ (Book (tally_of d.book.me.0), []))
+HasBook d =
+    ((table_of d).words ≡ 1) × (d.book.table_id ≡ table_of d)
+    × (d.book.me ≡ (Book (tally_of d.book.me.0), []))
 
 -- the same tables, and a book with this list
-abbrev pub BooksAs : Desk → Desk → List Mark → Type 0
-BooksAs d d' marks = (table_of d' ≡ table_of d) × (d'.book.table_id ≡ d.book.table_id) × (d'.book.me ≡ (Book marks, []))
+abbrev pub BooksAs : Desk → Desk → List TurnedEntry → Type 0
+BooksAs d d' marks =
+    (table_of d' ≡ table_of d) × (d'.book.table_id ≡ d.book.table_id)
+    × (d'.book.me ≡ (Book marks, []))
 
 -- a share of this table with this list
-abbrev pub IsShare : TableId → List Mark → Badge View → Type 0
+abbrev pub IsShare : TableId → List TurnedEntry → Badge SeatView → Type 0
 IsShare table marks b = (b.table_id ≡ table) × (b.views ≡ Share marks ∷ [])
 
 -- the list of the book with an entry more
-abbrev pub book_with : Desk → Mark → List Mark
+abbrev pub book_with : Desk → TurnedEntry → List TurnedEntry
 book_with d mark = tally_of d.book.me.0 ++ mark ∷ []

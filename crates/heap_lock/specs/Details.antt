@@ -5,6 +5,7 @@ use Rattle.heap_class.specs.declared.LostCause.TheVariants.{Rewound, Memory, Clo
 use Rattle.heap_class.specs.declared.Refusal.{Refusal}
 use Rattle.heap_class.specs.declared.Refusal.TheVariants.{NotDone, SweepPending, NothingToSweep, TooFar, Lost}
 
+-- the number of a cause
 abbrev pub cause_number : LostCause → ℕ
 cause_number Rewound = 0
 cause_number Memory = 1

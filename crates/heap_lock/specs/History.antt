@@ -3,7 +3,7 @@ use Rattle.std.specs.Prelude.{◌≡◌, ◌≢◌, ℕ, ◌==◌, false, List, 
 use Rattle.std.specs.List.{enumerate_from}
 use Rattle.heap_class.specs.declared.IdSize.TheVariants.{Eight}
 use Rattle.heap_class.specs.declared.Refusal.TheVariants.{NoMemory, ChronicleFull}
-use Rattle.heap_world.specs.Limits.{Settings}
+use Rattle.heap_world.specs.Limits.{HeapSettings}
 use Rattle.heap_world.specs.State.{opening_state}
 use Rattle.heap_trail.specs.declared.Action.{Action}
 use Rattle.heap_trail.specs.declared.Reply.{Reply}
@@ -21,11 +21,12 @@ reply_of (Told a) = Answered a
 reply_of (At p) = Place p
 reply_of (Denied r) = Refused r
 
+-- a seat's action and its outcome
 abbrev pub entry : ℕ → Action → Outcome → Entry
 entry seat action answer = record { seat = seat; action = action; answer = answer }
 
 -- the trail with which a heap of these settings begins
-abbrev pub opening : Settings → Trail
+abbrev pub opening : HeapSettings → Trail
 opening s = opening_trail (opening_state s.regions s.mutators)
 
 -- a machine without pins at this trail; the size of ids plays no part in events and rewinds
@@ -57,7 +58,8 @@ pub record IsDue (keep : ℕ) (t : Trail) (e : Entry) : Type 0 where
 -- the entries, the oldest first, could follow this trail one after another
 abbrev pub IsLegalHistory : ℕ → Trail → List Entry → Type 0
 IsLegalHistory keep t [] = Unit {0}
-IsLegalHistory keep t (e ∷ es) = IsDue keep t e × IsLegalHistory keep (trail_after keep t e.action) es
+IsLegalHistory keep t (e ∷ es) =
+    IsDue keep t e × IsLegalHistory keep (trail_after keep t e.action) es
 
 -- the trail that they leave
 unfoldable pub history_trail : ℕ → Trail → List Entry → Trail

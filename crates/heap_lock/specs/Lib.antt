@@ -1,12 +1,16 @@
 pub mod Limits
 pub mod History
 pub mod Tally
+pub mod Calls
+pub mod Sights
+pub mod Ledgers
 pub mod Packs
 pub mod Chronicles
 pub mod Desks
 pub mod Roles
-pub mod Held
+pub mod LockStates
 pub mod Blanks
 pub mod Audits
 pub mod Details
 pub mod Sources
+pub mod Laws

@@ -103,6 +103,7 @@ has_second t = false
 abbrev pub action_with : DeedPack → ℕ → Action
 action_with d fourth = action_in d.deed d.kind d.first d.second d.third fourth
 
+-- the action of a deed, with its own last number
 abbrev pub action_by : DeedPack → Action
 action_by d = action_with d d.fourth
 
@@ -110,16 +111,19 @@ action_by d = action_with d d.fourth
 abbrev pub outcome_with : AnswerPack → ℕ → Outcome
 outcome_with a second = outcome_in a.told a.reason a.first second
 
+-- the outcome of an answer, with its own second number
 abbrev pub outcome_by : AnswerPack → Outcome
 outcome_by a = outcome_with a a.second
 
 -- the entry that a pack tells by its numbers
 unfoldable pub entry_by : Pack → Entry
-entry_by p = entry p.seat (action_in p.deed p.kind p.first p.second p.third p.fourth) (outcome_in p.told p.reason p.told_first p.fourth)
+entry_by p =
+    entry p.seat (action_in p.deed p.kind p.first p.second p.third p.fourth)
+    (outcome_in p.told p.reason p.told_first p.fourth)
 
 -- the pack tells this entry by its numbers
-abbrev pub Tells : Pack → Entry → Type 0
-Tells p e = (p.is_whole ≡ false) × (entry_by p ≡ e)
+abbrev pub TellsEntry : Pack → Entry → Type 0
+TellsEntry p e = (p.is_whole ≡ false) × (entry_by p ≡ e)
 
 -- the entry that a pack tells by its numbers, or by its place among whole ones
 unfoldable pub entry_in : List Entry → Pack → Entry

@@ -1,10 +1,10 @@
 -- What a source over the lock gives.
-use Rattle.std.specs.Prelude.{◌≡◌, ℕ, ◌+◌, ◌-◌, ◌⊎◌, false, Option, None, ⊤}
+use Rattle.std.specs.Prelude.{◌≡◌, ℕ, ◌+◌, ◌-◌, ◌⊎◌, false, List, Option, None, ⊤}
 use Rattle.heap_class.specs.declared.LostCause.{LostCause}
 use Rattle.heap_class.specs.declared.LostCause.TheVariants.{Memory, Closed}
 use Rattle.heap_class.specs.declared.Refusal.{Refusal}
 use Rattle.heap_class.specs.declared.Refusal.TheVariants as No
-use Rattle.heap_world.specs.Limits.{Settings}
+use Rattle.heap_world.specs.Limits.{HeapSettings}
 use Rattle.heap_trail.specs.declared.Action.TheVariants.{NextPiece}
 use Rattle.heap_trail.specs.declared.Reply.TheVariants as Said
 use Rattle.heap_trail.specs.Laws.{IsPieceOfLegal}
@@ -13,11 +13,11 @@ use Rattle.dump_pump.specs.declared.source.Ending.{Ending}
 use Rattle.dump_pump.specs.declared.source.Next.{Next}
 use Rattle.dump_pump.specs.declared.source.Next.TheVariants.{Part, Lost, Cancelled}
 use Rattle.dump_pump.specs.Sources.{Supply, part_limit}
-use Rattle.heap_lock.specs.Held.{WasDumped}
+use Rattle.heap_lock.specs.Calls.{Call, Witnesses}
 
 -- after so many pieces, of which none is told
-abbrev pub supply : ℕ → Option Ending → Supply
-supply count ending = record { told = None; ended = ending; left = part_limit - count }
+abbrev pub locked_supply : ℕ → Option Ending → Supply
+locked_supply count ending = record { told = None; ended = ending; left = part_limit - count }
 
 -- the refusals that a piece may get
 abbrev pub IsPieceRefusal : Refusal → Type 0
@@ -34,14 +34,23 @@ IsLoss (No.Lost why) cause = cause ≡ why
 IsLoss e cause = ⊥
 
 -- a piece got after so many is given, or is one too many
-abbrev pub Gives : ℕ → Piece → Next → Type 0
-Gives count p (Part q) = q ≡ p
-Gives count p (Lost cause) = (p.last ≡ false) × (count + 1 ≡ part_limit) × (cause ≡ Closed)
-Gives count p Cancelled = ⊥
+abbrev pub GivesPart : ℕ → Piece → Next → Type 0
+GivesPart count p (Part q) = q ≡ p
+GivesPart count p (Lost cause) = (p.last ≡ false) × (count + 1 ≡ part_limit) × (cause ≡ Closed)
+GivesPart count p Cancelled = ⊥
 
--- some machine at the end of a legal history replied to the request for the pin's next piece: a piece of the dump of a legal
--- state, or a refusal with this cause
-abbrev pub Supplies : Settings → ℕ → ℕ → ℕ → Next → Type 0
-Supplies config pin time count next =
-    ((p : Piece) × WasDumped config (NextPiece pin time) (Said.Part p) × IsPieceOfLegal config.ids time p × Gives count p next)
-    ⊎ ((e : Refusal) × (cause : LostCause) × WasDumped config (NextPiece pin time) (Said.Refused e) × IsLoss e cause × (next ≡ Lost cause))
+-- the heap replied to the request for the pin's next piece, the last call that was seen: a piece of the dump of a legal state, or
+-- a refusal with this cause
+abbrev pub Supplies : HeapSettings → ℕ → ℕ → ℕ → List Call → List Call → Next → Type 0
+Supplies config pin time count before after next =
+    ((p : Piece) × Witnesses config before (NextPiece pin time) (Said.Part p) after
+    × IsPieceOfLegal config.ids time p × GivesPart count p next)
+    ⊎ ((e : Refusal) × (cause : LostCause)
+    × Witnesses config before (NextPiece pin time) (Said.Refused e) after × IsLoss e cause
+    × (next ≡ Lost cause))
+
+-- how many pieces were given after this one more, if it is one
+abbrev pub count_after : ℕ → Next → ℕ
+count_after count (Part p) = count + 1
+count_after count (Lost cause) = count
+count_after count Cancelled = count

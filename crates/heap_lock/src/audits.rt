@@ -1,6 +1,6 @@
 //! Receipts against the chronicle.
 ghost use Rattle.std.specs.Prelude.{◌↔◌, IsTrue};
-ghost use Rattle.heap_lock.specs.Audits.{Names, Audits};
+ghost use Rattle.heap_lock.specs.Audits.{NamesEntry, Audits};
 
 use crate::chronicle::Chronicle;
 use crate::entry::Receipt;
@@ -9,7 +9,7 @@ use heap_trail::Action;
 
 // Returns whether the receipt names an entry with this action.
 fn names(chronicle: &Chronicle, action: &Action, receipt: &Receipt) -> bool
-    ensures { IsTrue result ↔ Names chronicle.now.entries action.now receipt.now }
+    ensures { IsTrue result ↔ NamesEntry chronicle.now.entries action.now receipt.now }
 {
     if receipt.turn == 0 {
         return false;

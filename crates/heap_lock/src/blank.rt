@@ -8,6 +8,7 @@ use crate::chronicle::Chronicle;
 use crate::desk::Desk;
 use crate::entry::Role;
 use crate::heap::{Heap, Kept, Seat, Shared};
+use crate::ledger::Ledger;
 use crate::stub::Stub;
 use heap_class::Refusal;
 use heap_trail::Machine;
@@ -16,25 +17,33 @@ use std::alloc::{AllocError, Global};
 use std::collections::VecDeque;
 use std::marker::{Model, PhantomData};
 
-/// A heap that no type names yet. Contracts see its settings, the tables of its shares, and its seats.
+/// A heap that no type names yet. Contracts see its settings, the tables of its shares and its ledger, and its seats.
 #[derive(Drop)]
 pub struct Blank {
     config: Config,
     machine: Machine,
     desks: Vec<Desk>,
     stubs: Vec<Stub>,
+    ledger: Ledger,
     alloc: Global,
 }
 
 impl Model for Blank {
     ghost use Rattle.std.specs.Prelude.{map};
     ghost use Rattle.heap_lock.specs.Blanks.{Maker, tables_of, chair_of, IsBlank};
+    ghost use Rattle.heap_lock.specs.Ledgers.{table_of};
 
     ghost Value = { Maker };
 
-    ghost view = { λ b. record { config = b.config; tables = tables_of b.desks.items; seats = map chair_of b.stubs.items } };
+    ghost view = { λ b.
+        record {
+          config = b.config;
+          tables = tables_of b.desks.items;
+          ledger = table_of b.ledger;
+          seats = map chair_of b.stubs.items;
+        } };
 
-    ghost invariant = { λ b. IsBlank b.config b.machine b.desks.items b.stubs.items };
+    ghost invariant = { λ b. IsBlank b.config b.machine b.desks.items b.stubs.items b.ledger };
 }
 
 /// The seats that nobody has taken yet, the next one first.
@@ -46,7 +55,7 @@ pub struct Seats<L: Heap> {
 
 impl<L: Heap> Model for Seats<L> {
     ghost use Rattle.std.specs.Prelude.{List, map};
-    ghost use Rattle.heap_lock.specs.Held.{Chair};
+    ghost use Rattle.heap_lock.specs.LockStates.{Chair};
     ghost use Rattle.heap_lock.specs.Blanks.{chair_of, AllStubs};
 
     ghost Value = { List Chair };
@@ -72,7 +81,7 @@ impl<L: Heap> Seats<L> {
 }
 
 // Creates a desk and a stub for each role.
-fn seated(alloc: Global, roles: &[Role]) -> Result<(Vec<Desk>, Vec<Stub>), AllocError>
+fn make_seats(alloc: Global, roles: &[Role]) -> Result<(Vec<Desk>, Vec<Stub>), AllocError>
     requires { length roles.now ≤ seat_limit }
     ensures seats { IfOk result (λ p. map chair_of p.1.items ≡ chairs 0 roles.now) }
     ensures desks { IfOk result (λ p. AllFresh p.0.items) }
@@ -104,7 +113,10 @@ impl Blank {
         ensures refused { IfErr result (λ e. e ≡ NoMemory) }
     {
         let machine = Machine::new(alloc, config)?;
-        let Ok((desks, stubs)) = seated(alloc, roles) else {
+        let Ok((desks, stubs)) = make_seats(alloc, roles) else {
+            return Err(Refusal::NoMemory);
+        };
+        let Ok(ledger) = Ledger::new(alloc) else {
             return Err(Refusal::NoMemory);
         };
         Ok(Blank {
@@ -112,13 +124,14 @@ impl Blank {
             machine,
             desks,
             stubs,
+            ledger,
             alloc,
         })
     }
 
     /// Returns the heap under its lock, and its seats in order. Takes no memory.
     pub fn open<L: Heap>(self) -> (Shared<L>, Seats<L>)
-        requires { (self.config ≡ L.config) × (self.tables ≡ L.tables) }
+        requires { (self.config ≡ L.config) × (self.tables ≡ L.tables) × (self.ledger ≡ L.ledger) }
         ensures { result.1 ≡ self.seats }
     {
         let Blank {
@@ -126,9 +139,10 @@ impl Blank {
             machine,
             desks,
             stubs,
+            ledger,
             alloc,
         } = self;
-        let kept = Kept::of(machine, Chronicle::new(alloc), desks);
+        let kept = Kept::of(machine, Chronicle::new(alloc), desks, ledger);
         let stubs = VecDeque::from_vec(stubs);
         (
             Shared::of(config, kept),

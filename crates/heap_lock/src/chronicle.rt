@@ -1,8 +1,8 @@
 //! What was done, in order.
 ghost use Rattle.std.specs.Prelude.{◌≡◌, ◌↔◌, ◌<◌, ◌++◌, ◌∷◌, [], true, length, slice_get, Some, IsTrue, OnOk};
-ghost use Rattle.heap_lock.specs.Chronicles.{HasPlace, seat_and_answer, told_at};
+ghost use Rattle.heap_lock.specs.Chronicles.{HasPlace};
 ghost use Rattle.heap_lock.specs.History.{entry};
-ghost use Rattle.heap_lock.specs.Packs.{entry_by, entry_in, Tells};
+ghost use Rattle.heap_lock.specs.Packs.{entry_by, entry_in, TellsEntry};
 
 use crate::entry::{Entry, Outcome};
 use crate::pack::{Deed, Pack, Reason, Told};
@@ -28,13 +28,17 @@ impl Model for Chronicle {
 
     ghost Value = { ChronicleState };
 
-    ghost view = { λ c. record { entries = entries_in c.whole.items c.packs.items; room = room_in c.whole c.packs } };
+    ghost view = { λ c.
+        record {
+          entries = entries_in c.whole.items c.packs.items;
+          room = room_in c.whole c.packs;
+        } };
 
     ghost invariant = { λ c. AllPlaced (length c.whole.items) c.packs.items };
 }
 
 // Returns a pack that has the place of a whole entry.
-fn placed(place: u64) -> Pack
+fn pack_at(place: u64) -> Pack
     ensures { (result.is_whole ≡ true) × (result.first ≡ place) }
 {
     Pack {
@@ -61,7 +65,7 @@ fn is_of(at: &Entry, seat: u64, action: &Action, answer: Outcome) -> bool
 
 // Returns the entry that a pack tells by its numbers.
 #[tactic(auto, unfolding(crate::specs::Packs::entry_by))]
-fn unpacked(pack: &Pack) -> Entry
+fn unpack(pack: &Pack) -> Entry
     ensures { result ≡ entry_by pack.now }
 {
     Entry {
@@ -86,21 +90,8 @@ fn tells(whole: &[Entry], pack: &Pack, seat: u64, action: &Action, answer: Outco
     if pack.is_whole {
         is_of(&whole[pack.first as usize], seat, action, answer)
     } else {
-        is_of(&unpacked(pack), seat, action, answer)
+        is_of(&unpack(pack), seat, action, answer)
     }
-}
-
-// Returns the seat and the answer of the entry that a pack tells.
-fn told(whole: &[Entry], pack: &Pack) -> (u64, Outcome)
-    requires { HasPlace (length whole.now) pack.now }
-    ensures { result ≡ seat_and_answer (entry_in whole.now pack.now) }
-{
-    if pack.is_whole {
-        let entry = &whole[pack.first as usize];
-        return (entry.seat, entry.answer);
-    }
-    let answer = outcome_in(pack.told, pack.reason, pack.told_first, pack.fourth);
-    (pack.seat as u64, answer)
 }
 
 impl Chronicle {
@@ -136,7 +127,7 @@ impl Chronicle {
     #[inline(always)]
     fn push_pack(&mut self, pack: Pack, entry: &Entry)
         requires room { 0 < self.old.room }
-        requires tells { Tells pack entry.now }
+        requires tells { TellsEntry pack entry.now }
         ensures { self.new.entries ≡ self.old.entries ++ entry.now ∷ [] }
     {
         let _ = entry;
@@ -149,7 +140,7 @@ impl Chronicle {
         ensures { self.new.entries ≡ self.old.entries ++ entry ∷ [] }
     {
         let place = self.whole.len() as u64;
-        self.packs.push_reserved(placed(place));
+        self.packs.push_reserved(pack_at(place));
         self.whole.push_reserved(entry);
     }
 
@@ -165,21 +156,11 @@ impl Chronicle {
         }
     }
 
-    /// Returns the seat and the answer of the entry at an index, or None if there is none. Takes no memory.
-    pub fn told_at(&self, at: usize) -> Option<(u64, Outcome)>
-        ensures { result ≡ told_at self.now.entries at }
-    {
-        if at >= self.packs.len() {
-            return None;
-        }
-        let pack = &self.packs[at];
-        Some(told(self.whole.as_slice(), pack))
-    }
-
     /// Returns whether the entry at an index is that of the seat, the action and the answer. Returns false if there is none at
     /// the index. Takes no memory.
     pub fn is_done(&self, at: usize, seat: u64, action: &Action, answer: Outcome) -> bool
-        ensures { IsTrue result ↔ (slice_get self.now.entries at ≡ Some (entry seat action.now answer)) }
+        ensures { IsTrue result ↔
+            (slice_get self.now.entries at ≡ Some (entry seat action.now answer)) }
     {
         if at >= self.packs.len() {
             return false;

@@ -8,12 +8,14 @@ ghost use Rattle.heap_lock.specs.declared.entry.Role.TheVariants.{User};
 ghost use Rattle.heap_lock.specs.Tally.{tally_in};
 ghost use Rattle.heap_lock.specs.History.{opening, Enters, IsLegalHistory};
 ghost use Rattle.heap_lock.specs.Roles.{is_of_mutator, is_of_marker, is_of_sweeper, may};
-ghost use Rattle.heap_lock.specs.Held.{AllSeated, Folds, Stands, IsMoved, IsAct, IsReceived, IsRefused, IsNoEntry, IsChair, IsKept};
+ghost use Rattle.heap_lock.specs.Ledgers.{all_in, HasLedger};
+ghost use Rattle.heap_lock.specs.LockStates.{AllSeated, Folds, Stands, IsMoved, IsAct, IsReceived, IsRefused, IsNoEntry, IsChair, IsUnderLock};
 
 use crate::chronicle::Chronicle;
 use crate::desk::Desk;
 use crate::entry::{Entry, Outcome, Receipt, Role};
-use crate::view::View;
+use crate::ledger::Ledger;
+use crate::view::SeatView;
 use atomic_table::Badge;
 use heap_class::Refusal;
 use heap_step::Event;
@@ -26,24 +28,29 @@ use std::sync::{Mutex, MutexGuard, Wait};
 /// Entries of a chronicle at most.
 pub const CHRONICLE_LIMIT: usize = 1_000_000;
 
-/// Which heap it is: what it was made with, and the table of each seat's tally.
+/// Which heap it is: what it was made with, the table of each seat's tally, and that of the ledger.
 pub trait Heap {
     ghost use Rattle.std.specs.Prelude.{List};
     ghost use Rattle.atomic_table.specs.Seated.{TableId};
-    ghost use Rattle.heap_world.specs.Limits.{Settings};
+    ghost use Rattle.heap_world.specs.Limits.{HeapSettings};
 
-    ghost config: { Settings };
+    ghost config: { HeapSettings };
 
     ghost tables: { List TableId };
+
+    ghost ledger: { TableId };
 }
 
 impl Heap for Brand {
     ghost use Rattle.std.specs.Prelude.{[]};
     ghost use Rattle.heap_class.specs.declared.IdSize.TheVariants.{Eight};
+    ghost use Rattle.heap_lock.specs.LockStates.{no_table};
 
     ghost config = { record { regions = 1; mutators = 1; keep = 1; ids = Eight } };
 
     ghost tables = { [] };
+
+    ghost ledger = { no_table };
 }
 
 /// The right of one caller to act. Contracts see its number, its role and its share of the chronicle.
@@ -51,38 +58,43 @@ impl Heap for Brand {
 pub struct Seat<L: Heap> {
     number: u64,
     role: Role,
-    share: Badge<View>,
+    share: Badge<SeatView>,
     heap: PhantomData<L>,
 }
 
 impl<L: Heap> Model for Seat<L> {
     ghost use Rattle.heap_lock.specs.Tally.{tally_in};
-    ghost use Rattle.heap_lock.specs.Held.{Chair, IsChair};
+    ghost use Rattle.heap_lock.specs.LockStates.{Chair, IsChair};
 
     ghost Value = { Chair };
 
-    ghost view = { λ s. record { number = s.number; role = s.role; share = tally_in s.share.views } };
+    ghost view = { λ s.
+        record { number = s.number; role = s.role; share = tally_in s.share.views } };
 
     ghost invariant = { λ s. IsChair L.tables s.number s.share };
 }
 
-/// What lies under the lock. Contracts see the machine and the chronicle.
+/// What lies under the lock. Contracts see the machine, the chronicle and the ledger.
 #[derive(Drop)]
 pub struct Kept<L: Heap> {
     pub(crate) machine: Machine,
     chronicle: Chronicle,
     desks: Vec<Desk>,
+    pub(crate) ledger: Ledger,
     heap: PhantomData<L>,
 }
 
 impl<L: Heap> Model for Kept<L> {
-    ghost use Rattle.heap_lock.specs.Held.{Held, IsKept};
+    ghost use Rattle.heap_lock.specs.LockStates.{LockState, IsUnderLock};
+    ghost use Rattle.heap_lock.specs.Ledgers.{all_in, HasLedger};
 
-    ghost Value = { Held };
+    ghost Value = { LockState };
 
-    ghost view = { λ k. record { machine = k.machine; chronicle = k.chronicle.entries } };
+    ghost view = { λ k.
+        record { machine = k.machine; chronicle = k.chronicle.entries; ledger = all_in k.ledger } };
 
-    ghost invariant = { λ k. IsKept L.config L.tables k.machine k.chronicle.entries k.desks.items };
+    ghost invariant = { λ k. IsUnderLock L.config L.tables k.machine k.chronicle.entries
+        k.desks.items × HasLedger L.config L.ledger k.machine k.chronicle.entries k.ledger };
 }
 
 // Returns whether the event is one of this mutator's own.
@@ -130,10 +142,11 @@ fn wants_memory(refusal: Refusal) -> bool
 }
 
 // Does an event or a rewind and returns the answer, or None if it finds no memory.
-fn moved(machine: &mut Machine, action: &Action) -> Option<Outcome>
+fn take_step(machine: &mut Machine, action: &Action) -> Option<Outcome>
     requires deed { is_dump_action action.now ≡ false }
     requires place { machine.old.trail.place < last_place }
-    ensures { MatchOption result (machine.new ≡ machine.old) (λ o. Enters machine.old action.now machine.new o) }
+    ensures { MatchOption result (machine.new ≡ machine.old)
+        (λ o. Enters machine.old action.now machine.new o) }
 {
     match action {
         Action::Step(event) => match machine.step(event) {
@@ -155,7 +168,7 @@ fn moved(machine: &mut Machine, action: &Action) -> Option<Outcome>
 }
 
 impl<L: Heap> Seat<L> {
-    pub(crate) fn of(number: u64, role: Role, share: Badge<View>) -> Seat<L>
+    pub(crate) fn of(number: u64, role: Role, share: Badge<SeatView>) -> Seat<L>
         requires { IsChair L.tables number share }
         ensures { result ≡ record { number = number; role = role; share = tally_in share.views } }
     {
@@ -189,14 +202,22 @@ impl<L: Heap> Seat<L> {
 }
 
 impl<L: Heap> Kept<L> {
-    pub(crate) fn of(machine: Machine, chronicle: Chronicle, desks: Vec<Desk>) -> Kept<L>
-        requires { IsKept L.config L.tables machine chronicle.entries desks.items }
-        ensures { result ≡ record { machine = machine; chronicle = chronicle.entries } }
+    pub(crate) fn of(
+        machine: Machine,
+        chronicle: Chronicle,
+        desks: Vec<Desk>,
+        ledger: Ledger,
+    ) -> Kept<L>
+        requires kept { IsUnderLock L.config L.tables machine chronicle.entries desks.items }
+        requires ledger { HasLedger L.config L.ledger machine chronicle.entries ledger }
+        ensures { result
+            ≡ record { machine = machine; chronicle = chronicle.entries; ledger = all_in ledger } }
     {
         Kept {
             machine,
             chronicle,
             desks,
+            ledger,
             heap: PhantomData,
         }
     }
@@ -218,7 +239,7 @@ impl<L: Heap> Kept<L> {
         &self.machine
     }
 
-    // Does the action, and adds its entry to chronicle, book and share.
+    // Does the action, and adds its entry to chronicle, book and share, and the call to the ledger.
     fn do_held(&mut self, seat: &mut Seat<L>, action: Action) -> Result<Receipt, Refusal>
         requires { is_dump_action action ≡ false }
         ensures moves { IfOk result (λ r. IsMoved L.config action self.old r self.new) }
@@ -231,6 +252,7 @@ impl<L: Heap> Kept<L> {
             machine,
             chronicle,
             desks,
+            ledger,
             heap: _,
         } = self;
         if chronicle.len() >= CHRONICLE_LIMIT {
@@ -239,7 +261,7 @@ impl<L: Heap> Kept<L> {
         if chronicle.reserve().is_err() {
             return Err(Refusal::NoMemory);
         }
-        let Some(answer) = moved(machine, &action) else {
+        let Some(answer) = take_step(machine, &action) else {
             return Err(Refusal::NoMemory);
         };
         let number = seat.number;
@@ -252,6 +274,7 @@ impl<L: Heap> Kept<L> {
         let desk = &mut desks[number as usize];
         let share = replace(&mut seat.share, Badge::blank());
         seat.share = desk.gain(share, turn, &entry);
+        ledger.note::<Brand, Action, Outcome>(&entry.action, &answer);
         chronicle.push(entry);
         Ok(Receipt {
             seat: number,

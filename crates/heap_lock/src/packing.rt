@@ -11,7 +11,7 @@ ghost use Rattle.heap_lock.specs.declared.entry.Outcome.TheVariants.{Answered as
 ghost use Rattle.heap_lock.specs.declared.pack.Reason.TheVariants.{NoClass as AnyReason};
 ghost use Rattle.heap_lock.specs.declared.pack.Told.TheVariants.{Refused as Other};
 ghost use Rattle.heap_lock.specs.History.{entry};
-ghost use Rattle.heap_lock.specs.Packs.{action_in, action_by, action_with, outcome_by, outcome_with, Tells, has_fourth, has_second};
+ghost use Rattle.heap_lock.specs.Packs.{action_in, action_by, action_with, outcome_by, outcome_with, TellsEntry, has_fourth, has_second};
 
 use crate::entry::{Entry, Outcome};
 use crate::pack::{AnswerPack, Deed, DeedPack, Pack, Reason, Told};
@@ -21,7 +21,7 @@ use heap_trail::Action;
 
 // Returns a deed of these numbers without a kind.
 #[inline(always)]
-fn numbered(deed: Deed, first: u64, second: u64, third: u64, fourth: u64) -> DeedPack
+fn deed_pack(deed: Deed, first: u64, second: u64, third: u64, fourth: u64) -> DeedPack
     ensures { action_by result ≡ action_in deed NoKind first second third fourth }
 {
     DeedPack {
@@ -55,36 +55,36 @@ fn pack_event(event: &Event) -> Option<DeedPack>
     ensures { IfSome result (λ d. action_by d ≡ Step event.now) }
 {
     match event {
-        Event::New { m, r, class } => Some(numbered(Deed::New, *m, *r, *class, 0)),
+        Event::New { m, r, class } => Some(deed_pack(Deed::New, *m, *r, *class, 0)),
         Event::NewArray { m, r, class, len } => {
-            Some(numbered(Deed::NewArray, *m, *r, *class, *len))
+            Some(deed_pack(Deed::NewArray, *m, *r, *class, *len))
         }
         Event::NewPrim { m, r, kind, len } => Some(new_prim(*m, *r, *kind, *len)),
-        Event::Load { m, to, from, slot } => Some(numbered(Deed::Load, *m, *to, *from, *slot)),
+        Event::Load { m, to, from, slot } => Some(deed_pack(Deed::Load, *m, *to, *from, *slot)),
         Event::Store {
             m,
             target,
             slot,
             source,
-        } => Some(numbered(Deed::Store, *m, *target, *slot, *source)),
+        } => Some(deed_pack(Deed::Store, *m, *target, *slot, *source)),
         Event::Put {
             m,
             target,
             slot,
             value,
-        } => Some(numbered(Deed::Put, *m, *target, *slot, *value)),
+        } => Some(deed_pack(Deed::Put, *m, *target, *slot, *value)),
         Event::Move {
             m,
             to,
             from_m,
             from,
-        } => Some(numbered(Deed::Move, *m, *to, *from_m, *from)),
-        Event::Clear { m, r } => Some(numbered(Deed::Clear, *m, *r, 0, 0)),
-        Event::Snap => Some(numbered(Deed::Snap, 0, 0, 0, 0)),
-        Event::Mark => Some(numbered(Deed::Mark, 0, 0, 0, 0)),
-        Event::Drain => Some(numbered(Deed::Drain, 0, 0, 0, 0)),
-        Event::Finish => Some(numbered(Deed::Finish, 0, 0, 0, 0)),
-        Event::Sweep { region } => Some(numbered(Deed::Sweep, *region, 0, 0, 0)),
+        } => Some(deed_pack(Deed::Move, *m, *to, *from_m, *from)),
+        Event::Clear { m, r } => Some(deed_pack(Deed::Clear, *m, *r, 0, 0)),
+        Event::Snap => Some(deed_pack(Deed::Snap, 0, 0, 0, 0)),
+        Event::Mark => Some(deed_pack(Deed::Mark, 0, 0, 0, 0)),
+        Event::Drain => Some(deed_pack(Deed::Drain, 0, 0, 0, 0)),
+        Event::Finish => Some(deed_pack(Deed::Finish, 0, 0, 0, 0)),
+        Event::Sweep { region } => Some(deed_pack(Deed::Sweep, *region, 0, 0, 0)),
         Event::Class { .. } | Event::ArrayClass { .. } => None,
     }
 }
@@ -96,14 +96,14 @@ fn pack_action(action: &Action) -> Option<DeedPack>
 {
     match action {
         Action::Step(event) => pack_event(event),
-        Action::Rewind(n) => Some(numbered(Deed::Rewind, *n, 0, 0, 0)),
+        Action::Rewind(n) => Some(deed_pack(Deed::Rewind, *n, 0, 0, 0)),
         _ => None,
     }
 }
 
 // Returns an answer of this sort.
 #[inline(always)]
-fn answered(told: Told, first: u64, second: u64) -> AnswerPack
+fn answer_pack(told: Told, first: u64, second: u64) -> AnswerPack
     ensures { result ≡ record { told = told; reason = AnyReason; first = first; second = second } }
 {
     AnswerPack {
@@ -120,13 +120,13 @@ fn pack_answer(answer: Answer) -> AnswerPack
     ensures { outcome_by result ≡ Said answer }
 {
     match answer {
-        Answer::Class(class) => answered(Told::Class, class, 0),
-        Answer::Object(id) => answered(Told::Object, id, 0),
-        Answer::Null => answered(Told::Null, 0, 0),
-        Answer::Value(value) => answered(Told::Value, value, 0),
-        Answer::Done => answered(Told::Done, 0, 0),
-        Answer::Pushed(count) => answered(Told::Pushed, count, 0),
-        Answer::Condemned(count) => answered(Told::Condemned, count, 0),
+        Answer::Class(class) => answer_pack(Told::Class, class, 0),
+        Answer::Object(id) => answer_pack(Told::Object, id, 0),
+        Answer::Null => answer_pack(Told::Null, 0, 0),
+        Answer::Value(value) => answer_pack(Told::Value, value, 0),
+        Answer::Done => answer_pack(Told::Done, 0, 0),
+        Answer::Pushed(count) => answer_pack(Told::Pushed, count, 0),
+        Answer::Condemned(count) => answer_pack(Told::Condemned, count, 0),
         Answer::Swept { dead, emptied } => pack_swept(dead, emptied),
     }
 }
@@ -136,14 +136,14 @@ fn pack_swept(dead: u64, emptied: bool) -> AnswerPack
     ensures { outcome_by result ≡ Said (Swept dead emptied) }
 {
     if emptied {
-        answered(Told::Emptied, dead, 0)
+        answer_pack(Told::Emptied, dead, 0)
     } else {
-        answered(Told::Swept, dead, 0)
+        answer_pack(Told::Swept, dead, 0)
     }
 }
 
 // Returns a refusal of this sort.
-fn refused(reason: Reason, first: u64) -> AnswerPack
+fn refusal_pack(reason: Reason, first: u64) -> AnswerPack
     ensures { result ≡ record { told = Other; reason = reason; first = first; second = 0 } }
 {
     AnswerPack {
@@ -159,9 +159,9 @@ fn pack_lost(cause: LostCause) -> AnswerPack
     ensures { outcome_by result ≡ Denied (Lost cause) }
 {
     match cause {
-        LostCause::Rewound => refused(Reason::LostRewound, 0),
-        LostCause::Memory => refused(Reason::LostMemory, 0),
-        LostCause::Closed => refused(Reason::LostClosed, 0),
+        LostCause::Rewound => refusal_pack(Reason::LostRewound, 0),
+        LostCause::Memory => refusal_pack(Reason::LostMemory, 0),
+        LostCause::Closed => refusal_pack(Reason::LostClosed, 0),
     }
 }
 
@@ -170,32 +170,32 @@ fn pack_refusal(refusal: Refusal) -> AnswerPack
     ensures { outcome_by result ≡ Denied refusal }
 {
     match refusal {
-        Refusal::NoMemory => refused(Reason::NoMemory, 0),
-        Refusal::NoClass => refused(Reason::NoClass, 0),
-        Refusal::ClassLimit => refused(Reason::ClassLimit, 0),
-        Refusal::BadName => refused(Reason::BadName, 0),
-        Refusal::DuplicateName => refused(Reason::DuplicateName, 0),
-        Refusal::FieldLimit => refused(Reason::FieldLimit, 0),
-        Refusal::BadRegister => refused(Reason::BadRegister, 0),
-        Refusal::NullRegister => refused(Reason::NullRegister, 0),
-        Refusal::BadSlot => refused(Reason::BadSlot, 0),
-        Refusal::WrongKind => refused(Reason::WrongKind, 0),
-        Refusal::OutOfRange => refused(Reason::OutOfRange, 0),
-        Refusal::TooLarge => refused(Reason::TooLarge, 0),
-        Refusal::HeapFull => refused(Reason::HeapFull, 0),
-        Refusal::AlreadyMarking => refused(Reason::AlreadyMarking, 0),
-        Refusal::NotMarking => refused(Reason::NotMarking, 0),
-        Refusal::NothingToMark => refused(Reason::NothingToMark, 0),
-        Refusal::NothingToDrain => refused(Reason::NothingToDrain, 0),
-        Refusal::NotDone { gray, undrained } => answered(Told::NotDone, gray, undrained),
-        Refusal::SweepPending { region } => refused(Reason::SweepPending, region),
-        Refusal::NothingToSweep { region } => refused(Reason::NothingToSweep, region),
-        Refusal::TooFar { asked, retained } => answered(Told::TooFar, asked, retained),
-        Refusal::NoPin => refused(Reason::NoPin, 0),
+        Refusal::NoMemory => refusal_pack(Reason::NoMemory, 0),
+        Refusal::NoClass => refusal_pack(Reason::NoClass, 0),
+        Refusal::ClassLimit => refusal_pack(Reason::ClassLimit, 0),
+        Refusal::BadName => refusal_pack(Reason::BadName, 0),
+        Refusal::DuplicateName => refusal_pack(Reason::DuplicateName, 0),
+        Refusal::FieldLimit => refusal_pack(Reason::FieldLimit, 0),
+        Refusal::BadRegister => refusal_pack(Reason::BadRegister, 0),
+        Refusal::NullRegister => refusal_pack(Reason::NullRegister, 0),
+        Refusal::BadSlot => refusal_pack(Reason::BadSlot, 0),
+        Refusal::WrongKind => refusal_pack(Reason::WrongKind, 0),
+        Refusal::OutOfRange => refusal_pack(Reason::OutOfRange, 0),
+        Refusal::TooLarge => refusal_pack(Reason::TooLarge, 0),
+        Refusal::HeapFull => refusal_pack(Reason::HeapFull, 0),
+        Refusal::AlreadyMarking => refusal_pack(Reason::AlreadyMarking, 0),
+        Refusal::NotMarking => refusal_pack(Reason::NotMarking, 0),
+        Refusal::NothingToMark => refusal_pack(Reason::NothingToMark, 0),
+        Refusal::NothingToDrain => refusal_pack(Reason::NothingToDrain, 0),
+        Refusal::NotDone { gray, undrained } => answer_pack(Told::NotDone, gray, undrained),
+        Refusal::SweepPending { region } => refusal_pack(Reason::SweepPending, region),
+        Refusal::NothingToSweep { region } => refusal_pack(Reason::NothingToSweep, region),
+        Refusal::TooFar { asked, retained } => answer_pack(Told::TooFar, asked, retained),
+        Refusal::NoPin => refusal_pack(Reason::NoPin, 0),
         Refusal::Lost { cause } => pack_lost(cause),
-        Refusal::NotRetained => refused(Reason::NotRetained, 0),
-        Refusal::PinLimit => refused(Reason::PinLimit, 0),
-        Refusal::ChronicleFull => refused(Reason::ChronicleFull, 0),
+        Refusal::NotRetained => refusal_pack(Reason::NotRetained, 0),
+        Refusal::PinLimit => refusal_pack(Reason::PinLimit, 0),
+        Refusal::ChronicleFull => refusal_pack(Reason::ChronicleFull, 0),
     }
 }
 
@@ -206,7 +206,7 @@ fn pack_outcome(outcome: Outcome) -> AnswerPack
 {
     match outcome {
         Outcome::Answered(answer) => pack_answer(answer),
-        Outcome::Place(place) => answered(Told::Place, place, 0),
+        Outcome::Place(place) => answer_pack(Told::Place, place, 0),
         Outcome::Refused(refusal) => pack_refusal(refusal),
     }
 }
@@ -235,8 +235,9 @@ fn has_second(told: Told) -> bool
 
 // Returns the pack of a deed and an answer with this number in the place that they share.
 #[inline(always)]
-fn joined(seat: u16, deed: DeedPack, answer: AnswerPack, fourth: u64) -> Pack
-    ensures { Tells result (entry seat (action_with deed fourth) (outcome_with answer fourth)) }
+fn join_packs(seat: u16, deed: DeedPack, answer: AnswerPack, fourth: u64) -> Pack
+    ensures { TellsEntry result
+        (entry seat (action_with deed fourth) (outcome_with answer fourth)) }
 {
     Pack {
         first: deed.first,
@@ -256,21 +257,21 @@ fn joined(seat: u16, deed: DeedPack, answer: AnswerPack, fourth: u64) -> Pack
 // Returns the pack of a deed and an answer, or None if both have a number for the place that they share.
 #[inline(always)]
 fn pack_numbers(seat: u16, deed: DeedPack, answer: AnswerPack) -> Option<Pack>
-    ensures { IfSome result (λ p. Tells p (entry seat (action_by deed) (outcome_by answer))) }
+    ensures { IfSome result (λ p. TellsEntry p (entry seat (action_by deed) (outcome_by answer))) }
 {
     if !has_second(answer.told) {
-        return Some(joined(seat, deed, answer, deed.fourth));
+        return Some(join_packs(seat, deed, answer, deed.fourth));
     }
     if has_fourth(deed.deed) {
         return None;
     }
-    Some(joined(seat, deed, answer, answer.second))
+    Some(join_packs(seat, deed, answer, answer.second))
 }
 
 /// Returns an entry by its numbers, or None if it has lists, too many numbers, or a seat above 65,535. Takes no memory.
 #[inline(always)]
 pub fn pack_of(entry: &Entry) -> Option<Pack>
-    ensures { IfSome result (λ p. Tells p entry.now) }
+    ensures { IfSome result (λ p. TellsEntry p entry.now) }
 {
     let seat = entry.seat;
     if seat > u16::MAX as u64 {

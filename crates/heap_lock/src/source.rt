@@ -1,9 +1,10 @@
 //! The source of a live dump: the pieces of a pin, with the lock for one at a time.
 ghost use Rattle.std.specs.Prelude.{◌≡◌, ◌<◌, ◌≤◌, length, None as Nothing};
-ghost use Rattle.dump_pump.specs.Sources.{IsNext, part_limit, part_size_limit};
-ghost use Rattle.heap_lock.specs.Sources.{IsLoss, IsPieceRefusal, Gives, Supplies, supply};
+ghost use Rattle.dump_pump.specs.Sources.{IsNextPart, part_limit, part_size_limit};
+ghost use Rattle.heap_lock.specs.Sources.{IsLoss, IsPieceRefusal, GivesPart, Supplies, count_after, locked_supply};
 
 use crate::heap::{Heap, Shared};
+use crate::witness::Witness;
 use dump_pump::source::PART_LIMIT;
 use dump_pump::{Ending, Next, Source};
 use heap_class::{LostCause, Refusal};
@@ -16,6 +17,8 @@ use std::sync::Wait;
 pub struct LockedSource<'a, L: Heap, R: Wait> {
     pub shared: &'a Shared<L>,
     pub rt: &'a R,
+    /// Who sees the calls of the source.
+    pub witness: Witness<L>,
     pub pin: u64,
     /// The time in the header of the dump, in milliseconds.
     pub time: u64,
@@ -40,13 +43,21 @@ fn cause_of(refusal: Refusal) -> LostCause
 
 impl<'a, L: Heap, R: Wait> LockedSource<'a, L, R> {
     /// Creates a source that has given nothing yet. Takes neither the lock nor memory.
-    pub fn new(shared: &'a Shared<L>, rt: &'a R, pin: u64, time: u64) -> LockedSource<'a, L, R>
-        ensures names { (result.pin ≡ pin) × (result.time ≡ time) }
-        ensures fresh { supply result.count result.ending ≡ supply 0 Nothing }
+    pub fn new(
+        shared: &'a Shared<L>,
+        rt: &'a R,
+        witness: Witness<L>,
+        pin: u64,
+        time: u64,
+    ) -> LockedSource<'a, L, R>
+        ensures names { (result.pin ≡ pin) × (result.time ≡ time) × (result.witness ≡ witness)
+            × (result.count ≡ 0) }
+        ensures fresh { locked_supply result.count result.ending ≡ locked_supply 0 Nothing }
     {
         LockedSource {
             shared,
             rt,
+            witness,
             pin,
             time,
             count: 0,
@@ -59,11 +70,17 @@ impl<'a, L: Heap, R: Wait> LockedSource<'a, L, R> {
     /// would be the 66,178th and isn't the last. Never says Cancelled. May wait.
     pub fn next_part(&mut self) -> Next
         requires { self.old.count < part_limit }
-        ensures supplies { Supplies L.config self.old.pin self.old.time self.old.count result }
-        ensures next { IsNext (supply self.old.count self.old.ending) (supply self.new.count self.new.ending) result }
+        ensures supplies { Supplies L.config self.old.pin self.old.time self.old.count
+            self.old.witness self.new.witness result }
+        ensures next { IsNextPart (locked_supply self.old.count self.old.ending)
+            (locked_supply self.new.count self.new.ending) result }
         ensures names { (self.new.pin ≡ self.old.pin) × (self.new.time ≡ self.old.time) }
+        ensures count { self.new.count ≡ count_after self.old.count result }
     {
-        match self.shared.next_piece(self.rt, self.pin, self.time) {
+        match self
+            .shared
+            .next_piece(self.rt, &mut self.witness, self.pin, self.time)
+        {
             Ok(piece) => self.gives(piece),
             Err(refusal) => {
                 let cause = cause_of(refusal);
@@ -77,9 +94,12 @@ impl<'a, L: Heap, R: Wait> LockedSource<'a, L, R> {
     fn gives(&mut self, piece: Piece) -> Next
         requires count { self.old.count < part_limit }
         requires small { length piece.bytes ≤ part_size_limit }
-        ensures next { IsNext (supply self.old.count self.old.ending) (supply self.new.count self.new.ending) result }
-        ensures given { Gives self.old.count piece result }
-        ensures names { (self.new.pin ≡ self.old.pin) × (self.new.time ≡ self.old.time) }
+        ensures next { IsNextPart (locked_supply self.old.count self.old.ending)
+            (locked_supply self.new.count self.new.ending) result }
+        ensures given { GivesPart self.old.count piece result }
+        ensures names { (self.new.pin ≡ self.old.pin) × (self.new.time ≡ self.old.time)
+            × (self.new.witness ≡ self.old.witness) }
+        ensures count { self.new.count ≡ count_after self.old.count result }
     {
         if piece.last {
             self.ending = Some(Ending::Whole);
@@ -94,13 +114,13 @@ impl<'a, L: Heap, R: Wait> LockedSource<'a, L, R> {
 
 impl<'a, L: Heap, R: Wait> Source for LockedSource<'a, L, R> {
     ghost use Rattle.std.specs.Prelude.{ℕ};
-    ghost use Rattle.heap_lock.specs.Sources.{supply};
+    ghost use Rattle.heap_lock.specs.Sources.{locked_supply};
 
     ghost Kept = { ℕ × ℕ };
 
     ghost kept = { λ s. (s.pin, s.time) };
 
-    ghost seen = { λ s. supply s.count s.ending };
+    ghost seen = { λ s. locked_supply s.count s.ending };
 
     fn next(&mut self) -> Next {
         self.next_part()

@@ -1,6 +1,6 @@
 //! Seats of a heap that no type names yet.
 use crate::entry::Role;
-use crate::view::View;
+use crate::view::SeatView;
 use atomic_table::Badge;
 
 /// What a seat is made of.
@@ -8,5 +8,5 @@ use atomic_table::Badge;
 pub struct Stub {
     pub number: u64,
     pub role: Role,
-    pub share: Badge<View>,
+    pub share: Badge<SeatView>,
 }

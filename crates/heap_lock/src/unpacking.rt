@@ -120,16 +120,16 @@ fn refusal_in(reason: Reason, number: u64) -> Refusal
         Reason::SweepPending => Refusal::SweepPending { region: number },
         Reason::NothingToSweep => Refusal::NothingToSweep { region: number },
         Reason::NoPin => Refusal::NoPin,
-        Reason::LostRewound => lost(LostCause::Rewound),
-        Reason::LostMemory => lost(LostCause::Memory),
-        Reason::LostClosed => lost(LostCause::Closed),
+        Reason::LostRewound => lost_refusal(LostCause::Rewound),
+        Reason::LostMemory => lost_refusal(LostCause::Memory),
+        Reason::LostClosed => lost_refusal(LostCause::Closed),
         Reason::NotRetained => Refusal::NotRetained,
         Reason::PinLimit => Refusal::PinLimit,
         Reason::ChronicleFull => Refusal::ChronicleFull,
     }
 }
 
-fn lost(cause: LostCause) -> Refusal
+fn lost_refusal(cause: LostCause) -> Refusal
     ensures { result ≡ Lost cause }
 {
     Refusal::Lost { cause }

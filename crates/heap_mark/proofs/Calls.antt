@@ -8,18 +8,18 @@ use Rattle.std.proofs.lemmas.List.{length-append}
 use Rattle.heap_class.specs.declared.Refusal.TheVariants.{AlreadyMarking, NotMarking, NothingToMark, NothingToDrain}
 use Rattle.heap_class.specs.Refusals.{first_refusal}
 use Rattle.heap_class.specs.Classes.{Class}
-use Rattle.heap_class.proofs.Refused.{none_holds}
+use Rattle.heap_class.proofs.Refusals.{none_holds}
 use Rattle.heap_region.specs.Regions.{Region, object_of}
 use Rattle.heap_region.specs.Pool.{RegionPool}
 use Rattle.heap_region.specs.Legal.{IsRegionPool}
 use Rattle.heap_region.proofs.References.{member_tail, member_none}
 use Rattle.heap_mark.specs.declared.Phase.{Phase}
 use Rattle.heap_mark.specs.declared.Phase.TheVariants.{Idle, Marking}
-use Rattle.heap_mark.specs.Marking.{MarkState, is_marking, shaded, unshaded, children_of, snap_refusal, snapped, unsnapped, mark_refusal, marked, unmarked, drain_refusal, drained_once, undrained}
-use Rattle.heap_mark.specs.Marker.{MarkerState, at_work, after_work, IsGraySound, IsUnmarked}
-use Rattle.heap_mark.proofs.Shading.{IsShading, newly_shaded, shading, unshaded_shading}
+use Rattle.heap_mark.specs.MarkSteps.{MarkState, is_marking, shaded, unshaded, children_of, snap_refusal, snapped, unsnapped, mark_refusal, marked, unmarked, drain_refusal, drained_once, undrained}
+use Rattle.heap_mark.specs.Marker.{MarkerState, at_work, after_work, IsGraySound, IsIdle}
+use Rattle.heap_mark.proofs.ShadedLists.{IsShading, newly_shaded, shading, unshaded_shading}
 use Rattle.heap_mark.proofs.Shades.{Shades, IsWhite, IsShadedAt, shades_all}
-use Rattle.heap_mark.proofs.Undone.{snap_undone, mark_undone, drain_undone}
+use Rattle.heap_mark.proofs.UndoneSteps.{snap_undone, mark_undone, drain_undone}
 use Rattle.heap_mark.proofs.Room.{few_ids}
 
 -- ---- refusals
@@ -99,11 +99,11 @@ mark_back_to before s classes parent n free is top grown =
     ∙ ap (unmarked (slice_index before.gray 0) (length (marked classes before).gray + 1 - length before.gray)) is
     ∙ mark_undone classes before (none_holds ((not (is_marking before.phase), NotMarking) ∷ (length before.gray == 0, NothingToMark) ∷ []) free).1.0
 
-pub snap_back : (before s : MarkState) (roots : List ℕ) → IsUnmarked before → s ≡ snapped roots before → unsnapped s ≡ before
+pub snap_back : (before s : MarkState) (roots : List ℕ) → IsIdle before → s ≡ snapped roots before → unsnapped s ≡ before
 snap_back before s roots h is = ap unsnapped is ∙ snap_undone roots before h.gray h.phase h.unmarked
 
 -- all of the stack is taken off
-pub snap_unshaded : (before s : MarkState) (roots : List ℕ) (n : ℕ) → IsUnmarked before → s ≡ snapped roots before → n ≡ length s.gray → record (unshaded n s) { phase = Idle } ≡ unsnapped s
+pub snap_unshaded : (before s : MarkState) (roots : List ℕ) (n : ℕ) → IsIdle before → s ≡ snapped roots before → n ≡ length s.gray → record (unshaded n s) { phase = Idle } ≡ unsnapped s
 unfolding snapped
 snap_unshaded before s roots n h is all =
     ap (λ (t : MarkState). record (unshaded n t) { phase = Idle }) is
@@ -114,7 +114,7 @@ snap_unshaded before s roots n h is all =
     start : MarkState
     start = record before { phase = Marking }
 
-pub snap_named : (before s : MarkState) (roots : List ℕ) → IsUnmarked before → s ≡ snapped roots before → (x : ℕ) → Contains s.gray x → IsSome (object_of s.regions x)
+pub snap_named : (before s : MarkState) (roots : List ℕ) → IsIdle before → s ≡ snapped roots before → (x : ℕ) → Contains s.gray x → IsSome (object_of s.regions x)
 unfolding snapped
 snap_named before s roots h is x c = subst (λ (t : MarkState). IsSome (object_of t.regions x)) (sym is) (named (all.new_gray x (subst (λ (t : MarkState). Contains t.gray x) is c)) (all.each x))
   where

@@ -12,9 +12,9 @@ use Rattle.heap_class.specs.Kinds.{is_reference}
 use Rattle.heap_class.specs.Classes.{Class, slots_of, slot_kinds_of}
 use Rattle.heap_region.specs.Regions.{Object, Region, object_of, references_of, slot_kinds}
 use Rattle.heap_region.proofs.References.{slot_is_reference}
-use Rattle.heap_mark.specs.Marking.{MarkState, shaded, children_of}
+use Rattle.heap_mark.specs.MarkSteps.{MarkState, shaded, children_of}
 use Rattle.heap_mark.specs.Marker.{references_among, IsNullOrNames}
-use Rattle.heap_mark.proofs.Way.{elements_shaded, no_references}
+use Rattle.heap_mark.proofs.ShadeWalks.{elements_shaded, no_references}
 
 children_are : (classes : List Class) (regions : List Region) (x : ℕ) (o : Object) → object_of regions x ≡ Some o → children_of classes regions x ≡ references_of classes o
 unfolding children_of

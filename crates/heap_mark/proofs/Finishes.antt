@@ -7,14 +7,14 @@ use Rattle.std.proofs.lemmas.Bool.{lt-ltb, le-ltb}
 use Rattle.heap_class.specs.declared.Refusal.{Refusal}
 use Rattle.heap_class.specs.declared.Refusal.TheVariants.{NotMarking, NotDone, SweepPending}
 use Rattle.heap_class.specs.Refusals.{first_refusal}
-use Rattle.heap_class.proofs.Refused.{none_holds}
+use Rattle.heap_class.proofs.Refusals.{none_holds}
 use Rattle.heap_region.specs.Regions.{Object, Region, Empty, InUse, used_part, in_used}
 use Rattle.heap_region.specs.Legal.{EachObject}
 use Rattle.heap_region.proofs.Lookups.{is_used, object_found}
 use Rattle.heap_mark.specs.declared.Phase.{Phase}
 use Rattle.heap_mark.specs.declared.Phase.TheVariants.{Idle, Marking}
-use Rattle.heap_mark.specs.Marking.{MarkState, is_marking, each_object, each_region, pending_regions, finish_refusal, finished_region, finished, unfinished_region, unfinished}
-use Rattle.heap_mark.specs.Ends.{finished_object, unfinished_object}
+use Rattle.heap_mark.specs.MarkSteps.{MarkState, is_marking, each_object, each_region, pending_regions, finish_refusal, finished_region, finished, unfinished_region, unfinished}
+use Rattle.heap_mark.specs.Finish.{finished_object, unfinished_object}
 
 -- ---- refusals
 

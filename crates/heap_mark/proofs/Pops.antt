@@ -7,8 +7,8 @@ use Rattle.heap_region.specs.Regions.{object_of, ref_of, with_mark}
 use Rattle.heap_region.specs.Pool.{RegionPool}
 use Rattle.heap_region.proofs.References.{member_head, member_tail}
 use Rattle.heap_mark.proofs.Marks.{only_marked}
-use Rattle.heap_mark.proofs.Way.{still_named}
-use Rattle.heap_mark.specs.Marking.{MarkState, unshaded, with_mark_of}
+use Rattle.heap_mark.proofs.ShadeWalks.{still_named}
+use Rattle.heap_mark.specs.MarkSteps.{MarkState, unshaded, with_mark_of}
 use Rattle.heap_mark.specs.Marker.{MarkerState, at_work, after_work}
 
 -- what a pop leaves, and what it gave

@@ -11,10 +11,10 @@ use Rattle.heap_region.specs.Limits.{cell_sizes}
 use Rattle.heap_region.specs.Regions.{Object, UsedRegion, Region, used_at, object_at, object_of, ref_of}
 use Rattle.heap_region.specs.Pool.{RegionPool}
 use Rattle.heap_region.specs.Legal.{IsCellTable, IsRegionPool}
-use Rattle.heap_region.proofs.Looked.{place_found, ref_injective}
+use Rattle.heap_region.proofs.ChangedLookups.{place_found, ref_injective}
 use Rattle.heap_region.proofs.Lookups.{used_is}
 use Rattle.heap_region.proofs.References.{member_head, member_tail}
-use Rattle.heap_region.proofs.Shown.{used_by_object, object_here}
+use Rattle.heap_region.proofs.ShownRegions.{used_by_object, object_here}
 use Rattle.heap_region.proofs.Tables.{in_use_within}
 
 -- ---- distinct numbers of a list's items

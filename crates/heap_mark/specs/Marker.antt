@@ -10,7 +10,7 @@ use Rattle.heap_region.specs.Regions.{Object, Region, object_of}
 use Rattle.heap_region.specs.Legal.{EachObject}
 use Rattle.heap_mark.specs.declared.Phase.{Phase}
 use Rattle.heap_mark.specs.declared.Phase.TheVariants.{Idle}
-use Rattle.heap_mark.specs.Marking.{MarkState}
+use Rattle.heap_mark.specs.MarkSteps.{MarkState}
 
 -- the largest number of cells of a region
 abbrev pub cells_each : ℕ
@@ -31,11 +31,13 @@ idle_marker room = record { gray = []; room = room; log = []; drained = 0; phase
 
 -- the marker at work on these regions
 abbrev pub at_work : List Region → MarkerState → MarkState
-at_work regions m = record { regions = regions; gray = m.gray; log = m.log; drained = m.drained; phase = m.phase }
+at_work regions m =
+    record { regions = regions; gray = m.gray; log = m.log; drained = m.drained; phase = m.phase }
 
 -- the marker after work that led to this state; the stack's room stays
 abbrev pub after_work : MarkState → MarkerState → MarkerState
-after_work s m = record { gray = s.gray; room = m.room; log = s.log; drained = s.drained; phase = s.phase }
+after_work s m =
+    record { gray = s.gray; room = m.room; log = s.log; drained = s.drained; phase = s.phase }
 
 -- x is the id of a marked object
 abbrev pub NamesMarked : List Region → ℕ → Type 0
@@ -58,11 +60,12 @@ HasSlots classes (Array k) n = Unit {0}
 HasSlots classes (Prim kind) n = kind ≢ Kind.Object
 
 -- no cycle runs, nothing is gray, and no object is marked
-pub record IsUnmarked (s : MarkState) : Type 0 where
+pub record IsIdle (s : MarkState) : Type 0 where
   pub phase : s.phase ≡ Idle
   pub gray : s.gray ≡ []
   pub unmarked : EachObject s.regions (λ at o. o.mark ≡ false)
 
 -- the words of the reference slots among slots of these kinds, without null
 unfoldable pub references_among : List Kind → List ℕ → List ℕ
-references_among kinds words = filter (λ w. not (w == 0)) (map (λ p. p.1) (filter (λ p. is_reference p.0) (zip kinds words)))
+references_among kinds words =
+    filter (λ w. not (w == 0)) (map (λ p. p.1) (filter (λ p. is_reference p.0) (zip kinds words)))

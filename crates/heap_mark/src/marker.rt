@@ -7,11 +7,11 @@ ghost use Rattle.heap_class.specs.declared.Kind.{Kind};
 ghost use Rattle.heap_class.specs.declared.Refusal.TheVariants.{NoMemory};
 ghost use Rattle.heap_region.specs.Regions.{object_at, object_of};
 ghost use Rattle.heap_region.specs.Legal.{EachObject};
-ghost use Rattle.heap_mark.specs.Marking.{MarkState, shaded, unshaded, is_marking, children_of, snap_refusal, snapped, unsnapped, mark_refusal, marked, unmarked, drain_refusal, drained_once, undrained, finish_refusal, finished, unfinished, dead_count};
-ghost use Rattle.heap_mark.specs.Marker.{references_among, MarkerState, at_work, after_work, idle_marker, IsNullOrNames, IsGraySound, HasSlots, IsUnmarked};
+ghost use Rattle.heap_mark.specs.MarkSteps.{MarkState, shaded, unshaded, is_marking, children_of, snap_refusal, snapped, unsnapped, mark_refusal, marked, unmarked, drain_refusal, drained_once, undrained, finish_refusal, finished, unfinished, dead_count};
+ghost use Rattle.heap_mark.specs.Marker.{references_among, MarkerState, at_work, after_work, idle_marker, IsNullOrNames, IsGraySound, HasSlots, IsIdle};
 
 use crate::Phase;
-use crate::ends::{finish_all, first_pending, unfinish_all};
+use crate::finish::{finish_all, first_pending, unfinish_all};
 use heap_class::{Classes, Kind, ObjKind, ObjRef, Refusal};
 use heap_region::Regions;
 use std::alloc::Global;
@@ -77,7 +77,14 @@ impl Model for Marker {
 
     ghost Value = { MarkerState };
 
-    ghost view = { λ m. record { gray = reverse m.gray.items; room = vec_capacity m.gray; log = m.log.items; drained = m.drained; phase = m.phase } };
+    ghost view = { λ m.
+        record {
+          gray = reverse m.gray.items;
+          room = vec_capacity m.gray;
+          log = m.log.items;
+          drained = m.drained;
+          phase = m.phase;
+        } };
 
     ghost invariant = { λ m. m.drained ≤ length m.log.items };
 }
@@ -132,9 +139,17 @@ impl Marker {
     pub fn snap(&mut self, regions: &mut Regions, roots: &[u64]) -> Result<u64, Refusal>
         requires sound { IsGraySound regions.old.regions self.old }
         requires roots { (x : ℕ) → Contains roots.now x → IsNullOrNames regions.old.regions x }
-        ensures answered { IsAnswered (snap_refusal (at_work regions.old.regions self.old)) false result }
-        ensures marker { OnOk result (self.new ≡ after_work (snapped roots.now (at_work regions.old.regions self.old)) self.old) }
-        ensures regions { OnOk result (regions.new ≡ record regions.old { regions = (snapped roots.now (at_work regions.old.regions self.old)).regions }) }
+        ensures answered { IsAnswered (snap_refusal (at_work regions.old.regions self.old)) false
+            result }
+        ensures marker { OnOk result
+            (self.new
+            ≡ after_work (snapped roots.now (at_work regions.old.regions self.old)) self.old) }
+        ensures regions { OnOk result
+            (regions.new
+            ≡ record regions.old {
+              regions = (snapped roots.now
+                  (at_work regions.old.regions self.old)).regions;
+            }) }
         ensures pushed { IfOk result (λ n. n ≡ length self.new.gray) }
         ensures unchanged { OnErr result ((self.new ≡ self.old) × (regions.new ≡ regions.old)) }
     {
@@ -149,10 +164,18 @@ impl Marker {
     /// Undoes `snap`, which must have led to this state: no object is marked, nothing is gray and no cycle runs. Takes no
     /// memory.
     pub fn unsnap(&mut self, regions: &mut Regions)
-        requires snapped { (before : MarkState) × (roots : List ℕ) × IsUnmarked before × (at_work regions.old.regions self.old ≡ snapped roots before) }
-        ensures marker { self.new ≡ after_work (unsnapped (at_work regions.old.regions self.old)) self.old }
-        ensures regions { regions.new ≡ record regions.old { regions = (unsnapped (at_work regions.old.regions self.old)).regions } }
-        ensures back { (before : MarkState) (roots : List ℕ) → IsUnmarked before → at_work regions.old.regions self.old ≡ snapped roots before → at_work regions.new.regions self.new ≡ before }
+        requires snapped { (before : MarkState) × (roots : List ℕ) × IsIdle before
+            × (at_work regions.old.regions self.old ≡ snapped roots before) }
+        ensures marker { self.new
+            ≡ after_work (unsnapped (at_work regions.old.regions self.old)) self.old }
+        ensures regions { regions.new
+            ≡ record regions.old {
+              regions = (unsnapped
+                  (at_work regions.old.regions self.old)).regions;
+            } }
+        ensures back { (before : MarkState) (roots : List ℕ) → IsIdle before
+            → at_work regions.old.regions self.old ≡ snapped roots before
+            → at_work regions.new.regions self.new ≡ before }
     {
         let count = self.gray.len() as u64;
         self.unshade(regions, count);
@@ -164,13 +187,26 @@ impl Marker {
     /// is gray. Takes no memory.
     pub fn mark(&mut self, regions: &mut Regions, classes: &Classes) -> Result<Marked, Refusal>
         requires sound { IsGraySound regions.old.regions self.old }
-        requires slots { (x : ℕ) → Contains self.old.gray x → IfSome (object_of regions.old.regions x) (λ o. HasSlots classes.now o.kind (length o.words)) }
-        requires children { (x : ℕ) → Contains self.old.gray x → (y : ℕ) → Contains (children_of classes.now regions.old.regions x) y → IsSome (object_of regions.old.regions y) }
-        ensures answered { IsAnswered (mark_refusal (at_work regions.old.regions self.old)) false result }
-        ensures marker { OnOk result (self.new ≡ after_work (marked classes.now (at_work regions.old.regions self.old)) self.old) }
-        ensures regions { OnOk result (regions.new ≡ record regions.old { regions = (marked classes.now (at_work regions.old.regions self.old)).regions }) }
+        requires slots { (x : ℕ) → Contains self.old.gray x
+            → IfSome (object_of regions.old.regions x)
+            (λ o. HasSlots classes.now o.kind (length o.words)) }
+        requires children { (x : ℕ) → Contains self.old.gray x → (y : ℕ)
+            → Contains (children_of classes.now regions.old.regions x) y
+            → IsSome (object_of regions.old.regions y) }
+        ensures answered { IsAnswered (mark_refusal (at_work regions.old.regions self.old)) false
+            result }
+        ensures marker { OnOk result
+            (self.new
+            ≡ after_work (marked classes.now (at_work regions.old.regions self.old)) self.old) }
+        ensures regions { OnOk result
+            (regions.new
+            ≡ record regions.old {
+              regions = (marked classes.now
+                  (at_work regions.old.regions self.old)).regions;
+            }) }
         ensures parent { IfOk result (λ p. p.parent ≡ slice_index self.old.gray 0) }
-        ensures pushed { IfOk result (λ p. p.pushed ≡ length self.new.gray + 1 - length self.old.gray) }
+        ensures pushed { IfOk result
+            (λ p. p.pushed ≡ length self.new.gray + 1 - length self.old.gray) }
         ensures unchanged { OnErr result ((self.new ≡ self.old) × (regions.new ≡ regions.old)) }
     {
         if !self.phase.is_marking() {
@@ -190,10 +226,21 @@ impl Marker {
     pub fn unmark(&mut self, regions: &mut Regions, parent: u64, pushed: u64)
         requires sound { IsGraySound regions.old.regions self.old }
         requires within { pushed ≤ length self.old.gray }
-        requires given { IsGraySound (unmarked parent pushed (at_work regions.old.regions self.old)).regions (after_work (unmarked parent pushed (at_work regions.old.regions self.old)) self.old) }
-        ensures marker { self.new ≡ after_work (unmarked parent pushed (at_work regions.old.regions self.old)) self.old }
-        ensures regions { regions.new ≡ record regions.old { regions = (unmarked parent pushed (at_work regions.old.regions self.old)).regions } }
-        ensures back { (before : MarkState) (classes : List Class) → mark_refusal before ≡ None → at_work regions.old.regions self.old ≡ marked classes before → parent ≡ slice_index before.gray 0 → pushed ≡ length self.old.gray + 1 - length before.gray → at_work regions.new.regions self.new ≡ before }
+        requires given { IsGraySound
+            (unmarked parent pushed (at_work regions.old.regions self.old)).regions
+            (after_work (unmarked parent pushed (at_work regions.old.regions self.old)) self.old) }
+        ensures marker { self.new
+            ≡ after_work (unmarked parent pushed (at_work regions.old.regions self.old)) self.old }
+        ensures regions { regions.new
+            ≡ record regions.old {
+              regions = (unmarked parent pushed
+                  (at_work regions.old.regions self.old)).regions;
+            } }
+        ensures back { (before : MarkState) (classes : List Class) → mark_refusal before ≡ None
+            → at_work regions.old.regions self.old ≡ marked classes before
+            → parent ≡ slice_index before.gray 0
+            → pushed ≡ length self.old.gray + 1 - length before.gray
+            → at_work regions.new.regions self.new ≡ before }
     {
         self.unshade(regions, pushed);
         let _count = regions.count();
@@ -205,10 +252,18 @@ impl Marker {
     /// is left. Takes no memory.
     pub fn drain(&mut self, regions: &mut Regions) -> Result<u64, Refusal>
         requires sound { IsGraySound regions.old.regions self.old }
-        requires entries { (x : ℕ) → Contains self.old.log x → IsSome (object_of regions.old.regions x) }
-        ensures answered { IsAnswered (drain_refusal (at_work regions.old.regions self.old)) false result }
-        ensures marker { OnOk result (self.new ≡ after_work (drained_once (at_work regions.old.regions self.old)) self.old) }
-        ensures regions { OnOk result (regions.new ≡ record regions.old { regions = (drained_once (at_work regions.old.regions self.old)).regions }) }
+        requires entries { (x : ℕ) → Contains self.old.log x
+            → IsSome (object_of regions.old.regions x) }
+        ensures answered { IsAnswered (drain_refusal (at_work regions.old.regions self.old)) false
+            result }
+        ensures marker { OnOk result
+            (self.new ≡ after_work (drained_once (at_work regions.old.regions self.old)) self.old) }
+        ensures regions { OnOk result
+            (regions.new
+            ≡ record regions.old {
+              regions = (drained_once
+                  (at_work regions.old.regions self.old)).regions;
+            }) }
         ensures pushed { IfOk result (λ n. n ≡ length self.new.gray - length self.old.gray) }
         ensures unchanged { OnErr result ((self.new ≡ self.old) × (regions.new ≡ regions.old)) }
     {
@@ -231,9 +286,17 @@ impl Marker {
         requires sound { IsGraySound regions.old.regions self.old }
         requires within { pushed ≤ length self.old.gray }
         requires drained { 0 < self.old.drained }
-        ensures marker { self.new ≡ after_work (undrained pushed (at_work regions.old.regions self.old)) self.old }
-        ensures regions { regions.new ≡ record regions.old { regions = (undrained pushed (at_work regions.old.regions self.old)).regions } }
-        ensures back { (before : MarkState) → at_work regions.old.regions self.old ≡ drained_once before → pushed ≡ length self.old.gray - length before.gray → at_work regions.new.regions self.new ≡ before }
+        ensures marker { self.new
+            ≡ after_work (undrained pushed (at_work regions.old.regions self.old)) self.old }
+        ensures regions { regions.new
+            ≡ record regions.old {
+              regions = (undrained pushed
+                  (at_work regions.old.regions self.old)).regions;
+            } }
+        ensures back { (before : MarkState)
+            → at_work regions.old.regions self.old ≡ drained_once before
+            → pushed ≡ length self.old.gray - length before.gray
+            → at_work regions.new.regions self.new ≡ before }
     {
         self.unshade(regions, pushed);
         self.drained -= 1;
@@ -244,9 +307,16 @@ impl Marker {
     /// if an object is gray or an entry of the log is left, or with SweepPending and the lowest region that waits to be swept,
     /// if one does. Takes no memory.
     pub fn finish(&mut self, regions: &mut Regions) -> Result<Finished, Refusal>
-        ensures answered { IsAnswered (finish_refusal (at_work regions.old.regions self.old)) false result }
-        ensures marker { OnOk result (self.new ≡ after_work (finished (at_work regions.old.regions self.old)) self.old) }
-        ensures regions { OnOk result (regions.new ≡ record regions.old { regions = (finished (at_work regions.old.regions self.old)).regions }) }
+        ensures answered { IsAnswered (finish_refusal (at_work regions.old.regions self.old)) false
+            result }
+        ensures marker { OnOk result
+            (self.new ≡ after_work (finished (at_work regions.old.regions self.old)) self.old) }
+        ensures regions { OnOk result
+            (regions.new
+            ≡ record regions.old {
+              regions = (finished
+                  (at_work regions.old.regions self.old)).regions;
+            }) }
         ensures condemned { IfOk result (λ f. f.condemned ≡ dead_count regions.new.regions) }
         ensures log { IfOk result (λ f. f.log ≡ self.old.log) }
         ensures unchanged { OnErr result ((self.new ≡ self.old) × (regions.new ≡ regions.old)) }
@@ -274,9 +344,17 @@ impl Marker {
     /// Undoes `finish`, given the log that it returned: marks the objects that are live, makes all of them live, lets no region
     /// wait to be swept, and has the log drained. Takes no memory.
     pub fn unfinish(&mut self, regions: &mut Regions, log: Log)
-        ensures marker { self.new ≡ after_work (unfinished log (at_work regions.old.regions self.old)) self.old }
-        ensures regions { regions.new ≡ record regions.old { regions = (unfinished log (at_work regions.old.regions self.old)).regions } }
-        ensures back { (before : MarkState) → finish_refusal before ≡ None → EachObject before.regions (λ at o. o.live ≡ true) → before.drained ≤ length before.log → log ≡ before.log → at_work regions.old.regions self.old ≡ finished before → at_work regions.new.regions self.new ≡ before }
+        ensures marker { self.new
+            ≡ after_work (unfinished log (at_work regions.old.regions self.old)) self.old }
+        ensures regions { regions.new
+            ≡ record regions.old {
+              regions = (unfinished log
+                  (at_work regions.old.regions self.old)).regions;
+            } }
+        ensures back { (before : MarkState) → finish_refusal before ≡ None
+            → EachObject before.regions (λ at o. o.live ≡ true) → before.drained ≤ length before.log
+            → log ≡ before.log → at_work regions.old.regions self.old ≡ finished before
+            → at_work regions.new.regions self.new ≡ before }
     {
         unfinish_all(regions);
         self.drained = log.len();
@@ -289,8 +367,11 @@ impl Marker {
     #[inline(always)]
     pub fn log_old(&mut self, old: u64) -> Result<bool, Refusal>
         ensures logged { IfOk result (λ b. b ≡ (is_marking self.old.phase && not (old == 0))) }
-        ensures log { IfOk result (λ b. self.new ≡ (if b then record self.old { log = self.old.log ++ old ∷ [] } else self.old)) }
-        ensures refused { IfErr result (λ e. (e ≡ NoMemory) × ((is_marking self.old.phase && not (old == 0)) ≡ true)) }
+        ensures log { IfOk result
+            (λ b. self.new
+            ≡ (if b then record self.old { log = self.old.log ++ old ∷ [] } else self.old)) }
+        ensures refused { IfErr result
+            (λ e. (e ≡ NoMemory) × ((is_marking self.old.phase && not (old == 0)) ≡ true)) }
         ensures unchanged { OnErr result (self.new ≡ self.old) }
     {
         if !self.phase.is_marking() || old == 0 {
@@ -303,8 +384,12 @@ impl Marker {
     /// Undoes `log_old`, given the flag that it returned. If it is true, an entry must be left to drain. Takes no memory.
     pub fn unlog_old(&mut self, logged: bool)
         requires entry { IsTrue logged → self.old.drained < length self.old.log }
-        ensures log { self.new ≡ (if logged then record self.old { log = take (length self.old.log - 1) self.old.log } else self.old) }
-        ensures back { (before : MarkerState) (old : ℕ) → self.old ≡ (if logged then record before { log = before.log ++ old ∷ [] } else before) → self.new ≡ before }
+        ensures log { self.new
+            ≡ (if logged then record self.old { log = take (length self.old.log - 1) self.old.log }
+            else self.old) }
+        ensures back { (before : MarkerState) (old : ℕ)
+            → self.old ≡ (if logged then record before { log = before.log ++ old ∷ [] } else before)
+            → self.new ≡ before }
     {
         if logged {
             self.log.pop();
@@ -315,8 +400,13 @@ impl Marker {
     fn shade(&mut self, regions: &mut Regions, id: u64)
         requires sound { IsGraySound regions.old.regions self.old }
         requires names { IsNullOrNames regions.old.regions id }
-        ensures marker { self.new ≡ after_work (shaded (at_work regions.old.regions self.old) id) self.old }
-        ensures regions { regions.new ≡ record regions.old { regions = (shaded (at_work regions.old.regions self.old) id).regions } }
+        ensures marker { self.new
+            ≡ after_work (shaded (at_work regions.old.regions self.old) id) self.old }
+        ensures regions { regions.new
+            ≡ record regions.old {
+              regions = (shaded (at_work regions.old.regions self.old)
+                  id).regions;
+            } }
     {
         if id == 0 {
             return;
@@ -336,8 +426,13 @@ impl Marker {
     fn shade_all(&mut self, regions: &mut Regions, ids: &[u64])
         requires sound { IsGraySound regions.old.regions self.old }
         requires names { (x : ℕ) → Contains ids.now x → IsNullOrNames regions.old.regions x }
-        ensures marker { self.new ≡ after_work (fold shaded (at_work regions.old.regions self.old) ids.now) self.old }
-        ensures regions { regions.new ≡ record regions.old { regions = (fold shaded (at_work regions.old.regions self.old) ids.now).regions } }
+        ensures marker { self.new
+            ≡ after_work (fold shaded (at_work regions.old.regions self.old) ids.now) self.old }
+        ensures regions { regions.new
+            ≡ record regions.old {
+              regions = (fold shaded (at_work regions.old.regions self.old)
+                  ids.now).regions;
+            } }
     {
         for id in ids {
             self.shade(regions, *id);
@@ -347,10 +442,20 @@ impl Marker {
     // Shades the objects that the references of an object name, in slot order.
     fn shade_children(&mut self, regions: &mut Regions, classes: &Classes, parent: u64)
         requires sound { IsGraySound regions.old.regions self.old }
-        requires slots { IsSomeAnd (object_of regions.old.regions parent) (λ o. HasSlots classes.now o.kind (length o.words)) }
-        requires children { (y : ℕ) → Contains (children_of classes.now regions.old.regions parent) y → IsSome (object_of regions.old.regions y) }
-        ensures marker { self.new ≡ after_work (fold shaded (at_work regions.old.regions self.old) (children_of classes.now regions.old.regions parent)) self.old }
-        ensures regions { regions.new ≡ record regions.old { regions = (fold shaded (at_work regions.old.regions self.old) (children_of classes.now regions.old.regions parent)).regions } }
+        requires slots { IsSomeAnd (object_of regions.old.regions parent)
+            (λ o. HasSlots classes.now o.kind (length o.words)) }
+        requires children { (y : ℕ)
+            → Contains (children_of classes.now regions.old.regions parent) y
+            → IsSome (object_of regions.old.regions y) }
+        ensures marker { self.new
+            ≡ after_work
+            (fold shaded (at_work regions.old.regions self.old)
+            (children_of classes.now regions.old.regions parent)) self.old }
+        ensures regions { regions.new
+            ≡ record regions.old {
+              regions = (fold shaded (at_work regions.old.regions self.old)
+                  (children_of classes.now regions.old.regions parent)).regions;
+            } }
     {
         let at = regions.place(parent);
         match regions.kind(at) {
@@ -363,10 +468,23 @@ impl Marker {
     // Shades the objects that the reference slots of an object name, by the kinds of its slots.
     fn shade_fields(&mut self, regions: &mut Regions, at: ObjRef, kinds: &[Kind])
         requires sound { IsGraySound regions.old.regions self.old }
-        requires slots { IsSomeAnd (object_at regions.old.regions at) (λ o. length o.words ≡ length kinds.now) }
-        requires names { IfSome (object_at regions.old.regions at) (λ o. (slot : ℕ) (kind : Kind) → slice_get kinds.now slot ≡ Some kind → is_reference kind ≡ true → IsNullOrNames regions.old.regions (slice_index o.words slot)) }
-        ensures marker { IfSome (object_at regions.old.regions at) (λ o. self.new ≡ after_work (fold shaded (at_work regions.old.regions self.old) (references_among kinds.now o.words)) self.old) }
-        ensures regions { IfSome (object_at regions.old.regions at) (λ o. regions.new ≡ record regions.old { regions = (fold shaded (at_work regions.old.regions self.old) (references_among kinds.now o.words)).regions }) }
+        requires slots { IsSomeAnd (object_at regions.old.regions at)
+            (λ o. length o.words ≡ length kinds.now) }
+        requires names { IfSome (object_at regions.old.regions at)
+            (λ o. (slot : ℕ) (kind : Kind) → slice_get kinds.now slot ≡ Some kind
+            → is_reference kind ≡ true
+            → IsNullOrNames regions.old.regions (slice_index o.words slot)) }
+        ensures marker { IfSome (object_at regions.old.regions at)
+            (λ o. self.new
+            ≡ after_work
+            (fold shaded (at_work regions.old.regions self.old)
+            (references_among kinds.now o.words)) self.old) }
+        ensures regions { IfSome (object_at regions.old.regions at)
+            (λ o. regions.new
+            ≡ record regions.old {
+              regions = (fold shaded (at_work regions.old.regions self.old)
+                  (references_among kinds.now o.words)).regions;
+            }) }
     {
         for (slot, kind) in kinds.iter().enumerate() {
             if kind.is_reference() {
@@ -378,9 +496,17 @@ impl Marker {
     // Shades the objects that the slots of an array of references name.
     fn shade_elements(&mut self, regions: &mut Regions, at: ObjRef)
         requires sound { IsGraySound regions.old.regions self.old }
-        requires names { IsSomeAnd (object_at regions.old.regions at) (λ o. (y : ℕ) → Contains o.words y → IsNullOrNames regions.old.regions y) }
-        ensures marker { IfSome (object_at regions.old.regions at) (λ o. self.new ≡ after_work (fold shaded (at_work regions.old.regions self.old) o.words) self.old) }
-        ensures regions { IfSome (object_at regions.old.regions at) (λ o. regions.new ≡ record regions.old { regions = (fold shaded (at_work regions.old.regions self.old) o.words).regions }) }
+        requires names { IsSomeAnd (object_at regions.old.regions at)
+            (λ o. (y : ℕ) → Contains o.words y → IsNullOrNames regions.old.regions y) }
+        ensures marker { IfSome (object_at regions.old.regions at)
+            (λ o. self.new
+            ≡ after_work (fold shaded (at_work regions.old.regions self.old) o.words) self.old) }
+        ensures regions { IfSome (object_at regions.old.regions at)
+            (λ o. regions.new
+            ≡ record regions.old {
+              regions = (fold shaded (at_work regions.old.regions self.old)
+                  o.words).regions;
+            }) }
     {
         for slot in 0..regions.len(at) {
             self.shade(regions, regions.word(at, slot));
@@ -390,9 +516,15 @@ impl Marker {
     // Unmarks the `count` newest gray objects and takes them off the stack.
     fn unshade(&mut self, regions: &mut Regions, count: u64)
         requires within { count ≤ length self.old.gray }
-        requires names { (x : ℕ) → Contains self.old.gray x → IsSome (object_of regions.old.regions x) }
-        ensures marker { self.new ≡ after_work (unshaded count (at_work regions.old.regions self.old)) self.old }
-        ensures regions { regions.new ≡ record regions.old { regions = (unshaded count (at_work regions.old.regions self.old)).regions } }
+        requires names { (x : ℕ) → Contains self.old.gray x
+            → IsSome (object_of regions.old.regions x) }
+        ensures marker { self.new
+            ≡ after_work (unshaded count (at_work regions.old.regions self.old)) self.old }
+        ensures regions { regions.new
+            ≡ record regions.old {
+              regions = (unshaded count
+                  (at_work regions.old.regions self.old)).regions;
+            } }
     {
         for _step in 0..count {
             self.unshade_top(regions);
@@ -403,8 +535,13 @@ impl Marker {
     fn unshade_top(&mut self, regions: &mut Regions)
         requires within { 0 < length self.old.gray }
         requires names { IsSome (object_of regions.old.regions (slice_index self.old.gray 0)) }
-        ensures marker { self.new ≡ after_work (unshaded 1 (at_work regions.old.regions self.old)) self.old }
-        ensures regions { regions.new ≡ record regions.old { regions = (unshaded 1 (at_work regions.old.regions self.old)).regions } }
+        ensures marker { self.new
+            ≡ after_work (unshaded 1 (at_work regions.old.regions self.old)) self.old }
+        ensures regions { regions.new
+            ≡ record regions.old {
+              regions = (unshaded 1
+                  (at_work regions.old.regions self.old)).regions;
+            } }
     {
         let Some(id) = self.gray.pop() else {
             unreachable!();

@@ -10,15 +10,15 @@ use Rattle.heap_region.specs.Regions.{Object, UsedRegion, Region, cell_object, u
 use Rattle.heap_region.specs.Pool.{RegionPool}
 use Rattle.heap_region.specs.Legal.{IsRegionPool}
 use Rattle.heap_region.specs.Live.{cells_of}
-use Rattle.heap_region.proofs.Shown.{object_here, object_of_used}
-use Rattle.heap_region.proofs.Looked.{same_or_not}
+use Rattle.heap_region.proofs.ShownRegions.{object_here, object_of_used}
+use Rattle.heap_region.proofs.ChangedLookups.{same_or_not}
 use Rattle.heap_step.specs.declared.Undo.TheVariants.{New, Sweep}
-use Rattle.heap_pins.specs.Pin.{Pinned, place}
-use Rattle.heap_pins.specs.States.{HasBytesBefore, HasRegion, IsSetFrom, IsWritten, byte_before}
+use Rattle.heap_pins.specs.Pin.{PinContents, place}
+use Rattle.heap_pins.specs.States.{HasBytesBefore, HasRegion, IsSetFrom, AreBytesWritten, byte_before}
 use Rattle.heap_pins.specs.Walk.{cell_state, dead_state, states_before}
-use Rattle.heap_pins.proofs.Counted.{few_cells}
+use Rattle.heap_pins.proofs.LiveCounts.{few_cells}
 use Rattle.heap_pins.proofs.LiveBytes.{place_is}
-use Rattle.heap_pins.proofs.Keeping.{drop_here}
+use Rattle.heap_pins.proofs.AddedCopies.{drop_here}
 
 pub none_set : (f : ℕ → ℕ) (start : ℕ) (old : List ℕ) → IsSetFrom f start 0 old old
 none_set f start old = record { within = λ c lt. absurd (omega (arith, lt)); others = λ k out. refl }
@@ -85,7 +85,7 @@ dead_done r i dead k byte le = rw (drop_all i dead le) (go (k / 256 == r))
     go false = refl
 
 -- a new object's cell is emptied
-pub cell_emptied : (p i : Pinned) (at : ObjRef) (fresh : Bool) (m r old : ℕ) → fresh ≡ false → i ≡ p → at.cell < 256 → HasRegion p.live at.region → HasBytesBefore (New at fresh m r old) p (record i { live = set i.live (256 * at.region + at.cell) 0 })
+pub cell_emptied : (p i : PinContents) (at : ObjRef) (fresh : Bool) (m r old : ℕ) → fresh ≡ false → i ≡ p → at.cell < 256 → HasRegion p.live at.region → HasBytesBefore (New at fresh m r old) p (record i { live = set i.live (256 * at.region + at.cell) 0 })
 unfolding states_before
 cell_emptied p i at fresh m r old single is small within = record {
   rest = λ j. record (is j) { live = set i.live (256 * at.region + at.cell) 0 };
@@ -95,7 +95,7 @@ cell_emptied p i at fresh m r old single is small within = record {
 }
   where
     live : i.live ≡ p.live
-    live = ap (λ (p : Pinned). p.live) is
+    live = ap (λ (p : PinContents). p.live) is
 
     go : (k : ℕ) (b : Bool) → (at.cell ≡ k % 256) ⊎ (at.cell ≢ k % 256) → (if b then (if at.cell == k % 256 then 0 else get_or p.live k 0) else get_or p.live k 0) ≡ (if b && (k % 256 == at.cell) then 0 else get_or p.live k 0)
     go k true (inl e) = rw (eq-eqb at.cell (k % 256) e, eq-eqb (k % 256) at.cell (sym e)) refl
@@ -125,7 +125,7 @@ none_past regions at past = object_of_used regions at ∙ go (used_at regions at
     go (Some u) past = past_cells u.cells at.cell past
 
 -- one region more, of which all bytes are written
-pub region_written : (regions : List Region) (r : ℕ) (old bytes : List ℕ) → AreWritten regions r old → IsWritten regions r old bytes → length (cells_of (used_at regions r)) ≤ 256 → AreWritten regions (r + 1) bytes
+pub region_written : (regions : List Region) (r : ℕ) (old bytes : List ℕ) → AreWritten regions r old → AreBytesWritten regions r old bytes → length (cells_of (used_at regions r)) ≤ 256 → AreWritten regions (r + 1) bytes
 region_written regions r old bytes h w few = record {
   done = λ k lt. go k lt (lt_or_le k (256 * r)) (lt_or_le k (256 * r + count));
   rest = λ k le. w.others k (inr (omega (arith, le, few))) ∙ h.rest k (omega (arith, le));
@@ -148,7 +148,7 @@ region_written regions r old bytes h w few = record {
 
 -- or of which there are none
 -- the bytes of a region in use are those of its cells
-pub written_in : (regions : List Region) (r : ℕ) (u : UsedRegion) (old bytes : List ℕ) → used_at regions r ≡ Some u → length u.cells ≤ 256 → IsSetFrom (λ cell. cell_state (cell_object u cell)) (256 * r) (length u.cells) old bytes → IsWritten regions r old bytes
+pub written_in : (regions : List Region) (r : ℕ) (u : UsedRegion) (old bytes : List ℕ) → used_at regions r ≡ Some u → length u.cells ≤ 256 → IsSetFrom (λ cell. cell_state (cell_object u cell)) (256 * r) (length u.cells) old bytes → AreBytesWritten regions r old bytes
 written_in regions r u old bytes used few set =
     subst (λ n. IsSetFrom (λ cell. cell_state (object_at regions (place (256 * r + cell)))) (256 * r) n old bytes) (sym (ap (λ s. length (cells_of s)) used)) (record {
       within = λ c lt. set.within c lt ∙ sym (ap cell_state (here c lt));

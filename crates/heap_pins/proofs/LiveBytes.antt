@@ -5,10 +5,10 @@ use Rattle.std.proofs.lemmas.Nat.{div-mul-add, mod-mul-add}
 use Rattle.heap_region.specs.Regions.{Object, Region, Empty, InUse, used_part, used_at, object_at, live_places, slot_object}
 use Rattle.heap_region.specs.Legal.{EachUsed, IsCellTable}
 use Rattle.heap_region.specs.Live.{is_live, live_cells, cells_of, live_regions, live_from}
-use Rattle.heap_region.proofs.Shown.{object_of_used}
+use Rattle.heap_region.proofs.ShownRegions.{object_of_used}
 use Rattle.heap_region.proofs.Live.{places_named}
 use Rattle.heap_pins.specs.Pin.{place, places_from}
-use Rattle.heap_pins.proofs.Counted.{few_cells}
+use Rattle.heap_pins.proofs.LiveCounts.{few_cells}
 
 -- 1 for a live object
 abbrev pub live_byte : Option Object → ℕ

@@ -7,27 +7,27 @@ use Rattle.heap_class.specs.declared.ObjRef.{ObjRef}
 use Rattle.heap_region.specs.Regions.{Object, UsedRegion, Region, Empty, InUse, used_at, ref_of, updated, with_region, with_object, with_word, with_mark}
 use Rattle.heap_region.specs.Pool.{RegionPool, unallocated, freed, released, restored, cell_freed}
 use Rattle.heap_region.proofs.Lookups.{used_there, used_elsewhere}
-use Rattle.heap_region.proofs.Looked.{same_or_not}
-use Rattle.heap_region.proofs.Found.{restored_elsewhere, released_elsewhere}
-use Rattle.heap_mark.specs.Marking.{MarkState, each_object, each_region, with_mark_of, unsnapped, unshaded, unmarked, undrained, unfinished, unfinished_region}
+use Rattle.heap_region.proofs.ChangedLookups.{same_or_not}
+use Rattle.heap_region.proofs.FoundObjects.{restored_elsewhere, released_elsewhere}
+use Rattle.heap_mark.specs.MarkSteps.{MarkState, each_object, each_region, with_mark_of, unsnapped, unshaded, unmarked, undrained, unfinished, unfinished_region}
 use Rattle.heap_mark.proofs.Each.{used_each}
 use Rattle.heap_mark.proofs.Shades.{length_marked}
-use Rattle.heap_world.proofs.Written.{length_written}
+use Rattle.heap_world.proofs.WordWrites.{length_written}
 use Rattle.heap_sweep.specs.Sweep.{unswept}
 use Rattle.heap_world.specs.State.{HeapState, pool_of}
 use Rattle.heap_step.specs.declared.Undo.{Undo}
 use Rattle.heap_step.specs.declared.Undo.TheVariants.{Put, Store, Reg, New, Class, Snap, Mark, Drain, Finish, Sweep, Reclaim}
 use Rattle.heap_step.specs.Records.{undone, undo_record}
 use Rattle.std.proofs.lemmas.List.{length-map, length-set}
-use Rattle.heap_region.proofs.Updated.{length_updated}
-use Rattle.heap_region.specs.Frozen.{frozen, region_frozen}
+use Rattle.heap_region.proofs.UpdatedLists.{length_updated}
+use Rattle.heap_region.specs.RegionCopies.{frozen, region_frozen}
 use Rattle.heap_pins.specs.Covers.{HasAll, Covers}
-use Rattle.heap_pins.specs.Kept.{touched}
+use Rattle.heap_pins.specs.KeptCopies.{touched}
 use Rattle.heap_step.specs.declared.Event.{Event}
 use Rattle.heap_step.specs.Apply.{state_after}
 use Rattle.heap_step.specs.Laws.{IsTakenBack}
 use Rattle.heap_pins.specs.Laws.{KeepsOthers, EventKeeps}
-use Rattle.heap_pins.proofs.Covering.{covers_same, covers_none, covers_then, covers_change}
+use Rattle.heap_pins.proofs.CoveringCopies.{covers_same, covers_none, covers_then, covers_change}
 
 -- ---- a region that isn't changed
 

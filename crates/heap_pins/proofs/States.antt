@@ -9,11 +9,11 @@ use Rattle.heap_class.specs.declared.ObjRef.{ObjRef}
 use Rattle.heap_region.specs.Regions.{Object, UsedRegion, Region, Empty, InUse, used_at, object_at, cell_object, slot_object, ref_of, with_region, with_object, with_word, with_mark}
 use Rattle.heap_region.specs.Layout.{word_set}
 use Rattle.heap_region.specs.Pool.{RegionPool, unallocated, freed, released, restored, cell_freed}
-use Rattle.heap_region.proofs.Looked.{same_or_not, object_with_object, object_with_object_other}
+use Rattle.heap_region.proofs.ChangedLookups.{same_or_not, object_with_object, object_with_object_other}
 use Rattle.heap_region.proofs.Lookups.{used_there, used_elsewhere}
-use Rattle.heap_region.proofs.Shown.{object_of_used}
-use Rattle.heap_region.proofs.Found.{restored_elsewhere, released_elsewhere, freed_elsewhere}
-use Rattle.heap_mark.specs.Marking.{each_object, each_region, with_mark_of, unsnapped, unshaded, unmarked, undrained, unfinished, unfinished_region}
+use Rattle.heap_region.proofs.ShownRegions.{object_of_used}
+use Rattle.heap_region.proofs.FoundObjects.{restored_elsewhere, released_elsewhere, freed_elsewhere}
+use Rattle.heap_mark.specs.MarkSteps.{each_object, each_region, with_mark_of, unsnapped, unshaded, unmarked, undrained, unfinished, unfinished_region}
 use Rattle.heap_mark.proofs.Each.{used_each}
 use Rattle.heap_sweep.specs.Sweep.{unswept, unswept_region}
 use Rattle.heap_world.specs.State.{HeapState, pool_of}
@@ -22,12 +22,12 @@ use Rattle.heap_step.specs.declared.Undo.TheVariants.{Put, Store, Reg, New, Clas
 use Rattle.heap_step.specs.Records.{undone}
 use Rattle.heap_step.specs.declared.Event.{Event}
 use Rattle.heap_step.specs.Laws.{IsStep, IsTakenBack}
-use Rattle.heap_region.specs.Frozen.{Frozen, frozen, region_frozen}
+use Rattle.heap_region.specs.RegionCopies.{Frozen, frozen, region_frozen}
 use Rattle.heap_pins.specs.Shows.{AreFit, FitIn}
-use Rattle.heap_pins.proofs.Fitting.{sweep_used, sweep_fit, reclaim_within}
+use Rattle.heap_pins.proofs.RoomForCopies.{sweep_used, sweep_fit, reclaim_within}
 use Rattle.heap_pins.specs.Walk.{cell_state, same_place, dead_state, states_before, registers_before, classes_before, TellsBefore}
 use Rattle.heap_pins.proofs.Others.{keeps_others}
-use Rattle.heap_pins.proofs.Walked.{walked_covers}
+use Rattle.heap_pins.proofs.WalkSteps.{walked_covers}
 
 -- ---- registers and classes
 

@@ -10,8 +10,8 @@ use Rattle.heap_region.specs.Regions.{Object, UsedRegion, Region, used_at, objec
 use Rattle.heap_region.specs.Layout.{words_of}
 use Rattle.heap_region.specs.Live.{is_live}
 use Rattle.heap_region.specs.Pool.{fresh_region, new_place}
-use Rattle.heap_region.specs.Frozen.{Frozen, frozen, frozen_words, region_frozen}
-use Rattle.heap_region.proofs.Shown.{object_of_used}
+use Rattle.heap_region.specs.RegionCopies.{Frozen, frozen, frozen_words, region_frozen}
+use Rattle.heap_region.proofs.ShownRegions.{object_of_used}
 use Rattle.heap_class.specs.Classes.{slots_of}
 use Rattle.heap_sweep.specs.Sweep.{has_live, is_emptied, dead_at}
 use Rattle.heap_world.specs.State.{HeapState, pool_of, is_register, register, register_index}
@@ -22,11 +22,11 @@ use Rattle.heap_step.specs.declared.Undo.TheVariants.{Sweep, Reclaim, New, Reg}
 use Rattle.heap_step.specs.Laws.{IsStep}
 use Rattle.heap_step.specs.Records.{undo_record, reg_record, new_record, sweep_record}
 use Rattle.heap_pins.specs.Covers.{HasAll, Covers}
-use Rattle.heap_pins.specs.Pin.{Pinned, region_seen}
-use Rattle.heap_pins.specs.Shows.{Shows, AreFit, FitIn}
+use Rattle.heap_pins.specs.Pin.{PinContents, region_seen}
+use Rattle.heap_pins.specs.Shows.{ShowsState, AreFit, FitIn}
 use Rattle.heap_pins.specs.States.{AreStates, HasNoLive, HasRegion}
-use Rattle.heap_pins.specs.Walked.{SeesSlot, SeesRoom}
-use Rattle.heap_pins.proofs.Counted.{few_cells, stands_in}
+use Rattle.heap_pins.specs.WalkedPins.{SeesSlot, SeesRoom}
+use Rattle.heap_pins.proofs.LiveCounts.{few_cells, stands_in}
 
 -- ---- a slot
 
@@ -36,7 +36,7 @@ slot_there f g cell slot (Some o) h e some within =
     let p = h.objects cell o e in
     subst (λ z. slot < length (words_of z)) (sym p.1) (subst (λ ws. slot < length ws) (sym p.3) within)
 
-pub sees_slot : (p : Pinned) (x w : HeapState) (at : ObjRef) (slot : ℕ) → Shows p x w → IsSome (object_at x.regions at) → IfSome (object_at x.regions at) (λ o. slot < length o.words) → SeesSlot p w.regions at slot
+pub sees_slot : (p : PinContents) (x w : HeapState) (at : ObjRef) (slot : ℕ) → ShowsState p x w → IsSome (object_at x.regions at) → IfSome (object_at x.regions at) (λ o. slot < length o.words) → SeesSlot p w.regions at slot
 unfolding region_frozen
 sees_slot p x w at slot shows some within = go (used_at x.regions at.region) (shows.objects at.region) (subst IsSome (object_of_used x.regions at) some) (subst (λ y. IfSome y (λ o. slot < length o.words)) (object_of_used x.regions at) within)
   where
@@ -46,7 +46,7 @@ sees_slot p x w at slot shows some within = go (used_at x.regions at.region) (sh
 
 -- ---- dead objects
 
-pub sees_room : (p : Pinned) (x w : HeapState) (region : ℕ) (dead : List (ℕ × Object)) → Shows p x w → IsSome (used_at x.regions region) → FitIn (region_frozen x.regions region) dead → SeesRoom p w.regions region dead
+pub sees_room : (p : PinContents) (x w : HeapState) (region : ℕ) (dead : List (ℕ × Object)) → ShowsState p x w → IsSome (used_at x.regions region) → FitIn (region_frozen x.regions region) dead → SeesRoom p w.regions region dead
 unfolding region_frozen
 sees_room p x w region dead shows some fit = go (used_at x.regions region) (shows.objects region) some fit
   where

@@ -1,10 +1,10 @@
 pub mod Covers
 pub mod Images
 pub mod Pin
-pub mod Kept
+pub mod KeptCopies
 pub mod Laws
 pub mod Shows
 pub mod Walk
 pub mod States
-pub mod Walked
+pub mod WalkedPins
 pub mod View

@@ -2,17 +2,17 @@
 use Rattle.std.specs.Prelude.{◌≡◌, ◌⊎◌, ℕ, zero, suc, ◌*◌, ◌<◌, length, take, List, [], ◌∷◌, Option, Some, None, IsSome, slice_index_or}
 use Rattle.heap_class.specs.declared.ObjRef.{ObjRef}
 use Rattle.heap_region.specs.Regions.{Object, Region, FitsWords, live_places}
-use Rattle.heap_region.specs.Frozen.{Frozen, frozen_object, region_frozen}
+use Rattle.heap_region.specs.RegionCopies.{Frozen, frozen_object, region_frozen}
 use Rattle.heap_world.specs.State.{HeapState}
 use Rattle.heap_world.specs.Legal.{IsLegal}
 use Rattle.heap_step.specs.declared.Undo.{Undo}
 use Rattle.heap_step.specs.Records.{undone}
 use Rattle.heap_pins.specs.Covers.{Covers}
-use Rattle.heap_pins.specs.Kept.{touched}
-use Rattle.heap_pins.specs.Pin.{Pinned, places_from, region_seen}
+use Rattle.heap_pins.specs.KeptCopies.{touched}
+use Rattle.heap_pins.specs.Pin.{PinContents, places_from, region_seen}
 
 -- the pin keeps the registers, the number of classes and the live places of the legal state u
-pub record IsPinOf (p : Pinned) (u : HeapState) : Type 0 where
+pub record IsPinOf (p : PinContents) (u : HeapState) : Type 0 where
   pub legal : IsLegal u
   pub classes : p.classes ≡ length u.classes
   pub registers : p.registers ≡ u.registers
@@ -21,28 +21,33 @@ pub record IsPinOf (p : Pinned) (u : HeapState) : Type 0 where
   pub copies : length p.copies ≡ length u.regions
 
 -- beside the state v, with as many regions, the pin finds the classes of u and all objects of u's regions
-pub record Shows (p : Pinned) (u v : HeapState) : Type 0 where
+pub record ShowsState (p : PinContents) (u v : HeapState) : Type 0 where
   pub count : length v.regions ≡ length u.regions
   pub classes : take (length u.classes) v.classes ≡ u.classes
   pub objects : (r : ℕ) → Covers (region_frozen u.regions r) (region_seen p v.regions r)
 
 -- of region r, q has the same copy as p, or p has none and q has one with all that the region has in the state w
-abbrev pub KeepsRegion : Pinned → Pinned → HeapState → ℕ → Type 0
-KeepsRegion p q w r = (slice_index_or q.copies r None ≡ slice_index_or p.copies r None) ⊎ ((slice_index_or p.copies r None ≡ None) × Covers (region_frozen w.regions r) (slice_index_or q.copies r None))
+abbrev pub KeepsRegion : PinContents → PinContents → HeapState → ℕ → Type 0
+KeepsRegion p q w r =
+    (slice_index_or q.copies r None ≡ slice_index_or p.copies r None)
+    ⊎ ((slice_index_or p.copies r None ≡ None)
+    × Covers (region_frozen w.regions r) (slice_index_or q.copies r None))
 
 -- p shows before the step that left this record and the state v what q shows after it: q has a copy of the touched region
-pub record KeepsFor (left : Undo) (v : HeapState) (p q : Pinned) : Type 0 where
+pub record KeepsFor (left : Undo) (v : HeapState) (p q : PinContents) : Type 0 where
   pub classes : q.classes ≡ p.classes
   pub registers : q.registers ≡ p.registers
   pub live : q.live ≡ p.live
   pub as_many : length q.copies ≡ length p.copies
   pub each : (r : ℕ) → KeepsRegion p q (undone left v) r
-  pub done : (r : ℕ) → touched left ≡ Some r → slice_index_or q.copies r None ≡ None → region_frozen (undone left v).regions r ≡ None
+  pub done : (r : ℕ) → touched left ≡ Some r → slice_index_or q.copies r None ≡ None
+      → region_frozen (undone left v).regions r ≡ None
 
 -- each object's cell is one of the `count` cells, and has the least size that holds it
 abbrev pub AreFit : ℕ → ℕ → List (ℕ × Object) → Type 0
 AreFit size count [] = Unit {0}
-AreFit size count (d ∷ dead) = (d.0 < count) × FitsWords size (length d.1.words) × AreFit size count dead
+AreFit size count (d ∷ dead) =
+    (d.0 < count) × FitsWords size (length d.1.words) × AreFit size count dead
 
 -- the dead objects fit into the cells of the copy, if there is one
 abbrev pub FitIn : Option Frozen → List (ℕ × Object) → Type 0
@@ -57,10 +62,12 @@ OfFirst P (suc n) (x ∷ xs) = P x × OfFirst P n xs
 -- the pin was taken n steps ago of the legal state u, and it shows u beside the current state and beside each state since that
 -- is
 -- retained; the current state is the first
-pub record Holds (p : Pinned) (u : HeapState) (n : ℕ) (states : List HeapState) : Type 0 where
+pub record Holds (p : PinContents) (u : HeapState) (n : ℕ) (states : List HeapState) : Type 0 where
   pub pin : IsPinOf p u
-  pub shows : OfFirst (Shows p u) n states
+  pub shows : OfFirst (ShowsState p u) n states
 
 -- the pin shows an object at this place
-abbrev pub IsSeen : Pinned → List Region → ObjRef → Type 0
-IsSeen p regions at = (at.region < length p.copies) × (f : Frozen) × (region_seen p regions at.region ≡ Some f) × IsSome (frozen_object f at.cell)
+abbrev pub IsSeen : PinContents → List Region → ObjRef → Type 0
+IsSeen p regions at =
+    (at.region < length p.copies) × (f : Frozen) × (region_seen p regions at.region ≡ Some f)
+    × IsSome (frozen_object f at.cell)

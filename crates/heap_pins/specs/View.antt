@@ -1,15 +1,15 @@
 -- A pin beside a state, as a dump shows it.
 use Rattle.heap_class.specs.declared.IdSize.{IdSize}
 use Rattle.heap_world.specs.State.{HeapState}
-use Rattle.heap_pins.specs.Pin.{Pinned}
-use Rattle.heap_pins.specs.Shows.{IsPinOf, Shows}
+use Rattle.heap_pins.specs.Pin.{PinContents}
+use Rattle.heap_pins.specs.Shows.{IsPinOf, ShowsState}
 
 -- a pin, the state beside it, and the size of ids in the dump
 pub record PinShown : Type 0 where
-  pub pin : Pinned
+  pub pin : PinContents
   pub state : HeapState
   pub ids : IdSize
 
 -- the pin is of some legal state, and shows it beside this one
-abbrev pub ShowsSome : Pinned → HeapState → Type 0
-ShowsSome p w = (u : HeapState) × IsPinOf p u × Shows p u w
+abbrev pub ShowsSome : PinContents → HeapState → Type 0
+ShowsSome p w = (u : HeapState) × IsPinOf p u × ShowsState p u w

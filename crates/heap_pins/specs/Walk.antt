@@ -2,11 +2,11 @@
 use Rattle.std.specs.Prelude.{◌≡◌, ◌≢◌, ℕ, ◌+◌, ◌-◌, ◌*◌, Bool, true, false, ◌&&◌, ◌==◌, List, [], ◌∷◌, length, Option, Some, None, option_map, slice_index_or, slice_set, if◌then◌else◌}
 use Rattle.heap_class.specs.declared.ObjRef.{ObjRef}
 use Rattle.heap_region.specs.Regions.{Object, cell_object, object_at}
-use Rattle.heap_region.specs.Frozen.{Frozen, frozen, region_frozen}
+use Rattle.heap_region.specs.RegionCopies.{Frozen, frozen, region_frozen}
 use Rattle.heap_world.specs.State.{HeapState}
 use Rattle.heap_pins.specs.Covers.{Covers}
-use Rattle.heap_pins.specs.Kept.{touched, patched}
-use Rattle.heap_pins.specs.Pin.{Pinned, region_seen}
+use Rattle.heap_pins.specs.KeptCopies.{touched, patched}
+use Rattle.heap_pins.specs.Pin.{PinContents, region_seen}
 use Rattle.heap_step.specs.declared.Undo.{Undo}
 use Rattle.heap_step.specs.declared.Undo.TheVariants.{Reg, New, Class, Finish, Sweep, Reclaim}
 
@@ -22,15 +22,18 @@ same_place a b = (a.region == b.region) && (a.cell == b.cell)
 -- the state of a cell by the last of the dead objects in it, or its old state if there is none
 unfoldable pub dead_state : List (ℕ × Object) → ℕ → ℕ → ℕ
 dead_state [] cell old = old
-dead_state (d ∷ dead) cell old = dead_state dead cell (if d.0 == cell then cell_state (Some d.1) else old)
+dead_state (d ∷ dead) cell old =
+    dead_state dead cell (if d.0 == cell then cell_state (Some d.1) else old)
 
 -- the state of each cell before the step, from the states of all cells after it
 unfoldable pub states_before : Undo → (ObjRef → ℕ) → ObjRef → ℕ
 states_before (New at true m r old) f b = if b.region == at.region then 0 else f b
 states_before (New at false m r old) f b = if same_place b at then 0 else f b
 states_before (Finish log) f b = if f b == 0 then 0 else 1
-states_before (Sweep region dead) f b = if b.region == region then dead_state dead b.cell (f b) else f b
-states_before (Reclaim region storage) f b = if b.region == region then cell_state (cell_object storage b.cell) else f b
+states_before (Sweep region dead) f b =
+    if b.region == region then dead_state dead b.cell (f b) else f b
+states_before (Reclaim region storage) f b =
+    if b.region == region then cell_state (cell_object storage b.cell) else f b
 states_before left f b = f b
 
 -- the registers before the step, from those after it
@@ -56,12 +59,19 @@ walked_copy left g = option_map (patched left) g
 pub record TellsBefore (left : Undo) (before x : HeapState) : Type 0 where
   pub registers : before.registers ≡ registers_before left x.registers
   pub classes : length before.classes ≡ classes_before left (length x.classes)
-  pub states : (at : ObjRef) → cell_state (object_at before.regions at) ≡ states_before left (λ b. cell_state (object_at x.regions b)) at
-  pub others : (r : ℕ) → touched left ≢ Some r → Covers (region_frozen before.regions r) (region_frozen x.regions r)
-  pub touched_region : (r : ℕ) (g : Option Frozen) → touched left ≡ Some r → Covers (region_frozen x.regions r) g → Covers (region_frozen before.regions r) (walked_copy left g)
+  pub states : (at : ObjRef)
+      → cell_state (object_at before.regions at)
+      ≡ states_before left (λ b. cell_state (object_at x.regions b)) at
+  pub others : (r : ℕ) → touched left ≢ Some r
+      → Covers (region_frozen before.regions r) (region_frozen x.regions r)
+  pub touched_region : (r : ℕ) (g : Option Frozen) → touched left ≡ Some r
+      → Covers (region_frozen x.regions r) g
+      → Covers (region_frozen before.regions r) (walked_copy left g)
 
 -- q is p one record further back, beside the current state w: the touched region has a copy, or its copy is patched; the others
 -- stay
-pub record WalksFor (left : Undo) (w : HeapState) (p q : Pinned) : Type 0 where
-  pub others : (r : ℕ) → touched left ≢ Some r → slice_index_or q.copies r None ≡ slice_index_or p.copies r None
-  pub patched_region : (r : ℕ) → touched left ≡ Some r → slice_index_or q.copies r None ≡ walked_copy left (region_seen p w.regions r)
+pub record WalksFor (left : Undo) (w : HeapState) (p q : PinContents) : Type 0 where
+  pub others : (r : ℕ) → touched left ≢ Some r
+      → slice_index_or q.copies r None ≡ slice_index_or p.copies r None
+  pub patched_region : (r : ℕ) → touched left ≡ Some r
+      → slice_index_or q.copies r None ≡ walked_copy left (region_seen p w.regions r)

@@ -36,7 +36,8 @@ fn cell_state(storage: &Storage, cell: u64) -> u8
 fn write_region(states: &mut [u8], storage: &Storage, region: u64)
     requires within { region < region_limit }
     requires bytes { HasRegion states.old region }
-    ensures { IsSetFrom (λ cell. cell_state (cell_object storage.now cell)) (256 * region) (length storage.now.cells) states.old states.new }
+    ensures { IsSetFrom (λ cell. cell_state (cell_object storage.now cell)) (256 * region)
+        (length storage.now.cells) states.old states.new }
 {
     let first = 256 * region;
     for cell in 0..storage.cells() {

@@ -4,9 +4,9 @@
 ghost use Rattle.heap_world.specs.State.{HeapState};
 ghost use Rattle.heap_step.specs.declared.Event.{Event};
 ghost use Rattle.heap_step.specs.declared.Undo.{Undo};
-ghost use Rattle.heap_pins.specs.Pin.{Pinned};
-ghost use Rattle.heap_pins.specs.Walked.{WalkHolds, WalksOn};
-ghost use Rattle.heap_pins.specs.Laws.{KeepsOthers, EventKeeps, EventExtends, IsTold, HoldsOn, HoldsImage, HoldsBack};
+ghost use Rattle.heap_pins.specs.Pin.{PinContents};
+ghost use Rattle.heap_pins.specs.WalkedPins.{WalkHolds, WalksOn};
+ghost use Rattle.heap_pins.specs.Laws.{KeepsOthers, EventKeeps, EventExtends, IsRecordTold, HoldsOn, HoldsImage, HoldsBack};
 
 mod cells;
 mod pin;
@@ -34,7 +34,7 @@ pub fn event_keeps()
 /// States that the record of a step tells the registers, the classes and the sorts of all cells before it, and the words that
 /// it overwrote or took out.
 pub fn tells_before()
-    ensures { (left : Undo) (before x : HeapState) → IsTold left before x }
+    ensures { (left : Undo) (before x : HeapState) → IsRecordTold left before x }
 {
     undo_takes_back();
 }
@@ -42,14 +42,15 @@ pub fn tells_before()
 /// States that a pin that is walked one record further back is walked to the state before that step, and that a pin that was
 /// walked to a state holds it.
 pub fn walks_back()
-    ensures further { (left : Undo) (x w : HeapState) (p q : Pinned) → WalksOn left x w p q }
-    ensures holds { (p : Pinned) (u : HeapState) → WalkHolds p u }
+    ensures further { (left : Undo) (x w : HeapState) (p q : PinContents) → WalksOn left x w p q }
+    ensures holds { (p : PinContents) (u : HeapState) → WalkHolds p u }
 {}
 
 /// States that a pin that keeps what a step overwrote holds its state after the step, with the same image, and after a rewind
 /// to a place that isn't before the pin's.
 pub fn pins_hold()
-    ensures stepped { (left : Undo) (v : HeapState) (p : Pinned) (u : HeapState) → HoldsOn left v p u }
-    ensures image { (w : HeapState) (p : Pinned) (u : HeapState) → HoldsImage w p u }
-    ensures rewound { (p : Pinned) (u : HeapState) → HoldsBack p u }
+    ensures stepped { (left : Undo) (v : HeapState) (p : PinContents) (u : HeapState)
+        → HoldsOn left v p u }
+    ensures image { (w : HeapState) (p : PinContents) (u : HeapState) → HoldsImage w p u }
+    ensures rewound { (p : PinContents) (u : HeapState) → HoldsBack p u }
 {}

@@ -3,14 +3,14 @@ ghost use Rattle.std.specs.Prelude.{◌≡◌, ◌<◌, ◌≤◌, length, repli
 ghost use Rattle.heap_class.specs.declared.Refusal.TheVariants.{NoMemory};
 ghost use Rattle.memchr.specs.Find.{IsFirstByte, is_byte};
 ghost use Rattle.heap_region.specs.Regions.{object_at, used_at};
-ghost use Rattle.heap_region.specs.Frozen.{frozen, region_frozen};
+ghost use Rattle.heap_region.specs.RegionCopies.{frozen, region_frozen};
 ghost use Rattle.heap_world.specs.State.{HeapState};
 ghost use Rattle.heap_step.specs.declared.Event.{Event};
 ghost use Rattle.heap_step.specs.Laws.{IsStep};
 ghost use Rattle.heap_pins.specs.Pin.{IsPlaceAfter, object_seen, places_from};
-ghost use Rattle.heap_pins.specs.Kept.{kept, kept_copy, kept_dead, kept_word, touched, with_dead};
+ghost use Rattle.heap_pins.specs.KeptCopies.{kept, kept_copy, kept_dead, kept_word, touched, with_dead};
 ghost use Rattle.heap_pins.specs.Shows.{AreFit, FitIn, IsSeen};
-ghost use Rattle.heap_pins.specs.Walked.{IsOpened};
+ghost use Rattle.heap_pins.specs.WalkedPins.{IsOpened};
 
 use crate::cells::cell_states;
 use heap_class::{ObjKind, ObjRef, Refusal};
@@ -39,11 +39,17 @@ pub struct Pin {
 }
 
 impl Model for Pin {
-    ghost use Rattle.heap_pins.specs.Pin.{Pinned};
+    ghost use Rattle.heap_pins.specs.Pin.{PinContents};
 
-    ghost Value = { Pinned };
+    ghost Value = { PinContents };
 
-    ghost view = { λ p. record { classes = p.classes; registers = p.registers.items; live = p.live.items; copies = p.copies.items } };
+    ghost view = { λ p.
+        record {
+          classes = p.classes;
+          registers = p.registers.items;
+          live = p.live.items;
+          copies = p.copies.items;
+        } };
 }
 
 // Returns a list of `count` regions without a copy. Fails with NoMemory if the allocation fails.
@@ -61,7 +67,7 @@ fn no_copies(alloc: Global, count: u64) -> Result<Vec<Option<FrozenRegion>>, Ref
 /// Returns the region of which a step with this record overwrote a word or removed an object, or None if there is none. Takes
 /// no memory.
 #[inline(always)]
-#[tactic(auto, unfolding(crate::specs::Kept::touched))]
+#[tactic(auto, unfolding(crate::specs::KeptCopies::touched))]
 pub fn touched_region(left: &Undo) -> Option<u64>
     ensures { result ≡ touched left.now }
 {
@@ -170,7 +176,8 @@ impl Pin {
     // Copies a region that was moved out.
     fn keep_region(&mut self, world: &World, region: u16, storage: &Storage) -> Result<(), Refusal>
         requires sized { region < length self.old.copies }
-        ensures kept { OnOk result (self.new ≡ kept_copy region (Some (frozen storage.now)) self.old) }
+        ensures kept { OnOk result
+            (self.new ≡ kept_copy region (Some (frozen storage.now)) self.old) }
         ensures unchanged { OnErr result (self.new ≡ self.old) }
         ensures refused { IfErr result (λ e. e ≡ NoMemory) }
     {

@@ -5,8 +5,8 @@ ghost use Rattle.heap_world.specs.State.{register_index};
 ghost use Rattle.heap_step.specs.declared.Undo.TheVariants.{Finish, New};
 ghost use Rattle.heap_pins.specs.Pin.{region_seen};
 ghost use Rattle.heap_pins.specs.States.{HasBytesBefore, HasNoLive, HasRegion};
-ghost use Rattle.heap_pins.specs.Walked.{CanWalk, IsWalkedBack, IsUnreclaimed, IsUnswept};
-ghost use Rattle.heap_pins.specs.Walked.{Sees, SeesRoom, SeesSlot, with_copy, with_old_register, with_old_word};
+ghost use Rattle.heap_pins.specs.WalkedPins.{CanWalk, IsWalkedBack, IsUnreclaimed, IsUnswept};
+ghost use Rattle.heap_pins.specs.WalkedPins.{Sees, SeesRoom, SeesSlot, with_copy, with_old_register, with_old_word};
 
 use crate::cells::{clear_region, make_live, restore_dead, restore_region};
 use crate::pin::{Pin, put_dead};

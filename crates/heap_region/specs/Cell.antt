@@ -18,7 +18,9 @@ kind_in Sorts.Prim class kind = Some (Objects.Prim kind)
 
 -- the header of the object in a cell
 abbrev pub header_in : Inside → Option Header
-header_in c = option_map (λ kind. record { kind = kind; len = c.len; live = c.live; mark = c.mark }) (kind_in c.sort c.class c.kind)
+header_in c =
+    option_map (λ kind. record { kind = kind; len = c.len; live = c.live; mark = c.mark })
+    (kind_in c.sort c.class c.kind)
 
 -- the sort of an object of this kind
 abbrev pub sort_of : ObjKind → Sort
@@ -27,18 +29,34 @@ sort_of (Objects.Array class) = Sorts.Array
 sort_of (Objects.Prim kind) = Sorts.Prim
 
 -- the class that a cell keeps of this kind, 0 if it has none
-abbrev pub class_of : ObjKind → ℕ
-class_of (Objects.Instance class) = class
-class_of (Objects.Array class) = class
-class_of (Objects.Prim kind) = 0
+abbrev pub class_kept : ObjKind → ℕ
+class_kept (Objects.Instance class) = class
+class_kept (Objects.Array class) = class
+class_kept (Objects.Prim kind) = 0
 
 -- the kind of values that a cell keeps of this kind, Object if it has none
-abbrev pub kind_of : ObjKind → Kind
-kind_of (Objects.Instance class) = Kinds.Object
-kind_of (Objects.Array class) = Kinds.Object
-kind_of (Objects.Prim kind) = kind
+abbrev pub kind_kept : ObjKind → Kind
+kind_kept (Objects.Instance class) = Kinds.Object
+kind_kept (Objects.Array class) = Kinds.Object
+kind_kept (Objects.Prim kind) = kind
 
 -- the cell with this header
 abbrev pub packed : Option Header → Inside
-packed None = record { class = 0; len = 0; sort = Sorts.Free; kind = Kinds.Object; live = false; mark = false }
-packed (Some h) = record { class = class_of h.kind; len = h.len; sort = sort_of h.kind; kind = kind_of h.kind; live = h.live; mark = h.mark }
+packed None =
+    record {
+      class = 0;
+      len = 0;
+      sort = Sorts.Free;
+      kind = Kinds.Object;
+      live = false;
+      mark = false;
+    }
+packed (Some h) =
+    record {
+      class = class_kept h.kind;
+      len = h.len;
+      sort = sort_of h.kind;
+      kind = kind_kept h.kind;
+      live = h.live;
+      mark = h.mark;
+    }

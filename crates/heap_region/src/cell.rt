@@ -76,7 +76,7 @@ impl Default for Cell {
 impl Cell {
     // Returns a cell with an object of this header.
     #[inline(always)]
-    pub(crate) fn taken(header: Header) -> Cell
+    pub(crate) fn with_header(header: Header) -> Cell
         requires { header.len ≤ 1024 }
         ensures { result ≡ Some header }
     {

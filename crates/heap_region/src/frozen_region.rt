@@ -2,7 +2,7 @@
 ghost use Rattle.std.specs.Prelude.{◌≡◌, ◌*◌, ◌+◌, ◌<◌, ◌≤◌, length, IfOk, IsSome, IfSome, Some};
 ghost use Rattle.heap_region.specs.Regions.{FitsWords};
 ghost use Rattle.heap_region.specs.Layout.{IsCellSize};
-ghost use Rattle.heap_region.specs.Frozen.{frozen, frozen_object, frozen_with, frozen_word_set, frozen_words};
+ghost use Rattle.heap_region.specs.RegionCopies.{frozen, frozen_object, frozen_with, frozen_word_set, frozen_words};
 
 use crate::cell::Header;
 use crate::storage::{Block, ObjectCopy, Storage, header_at, overwrite, part, set_header};
@@ -20,13 +20,17 @@ pub struct FrozenRegion {
 }
 
 impl Model for FrozenRegion {
-    ghost use Rattle.heap_region.specs.Frozen.{Frozen, IsLaid};
+    ghost use Rattle.heap_region.specs.RegionCopies.{Frozen, IsLaid};
 
     ghost Value = { Frozen };
 
     ghost use Rattle.heap_region.specs.Layout.{cells_from};
 
-    ghost view = { λ f. record { cell_size = f.cell_size; cells = cells_from f.cell_size f.block.value.words 0 f.block.value.headers.items } };
+    ghost view = { λ f.
+        record {
+          cell_size = f.cell_size;
+          cells = cells_from f.cell_size f.block.value.words 0 f.block.value.headers.items;
+        } };
 
     ghost invariant = { λ f. IsLaid f.cell_size f.block.value.words f.block.value.headers.items };
 }
@@ -34,8 +38,10 @@ impl Model for FrozenRegion {
 impl Block {
     // Copies the words and the headers. It is never inlined, so that no other function has a block on its stack.
     #[inline(never)]
-    fn copied(&self, alloc: Global) -> Result<Box<Block>, AllocError>
-        ensures { IfOk result (λ b. (b.value.words ≡ self.now.words) × (b.value.headers.items ≡ self.now.headers.items)) }
+    fn copy_block(&self, alloc: Global) -> Result<Box<Block>, AllocError>
+        ensures { IfOk result
+            (λ b. (b.value.words ≡ self.now.words)
+            × (b.value.headers.items ≡ self.now.headers.items)) }
     {
         let mut headers = ArrayVec::new();
         if headers.try_extend_from_slice(&self.headers).is_err() {
@@ -55,7 +61,7 @@ impl Storage {
         ensures { IfOk result (λ f. f ≡ frozen self.now) }
     {
         Ok(FrozenRegion {
-            block: self.block.copied(alloc)?,
+            block: self.block.copy_block(alloc)?,
             cell_size: self.cell_size,
         })
     }

@@ -8,7 +8,7 @@ ghost use Rattle.heap_class.specs.Refusals.{IsAnswered};
 ghost use Rattle.heap_class.specs.declared.ObjRef.{ObjRef};
 ghost use Rattle.heap_class.specs.declared.Refusal.TheVariants.{NoMemory};
 ghost use Rattle.heap_region.specs.Limits.{region_limit};
-ghost use Rattle.heap_region.specs.Frozen.{region_frozen};
+ghost use Rattle.heap_region.specs.RegionCopies.{region_frozen};
 ghost use Rattle.heap_region.specs.Regions.{FitsWords, Object, UsedRegion, Region, cell_size_for, object_at, object_of, used_at, id_of, ref_of, with_mark, with_word, live_places};
 ghost use Rattle.heap_region.specs.Pool.{RegionPool, opening_pool, alloc_refusal, is_fresh, free_place, new_place, taken, freed, released, restored, allocated, unallocated, blank_object};
 ghost use Rattle.heap_region.specs.Legal.{IsCellTable, IsRegionPool};
@@ -26,8 +26,8 @@ pub use frozen_region::FrozenRegion;
 use heap_class::{ObjKind, ObjRef, Refusal};
 pub use lists::{FreeCells, PoolRegions};
 use slots::{
-    find_room, first_free_in, free_in, pool_head, room, set_live_in, set_mark_in, set_pending_in,
-    set_word_in, size_class, slot_at, take_in, unfree_in,
+    find_free_class, first_free_in, free_class, free_in, pool_head, set_live_in, set_mark_in,
+    set_pending_in, set_word_in, size_class, slot_at, take_in, unfree_in,
 };
 use std::alloc::{AllocError, Global};
 use std::marker::Model;
@@ -43,7 +43,7 @@ pub struct Regions {
     alloc: Global,
     slots: Vec<Option<Storage>>,
     // For each region the number of its cell size if one of its cells is free, else 0.
-    rooms: Vec<u8>,
+    free_classes: Vec<u8>,
     // The empty regions, the head last. It has room for all regions.
     pool: Vec<usize>,
 }
@@ -54,11 +54,13 @@ impl Model for Regions {
     ghost Value = { RegionPool };
 
     ghost use Rattle.std.specs.Prelude.{map, reverse, vec_capacity};
-    ghost use Rattle.heap_region.specs.Table.{IsTable, shown_region};
+    ghost use Rattle.heap_region.specs.Table.{IsRegionTable, shown_region};
 
-    ghost view = { λ h. record { regions = map shown_region h.slots.items; pool = reverse h.pool.items } };
+    ghost view = { λ h.
+        record { regions = map shown_region h.slots.items; pool = reverse h.pool.items } };
 
-    ghost invariant = { λ h. IsTable h.slots.items h.rooms.items (reverse h.pool.items) (vec_capacity h.pool) };
+    ghost invariant = { λ h. IsRegionTable h.slots.items h.free_classes.items (reverse h.pool.items)
+        (vec_capacity h.pool) };
 }
 
 /// Returns the cell size for an object of `slots` slots: the least of 4, 16, 64, 256 and 1,024 words that holds them. It is
@@ -116,7 +118,8 @@ impl Regions {
     pub fn alloc(&mut self, kind: ObjKind, len: u64, mark: bool) -> Result<(ObjRef, bool), Refusal>
         ensures answered { IsAnswered (alloc_refusal len self.old) (is_fresh len self.old) result }
         ensures placed { IfOk result (λ p. new_place len self.old ≡ Some p) }
-        ensures allocated { IfOk result (λ p. self.new ≡ allocated p.0 p.1 (blank_object kind len mark) self.old) }
+        ensures allocated { IfOk result
+            (λ p. self.new ≡ allocated p.0 p.1 (blank_object kind len mark) self.old) }
         ensures unchanged { OnErr result (self.new ≡ self.old) }
     {
         if len > REGION_WORDS {
@@ -146,9 +149,13 @@ impl Regions {
     /// region. Takes no memory.
     pub fn unalloc(&mut self, at: ObjRef, fresh: bool)
         requires there { IsSome (object_at self.old.regions at) }
-        requires another { fresh ≡ false → (other : ObjRef) × (other.region ≡ at.region) × (other ≢ at) × IsSome (object_at self.old.regions other) }
+        requires another { fresh ≡ false
+            → (other : ObjRef) × (other.region ≡ at.region) × (other ≢ at)
+            × IsSome (object_at self.old.regions other) }
         ensures state { self.new ≡ unallocated at fresh self.old }
-        ensures back { (before : RegionPool) (o : Object) → IsRegionPool before → new_place (length o.words) before ≡ Some (at, fresh) → self.old ≡ allocated at fresh o before → self.new ≡ before }
+        ensures back { (before : RegionPool) (o : Object) → IsRegionPool before
+            → new_place (length o.words) before ≡ Some (at, fresh)
+            → self.old ≡ allocated at fresh o before → self.new ≡ before }
     {
         if fresh {
             drop(self.release(at.region as u64));
@@ -189,7 +196,8 @@ impl Regions {
     /// Returns the two bits of the object in the cell, `live` and `mark`. The cell must have one.
     pub fn bits(&self, at: ObjRef) -> (bool, bool)
         requires { IsSome (object_at self.now.regions at) }
-        ensures { IfSome (object_at self.now.regions at) (λ o. (result.0 ≡ o.live) × (result.1 ≡ o.mark)) }
+        ensures { IfSome (object_at self.now.regions at)
+            (λ o. (result.0 ≡ o.live) × (result.1 ≡ o.mark)) }
     {
         self.storage(at.region as usize).bits(at.cell as usize)
     }
@@ -218,7 +226,8 @@ impl Regions {
     pub fn set_word(&mut self, at: ObjRef, slot: u64, value: u64)
         requires there { IsSome (object_at self.old.regions at) }
         requires within { IfSome (object_at self.old.regions at) (λ o. slot < length o.words) }
-        ensures { self.new ≡ record self.old { regions = with_word at slot value self.old.regions } }
+        ensures { self.new
+            ≡ record self.old { regions = with_word at slot value self.old.regions } }
     {
         set_word_in(
             &mut self.slots[at.region as usize],
@@ -283,7 +292,9 @@ impl Regions {
 
     /// Returns the place of the object that an id names, or None if it names none. Takes constant time.
     pub fn find(&self, id: u64) -> Option<ObjRef>
-        ensures { MatchOption result (object_of self.now.regions id ≡ None) (λ at. (ref_of self.now.regions id ≡ Some at) × IsSome (object_at self.now.regions at)) }
+        ensures { MatchOption result (object_of self.now.regions id ≡ None)
+            (λ at. (ref_of self.now.regions id ≡ Some at)
+            × IsSome (object_at self.now.regions at)) }
     {
         if id < OBJECT_BASE {
             return None;
@@ -327,7 +338,8 @@ impl Regions {
 
     /// Returns the place of the next live object after a place, by region and cell.
     pub fn next_live(&self, at: ObjRef) -> Option<ObjRef>
-        ensures { (i : ℕ) → slice_get (live_places self.now.regions) i ≡ Some at → result ≡ slice_get (live_places self.now.regions) (i + 1) }
+        ensures { (i : ℕ) → slice_get (live_places self.now.regions) i ≡ Some at
+            → result ≡ slice_get (live_places self.now.regions) (i + 1) }
     {
         match self.next_live_in(at.region as usize, at.cell as usize + 1) {
             Some(next) => Some(next),
@@ -338,8 +350,12 @@ impl Regions {
     /// Writes the `mark` bit of an object, which must be there. A call with the old bit undoes it. Takes no memory.
     pub fn set_mark(&mut self, at: ObjRef, mark: bool)
         requires { IsSome (object_at self.old.regions at) }
-        ensures state { self.new ≡ record self.old { regions = with_mark mark at self.old.regions } }
-        ensures back { (before : RegionPool) (was : Bool) → IfSome (object_at before.regions at) (λ o. o.mark ≡ mark) → self.old ≡ record before { regions = with_mark was at before.regions } → self.new ≡ before }
+        ensures state { self.new
+            ≡ record self.old { regions = with_mark mark at self.old.regions } }
+        ensures back { (before : RegionPool) (was : Bool)
+            → IfSome (object_at before.regions at) (λ o. o.mark ≡ mark)
+            → self.old ≡ record before { regions = with_mark was at before.regions }
+            → self.new ≡ before }
     {
         set_mark_in(&mut self.slots[at.region as usize], at.cell as usize, mark);
     }
@@ -347,8 +363,12 @@ impl Regions {
     /// Writes the `live` bit of an object, which must be there. A call with the old bit undoes it. Takes no memory.
     pub fn set_live(&mut self, at: ObjRef, live: bool)
         requires { IsSome (object_at self.old.regions at) }
-        ensures state { self.new ≡ record self.old { regions = with_live live at self.old.regions } }
-        ensures back { (before : RegionPool) (was : Bool) → IfSome (object_at before.regions at) (λ o. o.live ≡ live) → self.old ≡ record before { regions = with_live was at before.regions } → self.new ≡ before }
+        ensures state { self.new
+            ≡ record self.old { regions = with_live live at self.old.regions } }
+        ensures back { (before : RegionPool) (was : Bool)
+            → IfSome (object_at before.regions at) (λ o. o.live ≡ live)
+            → self.old ≡ record before { regions = with_live was at before.regions }
+            → self.new ≡ before }
     {
         set_live_in(&mut self.slots[at.region as usize], at.cell as usize, live);
     }
@@ -356,8 +376,12 @@ impl Regions {
     /// Sets whether a region in use waits to be swept. A call with the old flag undoes it. Takes no memory.
     pub fn set_pending(&mut self, region: u64, pending: bool)
         requires { IsSome (used_at self.old.regions region) }
-        ensures state { self.new ≡ record self.old { regions = with_pending pending region self.old.regions } }
-        ensures back { (before : RegionPool) (was : Bool) → IfSome (used_at before.regions region) (λ u. u.pending ≡ pending) → self.old ≡ record before { regions = with_pending was region before.regions } → self.new ≡ before }
+        ensures state { self.new
+            ≡ record self.old { regions = with_pending pending region self.old.regions } }
+        ensures back { (before : RegionPool) (was : Bool)
+            → IfSome (used_at before.regions region) (λ u. u.pending ≡ pending)
+            → self.old ≡ record before { regions = with_pending was region before.regions }
+            → self.new ≡ before }
     {
         set_pending_in(&mut self.slots[region as usize], pending);
     }
@@ -379,25 +403,31 @@ impl Regions {
     /// Takes no memory.
     pub fn free(&mut self, at: ObjRef)
         requires there { IsSome (object_at self.old.regions at) }
-        requires another { (other : ObjRef) × (other.region ≡ at.region) × (other ≢ at) × IsSome (object_at self.old.regions other) }
+        requires another { (other : ObjRef) × (other.region ≡ at.region) × (other ≢ at)
+            × IsSome (object_at self.old.regions other) }
         ensures state { self.new ≡ freed at self.old }
-        ensures back { (before : RegionPool) (o : Object) → IsRegionPool before → IsSomeAnd (used_at before.regions at.region) (λ u. slice_get u.free 0 ≡ Some at.cell) → self.old ≡ taken at o before → self.new ≡ before }
+        ensures back { (before : RegionPool) (o : Object) → IsRegionPool before
+            → IsSomeAnd (used_at before.regions at.region) (λ u. slice_get u.free 0 ≡ Some at.cell)
+            → self.old ≡ taken at o before → self.new ≡ before }
     {
         let region = at.region as usize;
         free_in(&mut self.slots[region], at.cell as usize);
-        self.rooms[region] = room(&self.slots[region]);
+        self.free_classes[region] = free_class(&self.slots[region]);
     }
 
     /// Puts an object into the cell that heads its region's free list. The cells must have the least size that holds it. Undoes
     /// `free`. Takes no memory.
     pub fn unfree(&mut self, at: ObjRef, object: &ObjectCopy)
-        requires { IsSomeAnd (used_at self.old.regions at.region) (λ u. (slice_get u.free 0 ≡ Some at.cell) × FitsWords u.cell_size (length object.now.words)) }
+        requires { IsSomeAnd (used_at self.old.regions at.region)
+            (λ u. (slice_get u.free 0 ≡ Some at.cell)
+            × FitsWords u.cell_size (length object.now.words)) }
         ensures state { self.new ≡ taken at object.now self.old }
-        ensures back { (before : RegionPool) → object_at before.regions at ≡ Some object.now → self.old ≡ freed at before → self.new ≡ before }
+        ensures back { (before : RegionPool) → object_at before.regions at ≡ Some object.now
+            → self.old ≡ freed at before → self.new ≡ before }
     {
         let region = at.region as usize;
         unfree_in(&mut self.slots[region], at.cell as usize, object);
-        self.rooms[region] = room(&self.slots[region]);
+        self.free_classes[region] = free_class(&self.slots[region]);
     }
 
     /// Moves the storage out of a region in use, which is then empty and heads the pool. Undoes `restore`. Takes no memory.
@@ -406,11 +436,13 @@ impl Regions {
         ensures storage { used_at self.old.regions region ≡ Some result }
         ensures table { IsCellTable result }
         ensures state { self.new ≡ released region self.old }
-        ensures back { (before : RegionPool) (u : UsedRegion) → IsRegionPool before → slice_get before.pool 0 ≡ Some region → self.old ≡ restored region u before → self.new ≡ before }
+        ensures back { (before : RegionPool) (u : UsedRegion) → IsRegionPool before
+            → slice_get before.pool 0 ≡ Some region → self.old ≡ restored region u before
+            → self.new ≡ before }
     {
         let region = region as usize;
         let slot = self.slots[region].take();
-        self.rooms[region] = 0;
+        self.free_classes[region] = 0;
         self.pool.push_reserved(region);
         match slot {
             Some(storage) => storage,
@@ -422,14 +454,16 @@ impl Regions {
     /// Undoes `release`. Takes no memory.
     pub fn restore(&mut self, region: u64, storage: Storage)
         requires head { slice_get self.old.pool 0 ≡ Some region }
-        requires inhabited { (cell : ℕ) × (o : Object) × (slice_get storage.cells cell ≡ Some (Some o)) }
+        requires inhabited { (cell : ℕ) × (o : Object)
+            × (slice_get storage.cells cell ≡ Some (Some o)) }
         ensures state { self.new ≡ restored region storage self.old }
-        ensures back { (before : RegionPool) → used_at before.regions region ≡ Some storage → self.old ≡ released region before → self.new ≡ before }
+        ensures back { (before : RegionPool) → used_at before.regions region ≡ Some storage
+            → self.old ≡ released region before → self.new ≡ before }
     {
         let region = region as usize;
         self.pool.pop();
         self.slots[region] = Some(storage);
-        self.rooms[region] = room(&self.slots[region]);
+        self.free_classes[region] = free_class(&self.slots[region]);
     }
 
     /// Returns a copy of a region in use. Fails with NoMemory if the allocation fails.
@@ -466,8 +500,8 @@ impl Regions {
         requires { (1 ≤ count) × (count ≤ region_limit) }
         ensures { IfOk result (λ s. s ≡ opening_pool count) }
     {
-        let mut rooms = Vec::new(alloc);
-        rooms.resize(count, 0)?;
+        let mut free_classes = Vec::new(alloc);
+        free_classes.resize(count, 0)?;
         let mut slots = Vec::with_capacity(alloc, count)?;
         let mut pool = Vec::with_capacity(alloc, count)?;
         for i in 0..count {
@@ -477,7 +511,7 @@ impl Regions {
         Ok(Regions {
             alloc,
             slots,
-            rooms,
+            free_classes,
             pool,
         })
     }
@@ -485,7 +519,8 @@ impl Regions {
     // Returns the storage of a region if it is in use.
     #[inline(always)]
     fn used(&self, region: usize) -> Option<&Storage>
-        ensures value { MatchOption result (used_at self.now.regions region ≡ None) (λ s. used_at self.now.regions region ≡ Some s.now) }
+        ensures value { MatchOption result (used_at self.now.regions region ≡ None)
+            (λ s. used_at self.now.regions region ≡ Some s.now) }
         ensures limit { IfSome result (λ s. region < region_limit) }
     {
         slot_at(&self.slots, region)
@@ -506,7 +541,8 @@ impl Regions {
 
     // Returns the size of each cell of a region in words, or 0 if it is empty.
     fn size_of(&self, region: usize) -> u64
-        ensures value { result ≡ option_map_or (λ u. u.cell_size) (used_at self.now.regions region) 0 }
+        ensures value { result
+            ≡ option_map_or (λ u. u.cell_size) (used_at self.now.regions region) 0 }
         ensures limit { result ≤ 1024 }
     {
         match self.used(region) {
@@ -518,9 +554,10 @@ impl Regions {
     // Returns the head of the free list of the lowest region that has a free cell of this size.
     fn place_for(&self, size: usize) -> Option<ObjRef>
         requires { IsCellSize size }
-        ensures { result ≡ slice_get (filter_map (free_place size) (enumerate_from 0 self.now.regions)) 0 }
+        ensures { result
+            ≡ slice_get (filter_map (free_place size) (enumerate_from 0 self.now.regions)) 0 }
     {
-        let region = find_room(&self.rooms, size_class(size))?;
+        let region = find_free_class(&self.free_classes, size_class(size))?;
         let cell = first_free_in(&self.slots[region])?;
         Some(ObjRef {
             region: region as u16,
@@ -538,12 +575,13 @@ impl Regions {
 
     // Puts a new object into the cell that heads its region's free list.
     fn take_at(&mut self, at: ObjRef, kind: ObjKind, len: usize, mark: bool)
-        requires { IsSomeAnd (used_at self.old.regions at.region) (λ u. (slice_get u.free 0 ≡ Some at.cell) × FitsWords u.cell_size len) }
+        requires { IsSomeAnd (used_at self.old.regions at.region)
+            (λ u. (slice_get u.free 0 ≡ Some at.cell) × FitsWords u.cell_size len) }
         ensures { self.new ≡ taken at (blank_object kind len mark) self.old }
     {
         let region = at.region as usize;
         take_in(&mut self.slots[region], at.cell as usize, kind, len, mark);
-        self.rooms[region] = room(&self.slots[region]);
+        self.free_classes[region] = free_class(&self.slots[region]);
     }
 
     // Returns the place of the first live object of a region from a cell on.

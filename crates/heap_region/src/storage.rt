@@ -2,7 +2,7 @@
 ghost use Rattle.std.specs.Prelude.{◌≡◌, ℕ, ◌+◌, ◌-◌, ◌*◌, ◌/◌, ◌<◌, ◌≤◌, List, [], ◌∷◌, length, ◌↔◌, IsTrue, IfOk, IsSome, IfSome, slice_index, slice_index_or, replicate, take, drop, Some, None, is_some, option_map, slice_get, slice_set};
 ghost use Rattle.heap_region.specs.Regions.{FitsWords, cell_object};
 ghost use Rattle.heap_region.specs.Pool.{blank_object, cell_freed, fresh_region};
-ghost use Rattle.heap_region.specs.Layout.{next_link, IsCellSize, IsWhole, words_at, changed_at, word_set, mark_set, live_set, filled, Heads, overwritten, header_live};
+ghost use Rattle.heap_region.specs.Layout.{next_link, IsCellSize, IsWholeRegion, words_at, changed_at, word_set, mark_set, live_set, cell_filled, Heads, overwritten, header_live};
 ghost use Rattle.heap_region.specs.Live.{IsNextLive};
 
 use crate::cell::{Cell, Header};
@@ -46,7 +46,8 @@ impl Model for Storage {
       free = walk (length s.block.value.headers.items) s.cell_size s.block.value.words s.head;
     } };
 
-    ghost invariant = { λ s. IsSound s.cell_size s.block.value.words s.block.value.headers.items s.head (walk (length s.block.value.headers.items) s.cell_size s.block.value.words s.head) };
+    ghost invariant = { λ s. IsSound s.cell_size s.block.value.words s.block.value.headers.items
+        s.head (walk (length s.block.value.headers.items) s.cell_size s.block.value.words s.head) };
 }
 
 /// A copy of an object: its kind, its slots and its two bits.
@@ -171,7 +172,8 @@ pub(crate) fn overwrite(words: &mut [u64], start: usize, from: &[u64])
 fn link_cells(words: &mut [u64], cell_size: usize, count: usize)
     requires sized { 0 < cell_size }
     requires within { count * cell_size ≤ length words.old }
-    ensures { (cell : ℕ) → cell < count → slice_index words.new (cell * cell_size) ≡ next_link count cell }
+    ensures { (cell : ℕ) → cell < count
+        → slice_index words.new (cell * cell_size) ≡ next_link count cell }
 {
     for cell in 0..count {
         let link = if cell + 1 < count { cell as u64 + 2 } else { 0 };
@@ -185,7 +187,7 @@ pub(crate) fn set_header(headers: &mut ArrayVec<Cell, 256>, cell: usize, header:
     requires fits { header.len ≤ 1024 }
     ensures { headers.new.items ≡ slice_set headers.old.items cell (Some header) }
 {
-    headers[cell] = Cell::taken(header);
+    headers[cell] = Cell::with_header(header);
 }
 
 // Makes a cell free.
@@ -211,7 +213,8 @@ impl Block {
     // Returns words that are all 0, and no cells. It is never inlined, so that no other function has a block on its stack.
     #[inline(never)]
     fn blank(alloc: Global) -> Result<Box<Block>, AllocError>
-        ensures { IfOk result (λ b. (b.value.words ≡ replicate 1024 0) × (b.value.headers.items ≡ [])) }
+        ensures { IfOk result
+            (λ b. (b.value.words ≡ replicate 1024 0) × (b.value.headers.items ≡ [])) }
     {
         let blank = Block {
             words: [0; 1024],
@@ -251,7 +254,7 @@ impl Storage {
     #[inline(always)]
     pub(crate) fn cell_size(&self) -> usize
         ensures value { result ≡ self.now.cell_size }
-        ensures whole { IsWhole self.now }
+        ensures whole { IsWholeRegion self.now }
     {
         self.cell_size as usize
     }
@@ -317,7 +320,8 @@ impl Storage {
     // Returns the two bits of the object in the cell, `live` and `mark`.
     pub(crate) fn bits(&self, cell: usize) -> (bool, bool)
         requires { IsSome (cell_object self.now cell) }
-        ensures { IfSome (cell_object self.now cell) (λ o. (result.0 ≡ o.live) × (result.1 ≡ o.mark)) }
+        ensures { IfSome (cell_object self.now cell)
+            (λ o. (result.0 ≡ o.live) × (result.1 ≡ o.mark)) }
     {
         let header = header_at(&self.block.headers, cell);
         (header.live, header.mark)
@@ -376,7 +380,7 @@ impl Storage {
     pub(crate) fn set_word(&mut self, cell: usize, slot: usize, value: u64)
         requires { slot < length (words_at self.old cell) }
         ensures value { self.new ≡ changed_at self.old cell (word_set slot value) }
-        ensures whole { IsWhole self.new }
+        ensures whole { IsWholeRegion self.new }
     {
         let at = cell * self.cell_size as usize + slot;
         self.block.words[at] = value;
@@ -386,7 +390,7 @@ impl Storage {
     pub(crate) fn set_mark(&mut self, cell: usize, mark: bool)
         requires { IsSome (cell_object self.old cell) }
         ensures value { self.new ≡ changed_at self.old cell (mark_set mark) }
-        ensures whole { IsWhole self.new }
+        ensures whole { IsWholeRegion self.new }
     {
         let block = &mut *self.block;
         let header = header_at(&block.headers, cell);
@@ -397,7 +401,7 @@ impl Storage {
     pub(crate) fn set_live(&mut self, cell: usize, live: bool)
         requires { IsSome (cell_object self.old cell) }
         ensures value { self.new ≡ changed_at self.old cell (live_set live) }
-        ensures whole { IsWhole self.new }
+        ensures whole { IsWholeRegion self.new }
     {
         let block = &mut *self.block;
         let header = header_at(&block.headers, cell);
@@ -437,7 +441,7 @@ impl Storage {
     pub(crate) fn take(&mut self, cell: usize, kind: ObjKind, len: usize, mark: bool)
         requires head { Heads cell self.old.free }
         requires fits { FitsWords self.old.cell_size len }
-        ensures { self.new ≡ filled self.old cell (blank_object kind len mark) }
+        ensures { self.new ≡ cell_filled self.old cell (blank_object kind len mark) }
     {
         let start = cell * self.cell_size as usize;
         let block = &mut *self.block;
@@ -456,7 +460,7 @@ impl Storage {
     pub(crate) fn unfree(&mut self, cell: usize, object: &ObjectCopy)
         requires head { Heads cell self.old.free }
         requires fits { FitsWords self.old.cell_size (length object.now.words) }
-        ensures { self.new ≡ filled self.old cell object.now }
+        ensures { self.new ≡ cell_filled self.old cell object.now }
     {
         let start = cell * self.cell_size as usize;
         let block = &mut *self.block;

@@ -1,3 +1,3 @@
 pub mod Lines
-pub mod Landing
-pub mod Saving
+pub mod DumpLandings
+pub mod SavedSessions

@@ -1,2 +1,2 @@
 pub mod Saves
-pub mod Late
+pub mod LateOutlets

@@ -1,4 +1,4 @@
--- What a session does whose last state is dumped.
+-- A session whose last state is dumped.
 use Rattle.std.specs.Prelude.{◌≡◌, ℕ, ◌<◌, ◌==◌, Bool, true, false, List, [], ◌++◌, codes, decimal, Option, Some, None, option_map}
 use Rattle.heap_class.specs.declared.LostCause.TheVariants.{Rewound, Memory, Closed}
 use Rattle.dump_pump.specs.declared.transfer.Pumped.{Pumped}
@@ -6,11 +6,11 @@ use Rattle.dump_pump.specs.declared.transfer.Pumped.TheVariants.{Done, OutletFai
 use Rattle.dump_pump.specs.Outlets.{Outgoing}
 use Rattle.dump_pump.specs.Pumps.{bytes_of}
 use Rattle.heap_trail.specs.Machine.{Machine}
-use Rattle.heap_dump.specs.Dumped.{IsDumped, with_number_used}
+use Rattle.heap_dump.specs.PinDumps.{IsPlaceDumped, with_number_used}
 use Rattle.session_text.specs.declared.Ended.{Ended}
-use Rattle.session_text.specs.Endings.{Ends, EndsWith}
+use Rattle.session_text.specs.Endings.{EndsSession, EndsWith}
 use Rattle.session_text.specs.Inlets.{Incoming}
-use Rattle.session_text.specs.Limits.{is_whole}
+use Rattle.session_text.specs.Limits.{is_whole_session}
 use Rattle.session_text.specs.Local.{own_closed}
 use Rattle.session_text.specs.Replies.{line}
 use Rattle.session_text.specs.Session.{IsSession}
@@ -26,15 +26,16 @@ last_words (Lost Memory n) = codes "lost Memory "
 last_words (Lost Closed n) = codes "lost Closed "
 last_words (Cancelled n) = []
 
+-- the last line of a session that is saved
 abbrev pub last_line : Pumped → List ℕ
 last_line r = last_words r ++ line (decimal (bytes_of r))
 
 -- nobody can cancel the dump
-abbrev pub IsEnded : Pumped → Type 0
-IsEnded (Done n) = Unit {0}
-IsEnded (OutletFailed n) = Unit {0}
-IsEnded (Lost cause n) = Unit {0}
-IsEnded (Cancelled n) = ⊥
+abbrev pub IsUncancelled : Pumped → Type 0
+IsUncancelled (Done n) = Unit {0}
+IsUncancelled (OutletFailed n) = Unit {0}
+IsUncancelled (Lost cause n) = Unit {0}
+IsUncancelled (Cancelled n) = ⊥
 
 -- ---- the dump
 
@@ -42,7 +43,8 @@ IsEnded (Cancelled n) = ⊥
 abbrev pub LandsNowhere : (Option Outgoing → Type 0) → ℕ → Machine → Machine → Pumped → Type 0
 LandsNowhere makes time m m' (Done n) = ⊥
 LandsNowhere makes time m m' (OutletFailed n) = (n ≡ 0) × makes None × (m' ≡ with_number_used m)
-LandsNowhere makes time m m' (Lost cause n) = (n ≡ 0) × ((w : Outgoing) → IsDumped time m m' w w (Lost cause n))
+LandsNowhere makes time m m' (Lost cause n) =
+    (n ≡ 0) × ((w : Outgoing) → IsPlaceDumped time m m' w w (Lost cause n))
 LandsNowhere makes time m m' (Cancelled n) = ⊥
 
 -- a dump that was lost had put out something
@@ -53,9 +55,11 @@ HasBegun (Lost cause n) = 0 < n
 HasBegun (Cancelled n) = Unit {0}
 
 -- no outlet was made; or one was, once there was something to put out, and the current state was dumped into it
-abbrev pub Lands : (Option Outgoing → Type 0) → ℕ → Machine → Machine → Option Outgoing → Pumped → Type 0
+abbrev pub Lands : (Option Outgoing → Type 0) → ℕ → Machine → Machine → Option Outgoing → Pumped
+    → Type 0
 Lands makes time m m' None r = LandsNowhere makes time m m' r
-Lands makes time m m' (Some w') r = HasBegun r × ((w : Outgoing) × makes (Some w) × IsDumped time m m' w w' r)
+Lands makes time m m' (Some w') r =
+    HasBegun r × ((w : Outgoing) × makes (Some w) × IsPlaceDumped time m m' w w' r)
 
 -- whether the place was not asked for an outlet: the session has no dump, or one that was lost before its first byte
 abbrev pub is_unasked : Option Pumped → Bool
@@ -65,26 +69,33 @@ is_unasked (Some (OutletFailed n)) = false
 is_unasked (Some (Lost cause n)) = n == 0
 is_unasked (Some (Cancelled n)) = false
 
--- the same of a place that was so before it was asked
-abbrev pub LandsLate : {P O : Type 0} → (P → Type 0) → (P → Option Outgoing → Type 0) → (O → Outgoing) → ℕ → Machine → Machine → P → Option O → Pumped → Type 0
+-- so it is with a place that had this property before it was asked
+abbrev pub LandsLate : {P O : Type 0} → (P → Type 0) → (P → Option Outgoing → Type 0)
+    → (O → Outgoing) → ℕ → Machine → Machine → P → Option O → Pumped → Type 0
 LandsLate {P} was makes seen time m m' place outlet r =
-    (first : P) × was first × Lands (makes first) time m m' (option_map seen outlet) r × (is_unasked (Some r) ≡ true → was place)
+    (first : P) × was first × Lands (makes first) time m m' (option_map seen outlet) r
+    × (is_unasked (Some r) ≡ true → was place)
 
 -- ---- the whole
 
--- after a session that left this machine and this output: where each line was run, all pins are closed that were opened from
--- the number `first` on, the state is dumped, and a line says how that ended; otherwise nothing more is done
-abbrev pub Goes : (Option Outgoing → Type 0) → ℕ → ℕ → Machine → Machine → Outgoing → Outgoing → Option Outgoing → Ended → Ended → Option Pumped → Bool → Type 0
-Goes makes first time left m' between w' outlet talked ended pumped true =
-    (r : Pumped) × Lands makes time (own_closed first left) m' outlet r × (pumped ≡ Some r) × EndsWith (last_line r) [] between w' talked ended
-Goes makes first time left m' between w' outlet talked ended pumped false =
+-- after a session that left this machine and this output: if each line was run, all pins are closed that were opened from the
+-- number `first` on, the state is dumped, and a line says how that ended; otherwise nothing more is done
+abbrev pub EndsSave : (Option Outgoing → Type 0) → ℕ → ℕ → Machine → Machine → Outgoing → Outgoing
+    → Option Outgoing → Ended → Ended → Option Pumped → Bool → Type 0
+EndsSave makes first time left m' between w' outlet talked ended pumped true =
+    (r : Pumped) × Lands makes time (own_closed first left) m' outlet r × (pumped ≡ Some r)
+    × EndsWith (last_line r) [] between w' talked ended
+EndsSave makes first time left m' between w' outlet talked ended pumped false =
     (m' ≡ left) × (w' ≡ between) × (outlet ≡ None) × (pumped ≡ None) × (ended ≡ talked)
 
 -- a session, how it ended, and what was done after it
-pub record IsSaved (makes : Option Outgoing → Type 0) (first time : ℕ) (m m' : Machine) (a b : Incoming) (w w' : Outgoing) (outlet : Option Outgoing) (ended : Ended) (pumped : Option Pumped) : Type 0 where
+pub record IsSaved (makes : Option Outgoing → Type 0) (first time : ℕ) (m m' : Machine)
+    (a b : Incoming) (w w' : Outgoing) (outlet : Option Outgoing) (ended : Ended)
+    (pumped : Option Pumped) : Type 0 where
   pub talked : Ended
   pub left : Machine
   pub between : Outgoing
   pub session : IsSession m time a b w between left talked
-  pub ends : Ends a b w between talked
-  pub goes : Goes makes first time left m' between w' outlet talked ended pumped (is_whole talked)
+  pub ends : EndsSession a b w between talked
+  pub goes : EndsSave makes first time left m' between w' outlet talked ended pumped
+      (is_whole_session talked)

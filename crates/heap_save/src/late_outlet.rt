@@ -1,15 +1,15 @@
 //! Outlets that are made at their first put.
 ghost use Rattle.std.specs.Prelude.{◌≡◌, ◌+◌, ◌<◌, ◌++◌, [], length, option_map};
 ghost use Rattle.dump_pump.specs.Outlets.{bytes_of};
-ghost use Rattle.heap_save.specs.Late.{IsAsked, IsPutThere, Fits, taken, failures_of, outlet_in, unasked, IsLate};
+ghost use Rattle.heap_save.specs.LateOutlets.{IsOutletAsked, IsPutThere, FitsLate, bytes_taken, failures_of, outlet_in, unasked, IsLate};
 
-use crate::place::Place;
+use crate::outlets::Outlets;
 use dump_pump::ledger::note_bytes;
 use dump_pump::{Outlet, Put};
 use http_server::Log;
 use std::marker::{Brand, Model, PhantomData};
 
-/// What is known of a place before it was asked. Each call picks it.
+// A fact about a place before it was asked. Each call picks it.
 pub(crate) trait Origin<P> {
     ghost was: { P → Type 0 };
 }
@@ -18,21 +18,21 @@ impl<P> Origin<P> for Brand {
     ghost was = { λ place. Unit {0} };
 }
 
-/// What came of asking a place for its outlet.
+/// The outcome of asking a place for its outlet.
 #[derive(Drop)]
 pub enum Opening<O> {
-    /// It was not asked.
+    /// The place was not asked.
     Unasked,
-    /// It made this one.
+    /// The place made this outlet.
     Made(O),
-    /// It could make none.
+    /// The place could make none.
     Refused,
 }
 
-/// An outlet of a place, which is asked to make it when there is a first put. Each put fails if it could make none. Contracts
-/// see the place, what came of asking it, the bytes put out, and the number of puts that failed.
+// An outlet of a place, which is asked to make it when there is a first put. Each put fails if the place could make none.
+// Contracts see the place, the outcome of asking it, the bytes put out, and the number of puts that failed.
 #[derive(Drop)]
-pub(crate) struct LateOutlet<P: Place, B: Origin<P>> {
+pub(crate) struct LateOutlet<P: Outlets, B: Origin<P>> {
     place: P,
     opening: Opening<P::Out>,
     written: Log<u8, ()>,
@@ -40,21 +40,28 @@ pub(crate) struct LateOutlet<P: Place, B: Origin<P>> {
     of: PhantomData<B>,
 }
 
-impl<P: Place, B: Origin<P>> Model for LateOutlet<P, B> {
+impl<P: Outlets, B: Origin<P>> Model for LateOutlet<P, B> {
     ghost use Rattle.std.specs.Prelude.{length};
     ghost use Rattle.dump_pump.specs.Outlets.{bytes_of};
-    ghost use Rattle.heap_save.specs.Late.{Late, IsLate};
+    ghost use Rattle.heap_save.specs.LateOutlets.{Late, IsLate};
 
     ghost Value = { Late P P.Out };
 
-    ghost view = { λ o. record { place = o.place; opening = o.opening; put = bytes_of o.written.items; failures = length o.failed.items } };
+    ghost view = { λ o.
+        record {
+          place = o.place;
+          opening = o.opening;
+          put = bytes_of o.written.items;
+          failures = length o.failed.items;
+        } };
 
-    ghost invariant = { λ o. IsLate B.was P.makes P.Out.seen o.place o.opening (bytes_of o.written.items) (length o.failed.items) };
+    ghost invariant = { λ o. IsLate B.was P.makes P.Out.seen o.place o.opening
+        (bytes_of o.written.items) (length o.failed.items) };
 }
 
-/// Asks a place for its outlet, unless it was asked before.
-fn ask<P: Place>(place: &mut P, opening: &mut Opening<P::Out>)
-    ensures { IsAsked P.makes P.Out.seen place.old place.new opening.old opening.new }
+// Asks a place for its outlet, unless it was asked before.
+fn ask<P: Outlets>(place: &mut P, opening: &mut Opening<P::Out>)
+    ensures { IsOutletAsked P.makes P.Out.seen place.old place.new opening.old opening.new }
 {
     if let Opening::Unasked = opening {
         *opening = match place.open() {
@@ -64,7 +71,7 @@ fn ask<P: Place>(place: &mut P, opening: &mut Opening<P::Out>)
     }
 }
 
-/// Puts out some of the bytes given, if there is an outlet.
+// Puts out some of the bytes given, if there is an outlet.
 fn put_there<O: Outlet>(opening: &mut Opening<O>, given: &[u8]) -> Put
     requires { 0 < length given.now }
     ensures { IsPutThere O.seen given.now opening.old opening.new result }
@@ -75,10 +82,11 @@ fn put_there<O: Outlet>(opening: &mut Opening<O>, given: &[u8]) -> Put
     }
 }
 
-/// Notes what a put took of the bytes given, or that it failed.
+// Notes the bytes that a put took, or that it failed.
 fn note(written: &mut Log<u8, ()>, failed: &mut Log<(), ()>, given: &[u8], put: Put)
-    requires { Fits given.now put }
-    ensures written { bytes_of written.new.items ≡ bytes_of written.old.items ++ taken given.now put }
+    requires { FitsLate given.now put }
+    ensures written { bytes_of written.new.items
+        ≡ bytes_of written.old.items ++ bytes_taken given.now put }
     ensures failed { length failed.new.items ≡ length failed.old.items + failures_of put }
 {
     match put {
@@ -87,8 +95,8 @@ fn note(written: &mut Log<u8, ()>, failed: &mut Log<(), ()>, given: &[u8], put: 
     }
 }
 
-impl<P: Place, B: Origin<P>> LateOutlet<P, B> {
-    /// Creates an outlet that has put out nothing. The place is not asked yet.
+impl<P: Outlets, B: Origin<P>> LateOutlet<P, B> {
+    // Creates an outlet that has put out nothing. The place is not asked yet.
     pub(crate) fn new(place: P) -> LateOutlet<P, B>
         requires { B.was place }
         ensures { result ≡ unasked place }
@@ -102,11 +110,12 @@ impl<P: Place, B: Origin<P>> LateOutlet<P, B> {
         }
     }
 
-    /// Returns the place, and the outlet that it made. The contract says what is known of both.
+    // Returns the place, and the outlet that it made. The contract says what is known of both.
     pub(crate) fn into_parts(self) -> (P, Option<P::Out>)
         ensures place { result.0 ≡ self.place }
         ensures outlet { result.1 ≡ outlet_in self.opening }
-        ensures late { IsLate B.was P.makes P.Out.seen self.place self.opening self.put self.failures }
+        ensures late { IsLate B.was P.makes P.Out.seen self.place self.opening self.put
+            self.failures }
     {
         let LateOutlet {
             place,
@@ -122,7 +131,7 @@ impl<P: Place, B: Origin<P>> LateOutlet<P, B> {
     }
 }
 
-impl<P: Place, B: Origin<P>> Outlet for LateOutlet<P, B> {
+impl<P: Outlets, B: Origin<P>> Outlet for LateOutlet<P, B> {
     ghost seen = { λ o. record { out = o.put; failures = o.failures } };
 
     fn put(&mut self, given: &[u8]) -> Put {

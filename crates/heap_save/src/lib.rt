@@ -1,10 +1,10 @@
-//! Sessions whose last state is dumped to where its bytes go: a file, a socket, or memory.
+//! Sessions whose last state is dumped to a file, a socket or memory.
 #![tactic(auto)]
 
 mod late_outlet;
 mod line;
-mod place;
+mod outlets;
 mod save;
 
-pub use place::Place;
+pub use outlets::Outlets;
 pub use save::{Saved, save_into};

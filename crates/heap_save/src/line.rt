@@ -1,44 +1,39 @@
 //! The last line of a session that is saved.
 ghost use Rattle.std.specs.Prelude.{◌≡◌, ◌++◌, decimal};
 ghost use Rattle.session_text.specs.Replies.{line};
-ghost use Rattle.session_text.specs.Writes.{IsWritten};
-ghost use Rattle.heap_save.specs.Saves.{IsEnded, last_line};
+ghost use Rattle.session_text.specs.Writes.{IsTextWritten};
+ghost use Rattle.heap_save.specs.Saves.{IsUncancelled, last_line};
 
-use dump_pump::transfer::put_all;
 use dump_pump::{Outlet, Pumped};
 use heap_class::LostCause;
+use session_text::write_all;
 
-/// Puts out all bytes, unless a put fails.
-fn write_bytes<O: Outlet>(writer: &mut O, bytes: &[u8]) -> bool
-    ensures { IsWritten bytes.now (O.seen writer.old) (O.seen writer.new) result }
-{
-    put_all(writer, bytes) == bytes.len()
-}
-
-/// Puts out a number and the end of its line.
+// Puts out a number and the end of its line.
 fn write_number<O: Outlet>(writer: &mut O, number: u64) -> bool
-    ensures { IsWritten (line (decimal number)) (O.seen writer.old) (O.seen writer.new) result }
+    ensures { IsTextWritten (line (decimal number)) (O.seen writer.old) (O.seen writer.new) result }
 {
-    if !write_bytes(writer, itoa::Buffer::new().format(number).as_bytes()) {
+    if !write_all(writer, itoa::Buffer::new().format(number).as_bytes()) {
         return false;
     }
-    write_bytes(writer, b"\n")
+    write_all(writer, b"\n")
 }
 
-/// Puts out words and a number as a line.
+// Puts out words and a number as a line.
 fn write_line<O: Outlet>(writer: &mut O, words: &[u8], number: u64) -> bool
-    ensures { IsWritten (words.now ++ line (decimal number)) (O.seen writer.old) (O.seen writer.new) result }
+    ensures { IsTextWritten (words.now ++ line (decimal number)) (O.seen writer.old)
+        (O.seen writer.new) result }
 {
-    if !write_bytes(writer, words) {
+    if !write_all(writer, words) {
         return false;
     }
     write_number(writer, number)
 }
 
-/// Puts out the last line: how the dump ended, and how many bytes the outlet took. A dump that was cancelled has no such line.
+// Puts out the last line: how the dump ended, and the number of bytes that the outlet took. A dump that was cancelled has no
+// such line.
 pub(crate) fn write_last<O: Outlet>(writer: &mut O, pumped: Pumped) -> bool
-    requires { IsEnded pumped }
-    ensures { IsWritten (last_line pumped) (O.seen writer.old) (O.seen writer.new) result }
+    requires { IsUncancelled pumped }
+    ensures { IsTextWritten (last_line pumped) (O.seen writer.old) (O.seen writer.new) result }
 {
     match pumped {
         Pumped::Done { bytes } => write_line(writer, b"saved ", bytes),

@@ -1,11 +1,11 @@
 //! Sessions that are saved.
 ghost use Rattle.std.specs.Prelude.{◌≡◌, Some, true, option_map};
 ghost use Rattle.session_text.specs.Local.{own_closed};
-ghost use Rattle.heap_save.specs.Saves.{IsEnded, IsSaved, Lands, LandsLate, is_unasked};
+ghost use Rattle.heap_save.specs.Saves.{IsUncancelled, IsSaved, Lands, LandsLate, is_unasked};
 
 use crate::late_outlet::{LateOutlet, Origin};
 use crate::line::write_last;
-use crate::place::Place;
+use crate::outlets::Outlets;
 use dump_pump::{Outlet, Pumped};
 use heap_trail::Machine;
 use pin_stream::{Gauge, stream_place};
@@ -28,8 +28,8 @@ pub struct Saved<P, O> {
     pub outlet: Option<O>,
 }
 
-/// Dumps the current state into the outlet of a place, which is asked for it when there is something to put out.
-fn dump_late<P: Place, B: Origin<P>, G: Gauge, R: Threads + Wait + Sync>(
+// Dumps the current state into the outlet of a place, which is asked for it when there is something to put out.
+fn dump_late<P: Outlets, B: Origin<P>, G: Gauge, R: Threads + Wait + Sync>(
     rt: &R,
     alloc: Global,
     machine: &mut Machine,
@@ -38,7 +38,8 @@ fn dump_late<P: Place, B: Origin<P>, G: Gauge, R: Threads + Wait + Sync>(
     time: u64,
 ) -> (Pumped, P, Option<P::Out>)
     requires { B.was place }
-    ensures { LandsLate B.was P.makes P.Out.seen time machine.old machine.new result.1 result.2 result.0 }
+    ensures { LandsLate B.was P.makes P.Out.seen time machine.old machine.new result.1 result.2
+        result.0 }
 {
     let late: LateOutlet<P, B> = LateOutlet::new(place);
     let (pumped, taken) = stream_place(rt, alloc, machine, time, late, gauge);
@@ -46,8 +47,8 @@ fn dump_late<P: Place, B: Origin<P>, G: Gauge, R: Threads + Wait + Sync>(
     (pumped, place, outlet)
 }
 
-/// Closes the pins that were opened through these commands, and dumps the current state into the outlet of a place.
-fn dump_last<P: Place, G: Gauge, R: Threads + Wait + Sync>(
+// Closes the pins that were opened through these commands, and dumps the current state into the outlet of a place.
+fn dump_last<P: Outlets, G: Gauge, R: Threads + Wait + Sync>(
     rt: &R,
     alloc: Global,
     local: &mut Local,
@@ -55,24 +56,27 @@ fn dump_last<P: Place, G: Gauge, R: Threads + Wait + Sync>(
     gauge: &mut G,
     time: u64,
 ) -> (Pumped, P, Option<P::Out>)
-    ensures lands { Lands (P.makes place) time (own_closed local.old.first_pin local.old.machine) local.new.machine (option_map P.Out.seen result.2) result.0 }
+    ensures lands { Lands (P.makes place) time (own_closed local.old.first_pin local.old.machine)
+        local.new.machine (option_map P.Out.seen result.2) result.0 }
     ensures untouched { is_unasked (Some result.0) ≡ true → result.1 ≡ place }
     ensures first { local.new.first_pin ≡ local.old.first_pin }
-    ensures ended { IsEnded result.0 }
+    ensures ended { IsUncancelled result.0 }
 {
     local.close_all();
     dump_late::<P, Brand, G, R>(rt, alloc, &mut local.machine, place, gauge, time)
 }
 
-/// Serves a session of a machine of one's own as `serve_local` does. If it ended by `end` or at the end of input, closes each
-/// pin that was opened through these commands, dumps the current state into the outlet of a place, and writes a last line:
-/// `saved`, `failed` or `lost` with its cause, and how many bytes the outlet took. The place is asked for the outlet when the
-/// first page is there: not if the dump is lost before. The dump is failed at 0 bytes if no outlet could be made. If the
-/// session ended otherwise, the place is not asked, and no last line is written. `time`, in milliseconds, stands in the header
-/// of each dump. A thread of its own makes the pieces of the dump, and the caller's puts them out, which a gauge sees; without
-/// such a thread or a pipe the caller's does both, and without a meter the dump is lost by Memory, at 0 bytes. The outlet is
-/// asked once for each page of at most 65,536 bytes; if there is no memory for pages, once for each piece. May wait.
-pub fn save_into<I: Inlet, O: Outlet, P: Place, G: Gauge, R: Threads + Wait + Sync>(
+/// Serves a session of a private machine as `serve_local` does. If it ended by `end` or at the end of input, closes each pin
+/// that was opened through these commands, dumps the current state into the outlet of a place, and writes a last line:
+/// `saved`, `failed` or `lost` with its cause, and the number of bytes that the outlet took. If the session ended otherwise,
+/// the place is not asked, and no last line is written. `time`, in milliseconds, stands in the header of each dump.
+///
+/// The place is asked for the outlet when the first page is there: not if the dump is lost before. The dump is failed at 0
+/// bytes if no outlet could be made. A second thread makes the pieces of the dump, and the caller's puts them out, which a
+/// gauge sees; without such a thread or a pipe the caller's does both. If a meter can't be allocated the dump is lost by
+/// Memory, at 0 bytes. The outlet is asked once for each page of at most 65,536 bytes; if pages can't be allocated, once for
+/// each piece. May wait.
+pub fn save_into<I: Inlet, O: Outlet, P: Outlets, G: Gauge, R: Threads + Wait + Sync>(
     rt: &R,
     alloc: Global,
     local: &mut Local,
@@ -82,7 +86,9 @@ pub fn save_into<I: Inlet, O: Outlet, P: Place, G: Gauge, R: Threads + Wait + Sy
     gauge: &mut G,
     time: u64,
 ) -> Saved<P, P::Out>
-    ensures saved { IsSaved (P.makes place) local.old.first_pin time local.old.machine local.new.machine (I.seen reader.old) (I.seen reader.new) (O.seen writer.old) (O.seen writer.new) (option_map P.Out.seen result.outlet) result.ended result.pumped }
+    ensures saved { IsSaved (P.makes place) local.old.first_pin time local.old.machine
+        local.new.machine (I.seen reader.old) (I.seen reader.new) (O.seen writer.old)
+        (O.seen writer.new) (option_map P.Out.seen result.outlet) result.ended result.pumped }
     ensures first { local.new.first_pin ≡ local.old.first_pin }
     ensures untouched { is_unasked result.pumped ≡ true → result.place ≡ place }
 {

@@ -12,18 +12,19 @@ use heap_world::{Config, World};
 use std::alloc::{AllocError, Global};
 use std::test::Fail;
 
-/// The ids of the first two objects of a heap, where neither has more than 4 slots.
+/// The id of the first object of a heap, if it has at most 4 slots.
 pub const FIRST: u64 = 0x1000_0000;
 
+/// The id of the second object, if both have at most 4 slots.
 pub const SECOND: u64 = 0x1000_0020;
 
-/// A field by its name and kind.
+// Creates a field by its name and kind.
 fn field(alloc: Global, name: &[u8], kind: Kind) -> Result<Field, AllocError> {
     let name = Name::new(alloc, name)?;
     Ok(Field { name, kind })
 }
 
-/// The fields of a node: a reference `next` and a long `v`.
+/// Creates the fields of a node: a reference `next` and a long `v`.
 pub fn node_fields(alloc: Global) -> Result<Fields, AllocError> {
     let mut fields = Vec::new(alloc);
     fields.push(field(alloc, b"next", Kind::Object)?)?;
@@ -31,7 +32,7 @@ pub fn node_fields(alloc: Global) -> Result<Fields, AllocError> {
     Ok(Fields::from_vec(fields))
 }
 
-/// The class of nodes.
+/// Creates the definition of the class of nodes.
 pub fn node(alloc: Global) -> Result<Event, AllocError> {
     Ok(Event::Class {
         name: Name::new(alloc, b"Node")?,
@@ -40,7 +41,7 @@ pub fn node(alloc: Global) -> Result<Event, AllocError> {
     })
 }
 
-/// The class of points: two ints `x` and `y`.
+/// Creates the definition of the class of points: two ints `x` and `y`.
 pub fn point(alloc: Global) -> Result<Event, AllocError> {
     let mut fields = Vec::new(alloc);
     fields.push(field(alloc, b"x", Kind::Int)?)?;
@@ -52,12 +53,12 @@ pub fn point(alloc: Global) -> Result<Event, AllocError> {
     })
 }
 
-/// An instance of the first class in a register.
+/// Returns the making of an instance of the first class in a register.
 pub fn new(r: u64) -> Event {
     Event::New { m: 0, r, class: 0 }
 }
 
-/// A store of what a register holds to the first slot of the object that register `target` names.
+/// Returns a store of what a register holds to the first slot of the object that register `target` names.
 pub fn store(target: u64, source: u64) -> Event {
     Event::Store {
         m: 0,
@@ -67,7 +68,7 @@ pub fn store(target: u64, source: u64) -> Event {
     }
 }
 
-/// A heap of one region and one mutator.
+/// Creates a heap of one region and one mutator.
 pub fn small_world(alloc: Global) -> Result<World, Fail> {
     let config = Config::new(1, 1, 1).ok_or("settings out of range")?;
     Ok(World::new(alloc, config)?)
@@ -94,7 +95,7 @@ pub fn settings(regions: u64, mutators: u64, keep: u64) -> Result<Config, Fail> 
     Ok(Config::new(regions, mutators, keep).ok_or("settings out of range")?)
 }
 
-/// Defines the class of nodes, and applies events.
+// Defines the class of nodes, and applies events.
 fn begin(alloc: Global, world: &mut World, events: &[Event]) -> Result<(), Fail> {
     let class = node(alloc)?;
     apply_all(world, &[class])?;
@@ -108,7 +109,7 @@ pub fn heap_after(alloc: Global, config: Config, events: &[Event]) -> Result<Wor
     Ok(world)
 }
 
-/// Takes the class of nodes as a step, and then events.
+// Takes the class of nodes as a step, and then events.
 fn begin_machine(alloc: Global, machine: &mut Machine, events: &[Event]) -> Result<(), Fail> {
     let class = node(alloc)?;
     take(machine, &[class])?;
@@ -122,7 +123,7 @@ pub fn machine_after(alloc: Global, config: Config, events: &[Event]) -> Result<
     Ok(machine)
 }
 
-/// Applies the events in turn and takes each back, the last first. Adds what `look` sees after each of these steps.
+/// Applies the events in turn and undoes each, the last first. Adds what `look` sees after each of these steps.
 pub fn there_and_back<S: Drop, L: Fn(&World) -> Result<S, Fail>>(
     world: &mut World,
     events: &[Event],
@@ -145,7 +146,7 @@ pub fn there_and_back<S: Drop, L: Fn(&World) -> Result<S, Fail>>(
     Ok(())
 }
 
-/// The bits `live` and `mark` of the object in a cell; None where there is none.
+/// Returns the bits `live` and `mark` of the object in a cell, or None if it has none.
 pub fn bits(regions: &Regions, at: ObjRef) -> Option<(bool, bool)> {
     if regions.has_object(at) {
         Some(regions.bits(at))

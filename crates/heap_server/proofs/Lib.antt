@@ -1,4 +1,4 @@
-pub mod Copying
-pub mod Reporting
-pub mod Seating
-pub mod Acting
+pub mod CopySteps
+pub mod ReportLines
+pub mod UserSeats
+pub mod Acts

@@ -1,5 +1,5 @@
-pub mod Joined
+pub mod JoinedActs
 pub mod Copies
-pub mod Sending
-pub mod Seating
+pub mod ClientEndings
+pub mod SessionSeats
 pub mod Reports

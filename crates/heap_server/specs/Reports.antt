@@ -3,19 +3,21 @@ use Rattle.std.specs.Prelude.{ℕ, ◌+◌, List, [], ◌∷◌, ◌++◌, codes
 use Rattle.session_text.specs.declared.Ended.{Ended}
 use Rattle.session_text.specs.declared.Ended.TheVariants.{Quit, Eof, CutLine, TooLong, ReadFault, TooManyReads, WriteFault, NoMemory}
 
-abbrev pub word_of : Ended → List ℕ
-word_of Quit = codes "quit"
-word_of Eof = codes "eof"
-word_of CutLine = codes "cut"
-word_of TooLong = codes "long"
-word_of ReadFault = codes "read"
-word_of TooManyReads = codes "reads"
-word_of WriteFault = codes "write"
-word_of NoMemory = codes "memory"
+-- the word that names how a session ended
+abbrev pub word_of_ending : Ended → List ℕ
+word_of_ending Quit = codes "quit"
+word_of_ending Eof = codes "eof"
+word_of_ending CutLine = codes "cut"
+word_of_ending TooLong = codes "long"
+word_of_ending ReadFault = codes "read"
+word_of_ending TooManyReads = codes "reads"
+word_of_ending WriteFault = codes "write"
+word_of_ending NoMemory = codes "memory"
 
 -- the line of a session of this number
 abbrev pub line_of : ℕ → Ended → List ℕ
-line_of number ended = codes "session " ++ (decimal number ++ (codes " " ++ (word_of ended ++ codes "\n")))
+line_of number ended =
+    codes "session " ++ (decimal number ++ (codes " " ++ (word_of_ending ended ++ codes "\n")))
 
 -- the lines of all, the first with this number
 abbrev pub report_of : ℕ → List Ended → List ℕ

@@ -1,6 +1,6 @@
 //! The client of a session: what it sends, and what comes back.
 ghost use Rattle.std.specs.Prelude.{◌≡◌, length};
-ghost use Rattle.heap_server.specs.Sending.{Asks, Receives, Sends, end_of};
+ghost use Rattle.heap_server.specs.ClientEndings.{AsksServer, Receives, Sends, asked_end};
 
 use crate::copy::{Copied, copy_all};
 use dump_pump::transfer::put_all;
@@ -46,7 +46,7 @@ pub fn ask<R, I: Inlet + Send + Drop + 'static, O: Outlet>(
 ) -> Asked
 where
     R: Threads + Wait + Copy + Send + Sync + Drop + 'static,
-    ensures { Asks (O.seen output.old) (O.seen output.new) result }
+    ensures { AsksServer (O.seen output.old) (O.seen output.new) result }
 {
     let _ = stream.set_nodelay(true);
     let connection = Connection {
@@ -82,7 +82,8 @@ fn send_all<R: Wait, I: Inlet, O: Outlet>(
     socket: &mut O,
     input_failed: &AtomicBool,
 ) -> bool
-    ensures { Sends (I.seen input.old) (I.seen input.new) (O.seen socket.old) (O.seen socket.new) result }
+    ensures { Sends (I.seen input.old) (I.seen input.new) (O.seen socket.old) (O.seen socket.new)
+        result }
 {
     let copied = copy_all(rt, input, socket);
     let failed = copied == Copied::ReadFault;
@@ -100,7 +101,8 @@ fn receive<R: Wait, S: Inlet, O: Outlet>(
     output: &mut O,
     input_failed: &AtomicBool,
 ) -> Asked
-    ensures { Receives (S.seen socket.old) (S.seen socket.new) (O.seen output.old) (O.seen output.new) result }
+    ensures { Receives (S.seen socket.old) (S.seen socket.new) (O.seen output.old)
+        (O.seen output.new) result }
 {
     let copied = copy_all(rt, socket, output);
     end_of(input_failed.load(Ordering::SeqCst), copied)
@@ -108,7 +110,7 @@ fn receive<R: Wait, S: Inlet, O: Outlet>(
 
 // Returns how a client ended whose input failed or not, and whose copy of what came ended so.
 fn end_of(input_failed: bool, copied: Copied) -> Asked
-    ensures { result ≡ end_of input_failed copied }
+    ensures { result ≡ asked_end input_failed copied }
 {
     if input_failed {
         return Asked::ReadFault;

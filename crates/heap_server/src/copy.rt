@@ -22,7 +22,8 @@ pub enum Copied {
 
 /// Puts out all that an inlet gives, as it comes, until it ends or a read or a write fails. Takes no memory. May wait.
 pub fn copy_all<R: Wait, I: Inlet, O: Outlet>(rt: &R, inlet: &mut I, outlet: &mut O) -> Copied
-    ensures { Copies (I.seen inlet.old) (I.seen inlet.new) (O.seen outlet.old) (O.seen outlet.new) result }
+    ensures { Copies (I.seen inlet.old) (I.seen inlet.new) (O.seen outlet.old) (O.seen outlet.new)
+        result }
 {
     let mut room = [0u8; ROOM];
     for _ in rt.forever() {

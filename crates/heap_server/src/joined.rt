@@ -3,23 +3,25 @@ ghost use Rattle.std.specs.Prelude.{◌≡◌, IfOk, IfErr};
 ghost use Rattle.heap_trail.specs.declared.Action.TheVariants.{OpenPin, NextPiece, ClosePin};
 ghost use Rattle.heap_trail.specs.Machine.{IsSmall};
 ghost use Rattle.heap_lock.specs.declared.entry.Role.TheVariants.{User};
-ghost use Rattle.heap_lock.specs.Held.{WasDumped};
+ghost use Rattle.heap_lock.specs.Calls.{Witnesses};
 ghost use Rattle.heap_lock.specs.History.{reply_of};
-ghost use Rattle.heap_server.specs.Joined.{IsReply, IsLegalPart};
+ghost use Rattle.heap_server.specs.JoinedActs.{IsReply, IsLegalPart};
 
 use heap_class::Refusal;
-use heap_lock::{Heap, Outcome, Receipt, Seat, Shared};
+use heap_lock::{Heap, Outcome, Receipt, Seat, Shared, Witness};
 use heap_trail::{Action, Reply};
-use session_text::Commands;
+use session_text::{Commands, LineAnswer};
+use std::alloc::Global;
 use std::sync::Wait;
 
 /// A user's seat, with its heap. What others do on the heap goes on between any two actions. Contracts see the seat, whose
-/// share has what this session did, in order.
+/// share has what this session did, in order, and the witness, which has seen the calls up to this session's last dump call.
 #[derive(Drop)]
 pub struct Joined<'a, L: Heap, R: Wait> {
     shared: &'a Shared<L>,
     rt: &'a R,
     pub seat: Seat<L>,
+    pub witness: Witness<L>,
     ghost user: { seat.role ≡ User },
 }
 
@@ -35,7 +37,7 @@ fn reply(outcome: Outcome) -> Reply
 }
 
 // Returns the reply to an act.
-fn replied(done: Result<Receipt, Refusal>) -> Reply
+fn reply_to_act(done: Result<Receipt, Refusal>) -> Reply
     ensures reply { IsReply done result }
     ensures small { IsSmall result }
 {
@@ -47,19 +49,30 @@ fn replied(done: Result<Receipt, Refusal>) -> Reply
 
 impl<'a, L: Heap, R: Wait> Joined<'a, L, R> {
     /// Creates the commands of this seat.
-    pub fn new(shared: &'a Shared<L>, rt: &'a R, seat: Seat<L>) -> Joined<'a, L, R>
+    pub fn new(
+        shared: &'a Shared<L>,
+        rt: &'a R,
+        seat: Seat<L>,
+        witness: Witness<L>,
+    ) -> Joined<'a, L, R>
         requires { seat.role ≡ User }
-        ensures { result.seat ≡ seat }
+        ensures { (result.seat ≡ seat) × (result.witness ≡ witness) }
     {
-        Joined { shared, rt, seat }
+        Joined {
+            shared,
+            rt,
+            seat,
+            witness,
+        }
     }
 
     // Opens a pin, and leaves the seat.
-    fn opened(&self, at: Option<u64>) -> Reply
-        ensures done { WasDumped L.config (OpenPin at) result }
+    fn reply_to_open(&mut self, at: Option<u64>) -> Reply
+        ensures done { Witnesses L.config self.old.witness (OpenPin at) result self.new.witness }
+        ensures seat { self.new.seat ≡ self.old.seat }
         ensures small { IsSmall result }
     {
-        match self.shared.open_pin(self.rt, at) {
+        match self.shared.open_pin(self.rt, &mut self.witness, at) {
             Ok(pinned) => Reply::Pinned {
                 pin: pinned.pin,
                 at: pinned.at,
@@ -69,23 +82,29 @@ impl<'a, L: Heap, R: Wait> Joined<'a, L, R> {
     }
 
     // Gives the next piece of a pin, and leaves the seat.
-    fn part(&self, pin: u64, time: u64) -> Reply
-        ensures done { WasDumped L.config (NextPiece pin time) result }
+    fn part(&mut self, pin: u64, time: u64) -> Reply
+        ensures done { Witnesses L.config self.old.witness (NextPiece pin time) result
+            self.new.witness }
+        ensures seat { self.new.seat ≡ self.old.seat }
         ensures legal { IsLegalPart L.config.ids time result }
         ensures small { IsSmall result }
     {
-        match self.shared.next_piece(self.rt, pin, time) {
+        match self
+            .shared
+            .next_piece(self.rt, &mut self.witness, pin, time)
+        {
             Ok(piece) => Reply::Part(piece),
             Err(refusal) => Reply::Refused(refusal),
         }
     }
 
     // Closes a pin, and leaves the seat.
-    fn closed(&self, pin: u64) -> Reply
-        ensures done { WasDumped L.config (ClosePin pin) result }
+    fn reply_to_close(&mut self, pin: u64) -> Reply
+        ensures done { Witnesses L.config self.old.witness (ClosePin pin) result self.new.witness }
+        ensures seat { self.new.seat ≡ self.old.seat }
         ensures small { IsSmall result }
     {
-        match self.shared.close_pin(self.rt, pin) {
+        match self.shared.close_pin(self.rt, &mut self.witness, pin) {
             Ok(()) => Reply::Closed,
             Err(refusal) => Reply::Refused(refusal),
         }
@@ -93,17 +112,24 @@ impl<'a, L: Heap, R: Wait> Joined<'a, L, R> {
 }
 
 impl<'a, L: Heap, R: Wait> Commands for Joined<'a, L, R> {
-    ghost use Rattle.heap_server.specs.Joined.{IsJoined};
+    ghost use Rattle.session_text.specs.Answers.{all_bad};
+    ghost use Rattle.heap_server.specs.JoinedActs.{IsJoined};
 
-    ghost acts = { λ c a r d. IsJoined L.config c.seat a r d.seat };
+    ghost acts = { λ c a r d. IsJoined L.config c.seat c.witness a r d.seat d.witness };
+
+    ghost unknown = { all_bad };
 
     fn act(&mut self, action: Action) -> Reply {
         match action {
-            Action::Step(event) => replied(self.shared.act(self.rt, &mut self.seat, event)),
-            Action::Rewind(n) => replied(self.shared.rewind(self.rt, &mut self.seat, n)),
-            Action::OpenPin(at) => self.opened(at),
+            Action::Step(event) => reply_to_act(self.shared.act(self.rt, &mut self.seat, event)),
+            Action::Rewind(n) => reply_to_act(self.shared.rewind(self.rt, &mut self.seat, n)),
+            Action::OpenPin(at) => self.reply_to_open(at),
             Action::NextPiece { pin, time } => self.part(pin, time),
-            Action::ClosePin(pin) => self.closed(pin),
+            Action::ClosePin(pin) => self.reply_to_close(pin),
         }
+    }
+
+    fn answer_unknown(&mut self, _alloc: Global, _line: &[u8]) -> LineAnswer {
+        LineAnswer::BadCommand
     }
 }

@@ -1,7 +1,7 @@
 //! How sessions ended, in words.
 ghost use Rattle.std.specs.Prelude.{◌≡◌, OnOk};
 ghost use Rattle.std.specs.Io.KnownBytes.{Appends};
-ghost use Rattle.heap_server.specs.Reports.{line_of, report_of, word_of};
+ghost use Rattle.heap_server.specs.Reports.{line_of, report_of, word_of_ending};
 
 use session_text::Ended;
 use std::io;
@@ -9,7 +9,7 @@ use std::io::Write;
 
 /// Returns the word of an ending: quit, eof, cut, long, read, reads, write or memory.
 pub fn word(ended: Ended) -> &'static str
-    ensures { result.now ≡ word_of ended }
+    ensures { result.now ≡ word_of_ending ended }
 {
     match ended {
         Ended::Quit => "quit",
@@ -25,7 +25,8 @@ pub fn word(ended: Ended) -> &'static str
 
 // Writes the line of a session of this number.
 fn tell_session<W: Write>(writer: &mut W, number: u64, ended: Ended) -> io::Result<()>
-    ensures { OnOk result (Appends (W.contents writer.old) (W.contents writer.new) (line_of number ended)) }
+    ensures { OnOk result
+        (Appends (W.contents writer.old) (W.contents writer.new) (line_of number ended)) }
 {
     let name = word(ended);
     writeln!(writer, "session {number} {name}")
@@ -33,7 +34,8 @@ fn tell_session<W: Write>(writer: &mut W, number: u64, ended: Ended) -> io::Resu
 
 /// Writes a line `session I WORD` for each session, counted from 1. Fails if a write does.
 pub fn tell_sessions<W: Write>(writer: &mut W, ends: &[Ended]) -> io::Result<()>
-    ensures { OnOk result (Appends (W.contents writer.old) (W.contents writer.new) (report_of 1 ends.now)) }
+    ensures { OnOk result
+        (Appends (W.contents writer.old) (W.contents writer.new) (report_of 1 ends.now)) }
 {
     for i in 0..ends.len() {
         tell_session(writer, i as u64 + 1, ends[i])?;

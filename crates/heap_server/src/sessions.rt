@@ -2,7 +2,7 @@
 ghost use Rattle.std.specs.Prelude.{◌≡◌, ◌+◌, ◌≤◌, IfOk, IfErr, length, vec_len, vec_capacity};
 ghost use Rattle.heap_class.specs.declared.Refusal.TheVariants.{NoMemory};
 ghost use Rattle.heap_lock.specs.declared.entry.Role.TheVariants.{User};
-ghost use Rattle.heap_server.specs.Seating.{AreUsers, IsFor, IsOver, session_limit};
+ghost use Rattle.heap_server.specs.SessionSeats.{AreUsers, IsFor, IsOver, session_limit};
 
 use crate::joined::Joined;
 use dump_pump::WriteOutlet;
@@ -60,7 +60,7 @@ fn session<L: Heap, R: Wait>(
     let _ = stream.set_nodelay(true);
     let mut reader = ReadInlet::new(&stream);
     let mut writer = WriteOutlet::new(&stream);
-    let mut joined = Joined::new(shared, rt, seat);
+    let mut joined = Joined::new(shared, rt, seat, shared.witness(rt));
     serve(alloc, &mut reader, &mut writer, &mut joined, time)
 }
 
@@ -157,7 +157,8 @@ fn serve_opened<L: Heap + Send + Sync, R: Threads + Wait + Sync>(
     listener: TcpListener,
     time: u64,
 ) -> Result<ServedHeap, AllocError>
-    requires named { (blank.config ≡ L.config) × (blank.tables ≡ L.tables) }
+    requires named { (blank.config ≡ L.config) × (blank.tables ≡ L.tables)
+        × (blank.ledger ≡ L.ledger) }
     requires users { AreUsers blank.seats }
     requires most { length blank.seats ≡ most }
     ensures { IfOk result (IsOver blank time most) }

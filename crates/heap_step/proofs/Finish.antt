@@ -3,11 +3,11 @@ use Rattle.std.proofs.Common.{◌≡◌, ℕ, zero, suc, ◌+◌, ◌-◌, ◌�
 use Rattle.std.specs.Prelude.{nat_lt, slice_get, option_map, option_and_then, IfSome, if◌then◌else◌}
 use Rattle.std.specs.Option.{option_map_or}
 use Rattle.std.specs.List.{filter_map, cons_option, enumerate_from}
-use Rattle.heap_class.proofs.Refused.{none_holds}
+use Rattle.heap_class.proofs.Refusals.{none_holds}
 use Rattle.heap_region.specs.Regions.{Object, UsedRegion, Region, Empty, InUse, used_part, used_at, object_at, in_used}
 use Rattle.heap_mark.specs.declared.Phase.{Phase}
 use Rattle.heap_mark.specs.declared.Phase.TheVariants.{Idle, Marking}
-use Rattle.heap_mark.specs.Marking.{is_marking, each_object, each_region, pending_regions, finish_refusal, finished_region, finished, unfinished_region, unfinished}
+use Rattle.heap_mark.specs.MarkSteps.{is_marking, each_object, each_region, pending_regions, finish_refusal, finished_region, finished, unfinished_region, unfinished}
 use Rattle.heap_world.specs.State.{HeapState}
 use Rattle.heap_world.specs.Legal.{IsLegal}
 use Rattle.heap_world.specs.Events.{after_finish}

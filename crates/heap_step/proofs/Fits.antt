@@ -4,17 +4,17 @@ use Rattle.std.specs.Prelude.{nat_lt, slice_get, slice_index, unwrap_or, is_none
 use Rattle.std.specs.Option.{option_map_or}
 use Rattle.std.proofs.lemmas.Bool.{eqb-false}
 use Rattle.std.proofs.lemmas.List.{length-set}
-use Rattle.heap_class.proofs.Refused.{none_holds}
+use Rattle.heap_class.proofs.Refusals.{none_holds}
 use Rattle.heap_class.specs.declared.ObjRef.{ObjRef}
 use Rattle.heap_class.specs.declared.ObjKind.{ObjKind}
 use Rattle.heap_class.specs.declared.ObjKind.TheVariants.{Instance, Array, Prim}
 use Rattle.heap_class.specs.Classes.{Class, instance_class, array_class, slots_of}
 use Rattle.heap_region.specs.Regions.{Object, UsedRegion, object_at, used_at, with_region, with_word}
 use Rattle.heap_region.specs.Pool.{new_place, fresh_region, released}
-use Rattle.heap_mark.specs.Marking.{MarkState, is_marking, logged, snap_refusal, mark_refusal, drained_once}
-use Rattle.heap_mark.proofs.Shading.{shading}
+use Rattle.heap_mark.specs.MarkSteps.{MarkState, is_marking, logged, snap_refusal, mark_refusal, drained_once}
+use Rattle.heap_mark.proofs.ShadedLists.{shading}
 use Rattle.heap_sweep.specs.Sweep.{sweep_refusal, is_emptied, dead_at, swept, swept_region}
-use Rattle.heap_sweep.proofs.Swept.{pending_is}
+use Rattle.heap_sweep.proofs.SweepUndo.{pending_is}
 use Rattle.heap_world.specs.State.{HeapState, pool_of, marking_of, with_marking, register, with_register, place_of, is_register, word_of}
 use Rattle.heap_world.specs.Legal.{IsLegal}
 use Rattle.heap_world.specs.Events.{new_object, after_new, after_class, after_load, after_move, after_store, after_put, with_slot, is_full, is_reference_slot, is_logged, new_refusal, new_array_refusal, new_prim_refusal, load_refusal, store_refusal, put_refusal, move_refusal, clear_refusal, after_snap, after_mark, after_drain, after_sweep}

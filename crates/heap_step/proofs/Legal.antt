@@ -1,7 +1,7 @@
 -- An accepted event keeps the heap legal.
 use Rattle.std.proofs.Common.{◌≡◌, ◌≢◌, ℕ, ◌≤◌, Bool, true, false, not, List, length, refl, sym, ap, ◌∙◌, Option, None, arith}
 use Rattle.std.specs.Prelude.{nat_lt}
-use Rattle.heap_class.proofs.Refused.{none_holds}
+use Rattle.heap_class.proofs.Refusals.{none_holds}
 use Rattle.heap_class.specs.declared.Field.{Field}
 use Rattle.heap_class.specs.declared.Kind.{Kind}
 use Rattle.heap_class.specs.declared.ObjKind.TheVariants.{Instance, Array, Prim}
@@ -13,7 +13,7 @@ use Rattle.heap_world.specs.Events.{is_full, new_refusal, new_array_refusal, new
 use Rattle.heap_world.proofs.Clauses.{HasClauses, clauses_of, legal_by}
 use Rattle.heap_world.proofs.Registers.{reached_live, move_legal, clear_legal, load_legal}
 use Rattle.heap_world.proofs.Marks.{snap_legal, mark_legal, drain_legal}
-use Rattle.heap_world.proofs.Written.{store_legal, put_legal}
+use Rattle.heap_world.proofs.WordWrites.{store_legal, put_legal}
 use Rattle.heap_world.proofs.Finish.{finish_legal}
 use Rattle.heap_world.proofs.Sweep.{sweep_legal, sweep_leaves_live}
 use Rattle.heap_world.proofs.New.{new_legal}

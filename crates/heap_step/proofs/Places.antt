@@ -11,15 +11,15 @@ use Rattle.heap_class.specs.declared.ObjKind.TheVariants.{Instance, Array, Prim}
 use Rattle.heap_class.specs.Classes.{Class, slot_kinds_of}
 use Rattle.heap_region.specs.Regions.{Object, id_of, object_at, object_of, ref_of, slot_kinds, with_word}
 use Rattle.heap_region.specs.Pool.{RegionPool, new_place, allocated}
-use Rattle.heap_region.proofs.Allocated.{IsNewCell, new_cell}
-use Rattle.heap_region.proofs.Found.{taken_there}
-use Rattle.heap_region.proofs.Looked.{place_found}
+use Rattle.heap_region.proofs.AllocatedRegions.{IsNewCell, new_cell}
+use Rattle.heap_region.proofs.FoundObjects.{taken_there}
+use Rattle.heap_region.proofs.ChangedLookups.{place_found}
 use Rattle.heap_region.proofs.Lookups.{object_there}
 use Rattle.heap_world.specs.State.{HeapState, pool_of, with_pool, with_register, place_of, slot_kind}
 use Rattle.heap_world.specs.Legal.{IsLegal, HasKind}
 use Rattle.heap_world.specs.Events.{new_object, after_new, lacks_slot}
 use Rattle.heap_world.proofs.Registers.{slot_there}
-use Rattle.heap_step.proofs.Created.{head_empty, pool_empty}
+use Rattle.heap_step.proofs.CreationUndo.{head_empty, pool_empty}
 
 -- ---- a new object
 

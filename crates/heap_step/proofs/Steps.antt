@@ -4,7 +4,7 @@ use Rattle.std.specs.Prelude.{IsSome, IfSome, slice_get, if◌then◌else◌}
 use Rattle.heap_class.specs.declared.ObjRef.{ObjRef}
 use Rattle.heap_region.specs.Regions.{Object, UsedRegion, object_at, with_word}
 use Rattle.heap_region.specs.Pool.{unallocated, restored}
-use Rattle.heap_mark.specs.Marking.{unsnapped, unmarked, undrained, unfinished}
+use Rattle.heap_mark.specs.MarkSteps.{unsnapped, unmarked, undrained, unfinished}
 use Rattle.heap_sweep.specs.Sweep.{unswept}
 use Rattle.heap_world.specs.State.{HeapState, pool_of, with_pool, marking_of, with_marking, with_register, is_register}
 use Rattle.heap_world.specs.Legal.{IsLegal}
@@ -13,7 +13,7 @@ use Rattle.heap_step.specs.declared.Event.{Event}
 use Rattle.heap_step.specs.declared.Undo.{Undo}
 use Rattle.heap_step.specs.Records.{undone, undo_record}
 use Rattle.heap_step.specs.Laws.{IsStep}
-use Rattle.heap_step.proofs.EachTakenBack.{undo_takes_back}
+use Rattle.heap_step.proofs.UndoOfEach.{undo_takes_back}
 use Rattle.heap_step.proofs.Fits.{HasSlot, IsHeld, IsSnapped, IsSwept, IsInhabited, Fits, record_fits}
 
 -- ---- what holds of the state that a step gave, where the record is `was`

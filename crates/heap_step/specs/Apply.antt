@@ -4,7 +4,7 @@ use Rattle.heap_class.specs.declared.Refusal.{Refusal}
 use Rattle.heap_class.specs.declared.ObjKind.TheVariants.{Instance, Array, Prim}
 use Rattle.heap_class.specs.Classes.{class_refusal, instance_class, array_class, slots_of}
 use Rattle.heap_region.specs.Pool.{is_fresh}
-use Rattle.heap_mark.specs.Marking.{snap_refusal, mark_refusal, drain_refusal, finish_refusal, dead_count}
+use Rattle.heap_mark.specs.MarkSteps.{snap_refusal, mark_refusal, drain_refusal, finish_refusal, dead_count}
 use Rattle.heap_sweep.specs.Sweep.{sweep_refusal, dead_at, is_emptied, copies_dead}
 use Rattle.heap_world.specs.State.{HeapState, pool_of, marking_of, register, with_register, word_of}
 use Rattle.heap_world.specs.Events.{after_class, after_new, new_refusal, new_array_refusal, new_prim_refusal, is_reference_slot, load_refusal, after_load, is_logged, store_refusal, after_store, put_refusal, after_put, move_refusal, after_move, clear_refusal, after_snap, after_mark, after_drain, after_finish, after_sweep}
@@ -15,7 +15,8 @@ use Rattle.heap_step.specs.declared.Answer.TheVariants.{Object, Null, Value, Don
 
 -- the refusal of an event, or None if it is accepted
 unfoldable pub refusal_of : Event → HeapState → Option Refusal
-refusal_of (Event.Class name sup fields) w = class_refusal w.classes (instance_class name sup fields)
+refusal_of (Event.Class name sup fields) w =
+    class_refusal w.classes (instance_class name sup fields)
 refusal_of (ArrayClass name) w = class_refusal w.classes (array_class name)
 refusal_of (New m r class) w = new_refusal m r class w
 refusal_of (NewArray m r class len) w = new_array_refusal m r class len w
@@ -60,7 +61,10 @@ answer_of (ArrayClass name) w v = Answer.Class (length w.classes)
 answer_of (New m r class) w v = Object (register v m r)
 answer_of (NewArray m r class len) w v = Object (register v m r)
 answer_of (NewPrim m r kind len) w v = Object (register v m r)
-answer_of (Load m to from slot) w v = let x = register w m from in if is_reference_slot w x slot then object_or_null (word_of w x slot) else Value (word_of w x slot)
+answer_of (Load m to from slot) w v =
+    let x = register w m from in
+    if is_reference_slot w x slot then object_or_null (word_of w x slot)
+    else Value (word_of w x slot)
 answer_of (Store m target slot source) w v = Done
 answer_of (Put m target slot value) w v = Done
 answer_of (Move m to from_m from) w v = Done
@@ -69,10 +73,12 @@ answer_of Snap w v = Pushed (length v.gray)
 answer_of Mark w v = Pushed (length v.gray + 1 - length w.gray)
 answer_of Drain w v = Pushed (length v.gray - length w.gray)
 answer_of Finish w v = Condemned (dead_count v.regions)
-answer_of (Sweep region) w v = Swept (length (dead_at region (pool_of w))) (is_emptied region (pool_of w))
+answer_of (Sweep region) w v =
+    Swept (length (dead_at region (pool_of w))) (is_emptied region (pool_of w))
 
 -- the refusal if there is one, else the new state and the answer
-unfoldable pub applied_unless : Option Refusal → Event → HeapState → Result (HeapState × Answer) Refusal
+unfoldable pub applied_unless : Option Refusal → Event → HeapState
+    → Result (HeapState × Answer) Refusal
 applied_unless None e w = let v = state_after e w in Ok (v, answer_of e w v)
 applied_unless (Some r) e w = Err r
 

@@ -25,19 +25,26 @@ IsTakenBack e w = IsLegal w → refusal_of e w ≡ None → undone (undo_record 
 
 -- while a cycle runs, the objects that are marked or sheltered in the first state are so in the second
 abbrev pub StaysFound : HeapState → HeapState → Type 0
-StaysFound w v = w.phase ≡ Marking → v.phase ≡ Marking → (x : ℕ) → (IsMarked w x ⊎ Sheltered w x) → (IsMarked v x ⊎ Sheltered v x)
+StaysFound w v =
+    w.phase ≡ Marking → v.phase ≡ Marking → (x : ℕ) → (IsMarked w x ⊎ Sheltered w x)
+    → (IsMarked v x ⊎ Sheltered v x)
 
 -- while a cycle runs, each object that the registers reach is marked or sheltered
 abbrev pub FindsReached : HeapState → Type 0
-FindsReached w = IsLegal w → w.phase ≡ Marking → (x : ℕ) → Reaches w x → IsMarked w x ⊎ Sheltered w x
+FindsReached w =
+    IsLegal w → w.phase ≡ Marking → (x : ℕ) → Reaches w x → IsMarked w x ⊎ Sheltered w x
 
 -- a sweep leaves each object that the registers reach, its kind and words too
 abbrev pub SweepSpares : ℕ → HeapState → Type 0
-SweepSpares region w = IsLegal w → refusal_of (Sweep region) w ≡ None → (x : ℕ) → Reaches w x → object_of (state_after (Sweep region) w).regions x ≡ object_of w.regions x
+SweepSpares region w =
+    IsLegal w → refusal_of (Sweep region) w ≡ None → (x : ℕ) → Reaches w x
+    → object_of (state_after (Sweep region) w).regions x ≡ object_of w.regions x
 
 -- after a finish each object that the registers reach is live
 abbrev pub FinishSpares : HeapState → Type 0
-FinishSpares w = IsLegal w → refusal_of Finish w ≡ None → let v = state_after Finish w in (x : ℕ) → Reaches v x → IsLive v x
+FinishSpares w =
+    IsLegal w → refusal_of Finish w ≡ None → let v = state_after Finish w in (x : ℕ) → Reaches v x
+    → IsLive v x
 
 -- the ids of objects are below 2^32, and so is each register, reference and entry of gray stack and log
 pub record IdsFit (w : HeapState) : Type 0 where
@@ -55,7 +62,8 @@ pub record IsStep (e : Event) (before after : HeapState) (left : Undo) : Type 0 
   pub recorded : left ≡ undo_record e before
 
 -- the event in the state `before` had this result: an answer and a record, with the state `after`, or a refusal
-pub record IsApplied (e : Event) (before after : HeapState) (result : Result (Answer × Undo) Refusal) : Type 0 where
+pub record IsApplied (e : Event) (before after : HeapState)
+    (result : Result (Answer × Undo) Refusal) : Type 0 where
   pub answered : IsAnswered (refusal_of e before) (event_may_grow e before) result
   pub state : IfOk result (λ p. after ≡ state_after e before)
   pub answer : IfOk result (λ p. p.0 ≡ answer_of e before after)

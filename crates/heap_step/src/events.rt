@@ -83,7 +83,7 @@ fn create(world: &mut World, m: u64, r: u64, class: ClassNo) -> Result<(Answer, 
     ensures { IsApplied (Event.New m r class) world.old world.new result }
 {
     let created = world.new_instance(m, r, class)?;
-    Ok(made(m as u8, r as u8, created))
+    Ok(record_new(m as u8, r as u8, created))
 }
 
 // Applies an event that makes an object array.
@@ -98,7 +98,7 @@ fn create_array(
     ensures { IsApplied (Event.NewArray m r class len) world.old world.new result }
 {
     let created = world.new_array(m, r, class, len)?;
-    Ok(made(m as u8, r as u8, created))
+    Ok(record_new(m as u8, r as u8, created))
 }
 
 // Applies an event that makes an array of values.
@@ -113,7 +113,7 @@ fn create_prim(
     ensures { IsApplied (Event.NewPrim m r kind len) world.old world.new result }
 {
     let created = world.new_prim(m, r, kind, len)?;
-    Ok(made(m as u8, r as u8, created))
+    Ok(record_new(m as u8, r as u8, created))
 }
 
 // Applies an event that reads a slot.
@@ -238,15 +238,17 @@ fn sweep(world: &mut World, region: u64) -> Result<(Answer, Undo), Refusal>
     let reclaimed = world.sweep(region)?;
     let answer = Answer::Swept {
         dead: reclaimed.dead(),
-        emptied: reclaimed.emptied(),
+        emptied: reclaimed.is_emptied(),
     };
     Ok((answer, sweep_record(reclaimed)))
 }
 
 // Returns the record of a sweep with this outcome.
 fn sweep_record(reclaimed: Reclaimed) -> Undo
-    ensures swept { (region : ℕ) (dead : List (ℕ × Object)) → reclaimed ≡ Swept region dead → result ≡ Undo.Sweep region dead }
-    ensures emptied { (region : ℕ) (storage : UsedRegion) (dead : ℕ) → reclaimed ≡ Emptied region storage dead → result ≡ Undo.Reclaim region storage }
+    ensures swept { (region : ℕ) (dead : List (ℕ × Object)) → reclaimed ≡ Swept region dead
+        → result ≡ Undo.Sweep region dead }
+    ensures emptied { (region : ℕ) (storage : UsedRegion) (dead : ℕ)
+        → reclaimed ≡ Emptied region storage dead → result ≡ Undo.Reclaim region storage }
 {
     match reclaimed {
         Reclaimed::Swept { region, dead } => Undo::Sweep { region, dead },
@@ -262,7 +264,8 @@ fn sweep_record(reclaimed: Reclaimed) -> Undo
 #[inline(always)]
 #[tactic(auto, unfolding(crate::specs::Apply::object_or_null))]
 fn slot_answer(loaded: Loaded) -> Answer
-    ensures { result ≡ (if loaded.reference then object_or_null loaded.word else Value loaded.word) }
+    ensures { result
+        ≡ (if loaded.reference then object_or_null loaded.word else Value loaded.word) }
 {
     if !loaded.reference {
         return Answer::Value(loaded.word);
@@ -274,7 +277,7 @@ fn slot_answer(loaded: Loaded) -> Answer
 }
 
 // Returns the answer and the record of a new object in register `r` of mutator `m`.
-fn made(m: u8, r: u8, created: Created) -> (Answer, Undo)
+fn record_new(m: u8, r: u8, created: Created) -> (Answer, Undo)
     ensures answer { result.0 ≡ Answer.Object created.id }
     ensures record { result.1 ≡ Undo.New created.at created.fresh m r created.old }
 {

@@ -195,7 +195,8 @@ pub fn undo_takes_back()
 /// States that while a cycle runs each accepted event of a legal heap keeps the marked and sheltered objects marked or
 /// sheltered.
 pub fn stays_found()
-    ensures { (e : Event) (w : HeapState) → IsLegal w → refusal_of e w ≡ None → StaysFound w (state_after e w) }
+    ensures { (e : Event) (w : HeapState) → IsLegal w → refusal_of e w ≡ None
+        → StaysFound w (state_after e w) }
 {}
 
 /// States that while a cycle runs in a legal heap each object that the registers reach is marked or sheltered.

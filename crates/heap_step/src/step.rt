@@ -19,11 +19,15 @@ use heap_world::World;
 /// sheltered objects stay marked or sheltered.
 #[inline(always)]
 pub fn apply(world: &mut World, event: &Event) -> Result<(Answer, Undo), Refusal>
-    ensures answered { IsAnswered (refusal_of event.now world.old) (event_may_grow event.now world.old) result }
+    ensures answered { IsAnswered (refusal_of event.now world.old)
+        (event_may_grow event.now world.old) result }
     ensures state { IfOk result (λ p. world.new ≡ state_after event.now world.old) }
     ensures done { IfOk result (λ p. applied event.now world.old ≡ Ok (world.new, p.0)) }
     ensures recorded { IfOk result (λ p. p.1 ≡ undo_record event.now world.old) }
-    ensures refused { IfErr result (λ e. (applied event.now world.old ≡ Err e) ⊎ ((refusal_of event.now world.old ≡ None) × (event_may_grow event.now world.old ≡ true) × (e ≡ NoMemory))) }
+    ensures refused { IfErr result
+        (λ e. (applied event.now world.old ≡ Err e)
+        ⊎ ((refusal_of event.now world.old ≡ None) × (event_may_grow event.now world.old ≡ true)
+        × (e ≡ NoMemory))) }
     ensures unchanged { OnErr result (world.new ≡ world.old) }
     ensures legal { IsLegal world.new }
     ensures found { OnOk result (StaysFound world.old world.new) }
@@ -36,7 +40,8 @@ pub fn apply(world: &mut World, event: &Event) -> Result<(Answer, Undo), Refusal
 #[tactic(auto, using(crate::proofs::Steps::taken_back))]
 pub fn undo(world: &mut World, left: Undo)
     requires { (e : Event) × (before : HeapState) × IsStep e before world.old left }
-    ensures { (e : Event) (before : HeapState) → IsStep e before world.old left → world.new ≡ before }
+    ensures { (e : Event) (before : HeapState) → IsStep e before world.old left
+        → world.new ≡ before }
 {
     match left {
         Undo::Put { at, slot, old } => world.unput(at, slot as u64, old),
@@ -46,7 +51,7 @@ pub fn undo(world: &mut World, left: Undo)
             old,
             logged,
         } => world.unstore(at, slot as u64, old, logged),
-        Undo::Reg { m, r, old } => world.unregister(m as u64, r as u64, old),
+        Undo::Reg { m, r, old } => world.restore_register(m as u64, r as u64, old),
         Undo::New {
             at,
             fresh,

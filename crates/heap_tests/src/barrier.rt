@@ -6,7 +6,7 @@ use heap_world::World;
 use std::alloc::{AllocError, Global};
 use std::test::Fail;
 
-/// Returns the eight steps after the class. They make the objects a and b.
+// Returns the eight steps after the class. They make the objects a and b.
 fn steps() -> [Event; 8] {
     [
         new(0),
@@ -21,8 +21,8 @@ fn steps() -> [Event; 8] {
     ]
 }
 
-/// What is to be seen after each step, and then after each is taken back: how long the log is, its first two entries, and what
-/// the slot `next` of a and of b holds.
+// The sight after each step, and then after each is undone: the length of the log, its first two entries, and the objects
+// that the slot `next` of a and of b holds.
 const THERE_AND_BACK: &str = "\
 0 - - 0 -\n\
 0 - - 0 -\n\
@@ -42,7 +42,7 @@ const THERE_AND_BACK: &str = "\
 0 - - - -\n\
 ";
 
-/// Returns the name of an object by its id.
+// Returns the name of an object by its id.
 fn name(id: Option<u64>) -> &'static str {
     match id {
         None => "-",
@@ -53,7 +53,7 @@ fn name(id: Option<u64>) -> &'static str {
     }
 }
 
-/// Returns what the slot `next` of the object in a cell of the first region holds.
+// Returns the id that the slot `next` of the object in a cell of the first region holds.
 fn next(world: &World, cell: u16) -> Option<u64> {
     let at = ObjRef { region: 0, cell };
     if !world.regions().has_object(at) {
@@ -62,7 +62,7 @@ fn next(world: &World, cell: u16) -> Option<u64> {
     world.regions().words(at).first().copied()
 }
 
-/// Returns what the heap's readers show.
+// Returns the text of what the heap's readers show.
 fn shown(alloc: Global, world: &World) -> Result<String, AllocError> {
     let log = world.log();
     let (first, second) = (name(log.first().copied()), name(log.get(1).copied()));
@@ -70,7 +70,7 @@ fn shown(alloc: Global, world: &World) -> Result<String, AllocError> {
     format!(in alloc; "{} {first} {second} {a} {b}\n", log.len())
 }
 
-/// Returns the sights as one text.
+// Returns the sights as one text.
 fn joined(alloc: Global, sights: &[String]) -> Result<String, AllocError> {
     let mut text = String::new(alloc);
     for sight in sights {
@@ -79,7 +79,7 @@ fn joined(alloc: Global, sights: &[String]) -> Result<String, AllocError> {
     Ok(text)
 }
 
-/// Returns what is seen of a heap on the way there and back.
+// Returns the sights of a heap on the way there and back.
 fn walked(alloc: Global, world: &mut World) -> Result<String, Fail> {
     let mut seen = Vec::new(alloc);
     there_and_back(
@@ -91,7 +91,7 @@ fn walked(alloc: Global, world: &mut World) -> Result<String, Fail> {
     Ok(joined(alloc, seen.as_slice())?)
 }
 
-/// Returns the same of a new heap.
+// Returns the sights of a new heap on the way there and back.
 fn seen(alloc: Global) -> Result<String, Fail> {
     let mut world = heap_after(alloc, settings(16, 2, 1024)?, &[])?;
     walked(alloc, &mut world)

@@ -3,7 +3,7 @@ use heap_class::{ClassNo, Classes, Field, Fields, IdSize, Kind, Name, Refusal};
 use std::alloc::{AllocError, Global};
 use std::test::Fail;
 
-// A class Point with the fields x and next, and Sub below it with a field x of its own.
+// Creates a class Point with the fields x and next, and Sub below it with a field x of its own.
 fn two_classes(alloc: Global) -> Result<Classes, Fail> {
     let mut classes = Classes::new(alloc);
     let base = define_point(alloc, &mut classes)?;
@@ -11,16 +11,19 @@ fn two_classes(alloc: Global) -> Result<Classes, Fail> {
     Ok(classes)
 }
 
+// Defines the class Point.
 fn define_point(alloc: Global, classes: &mut Classes) -> Result<ClassNo, Refusal> {
     let own = point_fields(alloc)?;
     define(classes, alloc, b"Point", None, &own)
 }
 
+// Defines the class Sub below another.
 fn define_sub(alloc: Global, classes: &mut Classes, base: ClassNo) -> Result<ClassNo, Refusal> {
     let own = one_field(alloc, b"x", Kind::Long)?;
     define(classes, alloc, b"Sub", Some(base), &own)
 }
 
+// Defines a class.
 fn define(
     classes: &mut Classes,
     alloc: Global,
@@ -32,6 +35,7 @@ fn define(
     classes.define(&name, sup, fields)
 }
 
+// Creates the fields of Point.
 fn point_fields(alloc: Global) -> Result<Fields, AllocError> {
     let mut own = Vec::new(alloc);
     own.push(field(alloc, b"x", Kind::Int)?)?;
@@ -39,12 +43,14 @@ fn point_fields(alloc: Global) -> Result<Fields, AllocError> {
     Ok(Fields::from_vec(own))
 }
 
+// Creates the list of one field.
 fn one_field(alloc: Global, name: &[u8], kind: Kind) -> Result<Fields, AllocError> {
     let mut own = Vec::new(alloc);
     own.push(field(alloc, name, kind)?)?;
     Ok(Fields::from_vec(own))
 }
 
+// Creates a field by its name and kind.
 fn field(alloc: Global, name: &[u8], kind: Kind) -> Result<Field, AllocError> {
     let name = Name::new(alloc, name)?;
     Ok(Field { name, kind })
@@ -70,7 +76,7 @@ fn kinds_have_their_words(rt: HostRuntime) {
     assert!(rt; Kind::Object.is_reference() && Kind::Char.holds(65535) && !Kind::Char.holds(65536));
 }
 
-/// Returns whether the second class has its own slot and then those of the first, and what else is told of it.
+// Returns whether the second class has its own slot and then those of the first, with the right size, super and name.
 fn second_has_slots(classes: &Classes) -> bool {
     if classes.len() != 2 {
         return false;
@@ -89,7 +95,7 @@ fn slots_are_own_then_inherited(rt: HostRuntime) -> Result<(), Fail> {
     Ok(())
 }
 
-/// Returns whether the second field of the first class and the name of the second class are told.
+// Returns whether the second field of the first class and the name of the second class have the right ids.
 fn names_have_ids(classes: &Classes) -> bool {
     if classes.len() != 2 || classes.field_count(0) != 2 {
         return false;
@@ -98,6 +104,7 @@ fn names_have_ids(classes: &Classes) -> bool {
     classes.field_kind(0, 1) == Kind::Object && ids == (3, 4)
 }
 
+// Returns whether there are four names, the last of which is that of the second class.
 fn four_names(classes: &Classes) -> bool {
     if classes.name_count() != 4 {
         return false;
@@ -105,7 +112,7 @@ fn four_names(classes: &Classes) -> bool {
     classes.name_at(3) == b"Sub".as_slice()
 }
 
-/// Returns how many names are left once the last of two classes is undefined.
+// Returns the number of names left once the last of two classes is undefined.
 fn names_left(classes: &mut Classes) -> usize {
     if classes.len() != 2 {
         return 0;
@@ -126,14 +133,15 @@ fn names_have_ids_by_first_use(rt: HostRuntime) -> Result<(), Fail> {
 #[test]
 fn a_name_is_copied(rt: HostRuntime) -> Result<(), Fail> {
     let name = Name::new(rt.alloc(), b"[LPoint;")?;
-    let copy = name.copied(rt.alloc())?;
+    let copy = name.duplicate(rt.alloc())?;
     assert!(rt; name == copy);
     Ok(())
 }
 
+// The letters of the names.
 const LETTERS: [u8; 26] = *b"abcdefghijklmnopqrstuvwxyz";
 
-// So many fields, each of another name of three letters, but that the last is named as the one at a place.
+// Creates `count` fields, each of another name of three letters, but that the last is named as the one at a place.
 fn many_fields(alloc: Global, count: usize, again: Option<usize>) -> Result<Fields, AllocError> {
     let mut own = Vec::new(alloc);
     for place in 0..count {
@@ -151,7 +159,7 @@ fn many_fields(alloc: Global, count: usize, again: Option<usize>) -> Result<Fiel
     Ok(Fields::from_vec(own))
 }
 
-/// Returns why a class of so many fields is refused, if it is.
+// Returns the refusal of a class of `count` fields, if it is refused.
 fn refusal(
     alloc: Global,
     count: usize,

@@ -8,25 +8,25 @@ use heap_world::World;
 use std::alloc::Global;
 use std::test::Fail;
 
-/// The id of the third object.
+// The id of the third object.
 const THIRD: u64 = 0x1000_0040;
 
-/// What is seen of a heap.
+// A sight of a heap.
 #[derive(Clone, Copy)]
 struct Sight {
     classes: u64,
     registers: [u64; 8],
-    /// What the slot `v` of the first node holds.
+    // The number that the slot `v` of the first node holds.
     value: u64,
     phase: Phase,
     gray: &'static [u64],
     log: &'static [u64],
     drained: u64,
-    /// The bit `mark` of the second node.
+    // The bit `mark` of the second node.
     mark: bool,
 }
 
-/// A heap with a node in register 0, and one that its next alone names.
+// A heap with a node in register 0, and one that its next alone names.
 const IDLE: Sight = Sight {
     classes: 1,
     registers: [FIRST, 0, 0, 0, 0, 0, 0, 0],
@@ -38,20 +38,20 @@ const IDLE: Sight = Sight {
     mark: false,
 };
 
-/// The same in a cycle.
+// The same in a cycle.
 const MARKING: Sight = Sight {
     phase: Phase::Marking,
     gray: &[FIRST],
     ..IDLE
 };
 
-/// The same once a store has overwritten the name of the second node.
+// The same once a store has overwritten the name of the second node.
 const LOGGED: Sight = Sight {
     log: &[SECOND],
     ..MARKING
 };
 
-/// Returns the heap of two nodes after these events.
+// Returns the heap of two nodes after these events.
 fn two_nodes(alloc: Global, events: &[Event]) -> Result<World, Fail> {
     let nodes = [new(0), new(1), store(0, 1), Event::Clear { m: 0, r: 1 }];
     let mut world = heap_after(alloc, settings(1, 1, 1)?, &nodes)?;
@@ -59,7 +59,7 @@ fn two_nodes(alloc: Global, events: &[Event]) -> Result<World, Fail> {
     Ok(world)
 }
 
-/// Returns what the slot `v` of the first node holds.
+// Returns the number that the slot `v` of the first node holds.
 fn value(world: &World) -> Option<u64> {
     let at = ObjRef { region: 0, cell: 0 };
     if !world.regions().has_object(at) {
@@ -68,13 +68,13 @@ fn value(world: &World) -> Option<u64> {
     world.regions().words(at).get(1).copied()
 }
 
-/// Returns whether the objects are as in a sight.
+// Returns whether the objects are as in a sight.
 fn has_objects(world: &World, sight: &Sight) -> bool {
     let second = bits(world.regions(), ObjRef { region: 0, cell: 1 });
     value(world) == Some(sight.value) && second == Some((true, sight.mark))
 }
 
-/// Returns whether the marker is as in a sight.
+// Returns whether the marker is as in a sight.
 fn has_marker(world: &World, sight: &Sight) -> bool {
     world.phase() == sight.phase
         && world.gray() == sight.gray
@@ -82,7 +82,7 @@ fn has_marker(world: &World, sight: &Sight) -> bool {
         && world.drained() == sight.drained
 }
 
-/// Returns whether a heap shows a sight.
+// Returns whether a heap shows a sight.
 fn shows(world: &World, sight: &Sight) -> bool {
     world.classes().len() == sight.classes
         && world.registers() == sight.registers.as_slice()
@@ -90,8 +90,8 @@ fn shows(world: &World, sight: &Sight) -> bool {
         && has_marker(world, sight)
 }
 
-/// Returns what an event answers that is then taken back, what its record weighs, and whether the heap shows the sight after
-/// it.
+// Returns the answer of an event that is then undone, the weight of its record, and whether the heap shows the sight after
+// it.
 fn undone(world: &mut World, event: &Event, then: &Sight) -> Result<(Answer, u64, bool), Refusal> {
     let _phase = world.phase();
     let (answer, left) = apply(world, event)?;
@@ -101,7 +101,7 @@ fn undone(world: &mut World, event: &Event, then: &Sight) -> Result<(Answer, u64
     Ok((answer, weight, seen))
 }
 
-/// An event's answer, the weight of its record, and what is seen before it and after it.
+// An event's answer, the weight of its record, and the sights before it and after it.
 #[derive(Clone, Copy)]
 struct Outcome {
     answer: Answer,
@@ -110,7 +110,7 @@ struct Outcome {
     then: Sight,
 }
 
-/// Returns whether an event has an outcome, is taken back, and then has the same outcome.
+// Returns whether an event has an outcome, is undone, and then has the same outcome.
 fn has_outcome(world: &mut World, event: &Event, outcome: &Outcome) -> Result<bool, Refusal> {
     let told = (outcome.answer, outcome.weight, true);
     Ok(
@@ -121,7 +121,7 @@ fn has_outcome(world: &mut World, event: &Event, outcome: &Outcome) -> Result<bo
     )
 }
 
-/// Returns whether an event has an outcome on the heap of two nodes after other events.
+// Returns whether an event has an outcome on the heap of two nodes after other events.
 fn leads_to(
     alloc: Global,
     events: &[Event],

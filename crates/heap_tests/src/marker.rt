@@ -7,20 +7,20 @@ use std::alloc::Global;
 use std::process::Abort;
 use std::test::Fail;
 
-/// Makes an array without elements.
+// Makes an array without elements.
 fn made(regions: &mut Regions, mark: bool) -> Result<ObjRef, Refusal> {
     let (at, _) = regions.alloc(ObjKind::Prim(Kind::Int), 0, mark)?;
     Ok(at)
 }
 
-/// A marker that has begun a cycle without roots.
+// Creates a marker that has begun a cycle without roots.
 fn marking(alloc: Global, regions: &mut Regions) -> Result<Marker, Refusal> {
     let mut marker = Marker::new(alloc, regions.count() * 256)?;
     marker.snap(regions, &[])?;
     Ok(marker)
 }
 
-/// What is seen of the regions and the marker: the bits of two objects, whether their region waits, and the phase.
+// A sight of the regions and the marker: the bits of two objects, whether their region waits, and the phase.
 type Sight = (
     Option<(bool, bool)>,
     Option<(bool, bool)>,
@@ -28,6 +28,7 @@ type Sight = (
     Phase,
 );
 
+// Returns the sight of two objects.
 fn seen(regions: &Regions, marker: &Marker, kept: ObjRef, lost: ObjRef) -> Sight {
     (
         bits(regions, kept),
@@ -37,7 +38,7 @@ fn seen(regions: &Regions, marker: &Marker, kept: ObjRef, lost: ObjRef) -> Sight
     )
 }
 
-/// Returns how many objects a finish condemns, and what is seen after it and once it is taken back.
+// Returns the number of objects that a finish condemns, and the sights after it and once it is undone.
 fn finished(
     regions: &mut Regions,
     marker: &mut Marker,
@@ -50,6 +51,7 @@ fn finished(
     Ok((finished.condemned, then, seen(regions, marker, kept, lost)))
 }
 
+// Asserts the condemned objects and both sights of a finish.
 fn a_finish_condemns_what_is_unmarked_and_is_taken_back_in(
     rt: &impl Abort,
     alloc: Global,

@@ -1,4 +1,4 @@
-//! What a sweep takes out of a region, and how it comes back.
+//! The objects that a sweep takes out of a region, and how it is undone.
 use heap_class::{Kind, ObjKind, ObjRef, Refusal};
 use heap_region::Regions;
 use heap_sweep::{Reclaimed, sweep, unsweep};
@@ -6,7 +6,7 @@ use std::alloc::Global;
 use std::process::Abort;
 use std::test::Fail;
 
-/// Makes an array of two ints.
+// Makes an array of two ints.
 fn make(regions: &mut Regions, live: bool) -> Result<(), Refusal> {
     let (at, _) = regions.alloc(ObjKind::Prim(Kind::Int), 2, false)?;
     if regions.has_object(at) {
@@ -15,7 +15,7 @@ fn make(regions: &mut Regions, live: bool) -> Result<(), Refusal> {
     Ok(())
 }
 
-/// Two regions, the first with an object in each of the cells 0 to 2, and yet to be swept.
+// Creates two regions, the first with an object in each of the cells 0 to 2, and yet to be swept.
 fn three(alloc: Global, live: [bool; 3]) -> Result<Regions, Refusal> {
     let mut regions = Regions::new(alloc, 2)?;
     for bit in live {
@@ -27,7 +27,7 @@ fn three(alloc: Global, live: [bool; 3]) -> Result<Regions, Refusal> {
     Ok(regions)
 }
 
-/// The cell that heads the free list of region 0.
+// Returns the cell that heads the free list of region 0.
 fn first_free(regions: &Regions) -> Option<u64> {
     if regions.pending(0).is_some() {
         regions.free_list(0).next()
@@ -36,7 +36,7 @@ fn first_free(regions: &Regions) -> Option<u64> {
     }
 }
 
-/// What the objects weigh that a sweep took out of a region that keeps others.
+// Returns the weight of the objects that a sweep took out of a region that keeps others.
 fn weight(reclaimed: &Reclaimed) -> Option<u64> {
     match reclaimed {
         Reclaimed::Swept { dead, .. } => Some(dead.weight()),
@@ -44,7 +44,7 @@ fn weight(reclaimed: &Reclaimed) -> Option<u64> {
     }
 }
 
-/// Whether a sweep is refused since there is nothing to sweep.
+// Returns whether a sweep is refused since there is nothing to sweep.
 fn is_refused(regions: &mut Regions, region: u64) -> bool {
     match sweep(regions, region) {
         Err(refusal) => refusal == Refusal::NothingToSweep { region },
@@ -52,10 +52,11 @@ fn is_refused(regions: &mut Regions, region: u64) -> bool {
     }
 }
 
+// Asserts that a sweep takes two dead objects out, and that they are back once it is undone.
 fn dead_objects_go_and_come_back_in(rt: &impl Abort, regions: &mut Regions) -> Result<(), Fail> {
     let _count = regions.count();
     let reclaimed = sweep(regions, 0)?;
-    let told = (reclaimed.dead(), reclaimed.emptied(), weight(&reclaimed));
+    let told = (reclaimed.dead(), reclaimed.is_emptied(), weight(&reclaimed));
     let swept = (first_free(regions), regions.pending(0));
     unsweep(regions, reclaimed);
     assert_eq!(rt; told, (2, false, Some(6)));
@@ -74,13 +75,14 @@ fn dead_objects_go_and_come_back(rt: HostRuntime) -> Result<(), Fail> {
     dead_objects_go_and_come_back_in(&rt, &mut regions)
 }
 
+// Asserts that a sweep moves a region out, and that it is back once it is undone.
 fn a_region_without_live_objects_goes_and_comes_back_in(
     rt: &impl Abort,
     regions: &mut Regions,
 ) -> Result<(), Fail> {
     let _count = regions.count();
     let reclaimed = sweep(regions, 0)?;
-    let told = (reclaimed.dead(), reclaimed.emptied());
+    let told = (reclaimed.dead(), reclaimed.is_emptied());
     let swept = regions.pool().next();
     unsweep(regions, reclaimed);
     assert_eq!(rt; (told, swept), ((3, true), Some(0)));
@@ -97,12 +99,13 @@ fn a_region_without_live_objects_goes_and_comes_back(rt: HostRuntime) -> Result<
     a_region_without_live_objects_goes_and_comes_back_in(&rt, &mut regions)
 }
 
+// Asserts that a sweep takes nothing out of a region, and that a second one is refused.
 fn a_region_without_dead_objects_is_swept_once_in(
     rt: &impl Abort,
     regions: &mut Regions,
 ) -> Result<(), Fail> {
     let reclaimed = sweep(regions, 0)?;
-    assert_eq!(rt; (reclaimed.dead(), reclaimed.emptied()), (0, false));
+    assert_eq!(rt; (reclaimed.dead(), reclaimed.is_emptied()), (0, false));
     assert_eq!(rt; first_free(regions), Some(3));
     assert!(rt; is_refused(regions, 0));
     Ok(())

@@ -7,27 +7,29 @@ use std::alloc::{AllocError, Global};
 use std::process::Abort;
 use std::test::Fail;
 
-/// Creates a machine that keeps two steps, after a class and an instance of it.
+// Creates a machine that keeps two steps, after a class and an instance of it.
 fn with_node(alloc: Global) -> Result<Machine, Fail> {
     machine_after(alloc, settings(1, 1, 2)?, &[new(0)])
 }
 
-/// What a machine answers to an action.
+// Returns a machine's reply to an action.
 fn replied(machine: &mut Machine, action: Action) -> Reply {
     machine.act(&action)
 }
 
-/// What a machine answers to a step.
+// Returns a machine's answer to a step.
 fn answered(machine: &mut Machine, event: Event) -> Result<Answer, Refusal> {
     machine.step(&event)
 }
 
+// Asserts that a third step is taken, and two are retained.
 fn a_step_is_kept_in(rt: &impl Abort, machine: &mut Machine) -> Result<(), Fail> {
     assert_eq!(rt; answered(machine, new(0))?, Answer::Object(SECOND));
     assert_eq!(rt; (machine.place(), machine.retained()), (3, 2));
     Ok(())
 }
 
+// Asserts that a rewind of three steps is refused.
 fn too_many_steps_are_refused_in(rt: &impl Abort, machine: &mut Machine) {
     assert_eq!(rt;
         machine.rewind(3),
@@ -38,12 +40,14 @@ fn too_many_steps_are_refused_in(rt: &impl Abort, machine: &mut Machine) {
     );
 }
 
+// Asserts that a rewind of two steps leads to place 1, with empty registers.
 fn kept_steps_are_undone_in(rt: &impl Abort, machine: &mut Machine) {
     assert_eq!(rt; machine.rewind(2), Ok(1));
     assert_eq!(rt; machine.place(), 1);
     assert_eq!(rt; machine.world().registers(), [0; 8].as_slice());
 }
 
+// Asserts all of these in turn.
 fn steps_are_undone_in(rt: &impl Abort, machine: &mut Machine) -> Result<(), Fail> {
     a_step_is_kept_in(rt, machine)?;
     too_many_steps_are_refused_in(rt, machine);
@@ -57,7 +61,7 @@ fn steps_are_undone(rt: HostRuntime) -> Result<(), Fail> {
     steps_are_undone_in(&rt, &mut machine)
 }
 
-/// Whether a machine answers an action with a new object at the second address.
+// Returns whether a machine answers an action with a new object at the second address.
 fn makes_second(machine: &mut Machine) -> bool {
     match replied(machine, Action::Step(new(0))) {
         Reply::Answered(answer) => answer == Answer::Object(SECOND),
@@ -65,7 +69,7 @@ fn makes_second(machine: &mut Machine) -> bool {
     }
 }
 
-/// Whether a machine answers a rewind of one step with a place.
+// Returns whether a machine answers a rewind of one step with a place.
 fn goes_back_to(machine: &mut Machine, place: u64) -> bool {
     match replied(machine, Action::Rewind(1)) {
         Reply::Place(to) => to == place,
@@ -73,7 +77,7 @@ fn goes_back_to(machine: &mut Machine, place: u64) -> bool {
     }
 }
 
-/// Whether a machine answers an opening with a pin and its place.
+// Returns whether a machine answers an opening with a pin and its place.
 fn pins(machine: &mut Machine, asked: Option<u64>, number: u64, place: u64) -> bool {
     match replied(machine, Action::OpenPin(asked)) {
         Reply::Pinned { pin, at } => pin == number && at == place,
@@ -81,7 +85,7 @@ fn pins(machine: &mut Machine, asked: Option<u64>, number: u64, place: u64) -> b
     }
 }
 
-/// Whether a machine refuses an action so.
+// Returns whether a machine refuses an action with this refusal.
 fn refuses(machine: &mut Machine, action: Action, expected: Refusal) -> bool {
     match replied(machine, action) {
         Reply::Refused(refusal) => refusal == expected,
@@ -89,7 +93,7 @@ fn refuses(machine: &mut Machine, action: Action, expected: Refusal) -> bool {
     }
 }
 
-/// Whether a machine answers with the first piece of a dump.
+// Returns whether a machine answers with the first piece of a dump.
 fn begins(machine: &mut Machine, pin: u64) -> bool {
     match replied(machine, Action::NextPiece { pin, time: 0 }) {
         Reply::Part(piece) => {
@@ -99,11 +103,12 @@ fn begins(machine: &mut Machine, pin: u64) -> bool {
     }
 }
 
-/// Whether a machine closes a pin.
+// Returns whether a machine closes a pin.
 fn closes(machine: &mut Machine, pin: u64) -> bool {
     matches!(replied(machine, Action::ClosePin(pin)), Reply::Closed)
 }
 
+// Asserts the replies to each sort of action.
 fn actions_are_done_in(rt: &impl Abort, machine: &mut Machine) {
     assert!(rt; makes_second(machine));
     assert!(rt; pins(machine, None, 1, 3));
@@ -127,7 +132,7 @@ fn actions_are_done(rt: HostRuntime) -> Result<(), Fail> {
 
 // ---- lists of actions
 
-/// Steps, a refused rewind, and what a dump asks for.
+// Steps, a refused rewind, and what a dump asks for.
 fn listed(alloc: Global) -> Result<Vec<Action>, AllocError> {
     let mut actions = Vec::new(alloc);
     actions.push(Action::OpenPin(None))?;
@@ -138,7 +143,7 @@ fn listed(alloc: Global) -> Result<Vec<Action>, AllocError> {
     Ok(actions)
 }
 
-/// Whether these are the replies to those actions.
+// Returns whether these are the replies to those actions.
 fn are_replies(replies: &[Reply]) -> bool {
     match replies {
         [

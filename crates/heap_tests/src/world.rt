@@ -1,4 +1,4 @@
-//! The calls of a heap, each where it succeeds.
+//! The calls of a heap, each of which succeeds.
 use heap_class::{ClassNo, Kind, Name, ObjRef};
 use heap_mark::Phase;
 use heap_scripts::{FIRST, SECOND, node_fields, small_world};
@@ -7,28 +7,28 @@ use std::alloc::Global;
 use std::process::Abort;
 use std::test::Fail;
 
-/// The id of the third object.
+// The id of the third object.
 const THIRD: u64 = 0x1000_0040;
 
-/// Returns the place of an object of the first region.
+// Returns the place of an object of the first region.
 fn at(cell: u16) -> ObjRef {
     ObjRef { region: 0, cell }
 }
 
-/// Defines a class of nodes.
+// Defines a class of nodes.
 fn define_node(alloc: Global, world: &mut World) -> Result<ClassNo, Fail> {
     let name = Name::new(alloc, b"Node")?;
     let fields = node_fields(alloc)?;
     Ok(world.define_class(&name, None, &fields)?)
 }
 
-/// Defines a class of arrays.
+// Defines a class of arrays.
 fn define_array(alloc: Global, world: &mut World) -> Result<ClassNo, Fail> {
     let name = Name::new(alloc, b"[Lq;")?;
     Ok(world.define_array_class(&name)?)
 }
 
-/// Returns whether a heap of one region has no class, no object and no cycle.
+// Returns whether a heap of one region has no class, no object and no cycle.
 fn is_empty(world: &World) -> bool {
     world.classes().len() == 0
         && world.regions().count() == 1
@@ -36,7 +36,7 @@ fn is_empty(world: &World) -> bool {
         && is_idle(world)
 }
 
-/// Returns whether no cycle runs.
+// Returns whether no cycle runs.
 fn is_idle(world: &World) -> bool {
     world.phase() == Phase::Idle
         && world.gray().is_empty()
@@ -44,13 +44,14 @@ fn is_idle(world: &World) -> bool {
         && world.drained() == 0
 }
 
+// Asserts that both classes are defined.
 fn classes_are_defined(rt: &impl Abort, alloc: Global, world: &mut World) -> Result<(), Fail> {
     assert_eq!(rt; define_node(alloc, world)?, 0);
     assert_eq!(rt; define_array(alloc, world)?, 1);
     Ok(())
 }
 
-/// Makes a node in register 3, longs in register 0 and an array in register 4.
+// Makes a node in register 3, longs in register 0 and an array in register 4.
 fn objects_are_made(rt: &impl Abort, world: &mut World) -> Result<(), Fail> {
     let node = Created {
         id: FIRST,
@@ -64,7 +65,7 @@ fn objects_are_made(rt: &impl Abort, world: &mut World) -> Result<(), Fail> {
     Ok(())
 }
 
-/// Writes the longs, and reads them to no register.
+// Writes the longs, and reads them to no register.
 fn values_are_written_and_read(rt: &impl Abort, world: &mut World) -> Result<(), Fail> {
     assert_eq!(rt; world.put(0, 0, 1, 5)?, Overwritten { at: at(1), old: 0 });
     let value = Loaded {
@@ -76,7 +77,7 @@ fn values_are_written_and_read(rt: &impl Abort, world: &mut World) -> Result<(),
     Ok(())
 }
 
-/// Writes the node to the array, and reads it to register 5.
+// Writes the node to the array, and reads it to register 5.
 fn references_are_written_and_read(rt: &impl Abort, world: &mut World) -> Result<(), Fail> {
     let stored = Replaced {
         at: at(2),
@@ -93,7 +94,7 @@ fn references_are_written_and_read(rt: &impl Abort, world: &mut World) -> Result
     Ok(())
 }
 
-/// Copies the longs to register 7, and makes register 0 null.
+// Copies the longs to register 7, and makes register 0 null.
 fn registers_are_copied_and_cleared(rt: &impl Abort, world: &mut World) -> Result<(), Fail> {
     assert_eq!(rt; world.move_register(0, 7, 0, 0)?, 0);
     assert_eq!(rt; world.clear_register(0, 0)?, SECOND);
@@ -106,6 +107,7 @@ fn registers_are_copied_and_cleared(rt: &impl Abort, world: &mut World) -> Resul
     Ok(())
 }
 
+// Asserts that a new heap is empty, and that each call succeeds.
 fn a_heap_opens_empty_and_its_calls_succeed_in(
     rt: &impl Abort,
     alloc: Global,
@@ -136,7 +138,7 @@ fn settings_have_limits(rt: HostRuntime) -> Result<(), Fail> {
     Ok(())
 }
 
-/// Makes an array of two longs, loses it, and ends a cycle. Returns how many objects that condemns.
+// Makes an array of two longs, loses it, and ends a cycle. Returns the number of objects that it condemns.
 fn condemned(world: &mut World) -> Result<u64, Fail> {
     world.new_prim(0, 0, Kind::Long, 2)?;
     world.clear_register(0, 0)?;
@@ -145,12 +147,13 @@ fn condemned(world: &mut World) -> Result<u64, Fail> {
     Ok(finished.condemned)
 }
 
-/// Returns how many objects a sweep takes out of the first region, and whether it leaves none.
+// Returns the number of objects that a sweep takes out of the first region, and whether it leaves none.
 fn swept(world: &mut World) -> Result<(u64, bool), Fail> {
     let reclaimed = world.sweep(0)?;
-    Ok((reclaimed.dead(), reclaimed.emptied()))
+    Ok((reclaimed.dead(), reclaimed.is_emptied()))
 }
 
+// Asserts that a cycle condemns an array and that a sweep empties its region.
 fn a_region_without_live_objects_is_reclaimed_in(
     rt: &impl Abort,
     world: &mut World,

@@ -8,22 +8,22 @@ use Rattle.heap_trail.specs.declared.Action.TheVariants.{Step, Rewind, OpenPin, 
 use Rattle.heap_trail.specs.declared.Reply.{Reply}
 use Rattle.heap_trail.specs.declared.Reply.TheVariants.{Refused}
 use Rattle.heap_trail.specs.Trail.{Trail}
-use Rattle.heap_trail.specs.Machine.{Machine, Mark, Fine, Refusing, Losing, acted, acted_under, is_dump_action}
+use Rattle.heap_trail.specs.Machine.{Machine, Allocation, Granted, Denied, LosesPins, acted, acted_under, is_dump_action}
 use Rattle.heap_trail.proofs.Alone.{Core, core, bared, alike, acted_core}
 
 -- what an action that is answered, or refused for another reason than memory, leaves and replies
-pub acts_alike : (ids : IdSize) (m m' : Machine) (a : Action) (mark : Mark) (r : Reply) → is_dump_action a ≡ false → acted_under m (a, mark) ≡ (m', r) → r ≢ Refused NoMemory
+pub acts_alike : (ids : IdSize) (m m' : Machine) (a : Action) (mark : Allocation) (r : Reply) → is_dump_action a ≡ false → acted_under m (a, mark) ≡ (m', r) → r ≢ Refused NoMemory
     → (m'.trail ≡ (acted (bared ids m) a).0.trail) × (r ≡ (acted (bared ids m) a).1) × (m'.keep ≡ m.keep) × (m'.ids ≡ m.ids)
 unfolding acted_under
-acts_alike ids m m' a Fine r deed is ne =
+acts_alike ids m m' a Granted r deed is ne =
     let t = alike ids m a deed in (
       sym (ap (λ (x : Machine × Reply). x.0.trail) is) ∙ t.0,
       sym (ap (λ (x : Machine × Reply). x.1) is) ∙ t.1,
       sym (ap (λ (x : Machine × Reply). x.0.keep) is) ∙ t.2,
       sym (ap (λ (x : Machine × Reply). x.0.ids) is) ∙ t.3,
     )
-acts_alike ids m m' a Refusing r deed is ne = absurd (ne (sym (ap (λ (x : Machine × Reply). x.1) is)))
-acts_alike ids m m' a (Losing pins) r deed is ne =
+acts_alike ids m m' a Denied r deed is ne = absurd (ne (sym (ap (λ (x : Machine × Reply). x.1) is)))
+acts_alike ids m m' a (LosesPins pins) r deed is ne =
     let t = alike ids m a deed in (
       sym (ap (λ (x : Machine × Reply). x.0.trail) is) ∙ t.0,
       sym (ap (λ (x : Machine × Reply). x.1) is) ∙ t.1,
@@ -48,14 +48,14 @@ dump_leaves m (NextPiece pin time) dump = of_core m (acted m (NextPiece pin time
 dump_leaves m (ClosePin pin) dump = of_core m (acted m (ClosePin pin)).0 (acted_core m (ClosePin pin))
 
 -- a dumper's action leaves the trail, how many records are kept, and the size of ids
-pub dumps_leave : (m m' : Machine) (a : Action) (mark : Mark) (r : Reply) → is_dump_action a ≡ true → acted_under m (a, mark) ≡ (m', r) → Leaves m m'
+pub dumps_leave : (m m' : Machine) (a : Action) (mark : Allocation) (r : Reply) → is_dump_action a ≡ true → acted_under m (a, mark) ≡ (m', r) → Leaves m m'
 unfolding acted_under
-dumps_leave m m' a Fine r dump is =
+dumps_leave m m' a Granted r dump is =
     let t = dump_leaves m a dump in
     (sym (ap (λ (x : Machine × Reply). x.0.trail) is) ∙ t.0, sym (ap (λ (x : Machine × Reply). x.0.keep) is) ∙ t.1, sym (ap (λ (x : Machine × Reply). x.0.ids) is) ∙ t.2)
-dumps_leave m m' a Refusing r dump is =
+dumps_leave m m' a Denied r dump is =
     (sym (ap (λ (x : Machine × Reply). x.0.trail) is), sym (ap (λ (x : Machine × Reply). x.0.keep) is), sym (ap (λ (x : Machine × Reply). x.0.ids) is))
-dumps_leave m m' a (Losing pins) r dump is =
+dumps_leave m m' a (LosesPins pins) r dump is =
     let t = dump_leaves m a dump in
     (sym (ap (λ (x : Machine × Reply). x.0.trail) is) ∙ t.0, sym (ap (λ (x : Machine × Reply). x.0.keep) is) ∙ t.1, sym (ap (λ (x : Machine × Reply). x.0.ids) is) ∙ t.2)
 

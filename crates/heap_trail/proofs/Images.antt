@@ -4,7 +4,7 @@ use Rattle.std.specs.Prelude.{nat_le, nat_lt, not, unwrap_or, find, filter, opti
 use Rattle.std.specs.List.{list_any}
 use mathlib.Core.Logic.{inl, inr}
 use Rattle.std.proofs.lemmas.Bool.{eqb-true}
-use Rattle.heap_region.proofs.Looked.{same_or_not}
+use Rattle.heap_region.proofs.ChangedLookups.{same_or_not}
 use Rattle.heap_class.specs.declared.LostCause.{LostCause}
 use Rattle.heap_class.specs.declared.LostCause.TheVariants.{Rewound, Memory}
 use Rattle.heap_class.specs.declared.Refusal.{Refusal}
@@ -18,7 +18,7 @@ use Rattle.heap_trail.specs.declared.Action.TheVariants.{Step, Rewind, OpenPin, 
 use Rattle.heap_trail.specs.Limits.{last_place}
 use Rattle.heap_trail.specs.Trail.{rewind_refusal}
 use Rattle.heap_trail.specs.Pins.{Pins, PinState, Kept, Gone, pin_at, open_refusal, with_pin, without_pin, if_kept, each_kept, with_piece_given, after_rewind, with_lost}
-use Rattle.heap_trail.specs.Machine.{Machine, Mark, Fine, Refusing, Losing, after_result, after_step_at, unless, after_rewind_by, after_open, counted, after_piece, after_close, acted, acted_under}
+use Rattle.heap_trail.specs.Machine.{Machine, Allocation, Granted, Denied, LosesPins, after_result, after_step_at, unless, after_rewind_by, after_open, counted, after_piece, after_close, acted, acted_under}
 use Rattle.heap_trail.specs.Laws.{KeepsImage}
 
 -- two kept states of a pin have the same place and image
@@ -232,8 +232,8 @@ lost_before : (pins : List ℕ) (n : ℕ) (ps : Pins) (q : ℕ) (j : Image) (h :
 unfolding pin_at with_lost each_kept
 lost_before pins n ps = list_before pins n ps.open_pins
 
-pub keeps_image : (m : Machine) (a : Action × Mark) (pin : ℕ) → KeepsImage m a pin
+pub keeps_image : (m : Machine) (a : Action × Allocation) (pin : ℕ) → KeepsImage m a pin
 unfolding acted_under
-keeps_image m (a, Fine) pin = acted_same m a pin
-keeps_image m (a, Refusing) pin = same_self _ _ refl
-keeps_image m (a, Losing pins) pin = then_same _ _ _ (acted_same m a pin) (lost_same pins pin (acted m a).0.pins) (lost_before pins pin (acted m a).0.pins)
+keeps_image m (a, Granted) pin = acted_same m a pin
+keeps_image m (a, Denied) pin = same_self _ _ refl
+keeps_image m (a, LosesPins pins) pin = then_same _ _ _ (acted_same m a pin) (lost_same pins pin (acted m a).0.pins) (lost_before pins pin (acted m a).0.pins)

@@ -12,11 +12,11 @@ use Rattle.heap_trail.specs.declared.Reply.{Reply}
 use Rattle.heap_trail.specs.declared.Reply.TheVariants.{Answered, Place, Refused}
 use Rattle.heap_trail.specs.Trail.{Trail, retained, rewound, state_ago, rewind_refusal}
 use Rattle.heap_trail.specs.Pins.{Pins, PinState, Kept, Gone, if_kept, each_kept, after_rewind, with_lost}
-use Rattle.heap_trail.specs.Machine.{Machine, Fine, Refusing, Losing, acted, acted_under, unless, after_rewind_by}
+use Rattle.heap_trail.specs.Machine.{Machine, Granted, Denied, LosesPins, acted, acted_under, unless, after_rewind_by}
 use Rattle.heap_trail.specs.Headline.{IsRewound, IsBackAt, UndoesStep, RewindsRetained, RewindsInParts}
 use Rattle.heap_trail.proofs.Alone.{alike}
 use Rattle.heap_trail.proofs.Back.{leads_back}
-use Rattle.heap_trail.proofs.Rewinding.{rewound_none, rewound_more, rewind_done}
+use Rattle.heap_trail.proofs.RewoundMachines.{rewound_none, rewound_more, rewind_done}
 
 -- ---- one step
 
@@ -51,12 +51,12 @@ restored_losing m n pins r =
 
 pub undoes_step : (m : Machine) → UndoesStep m
 unfolding acted_under
-undoes_step m e Fine n a some done = restored m e n a some done
-undoes_step m e Refusing n a some done = absurd (clash (ap (λ (p : Machine × Reply). p.1) done))
+undoes_step m e Granted n a some done = restored m e n a some done
+undoes_step m e Denied n a some done = absurd (clash (ap (λ (p : Machine × Reply). p.1) done))
   where
     clash : {r : Refusal} → Refused r ≡ Answered a → ⊥
     clash e = cc
-undoes_step m e (Losing pins) n a some done =
+undoes_step m e (LosesPins pins) n a some done =
     let r = acted m (Step e) in
     let answered : r.1 ≡ Answered a = ap (λ (p : Machine × Reply). p.1) done in
     let is : record r.0 { pins = with_lost pins r.0.pins } ≡ n = ap (λ (p : Machine × Reply). p.0) done in

@@ -1,16 +1,16 @@
 -- The laws of lists of actions, together.
 use Rattle.std.proofs.Common.{List}
 use Rattle.heap_trail.specs.declared.Action.{Action}
-use Rattle.heap_trail.specs.Machine.{Machine, Mark, machine_after}
+use Rattle.heap_trail.specs.Machine.{Machine, Allocation, machine_after}
 use Rattle.heap_trail.specs.Headline.{Headline}
 use Rattle.heap_trail.proofs.Rewinds.{undoes_step, rewinds_retained, rewinds_in_parts}
-use Rattle.heap_trail.proofs.Retracing.{rewinds_over}
-use Rattle.heap_trail.proofs.PinOpened.{opens_pin}
-use Rattle.heap_trail.proofs.Undisturbed.{goes_as_without_dumps}
-use Rattle.heap_trail.proofs.TextGiven.{gives_text}
-use Rattle.heap_trail.proofs.PinsKept.{keeps_pin}
+use Rattle.heap_trail.proofs.RewindsOver.{rewinds_over}
+use Rattle.heap_trail.proofs.OpenedPins.{opens_pin}
+use Rattle.heap_trail.proofs.WithoutDumps.{goes_as_without_dumps}
+use Rattle.heap_trail.proofs.GivenText.{gives_text}
+use Rattle.heap_trail.proofs.KeptPins.{keeps_pin}
 
-pub headline : (m : Machine) (actions : List (Action × Mark)) → Headline m actions
+pub headline : (m : Machine) (actions : List (Action × Allocation)) → Headline m actions
 headline m actions = record {
   undone = undoes_step (machine_after m actions);
   rewound = (rewinds_retained (machine_after m actions), rewinds_in_parts (machine_after m actions));

@@ -13,7 +13,7 @@ use Rattle.heap_region.specs.Regions.{Object, id_of, object_of, slot_kinds, live
 use Rattle.heap_region.proofs.References.{slot_is_reference}
 use Rattle.heap_world.specs.State.{HeapState}
 use Rattle.heap_world.specs.Legal.{IsLegal}
-use Rattle.heap_world.proofs.Named.{object_named}
+use Rattle.heap_world.proofs.NamedObjects.{object_named}
 use Rattle.heap_world.proofs.Registers.{names_of}
 use Rattle.heap_step.proofs.Ids.{ids_fit}
 use Rattle.hprof_text.specs.Image.{DumpedObject}
@@ -21,8 +21,8 @@ use Rattle.hprof_text.specs.Fits.{FitsBytes, FitsId, WordsFit, ShowsWhole}
 use Rattle.hprof_text.proofs.Fits.{fits_id, numbers_fit}
 use Rattle.heap_trail.specs.Laws.{DumpIsWhole}
 use Rattle.heap_pins.specs.Images.{dumped_objects, image_of}
-use Rattle.heap_pins.proofs.Counted.{Stands, live_stand}
-use Rattle.heap_pins.proofs.Dumped.{dumpable}
+use Rattle.heap_pins.proofs.LiveCounts.{Stands, live_stand}
+use Rattle.heap_pins.proofs.DumpLimits.{dumpable}
 
 -- ---- words
 

@@ -28,49 +28,59 @@ use Rattle.heap_trail.specs.Machine.{Machine, opening_machine, acted}
 abbrev pub Script : Type 0
 Script = List (Action × Reply)
 
--- the machine after the script's actions, each of which finds memory
+-- the machine after the script's actions, none of which fails for lack of memory
 unfoldable pub machine_at_end : Machine → Script → Machine
 machine_at_end m [] = m
 machine_at_end m (l ∷ ls) = machine_at_end (acted m l.0).0 ls
 
--- what the machine replies to them
+-- the machine's replies to the actions
 unfoldable pub replies_to : Machine → Script → List Reply
 replies_to m [] = []
 replies_to m (l ∷ ls) = let r = acted m l.0 in r.1 ∷ replies_to r.0 ls
 
--- a machine of so many regions that keeps so many records, with the registers of two mutators
+-- a machine with this number of regions that keeps this number of records, with the registers of two mutators
 abbrev pub fresh_machine : ℕ → ℕ → Machine
 fresh_machine regions keep = opening_machine Eight regions 2 keep
 
 -- such a machine replies as the script says
-abbrev pub Replies : ℕ → ℕ → Script → Type 0
-Replies regions keep script = replies_to (fresh_machine regions keep) script ≡ map (λ l. l.1) script
+abbrev pub RepliesAs : ℕ → ℕ → Script → Type 0
+RepliesAs regions keep script =
+    replies_to (fresh_machine regions keep) script ≡ map (λ l. l.1) script
 
--- the state that the script leads to from such a machine
+-- the state to which the script leads from such a machine
 abbrev pub end_state : ℕ → ℕ → Script → HeapState
 end_state regions keep script = (machine_at_end (fresh_machine regions keep) script).trail.current
 
--- a line of a script: an event and its answer, or why it is refused
+-- a line of a script: an event and its answer
 abbrev pub does : Event → Answer → Action × Reply
 does e a = (Step e, Answered a)
 
+-- a line of a script: an event and the refusal that it meets
 abbrev pub refuses : Event → Refusal → Action × Reply
 refuses e r = (Step e, Refused r)
 
+-- a line of a script: a rewind of n steps and the place that it leads to
 abbrev pub rewinds : ℕ → ℕ → Action × Reply
 rewinds n place = (Rewind n, Place place)
 
 -- ---- two classes
 
+-- the fields of a point: two numbers of 32 bits
 abbrev pub point_fields : List Field
-point_fields = record { name = codes "x"; kind = Int } ∷ record { name = codes "y"; kind = Int } ∷ []
+point_fields =
+    record { name = codes "x"; kind = Int } ∷ record { name = codes "y"; kind = Int } ∷ []
 
+-- the event that defines the class Point
 abbrev pub point : Event
 point = Event.Class (codes "Point") None point_fields
 
+-- the fields of a node: a reference and a number of 64 bits
 abbrev pub node_fields : List Field
-node_fields = record { name = codes "next"; kind = Kind.Object } ∷ record { name = codes "v"; kind = Long } ∷ []
+node_fields =
+    record { name = codes "next"; kind = Kind.Object } ∷ record { name = codes "v"; kind = Long }
+    ∷ []
 
+-- the event that defines the class Node
 abbrev pub node : Event
 node = Event.Class (codes "Node") None node_fields
 
@@ -78,15 +88,15 @@ node = Event.Class (codes "Node") None node_fields
 
 -- one region holds one array of 1,024 elements
 abbrev pub LimitsOfOneRegion : Type 0
-LimitsOfOneRegion = Replies 1 1024
+LimitsOfOneRegion = RepliesAs 1 1024
     (does (NewPrim 0 0 Long 1024) (Made 0x10000000)
     ∷ refuses (NewPrim 0 1 Long 1025) TooLarge
     ∷ refuses (NewPrim 0 1 Long 1024) HeapFull
     ∷ [])
 
--- an object goes to the lowest region with a free cell of its size, and opens a region only where there is none
+-- an object goes to the lowest region with a free cell of its size, and opens a region only if there is none
 abbrev pub LowestRegionFirst : Type 0
-LowestRegionFirst = Replies 2 1024
+LowestRegionFirst = RepliesAs 2 1024
     (does node (Answer.Class 0)
     ∷ does (NewPrim 0 0 Long 5) (Made 0x10000000)
     ∷ does (New 0 1 0) (Made 0x10002000)
@@ -98,7 +108,7 @@ LowestRegionFirst = Replies 2 1024
 
 -- a rewind gives cells back
 abbrev pub RewindGivesBackCells : Type 0
-RewindGivesBackCells = Replies 16 1024
+RewindGivesBackCells = RepliesAs 16 1024
     (does point (Answer.Class 0)
     ∷ does (New 0 0 0) (Made 0x10000000)
     ∷ does (New 0 1 0) (Made 0x10000020)
@@ -108,8 +118,9 @@ RewindGivesBackCells = Replies 16 1024
 
 -- ---- rewinds and what is kept
 
+-- a machine that keeps one record rewinds one step, and no second one
 abbrev pub KeepOne : Type 0
-KeepOne = Replies 16 1
+KeepOne = RepliesAs 16 1
     (does point (Answer.Class 0)
     ∷ does (New 0 0 0) (Made 0x10000000)
     ∷ does (New 0 1 0) (Made 0x10000020)
@@ -119,8 +130,9 @@ KeepOne = Replies 16 1
     ∷ rewinds 0 3
     ∷ [])
 
+-- a rewind of more steps than are retained is refused
 abbrev pub RewindTooFar : Type 0
-RewindTooFar = Replies 16 3
+RewindTooFar = RepliesAs 16 3
     (does (Clear 0 0) Done
     ∷ does (Clear 0 0) Done
     ∷ does (Clear 0 0) Done
@@ -131,9 +143,13 @@ RewindTooFar = Replies 16 3
 
 -- ---- refusals
 
+-- events of classes and of mutators, each with the refusal that its error meets
 abbrev pub RefusalsOfMutators : Type 0
-RefusalsOfMutators = Replies 16 1024
-    (refuses (Event.Class (codes "A") None (record { name = codes "x"; kind = Int } ∷ record { name = codes "x"; kind = Int } ∷ [])) DuplicateName
+RefusalsOfMutators = RepliesAs 16 1024
+    (refuses
+    (Event.Class (codes "A") None
+    (record { name = codes "x"; kind = Int } ∷ record { name = codes "x"; kind = Int } ∷ []))
+    DuplicateName
     ∷ refuses (Event.Class (codes "a+b") None []) BadName
     ∷ refuses (Event.Class (codes "A") (Some 3) []) NoClass
     ∷ does point (Answer.Class 0)
@@ -150,7 +166,7 @@ RefusalsOfMutators = Replies 16 1024
 
 -- a finish is refused while the log is undrained, and while a region is yet to be swept
 abbrev pub FinishRefusedUntilReady : Type 0
-FinishRefusedUntilReady = Replies 16 1024
+FinishRefusedUntilReady = RepliesAs 16 1024
     (does node (Answer.Class 0)
     ∷ does (New 0 0 0) (Made 0x10000000)
     ∷ does (New 0 1 0) (Made 0x10000020)
@@ -185,8 +201,9 @@ two_nodes_snapped =
     ∷ does Snap (Pushed 1)
     ∷ []
 
+-- a drain that is undone can be done again, and marks and drains have refusals of their own
 abbrev pub MarkAndDrainRewound : Type 0
-MarkAndDrainRewound = Replies 16 1024
+MarkAndDrainRewound = RepliesAs 16 1024
     (two_nodes_snapped
     ++ does (Store 0 0 0 2) Done
     ∷ does Mark (Pushed 0)
@@ -198,8 +215,9 @@ MarkAndDrainRewound = Replies 16 1024
     ∷ refuses Snap AlreadyMarking
     ∷ [])
 
+-- a mark that is undone makes its object gray again
 abbrev pub MarkUndonePushesBack : Type 0
-MarkUndonePushesBack = Replies 16 1024
+MarkUndonePushesBack = RepliesAs 16 1024
     (two_nodes_snapped
     ++ does Mark (Pushed 1)
     ∷ rewinds 1 6
@@ -209,7 +227,7 @@ MarkUndonePushesBack = Replies 16 1024
 
 -- the cells of dead objects are used again, the highest first
 abbrev pub SweepOrderAndReuse : Type 0
-SweepOrderAndReuse = Replies 16 1024
+SweepOrderAndReuse = RepliesAs 16 1024
     (does point (Answer.Class 0)
     ∷ does (New 0 0 0) (Made 0x10000000)
     ∷ does (New 0 1 0) (Made 0x10000020)
@@ -230,6 +248,7 @@ SweepOrderAndReuse = Replies 16 1024
 
 -- ---- a swept region is used again, and all of it rewound
 
+-- a cycle condemns a node, whose region is swept and used for an array; then three steps are rewound
 abbrev pub swept_and_rewound : Script
 swept_and_rewound =
     does node (Answer.Class 0)
@@ -250,8 +269,22 @@ abbrev pub node_condemned : HeapState
 node_condemned = record {
   classes = instance_class (codes "Node") None node_fields ∷ [];
   regions =
-      InUse (record { cell_size = 4; pending = true; cells = Some (record { kind = Instance 0; words = 0 ∷ 0 ∷ []; live = false; mark = false }) ∷ replicate 255 None; free = range_with_len 1 255 })
-      ∷ InUse (record { cell_size = 16; pending = true; cells = Some (record { kind = Prim Long; words = replicate 5 0; live = true; mark = false }) ∷ replicate 63 None; free = range_with_len 1 63 })
+      InUse
+      (record {
+        cell_size = 4;
+        pending = true;
+        cells = Some (record { kind = Instance 0; words = 0 ∷ 0 ∷ []; live = false; mark = false })
+            ∷ replicate 255 None;
+        free = range_with_len 1 255;
+      })
+      ∷ InUse
+      (record {
+        cell_size = 16;
+        pending = true;
+        cells = Some (record { kind = Prim Long; words = replicate 5 0; live = true; mark = false })
+            ∷ replicate 63 None;
+        free = range_with_len 1 63;
+      })
       ∷ [];
   pool = [];
   registers = 0 ∷ 0x10002000 ∷ replicate 14 0;
@@ -261,8 +294,10 @@ node_condemned = record {
   phase = Idle;
 }
 
+-- the rewind of a sweep restores the condemned node in its region
 abbrev pub SweepAndReuseRewound : Type 0
-SweepAndReuseRewound = Replies 2 1024 swept_and_rewound × (end_state 2 1024 swept_and_rewound ≡ node_condemned)
+SweepAndReuseRewound =
+    RepliesAs 2 1024 swept_and_rewound × (end_state 2 1024 swept_and_rewound ≡ node_condemned)
 
 -- ---- the barrier
 
@@ -283,20 +318,24 @@ stores_logged =
     ∷ rewinds 2 3
     ∷ []
 
--- the log after the first n lines, and the words of an object then
+-- the log after the first n lines
 abbrev pub log_after : ℕ → List ℕ
 log_after n = (end_state 16 1024 (take n stores_logged)).log
 
+-- the words of an object after the first n lines
 abbrev pub words_after : ℕ → ℕ → Option (List ℕ)
-words_after n x = option_map (λ o. o.words) (object_of (end_state 16 1024 (take n stores_logged)).regions x)
+words_after n x =
+    option_map (λ o. o.words) (object_of (end_state 16 1024 (take n stores_logged)).regions x)
 
+-- the log has the old value of each store that overwrote a reference, and a rewind takes it out again
 pub record BarrierLogsOldValues : Type 0 where
-  pub replies : Replies 16 1024 stores_logged
+  pub replies : RepliesAs 16 1024 stores_logged
   pub null_overwritten : log_after 4 ≡ []
   pub null_again : log_after 5 ≡ []
   pub itself_overwritten : log_after 6 ≡ 0x10000000 ∷ []
   pub second_null : log_after 8 ≡ 0x10000000 ∷ []
   pub second_overwritten : log_after 9 ≡ 0x10000000 ∷ 0x10000000 ∷ []
-  pub rewound_one : (log_after 10 ≡ 0x10000000 ∷ []) × (words_after 10 0x10000020 ≡ Some (0x10000000 ∷ 0 ∷ []))
+  pub rewound_one : (log_after 10 ≡ 0x10000000 ∷ [])
+      × (words_after 10 0x10000020 ≡ Some (0x10000000 ∷ 0 ∷ []))
   pub rewound_three : (log_after 11 ≡ []) × (words_after 11 0x10000000 ≡ Some (0x10000000 ∷ 0 ∷ []))
   pub rewound_two : (log_after 12 ≡ []) × (words_after 12 0x10000000 ≡ Some (0 ∷ 0 ∷ []))

@@ -1,7 +1,7 @@
 pub mod Limits
 pub mod Trail
 pub mod Pins
-pub mod Slots
+pub mod OpenPins
 pub mod Machine
 pub mod Laws
 pub mod Records
@@ -9,3 +9,4 @@ pub mod Past
 pub mod Examples
 pub mod Opened
 pub mod Headline
+pub mod Views

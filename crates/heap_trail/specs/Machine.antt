@@ -17,24 +17,32 @@ use Rattle.heap_trail.specs.Limits.{last_place}
 use Rattle.heap_trail.specs.Trail.{Trail, opening_trail, stepped, rewind_refusal, rewound}
 use Rattle.heap_trail.specs.Pins.{Pins, PinState, Kept, Gone, no_pins, pin_at, open_refusal, with_pin, without_pin, with_piece_given, after_rewind, with_lost}
 
--- how many steps can be undone at most and the size of ids in dumps, both fixed for a machine; the trail and the pins
+-- the largest number of steps that can be undone and the size of ids in dumps, both fixed for a machine; the trail and the
+-- pins
 pub record Machine : Type 0 where
   pub keep : ℕ
   pub ids : IdSize
   pub trail : Trail
   pub pins : Pins
 
+-- a machine at place 0, with no object and no pin
 unfoldable pub opening_machine : IdSize → ℕ → ℕ → ℕ → Machine
-opening_machine ids regions mutators keep = record { keep = keep; ids = ids; trail = opening_trail (opening_state regions mutators); pins = no_pins }
+opening_machine ids regions mutators keep =
+    record {
+      keep = keep;
+      ids = ids;
+      trail = opening_trail (opening_state regions mutators);
+      pins = no_pins;
+    }
 
 -- ---- one action
 
--- after an event's result
+-- the machine after an event's result, and the reply
 unfoldable pub after_result : Machine → Result (HeapState × Answer) Refusal → Machine × Reply
 after_result m (Ok r) = (record m { trail = stepped m.keep r.0 m.trail }, Answered r.1)
 after_result m (Err r) = (m, Refused r)
 
--- a step; at the last place it is refused
+-- the machine after a step, and the reply; the step is refused if it is at the last place
 unfoldable pub after_step_at : Bool → Event → Machine → Machine × Reply
 after_step_at true e m = (m, Refused ChronicleFull)
 after_step_at false e m = after_result m (applied e m.trail.current)
@@ -44,9 +52,13 @@ unfoldable pub unless : Option Refusal → (Machine → Machine × Reply) → Ma
 unless None f m = f m
 unless (Some r) f m = (m, Refused r)
 
+-- the machine after a rewind of n retained steps, and the reply
 unfoldable pub after_rewind_by : ℕ → Machine → Machine × Reply
-after_rewind_by n m = let t = rewound n m.trail in (record m { trail = t; pins = after_rewind t.place m.pins }, Place t.place)
+after_rewind_by n m =
+    let t = rewound n m.trail in
+    (record m { trail = t; pins = after_rewind t.place m.pins }, Place t.place)
 
+-- the machine after a pin is opened on the state at this place, and the reply
 unfoldable pub after_open : ℕ → Machine → Machine × Reply
 after_open at m = (record m { pins = with_pin at m.trail m.pins }, Pinned m.pins.next at)
 
@@ -59,43 +71,54 @@ counted false pin m = m
 unfoldable pub after_piece : ℕ → ℕ → Machine → Option PinState → Machine × Reply
 after_piece pin time m None = (m, Refused NoPin)
 after_piece pin time m (Some (Gone cause)) = (m, Refused (Lost cause))
-after_piece pin time m (Some (Kept place image given)) = (counted (nat_lt given (length (pieces_of m.ids image time))) pin m, Part (piece_of m.ids image time given))
+after_piece pin time m (Some (Kept place image given)) = (
+  counted (nat_lt given (length (pieces_of m.ids image time))) pin m,
+  Part (piece_of m.ids image time given),
+)
 
+-- the machine after the pin is closed, and the reply
 unfoldable pub after_close : ℕ → Machine → Option PinState → Machine × Reply
 after_close pin m None = (m, Refused NoPin)
 after_close pin m (Some s) = (record m { pins = without_pin pin m.pins }, Closed)
 
--- the machine after an action that finds memory, and the reply
+-- the machine after an action that gets its memory, and the reply
 unfoldable pub acted : Machine → Action → Machine × Reply
 acted m (Step e) = after_step_at (nat_le last_place m.trail.place) e m
 acted m (Rewind n) = unless (rewind_refusal n m.trail) (after_rewind_by n) m
-acted m (OpenPin at) = let place = unwrap_or at m.trail.place in unless (open_refusal place m.trail m.pins) (after_open place) m
+acted m (OpenPin at) =
+    let place = unwrap_or at m.trail.place in
+    unless (open_refusal place m.trail m.pins) (after_open place) m
 acted m (NextPiece pin time) = after_piece pin time m (pin_at pin m.pins)
 acted m (ClosePin pin) = after_close pin m (pin_at pin m.pins)
 
--- ---- marks: where memory was wanting
+-- ---- marks: which actions failed to get memory
 
--- none was; the action found none and was refused; or the step lost the named pins
-pub data Mark : Type 0 where
-  Fine : Mark
-  Refusing : Mark
-  Losing : List ℕ → Mark
+-- an action got its memory; it got none and was refused; or the step lost the named pins for lack of memory
+pub data Allocation : Type 0 where
+  Granted : Allocation
+  Denied : Allocation
+  LosesPins : List ℕ → Allocation
 
-unfoldable pub acted_under : Machine → Action × Mark → Machine × Reply
-acted_under m (a, Fine) = acted m a
-acted_under m (a, Refusing) = (m, Refused NoMemory)
-acted_under m (a, Losing pins) = let r = acted m a in (record r.0 { pins = with_lost pins r.0.pins }, r.1)
+-- the machine after an action under a mark, and the reply
+unfoldable pub acted_under : Machine → Action × Allocation → Machine × Reply
+acted_under m (a, Granted) = acted m a
+acted_under m (a, Denied) = (m, Refused NoMemory)
+acted_under m (a, LosesPins pins) =
+    let r = acted m a in (record r.0 { pins = with_lost pins r.0.pins }, r.1)
 
-unfoldable pub machine_after : Machine → List (Action × Mark) → Machine
+-- the machine after all actions of a list
+unfoldable pub machine_after : Machine → List (Action × Allocation) → Machine
 machine_after m [] = m
 machine_after m (a ∷ as') = machine_after (acted_under m a).0 as'
 
-unfoldable pub replies_of : Machine → List (Action × Mark) → List Reply
+-- the replies to the actions of a list, in order
+unfoldable pub replies_of : Machine → List (Action × Allocation) → List Reply
 replies_of m [] = []
 replies_of m (a ∷ as') = let r = acted_under m a in r.1 ∷ replies_of r.0 as'
 
 -- ---- which marks may stand beside an action
 
+-- whether the action may allocate, and so be refused NoMemory
 unfoldable pub may_grow : Action → Machine → Bool
 may_grow (Step e) m = event_may_grow e m.trail.current
 may_grow (Rewind n) m = false
@@ -103,40 +126,46 @@ may_grow (OpenPin at) m = true
 may_grow (NextPiece pin time) m = true
 may_grow (ClosePin pin) m = false
 
--- the action may overwrite a word of a pin's
+-- whether the action may overwrite a word that a pin shows
 unfoldable pub may_overwrite : Action → Bool
 may_overwrite (Step (Put m target slot value)) = true
 may_overwrite (Step (Store m target slot source)) = true
 may_overwrite (Step (Sweep region)) = true
 may_overwrite a = false
 
+-- whether the reply is no refusal
 unfoldable pub is_accepted : Reply → Bool
 is_accepted (Refused r) = false
 is_accepted r = true
 
-abbrev pub MayStand : Machine → Action × Mark → Type 0
-MayStand m (a, Fine) = ⊤
-MayStand m (a, Refusing) = (may_grow a m ≡ true) × (is_accepted (acted m a).1 ≡ true)
-MayStand m (a, Losing pins) = (may_overwrite a ≡ true) × (is_accepted (acted m a).1 ≡ true)
+-- the mark may stand beside the action: a refusal only beside one that may allocate and isn't refused anyway, and a loss of
+-- pins only beside one that may overwrite
+abbrev pub MayStand : Machine → Action × Allocation → Type 0
+MayStand m (a, Granted) = ⊤
+MayStand m (a, Denied) = (may_grow a m ≡ true) × (is_accepted (acted m a).1 ≡ true)
+MayStand m (a, LosesPins pins) = (may_overwrite a ≡ true) × (is_accepted (acted m a).1 ≡ true)
 
--- each mark may stand where it does
-abbrev pub AreMarks : Machine → List (Action × Mark) → Type 0
-AreMarks m [] = ⊤
-AreMarks m (a ∷ as') = MayStand m a × AreMarks (acted_under m a).0 as'
+-- each mark may stand beside its action
+abbrev pub AreAllocations : Machine → List (Action × Allocation) → Type 0
+AreAllocations m [] = ⊤
+AreAllocations m (a ∷ as') = MayStand m a × AreAllocations (acted_under m a).0 as'
 
 -- ---- what a call may answer
 
 -- the action may leave n and give this reply, under a mark that may stand beside it
 abbrev pub MayReply : Machine → Action → Machine → Reply → Type 0
-MayReply m a n r = (mark : Mark) × MayStand m (a, mark) × (acted_under m (a, mark) ≡ (n, r))
+MayReply m a n r = (mark : Allocation) × MayStand m (a, mark) × (acted_under m (a, mark) ≡ (n, r))
 
--- the action may leave n and be refused so, also for want of memory
+-- the action may leave n and be refused with r, also for lack of memory
 abbrev pub MayFail : Machine → Action → Machine → Refusal → Type 0
-MayFail m a n r = (acted m a ≡ (n, Refused r)) ⊎ (MayStand m (a, Refusing) × (r ≡ NoMemory))
+MayFail m a n r = (acted m a ≡ (n, Refused r)) ⊎ (MayStand m (a, Denied) × (r ≡ NoMemory))
 
 -- under some marks these actions lead from m to n, with these replies
 abbrev pub MayDrive : Machine → List Action → List Reply → Machine → Type 0
-MayDrive m actions replies n = (marked : List (Action × Mark)) × (map (λ a. a.0) marked ≡ actions) × AreMarks m marked × (replies ≡ replies_of m marked) × (n ≡ machine_after m marked)
+MayDrive m actions replies n =
+    (marked : List (Action × Allocation)) × (map (λ a. a.0) marked ≡ actions)
+    × AreAllocations m marked
+    × (replies ≡ replies_of m marked) × (n ≡ machine_after m marked)
 
 -- a piece has at most 2 ^ 24 bytes
 abbrev pub IsSmall : Reply → Type 0
@@ -149,15 +178,18 @@ IsSmall (Refused r) = ⊤
 
 -- ---- without the dumper
 
+-- whether the action opens, reads or closes a pin
 abbrev pub is_dump_action : Action → Bool
 is_dump_action (Step e) = false
 is_dump_action (Rewind n) = false
 is_dump_action a = true
 
-unfoldable pub without_dumps : List (Action × Mark) → List (Action × Mark)
+-- the actions of the list that aren't dump actions
+unfoldable pub without_dumps : List (Action × Allocation) → List (Action × Allocation)
 without_dumps actions = filter (λ a. not (is_dump_action a.0)) actions
 
 -- ---- the list with no marks
 
-unfoldable pub unmarked_list : List Action → List (Action × Mark)
-unmarked_list actions = map (λ a. (a, Fine)) actions
+-- the actions, each with the mark that it got its memory
+unfoldable pub all_granted : List Action → List (Action × Allocation)
+all_granted actions = map (λ a. (a, Granted)) actions

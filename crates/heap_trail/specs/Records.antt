@@ -1,4 +1,4 @@
--- The past that the records tell, and when they tell it rightly.
+-- The past to which the records lead back, and what makes the records right.
 use Rattle.std.specs.Prelude.{◌≡◌, ℕ, ◌+◌, ◌≤◌, List, [], ◌∷◌, length, take}
 use Rattle.circular_buffer.specs.Buffer.{Buffer, buffer}
 use Rattle.heap_world.specs.Limits.{keep_limit}
@@ -13,8 +13,8 @@ use Rattle.heap_trail.specs.Limits.{last_place}
 use Rattle.heap_trail.specs.Machine.{Machine}
 use Rattle.heap_trail.specs.Limits.{pin_limit, last_pin}
 use Rattle.heap_trail.specs.Pins.{Pins}
-use Rattle.heap_trail.specs.declared.held.Slot.{Slot}
-use Rattle.heap_trail.specs.Slots.{pins_of, AreHeld}
+use Rattle.heap_trail.specs.declared.held.NumberedPin.{NumberedPin}
+use Rattle.heap_trail.specs.OpenPins.{pins_of, AreHeld}
 
 -- the states before this one, the newest first: each is the one after it, with its record undone
 abbrev pub past_of : HeapState → List Undo → List HeapState
@@ -26,12 +26,12 @@ abbrev pub AreRecorded : HeapState → List Undo → Type 0
 AreRecorded w [] = Unit {0}
 AreRecorded w (r ∷ rs) = ((e : Event) × IsStep e (undone r w) w r) × AreRecorded (undone r w) rs
 
--- a ring with one more record in front, and without the oldest where it was full
+-- a ring with one more record in front, and without the oldest if it was full
 abbrev pub with_record : Undo → Buffer Undo → Buffer Undo
 with_record left ring = buffer (take ring.capacity (left ∷ ring.items)) ring.capacity
 
 -- what holds of a machine's fields: the ring has room for `keep` records
-pub record IsKept (w : HeapState) (ring : Buffer Undo) (place keep : ℕ) : Type 0 where
+pub record IsRetaining (w : HeapState) (ring : Buffer Undo) (place keep : ℕ) : Type 0 where
   pub legal : IsLegal w
   pub recorded : AreRecorded w ring.items
   pub few : length ring.items ≤ keep
@@ -42,17 +42,28 @@ pub record IsKept (w : HeapState) (ring : Buffer Undo) (place keep : ℕ) : Type
 
 -- the machine that has this size of ids, state, ring, place and number of records to keep, and these pins
 abbrev pub machine_with : IdSize → HeapState → Buffer Undo → ℕ → ℕ → Pins → Machine
-machine_with ids w ring place keep pins = record { keep = keep; ids = ids; trail = record { place = place; current = w; past = past_of w ring.items }; pins = pins }
+machine_with ids w ring place keep pins =
+    record {
+      keep = keep;
+      ids = ids;
+      trail = record { place = place; current = w; past = past_of w ring.items };
+      pins = pins;
+    }
 
-abbrev pub machine_of : IdSize → HeapState → Buffer Undo → ℕ → ℕ → ℕ → List Slot → Machine
-machine_of ids w ring place keep next slots = machine_with ids w ring place keep (pins_of w next slots)
+-- the machine whose pins are those of these slots, with this number for the next
+abbrev pub machine_of : IdSize → HeapState → Buffer Undo → ℕ → ℕ → ℕ → List NumberedPin → Machine
+machine_of ids w ring place keep next slots =
+    machine_with ids w ring place keep (pins_of w next slots)
 
--- what holds of the pins: there is room for as many as there may be
-pub record IsPinning (ids : IdSize) (w : HeapState) (ring : Buffer Undo) (place next : ℕ) (slots : List Slot) : Type 0 where
+-- what holds of the pins: there are at most `pin_limit`, and their numbers are within the limit
+pub record IsPinning (ids : IdSize) (w : HeapState) (ring : Buffer Undo) (place next : ℕ)
+    (slots : List NumberedPin) : Type 0 where
   pub held : AreHeld ids (w ∷ past_of w ring.items) place next slots
   pub few : length slots ≤ pin_limit
   pub numbered : (1 ≤ next) × (next ≤ last_pin + 1)
 
--- what holds of a machine's fields; the third says how many pins there is room for
-abbrev pub IsWhole : IdSize → HeapState → Buffer Undo → ℕ → ℕ → ℕ → List Slot → ℕ → Type 0
-IsWhole ids w ring place keep next slots room = IsKept w ring place keep × IsPinning ids w ring place next slots × (pin_limit ≤ room)
+-- what holds of a machine's fields; `room` is the number of pins for which there is room
+abbrev pub IsWholeMachine : IdSize → HeapState → Buffer Undo → ℕ → ℕ → ℕ → List NumberedPin → ℕ
+    → Type 0
+IsWholeMachine ids w ring place keep next slots room =
+    IsRetaining w ring place keep × IsPinning ids w ring place next slots × (pin_limit ≤ room)

@@ -7,8 +7,8 @@ use crate::{Action, Machine, Reply};
 use heap_class::Refusal;
 
 impl Machine {
-    /// Does the actions in order, and gives the reply to each. Fails with NoMemory before the first if there is no room for
-    /// the replies.
+    /// Does the actions in order and returns the reply to each. Fails with NoMemory, before the first action, if there is no
+    /// room for the replies.
     pub fn drive(&mut self, actions: &[Action]) -> Result<Vec<Reply>, Refusal>
         ensures driven { IfOk result (λ r. MayDrive self.old actions.now r.items self.new) }
         ensures refused { IfErr result (λ e. e ≡ NoMemory) }

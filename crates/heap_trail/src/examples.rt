@@ -1,7 +1,7 @@
 //! Worked examples over the definitions alone.
 ghost use Rattle.heap_trail.specs.Examples.{LimitsOfOneRegion, LowestRegionFirst, RewindGivesBackCells, KeepOne, RewindTooFar, RefusalsOfMutators, FinishRefusedUntilReady, MarkAndDrainRewound, MarkUndonePushesBack, SweepOrderAndReuse, SweepAndReuseRewound, BarrierLogsOldValues};
 
-/// What the model's machine replies in a dozen sessions, and some of the states that they lead to.
+/// States the replies of the model's machine in a dozen sessions, and some of the states that they lead to.
 pub fn worked_examples()
     ensures limits_of_one_region { LimitsOfOneRegion }
     ensures lowest_region_first { LowestRegionFirst }

@@ -4,8 +4,9 @@ ghost use Rattle.std.specs.List.{position};
 ghost use Rattle.heap_world.specs.State.{HeapState};
 ghost use Rattle.heap_step.specs.declared.Event.{Event};
 ghost use Rattle.heap_step.specs.Laws.{IsStep};
-ghost use Rattle.heap_pins.specs.Kept.{touched};
-ghost use Rattle.heap_trail.specs.Slots.{CanGive, HasGiven, IsNext, IsSized, IsWithin, MayCount, MayKeep, RefusesPiece, held_advanced, is_settled, slot_after_rewind};
+ghost use Rattle.heap_pins.specs.KeptCopies.{touched};
+ghost use Rattle.heap_trail.specs.OpenPins.{CanGive, HasGiven, IsNextPiece, IsSizedPin, IsRegionWithin, MayCount, MayKeep, RefusesPiece, held_advanced, is_settled, slot_after_rewind};
+ghost use Rattle.heap_trail.specs.Views.{CanShow, IsViewBeside, RefusesView};
 
 use heap_class::{IdSize, LostCause, Refusal};
 use heap_pins::{Pin, PinView};
@@ -14,38 +15,40 @@ use heap_world::World;
 use hprof_text::{Cursor, Piece, piece_from};
 use std::alloc::Global;
 
-/// A pin on a place, with the cursor of its next piece and how many it gave; or one that is lost.
+// A pin on a place, with the cursor of its next piece and the number of pieces that it gave; or one that is lost.
 #[derive(Drop)]
 pub(crate) enum Held {
+    // A pin that shows the state at `place`, gave `given` pieces, and has its cursor at the next.
     Kept {
         place: u64,
         pin: Pin,
         cursor: Cursor,
         given: u64,
     },
+    // A pin that is lost, for this cause.
     Lost(LostCause),
 }
 
-/// An open pin with its number.
+// An open pin with its number.
 #[derive(Drop)]
-pub(crate) struct Slot {
+pub(crate) struct NumberedPin {
     pub(crate) number: u64,
     pub(crate) held: Held,
 }
 
-/// Finds the first slot with this number.
-pub(crate) fn slot_of(pins: &[Slot], number: u64) -> Option<usize>
+// Finds the first slot with this number.
+pub(crate) fn slot_of(pins: &[NumberedPin], number: u64) -> Option<usize>
     ensures { result ≡ position (λ s. s.number == number) pins.now }
 {
     pins.iter().position(|slot| slot.number == number)
 }
 
-impl Slot {
+impl NumberedPin {
     // Tells whether no write to a region matters to the pin: it has a copy of the region, or it is lost.
     #[inline(always)]
-    #[tactic(auto, unfolding(crate::specs::Slots::is_settled))]
+    #[tactic(auto, unfolding(crate::specs::OpenPins::is_settled))]
     fn is_settled(&self, region: u64) -> bool
-        requires { IsWithin region self.now.held }
+        requires { IsRegionWithin region self.now.held }
         ensures { result ≡ is_settled region self.now.held }
     {
         match &self.held {
@@ -54,13 +57,13 @@ impl Slot {
         }
     }
 
-    /// Keeps what the step that left this record and led to this state overwrote in this region; a pin that finds no memory
-    /// for it is lost.
+    // Keeps what the step that left this record and led to this state overwrote in this region. The pin is lost if memory for
+    // it can't be allocated.
     #[inline(always)]
     pub(crate) fn keep(&mut self, world: &World, left: &Undo, region: u64)
         requires touched { touched left.now ≡ Some region }
         requires step { (e : Event) × (before : HeapState) × IsStep e before world.now left.now }
-        requires sized { IsSized (length world.now.regions) self.old }
+        requires sized { IsSizedPin (length world.now.regions) self.old }
         ensures { MayKeep left.now world.now self.old self.new }
     {
         if !self.is_settled(region) {
@@ -68,11 +71,11 @@ impl Slot {
         }
     }
 
-    // Copies the region that the step touched, as it was before; a pin that finds no memory for it is lost.
+    // Copies the region that the step touched, as it was before. The pin is lost if memory for the copy can't be allocated.
     #[inline(never)]
     fn copy_region(&mut self, world: &World, left: &Undo)
         requires step { (e : Event) × (before : HeapState) × IsStep e before world.now left.now }
-        requires sized { IsSized (length world.now.regions) self.old }
+        requires sized { IsSizedPin (length world.now.regions) self.old }
         ensures { MayKeep left.now world.now self.old self.new }
     {
         let lost = match &mut self.held {
@@ -84,7 +87,7 @@ impl Slot {
         }
     }
 
-    /// Loses a pin above this place.
+    // Loses the pin if it is above this place.
     pub(crate) fn rewind(&mut self, to: u64)
         ensures { self.new ≡ slot_after_rewind to self.old }
     {
@@ -96,8 +99,21 @@ impl Slot {
             self.held = Held::Lost(LostCause::Rewound);
         }
     }
-    /// Gives the pin's next piece. Fails with Lost and its cause if the pin is lost, and with NoMemory; then the same piece
-    /// is next.
+
+    // Returns the view of the pin beside the current state. Fails with Lost and its cause if the pin is lost.
+    pub(crate) fn view<'a>(&'a self, world: &'a World, ids: IdSize) -> Result<PinView<'a>, Refusal>
+        requires { CanShow world.now self.now.held }
+        ensures view { IfOk result (λ v. IsViewBeside ids world.now self.now.held v) }
+        ensures refused { IfErr result (λ e. RefusesView self.now.held e) }
+    {
+        match &self.held {
+            Held::Kept { pin, .. } => Ok(PinView::new(pin, world, ids)),
+            Held::Lost(cause) => Err(Refusal::Lost { cause: *cause }),
+        }
+    }
+
+    // Returns the pin's next piece. Fails with Lost and its cause if the pin is lost, or with NoMemory; the same piece is
+    // then still the next.
     pub(crate) fn next_piece(
         &mut self,
         alloc: Global,
@@ -106,7 +122,8 @@ impl Slot {
         time: u64,
     ) -> Result<Piece, Refusal>
         requires { CanGive ids world.now self.old.held }
-        ensures given { IfOk result (λ p. HasGiven ids world.now time p self.old.held self.new.held) }
+        ensures given { IfOk result
+            (λ p. HasGiven ids world.now time p self.old.held self.new.held) }
         ensures number { self.new.number ≡ self.old.number }
         ensures refused { IfErr result (λ e. RefusesPiece self.old.held e) }
         ensures unchanged { OnErr result (self.new ≡ self.old) }
@@ -117,7 +134,7 @@ impl Slot {
         Ok(piece)
     }
 
-    // The piece at the cursor, and the cursor after it.
+    // Returns the piece at the cursor, and the cursor after it.
     fn piece_here(
         &self,
         alloc: Global,
@@ -126,7 +143,7 @@ impl Slot {
         time: u64,
     ) -> Result<(Piece, Cursor), Refusal>
         requires { CanGive ids world.now self.now.held }
-        ensures piece { IfOk result (λ p. IsNext ids world.now time self.now.held p.0 p.1) }
+        ensures piece { IfOk result (λ p. IsNextPiece ids world.now time self.now.held p.0 p.1) }
         ensures refused { IfErr result (λ e. RefusesPiece self.now.held e) }
         ensures small { IfOk result (λ p. length p.0.bytes ≤ 2 ^ 24) }
     {
@@ -138,7 +155,7 @@ impl Slot {
         }
     }
 
-    // Moves the cursor on, and counts the piece that was given, unless the cursor stands past all.
+    // Moves the cursor on and counts the piece that was given, unless the cursor is past the last piece.
     fn advance(&mut self, to: Cursor)
         requires { MayCount self.old.held }
         ensures { self.new ≡ record self.old { held = held_advanced to self.old.held } }

@@ -14,8 +14,8 @@ ghost use Rattle.heap_trail.specs.declared.Action.TheVariants.{OpenPin, Step, Re
 ghost use Rattle.heap_trail.specs.declared.Reply.TheVariants.{Answered, Pinned, Place, Refused};
 ghost use Rattle.heap_trail.specs.Headline.{Headline};
 ghost use Rattle.heap_trail.specs.Laws.{FindsSnapshot, IsTrail, GivesText, KeepsImage, DumpIsWhole, LeadsBack, LeavesTrail, ReachesLive, SparesReached};
-ghost use Rattle.heap_trail.specs.Machine.{IsSmall, Machine, Mark, MayFail, MayReply, acted, is_dump_action, opening_machine};
-ghost use Rattle.heap_trail.specs.Slots.{AreAllBelow, EachMayKeep, EachSized, slot_after_rewind};
+ghost use Rattle.heap_trail.specs.Machine.{IsSmall, Machine, Allocation, MayFail, MayReply, acted, opening_machine};
+ghost use Rattle.heap_trail.specs.OpenPins.{AreAllBelow, EachMayKeep, EachSized, slot_after_rewind};
 ghost use Rattle.heap_trail.specs.Records.{with_record};
 ghost use Rattle.heap_trail.specs.Trail.{retained, rewound};
 ghost use Rattle.heap_trail.specs.Pins.{after_rewind};
@@ -26,6 +26,8 @@ mod held;
 mod numbers;
 mod opening;
 mod pins;
+mod records;
+mod views;
 
 use circular_buffer::HeapCircularBuffer;
 pub use examples::worked_examples;
@@ -34,23 +36,23 @@ use heap_pins::touched_region;
 use heap_step::step::undo;
 use heap_step::{Answer, Event, Undo, apply, undo_takes_back};
 use heap_world::{Config, World};
-use held::Slot;
+use held::NumberedPin;
 use hprof_text::{Cursor, Piece, piece_from};
 use std::alloc::Global;
 use std::marker::Model;
 
-/// No step goes past this place: 2^62.
+// The last place: no step goes past 2^62.
 const LAST_PLACE: u64 = 0x4000_0000_0000_0000;
 
-/// Pins that may be open, lost ones included.
+// The largest number of open pins, lost ones included.
 const PIN_LIMIT: usize = 4;
 
-/// What a user of the machine asks for.
+/// A request to a machine.
 #[derive(Drop)]
 pub enum Action {
     /// A step of the heap.
     Step(Event),
-    /// To undo so many of the last steps.
+    /// To undo the last `n` steps.
     Rewind(u64),
     /// A pin on the state at this place, or at the current one.
     OpenPin(Option<u64>),
@@ -60,10 +62,10 @@ pub enum Action {
     ClosePin(u64),
 }
 
-/// What an action answers.
+/// The reply to an action.
 #[derive(Drop)]
 pub enum Reply {
-    /// What the step answers.
+    /// The step's answer.
     Answered(Answer),
     /// The place after a rewind.
     Place(u64),
@@ -79,21 +81,9 @@ pub enum Reply {
 
 /// A pin that was opened: its number, counted from 1, and its place.
 #[derive(Clone, Copy, PartialEq, Eq, Debug)]
-pub struct Pinned {
+pub struct PinAt {
     pub pin: u64,
     pub at: u64,
-}
-
-impl Action {
-    /// Whether it opens, reads or closes a pin.
-    pub fn is_dump(&self) -> bool
-        ensures { result ≡ is_dump_action self.now }
-    {
-        match self {
-            Action::Step(_) | Action::Rewind(_) => false,
-            _ => true,
-        }
-    }
 }
 
 /// The current state, the records of the last `keep` steps, newest first, the place, and the pins. Contracts see the states
@@ -107,12 +97,12 @@ pub struct Machine {
     keep: u64,
     ids: IdSize,
     next: u64,
-    pins: Vec<Slot>,
+    pins: Vec<NumberedPin>,
 }
 
 impl Model for Machine {
     ghost use Rattle.heap_trail.specs.Machine.{Machine};
-    ghost use Rattle.heap_trail.specs.Records.{machine_of, IsWhole};
+    ghost use Rattle.heap_trail.specs.Records.{machine_of, IsWholeMachine};
 
     ghost Value = { Machine };
 
@@ -122,11 +112,13 @@ impl Model for Machine {
     ghost use Rattle.std.specs.Vec.{vec_capacity};
     ghost use Rattle.heap_trail.specs.Limits.{pin_limit};
 
-    ghost invariant = { λ m. IsWhole m.ids m.world m.records m.place m.keep m.next m.pins.items (vec_capacity m.pins) };
+    ghost invariant = { λ m. IsWholeMachine m.ids m.world m.records m.place m.keep m.next
+        m.pins.items (vec_capacity m.pins) };
 }
 
-// Each pin keeps what the step that left this record and led to this state overwrote, or is lost.
-fn keep_each(pins: &mut [Slot], world: &World, left: &Undo)
+// Has each pin keep what the step that left this record and led to this state overwrote. A pin is lost if memory for it can't
+// be allocated.
+fn keep_each(pins: &mut [NumberedPin], world: &World, left: &Undo)
     requires step { (e : Event) × (before : HeapState) × IsStep e before world.now left.now }
     requires sized { EachSized (length world.now.regions) pins.old }
     ensures { EachMayKeep left.now world.now pins.old pins.new }
@@ -152,7 +144,7 @@ fn add_record(records: &mut HeapCircularBuffer<Undo>, left: Undo)
 // Has each pin keep what the step that left this record and led to this state overwrote, and puts the record into the ring.
 #[inline(never)]
 fn keep_and_add(
-    pins: &mut [Slot],
+    pins: &mut [NumberedPin],
     world: &World,
     records: &mut HeapCircularBuffer<Undo>,
     left: Undo,
@@ -168,7 +160,12 @@ fn keep_and_add(
 
 // Does what `keep_and_add` does. Without pins the record goes to the ring at once.
 #[inline(always)]
-fn remember(pins: &mut [Slot], world: &World, records: &mut HeapCircularBuffer<Undo>, left: Undo)
+fn remember(
+    pins: &mut [NumberedPin],
+    world: &World,
+    records: &mut HeapCircularBuffer<Undo>,
+    left: Undo,
+)
     requires step { (e : Event) × (before : HeapState) × IsStep e before world.now left }
     requires sized { EachSized (length world.now.regions) pins.old }
     ensures pins { EachMayKeep left world.now pins.old pins.new }
@@ -182,7 +179,7 @@ fn remember(pins: &mut [Slot], world: &World, records: &mut HeapCircularBuffer<U
 }
 
 // Loses the pins above a place.
-fn lose_above(pins: &mut [Slot], to: u64)
+fn lose_above(pins: &mut [NumberedPin], to: u64)
     ensures { pins.new ≡ map (slot_after_rewind to) pins.old }
 {
     for i in 0..pins.len() {
@@ -191,9 +188,11 @@ fn lose_above(pins: &mut [Slot], to: u64)
 }
 
 impl Machine {
-    /// A machine at place 0. Its ring has room for all records that it keeps, and there is room for all pins. Refused NoMemory.
+    /// Creates a machine at place 0, with room for `keep` records and for all pins. Fails with NoMemory if an allocation
+    /// fails.
     pub fn new(alloc: Global, config: Config) -> Result<Machine, Refusal>
-        ensures opened { IfOk result (λ m. m ≡ opening_machine config.ids config.regions config.mutators config.keep) }
+        ensures opened { IfOk result
+            (λ m. m ≡ opening_machine config.ids config.regions config.mutators config.keep) }
         ensures refused { IfErr result (λ e. e ≡ NoMemory) }
     {
         let keep = config.keep();
@@ -219,20 +218,24 @@ impl Machine {
         }
     }
 
-    /// Takes a step, and keeps its record in place of the oldest where `keep` are there. Refused ChronicleFull at place
-    /// 2^62, else as the event is; then nothing has changed. A pin that finds no memory for what the step overwrote is lost.
+    /// Takes a step and keeps its record, in place of the oldest if `keep` are there. Fails with ChronicleFull at place 2^62,
+    /// or as the event does; nothing has changed then. A pin is lost if memory for what the step overwrote can't be
+    /// allocated.
     ///
-    /// A sweep leaves each object that the registers reach as it was. After a finish all that they reach is live. What
-    /// they reached when the cycle began, in the newest retained state in which none ran, is after its finish still
-    /// there with its kind and as many words, and live: Yuasa's law.
+    /// A sweep leaves each object that the registers reach as it was. After a finish all that they reach is live. What they
+    /// reached when the cycle began, in the newest retained state in which none ran, is after its finish still there with its
+    /// kind and as many words, and live: Yuasa's law.
     #[inline(always)]
     pub fn step(&mut self, event: &Event) -> Result<Answer, Refusal>
         ensures done { IfOk result (λ a. MayReply self.old (Step event.now) self.new (Answered a)) }
         ensures refused { IfErr result (λ e. MayFail self.old (Step event.now) self.new e) }
         ensures unchanged { OnErr result (self.new ≡ self.old) }
-        ensures spares { OnOk result ((region : ℕ) → event.now ≡ Sweep region → SparesReached self.old.trail.current self.new.trail.current) }
+        ensures spares { OnOk result
+            ((region : ℕ) → event.now ≡ Sweep region
+            → SparesReached self.old.trail.current self.new.trail.current) }
         ensures live { OnOk result (event.now ≡ Finish → ReachesLive self.new.trail.current) }
-        ensures finds { OnOk result (event.now ≡ Finish → FindsSnapshot self.old.trail.past self.new.trail.current) }
+        ensures finds { OnOk result
+            (event.now ≡ Finish → FindsSnapshot self.old.trail.past self.new.trail.current) }
     {
         if self.place >= LAST_PLACE {
             return Err(Refusal::ChronicleFull);
@@ -245,7 +248,7 @@ impl Machine {
         Ok(answer)
     }
 
-    /// Undoes the last `n` retained steps, and answers the new place; pins above it are lost. Refused TooFar where fewer are
+    /// Undoes the last `n` retained steps and returns the new place. Pins above it are lost. Fails with TooFar if fewer are
     /// retained. Takes no memory.
     pub fn rewind(&mut self, n: u64) -> Result<u64, Refusal>
         ensures done { IfOk result (λ p. acted self.old (Rewind n) ≡ (self.new, Place p)) }
@@ -271,7 +274,7 @@ impl Machine {
         lose_above(&mut self.pins, to);
     }
 
-    /// Undoes the last step.
+    // Undoes the last step.
     fn undo_last(&mut self)
         requires some { 0 < retained self.old.trail }
         requires below { AreAllBelow self.old.trail.place self.old.pins }
@@ -286,7 +289,7 @@ impl Machine {
         }
     }
 
-    /// Does an action.
+    /// Does an action and returns its reply.
     #[inline(always)]
     pub fn act(&mut self, action: &Action) -> Reply
         ensures reply { MayReply self.old action.now self.new result }
@@ -302,7 +305,7 @@ impl Machine {
                 Err(refusal) => Reply::Refused(refusal),
             },
             Action::OpenPin(at) => match self.open_pin(*at) {
-                Ok(Pinned { pin, at }) => Reply::Pinned { pin, at },
+                Ok(PinAt { pin, at }) => Reply::Pinned { pin, at },
                 Err(refusal) => Reply::Refused(refusal),
             },
             Action::NextPiece { pin, time } => match self.piece(*pin, *time) {
@@ -316,7 +319,7 @@ impl Machine {
         }
     }
 
-    /// How many steps lead to the current state.
+    /// Returns the number of steps that lead to the current state.
     pub fn place(&self) -> u64
         ensures value { result ≡ self.now.trail.place }
         ensures trail { IsTrail self.now.keep self.now.trail }
@@ -324,14 +327,14 @@ impl Machine {
         self.place
     }
 
-    /// How many steps can be undone: at most `keep`.
+    /// Returns the number of steps that can be undone: at most `keep`.
     pub fn retained(&self) -> u64
         ensures { result ≡ retained self.now.trail }
     {
         self.records.len() as u64
     }
 
-    /// The current state.
+    /// Returns the current state.
     pub fn world(&self) -> &World
         ensures value { result.now ≡ self.now.trail.current }
         ensures legal { IsLegal self.now.trail.current }
@@ -340,36 +343,37 @@ impl Machine {
     }
 }
 
-/// The law that dumps leave the trail of every list of actions as it is without them.
+/// States that dumps leave the trail of every list of actions as it is without them.
 pub fn dumps_leave_trail()
-    ensures { (m : Machine) (actions : List (Action × Mark)) → LeavesTrail m actions }
+    ensures { (m : Machine) (actions : List (Action × Allocation)) → LeavesTrail m actions }
 {}
 
-/// The law that a pin that isn't lost keeps its place and its image under every action.
+/// States that a pin that isn't lost keeps its place and its image under every action.
 pub fn pins_keep_images()
-    ensures { (m : Machine) (a : Action × Mark) (pin : ℕ) → KeepsImage m a pin }
+    ensures { (m : Machine) (a : Action × Allocation) (pin : ℕ) → KeepsImage m a pin }
 {}
 
-/// The law that a step that is answered and a rewind of one after it lead back to the state and the place before.
+/// States that a step that is answered and then a rewind of one lead back to the state and the place before.
 pub fn step_leads_back()
     ensures { (m : Machine) (e : Event) (n : Machine) (a : Answer) → LeadsBack m e n a }
 {}
 
-/// The law that nothing in the dump of a legal heap is cut off, whatever the size of identifiers.
+/// States that nothing in the dump of a legal heap is cut off, whatever the size of identifiers.
 pub fn dump_is_whole()
     ensures { (ids : IdSize) (w : HeapState) (time : ℕ) → DumpIsWhole ids w time }
 {}
 
-/// The law that what a pin gives in a list of actions, whatever else is done between its pieces, is a beginning of the text of
-/// its image, and all of it once the last piece was given.
+/// States that the pieces of a pin, whatever else is done between them, are a beginning of the text of its image, and all of
+/// it once the last piece was given.
 pub fn dumps_are_text()
-    ensures { (m : Machine) (actions : List (Action × Mark)) (pin time : ℕ) → GivesText m actions pin time }
+    ensures { (m : Machine) (actions : List (Action × Allocation)) (pin time : ℕ)
+        → GivesText m actions pin time }
 {}
 
-/// States that after every list of actions undoing the last retained step restores the whole state before it, rewinding n
-/// retained steps, at once or in parts, gives the state n steps ago, and a pin that is opened shows the state at its place;
-/// that in the list steps and rewinds go as without its dumps; and that what a pin gives, also if it is closed, lost or left in
-/// the middle, is a beginning of the text of its image, which it keeps, and all of it once its last piece was given.
+/// States what holds after every list of actions. To undo the last retained step restores the whole state before it, to
+/// rewind `n` retained steps, at once or in parts, gives the state `n` steps ago, and a pin that is opened shows the state at
+/// its place. In the list, steps and rewinds go as without its dumps. The pieces of a pin, also if it is closed, lost or left
+/// in the middle, are a beginning of the text of its image, which it keeps, and all of it once its last piece was given.
 pub fn headline()
-    ensures { (m : Machine) (actions : List (Action × Mark)) → Headline m actions }
+    ensures { (m : Machine) (actions : List (Action × Allocation)) → Headline m actions }
 {}

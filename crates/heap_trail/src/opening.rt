@@ -11,7 +11,8 @@ use heap_step::Undo;
 use heap_world::World;
 use std::alloc::Global;
 
-/// Returns a pin on the state of `n` steps ago, which the newest `n` records lead back to. Fails with NoMemory.
+// Creates a pin on the state of `n` steps ago, to which the newest `n` records lead back. Fails with NoMemory if an
+// allocation fails.
 pub(crate) fn past_pin(
     alloc: Global,
     world: &World,

@@ -6,28 +6,29 @@ ghost use Rattle.heap_trail.specs.Laws.{IsPieceOfLegal};
 ghost use Rattle.heap_trail.specs.Pins.{is_retained};
 ghost use Rattle.heap_trail.specs.Machine.{MayFail, acted};
 
-use crate::held::{Held, Slot, slot_of};
+use crate::held::{Held, NumberedPin, slot_of};
 use crate::opening::past_pin;
-use crate::{Machine, PIN_LIMIT, Pinned};
+use crate::{Machine, PIN_LIMIT, PinAt};
 use heap_class::Refusal;
 use hprof_text::{Cursor, Piece};
 
-/// No pin has a number above this: 2^62.
+// The largest number of a pin: 2^62.
 const LAST_PIN: u64 = 0x4000_0000_0000_0000;
 
 impl Machine {
-    // Whether the state at this place is retained.
+    // Tells whether the state at this place is retained.
     fn has_retained(&self, at: u64) -> bool
         ensures { result ≡ is_retained at self.now.trail }
     {
         at <= self.place && self.place - at <= self.retained()
     }
 
-    /// Opens a pin on the retained state at the place `at`, or on the current state. Fails with NotRetained if that
-    /// state isn't retained, with PinLimit if 4 pins are open or all numbers are used, and with NoMemory. A refused
-    /// call uses no number.
-    pub fn open_pin(&mut self, at: Option<u64>) -> Result<Pinned, Refusal>
-        ensures done { IfOk result (λ p. acted self.old (OpenPin at) ≡ (self.new, PinnedReply p.pin p.at)) }
+    /// Opens a pin on the retained state at the place `at`, or on the current state. Fails with NotRetained if that state
+    /// isn't retained, with PinLimit if 4 pins are open or all numbers are used, or with NoMemory if an allocation fails. A
+    /// refused call uses no number.
+    pub fn open_pin(&mut self, at: Option<u64>) -> Result<PinAt, Refusal>
+        ensures done { IfOk result
+            (λ p. acted self.old (OpenPin at) ≡ (self.new, PinnedReply p.pin p.at)) }
         ensures refused { IfErr result (λ e. MayFail self.old (OpenPin at) self.new e) }
         ensures unchanged { OnErr result (self.new ≡ self.old) }
     {
@@ -41,7 +42,7 @@ impl Machine {
         let pin = past_pin(self.alloc, &self.world, &self.records, self.place - at)?;
         let number = self.next;
         self.next += 1;
-        self.pins.push_reserved(Slot {
+        self.pins.push_reserved(NumberedPin {
             number,
             held: Held::Kept {
                 place: at,
@@ -50,12 +51,12 @@ impl Machine {
                 given: 0,
             },
         });
-        Ok(Pinned { pin: number, at })
+        Ok(PinAt { pin: number, at })
     }
 
-    /// Gives the next piece of a pin's dump; past the last it is empty. It is a piece of the dump of a legal state. The
-    /// time, in milliseconds, stands in the first piece alone. Fails with NoPin if no such pin is open, with Lost and its cause if the pin is lost, and with
-    /// NoMemory; then the same piece is next.
+    /// Returns the next piece of a pin's dump; past the last it is empty. It is a piece of the dump of a legal state. The
+    /// time, in milliseconds, stands in the first piece alone. Fails with NoPin if no such pin is open, with Lost and its
+    /// cause if the pin is lost, or with NoMemory if an allocation fails; the same piece is then still the next.
     pub fn piece(&mut self, pin: u64, time: u64) -> Result<Piece, Refusal>
         ensures done { IfOk result (λ p. acted self.old (NextPiece pin time) ≡ (self.new, Part p)) }
         ensures legal { IfOk result (λ p. IsPieceOfLegal self.old.ids time p) }
@@ -72,7 +73,8 @@ impl Machine {
     /// Closes a pin, lost or not. Fails with NoPin if no such pin is open. Takes no memory.
     pub fn close_pin(&mut self, pin: u64) -> Result<(), Refusal>
         ensures done { IfOk result (λ u. acted self.old (ClosePin pin) ≡ (self.new, Closed)) }
-        ensures refused { IfErr result (λ e. acted self.old (ClosePin pin) ≡ (self.new, Refused e)) }
+        ensures refused { IfErr result
+            (λ e. acted self.old (ClosePin pin) ≡ (self.new, Refused e)) }
         ensures unchanged { OnErr result (self.new ≡ self.old) }
     {
         match slot_of(&self.pins, pin) {

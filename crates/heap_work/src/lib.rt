@@ -3,7 +3,7 @@
 
 ghost use Rattle.std.specs.Prelude.{◌≡◌};
 ghost use Rattle.heap_lock.specs.declared.entry.Role.TheVariants.{Marker, Sweeper};
-ghost use Rattle.heap_work.specs.Rule.{end_of, event_of, stage_after, IsMarked, IsSwept};
+ghost use Rattle.heap_work.specs.Rule.{mark_end_of, event_of, stage_after, IsMarkWork, IsSweepWork};
 
 use heap_class::Refusal;
 use heap_lock::{Heap, Outcome, Receipt, Seat, Shared};
@@ -28,7 +28,7 @@ impl Gate for Open {
 
 /// How a mark worker ended, with its last receipt if that tells.
 #[derive(Clone, Copy, PartialEq, Eq, Debug)]
-pub enum Marked {
+pub enum MarkEnd {
     /// The cycle is finished.
     Finished(Receipt),
     /// No cycle ran.
@@ -43,7 +43,7 @@ pub enum Marked {
 
 /// How a sweep worker ended.
 #[derive(Clone, Copy, PartialEq, Eq, Debug)]
-pub enum Swept {
+pub enum SweepEnd {
     /// It has asked for each region.
     Swept,
     /// An act was refused, NoMemory or ChronicleFull.
@@ -62,7 +62,7 @@ pub enum Stage {
 }
 
 // Returns the event of a stage.
-fn asked(stage: Stage) -> Event
+fn event_of_stage(stage: Stage) -> Event
     ensures { result ≡ event_of stage }
 {
     match stage {
@@ -85,13 +85,13 @@ fn next(answer: Outcome) -> Stage
 }
 
 // Returns how the worker ends after this receipt, or None if it goes on.
-fn ended(receipt: Receipt) -> Option<Marked>
-    ensures { result ≡ end_of receipt }
+fn end_of_receipt(receipt: Receipt) -> Option<MarkEnd>
+    ensures { result ≡ mark_end_of receipt }
 {
     match receipt.answer {
-        Outcome::Answered(Answer::Condemned(_)) => Some(Marked::Finished(receipt)),
-        Outcome::Refused(Refusal::NotMarking) => Some(Marked::NotMarking(receipt)),
-        Outcome::Refused(Refusal::SweepPending { .. }) => Some(Marked::Pending(receipt)),
+        Outcome::Answered(Answer::Condemned(_)) => Some(MarkEnd::Finished(receipt)),
+        Outcome::Refused(Refusal::NotMarking) => Some(MarkEnd::NotMarking(receipt)),
+        Outcome::Refused(Refusal::SweepPending { .. }) => Some(MarkEnd::Pending(receipt)),
         _ => None,
     }
 }
@@ -105,24 +105,24 @@ pub fn mark_worker<L: Heap, R: Wait, G: Gate>(
     seat: &mut Seat<L>,
     gate: &mut G,
     turns: u64,
-) -> Marked
+) -> MarkEnd
     requires { seat.old.role ≡ Marker }
-    ensures { IsMarked L.config seat.old seat.new turns result }
+    ensures { IsMarkWork L.config seat.old seat.new turns result }
 {
     let mut stage = Stage::Snap;
     for turn in 0..turns {
         gate.pass(turn + 1);
-        match shared.act(rt, seat, asked(stage)) {
+        match shared.act(rt, seat, event_of_stage(stage)) {
             Ok(receipt) => {
-                if let Some(end) = ended(receipt) {
+                if let Some(end) = end_of_receipt(receipt) {
                     return end;
                 }
                 stage = next(receipt.answer);
             }
-            Err(refusal) => return Marked::Refused(refusal),
+            Err(refusal) => return MarkEnd::Refused(refusal),
         }
     }
-    Marked::TurnsOver
+    MarkEnd::TurnsOver
 }
 
 /// Asks for a sweep of each region once, from 0 on, in at most `turns` acts. Passes the gate before each act, without the
@@ -133,19 +133,19 @@ pub fn sweep_worker<L: Heap, R: Wait, G: Gate>(
     seat: &mut Seat<L>,
     gate: &mut G,
     turns: u64,
-) -> Swept
+) -> SweepEnd
     requires { seat.old.role ≡ Sweeper }
-    ensures { IsSwept L.config seat.old seat.new turns result }
+    ensures { IsSweepWork L.config seat.old seat.new turns result }
 {
     let regions = shared.config().regions();
     for region in 0..regions {
         if region >= turns {
-            return Swept::TurnsOver;
+            return SweepEnd::TurnsOver;
         }
         gate.pass(region + 1);
         if let Err(refusal) = shared.act(rt, seat, Event::Sweep { region }) {
-            return Swept::Refused(refusal);
+            return SweepEnd::Refused(refusal);
         }
     }
-    Swept::Swept
+    SweepEnd::Swept
 }

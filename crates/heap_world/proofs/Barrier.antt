@@ -1,23 +1,23 @@
 -- A store with its barrier, and what takes it back.
 use Rattle.std.proofs.Common.{◌≡◌, ◌⊎◌, ℕ, ◌-◌, ◌<◌, ◌≤◌, Bool, true, false, not, [], ◌∷◌, ◌++◌, length, take, Some, None, refl, sym, ap, subst, ◌∙◌, inr, arith, length-take}
 use Rattle.std.specs.Prelude.{◌&&◌, ◌==◌, if◌then◌else◌, IfSome, IsTrue, slice_index}
-use Rattle.heap_class.proofs.Refused.{none_holds}
+use Rattle.heap_class.proofs.Refusals.{none_holds}
 use Rattle.heap_class.specs.declared.ObjRef.{ObjRef}
 use Rattle.heap_class.specs.declared.Refusal.{Refusal}
 use Rattle.heap_class.specs.declared.Refusal.TheVariants.{NoMemory}
 use Rattle.heap_region.specs.Regions.{object_at, ref_of, with_word}
 use Rattle.heap_region.specs.Pool.{RegionPool}
-use Rattle.heap_mark.specs.Marking.{is_marking, logged}
+use Rattle.heap_mark.specs.MarkSteps.{is_marking, logged}
 use Rattle.heap_mark.specs.Marker.{MarkerState}
 use Rattle.heap_world.specs.State.{HeapState, with_pool, marking_of, with_marking, is_register, register, place_of, slot_kind, word_of}
 use Rattle.heap_world.specs.Legal.{IsLegal}
-use Rattle.heap_world.specs.Held.{IsHeld}
+use Rattle.heap_world.specs.HeapParts.{IsSoundHeap}
 use Rattle.heap_world.specs.Events.{lacks_slot, is_logged, without_last, with_slot, store_refusal, after_store}
 use Rattle.heap_world.proofs.Clauses.{clauses_of, legal_by}
 use Rattle.heap_world.proofs.Registers.{second_register}
-use Rattle.heap_world.proofs.Written.{length_written, place_is, store_legal}
-use Rattle.heap_world.proofs.Kept.{held_by}
-use Rattle.heap_world.proofs.Held.{marker_of, with_marker}
+use Rattle.heap_world.proofs.WordWrites.{length_written, place_is, store_legal}
+use Rattle.heap_world.proofs.KeptParts.{held_by}
+use Rattle.heap_world.proofs.MarkerParts.{marker_of, with_marker}
 use Rattle.heap_world.proofs.Slot.{HasSlot, some_kind, slot_by}
 
 -- ---- what a store that isn't refused finds
@@ -26,14 +26,14 @@ pub source_there : (m target slot source : ℕ) (w : HeapState) → store_refusa
 unfolding store_refusal
 source_there m target slot source w accepted = second_register _ _ (none_holds _ accepted).0
 
-pub store_by : (w v : HeapState) (m target slot source room : ℕ) (at : ObjRef) → IsHeld w room → w ≡ v → store_refusal m target slot source v ≡ None → ref_of v.regions (register v m target) ≡ Some at → HasSlot w (register v m target) slot at
+pub store_by : (w v : HeapState) (m target slot source room : ℕ) (at : ObjRef) → IsSoundHeap w room → w ≡ v → store_refusal m target slot source v ≡ None → ref_of v.regions (register v m target) ≡ Some at → HasSlot w (register v m target) slot at
 unfolding store_refusal lacks_slot
 store_by w v m target slot source room at h e accepted r =
     let k = some_kind (slot_kind v (register v m target) slot) (none_holds _ accepted).1.1.0 in
     slot_by w v (register v m target) slot room at k.0 h e r k.1
 
 -- and what the slot holds
-pub old_by : (w v : HeapState) (m target slot source old room : ℕ) (at : ObjRef) → IsHeld w room → w ≡ v → store_refusal m target slot source v ≡ None → ref_of v.regions (register v m target) ≡ Some at
+pub old_by : (w v : HeapState) (m target slot source old room : ℕ) (at : ObjRef) → IsSoundHeap w room → w ≡ v → store_refusal m target slot source v ≡ None → ref_of v.regions (register v m target) ≡ Some at
     → IfSome (object_at w.regions at) (λ o. old ≡ slice_index o.words slot) → old ≡ word_of v (register v m target) slot
 old_by w v m target slot source old room at h e accepted r f = (store_by w v m target slot source room at h e accepted r).word old f ∙ ap (λ (u : HeapState). word_of u (register v m target) slot) e
 
@@ -92,19 +92,19 @@ store_made w v m target slot source old word room at b s k e r o a l f g =
     ∙ ap (λ (u : HeapState). record u { regions = with_word at slot (register v m source) u.regions; log = if is_logged v (register v m target) slot then u.log ++ word_of v (register v m target) slot ∷ [] else u.log }) e
     ∙ stored v m target slot source at r
 
-store_holds : (v : HeapState) (m target slot source room : ℕ) (at : ObjRef) → IsHeld v room → store_refusal m target slot source v ≡ None → ref_of v.regions (register v m target) ≡ Some at → IsHeld (after_store m target slot source v) room
+store_holds : (v : HeapState) (m target slot source room : ℕ) (at : ObjRef) → IsSoundHeap v room → store_refusal m target slot source v ≡ None → ref_of v.regions (register v m target) ≡ Some at → IsSoundHeap (after_store m target slot source v) room
 store_holds v m target slot source room at h accepted r = held_by (after_store m target slot source v) v room h
     (legal_by (after_store m target slot source v) (store_legal v m target slot source (clauses_of v h.legal) accepted))
     (ap (λ (u : HeapState). length u.regions) (sym (stored v m target slot source at r)) ∙ length_written v.regions at slot (register v m source))
 
-pub store_held : (w v : HeapState) (m target slot source old word room : ℕ) (at : ObjRef) (b : Bool) (s : RegionPool) (k : MarkerState) → IsHeld w room → w ≡ v → store_refusal m target slot source v ≡ None
+pub store_held : (w v : HeapState) (m target slot source old word room : ℕ) (at : ObjRef) (b : Bool) (s : RegionPool) (k : MarkerState) → IsSoundHeap w room → w ≡ v → store_refusal m target slot source v ≡ None
     → ref_of v.regions (register v m target) ≡ Some at → old ≡ word_of v (register v m target) slot → word ≡ register v m source → b ≡ is_logged v (register v m target) slot
     → k ≡ (if b then record (marker_of w room) { log = w.log ++ old ∷ [] } else marker_of w room)
-    → s ≡ record { regions = with_word at slot word w.regions; pool = w.pool } → IsHeld (with_marker k (with_pool s w)) k.room
+    → s ≡ record { regions = with_word at slot word w.regions; pool = w.pool } → IsSoundHeap (with_marker k (with_pool s w)) k.room
 store_held w v m target slot source old word room at b s k h e accepted r o a l f g =
-    subst (λ n. IsHeld (with_marker k (with_pool s w)) n) (sym (ap (λ (j : MarkerState). j.room) f ∙ go b))
-    (subst (λ (u : HeapState). IsHeld u room) (sym (store_made w v m target slot source old word room at b s k e r o a l f g))
-    (store_holds v m target slot source room at (subst (λ (u : HeapState). IsHeld u room) e h) accepted r))
+    subst (λ n. IsSoundHeap (with_marker k (with_pool s w)) n) (sym (ap (λ (j : MarkerState). j.room) f ∙ go b))
+    (subst (λ (u : HeapState). IsSoundHeap u room) (sym (store_made w v m target slot source old word room at b s k e r o a l f g))
+    (store_holds v m target slot source room at (subst (λ (u : HeapState). IsSoundHeap u room) e h) accepted r))
   where
     go : (c : Bool) → (if c then record (marker_of w room) { log = w.log ++ old ∷ [] } else marker_of w room).room ≡ room
     go true = refl
@@ -138,12 +138,12 @@ pub unstored_made : (w v : HeapState) (slot word room : ℕ) (at : ObjRef) (b : 
 unstored_made w v slot word room at b s k e f g = unstored w slot word room at b s k f g
     ∙ ap (λ (u : HeapState). record u { regions = with_word at slot word u.regions; log = if b then without_last u.log else u.log }) e
 
-pub unstored_held : (w v : HeapState) (slot word room : ℕ) (at : ObjRef) (b : Bool) (s : RegionPool) (k : MarkerState) → IsHeld w room → w ≡ v → k ≡ (if b then record (marker_of w room) { log = take (length w.log - 1) w.log } else marker_of w room)
+pub unstored_held : (w v : HeapState) (slot word room : ℕ) (at : ObjRef) (b : Bool) (s : RegionPool) (k : MarkerState) → IsSoundHeap w room → w ≡ v → k ≡ (if b then record (marker_of w room) { log = take (length w.log - 1) w.log } else marker_of w room)
     → s ≡ record { regions = with_word at slot word w.regions; pool = w.pool } → IsLegal (record v { regions = with_word at slot word v.regions; log = if b then without_last v.log else v.log })
-    → IsHeld (with_marker k (with_pool s w)) k.room
+    → IsSoundHeap (with_marker k (with_pool s w)) k.room
 unstored_held w v slot word room at b s k h e f g l =
-    subst (λ n. IsHeld (with_marker k (with_pool s w)) n) (sym (ap (λ (j : MarkerState). j.room) f ∙ go b))
-    (subst (λ (u : HeapState). IsHeld u room) (sym (unstored w slot word room at b s k f g))
+    subst (λ n. IsSoundHeap (with_marker k (with_pool s w)) n) (sym (ap (λ (j : MarkerState). j.room) f ∙ go b))
+    (subst (λ (u : HeapState). IsSoundHeap u room) (sym (unstored w slot word room at b s k f g))
     (held_by (record w { regions = with_word at slot word w.regions; log = if b then without_last w.log else w.log }) w room h
     (subst (λ (u : HeapState). IsLegal (record u { regions = with_word at slot word u.regions; log = if b then without_last u.log else u.log })) (sym e) l)
     (length_written w.regions at slot word)))

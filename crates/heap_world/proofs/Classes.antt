@@ -8,7 +8,7 @@ use Rattle.heap_class.specs.Classes.{Class, class_refusal}
 use Rattle.heap_class.proofs.Slots.{slots_more, instance_within, instance_more, array_more, classes_more}
 use Rattle.heap_region.specs.Regions.{Object, object_of, slot_kinds, references_of}
 use Rattle.heap_class.specs.Classes.{slot_kinds_of}
-use Rattle.heap_region.proofs.Looked.{place_found}
+use Rattle.heap_region.proofs.ChangedLookups.{place_found}
 use Rattle.heap_region.proofs.References.{references_in, references_by_slots}
 use Rattle.heap_world.specs.State.{HeapState}
 use Rattle.heap_world.specs.Reach.{Names}

@@ -5,14 +5,14 @@ use Rattle.std.specs.Prelude.{slice_get, option_map, option_and_then, nat_lt}
 use Rattle.std.specs.Option.{option_map_or}
 use Rattle.std.proofs.lemmas.Option.{slice_get-map}
 use Rattle.std.proofs.lemmas.List.{length-map}
-use Rattle.heap_class.proofs.Refused.{none_holds}
+use Rattle.heap_class.proofs.Refusals.{none_holds}
 use Rattle.heap_class.specs.declared.ObjRef.{ObjRef}
 use Rattle.heap_class.specs.Classes.{Class}
 use Rattle.heap_region.specs.Regions.{Object, UsedRegion, Region, Empty, InUse, used_part, used_at, object_of, object_at, ref_of, in_used, references_of, slot_kinds, cell_size_for}
-use Rattle.heap_region.proofs.Looked.{ref_same, size_at, number_of, place_found}
+use Rattle.heap_region.proofs.ChangedLookups.{ref_same, size_at, number_of, place_found}
 use Rattle.heap_region.proofs.References.{member_none}
 use Rattle.heap_mark.specs.declared.Phase.TheVariants.{Idle, Marking}
-use Rattle.heap_mark.specs.Marking.{each_object, each_region, finish_refusal, finished_region, finished}
+use Rattle.heap_mark.specs.MarkSteps.{each_object, each_region, finish_refusal, finished_region, finished}
 use Rattle.heap_world.specs.State.{HeapState, marking_of, with_marking}
 use Rattle.heap_world.specs.Reach.{Names}
 use Rattle.heap_world.specs.Legal.{IsObjectOf, IsUnmarked, IsLive, Sheltered}

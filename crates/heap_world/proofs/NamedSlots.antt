@@ -12,11 +12,11 @@ use Rattle.heap_class.specs.Refusals.{first_refusal}
 use Rattle.heap_region.specs.Regions.{object_at, ref_of}
 use Rattle.heap_world.specs.State.{HeapState, is_register, register, with_register, slot_kind, word_of}
 use Rattle.heap_world.specs.Legal.{IsLegal}
-use Rattle.heap_world.specs.Held.{IsHeld}
+use Rattle.heap_world.specs.HeapParts.{IsSoundHeap}
 use Rattle.heap_world.specs.Events.{lacks_slot, is_reference_slot, move_refusal, after_move, clear_refusal, load_refusal, after_load, store_refusal}
 use Rattle.heap_world.proofs.Clauses.{clauses_of, legal_by}
 use Rattle.heap_world.proofs.Registers.{MayHold, register_member, write_legal, clear_legal, slot_names}
-use Rattle.heap_world.proofs.Refused.{here, later, none_left}
+use Rattle.heap_world.proofs.FirstRefusals.{here, later, none_left}
 use Rattle.heap_world.proofs.Slot.{slot_by}
 
 -- ---- two registers
@@ -92,7 +92,7 @@ by_kind w x slot k s = ap (λ (p : Option Kind). option_map_or is_reference p fa
 pub reference_by : (v : HeapState) (m r slot x : ℕ) (k : Kind) (b : Bool) → x ≡ register v m r → slot_kind v x slot ≡ Some k → b ≡ is_reference k → b ≡ is_reference_slot v (register v m r) slot
 reference_by v m r slot x k b q s e = e ∙ by_kind v x slot k s ∙ ap (λ y. is_reference_slot v y slot) q
 
-pub word_by : (w v : HeapState) (m r slot x y room : ℕ) (at : ObjRef) (k : Kind) → IsHeld w room → w ≡ v → x ≡ register v m r → ref_of v.regions x ≡ Some at → slot_kind v x slot ≡ Some k
+pub word_by : (w v : HeapState) (m r slot x y room : ℕ) (at : ObjRef) (k : Kind) → IsSoundHeap w room → w ≡ v → x ≡ register v m r → ref_of v.regions x ≡ Some at → slot_kind v x slot ≡ Some k
     → IfSome (object_at w.regions at) (λ o. y ≡ slice_index o.words slot) → y ≡ word_of v (register v m r) slot
 word_by w v m r slot x y room at k h e q p s f = (slot_by w v x slot room at k h e p s).word y f ∙ ap (λ (u : HeapState). word_of u x slot) e ∙ ap (λ z. word_of v z slot) q
 

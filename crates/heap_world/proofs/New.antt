@@ -16,12 +16,12 @@ use Rattle.heap_class.specs.Classes.{Class}
 use Rattle.heap_class.specs.Kinds.{value_limit}
 use Rattle.heap_region.specs.Regions.{Object, UsedRegion, Region, Empty, InUse, used_part, used_at, object_of, object_at, id_of, ref_of, with_region, references_of, slot_kinds, cell_size_for}
 use Rattle.heap_region.specs.Pool.{RegionPool, fresh_region, free_place, place_or_fresh, new_place, taken, restored, allocated}
-use Rattle.heap_region.proofs.Looked.{same_or_not, ref_same, size_at, number_of, region_of_ref}
-use Rattle.heap_region.proofs.Changed.{same_place}
+use Rattle.heap_region.proofs.ChangedLookups.{same_or_not, ref_same, size_at, number_of, region_of_ref}
+use Rattle.heap_region.proofs.PriorObjects.{same_place}
 use Rattle.heap_region.proofs.RoundTrip.{size_for, some_cell}
 use Rattle.heap_region.proofs.References.{member_head, member_tail, member_cases, get_set, get_set_other, length_set, get_within, found_in, references_by_slots}
 use Rattle.heap_mark.specs.declared.Phase.TheVariants.{Marking}
-use Rattle.heap_mark.specs.Marking.{is_marking}
+use Rattle.heap_mark.specs.MarkSteps.{is_marking}
 use Rattle.heap_world.proofs.Distinct.{distinct_tail, distinct_head}
 use Rattle.heap_world.specs.State.{HeapState, pool_of, with_pool, with_register}
 use Rattle.heap_world.specs.Reach.{Names}
@@ -30,11 +30,11 @@ use Rattle.heap_world.proofs.Clauses.{HasClauses}
 use Rattle.heap_region.proofs.Clauses.{IsPartition}
 use Rattle.heap_region.specs.Legal.{NamesEach}
 use Rattle.heap_world.specs.Events.{new_object, after_new, is_full}
-use Rattle.heap_world.proofs.Opening.{range_distinct, range_index}
+use Rattle.heap_world.proofs.OpeningState.{range_distinct, range_index}
 use Rattle.heap_world.proofs.Shelter.{sheltered_unmarked}
 use Rattle.heap_world.proofs.Tricolour.{Spares, spares_tricolour, spares_sheltered}
 use Rattle.heap_world.proofs.Registers.{IsSafe, namer, names_of, write_legal}
-use Rattle.heap_world.proofs.Taken.{HasRoom, IsTaken, is_taken, filled, first_of}
+use Rattle.heap_world.proofs.TakenCells.{HasRoom, IsTaken, is_taken, filled, first_of}
 
 -- ---- a region with room
 

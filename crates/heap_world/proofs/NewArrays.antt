@@ -15,14 +15,14 @@ use Rattle.heap_class.specs.Refusals.{first_refusal, IsAnswered}
 use Rattle.heap_region.specs.Pool.{is_fresh}
 use Rattle.heap_world.specs.State.{HeapState, is_register, pool_of}
 use Rattle.heap_world.specs.Legal.{HasKind}
-use Rattle.heap_world.specs.Held.{IsHeld}
+use Rattle.heap_world.specs.HeapParts.{IsSoundHeap}
 use Rattle.heap_world.specs.Events.{is_full, new_array_refusal, new_prim_refusal}
-use Rattle.heap_world.proofs.Kept.{class_held}
-use Rattle.heap_world.proofs.Refused.{IsRefusedRoom, here, later, none_left, fresh_room}
+use Rattle.heap_world.proofs.KeptParts.{class_held}
+use Rattle.heap_world.proofs.FirstRefusals.{IsRefusedRoom, here, later, none_left, fresh_room}
 
 -- a class of object arrays is defined
-pub array_class_held : (w : HeapState) (room : ℕ) (name : List ℕ) (cs : List Class) (result : Result ℕ Refusal) → IsHeld w room
-    → IsAnswered (class_refusal w.classes (array_class name)) true result → OnOk result (cs ≡ w.classes ++ array_class name ∷ []) → OnErr result (cs ≡ w.classes) → IsHeld (record w { classes = cs }) room
+pub array_class_held : (w : HeapState) (room : ℕ) (name : List ℕ) (cs : List Class) (result : Result ℕ Refusal) → IsSoundHeap w room
+    → IsAnswered (class_refusal w.classes (array_class name)) true result → OnOk result (cs ≡ w.classes ++ array_class name ∷ []) → OnErr result (cs ≡ w.classes) → IsSoundHeap (record w { classes = cs }) room
 array_class_held w room name cs result h a d e = class_held w room (array_class name) cs result h (λ b. (refl, refl)) a d e
 
 array_within : (cs : List Class) (k : ℕ) → is_array_class cs k ≡ true → k < length cs

@@ -2,14 +2,14 @@
 use Rattle.std.proofs.Common.{◌≡◌, ℕ, ◌+◌, ◌-◌, ◌≤◌, Bool, true, false, List, [], ◌∷◌, ◌++◌, length, drop, refl, Option, Some, None, arith}
 use Rattle.std.specs.Prelude.{slice_index, nat_lt, ◌==◌, if◌then◌else◌}
 use Rattle.std.specs.Option.{option_map_or}
-use Rattle.heap_class.proofs.Refused.{none_holds}
+use Rattle.heap_class.proofs.Refusals.{none_holds}
 use Rattle.heap_class.specs.declared.ObjRef.{ObjRef}
 use Rattle.heap_class.specs.declared.ObjKind.{ObjKind}
 use Rattle.heap_region.specs.Regions.{id_of}
 use Rattle.heap_region.specs.Pool.{RegionPool, new_place, allocated}
 use Rattle.heap_mark.specs.declared.Phase.{Phase}
 use Rattle.heap_mark.specs.declared.Phase.TheVariants.{Marking}
-use Rattle.heap_mark.specs.Marking.{MarkState, is_marking, children_of, logged, marked, drained_once, finish_refusal}
+use Rattle.heap_mark.specs.MarkSteps.{MarkState, is_marking, children_of, logged, marked, drained_once, finish_refusal}
 use Rattle.heap_mark.proofs.Shades.{shades_all}
 use Rattle.heap_world.specs.State.{HeapState, pool_of, with_pool, marking_of, register, with_register, word_of}
 use Rattle.heap_world.specs.Events.{new_object, after_new, is_reference_slot, after_load, with_slot, after_store, after_put, after_mark, after_drain}

@@ -9,12 +9,12 @@ use Rattle.heap_class.specs.declared.ObjRef.{ObjRef}
 use Rattle.heap_class.specs.declared.ObjKind.{ObjKind}
 use Rattle.heap_region.specs.Regions.{Object, Region, object_of, ref_of, id_of, with_object, with_word}
 use Rattle.heap_region.specs.Pool.{RegionPool, new_place, allocated}
-use Rattle.heap_region.proofs.Looked.{same_or_not, place_found, object_of_with_object, object_of_with_object_other}
+use Rattle.heap_region.proofs.ChangedLookups.{same_or_not, place_found, object_of_with_object, object_of_with_object_other}
 use Rattle.heap_region.proofs.References.{length_set}
-use Rattle.heap_region.proofs.Allocated.{allocated_keeps}
+use Rattle.heap_region.proofs.AllocatedRegions.{allocated_keeps}
 use Rattle.heap_mark.specs.declared.Phase.{Phase}
 use Rattle.heap_mark.specs.declared.Phase.TheVariants.{Marking}
-use Rattle.heap_mark.specs.Marking.{MarkState, children_of, snapped, marked, drained_once, finished}
+use Rattle.heap_mark.specs.MarkSteps.{MarkState, children_of, snapped, marked, drained_once, finished}
 use Rattle.heap_mark.proofs.Shades.{Shades, IsShadedAt, as_marked, shades_all, children_same}
 use Rattle.heap_world.specs.State.{HeapState, pool_of, with_pool, with_marking, with_register, place_of}
 use Rattle.heap_world.specs.Reach.{Names, IsPath, IsObject, Reaches}
@@ -22,7 +22,7 @@ use Rattle.heap_world.specs.Legal.{IsLive, IsMarked, Sheltered}
 use Rattle.heap_world.specs.Events.{new_object, after_new, after_snap, after_mark, after_drain, after_finish}
 use Rattle.heap_world.proofs.Clauses.{HasClauses}
 use Rattle.heap_world.proofs.Marks.{begun, shaded_heap}
-use Rattle.heap_world.proofs.Written.{WriteForm, with_object_word}
+use Rattle.heap_world.proofs.WordWrites.{WriteForm, with_object_word}
 use Rattle.heap_world.proofs.Finish.{settled, named_settled, marked_object_live}
 use Rattle.heap_world.proofs.Sweep.{sheltered_live}
 

@@ -10,11 +10,11 @@ use Rattle.heap_class.specs.declared.ObjRef.{ObjRef}
 use Rattle.heap_class.specs.Classes.{Class, slots_of, slot_kinds_of}
 use Rattle.heap_class.proofs.Slots.{instance_within}
 use Rattle.heap_region.specs.Regions.{Object, object_at, object_of, ref_of, slot_kinds}
-use Rattle.heap_region.proofs.Looked.{object_at_ref}
+use Rattle.heap_region.proofs.ChangedLookups.{object_at_ref}
 use Rattle.heap_world.specs.State.{HeapState, register, slot_kind, word_of}
 use Rattle.heap_world.specs.Legal.{IsLegal, HasKind}
-use Rattle.heap_world.specs.Held.{IsHeld}
-use Rattle.heap_class.proofs.Refused.{none_holds}
+use Rattle.heap_world.specs.HeapParts.{IsSoundHeap}
+use Rattle.heap_class.proofs.Refusals.{none_holds}
 use Rattle.heap_world.specs.Events.{put_refusal, lacks_slot}
 use Rattle.heap_world.proofs.Registers.{slot_there, word_there}
 use Rattle.heap_world.proofs.Words.{words_few}
@@ -108,7 +108,7 @@ has_slot w x slot at k l e f = record {
 
 -- ---- by the fields
 
-pub class_by : (w v : HeapState) (at : ObjRef) (k room : ℕ) → IsHeld w room → w ≡ v → IsSome (object_at v.regions at) → IfSome (object_at w.regions at) (λ o. Instance k ≡ o.kind) → k < length w.classes
+pub class_by : (w v : HeapState) (at : ObjRef) (k room : ℕ) → IsSoundHeap w room → w ≡ v → IsSome (object_at v.regions at) → IfSome (object_at w.regions at) (λ o. Instance k ≡ o.kind) → k < length w.classes
 class_by w v at k room h e there f = class_there w at k h.legal (subst (λ (u : HeapState). IsSome (object_at u.regions at)) (sym e) there) f
 
 abbrev IsKindAt : HeapState → ObjRef → ℕ → Option Kind → Type 0
@@ -128,21 +128,21 @@ pub prim_by : (w v : HeapState) (at : ObjRef) (slot n : ℕ) (kind : Kind) (k : 
 unfolding slot_kinds_of
 prim_by w v at slot n kind k e f l g = subst (λ (u : HeapState). IsKindAt u at slot k) e (kinds_of w at slot n (Prim kind) k f l g)
 
-pub named_by : (w v : HeapState) (x room : ℕ) → IsHeld w room → w ≡ v → Contains v.registers x → x ≢ 0 → IsSome (object_of w.regions x)
+pub named_by : (w v : HeapState) (x room : ℕ) → IsSoundHeap w room → w ≡ v → Contains v.registers x → x ≢ 0 → IsSome (object_of w.regions x)
 named_by w v x room h e c n = register_names w x h.legal (subst (λ (u : HeapState). Contains u.registers x) (sym e) c) n
 
 pub ref_by : (w v : HeapState) (x : ℕ) (at : ObjRef) → w ≡ v → ref_of w.regions x ≡ Some at → ref_of v.regions x ≡ Some at
 ref_by w v x at e r = subst (λ (u : HeapState). ref_of u.regions x ≡ Some at) e r
 
-pub placed_by : (w v : HeapState) (x room : ℕ) (at : ObjRef) → IsHeld w room → w ≡ v → Contains v.registers x → x ≢ 0 → ref_of w.regions x ≡ Some at → IsSome (object_at v.regions at)
+pub placed_by : (w v : HeapState) (x room : ℕ) (at : ObjRef) → IsSoundHeap w room → w ≡ v → Contains v.registers x → x ≢ 0 → ref_of w.regions x ≡ Some at → IsSome (object_at v.regions at)
 placed_by w v x room at h e c n r = subst (λ (u : HeapState). IsSome (object_at u.regions at)) e (place_has w x at (named_by w v x room h e c n) r)
 
-pub kind_by : (w v : HeapState) (x slot room : ℕ) (at : ObjRef) (k : Option Kind) → IsHeld w room → w ≡ v → Contains v.registers x → x ≢ 0 → ref_of w.regions x ≡ Some at
+pub kind_by : (w v : HeapState) (x slot room : ℕ) (at : ObjRef) (k : Option Kind) → IsSoundHeap w room → w ≡ v → Contains v.registers x → x ≢ 0 → ref_of w.regions x ≡ Some at
     → IfSome (object_at v.regions at) (λ o. k ≡ slice_get (slot_kinds v.classes o) slot) → slot_kind v x slot ≡ k
 kind_by w v x slot room at k h e c n r f = slot_kind_is v x slot at k (ref_by w v x at e r) (placed_by w v x room at h e c n r) f
 
 -- the object at the place has the slot
-pub slot_by : (w v : HeapState) (x slot room : ℕ) (at : ObjRef) (k : Kind) → IsHeld w room → w ≡ v → ref_of v.regions x ≡ Some at → slot_kind v x slot ≡ Some k → HasSlot w x slot at
+pub slot_by : (w v : HeapState) (x slot room : ℕ) (at : ObjRef) (k : Kind) → IsSoundHeap w room → w ≡ v → ref_of v.regions x ≡ Some at → slot_kind v x slot ≡ Some k → HasSlot w x slot at
 slot_by w v x slot room at k h e r f = subst (λ (u : HeapState). HasSlot u x slot at) (sym e) (has_slot v x slot at k (subst IsLegal e h.legal) r f)
 
 pub some_kind : (p : Option Kind) → is_none p ≡ false → (k : Kind) × (p ≡ Some k)
@@ -150,7 +150,7 @@ some_kind None h = cc
 some_kind (Some k) h = (k, refl)
 
 -- where a value may be put, the object has the slot
-pub put_by : (w v : HeapState) (m target slot value room : ℕ) (at : ObjRef) → IsHeld w room → w ≡ v → put_refusal m target slot value v ≡ None → ref_of v.regions (register v m target) ≡ Some at → HasSlot w (register v m target) slot at
+pub put_by : (w v : HeapState) (m target slot value room : ℕ) (at : ObjRef) → IsSoundHeap w room → w ≡ v → put_refusal m target slot value v ≡ None → ref_of v.regions (register v m target) ≡ Some at → HasSlot w (register v m target) slot at
 unfolding put_refusal lacks_slot
 put_by w v m target slot value room at h e accepted r =
     let k = some_kind (slot_kind v (register v m target) slot) (none_holds _ accepted).1.1.0 in

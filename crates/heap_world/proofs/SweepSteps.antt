@@ -7,18 +7,18 @@ use Rattle.heap_class.specs.Refusals.{IsAnswered}
 use Rattle.heap_region.specs.Regions.{Object, UsedRegion, with_region}
 use Rattle.heap_region.specs.Pool.{RegionPool, restored, released}
 use Rattle.heap_region.specs.Legal.{IsRegionPool}
-use Rattle.heap_region.proofs.Updated.{length_updated}
+use Rattle.heap_region.proofs.UpdatedLists.{length_updated}
 use Rattle.heap_region.proofs.References.{length_set}
 use Rattle.heap_sweep.specs.declared.Reclaimed.TheVariants.{Swept}
 use Rattle.heap_sweep.specs.Sweep.{dead_cells, sweep_refusal, swept_region, is_emptied, dead_at, swept, reclaimed, unswept}
-use Rattle.heap_sweep.proofs.Swept.{swept_back}
+use Rattle.heap_sweep.proofs.SweepUndo.{swept_back}
 use Rattle.heap_sweep.proofs.Ready.{pending_used, reclaimed_kept}
 use Rattle.heap_world.specs.State.{HeapState, pool_of, with_pool}
 use Rattle.heap_world.specs.Legal.{IsLegal}
-use Rattle.heap_world.specs.Held.{IsHeld}
+use Rattle.heap_world.specs.HeapParts.{IsSoundHeap}
 use Rattle.heap_world.specs.Events.{after_sweep}
 use Rattle.heap_world.proofs.Clauses.{clauses_of, legal_by}
-use Rattle.heap_world.proofs.Kept.{held_by}
+use Rattle.heap_world.proofs.KeptParts.{held_by}
 use Rattle.heap_world.proofs.Sweep.{sweep_legal}
 
 -- ---- as many regions
@@ -37,12 +37,12 @@ length_restored r u s = length_set s.regions r _
 
 -- ---- sweep
 
-pub sweep_held : {A : Type 0} (w : HeapState) (room r : ℕ) (grows : Bool) (s : RegionPool) (result : Result A Refusal) → IsHeld w room → IsAnswered (sweep_refusal r (pool_of w)) grows result
-    → OnOk result (s ≡ swept r (pool_of w)) → OnErr result (s ≡ pool_of w) → IsHeld (with_pool s w) room
+pub sweep_held : {A : Type 0} (w : HeapState) (room r : ℕ) (grows : Bool) (s : RegionPool) (result : Result A Refusal) → IsSoundHeap w room → IsAnswered (sweep_refusal r (pool_of w)) grows result
+    → OnOk result (s ≡ swept r (pool_of w)) → OnErr result (s ≡ pool_of w) → IsSoundHeap (with_pool s w) room
 unfolding after_sweep
-sweep_held w room r grows s (Ok x) h accepted e same = subst (λ (t : RegionPool). IsHeld (with_pool t w) room) (sym e)
+sweep_held w room r grows s (Ok x) h accepted e same = subst (λ (t : RegionPool). IsSoundHeap (with_pool t w) room) (sym e)
     (held_by (after_sweep r w) w room h (legal_by (after_sweep r w) (sweep_legal w r (clauses_of w h.legal) accepted)) (length_swept r (pool_of w)))
-sweep_held w room r grows s (Err x) h answered e same = subst (λ (t : RegionPool). IsHeld (with_pool t w) room) (sym same) h
+sweep_held w room r grows s (Err x) h answered e same = subst (λ (t : RegionPool). IsSoundHeap (with_pool t w) room) (sym same) h
 
 pub sweep_made : {A : Type 0} (w v : HeapState) (r : ℕ) (s : RegionPool) (result : Result A Refusal) → w ≡ v → OnOk result (s ≡ swept r (pool_of w)) → OnOk result (with_pool s w ≡ after_sweep r v)
 unfolding after_sweep
@@ -78,8 +78,8 @@ before_is : (w v : HeapState) (r : ℕ) (dead : List (ℕ × Object)) → w ≡ 
 unfolding after_sweep
 before_is w v r dead same p = ap (with_pool (pool_of p.0)) (same ∙ p.5)
 
-pub unsweep_held : (w v : HeapState) (room r : ℕ) (dead : List (ℕ × Object)) (s : RegionPool) → IsHeld w room → w ≡ v → IsSweptHeap r dead v → IsPutBack (pool_of w) s dead r → IsHeld (with_pool s w) room
-unsweep_held w v room r dead s h same p back = subst (λ (t : RegionPool). IsHeld (with_pool t w) room) (sym (put_back w v r dead s same p back))
+pub unsweep_held : (w v : HeapState) (room r : ℕ) (dead : List (ℕ × Object)) (s : RegionPool) → IsSoundHeap w room → w ≡ v → IsSweptHeap r dead v → IsPutBack (pool_of w) s dead r → IsSoundHeap (with_pool s w) room
+unsweep_held w v room r dead s h same p back = subst (λ (t : RegionPool). IsSoundHeap (with_pool t w) room) (sym (put_back w v r dead s same p back))
     (held_by (with_pool (pool_of p.0) w) w room h (subst IsLegal (sym (before_is w v r dead same p)) p.1)
     (sym (length_swept r (pool_of p.0)) ∙ sym (ap (λ (t : RegionPool). length t.regions) (after_that w v r dead same p))))
 
@@ -100,6 +100,6 @@ unsweep_back w v r dead s same back p = ap (λ (t : RegionPool). with_pool t w) 
 
 -- ---- a sweep that left none is taken back
 
-pub unreclaim_held : (w v : HeapState) (room r : ℕ) (u : UsedRegion) (s : RegionPool) → IsHeld w room → w ≡ v → IsLegal (with_pool (restored r u (pool_of v)) v) → s ≡ restored r u (pool_of w) → IsHeld (with_pool s w) room
-unreclaim_held w v room r u s h same l e = subst (λ (t : RegionPool). IsHeld (with_pool t w) room) (sym e)
+pub unreclaim_held : (w v : HeapState) (room r : ℕ) (u : UsedRegion) (s : RegionPool) → IsSoundHeap w room → w ≡ v → IsLegal (with_pool (restored r u (pool_of v)) v) → s ≡ restored r u (pool_of w) → IsSoundHeap (with_pool s w) room
+unreclaim_held w v room r u s h same l e = subst (λ (t : RegionPool). IsSoundHeap (with_pool t w) room) (sym e)
     (held_by (with_pool (restored r u (pool_of w)) w) w room h (subst (λ (x : HeapState). IsLegal (with_pool (restored r u (pool_of x)) x)) (sym same) l) (length_restored r u (pool_of w)))

@@ -6,7 +6,7 @@ use Rattle.heap_class.specs.declared.ObjKind.{ObjKind}
 use Rattle.heap_class.specs.declared.ObjKind.TheVariants.{Instance, Array, Prim}
 use Rattle.heap_class.specs.Limits.{slot_limit}
 use Rattle.heap_class.specs.Classes.{Class, slots_under, slot_table_after, slots_of, class_refusal, IsClassTable}
-use Rattle.heap_class.proofs.Refused.{none_holds}
+use Rattle.heap_class.proofs.Refusals.{none_holds}
 use Rattle.heap_class.proofs.Slots.{table_more}
 use Rattle.heap_region.specs.Limits.{region_words}
 use Rattle.heap_region.specs.Legal.{IsRegionPool}

@@ -12,7 +12,7 @@ use Rattle.heap_class.specs.Refusals.{first_refusal}
 use Rattle.heap_class.specs.Classes.{Class, is_instance_class, is_array_class, slots_of}
 use Rattle.heap_region.specs.Regions.{Object, with_word, id_of}
 use Rattle.heap_region.specs.Pool.{new_place, allocated}
-use Rattle.heap_mark.specs.Marking.{is_marking, logged, snapped, marked, drained_once, finished}
+use Rattle.heap_mark.specs.MarkSteps.{is_marking, logged, snapped, marked, drained_once, finished}
 use Rattle.heap_sweep.specs.Sweep.{swept}
 use Rattle.heap_world.specs.State.{HeapState, pool_of, with_pool, marking_of, with_marking, is_register, register, with_register, place_of, slot_kind, word_of}
 
@@ -24,11 +24,15 @@ after_class c w = record w { classes = w.classes ++ c ∷ [] }
 
 -- a new object: its slots are 0, it is live, and it is marked exactly if a cycle runs
 unfoldable pub new_object : ObjKind → ℕ → HeapState → Object
-new_object kind n w = record { kind = kind; words = replicate n 0; live = true; mark = is_marking w.phase }
+new_object kind n w =
+    record { kind = kind; words = replicate n 0; live = true; mark = is_marking w.phase }
 
 -- the state after a new object of n slots is put in register r of mutator m; unchanged if the heap is full
 unfoldable pub after_new : ℕ → ℕ → ObjKind → ℕ → HeapState → HeapState
-after_new m r kind n w = option_map_or (λ p. let s = allocated p.0 p.1 (new_object kind n w) (pool_of w) in with_register m r (id_of s.regions p.0) (with_pool s w)) (new_place n (pool_of w)) w
+after_new m r kind n w =
+    option_map_or
+    (λ p. let s = allocated p.0 p.1 (new_object kind n w) (pool_of w) in
+    with_register m r (id_of s.regions p.0) (with_pool s w)) (new_place n (pool_of w)) w
 
 -- whether there is no place for an object of n slots
 unfoldable pub is_full : ℕ → HeapState → Bool
@@ -82,7 +86,9 @@ load_refusal m to from slot w = first_refusal
 
 -- the state after a load: a reference goes to the register, and a value changes nothing
 unfoldable pub after_load : ℕ → ℕ → ℕ → ℕ → HeapState → HeapState
-after_load m to from slot w = let x = register w m from in if is_reference_slot w x slot then with_register m to (word_of w x slot) w else w
+after_load m to from slot w =
+    let x = register w m from in
+    if is_reference_slot w x slot then with_register m to (word_of w x slot) w else w
 
 -- the refusal of a store, or None if it is accepted
 unfoldable pub store_refusal : ℕ → ℕ → ℕ → ℕ → HeapState → Option Refusal
@@ -107,7 +113,10 @@ with_slot x slot word w = record w { regions = with_word (place_of w x) slot wor
 
 -- the state after a store: the barrier logs the old word, and the slot has the word of the register
 unfoldable pub after_store : ℕ → ℕ → ℕ → ℕ → HeapState → HeapState
-after_store m target slot source w = let x = register w m target in with_slot x slot (register w m source) (with_marking (logged (word_of w x slot) (marking_of w)) w)
+after_store m target slot source w =
+    let x = register w m target in
+    with_slot x slot (register w m source)
+    (with_marking (logged (word_of w x slot) (marking_of w)) w)
 
 -- the refusal of a put, or None if it is accepted
 unfoldable pub put_refusal : ℕ → ℕ → ℕ → ℕ → HeapState → Option Refusal
@@ -116,7 +125,11 @@ put_refusal m target slot value w = first_refusal
     ∷ (register w m target == 0, NullRegister)
     ∷ (lacks_slot w (register w m target) slot, BadSlot)
     ∷ (is_reference_slot w (register w m target) slot, WrongKind)
-    ∷ (option_map_or (λ k. nat_le (value_limit k) value) (slot_kind w (register w m target) slot) false, OutOfRange)
+    ∷ (
+      option_map_or (λ k. nat_le (value_limit k) value) (slot_kind w (register w m target) slot)
+          false,
+      OutOfRange,
+    )
     ∷ [])
 
 -- the state after a put: the slot has the value
@@ -127,7 +140,8 @@ after_put m target slot value w = with_slot (register w m target) slot value w
 
 -- the refusal of a move, or None if it is accepted
 unfoldable pub move_refusal : ℕ → ℕ → ℕ → ℕ → HeapState → Option Refusal
-move_refusal m to from_m from w = first_refusal ((not (is_register w m to && is_register w from_m from), BadRegister) ∷ [])
+move_refusal m to from_m from w =
+    first_refusal ((not (is_register w m to && is_register w from_m from), BadRegister) ∷ [])
 
 -- the state after a move: the register has the word of the other
 unfoldable pub after_move : ℕ → ℕ → ℕ → ℕ → HeapState → HeapState

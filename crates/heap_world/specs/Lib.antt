@@ -4,4 +4,4 @@ pub mod Legal
 pub mod Reach
 pub mod Events
 pub mod Opened
-pub mod Held
+pub mod HeapParts

@@ -16,13 +16,13 @@ abbrev pub keep_limit : ℕ
 keep_limit = 65536
 
 -- a heap may have these numbers of regions, of mutators and of steps that can be undone
-pub record AreSettings (regions mutators keep : ℕ) : Type 0 where
+pub record AreHeapSettings (regions mutators keep : ℕ) : Type 0 where
   pub regions_within : (1 ≤ regions) × (regions ≤ region_limit)
   pub mutators_within : (1 ≤ mutators) × (mutators ≤ mutator_limit)
   pub keep_within : (1 ≤ keep) × (keep ≤ keep_limit)
 
 -- the settings of a heap: its regions, its mutators, the steps that can be undone, and the size of the ids in its dumps
-pub record Settings : Type 0 where
+pub record HeapSettings : Type 0 where
   pub regions : ℕ
   pub mutators : ℕ
   pub keep : ℕ

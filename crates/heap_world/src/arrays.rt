@@ -15,7 +15,8 @@ impl World {
     /// Defines a class of object arrays, and returns its number. Fails with ClassLimit, BadName or DuplicateName, in this
     /// order, and then with NoMemory if an allocation fails.
     pub fn define_array_class(&mut self, name: &Name) -> Result<ClassNo, Refusal>
-        ensures answered { IsAnswered (class_refusal self.old.classes (array_class name.now)) true result }
+        ensures answered { IsAnswered (class_refusal self.old.classes (array_class name.now)) true
+            result }
         ensures defined { OnOk result (self.new ≡ after_class (array_class name.now) self.old) }
         ensures number { IfOk result (λ k. k ≡ length self.old.classes) }
         ensures unchanged { OnErr result (self.new ≡ self.old) }
@@ -33,10 +34,13 @@ impl World {
         class: ClassNo,
         len: u64,
     ) -> Result<Created, Refusal>
-        ensures answered { IsAnswered (new_array_refusal m r class len self.old) (is_fresh len (pool_of self.old)) result }
+        ensures answered { IsAnswered (new_array_refusal m r class len self.old)
+            (is_fresh len (pool_of self.old)) result }
         ensures made { OnOk result (self.new ≡ after_new m r (Array class) len self.old) }
-        ensures placed { IfOk result (λ c. new_place len (pool_of self.old) ≡ Some (c.at, c.fresh)) }
-        ensures held { IfOk result (λ c. (c.id ≡ register self.new m r) × (c.old ≡ register self.old m r)) }
+        ensures placed { IfOk result
+            (λ c. new_place len (pool_of self.old) ≡ Some (c.at, c.fresh)) }
+        ensures held { IfOk result
+            (λ c. (c.id ≡ register self.new m r) × (c.old ≡ register self.old m r)) }
         ensures register { OnOk result (IsTrue (is_register self.old m r)) }
         ensures unchanged { OnErr result (self.new ≡ self.old) }
     {
@@ -48,10 +52,13 @@ impl World {
     /// (the kind is Object), TooLarge (more than 1,024 elements) or HeapFull, in this order, and then with NoMemory if a
     /// region's storage can't be allocated.
     pub fn new_prim(&mut self, m: u64, r: u64, kind: Kind, len: u64) -> Result<Created, Refusal>
-        ensures answered { IsAnswered (new_prim_refusal m r kind len self.old) (is_fresh len (pool_of self.old)) result }
+        ensures answered { IsAnswered (new_prim_refusal m r kind len self.old)
+            (is_fresh len (pool_of self.old)) result }
         ensures made { OnOk result (self.new ≡ after_new m r (Prim kind) len self.old) }
-        ensures placed { IfOk result (λ c. new_place len (pool_of self.old) ≡ Some (c.at, c.fresh)) }
-        ensures held { IfOk result (λ c. (c.id ≡ register self.new m r) × (c.old ≡ register self.old m r)) }
+        ensures placed { IfOk result
+            (λ c. new_place len (pool_of self.old) ≡ Some (c.at, c.fresh)) }
+        ensures held { IfOk result
+            (λ c. (c.id ≡ register self.new m r) × (c.old ≡ register self.old m r)) }
         ensures register { OnOk result (IsTrue (is_register self.old m r)) }
         ensures unchanged { OnErr result (self.new ≡ self.old) }
     {

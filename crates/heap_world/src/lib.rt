@@ -9,7 +9,7 @@ ghost use Rattle.heap_class.specs.declared.ObjKind.TheVariants.{Instance};
 ghost use Rattle.heap_class.specs.declared.Refusal.TheVariants.{NoMemory, NullRegister, BadSlot, HeapFull};
 ghost use Rattle.heap_region.specs.Regions.{object_at, ref_of, slot_kinds, with_word};
 ghost use Rattle.heap_region.specs.Pool.{new_place, is_fresh, unallocated};
-ghost use Rattle.heap_world.specs.Limits.{AreSettings, Settings};
+ghost use Rattle.heap_world.specs.Limits.{AreHeapSettings, HeapSettings};
 ghost use Rattle.heap_world.specs.State.{HeapState, opening_state, is_register, register, with_register, pool_of, with_pool, place_of, slot_kind, word_of};
 ghost use Rattle.heap_world.specs.Legal.{IsLegal, HasKind};
 ghost use Rattle.heap_world.specs.Events.{after_class, is_full, new_refusal, after_new, put_refusal, after_put};
@@ -54,22 +54,25 @@ pub struct Config {
 }
 
 impl Model for Config {
-    ghost use Rattle.heap_world.specs.Limits.{AreSettings, Settings};
+    ghost use Rattle.heap_world.specs.Limits.{AreHeapSettings, HeapSettings};
 
-    ghost Value = { Settings };
+    ghost Value = { HeapSettings };
 
-    ghost view = { λ c. record { regions = c.regions; mutators = c.mutators; keep = c.keep; ids = c.ids } };
+    ghost view = { λ c.
+        record { regions = c.regions; mutators = c.mutators; keep = c.keep; ids = c.ids } };
 
-    ghost inverse = { λ c. record { regions = c.regions; mutators = c.mutators; keep = c.keep; ids = c.ids } };
+    ghost inverse = { λ c.
+        record { regions = c.regions; mutators = c.mutators; keep = c.keep; ids = c.ids } };
 
-    ghost invariant = { λ c. AreSettings c.regions c.mutators c.keep };
+    ghost invariant = { λ c. AreHeapSettings c.regions c.mutators c.keep };
 }
 
 impl Config {
     /// Creates settings with ids of 8 bytes. None if a number is outside its limits.
     pub fn new(regions: u64, mutators: u64, keep: u64) -> Option<Config>
-        ensures given { IfSome result (λ c. c ≡ record { regions = regions; mutators = mutators; keep = keep; ids = Eight }) }
-        ensures within { IsSome result ↔ AreSettings regions mutators keep }
+        ensures given { IfSome result
+            (λ c. c ≡ record { regions = regions; mutators = mutators; keep = keep; ids = Eight }) }
+        ensures within { IsSome result ↔ AreHeapSettings regions mutators keep }
     {
         let sized = 1 <= regions
             && regions <= REGION_LIMIT
@@ -96,7 +99,7 @@ impl Config {
     /// Returns the number of regions, 1 to 256.
     pub fn regions(&self) -> u64
         ensures value { result ≡ self.now.regions }
-        ensures limits { AreSettings self.now.regions self.now.mutators self.now.keep }
+        ensures limits { AreHeapSettings self.now.regions self.now.mutators self.now.keep }
     {
         self.regions
     }
@@ -111,7 +114,7 @@ impl Config {
     /// Returns the number of steps that can be undone, 1 to 65,536.
     pub fn keep(&self) -> u64
         ensures value { result ≡ self.now.keep }
-        ensures limits { AreSettings self.now.regions self.now.mutators self.now.keep }
+        ensures limits { AreHeapSettings self.now.regions self.now.mutators self.now.keep }
     {
         self.keep
     }
@@ -225,13 +228,14 @@ pub struct World {
 
 impl Model for World {
     ghost use Rattle.heap_world.specs.State.{HeapState};
-    ghost use Rattle.heap_world.specs.Held.{held, IsHeld};
+    ghost use Rattle.heap_world.specs.HeapParts.{heap_of_parts, IsSoundHeap};
 
     ghost Value = { HeapState };
 
-    ghost view = { λ w. held w.classes w.regions w.registers.items w.marker };
+    ghost view = { λ w. heap_of_parts w.classes w.regions w.registers.items w.marker };
 
-    ghost invariant = { λ w. IsHeld (held w.classes w.regions w.registers.items w.marker) w.marker.room };
+    ghost invariant = { λ w. IsSoundHeap
+        (heap_of_parts w.classes w.regions w.registers.items w.marker) w.marker.room };
 }
 
 impl World {
@@ -333,8 +337,10 @@ impl World {
         sup: Option<ClassNo>,
         fields: &Fields,
     ) -> Result<ClassNo, Refusal>
-        ensures answered { IsAnswered (class_refusal self.old.classes (instance_class name.now sup fields.now)) true result }
-        ensures defined { OnOk result (self.new ≡ after_class (instance_class name.now sup fields.now) self.old) }
+        ensures answered { IsAnswered
+            (class_refusal self.old.classes (instance_class name.now sup fields.now)) true result }
+        ensures defined { OnOk result
+            (self.new ≡ after_class (instance_class name.now sup fields.now) self.old) }
         ensures number { IfOk result (λ k. k ≡ length self.old.classes) }
         ensures unchanged { OnErr result (self.new ≡ self.old) }
     {
@@ -344,8 +350,10 @@ impl World {
     /// Undoes the last definition of a class, which must be there. The heap must be legal afterwards. Takes no memory.
     pub fn undefine_class(&mut self)
         requires there { 0 < length self.old.classes }
-        requires legal { IsLegal (record self.old { classes = take (length self.old.classes - 1) self.old.classes }) }
-        ensures { self.new ≡ record self.old { classes = take (length self.old.classes - 1) self.old.classes } }
+        requires legal { IsLegal
+            (record self.old { classes = take (length self.old.classes - 1) self.old.classes }) }
+        ensures { self.new
+            ≡ record self.old { classes = take (length self.old.classes - 1) self.old.classes } }
     {
         self.classes.undefine_last()
     }
@@ -353,10 +361,16 @@ impl World {
     /// Makes an instance of a class in register `r` of mutator `m`. Fails with BadRegister, NoClass, WrongKind (an array class)
     /// or HeapFull, in this order, and then with NoMemory if a region's storage can't be allocated.
     pub fn new_instance(&mut self, m: u64, r: u64, class: ClassNo) -> Result<Created, Refusal>
-        ensures answered { IsAnswered (new_refusal m r class self.old) (is_fresh (length (slots_of self.old.classes class)) (pool_of self.old)) result }
-        ensures made { OnOk result (self.new ≡ after_new m r (Instance class) (length (slots_of self.old.classes class)) self.old) }
-        ensures placed { IfOk result (λ c. new_place (length (slots_of self.old.classes class)) (pool_of self.old) ≡ Some (c.at, c.fresh)) }
-        ensures held { IfOk result (λ c. (c.id ≡ register self.new m r) × (c.old ≡ register self.old m r)) }
+        ensures answered { IsAnswered (new_refusal m r class self.old)
+            (is_fresh (length (slots_of self.old.classes class)) (pool_of self.old)) result }
+        ensures made { OnOk result
+            (self.new
+            ≡ after_new m r (Instance class) (length (slots_of self.old.classes class)) self.old) }
+        ensures placed { IfOk result
+            (λ c. new_place (length (slots_of self.old.classes class)) (pool_of self.old)
+            ≡ Some (c.at, c.fresh)) }
+        ensures held { IfOk result
+            (λ c. (c.id ≡ register self.new m r) × (c.old ≡ register self.old m r)) }
         ensures register { OnOk result (IsTrue (is_register self.old m r)) }
         ensures unchanged { OnErr result (self.new ≡ self.old) }
     {
@@ -369,8 +383,10 @@ impl World {
     pub fn unmake(&mut self, at: ObjRef, fresh: bool, m: u64, r: u64, old: u64)
         requires there { IsSome (object_at self.old.regions at) }
         requires register { IsTrue (is_register self.old m r) }
-        requires legal { IsLegal (with_register m r old (with_pool (unallocated at fresh (pool_of self.old)) self.old)) }
-        ensures { self.new ≡ with_register m r old (with_pool (unallocated at fresh (pool_of self.old)) self.old) }
+        requires legal { IsLegal
+            (with_register m r old (with_pool (unallocated at fresh (pool_of self.old)) self.old)) }
+        ensures { self.new
+            ≡ with_register m r old (with_pool (unallocated at fresh (pool_of self.old)) self.old) }
     {
         self.regions.unalloc(at, fresh);
         write_register(&mut self.registers, m, r, old);
@@ -389,7 +405,8 @@ impl World {
         ensures answered { IsAnswered (put_refusal m target slot value self.old) false result }
         ensures written { OnOk result (self.new ≡ after_put m target slot value self.old) }
         ensures placed { IfOk result (λ p. p.at ≡ place_of self.old (register self.old m target)) }
-        ensures old { IfOk result (λ p. p.old ≡ word_of self.old (register self.old m target) slot) }
+        ensures old { IfOk result
+            (λ p. p.old ≡ word_of self.old (register self.old m target) slot) }
         ensures slot { OnOk result (slot < 1024) }
         ensures unchanged { OnErr result (self.new ≡ self.old) }
     {
@@ -403,7 +420,8 @@ impl World {
     pub fn unput(&mut self, at: ObjRef, slot: u64, old: u64)
         requires there { IsSome (object_at self.old.regions at) }
         requires within { IfSome (object_at self.old.regions at) (λ o. slot < length o.words) }
-        requires legal { IsLegal (record self.old { regions = with_word at slot old self.old.regions }) }
+        requires legal { IsLegal
+            (record self.old { regions = with_word at slot old self.old.regions }) }
         ensures { self.new ≡ record self.old { regions = with_word at slot old self.old.regions } }
     {
         self.regions.set_word(at, slot, old)
@@ -433,10 +451,14 @@ impl World {
         requires register { IsTrue (is_register self.old m r) }
         requires kind { HasKind self.old.classes kind len }
         ensures room { OnOk result (is_full len self.old ≡ false) }
-        ensures refused { IfErr result (λ e. ((e ≡ HeapFull) × (is_full len self.old ≡ true)) ⊎ ((e ≡ NoMemory) × (is_fresh len (pool_of self.old) ≡ true))) }
+        ensures refused { IfErr result
+            (λ e. ((e ≡ HeapFull) × (is_full len self.old ≡ true))
+            ⊎ ((e ≡ NoMemory) × (is_fresh len (pool_of self.old) ≡ true))) }
         ensures made { OnOk result (self.new ≡ after_new m r kind len self.old) }
-        ensures placed { IfOk result (λ c. new_place len (pool_of self.old) ≡ Some (c.at, c.fresh)) }
-        ensures held { IfOk result (λ c. (c.id ≡ register self.new m r) × (c.old ≡ register self.old m r)) }
+        ensures placed { IfOk result
+            (λ c. new_place len (pool_of self.old) ≡ Some (c.at, c.fresh)) }
+        ensures held { IfOk result
+            (λ c. (c.id ≡ register self.new m r) × (c.old ≡ register self.old m r)) }
         ensures unchanged { OnErr result (self.new ≡ self.old) }
     {
         let mark = self.marker.phase().is_marking();
@@ -451,7 +473,8 @@ impl World {
     #[inline(always)]
     fn slot_kind_at(&self, at: ObjRef, slot: u64) -> Option<Kind>
         requires { IsSome (object_at self.now.regions at) }
-        ensures { IfSome (object_at self.now.regions at) (λ o. result ≡ slice_get (slot_kinds self.now.classes o) slot) }
+        ensures { IfSome (object_at self.now.regions at)
+            (λ o. result ≡ slice_get (slot_kinds self.now.classes o) slot) }
     {
         match self.regions.kind(at) {
             ObjKind::Instance(class) => kind_at(self.classes.slots(class), slot),
@@ -467,7 +490,9 @@ impl World {
         requires { Contains self.now.registers id }
         ensures slot { IfOk result (λ p. (id ≢ 0) × (slot_kind self.now id slot ≡ Some p.1)) }
         ensures placed { IfOk result (λ p. ref_of self.now.regions id ≡ Some p.0) }
-        ensures refused { IfErr result (λ e. ((e ≡ NullRegister) × (id ≡ 0)) ⊎ ((e ≡ BadSlot) × (id ≢ 0) × (slot_kind self.now id slot ≡ None))) }
+        ensures refused { IfErr result
+            (λ e. ((e ≡ NullRegister) × (id ≡ 0))
+            ⊎ ((e ≡ BadSlot) × (id ≢ 0) × (slot_kind self.now id slot ≡ None))) }
     {
         if id == 0 {
             return Err(Refusal::NullRegister);
@@ -484,7 +509,8 @@ impl World {
     fn put_place(&self, m: u64, target: u64, slot: u64, value: u64) -> Result<ObjRef, Refusal>
         ensures accepted { OnOk result (put_refusal m target slot value self.now ≡ None) }
         ensures refused { IfErr result (λ e. put_refusal m target slot value self.now ≡ Some e) }
-        ensures placed { IfOk result (λ at. ref_of self.now.regions (register self.now m target) ≡ Some at) }
+        ensures placed { IfOk result
+            (λ at. ref_of self.now.regions (register self.now m target) ≡ Some at) }
     {
         if !self.has_register(m, target) {
             return Err(Refusal::BadRegister);

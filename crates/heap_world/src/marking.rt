@@ -1,7 +1,7 @@
 //! The marker's steps on the heap, and the undoing of each.
 ghost use Rattle.std.specs.Prelude.{◌≡◌, ◌+◌, ◌-◌, ◌<◌, ◌≤◌, length, slice_index, None, false, IfOk, OnOk, OnErr};
 ghost use Rattle.heap_class.specs.Refusals.{IsAnswered};
-ghost use Rattle.heap_mark.specs.Marking.{snap_refusal, unsnapped, mark_refusal, unmarked, drain_refusal, undrained, finish_refusal, unfinished, dead_count};
+ghost use Rattle.heap_mark.specs.MarkSteps.{snap_refusal, unsnapped, mark_refusal, unmarked, drain_refusal, undrained, finish_refusal, unfinished, dead_count};
 ghost use Rattle.heap_world.specs.State.{HeapState, marking_of, with_marking};
 ghost use Rattle.heap_world.specs.Legal.{IsLegal};
 ghost use Rattle.heap_world.specs.Events.{after_snap, after_mark, after_drain, after_finish};
@@ -24,9 +24,11 @@ impl World {
 
     /// Undoes `snap`, which must have led to this state. Takes no memory.
     pub fn unsnap(&mut self)
-        requires snapped { (before : HeapState) × IsLegal before × (snap_refusal (marking_of before) ≡ None) × (self.old ≡ after_snap before) }
+        requires snapped { (before : HeapState) × IsLegal before
+            × (snap_refusal (marking_of before) ≡ None) × (self.old ≡ after_snap before) }
         ensures unsnapped { self.new ≡ with_marking (unsnapped (marking_of self.old)) self.old }
-        ensures back { (before : HeapState) → IsLegal before → snap_refusal (marking_of before) ≡ None → self.old ≡ after_snap before
+        ensures back { (before : HeapState) → IsLegal before
+            → snap_refusal (marking_of before) ≡ None → self.old ≡ after_snap before
             → self.new ≡ before }
     {
         self.marker.unsnap(&mut self.regions)
@@ -39,7 +41,8 @@ impl World {
         ensures answered { IsAnswered (mark_refusal (marking_of self.old)) false result }
         ensures marked { OnOk result (self.new ≡ after_mark self.old) }
         ensures parent { IfOk result (λ p. p.parent ≡ slice_index self.old.gray 0) }
-        ensures pushed { IfOk result (λ p. p.pushed ≡ length self.new.gray + 1 - length self.old.gray) }
+        ensures pushed { IfOk result
+            (λ p. p.pushed ≡ length self.new.gray + 1 - length self.old.gray) }
         ensures unchanged { OnErr result (self.new ≡ self.old) }
     {
         self.marker.mark(&mut self.regions, &self.classes)
@@ -49,7 +52,8 @@ impl World {
     /// least `pushed` objects must be gray. The heap must be legal afterwards. Takes no memory.
     pub fn unmark(&mut self, parent: u64, pushed: u64)
         requires within { pushed ≤ length self.old.gray }
-        requires legal { IsLegal (with_marking (unmarked parent pushed (marking_of self.old)) self.old) }
+        requires legal { IsLegal
+            (with_marking (unmarked parent pushed (marking_of self.old)) self.old) }
         ensures { self.new ≡ with_marking (unmarked parent pushed (marking_of self.old)) self.old }
     {
         self.marker.unmark(&mut self.regions, parent, pushed)

@@ -16,8 +16,10 @@ impl World {
     pub fn load(&mut self, m: u64, to: u64, from: u64, slot: u64) -> Result<Loaded, Refusal>
         ensures answered { IsAnswered (load_refusal m to from slot self.old) false result }
         ensures loaded { OnOk result (self.new ≡ after_load m to from slot self.old) }
-        ensures word { IfOk result (λ l. l.word ≡ word_of self.old (register self.old m from) slot) }
-        ensures reference { IfOk result (λ l. l.reference ≡ is_reference_slot self.old (register self.old m from) slot) }
+        ensures word { IfOk result
+            (λ l. l.word ≡ word_of self.old (register self.old m from) slot) }
+        ensures reference { IfOk result
+            (λ l. l.reference ≡ is_reference_slot self.old (register self.old m from) slot) }
         ensures old { IfOk result (λ l. l.old ≡ register self.old m to) }
         ensures register { OnOk result (IsTrue (is_register self.old m to)) }
         ensures unchanged { OnErr result (self.new ≡ self.old) }
@@ -50,11 +52,14 @@ impl World {
         slot: u64,
         source: u64,
     ) -> Result<Replaced, Refusal>
-        ensures answered { IsAnswered (store_refusal m target slot source self.old) (is_logged self.old (register self.old m target) slot) result }
+        ensures answered { IsAnswered (store_refusal m target slot source self.old)
+            (is_logged self.old (register self.old m target) slot) result }
         ensures stored { OnOk result (self.new ≡ after_store m target slot source self.old) }
         ensures placed { IfOk result (λ p. p.at ≡ place_of self.old (register self.old m target)) }
-        ensures old { IfOk result (λ p. p.old ≡ word_of self.old (register self.old m target) slot) }
-        ensures logged { IfOk result (λ p. p.logged ≡ is_logged self.old (register self.old m target) slot) }
+        ensures old { IfOk result
+            (λ p. p.old ≡ word_of self.old (register self.old m target) slot) }
+        ensures logged { IfOk result
+            (λ p. p.logged ≡ is_logged self.old (register self.old m target) slot) }
         ensures slot { OnOk result (slot < 1024) }
         ensures unchanged { OnErr result (self.new ≡ self.old) }
     {
@@ -72,8 +77,16 @@ impl World {
         requires there { IsSome (object_at self.old.regions at) }
         requires within { IfSome (object_at self.old.regions at) (λ o. slot < length o.words) }
         requires entry { IsTrue logged → 0 < length self.old.log }
-        requires legal { IsLegal (record self.old { regions = with_word at slot old self.old.regions; log = if logged then without_last self.old.log else self.old.log }) }
-        ensures { self.new ≡ record self.old { regions = with_word at slot old self.old.regions; log = if logged then without_last self.old.log else self.old.log } }
+        requires legal { IsLegal
+            (record self.old {
+              regions = with_word at slot old self.old.regions;
+              log = if logged then without_last self.old.log else self.old.log;
+            }) }
+        ensures { self.new
+            ≡ record self.old {
+              regions = with_word at slot old self.old.regions;
+              log = if logged then without_last self.old.log else self.old.log;
+            } }
     {
         self.marker.unlog_old(logged);
         self.regions.set_word(at, slot, old)
@@ -117,7 +130,7 @@ impl World {
 
     /// Undoes `load`, `move_register` or `clear_register`: writes the old word to register `r` of mutator `m`, which must be
     /// there. The heap must be legal afterwards. Takes no memory.
-    pub fn unregister(&mut self, m: u64, r: u64, old: u64)
+    pub fn restore_register(&mut self, m: u64, r: u64, old: u64)
         requires register { IsTrue (is_register self.old m r) }
         requires legal { IsLegal (with_register m r old self.old) }
         ensures { self.new ≡ with_register m r old self.old }
@@ -141,7 +154,8 @@ impl World {
     fn store_place(&self, m: u64, target: u64, slot: u64, source: u64) -> Result<ObjRef, Refusal>
         ensures accepted { OnOk result (store_refusal m target slot source self.now ≡ None) }
         ensures refused { IfErr result (λ e. store_refusal m target slot source self.now ≡ Some e) }
-        ensures placed { IfOk result (λ at. ref_of self.now.regions (register self.now m target) ≡ Some at) }
+        ensures placed { IfOk result
+            (λ at. ref_of self.now.regions (register self.now m target) ≡ Some at) }
     {
         if !self.has_register(m, target) || !self.has_register(m, source) {
             return Err(Refusal::BadRegister);

@@ -18,7 +18,8 @@ impl World {
     /// objects becomes empty and heads the pool. Returns what was removed. Fails with NothingToSweep if the region doesn't wait
     /// to be swept, and with NoMemory if the region keeps objects and the dead ones can't be copied.
     pub fn sweep(&mut self, region: u64) -> Result<Reclaimed, Refusal>
-        ensures answered { IsAnswered (sweep_refusal region (pool_of self.old)) (copies_dead region (pool_of self.old)) result }
+        ensures answered { IsAnswered (sweep_refusal region (pool_of self.old))
+            (copies_dead region (pool_of self.old)) result }
         ensures swept { OnOk result (self.new ≡ after_sweep region self.old) }
         ensures reclaimed { IfOk result (λ r. r ≡ reclaimed region (pool_of self.old)) }
         ensures unchanged { OnErr result (self.new ≡ self.old) }
@@ -29,9 +30,13 @@ impl World {
     /// Undoes a sweep that left objects in its region, given the objects that it removed. The sweep must have led to this
     /// state. Takes no memory.
     pub fn unsweep(&mut self, region: u16, dead: DeadCells)
-        requires swept { (before : HeapState) × IsLegal before × (sweep_refusal region (pool_of before) ≡ None) × (is_emptied region (pool_of before) ≡ false) × (dead ≡ dead_at region (pool_of before)) × (self.old ≡ after_sweep region before) }
+        requires swept { (before : HeapState) × IsLegal before
+            × (sweep_refusal region (pool_of before) ≡ None)
+            × (is_emptied region (pool_of before) ≡ false)
+            × (dead ≡ dead_at region (pool_of before)) × (self.old ≡ after_sweep region before) }
         ensures unswept { self.new ≡ with_pool (unswept region dead (pool_of self.old)) self.old }
-        ensures back { (before : HeapState) → IsLegal before → sweep_refusal region (pool_of before) ≡ None
+        ensures back { (before : HeapState) → IsLegal before
+            → sweep_refusal region (pool_of before) ≡ None
             → is_emptied region (pool_of before) ≡ false → dead ≡ dead_at region (pool_of before)
             → self.old ≡ after_sweep region before → self.new ≡ before }
     {
@@ -42,7 +47,8 @@ impl World {
     /// must have an object. The heap must be legal afterwards. Takes no memory.
     pub fn unreclaim(&mut self, region: u16, storage: Storage)
         requires head { slice_get self.old.pool 0 ≡ Some region }
-        requires inhabited { (cell : ℕ) × (o : Object) × (slice_get storage.cells cell ≡ Some (Some o)) }
+        requires inhabited { (cell : ℕ) × (o : Object)
+            × (slice_get storage.cells cell ≡ Some (Some o)) }
         requires legal { IsLegal (with_pool (restored region storage (pool_of self.old)) self.old) }
         ensures { self.new ≡ with_pool (restored region storage (pool_of self.old)) self.old }
     {

@@ -1,4 +1,3 @@
 pub mod Words
-pub mod Asked
-pub mod Saved
-pub mod Telling
+pub mod AskedSettings
+pub mod SavedRuns

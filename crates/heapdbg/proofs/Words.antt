@@ -435,7 +435,7 @@ walk_tail name c names w [] other tail = tail
 walk_tail name c names w (word ∷ rest) other tail = walk_tail name c names (walked c names w word) rest (right_false _ _ other)
     (walked_tail name c names w word (left_false _ _ other) tail)
 
--- what follows a subcommand names the option only where a word does
+-- what follows a subcommand names the option only if a word does
 pub tail_free : (name : Text) (c : List Rule) (names : Names) (words : List Text) → is_given name words ≡ false
     → IsTailFree name (stop_after c names words)
 tail_free name c names words other = walk_tail name c names (walk_from nothing_held) words other tt

@@ -1,4 +1,4 @@
--- The command line: which settings a list of words asks for.
+-- The command line: the settings that a list of words asks for.
 use Rattle.std.specs.Prelude.{◌≡◌, ◌≤◌, ◌==◌, ◌&&◌, ◌||◌, ℕ, List, Option, Some, None, Bool, ⊤, true, false, codes}
 use Rattle.std.specs.Prelude.{length, map, nat_le, nat_lt, option_and_then, option_map, string_bytes, if◌then◌else◌}
 use Rattle.std.specs.List.{list_all, list_any}
@@ -12,10 +12,11 @@ use Rattle.clap.specs.Words.{App, Row, Rule, Text, fault_of, first_of, new_app, 
 use Rattle.clap.specs.declared.builder.ArgAction.TheVariants.{Set}
 use Rattle.heap_class.specs.declared.IdSize.{IdSize}
 use Rattle.heap_class.specs.declared.IdSize.TheVariants.{Four, Eight}
-use Rattle.heap_server.specs.Seating.{session_limit}
-use Rattle.heap_world.specs.Limits.{AreSettings}
+use Rattle.heap_region.specs.Limits.{region_limit}
+use Rattle.heap_server.specs.SessionSeats.{session_limit}
+use Rattle.heap_world.specs.Limits.{AreHeapSettings, keep_limit, mutator_limit}
 use Rattle.heapdbg.specs.declared.settings.Task.{Task}
-use Rattle.heapdbg.specs.declared.settings.Task.TheVariants.{Run, Save, Serve, Ask}
+use Rattle.heapdbg.specs.declared.settings.Task.TheVariants.{Run, Explore, Save, Serve, Ask}
 use Rattle.heapdbg.specs.declared.settings.Target.{Target}
 use Rattle.heapdbg.specs.declared.settings.Target.TheVariants.{Out, To}
 use Rattle.heapdbg.specs.declared.settings.Settings.{Settings}
@@ -34,81 +35,112 @@ value_option name = record (new_rule name) { long = Some name; action = Some Set
 abbrev pub heap_line : Text → App
 heap_line name =
     with_rule
-    (with_rule (with_rule (new_app name) (value_option (codes "regions"))) (value_option (codes "mutators")))
+    (with_rule (with_rule (new_app name) (value_option (codes "regions")))
+    (value_option (codes "mutators")))
     (value_option (codes "keep"))
 
 -- a command with the options of the heap, its history and its dumps
 abbrev pub session_line : Text → App
-session_line name = with_rule (with_rule (heap_line name) (value_option (codes "time"))) (value_option (codes "ids"))
+session_line name =
+    with_rule (with_rule (heap_line name) (value_option (codes "time")))
+    (value_option (codes "ids"))
 
 -- the option `--port VALUE`, which has to be given
 abbrev pub port_option : Rule
 port_option = record (value_option (codes "port")) { required = true }
 
+-- the command `run`
 abbrev pub run_line : App
 run_line = session_line (codes "run")
 
+-- the command `explore`
+abbrev pub explore_line : App
+explore_line = session_line (codes "explore")
+
+-- the command `save`
 abbrev pub save_line : App
-save_line = with_rule (with_rule (session_line (codes "save")) (value_option (codes "out"))) (value_option (codes "to"))
+save_line =
+    with_rule (with_rule (session_line (codes "save")) (value_option (codes "out")))
+    (value_option (codes "to"))
 
+-- the command `serve`
 abbrev pub serve_line : App
-serve_line = with_rule (with_rule (session_line (codes "serve")) port_option) (value_option (codes "sessions"))
+serve_line =
+    with_rule (with_rule (session_line (codes "serve")) port_option)
+    (value_option (codes "sessions"))
 
+-- the command `ask`
 abbrev pub ask_line : App
 ask_line = with_rule (new_app (codes "ask")) port_option
 
--- the program's name and `--version`, and a command that has to follow, of those that need nobody else
-abbrev pub local_line : App
-local_line =
+-- the program's name and `--version`, and a command that has to follow, such as `run`
+abbrev pub named_line : App
+named_line =
     let named = new_app (codes "heapdbg") in
     with_subcommand
-    (with_subcommand (record named { top = record named.top { subcommand_required = true; has_version = true } }) run_line.top)
-    save_line.top
+    (record named { top = record named.top { subcommand_required = true; has_version = true } })
+    run_line.top
+
+-- the same, with the other commands that use no socket to serve or ask
+abbrev pub local_line : App
+local_line = with_subcommand (with_subcommand named_line explore_line.top) save_line.top
 
 -- all commands
 abbrev pub heapdbg_line : App
 heapdbg_line = with_subcommand (with_subcommand local_line serve_line.top) ask_line.top
 
--- the number that a text of digits alone writes, where it lies from least to most
+-- the number that a text of digits alone writes, if it lies from least to most
 abbrev pub number_in : ℕ → ℕ → Text → Option ℕ
 number_in least most text =
     if nat_lt 0 (length text) && (list_all is_ascii_digit text
     && (nat_le least (digits_value 10 text) && nat_le (digits_value 10 text) most))
     then Some (digits_value 10 text) else None
 
--- the number that an option is given, and its default where it is not given
+-- the number that an option is given, and its default if it is not given
 abbrev pub number_or : ℕ → ℕ → ℕ → Option Text → Option ℕ
 number_or default least most None = Some default
 number_or default least most (Some text) = number_in least most text
 
-abbrev pub value_of : Text → ℕ → ℕ → ℕ → List Row → Option ℕ
-value_of name default least most rows = number_or default least most (first_of name rows)
+-- the value of the option of this name among the options given
+abbrev pub option_value : Text → ℕ → ℕ → ℕ → List Row → Option ℕ
+option_value name default least most rows = number_or default least most (first_of name rows)
 
--- the size of an identifier of so many bytes
+-- the size of an identifier of this number of bytes
 abbrev pub id_size_of : ℕ → Option IdSize
 id_size_of bytes = if bytes == 4 then Some Four else (if bytes == 8 then Some Eight else None)
 
--- the size of identifiers that the option is given, and its default where it is not given
+-- the size of identifiers that the option is given, and its default if it is not given
 abbrev pub id_size_in : List Row → Option IdSize
-id_size_in rows = option_and_then id_size_of (value_of (codes "ids") 8 4 8 rows)
+id_size_in rows = option_and_then id_size_of (option_value (codes "ids") 8 4 8 rows)
 
--- the settings, where each option has a value in its range
-abbrev pub settings_with : Task → Option ℕ → Option ℕ → Option ℕ → Option ℕ → Option IdSize → Option Settings
-settings_with task (Some regions) (Some mutators) (Some keep) (Some time) (Some ids) = Some (record {
-  task = task;
-  regions = regions;
-  mutators = mutators;
-  keep = keep;
-  time = time;
-  ids = ids;
-})
+-- the settings, if each option has a value in its range
+abbrev pub settings_with : Task → Option ℕ → Option ℕ → Option ℕ → Option ℕ → Option IdSize
+    → Option Settings
+settings_with task (Some regions) (Some mutators) (Some keep) (Some time) (Some ids) =
+    Some (record {
+      task = task;
+      regions = regions;
+      mutators = mutators;
+      keep = keep;
+      time = time;
+      ids = ids;
+    })
 settings_with task _ _ _ _ _ = None
 
+-- the number of steps that can be undone, if the option is not given
+abbrev pub keep_default : ℕ
+keep_default = 1024
+
+-- the largest time
+abbrev pub time_limit : ℕ
+time_limit = 18446744073709551615
+
+-- the settings of a task and its options
 abbrev pub settings_in : Task → List Row → Option Settings
-settings_in task rows = settings_with task (value_of (codes "regions") 16 1 256 rows)
-    (value_of (codes "mutators") 2 1 16 rows)
-    (value_of (codes "keep") 1024 1 65536 rows)
-    (value_of (codes "time") 0 0 18446744073709551615 rows)
+settings_in task rows = settings_with task (option_value (codes "regions") 16 1 region_limit rows)
+    (option_value (codes "mutators") 2 1 mutator_limit rows)
+    (option_value (codes "keep") keep_default 1 keep_limit rows)
+    (option_value (codes "time") 0 0 time_limit rows)
     (id_size_in rows)
 
 -- the highest port
@@ -119,42 +151,55 @@ port_limit = 65535
 abbrev pub port_in : List Row → Option ℕ
 port_in rows = option_and_then (number_in 1 port_limit) (first_of (codes "port") rows)
 
--- how many sessions are asked for, and 1 where the option is not given
+-- the number of sessions asked for, and 1 if the option is not given
 abbrev pub sessions_in : List Row → Option ℕ
-sessions_in rows = value_of (codes "sessions") 1 1 session_limit rows
+sessions_in rows = option_value (codes "sessions") 1 1 session_limit rows
 
--- where a dump goes: one of the two options is given, and a port has to be one
+-- the target of a dump: one of the two options is given, and a port has to be one
 abbrev pub target_in : Option Text → Option Text → Option Target
 target_in (Some path) None = Some Out
 target_in None (Some text) = option_map (λ port. To port) (number_in 1 port_limit text)
 target_in None None = None
 target_in (Some path) (Some text) = None
 
+-- the task of the options of `save`
 abbrev pub save_in : List Row → Option Task
-save_in rows = option_map (λ target. Save target) (target_in (first_of (codes "out") rows) (first_of (codes "to") rows))
+save_in rows =
+    option_map (λ target. Save target)
+    (target_in (first_of (codes "out") rows) (first_of (codes "to") rows))
 
+-- the task of the options of `serve`
 abbrev pub serve_in : List Row → Option Task
-serve_in rows = option_and_then (λ port. option_map (λ sessions. Serve port sessions) (sessions_in rows)) (port_in rows)
+serve_in rows =
+    option_and_then (λ port. option_map (λ sessions. Serve port sessions) (sessions_in rows))
+    (port_in rows)
 
+-- the task of the options of `ask`
 abbrev pub ask_in : List Row → Option Task
 ask_in rows = option_map (λ port. Ask port) (port_in rows)
 
 -- a task has this name
 abbrev pub is_task : Text → Bool
-is_task name = bytes_eq name (codes "run") || (bytes_eq name (codes "save") || (bytes_eq name (codes "serve") || bytes_eq name (codes "ask")))
+is_task name =
+    bytes_eq name (codes "run")
+    || (bytes_eq name (codes "explore")
+    || (bytes_eq name (codes "save")
+    || (bytes_eq name (codes "serve") || bytes_eq name (codes "ask"))))
 
 -- the task of a command's name and options
 abbrev pub task_in : Text → List Row → Option Task
 task_in name rows =
     if bytes_eq name (codes "run") then Some Run
+    else (if bytes_eq name (codes "explore") then Some Explore
     else (if bytes_eq name (codes "save") then save_in rows
     else (if bytes_eq name (codes "serve") then serve_in rows
-    else (if bytes_eq name (codes "ask") then ask_in rows else None)))
+    else (if bytes_eq name (codes "ask") then ask_in rows else None))))
 
+-- the settings of a command and its options
 abbrev pub settings_under : Text × List Row → Option Settings
 settings_under found = option_and_then (λ task. settings_in task found.1) (task_in found.0 found.1)
 
--- the settings that the words ask for, where they are a command line of the program
+-- the settings that the words ask for, if they are a command line of the program
 abbrev pub settings_of : List Text → Option Settings
 settings_of words =
     if length (fault_of heapdbg_line words) == 0
@@ -170,23 +215,27 @@ is_given name words = list_any (names_option name) words
 
 -- the file that a dump goes to
 abbrev pub path_of : List Text → Option Text
-path_of words = option_and_then (λ found. first_of (codes "out") found.1) (subcommand_of heapdbg_line words)
+path_of words =
+    option_and_then (λ found. first_of (codes "out") found.1) (subcommand_of heapdbg_line words)
 
 -- the port and the number of sessions are within their limits
 abbrev pub IsTask : Task → Type 0
 IsTask Run = ⊤
+IsTask Explore = ⊤
 IsTask (Save Out) = ⊤
 IsTask (Save (To port)) = (1 ≤ port) × (port ≤ port_limit)
-IsTask (Serve port sessions) = (1 ≤ port) × (port ≤ port_limit) × (1 ≤ sessions) × (sessions ≤ session_limit)
+IsTask (Serve port sessions) =
+    (1 ≤ port) × (port ≤ port_limit) × (1 ≤ sessions) × (sessions ≤ session_limit)
 IsTask (Ask port) = (1 ≤ port) × (port ≤ port_limit)
 
 -- the settings are within their limits
-abbrev pub AreWithin : Settings → Type 0
-AreWithin s = AreSettings s.regions s.mutators s.keep × IsTask s.task
+abbrev pub AreSettingsWithin : Settings → Type 0
+AreSettingsWithin s = AreHeapSettings s.regions s.mutators s.keep × IsTask s.task
 
--- how many sessions there are
+-- the number of sessions
 abbrev pub sessions_of : Task → ℕ
 sessions_of Run = 1
+sessions_of Explore = 1
 sessions_of (Save target) = 1
 sessions_of (Serve port sessions) = sessions
 sessions_of (Ask port) = 1
@@ -195,7 +244,7 @@ sessions_of (Ask port) = 1
 pub record HasDefaults (words : List Text) (s : Settings) : Type 0 where
   pub regions : is_given (codes "regions") words ≡ false → s.regions ≡ 16
   pub mutators : is_given (codes "mutators") words ≡ false → s.mutators ≡ 2
-  pub keep : is_given (codes "keep") words ≡ false → s.keep ≡ 1024
+  pub keep : is_given (codes "keep") words ≡ false → s.keep ≡ keep_default
   pub time : is_given (codes "time") words ≡ false → s.time ≡ 0
   pub ids : is_given (codes "ids") words ≡ false → s.ids ≡ Eight
   pub sessions : is_given (codes "sessions") words ≡ false → sessions_of s.task ≡ 1

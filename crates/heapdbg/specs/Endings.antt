@@ -1,4 +1,4 @@
--- How the program ends: its exit status, and the word on standard error.
+-- The endings of the program: its exit status, and the word on standard error.
 use Rattle.std.specs.Prelude.{ℕ, List, Result, Ok, Err, ◌++◌, codes, string_bytes}
 use Rattle.session_text.specs.declared.Ended.{Ended}
 use Rattle.session_text.specs.declared.Ended.TheVariants.{Quit, Eof, CutLine, TooLong, ReadFault, TooManyReads, WriteFault, NoMemory}
@@ -21,25 +21,25 @@ outcome_of WriteFault = Err fault.Write
 outcome_of NoMemory = Err fault.Memory
 
 -- the word of a fault
-abbrev pub word_of : Fault → List ℕ
-word_of fault.Cut = codes "cut"
-word_of fault.Long = codes "long"
-word_of fault.Read = codes "read"
-word_of fault.Reads = codes "reads"
-word_of fault.Write = codes "write"
-word_of fault.Memory = codes "memory"
-word_of fault.Listen = codes "listen"
-word_of fault.Accept = codes "accept"
-word_of fault.Connect = codes "connect"
-word_of fault.Out = codes "out"
-word_of fault.Lost = codes "lost"
+abbrev pub word_of_fault : Fault → List ℕ
+word_of_fault fault.Cut = codes "cut"
+word_of_fault fault.Long = codes "long"
+word_of_fault fault.Read = codes "read"
+word_of_fault fault.Reads = codes "reads"
+word_of_fault fault.Write = codes "write"
+word_of_fault fault.Memory = codes "memory"
+word_of_fault fault.Listen = codes "listen"
+word_of_fault fault.Accept = codes "accept"
+word_of_fault fault.Connect = codes "connect"
+word_of_fault fault.Out = codes "out"
+word_of_fault fault.Lost = codes "lost"
 
--- what standard error gets: the text of a bad command line, or a line with the word of the fault
+-- the text for standard error: that of a bad command line, or a line with the word of the fault
 abbrev pub message_of : Failure → List ℕ
 message_of (Line text) = string_bytes text
-message_of (Work f) = codes "heapdbg: " ++ (word_of f ++ codes "\n")
+message_of (Work f) = codes "heapdbg: " ++ (word_of_fault f ++ codes "\n")
 
--- a bad command line is shown its text, and want of memory is a fault like any other
+-- a bad command line is shown its text, and a failed allocation is a fault like any other
 abbrev pub failure_of : LineFault → Failure
 failure_of (Bad text) = Line text
 failure_of Memory = Work fault.Memory
@@ -49,7 +49,7 @@ abbrev pub work_of : Result (Unit {0}) Fault → Result (Unit {0}) Failure
 work_of (Ok done) = Ok done
 work_of (Err f) = Err (Work f)
 
--- 0 where the work is done, 1 after a fault, and 2 after a bad command line
+-- 0 if the work is done, 1 after a fault, and 2 after a bad command line
 abbrev pub status_of : Result (Unit {0}) Failure → ℕ
 status_of (Ok done) = 0
 status_of (Err (Work f)) = 1

@@ -1,7 +1,8 @@
--- What the program's command line means, and how the program ends.
+-- The meaning of the program's command line, and the endings of the program.
 pub mod CommandLine
 pub mod Refusals
 pub mod Endings
-pub mod Serving
-pub mod Saving
+pub mod ServeOutcomes
+pub mod SaveOutcomes
+pub mod Explorations
 pub mod Runs

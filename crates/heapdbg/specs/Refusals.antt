@@ -1,9 +1,11 @@
--- What the program says of a command line that it does not do.
+-- The texts for command lines that the program refuses.
 use Rattle.std.specs.Prelude.{◌≡◌, ◌⊎◌, ◌++◌, ℕ, List, Option, Some, None, [], ◌∷◌, ⊤, false, codes, is_some, string_bytes}
 use Rattle.std.specs.Option.{option_map_or}
 use Rattle.clap.specs.Words.{Row, Text, fault_of, first_of, subcommand_of}
 use Rattle.clap.specs.declared.error.kind.ErrorKind.TheVariants.{DisplayVersion}
-use Rattle.heapdbg.specs.CommandLine.{heapdbg_line, id_size_in, is_task, number_in, port_in, port_limit, sessions_in, settings_of, value_of}
+use Rattle.heap_region.specs.Limits.{region_limit}
+use Rattle.heap_world.specs.Limits.{keep_limit, mutator_limit}
+use Rattle.heapdbg.specs.CommandLine.{heapdbg_line, id_size_in, is_task, keep_default, number_in, port_in, port_limit, sessions_in, settings_of, option_value, time_limit}
 use Rattle.heapdbg.specs.declared.refusal.Mistake.{Mistake}
 use Rattle.heapdbg.specs.declared.refusal.Mistake.TheVariants.{Command, Regions, Mutators, Keep, Time, Ids, Port, Sessions, To, Place}
 use Rattle.heapdbg.specs.declared.settings.LineFault.{LineFault}
@@ -22,15 +24,16 @@ IsTargetMistake m path port =
 -- the options of a command have this mistake
 abbrev pub IsMistakeIn : Mistake → List Row → Type 0
 IsMistakeIn Command rows = ⊥
-IsMistakeIn Regions rows = value_of (codes "regions") 16 1 256 rows ≡ None
-IsMistakeIn Mutators rows = value_of (codes "mutators") 2 1 16 rows ≡ None
-IsMistakeIn Keep rows = value_of (codes "keep") 1024 1 65536 rows ≡ None
-IsMistakeIn Time rows = value_of (codes "time") 0 0 18446744073709551615 rows ≡ None
+IsMistakeIn Regions rows = option_value (codes "regions") 16 1 region_limit rows ≡ None
+IsMistakeIn Mutators rows = option_value (codes "mutators") 2 1 mutator_limit rows ≡ None
+IsMistakeIn Keep rows = option_value (codes "keep") keep_default 1 keep_limit rows ≡ None
+IsMistakeIn Time rows = option_value (codes "time") 0 0 time_limit rows ≡ None
 IsMistakeIn Ids rows = id_size_in rows ≡ None
 IsMistakeIn Port rows = port_in rows ≡ None
 IsMistakeIn Sessions rows = sessions_in rows ≡ None
 IsMistakeIn To rows = IsTargetMistake To (first_of (codes "out") rows) (first_of (codes "to") rows)
-IsMistakeIn Place rows = IsTargetMistake Place (first_of (codes "out") rows) (first_of (codes "to") rows)
+IsMistakeIn Place rows =
+    IsTargetMistake Place (first_of (codes "out") rows) (first_of (codes "to") rows)
 
 -- no command of the program is there
 abbrev pub IsNoTask : Option (Text × List Row) → Type 0
@@ -39,11 +42,12 @@ IsNoTask (Some found) = is_task found.0 ≡ false
 
 -- a command line, of which a command and its options were found, has this mistake
 abbrev pub IsMistake : Mistake → Option (Text × List Row) → Type 0
-IsMistake m found = IsMistakeIn m (option_map_or (λ f. f.1) found []) ⊎ ((m ≡ Command) × IsNoTask found)
+IsMistake m found =
+    IsMistakeIn m (option_map_or (λ f. f.1) found []) ⊎ ((m ≡ Command) × IsNoTask found)
 
--- what has to be given instead
+-- the text that says what has to be given instead
 abbrev pub mistake_of : Mistake → Text
-mistake_of Command = codes "heapdbg takes one of run, save, serve and ask"
+mistake_of Command = codes "heapdbg takes one of run, explore, save, serve and ask"
 mistake_of Regions = codes "--regions takes 1 to 256"
 mistake_of Mutators = codes "--mutators takes 1 to 16"
 mistake_of Keep = codes "--keep takes 1 to 65536"
@@ -55,21 +59,24 @@ mistake_of To = codes "--to takes 1 to 65535"
 mistake_of Place = codes "save takes one of --out and --to"
 
 -- the whole text of a mistake
-abbrev pub refusal_of : Mistake → Text
-refusal_of m = codes "error: " ++ (mistake_of m ++ codes "\n\nFor more information, try 'heapdbg --help'.\n")
+abbrev pub text_of_mistake : Mistake → Text
+text_of_mistake m =
+    codes "error: " ++ (mistake_of m ++ codes "\n\nFor more information, try 'heapdbg --help'.\n")
 
--- what `--version` is answered
+-- the answer to `--version`
 abbrev pub version_text : Text
 version_text = codes "heapdbg 1.0.0 (logic dac8208d650f15bf)\n"
 
 -- the text names a mistake of the command line
 abbrev pub NamesMistake : List Text → Text → Type 0
-NamesMistake words text = (m : Mistake) × IsMistake m (subcommand_of heapdbg_line words) × (text ≡ refusal_of m)
+NamesMistake words text =
+    (m : Mistake) × IsMistake m (subcommand_of heapdbg_line words) × (text ≡ text_of_mistake m)
 
--- what a refusal says of the words: they ask for no settings. If the parser finds no fault in them, the text names a mistake; if
--- it finds that they ask for the version, the text is that
+-- a refusal fits the words: they ask for no settings. If the parser finds no fault in them, the text names a mistake; if it
+-- finds that they ask for the version, the text is that
 abbrev pub IsRefusalOf : List Text → LineFault → Type 0
 IsRefusalOf words (Bad text) =
-    (settings_of words ≡ None) × (fault_of heapdbg_line words ≡ [] → NamesMistake words (string_bytes text))
+    (settings_of words ≡ None)
+    × (fault_of heapdbg_line words ≡ [] → NamesMistake words (string_bytes text))
     × (fault_of heapdbg_line words ≡ DisplayVersion ∷ [] → string_bytes text ≡ version_text)
 IsRefusalOf words Memory = ⊤

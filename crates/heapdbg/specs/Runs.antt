@@ -1,9 +1,9 @@
--- What a run of the program does between its reader and its writer.
+-- A run of the program between its reader and its writer.
 use Rattle.std.specs.Prelude.{◌≡◌, ℕ, ◌⊎◌, List, Result, Some, Err}
 use Rattle.dump_pump.specs.Outlets.{Outgoing}
 use Rattle.heap_trail.specs.Machine.{Machine, opening_machine}
 use Rattle.session_text.specs.declared.Ended.{Ended}
-use Rattle.session_text.specs.Endings.{Ends}
+use Rattle.session_text.specs.Endings.{EndsSession}
 use Rattle.session_text.specs.Inlets.{Incoming}
 use Rattle.session_text.specs.Session.{IsSession}
 use Rattle.heapdbg.specs.declared.failure.Fault.{Fault}
@@ -13,35 +13,46 @@ use Rattle.heapdbg.specs.declared.settings.LineFault.{LineFault}
 use Rattle.heapdbg.specs.declared.settings.Settings.{Settings}
 use Rattle.heapdbg.specs.declared.settings.Task.{Task}
 use Rattle.heapdbg.specs.declared.failure.Fault.TheVariants as fault
-use Rattle.heapdbg.specs.declared.settings.Task.TheVariants.{Run, Save, Serve, Ask}
+use Rattle.heapdbg.specs.declared.settings.Task.TheVariants.{Run, Explore, Save, Serve, Ask}
 use Rattle.heapdbg.specs.declared.settings.Target.TheVariants.{Out, To}
 use Rattle.heapdbg.specs.CommandLine.{settings_of}
 use Rattle.heapdbg.specs.Endings.{failure_of, outcome_of, work_of}
+use Rattle.heapdbg.specs.Explorations.{IsExplored}
 use Rattle.heapdbg.specs.Refusals.{IsRefusalOf}
-use Rattle.heapdbg.specs.Saving.{IsSavedTo}
-use Rattle.heapdbg.specs.Serving.{IsAsked, IsServed}
+use Rattle.heapdbg.specs.SaveOutcomes.{IsSavedTo}
+use Rattle.heapdbg.specs.ServeOutcomes.{IsServerAsked, IsHeapServed}
 
--- a session over a heap with these settings as it begins, and how it ended; or no memory for one, and then nothing is read
--- or written
-abbrev pub IsRun : Settings → Incoming → Incoming → Outgoing → Outgoing → Result (Unit {0}) Fault → Type 0
+-- a session over a heap with these settings as it begins, and how it ended; or the heap couldn't be allocated, and nothing is
+-- read or written
+abbrev pub IsRun : Settings → Incoming → Incoming → Outgoing → Outgoing → Result (Unit {0}) Fault
+    → Type 0
 IsRun s a b w w' result =
-    ((ended : Ended) × (left : Machine) × IsSession (opening_machine s.ids s.regions s.mutators s.keep) s.time a b w w' left ended × Ends a b w w' ended × (result ≡ outcome_of ended))
+    ((ended : Ended) × (left : Machine)
+    × IsSession (opening_machine s.ids s.regions s.mutators s.keep) s.time a b w w' left ended
+    × EndsSession a b w w' ended × (result ≡ outcome_of ended))
     ⊎ ((result ≡ Err Memory) × (b ≡ a) × (w' ≡ w))
 
 -- a session that was saved to a file; or the folder of its path was not there, and nothing was read or written
-abbrev pub IsSavedOut : Settings → Incoming → Incoming → Outgoing → Outgoing → Result (Unit {0}) Fault → Type 0
-IsSavedOut s a b w w' result = IsSavedTo fault.Out s a b w w' result ⊎ ((result ≡ Err fault.Out) × (b ≡ a) × (w' ≡ w))
+abbrev pub IsSavedOut : Settings → Incoming → Incoming → Outgoing → Outgoing
+    → Result (Unit {0}) Fault → Type 0
+IsSavedOut s a b w w' result =
+    IsSavedTo fault.Out s a b w w' result ⊎ ((result ≡ Err fault.Out) × (b ≡ a) × (w' ≡ w))
 
 -- the task of the settings was done
-abbrev pub IsDone : Task → Settings → Incoming → Incoming → Outgoing → Outgoing → Result (Unit {0}) Fault → Type 0
-IsDone Run s a b w w' result = IsRun s a b w w' result
-IsDone (Save Out) s a b w w' result = IsSavedOut s a b w w' result
-IsDone (Save (To port)) s a b w w' result = IsSavedTo fault.Connect s a b w w' result
-IsDone (Serve port sessions) s a b w w' result = (b ≡ a) × IsServed s sessions w w' result
-IsDone (Ask port) s a b w w' result = (b ≡ a) × IsAsked w w' result
+abbrev pub IsTaskDone : Task → Settings → Incoming → Incoming → Outgoing → Outgoing
+    → Result (Unit {0}) Fault → Type 0
+IsTaskDone Run s a b w w' result = IsRun s a b w w' result
+IsTaskDone Explore s a b w w' result = IsExplored s a b w w' result
+IsTaskDone (Save Out) s a b w w' result = IsSavedOut s a b w w' result
+IsTaskDone (Save (To port)) s a b w w' result = IsSavedTo fault.Connect s a b w w' result
+IsTaskDone (Serve port sessions) s a b w w' result = (b ≡ a) × IsHeapServed s sessions w w' result
+IsTaskDone (Ask port) s a b w w' result = (b ≡ a) × IsServerAsked w w' result
 
 -- the settings that the words ask for, and their task done; or a refusal of the words, and then nothing is read or written
-abbrev pub IsPerformed : List (List ℕ) → Incoming → Incoming → Outgoing → Outgoing → Result (Unit {0}) Failure → Type 0
+abbrev pub IsPerformed : List (List ℕ) → Incoming → Incoming → Outgoing → Outgoing
+    → Result (Unit {0}) Failure → Type 0
 IsPerformed words a b w w' result =
-    ((s : Settings) × (done : Result (Unit {0}) Fault) × (settings_of words ≡ Some s) × IsDone s.task s a b w w' done × (result ≡ work_of done))
-    ⊎ ((line : LineFault) × IsRefusalOf words line × (result ≡ Err (failure_of line)) × (b ≡ a) × (w' ≡ w))
+    ((s : Settings) × (done : Result (Unit {0}) Fault) × (settings_of words ≡ Some s)
+    × IsTaskDone s.task s a b w w' done × (result ≡ work_of done))
+    ⊎ ((line : LineFault) × IsRefusalOf words line × (result ≡ Err (failure_of line)) × (b ≡ a)
+    × (w' ≡ w))

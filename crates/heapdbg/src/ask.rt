@@ -1,6 +1,6 @@
 //! The client of a session that is served.
 ghost use Rattle.std.specs.Prelude.{◌≡◌};
-ghost use Rattle.heapdbg.specs.Serving.{IsAsked, asked_outcome};
+ghost use Rattle.heapdbg.specs.ServeOutcomes.{IsServerAsked, asked_outcome};
 
 use crate::failure::Fault;
 use dump_pump::Outlet;
@@ -11,8 +11,8 @@ use std::net::{Ipv4Addr, Net, TcpStream};
 use std::sync::Wait;
 use std::thread::Threads;
 
-/// Sends all input to the session on a port, and puts out what comes back, until the session has ended. Fails with Connect if no
-/// connection can be had, and then writes nothing. May wait.
+/// Sends all input to the session on a port, and puts out what comes back, until the session has ended. Fails with Connect,
+/// and then writes nothing, if no connection can be made. May wait.
 pub fn ask_port<R, I: Inlet + Send + Drop + 'static, O: Outlet>(
     rt: &R,
     alloc: Global,
@@ -22,7 +22,7 @@ pub fn ask_port<R, I: Inlet + Send + Drop + 'static, O: Outlet>(
 ) -> Result<(), Fault>
 where
     R: Net<Stream = TcpStream> + Threads + Wait + Copy + Send + Sync + Drop + 'static,
-    ensures { IsAsked (O.seen writer.old) (O.seen writer.new) result }
+    ensures { IsServerAsked (O.seen writer.old) (O.seen writer.new) result }
 {
     let Ok(stream) = TcpStream::connect(rt, (Ipv4Addr::LOCALHOST, port)) else {
         return Err(Fault::Connect);
@@ -30,7 +30,7 @@ where
     outcome(ask(rt, alloc, stream, input, writer))
 }
 
-/// What an ended client is for the program.
+// Returns the outcome of a client that has ended.
 fn outcome(asked: Asked) -> Result<(), Fault>
     ensures { result ≡ asked_outcome asked }
 {

@@ -6,8 +6,8 @@ ghost use Rattle.std.specs.Char.{is_ascii_digit};
 ghost use Rattle.clap.specs.Words.{FailsBy, app_of, fault_of, found_of, kind_of, rows_of};
 ghost use Rattle.clap.specs.declared.builder.Command.TheViews.{out-Command};
 ghost use Rattle.clap.specs.Words.{rule_of, subcommand_of, subcommand_rows_of};
-ghost use Rattle.heapdbg.specs.CommandLine.{AreWithin, HasDefaults, IsBadWith, heap_line, heapdbg_line, local_line, number_in, run_line};
-ghost use Rattle.heapdbg.specs.CommandLine.{settings_in, settings_of, settings_under, texts, value_of};
+ghost use Rattle.heapdbg.specs.CommandLine.{AreSettingsWithin, HasDefaults, IsBadWith, explore_line, heap_line, heapdbg_line, local_line, named_line, number_in, run_line};
+ghost use Rattle.heapdbg.specs.CommandLine.{settings_in, settings_of, settings_under, texts, option_value};
 ghost use Rattle.heapdbg.specs.CommandLine.{id_size_in, id_size_of, path_of, session_line, task_in, value_option};
 ghost use Rattle.heapdbg.specs.Refusals.{IsMistake, IsMistakeIn, IsRefusalOf, version_text};
 
@@ -18,31 +18,32 @@ use crate::socket_options::{ask_parser, ask_task, serve_parser, serve_task};
 use clap::error::ErrorKind;
 use clap::{Arg, ArgAction, ArgMatches, Command, Error};
 use heap_class::IdSize;
+use heap_world::{KEEP_LIMIT, MUTATOR_LIMIT, REGION_LIMIT};
 use std::alloc::{AllocError, Global};
 
-/// The settings that the words ask for, the first of which is the program's name. Bad where they are no command line of this
-/// program or ask for help or for the version, and Memory only where memory ran out.
+/// Returns the settings that the words ask for, the first of which is the program's name. Fails with Bad if they are no
+/// command line of this program or ask for help or for the version, and with Memory only if an allocation fails.
 pub fn settings(alloc: Global, words: &[&str]) -> Result<Settings, LineFault>
     ensures ok { IfOk result (λ s. settings_of (texts words.now) ≡ Some s) }
     ensures refused { IfErr result (IsRefusalOf (texts words.now)) }
-    ensures limits { IfOk result AreWithin }
+    ensures limits { IfOk result AreSettingsWithin }
     ensures defaults { IfOk result (HasDefaults (texts words.now)) }
 {
-    let matches = match parsed(alloc, words) {
+    let matches = match parse(alloc, words) {
         Ok(matches) => matches,
         Err(error) => return Err(refusal(alloc, &error)),
     };
-    match asked(&matches) {
+    match settings_of_matches(&matches) {
         Ok(settings) => Ok(settings),
         Err(mistake) => Err(mistake.refusal(alloc)),
     }
 }
 
-/// The file that the words name for a dump, or None if they name none or there is no memory to read them.
+/// Returns the path that the words name for a dump, or None if they name none or an allocation fails.
 pub fn out_path<'a>(alloc: Global, words: &'a [&'a str]) -> Option<&'a str>
     ensures { IfSome result (λ path. path_of (texts words.now) ≡ Some path.now) }
 {
-    match parsed(alloc, words) {
+    match parse(alloc, words) {
         Ok(matches) => match matches.subcommand() {
             Some((_, options)) => options.get_str("out"),
             None => None,
@@ -51,16 +52,17 @@ pub fn out_path<'a>(alloc: Global, words: &'a [&'a str]) -> Option<&'a str>
     }
 }
 
-/// What clap makes of the words.
-fn parsed<'a>(alloc: Global, words: &'a [&'a str]) -> Result<ArgMatches<'a>, Error>
-    ensures ok { IfOk result (λ m. subcommand_rows_of m ≡ subcommand_of heapdbg_line (texts words.now)) }
+// Parses the words.
+fn parse<'a>(alloc: Global, words: &'a [&'a str]) -> Result<ArgMatches<'a>, Error>
+    ensures ok { IfOk result
+        (λ m. subcommand_rows_of m ≡ subcommand_of heapdbg_line (texts words.now)) }
     ensures faults { FailsBy (fault_of heapdbg_line (texts words.now)) result }
 {
     let parser = parser(alloc)?;
     parser.try_get_matches_from(words)
 }
 
-/// The program's name, after which a command has to follow.
+// Creates the parser of the command line: the program's name, and a command that has to follow.
 fn parser<'a>(alloc: Global) -> Result<Command<'a>, AllocError>
     ensures { IfOk result (λ c. app_of c ≡ heapdbg_line) }
 {
@@ -69,20 +71,27 @@ fn parser<'a>(alloc: Global) -> Result<Command<'a>, AllocError>
     local_parser(alloc)?.subcommand(serve)?.subcommand(ask)
 }
 
-/// The program's name, with the commands that need nobody else.
+// Creates the parser of the program's name and of the commands that use no socket to serve or ask.
 fn local_parser<'a>(alloc: Global) -> Result<Command<'a>, AllocError>
     ensures { IfOk result (λ c. app_of c ≡ local_line) }
 {
-    let run = run_parser(alloc)?;
+    let explore = explore_parser(alloc)?;
     let save = save_parser(alloc)?;
+    named_parser(alloc)?.subcommand(explore)?.subcommand(save)
+}
+
+// Creates the parser of the program's name and of the command `run`.
+fn named_parser<'a>(alloc: Global) -> Result<Command<'a>, AllocError>
+    ensures { IfOk result (λ c. app_of c ≡ named_line) }
+{
+    let run = run_parser(alloc)?;
     Command::new(alloc, "heapdbg")
         .version(VERSION)
         .subcommand_required(true)
-        .subcommand(run)?
-        .subcommand(save)
+        .subcommand(run)
 }
 
-/// Creates the parser of the command `run`.
+// Creates the parser of the command `run`.
 fn run_parser<'a>(alloc: Global) -> Result<Command<'a>, AllocError>
     ensures app { IfOk result (λ c. app_of c ≡ run_line) }
     ensures local { IfOk result (λ c. (out-Command c).has_globals ≡ false) }
@@ -94,7 +103,19 @@ fn run_parser<'a>(alloc: Global) -> Result<Command<'a>, AllocError>
     )
 }
 
-/// Creates the parser of a command that opens a heap, with the options for the heap, its history and its dumps.
+// Creates the parser of the command `explore`.
+fn explore_parser<'a>(alloc: Global) -> Result<Command<'a>, AllocError>
+    ensures app { IfOk result (λ c. app_of c ≡ explore_line) }
+    ensures local { IfOk result (λ c. (out-Command c).has_globals ≡ false) }
+{
+    session_parser(
+        alloc,
+        "explore",
+        "Reads commands and questions from standard input and writes answers to standard output",
+    )
+}
+
+// Creates the parser of a command that opens a heap, with the options for the heap, its history and its dumps.
 pub(crate) fn session_parser<'a>(
     alloc: Global,
     name: &'a str,
@@ -116,7 +137,7 @@ pub(crate) fn session_parser<'a>(
     heap_parser(alloc, name, about)?.arg(time)?.arg(ids)
 }
 
-/// Creates the parser of a command with the options that say how large the heap and its history are.
+// Creates the parser of a command with the options for the size of the heap and its history.
 fn heap_parser<'a>(alloc: Global, name: &'a str, about: &'a str) -> Result<Command<'a>, AllocError>
     ensures app { IfOk result (λ c. app_of c ≡ heap_line name.entry.now) }
     ensures local { IfOk result (λ c. (out-Command c).has_globals ≡ false) }
@@ -143,7 +164,7 @@ fn heap_parser<'a>(alloc: Global, name: &'a str, about: &'a str) -> Result<Comma
         .arg(keep)
 }
 
-/// The option `--NAME N`.
+// Creates the option `--NAME N`.
 pub(crate) fn value_arg<'a>(alloc: Global, name: &'a str, help: &'a str) -> Arg<'a>
     ensures rule { rule_of result ≡ value_option name.entry.now }
     ensures local { result.global ≡ false }
@@ -155,10 +176,12 @@ pub(crate) fn value_arg<'a>(alloc: Global, name: &'a str, help: &'a str) -> Arg<
         .help(help)
 }
 
-/// The settings that the matches ask for.
-fn asked(matches: &ArgMatches<'_>) -> Result<Settings, Mistake>
-    ensures ok { IfOk result (λ s. option_and_then settings_under (subcommand_rows_of matches.now) ≡ Some s) }
-    ensures none { IfErr result (λ m. option_and_then settings_under (subcommand_rows_of matches.now) ≡ None) }
+// Returns the settings that the matches ask for, or the mistake in them.
+fn settings_of_matches(matches: &ArgMatches<'_>) -> Result<Settings, Mistake>
+    ensures ok { IfOk result
+        (λ s. option_and_then settings_under (subcommand_rows_of matches.now) ≡ Some s) }
+    ensures none { IfErr result
+        (λ m. option_and_then settings_under (subcommand_rows_of matches.now) ≡ None) }
     ensures mistake { IfErr result (λ m. IsMistake m (subcommand_rows_of matches.now)) }
 {
     let Some((name, options)) = matches.subcommand() else {
@@ -168,14 +191,19 @@ fn asked(matches: &ArgMatches<'_>) -> Result<Settings, Mistake>
     settings_from(task, options)
 }
 
-/// The task of a command's name and options.
+// Returns the task of a command's name and options, or the mistake in them.
 fn task_of(name: &str, options: &ArgMatches<'_>) -> Result<Task, Mistake>
-    ensures ok { IfOk result (λ task. task_in name.now (rows_of (found_of options.now)) ≡ Some task) }
+    ensures ok { IfOk result
+        (λ task. task_in name.now (rows_of (found_of options.now)) ≡ Some task) }
     ensures none { IfErr result (λ m. task_in name.now (rows_of (found_of options.now)) ≡ None) }
-    ensures mistake { IfErr result (λ m. IsMistake m (Some (name.now, rows_of (found_of options.now)))) }
+    ensures mistake { IfErr result
+        (λ m. IsMistake m (Some (name.now, rows_of (found_of options.now)))) }
 {
     if name == "run" {
         return Ok(Task::Run);
+    }
+    if name == "explore" {
+        return Ok(Task::Explore);
     }
     if name == "save" {
         return save_task(options);
@@ -190,19 +218,19 @@ fn task_of(name: &str, options: &ArgMatches<'_>) -> Result<Task, Mistake>
     }
 }
 
-/// The settings that a task's options give, where each has a value in its range.
+// Returns the settings of a task's options, or the option whose value is out of its range.
 fn settings_from(task: Task, options: &ArgMatches<'_>) -> Result<Settings, Mistake>
     ensures ok { IfOk result (λ s. settings_in task (rows_of (found_of options.now)) ≡ Some s) }
     ensures none { IfErr result (λ m. settings_in task (rows_of (found_of options.now)) ≡ None) }
     ensures mistake { IfErr result (λ m. IsMistakeIn m (rows_of (found_of options.now))) }
 {
-    let Some(regions) = option_value(options, "regions", 16, 1, 256) else {
+    let Some(regions) = option_value(options, "regions", 16, 1, REGION_LIMIT) else {
         return Err(Mistake::Regions);
     };
-    let Some(mutators) = option_value(options, "mutators", 2, 1, 16) else {
+    let Some(mutators) = option_value(options, "mutators", 2, 1, MUTATOR_LIMIT) else {
         return Err(Mistake::Mutators);
     };
-    let Some(keep) = option_value(options, "keep", 1024, 1, 65536) else {
+    let Some(keep) = option_value(options, "keep", 1024, 1, KEEP_LIMIT) else {
         return Err(Mistake::Keep);
     };
     let Some(time) = option_value(options, "time", 0, 0, u64::MAX) else {
@@ -221,7 +249,7 @@ fn settings_from(task: Task, options: &ArgMatches<'_>) -> Result<Settings, Mista
     })
 }
 
-/// The size of identifiers that the options give.
+// Returns the size of identifiers that the options give, or None if it is out of its range.
 fn id_size_from(options: &ArgMatches<'_>) -> Option<IdSize>
     ensures { result ≡ id_size_in (rows_of (found_of options.now)) }
 {
@@ -229,7 +257,7 @@ fn id_size_from(options: &ArgMatches<'_>) -> Option<IdSize>
     id_size(bytes)
 }
 
-/// Returns the size of an identifier of so many bytes, or None if they are neither 4 nor 8.
+// Returns the size of an identifier of `bytes` bytes, or None if they are neither 4 nor 8.
 fn id_size(bytes: u64) -> Option<IdSize>
     ensures { result ≡ id_size_of bytes }
 {
@@ -240,7 +268,7 @@ fn id_size(bytes: u64) -> Option<IdSize>
     }
 }
 
-/// The value of an option from `least` to `most`, and `default` where the option isn't given.
+// Returns the value of an option, `default` if it isn't given, or None if it isn't from `least` to `most`.
 pub(crate) fn option_value(
     options: &ArgMatches<'_>,
     name: &str,
@@ -248,7 +276,7 @@ pub(crate) fn option_value(
     least: u64,
     most: u64,
 ) -> Option<u64>
-    ensures { result ≡ value_of name.now default least most (rows_of (found_of options.now)) }
+    ensures { result ≡ option_value name.now default least most (rows_of (found_of options.now)) }
 {
     match options.get_str(name) {
         Some(text) => number(text, least, most),
@@ -256,7 +284,7 @@ pub(crate) fn option_value(
     }
 }
 
-/// The number that a text of digits alone writes, where it lies from `least` to `most`.
+// Returns the number that a text of digits alone writes, or None if it isn't from `least` to `most` or the text is another.
 pub(crate) fn number(text: &str, least: u64, most: u64) -> Option<u64>
     ensures { result ≡ number_in least most text.now }
 {
@@ -270,14 +298,15 @@ pub(crate) fn number(text: &str, least: u64, most: u64) -> Option<u64>
     }
 }
 
-/// Each byte is a decimal digit.
+// Tells whether each byte is a decimal digit.
 fn is_digits(text: &str) -> bool
     ensures { result ≡ list_all is_ascii_digit text.now }
 {
     text.bytes().all(|byte| byte.is_ascii_digit())
 }
 
-/// The refusal that an error of clap stands for: the version if that is asked for, and else clap's text, which no contract tells.
+// Returns the refusal for an error of the parser: the version if that is asked for, and else the parser's text, of which no
+// contract speaks.
 fn refusal(alloc: Global, error: &Error) -> LineFault
     ensures memory { kind_of error.now ≡ ErrorKind.OutOfMemory → result ≡ LineFault.Memory }
     ensures version { kind_of error.now ≡ ErrorKind.DisplayVersion → IsBadWith version_text result }

@@ -1,8 +1,8 @@
-//! How the program ends.
+//! The endings of the program.
 ghost use Rattle.std.specs.Prelude.{◌≡◌, OnOk};
 ghost use Rattle.std.specs.Io.KnownBytes.{Appends};
 ghost use Rattle.std.specs.Process.{exit_status};
-ghost use Rattle.heapdbg.specs.Endings.{message_of, outcome_of, status_of, word_of};
+ghost use Rattle.heapdbg.specs.Endings.{message_of, outcome_of, status_of, word_of_fault};
 
 use crate::settings::LineFault;
 use session_text::Ended;
@@ -10,7 +10,7 @@ use std::io::Write;
 use std::process::ExitCode;
 use std::{error, fmt, io};
 
-/// Why the work is not done.
+/// The reason why the work isn't done.
 #[derive(Clone, Copy, Debug, PartialEq, Eq)]
 pub enum Fault {
     /// The input ended in the middle of a line.
@@ -29,15 +29,15 @@ pub enum Fault {
     Listen,
     /// A client could not be accepted.
     Accept,
-    /// No connection to the port can be had.
+    /// No connection to the port can be made.
     Connect,
-    /// The file can't be made, or what takes the dump failed.
+    /// The file can't be made, or a write of the dump failed.
     Out,
     /// The dump is lost.
     Lost,
 }
 
-/// Why the program failed. Its `Display` is what standard error gets.
+/// The reason why the program failed. Its `Display` is the text for standard error.
 #[derive(Debug, Drop)]
 pub enum Failure {
     /// The command line is bad. It holds a text for the user.
@@ -47,9 +47,9 @@ pub enum Failure {
 }
 
 impl Fault {
-    /// The word that standard error names the fault by.
+    /// Returns the word that names the fault on standard error.
     pub fn word(self) -> &'static str
-        ensures { result.now ≡ word_of self }
+        ensures { result.now ≡ word_of_fault self }
     {
         match self {
             Fault::Cut => "cut",
@@ -69,9 +69,9 @@ impl Fault {
 
 impl fmt::Display for Fault {
     ghost use Rattle.std.specs.Prelude.{Some};
-    ghost use Rattle.heapdbg.specs.Endings.{word_of};
+    ghost use Rattle.heapdbg.specs.Endings.{word_of_fault};
 
-    ghost output = { λ fault. Some (word_of fault) };
+    ghost output = { λ fault. Some (word_of_fault fault) };
 
     fn fmt<W: fmt::Write>(&self, f: &mut fmt::Formatter<W>) -> fmt::Result {
         f.write_str(self.word())
@@ -119,7 +119,7 @@ impl From<Fault> for Failure {
     }
 }
 
-/// What an ended session is for the program: done after `end` or the end of input, else a fault.
+/// Returns the outcome of a session that has ended: done after `end` or the end of input, else a fault.
 pub fn outcome(ended: Ended) -> Result<(), Fault>
     ensures { result ≡ outcome_of ended }
 {
@@ -134,7 +134,7 @@ pub fn outcome(ended: Ended) -> Result<(), Fault>
     }
 }
 
-/// The exit status: 0 where the work is done, 1 after a fault, 2 after a bad command line.
+// Returns the exit status: 0 if the work is done, 1 after a fault, 2 after a bad command line.
 fn status(done: &Result<(), Failure>) -> u8
     ensures { result ≡ status_of done.now }
 {
@@ -145,14 +145,16 @@ fn status(done: &Result<(), Failure>) -> u8
     }
 }
 
-/// Writes what standard error gets of a failure.
+// Writes the text of a failure.
 fn tell<W: Write>(stderr: &mut W, failure: &Failure) -> io::Result<()>
-    ensures { OnOk result (Appends (W.contents stderr.old) (W.contents stderr.new) (message_of failure.now)) }
+    ensures { OnOk result
+        (Appends (W.contents stderr.old) (W.contents stderr.new) (message_of failure.now)) }
 {
     write!(stderr, "{failure}")
 }
 
-/// Tells standard error of a failure, if there is one and a write can be had, and returns the exit code.
+/// Writes the text of a failure to standard error, if there is one, and returns the exit code. A write that fails changes
+/// nothing.
 pub fn report<W: Write>(stderr: &mut W, done: &Result<(), Failure>) -> ExitCode
     ensures { exit_status result ≡ status_of done.now }
 {

@@ -3,7 +3,7 @@ use std::fs;
 use std::fs::Files;
 use std::path::Path;
 
-/// Returns whether the folder of a path is there. It makes nothing. A path that names no file has none to look for.
+// Tells whether the folder of a path is there. Makes nothing. A path that names no file has no folder to look for.
 pub(crate) fn has_folder<R: Files>(rt: &R, path: &str) -> bool {
     match Path::new(path).parent() {
         Some(folder) if folder.as_str().is_empty() => true,
@@ -12,7 +12,7 @@ pub(crate) fn has_folder<R: Files>(rt: &R, path: &str) -> bool {
     }
 }
 
-// Returns whether a path is that of a folder.
+// Tells whether a path is that of a folder.
 fn is_folder<R: Files>(rt: &R, path: &str) -> bool {
     match fs::metadata(rt, path) {
         Ok(found) => found.is_dir(),

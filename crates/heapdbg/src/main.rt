@@ -1,9 +1,11 @@
-//! A heap with a debugger's commands: `heapdbg run` answers commands from standard input on standard output, `heapdbg save` does
-//! so and dumps the state that is left, `heapdbg serve` answers those of clients on sockets, and `heapdbg ask` is such a client.
+//! A heap with a debugger's commands: `heapdbg run` answers commands from standard input on standard output, `heapdbg explore`
+//! answers questions too, `heapdbg save` dumps the state that is left, `heapdbg serve` answers the commands of clients on
+//! sockets, and `heapdbg ask` is such a client.
 #![tactic(auto)]
 
 mod ask;
 mod command_line;
+mod explore;
 mod failure;
 mod folder;
 mod progress;
@@ -18,6 +20,7 @@ mod task;
 use std::io::IsTerminal;
 use std::process::ExitCode;
 
+// Runs the program, and reports its failure, if any, on standard error.
 fn main(rt: HostRuntime) -> ExitCode {
     let is_terminal = rt.stderr().is_terminal();
     failure::report(&mut rt.stderr(), &task::perform(&rt, is_terminal))

@@ -5,11 +5,11 @@ use pin_stream::{Gauge, dump_size};
 use std::alloc::Global;
 use std::time::{Clock, Duration, Instant};
 
-/// How many milliseconds a line of progress stands at least.
+// The shortest time in milliseconds between two lines of progress.
 const INTERVAL: u64 = 100;
 
-/// Shows on standard error how many bytes of a dump are out, and of how many, about ten times a second, if that is a terminal.
-/// It is silent if not, and if the clock can't be read. What can't be written is let go.
+/// A gauge that shows on standard error the number of bytes of a dump that are out, and their total, about ten times a
+/// second, if that is a terminal. It is silent if not, and if the clock can't be read. A write that fails changes nothing.
 #[derive(Drop)]
 pub struct TerminalGauge<'a, R> {
     rt: &'a R,
@@ -37,7 +37,7 @@ impl<'a, R> TerminalGauge<'a, R> {
 }
 
 impl<R: Clock + Eprint> TerminalGauge<'_, R> {
-    /// Returns whether the last line has stood long enough, and notes the time if so.
+    // Tells whether the last line has stood long enough, and notes the time if so.
     fn is_due(&mut self) -> bool {
         let Some(last) = self.last else {
             return false;
@@ -52,7 +52,7 @@ impl<R: Clock + Eprint> TerminalGauge<'_, R> {
         true
     }
 
-    /// Writes the line anew.
+    // Writes the line anew.
     fn write_line(&mut self, bytes: u64) {
         self.is_shown = true;
         let _ = match self.size {

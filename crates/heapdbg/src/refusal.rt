@@ -1,49 +1,49 @@
-//! What the program says of a command line that it does not do.
+//! The texts for command lines that the program refuses.
 ghost use Rattle.std.specs.Prelude.{◌≡◌, ◌++◌, IfOk, codes, string_bytes};
 ghost use Rattle.heapdbg.specs.CommandLine.{IsBadWith};
-ghost use Rattle.heapdbg.specs.Refusals.{mistake_of, refusal_of, version_text};
+ghost use Rattle.heapdbg.specs.Refusals.{mistake_of, text_of_mistake, version_text};
 
 use crate::settings::LineFault;
 use std::alloc::{AllocError, Global};
 
-/// The program's version.
+// The program's version.
 pub(crate) const VERSION: &str = "1.0.0";
 
-/// The hash of the logic in which the program is proved, as `rt version` prints it.
+// The hash of the logic in which the program is proved, as `rt version` prints it.
 const LOGIC: &str = "dac8208d650f15bf";
 
-/// What is wrong with a command line whose words are all known: the option with a value out of its range, for the most part.
+// The mistake in a command line whose words are all known: mostly the option with a value out of its range.
 #[derive(Clone, Copy, Debug, PartialEq, Eq)]
 pub(crate) enum Mistake {
-    /// There is no command.
+    // There is no command.
     Command,
-    /// `--regions` is out of its range.
+    // `--regions` is out of its range.
     Regions,
-    /// `--mutators` is out of its range.
+    // `--mutators` is out of its range.
     Mutators,
-    /// `--keep` is out of its range.
+    // `--keep` is out of its range.
     Keep,
-    /// `--time` is out of its range.
+    // `--time` is out of its range.
     Time,
-    /// `--ids` is neither 4 nor 8.
+    // `--ids` is neither 4 nor 8.
     Ids,
-    /// `--port` is out of its range.
+    // `--port` is out of its range.
     Port,
-    /// `--sessions` is out of its range.
+    // `--sessions` is out of its range.
     Sessions,
-    /// `--to` is out of its range.
+    // `--to` is out of its range.
     To,
-    /// Both of `--out` and `--to` are given, or neither.
+    // Both of `--out` and `--to` are given, or neither.
     Place,
 }
 
 impl Mistake {
-    /// Returns what has to be given instead.
+    // Returns the text that says what has to be given instead.
     fn text(self) -> &'static str
         ensures { result.now ≡ mistake_of self }
     {
         match self {
-            Mistake::Command => "heapdbg takes one of run, save, serve and ask",
+            Mistake::Command => "heapdbg takes one of run, explore, save, serve and ask",
             Mistake::Regions => "--regions takes 1 to 256",
             Mistake::Mutators => "--mutators takes 1 to 16",
             Mistake::Keep => "--keep takes 1 to 65536",
@@ -56,9 +56,9 @@ impl Mistake {
         }
     }
 
-    /// Returns the refusal of a command line with this mistake, or Memory if there is none for its text.
+    // Returns the refusal of a command line with this mistake, or Memory if its text can't be allocated.
     pub(crate) fn refusal(self, alloc: Global) -> LineFault
-        ensures { IsBadWith (refusal_of self) result }
+        ensures { IsBadWith (text_of_mistake self) result }
     {
         match refusal_text(alloc, self.text()) {
             Ok(text) => LineFault::Bad(text),
@@ -69,12 +69,15 @@ impl Mistake {
 
 // Returns the text of a refusal that says this.
 fn refusal_text(alloc: Global, mistake: &str) -> Result<String, AllocError>
-    ensures { IfOk result (λ s. string_bytes s ≡ codes "error: " ++ (mistake.now ++ codes "\n\nFor more information, try 'heapdbg --help'.\n")) }
+    ensures { IfOk result
+        (λ s. string_bytes s
+        ≡ codes "error: "
+        ++ (mistake.now ++ codes "\n\nFor more information, try 'heapdbg --help'.\n")) }
 {
     format!(in alloc; "error: {mistake}\n\nFor more information, try 'heapdbg --help'.\n")
 }
 
-/// Returns the answer to `--version`: the program's version and the logic's hash; or Memory if there is none for it.
+// Returns the answer to `--version`: the program's version and the logic's hash; or Memory if it can't be allocated.
 pub(crate) fn version(alloc: Global) -> LineFault
     ensures { IsBadWith version_text result }
 {
@@ -86,7 +89,7 @@ pub(crate) fn version(alloc: Global) -> LineFault
     }
 }
 
-/// Returns a refusal with this text, or Memory if there is none for it.
+// Returns a refusal with this text, or Memory if it can't be allocated.
 pub(crate) fn bad(alloc: Global, text: &str) -> LineFault
     ensures { IsBadWith text.now result }
 {

@@ -1,13 +1,13 @@
 //! A session whose last state is dumped to a file or a socket.
 ghost use Rattle.std.specs.Prelude.{◌≡◌, option_map};
-ghost use Rattle.heap_world.specs.Limits.{AreSettings};
-ghost use Rattle.heapdbg.specs.Saving.{IsSavedTo, save_outcome};
+ghost use Rattle.heap_world.specs.Limits.{AreHeapSettings};
+ghost use Rattle.heapdbg.specs.SaveOutcomes.{IsSavedTo, save_outcome};
 
 use crate::failure::{Fault, outcome};
 use crate::progress::TerminalGauge;
 use crate::settings::{Settings, config};
 use dump_pump::{Outlet, Pumped, WriteOutlet};
-use heap_save::{Place, save_into};
+use heap_save::{Outlets, save_into};
 use heap_trail::Machine;
 use pin_stream::Gauge;
 use session_text::{Ended, Inlet, Local};
@@ -19,14 +19,14 @@ use std::sync::Wait;
 use std::thread::Threads;
 use std::time::Clock;
 
-/// A file that is made, or cut to nothing if it is there.
+// A file that is made, or cut to nothing if it is there.
 #[derive(Drop)]
 struct OutFile<'a, R> {
     rt: &'a R,
     path: &'a str,
 }
 
-impl<R: Files> Place for OutFile<'_, R> {
+impl<R: Files> Outlets for OutFile<'_, R> {
     type Out = WriteOutlet<R::File>;
 
     ghost makes = { λ place outlet. Unit {0} };
@@ -39,14 +39,14 @@ impl<R: Files> Place for OutFile<'_, R> {
     }
 }
 
-/// A port of this computer that is connected to.
+// A port of this computer that is connected to.
 #[derive(Drop)]
 struct Peer<'a, R> {
     rt: &'a R,
     port: u16,
 }
 
-impl<R: Net> Place for Peer<'_, R> {
+impl<R: Net> Outlets for Peer<'_, R> {
     type Out = WriteOutlet<R::Stream>;
 
     ghost makes = { λ place outlet. Unit {0} };
@@ -73,8 +73,9 @@ pub fn save_out<R, I: Inlet, O: Outlet>(
 ) -> Result<(), Fault>
 where
     R: Clock + Eprint + Files + Threads + Wait + Sync,
-    requires { AreSettings settings.now.regions settings.now.mutators settings.now.keep }
-    ensures { IsSavedTo Fault.Out settings.now (I.seen reader.old) (I.seen reader.new) (O.seen writer.old) (O.seen writer.new) result }
+    requires { AreHeapSettings settings.now.regions settings.now.mutators settings.now.keep }
+    ensures { IsSavedTo Fault.Out settings.now (I.seen reader.old) (I.seen reader.new)
+        (O.seen writer.old) (O.seen writer.new) result }
 {
     let place = OutFile { rt, path };
     let mut gauge = TerminalGauge::new(rt, alloc, settings.ids, is_terminal);
@@ -91,8 +92,8 @@ where
 }
 
 /// Runs a session and dumps the state that it leaves to a port. Shows the progress of the dump on standard error if that is a
-/// terminal. Fails as a session does, with Connect if no connection can be had, with Out if a write to it fails, and with Lost
-/// if the dump is lost. May wait.
+/// terminal. Fails as a session does, with Connect if no connection can be made, with Out if a write to it fails, and with
+/// Lost if the dump is lost. May wait.
 pub fn save_to<R, I: Inlet, O: Outlet>(
     rt: &R,
     alloc: Global,
@@ -104,8 +105,9 @@ pub fn save_to<R, I: Inlet, O: Outlet>(
 ) -> Result<(), Fault>
 where
     R: Clock + Eprint + Net + Threads + Wait + Sync,
-    requires { AreSettings settings.now.regions settings.now.mutators settings.now.keep }
-    ensures { IsSavedTo Fault.Connect settings.now (I.seen reader.old) (I.seen reader.new) (O.seen writer.old) (O.seen writer.new) result }
+    requires { AreHeapSettings settings.now.regions settings.now.mutators settings.now.keep }
+    ensures { IsSavedTo Fault.Connect settings.now (I.seen reader.old) (I.seen reader.new)
+        (O.seen writer.old) (O.seen writer.new) result }
 {
     let place = Peer { rt, port };
     let mut gauge = TerminalGauge::new(rt, alloc, settings.ids, is_terminal);
@@ -121,8 +123,8 @@ where
     )
 }
 
-/// Runs a session and dumps the state that it leaves into the outlet of a place. Fails with `unmade` if none can be made.
-fn save<I: Inlet, O: Outlet, P: Place + Drop, G: Gauge, R: Threads + Wait + Sync>(
+// Runs a session and dumps the state that it leaves into the outlet of a place. Fails with `unmade` if none can be made.
+fn save<I: Inlet, O: Outlet, P: Outlets + Drop, G: Gauge, R: Threads + Wait + Sync>(
     rt: &R,
     alloc: Global,
     settings: &Settings,
@@ -132,8 +134,9 @@ fn save<I: Inlet, O: Outlet, P: Place + Drop, G: Gauge, R: Threads + Wait + Sync
     gauge: &mut G,
     unmade: Fault,
 ) -> Result<(), Fault>
-    requires { AreSettings settings.now.regions settings.now.mutators settings.now.keep }
-    ensures { IsSavedTo unmade settings.now (I.seen reader.old) (I.seen reader.new) (O.seen writer.old) (O.seen writer.new) result }
+    requires { AreHeapSettings settings.now.regions settings.now.mutators settings.now.keep }
+    ensures { IsSavedTo unmade settings.now (I.seen reader.old) (I.seen reader.new)
+        (O.seen writer.old) (O.seen writer.new) result }
 {
     match Machine::new(alloc, config(settings)) {
         Ok(machine) => {
@@ -154,7 +157,7 @@ fn save<I: Inlet, O: Outlet, P: Place + Drop, G: Gauge, R: Threads + Wait + Sync
     }
 }
 
-/// What a session that was saved is for the program, which made an outlet or didn't.
+// Returns the outcome of a session that was saved. `made` tells whether an outlet was made.
 fn save_outcome(
     unmade: Fault,
     made: bool,

@@ -12,7 +12,7 @@ use crate::socket_options::port_of;
 use clap::{Arg, ArgAction, ArgMatches, Command};
 use std::alloc::{AllocError, Global};
 
-/// Creates the parser of the command `save`.
+// Creates the parser of the command `save`.
 pub(crate) fn save_parser<'a>(alloc: Global) -> Result<Command<'a>, AllocError>
     ensures app { IfOk result (λ c. app_of c ≡ save_line) }
     ensures local { IfOk result (λ c. (out-Command c).has_globals ≡ false) }
@@ -30,7 +30,7 @@ pub(crate) fn save_parser<'a>(alloc: Global) -> Result<Command<'a>, AllocError>
     parser.arg(out)?.arg(to)
 }
 
-/// The option `--out PATH`.
+// Creates the option `--out PATH`.
 fn path_arg<'a>(alloc: Global) -> Arg<'a>
     ensures rule { rule_of result ≡ value_option (codes "out") }
     ensures local { result.global ≡ false }
@@ -42,7 +42,7 @@ fn path_arg<'a>(alloc: Global) -> Arg<'a>
         .help("File that the last state is dumped to; if not given, --to is required")
 }
 
-/// The task of the options of `save`: one of the two places has to be given.
+// Returns the task of the options of `save`: one of the two places has to be given.
 pub(crate) fn save_task(options: &ArgMatches<'_>) -> Result<Task, Mistake>
     ensures ok { IfOk result (λ task. save_in (rows_of (found_of options.now)) ≡ Some task) }
     ensures none { IfErr result (λ m. save_in (rows_of (found_of options.now)) ≡ None) }
@@ -56,11 +56,17 @@ pub(crate) fn save_task(options: &ArgMatches<'_>) -> Result<Task, Mistake>
     }
 }
 
-/// Where a dump goes whose path or port is given.
+// Returns the target of a dump of which this path or this port is given.
 fn target(path: Option<&str>, port: Option<&str>) -> Result<Target, Mistake>
-    ensures ok { IfOk result (λ t. target_in (option_map (λ s. s.now) path.entry) (option_map (λ s. s.now) port.entry) ≡ Some t) }
-    ensures none { IfErr result (λ m. target_in (option_map (λ s. s.now) path.entry) (option_map (λ s. s.now) port.entry) ≡ None) }
-    ensures mistake { IfErr result (λ m. IsTargetMistake m (option_map (λ s. s.now) path.entry) (option_map (λ s. s.now) port.entry)) }
+    ensures ok { IfOk result
+        (λ t. target_in (option_map (λ s. s.now) path.entry) (option_map (λ s. s.now) port.entry)
+        ≡ Some t) }
+    ensures none { IfErr result
+        (λ m. target_in (option_map (λ s. s.now) path.entry) (option_map (λ s. s.now) port.entry)
+        ≡ None) }
+    ensures mistake { IfErr result
+        (λ m. IsTargetMistake m (option_map (λ s. s.now) path.entry)
+        (option_map (λ s. s.now) port.entry)) }
 {
     match path {
         Some(_) => match port {

@@ -1,26 +1,25 @@
 //! Sessions over one shared heap, for clients of this computer.
 ghost use Rattle.std.specs.Prelude.{◌≡◌, ◌≤◌, []};
-ghost use Rattle.heap_server.specs.Seating.{session_limit};
-ghost use Rattle.heap_world.specs.Limits.{AreSettings};
-ghost use Rattle.session_text.specs.Writes.{IsWritten};
-ghost use Rattle.heapdbg.specs.Serving.{IsServed, IsTold, served_outcome};
+ghost use Rattle.heap_server.specs.SessionSeats.{session_limit};
+ghost use Rattle.heap_world.specs.Limits.{AreHeapSettings};
+ghost use Rattle.heapdbg.specs.ServeOutcomes.{IsHeapServed, IsReportTold, served_outcome};
 
 use crate::failure::Fault;
 use crate::settings::{Settings, config};
 use dump_pump::Outlet;
-use dump_pump::transfer::put_all;
 use heap_server::{Served, serve_heap, tell_sessions, users};
+use session_text::write_all;
 use std::alloc::Global;
 use std::net::{Ipv4Addr, Net, TcpListener, TcpStream};
 use std::sync::Wait;
 use std::thread::Threads;
 
-/// The bytes of the longest line of the report: `session 1000 memory` and its end.
+// The size in bytes of the longest line of the report: `session 1000 memory` and its end.
 const LINE: usize = 20;
 
-/// Serves so many sessions to clients of a port, and puts out how each ended. Fails with Memory if there is none for the heap,
-/// with Listen if the port can't be listened on, with Accept if a client could not be accepted, and else with Write if a write
-/// failed. Says on standard error that it listens, if that is a terminal. May wait.
+/// Serves `sessions` sessions to clients of a port, and puts out how each ended. Fails with Memory if the heap can't be
+/// allocated, with Listen if the port can't be listened on, with Accept if a client could not be accepted, and else with
+/// Write if a write failed. Says on standard error that it listens, if that is a terminal. May wait.
 pub fn serve_port<R, O: Outlet>(
     rt: &R,
     alloc: Global,
@@ -32,9 +31,9 @@ pub fn serve_port<R, O: Outlet>(
 ) -> Result<(), Fault>
 where
     R: Net<Listener = TcpListener, Stream = TcpStream> + Eprint + Threads + Wait + Sync,
-    requires heap { AreSettings settings.now.regions settings.now.mutators settings.now.keep }
+    requires heap { AreHeapSettings settings.now.regions settings.now.mutators settings.now.keep }
     requires sessions { (1 ≤ sessions) × (sessions ≤ session_limit) }
-    ensures { IsServed settings.now sessions (O.seen writer.old) (O.seen writer.new) result }
+    ensures { IsHeapServed settings.now sessions (O.seen writer.old) (O.seen writer.new) result }
 {
     let Ok(blank) = users(alloc, config(settings), sessions) else {
         return Err(Fault::Memory);
@@ -55,28 +54,20 @@ where
     }
 }
 
-/// Puts out how sessions ended, from a report that is still empty.
+// Puts out how sessions ended, by way of a report that is still empty.
 fn tell<O: Outlet>(served: &Served, report: Vec<u8>, writer: &mut O) -> Result<(), Fault>
     requires { report.items ≡ [] }
-    ensures { IsTold served.now (O.seen writer.old) (O.seen writer.new) result }
+    ensures { IsReportTold served.now (O.seen writer.old) (O.seen writer.new) result }
 {
     let mut report = report;
     if tell_sessions(&mut report, served.ends.as_slice()).is_err() {
         return Err(Fault::Memory);
     }
-    let written = put_text(writer, report.as_slice());
+    let written = write_all(writer, report.as_slice());
     outcome(served.refused, written)
 }
 
-/// Puts out all bytes, unless a put fails.
-#[tactic(auto, using(crate::proofs::Telling::put_whole, crate::proofs::Telling::put_part))]
-fn put_text<O: Outlet>(writer: &mut O, text: &[u8]) -> bool
-    ensures { IsWritten text.now (O.seen writer.old) (O.seen writer.new) result }
-{
-    put_all(writer, text) >= text.len()
-}
-
-/// What ended sessions are for the program. An accept that failed goes before a write that did.
+// Returns the outcome of sessions that have ended. An accept that failed goes before a write that did.
 fn outcome(refused: bool, written: bool) -> Result<(), Fault>
     ensures { result ≡ served_outcome refused written }
 {

@@ -1,13 +1,13 @@
-//! What a command line asks for.
+//! The settings that a command line asks for.
 ghost use Rattle.std.specs.Prelude.{◌≡◌};
-ghost use Rattle.heap_world.specs.Limits.{AreSettings};
+ghost use Rattle.heap_world.specs.Limits.{AreHeapSettings};
 
 use heap_class::IdSize;
 use heap_world::Config;
 use std::fmt;
 use thiserror::Error;
 
-/// Where a save puts its dump.
+/// The place for the dump of a save.
 #[derive(Clone, Copy, Debug, PartialEq, Eq)]
 pub enum Target {
     /// In the file that the command line names.
@@ -16,18 +16,20 @@ pub enum Target {
     To(u16),
 }
 
-/// What the program does.
+/// A task of the program.
 #[derive(Clone, Copy, Debug, PartialEq, Eq)]
 pub enum Task {
     /// Runs one session between standard input and standard output.
     Run,
-    /// Runs one session likewise, and dumps the state that it leaves.
+    /// Runs one session likewise, in which questions are answered.
+    Explore,
+    /// Runs one session as `Run` does, and dumps the state that it leaves.
     Save(Target),
     /// Serves sessions over one shared heap to clients of this computer.
     Serve {
         /// The port to listen on, 1 to 65,535.
         port: u16,
-        /// How many sessions, 1 to 1,000.
+        /// The number of sessions, 1 to 1,000.
         sessions: u64,
     },
     /// Asks a session that is served: sends standard input, and copies what comes back to standard output.
@@ -40,7 +42,7 @@ pub enum Task {
 /// The task, and the value of each option.
 #[derive(Clone, Copy, Debug, PartialEq, Eq)]
 pub struct Settings {
-    /// What to do.
+    /// The task.
     pub task: Task,
     /// Regions of the heap, 1 to 256.
     pub regions: u64,
@@ -54,7 +56,7 @@ pub struct Settings {
     pub ids: IdSize,
 }
 
-/// Why a command line gives no settings.
+/// The reason why a command line gives no settings.
 #[derive(Debug, Drop, Error)]
 pub enum LineFault {
     /// The words are no command line of this program, or ask for help. It holds a text for the user.
@@ -65,10 +67,16 @@ pub enum LineFault {
     Memory,
 }
 
-/// The heap that the settings ask for.
+/// Returns the configuration of the heap that the settings ask for.
 pub fn config(settings: &Settings) -> Config
-    requires { AreSettings settings.now.regions settings.now.mutators settings.now.keep }
-    ensures { result ≡ record { regions = settings.now.regions; mutators = settings.now.mutators; keep = settings.now.keep; ids = settings.now.ids } }
+    requires { AreHeapSettings settings.now.regions settings.now.mutators settings.now.keep }
+    ensures { result
+        ≡ record {
+          regions = settings.now.regions;
+          mutators = settings.now.mutators;
+          keep = settings.now.keep;
+          ids = settings.now.ids;
+        } }
 {
     match Config::new(settings.regions, settings.mutators, settings.keep) {
         Some(config) => config.with_ids(settings.ids),

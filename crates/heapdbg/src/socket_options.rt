@@ -11,13 +11,13 @@ use crate::settings::Task;
 use clap::{Arg, ArgMatches, Command};
 use std::alloc::{AllocError, Global};
 
-/// The highest port.
+// The highest port.
 const PORT_LIMIT: u64 = 65535;
 
-/// The most sessions.
+// The largest number of sessions.
 const SESSION_LIMIT: u64 = 1000;
 
-/// Creates the parser of the command `serve`.
+// Creates the parser of the command `serve`.
 pub(crate) fn serve_parser<'a>(alloc: Global) -> Result<Command<'a>, AllocError>
     ensures app { IfOk result (λ c. app_of c ≡ serve_line) }
     ensures local { IfOk result (λ c. (out-Command c).has_globals ≡ false) }
@@ -33,7 +33,7 @@ pub(crate) fn serve_parser<'a>(alloc: Global) -> Result<Command<'a>, AllocError>
         .arg(sessions)
 }
 
-/// Creates the parser of the command `ask`.
+// Creates the parser of the command `ask`.
 pub(crate) fn ask_parser<'a>(alloc: Global) -> Result<Command<'a>, AllocError>
     ensures app { IfOk result (λ c. app_of c ≡ ask_line) }
     ensures local { IfOk result (λ c. (out-Command c).has_globals ≡ false) }
@@ -45,7 +45,7 @@ pub(crate) fn ask_parser<'a>(alloc: Global) -> Result<Command<'a>, AllocError>
         .arg(port_arg(alloc))
 }
 
-/// The option `--port N`, which has to be given.
+// Creates the option `--port N`, which has to be given.
 fn port_arg<'a>(alloc: Global) -> Arg<'a>
     ensures rule { rule_of result ≡ port_option }
     ensures local { result.global ≡ false }
@@ -53,7 +53,7 @@ fn port_arg<'a>(alloc: Global) -> Arg<'a>
     value_arg(alloc, "port", "Port on 127.0.0.1, 1 to 65535").required(true)
 }
 
-/// The task of the options of `serve`.
+// Returns the task of the options of `serve`, or the mistake in them.
 pub(crate) fn serve_task(options: &ArgMatches<'_>) -> Result<Task, Mistake>
     ensures ok { IfOk result (λ task. serve_in (rows_of (found_of options.now)) ≡ Some task) }
     ensures none { IfErr result (λ m. serve_in (rows_of (found_of options.now)) ≡ None) }
@@ -68,7 +68,7 @@ pub(crate) fn serve_task(options: &ArgMatches<'_>) -> Result<Task, Mistake>
     Ok(Task::Serve { port, sessions })
 }
 
-/// The task of the options of `ask`.
+// Returns the task of the options of `ask`, or the mistake in them.
 pub(crate) fn ask_task(options: &ArgMatches<'_>) -> Result<Task, Mistake>
     ensures ok { IfOk result (λ task. ask_in (rows_of (found_of options.now)) ≡ Some task) }
     ensures none { IfErr result (λ m. ask_in (rows_of (found_of options.now)) ≡ None) }
@@ -80,7 +80,7 @@ pub(crate) fn ask_task(options: &ArgMatches<'_>) -> Result<Task, Mistake>
     }
 }
 
-/// The port that is given.
+// Returns the port that the options give.
 fn port(options: &ArgMatches<'_>) -> Option<u16>
     ensures { result ≡ port_in (rows_of (found_of options.now)) }
 {
@@ -90,7 +90,7 @@ fn port(options: &ArgMatches<'_>) -> Option<u16>
     }
 }
 
-/// The port that a text writes.
+// Returns the port that a text writes.
 pub(crate) fn port_of(text: &str) -> Option<u16>
     ensures { result ≡ number_in 1 port_limit text.now }
 {

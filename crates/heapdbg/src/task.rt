@@ -1,13 +1,14 @@
 //! The tasks, from the words of the command line on.
 ghost use Rattle.std.specs.Prelude.{◌≡◌, Some, IfOk, IfErr, map, string_bytes};
 ghost use Rattle.std.specs.IoError.{error_kind};
-ghost use Rattle.heapdbg.specs.CommandLine.{AreWithin, IsBadWith, settings_of, texts};
+ghost use Rattle.heapdbg.specs.CommandLine.{AreSettingsWithin, IsBadWith, settings_of, texts};
 ghost use Rattle.heapdbg.specs.Refusals.{IsRefusalOf};
-ghost use Rattle.heapdbg.specs.Runs.{IsDone, IsRun, IsPerformed, IsSavedOut};
-ghost use Rattle.heap_world.specs.Limits.{AreSettings};
+ghost use Rattle.heapdbg.specs.Runs.{IsTaskDone, IsRun, IsPerformed, IsSavedOut};
+ghost use Rattle.heap_world.specs.Limits.{AreHeapSettings};
 
 use crate::ask::ask_port;
 use crate::command_line::{out_path, settings};
+use crate::explore::explore;
 use crate::failure::{Failure, Fault, outcome};
 use crate::folder::has_folder;
 use crate::refusal::bad;
@@ -27,8 +28,8 @@ use std::thread::Threads;
 use std::time::Clock;
 use std::{env, io};
 
-/// Reads the command line, and does what it asks for between standard input and standard output. `is_terminal` tells whether
-/// standard error is one.
+/// Reads the command line, and does the task that it asks for between standard input and standard output. `is_terminal` tells
+/// whether standard error is a terminal.
 pub fn perform<R>(rt: &R, is_terminal: bool) -> Result<(), Failure>
 where
     R: AllocGlobal + Clock + Env + Eprint + Files + Input + Print,
@@ -53,9 +54,9 @@ where
     )
 }
 
-/// Does what the words ask for: a session of the program's own between a reader and a writer, and a client's between `input`,
-/// which a thread takes that may outlive this call, and the writer. Where they ask for nothing, or there is no memory to read
-/// them, nothing is read or written.
+// Does the task that the words ask for: a private session between a reader and a writer, or a client's between `input`, which
+// a thread takes that may outlive this call, and the writer. If they ask for none, or an allocation for reading them fails,
+// nothing is read or written.
 fn perform_words<R, I: Inlet + Send, J: Inlet + Send + Drop + 'static, O: Outlet>(
     rt: &R,
     alloc: Global,
@@ -68,14 +69,15 @@ fn perform_words<R, I: Inlet + Send, J: Inlet + Send + Drop + 'static, O: Outlet
 where
     R: Net<Listener = TcpListener, Stream = TcpStream> + Threads + Wait,
     R: Clock + Eprint + Files + Copy + Send + Sync + Drop + 'static,
-    ensures { IsPerformed (map string_bytes words.now) (I.seen reader.old) (I.seen reader.new) (O.seen writer.old) (O.seen writer.new) result }
+    ensures { IsPerformed (map string_bytes words.now) (I.seen reader.old) (I.seen reader.new)
+        (O.seen writer.old) (O.seen writer.new) result }
 {
-    let asked = asked(alloc, words)?;
+    let asked = settings_of_words(alloc, words)?;
     work(rt, alloc, words, &asked, reader, input, writer, is_terminal)?;
     Ok(())
 }
 
-/// Does the task of the settings, which the words ask for.
+// Does the task of the settings, which the words ask for.
 fn work<R, I: Inlet + Send, J: Inlet + Send + Drop + 'static, O: Outlet>(
     rt: &R,
     alloc: Global,
@@ -89,11 +91,13 @@ fn work<R, I: Inlet + Send, J: Inlet + Send + Drop + 'static, O: Outlet>(
 where
     R: Net<Listener = TcpListener, Stream = TcpStream> + Threads + Wait,
     R: Clock + Eprint + Files + Copy + Send + Sync + Drop + 'static,
-    requires { AreWithin asked.now }
-    ensures { IsDone asked.now.task asked.now (I.seen reader.old) (I.seen reader.new) (O.seen writer.old) (O.seen writer.new) result }
+    requires { AreSettingsWithin asked.now }
+    ensures { IsTaskDone asked.now.task asked.now (I.seen reader.old) (I.seen reader.new)
+        (O.seen writer.old) (O.seen writer.new) result }
 {
     match asked.task {
         Task::Run => session(alloc, asked, reader, writer),
+        Task::Explore => explore(alloc, asked, reader, writer),
         Task::Save(Target::Out) => save_named(rt, alloc, words, asked, reader, writer, is_terminal),
         Task::Save(Target::To(port)) => save_to(
             rt,
@@ -117,9 +121,10 @@ where
     }
 }
 
+// The text for a word that is no UTF-8.
 const NOT_UTF8: &str = "error: a word of the command line is not UTF-8\n";
 
-/// The fault of a command line that can't be read.
+// Returns the fault of a command line that can't be read.
 fn unread(alloc: Global, error: &Error) -> LineFault
     ensures memory { error_kind error.now ≡ ErrorKind.OutOfMemory → result ≡ LineFault.Memory }
     ensures text { IsBadWith NOT_UTF8.now result }
@@ -130,20 +135,20 @@ fn unread(alloc: Global, error: &Error) -> LineFault
     bad(alloc, NOT_UTF8)
 }
 
-/// The settings that the words ask for.
-fn asked(alloc: Global, words: &[String]) -> Result<Settings, LineFault>
+// Returns the settings that the words ask for.
+fn settings_of_words(alloc: Global, words: &[String]) -> Result<Settings, LineFault>
     ensures ok { IfOk result (λ s. settings_of (map string_bytes words.now) ≡ Some s) }
     ensures refused { IfErr result (IsRefusalOf (map string_bytes words.now)) }
-    ensures limits { IfOk result AreWithin }
+    ensures limits { IfOk result AreSettingsWithin }
 {
-    match borrowed(alloc, words) {
+    match borrow_words(alloc, words) {
         Ok(line) => settings(alloc, line.as_slice()),
         Err(_) => Err(LineFault::Memory),
     }
 }
 
-/// The words as text.
-fn borrowed<'a>(alloc: Global, words: &'a [String]) -> Result<Vec<&'a str>, AllocError>
+// Returns the words as text. Fails if an allocation fails.
+fn borrow_words<'a>(alloc: Global, words: &'a [String]) -> Result<Vec<&'a str>, AllocError>
     ensures { IfOk result (λ line. texts line.items ≡ map string_bytes words.now) }
 {
     let mut line = Vec::new(alloc);
@@ -153,15 +158,16 @@ fn borrowed<'a>(alloc: Global, words: &'a [String]) -> Result<Vec<&'a str>, Allo
     Ok(line)
 }
 
-/// One session over a heap of its own.
+// Runs one session over a private heap.
 fn session<I: Inlet, O: Outlet>(
     alloc: Global,
     settings: &Settings,
     reader: &mut I,
     writer: &mut O,
 ) -> Result<(), Fault>
-    requires { AreSettings settings.now.regions settings.now.mutators settings.now.keep }
-    ensures { IsRun settings.now (I.seen reader.old) (I.seen reader.new) (O.seen writer.old) (O.seen writer.new) result }
+    requires { AreHeapSettings settings.now.regions settings.now.mutators settings.now.keep }
+    ensures { IsRun settings.now (I.seen reader.old) (I.seen reader.new) (O.seen writer.old)
+        (O.seen writer.new) result }
 {
     match Machine::new(alloc, config(settings)) {
         Ok(machine) => {
@@ -172,8 +178,8 @@ fn session<I: Inlet, O: Outlet>(
     }
 }
 
-/// One session over a heap of its own, whose last state is dumped to the file that the words name. Fails with Out before it if
-/// the folder of that file is not there.
+// Runs one session over a private heap, and dumps its last state to the file that the words name. Fails with Out, before the
+// session, if the folder of that file is not there.
 fn save_named<R, I: Inlet, O: Outlet>(
     rt: &R,
     alloc: Global,
@@ -185,10 +191,11 @@ fn save_named<R, I: Inlet, O: Outlet>(
 ) -> Result<(), Fault>
 where
     R: Clock + Eprint + Files + Threads + Wait + Sync,
-    requires { AreSettings settings.now.regions settings.now.mutators settings.now.keep }
-    ensures { IsSavedOut settings.now (I.seen reader.old) (I.seen reader.new) (O.seen writer.old) (O.seen writer.new) result }
+    requires { AreHeapSettings settings.now.regions settings.now.mutators settings.now.keep }
+    ensures { IsSavedOut settings.now (I.seen reader.old) (I.seen reader.new) (O.seen writer.old)
+        (O.seen writer.new) result }
 {
-    let Ok(line) = borrowed(alloc, words) else {
+    let Ok(line) = borrow_words(alloc, words) else {
         return Err(Fault::Memory);
     };
     match out_path(alloc, line.as_slice()) {

@@ -9,64 +9,64 @@ use Rattle.heap_class.specs.Limits.{class_limit, array_limit}
 use Rattle.heap_class.specs.declared.ObjRef.{ObjRef}
 use Rattle.hprof_text.specs.declared.list_view.ListedObject.{ListedObject}
 use Rattle.hprof_text.specs.Image.{DumpedObject, IsKnown, IsDumpable}
-use Rattle.hprof_text.specs.Listed.{listed_place, places_from, dumped, image_of, IsShown}
+use Rattle.hprof_text.specs.HeapLists.{listed_place, listed_places, dumped_object, image_of_list, IsListable}
 
-pub length_places : (k n : ℕ) → length (places_from k n) ≡ n
+pub length_places : (k n : ℕ) → length (listed_places k n) ≡ n
 length_places k zero = refl
 length_places k (suc n) = omega (arith, length_places (k + 1) n)
 
-pub got_place : (k n i m : ℕ) → i < n → m ≡ k + i → slice_get (places_from k n) i ≡ Some (listed_place m)
+pub got_place : (k n i m : ℕ) → i < n → m ≡ k + i → slice_get (listed_places k n) i ≡ Some (listed_place m)
 got_place k zero i m h e = absurd (omega (arith, h))
 got_place k (suc n) zero m h e = let d : k ≡ m = omega (arith, e) in ap (λ j. Some (listed_place j)) d
 got_place k (suc n) (suc i) m h e = got_place (k + 1) n i m (omega (arith, h)) (omega (arith, e))
 
-pub no_place : (n i : ℕ) → n ≤ i → slice_get (places_from 0 n) i ≡ None
-no_place n i h = slice_get_past (places_from 0 n) i (omega (arith, length_places 0 n, h))
+pub no_place : (n i : ℕ) → n ≤ i → slice_get (listed_places 0 n) i ≡ None
+no_place n i h = slice_get_past (listed_places 0 n) i (omega (arith, length_places 0 n, h))
 
-pub place_within : (n i : ℕ) (at : ObjRef) → slice_get (places_from 0 n) i ≡ Some at → i < n
-place_within n i at e = omega (arith, slice_get_within (places_from 0 n) i at e, length_places 0 n)
+pub place_within : (n i : ℕ) (at : ObjRef) → slice_get (listed_places 0 n) i ≡ Some at → i < n
+place_within n i at e = omega (arith, slice_get_within (listed_places 0 n) i at e, length_places 0 n)
 
 some_same : (x y : ObjRef) → ◌≡◌ {A = Option ObjRef} (Some x) (Some y) → x ≡ y
 some_same x y e = cc
 
-pub place_is : (n i : ℕ) (at : ObjRef) → slice_get (places_from 0 n) i ≡ Some at → at.cell ≡ i
+pub place_is : (n i : ℕ) (at : ObjRef) → slice_get (listed_places 0 n) i ≡ Some at → at.cell ≡ i
 place_is n i at e = ap (λ p. p.cell) (some_same at (listed_place i) (sym e ∙ got_place 0 n i i (place_within n i at e) (omega arith)))
 
-pub place_contained : (n : ℕ) (at : ObjRef) → Contains (places_from 0 n) at → at.cell < n
+pub place_contained : (n : ℕ) (at : ObjRef) → Contains (listed_places 0 n) at → at.cell < n
 place_contained n at c =
-    let e : slice_get (places_from 0 n) c.0 ≡ Some at = slice_get-get_or (places_from 0 n) c.0 at c.1 ∙ ap Some c.2 in
+    let e : slice_get (listed_places 0 n) c.0 ≡ Some at = slice_get-get_or (listed_places 0 n) c.0 at c.1 ∙ ap Some c.2 in
     omega (arith, place_is n c.0 at e, place_within n c.0 at e)
 
 -- the object at a place, as a dump shows it
-pub shown_at : (os : List ListedObject) (i : ℕ) (o : ListedObject) → i < length os → o ≡ get_or os i o → slice_get (map dumped os) i ≡ Some (dumped o)
-shown_at os i o h e = slice_get-map dumped os i ∙ ap (λ x. elim x as (λ _. Option DumpedObject) [ Some y ↦ Some (dumped y) | None ↦ None ]) (slice_get-get_or os i o h ∙ ap Some (sym e))
+pub shown_at : (os : List ListedObject) (i : ℕ) (o : ListedObject) → i < length os → o ≡ get_or os i o → slice_get (map dumped_object os) i ≡ Some (dumped_object o)
+shown_at os i o h e = slice_get-map dumped_object os i ∙ ap (λ x. elim x as (λ _. Option DumpedObject) [ Some y ↦ Some (dumped_object y) | None ↦ None ]) (slice_get-get_or os i o h ∙ ap Some (sym e))
 
-pub shown_here : (shown : List DumpedObject) (os : List ListedObject) (i : ℕ) (at : ObjRef) (o : ListedObject) → map dumped os ≡ shown → slice_get (places_from 0 (length shown)) i ≡ Some at → o ≡ get_or os at.cell o → Some (dumped o) ≡ slice_get shown i
+pub shown_here : (shown : List DumpedObject) (os : List ListedObject) (i : ℕ) (at : ObjRef) (o : ListedObject) → map dumped_object os ≡ shown → slice_get (listed_places 0 (length shown)) i ≡ Some at → o ≡ get_or os at.cell o → Some (dumped_object o) ≡ slice_get shown i
 shown_here shown os i at o v e d =
-    let n : i < length os = omega (arith, place_within (length shown) i at e, ap length v, length-map os dumped) in
+    let n : i < length os = omega (arith, place_within (length shown) i at e, ap length v, length-map os dumped_object) in
     let g : o ≡ get_or os i o = d ∙ ap (λ k. get_or os k o) (place_is (length shown) i at e) in
     sym (shown_at os i o n g) ∙ ap (λ l. slice_get l i) v
 
 -- ---- what the checks find is what a dump may show
 
-pub dumpable_from : (classes : List Class) (registers : List ℕ) (os : List ListedObject) → IsClassTable [] classes → length classes ≤ class_limit → length registers ≤ 128 → length os ≤ 65536 → All (IsShown classes) os → IsDumpable (image_of classes registers os)
+pub dumpable_from : (classes : List Class) (registers : List ℕ) (os : List ListedObject) → IsClassTable [] classes → length classes ≤ class_limit → length registers ≤ 128 → length os ≤ 65536 → All (IsListable classes) os → IsDumpable (image_of_list classes registers os)
 dumpable_from classes registers os t c r n h = record {
   classes = t;
   few_classes = c;
   few_registers = r;
-  few_objects = omega (arith, n, length-map os dumped);
-  known = All-map (λ (o : DumpedObject). IsKnown classes o.kind (length o.words)) dumped os (λ k d l. (h k d l).0);
-  small = All-map (λ (o : DumpedObject). length o.words ≤ array_limit) dumped os (λ k d l. (h k d l).1);
+  few_objects = omega (arith, n, length-map os dumped_object);
+  known = All-map (λ (o : DumpedObject). IsKnown classes o.kind (length o.words)) dumped_object os (λ k d l. (h k d l).0);
+  small = All-map (λ (o : DumpedObject). length o.words ≤ array_limit) dumped_object os (λ k d l. (h k d l).1);
 }
 
-pub shown_from : (classes : List Class) (registers : List ℕ) (os : List ListedObject) → IsDumpable (image_of classes registers os) → (length registers ≤ 128) × (length os ≤ 65536) × All (IsShown classes) os
+pub shown_from : (classes : List Class) (registers : List ℕ) (os : List ListedObject) → IsDumpable (image_of_list classes registers os) → (length registers ≤ 128) × (length os ≤ 65536) × All (IsListable classes) os
 shown_from classes registers os h = (
   h.few_registers,
-  omega (arith, h.few_objects, length-map os dumped),
+  omega (arith, h.few_objects, length-map os dumped_object),
   λ k d l.
-      let e = get_or-map dumped os k d (dumped d) l in
-      let n : k < length (map dumped os) = omega (arith, l, length-map os dumped) in
+      let e = get_or-map dumped_object os k d (dumped_object d) l in
+      let n : k < length (map dumped_object os) = omega (arith, l, length-map os dumped_object) in
       let K : DumpedObject → Type 0 = λ o. IsKnown classes o.kind (length o.words) in
       let S : DumpedObject → Type 0 = λ o. length o.words ≤ array_limit in
-      (subst K e (h.known k (dumped d) n), subst S e (h.small k (dumped d) n)),
+      (subst K e (h.known k (dumped_object d) n), subst S e (h.small k (dumped_object d) n)),
 )

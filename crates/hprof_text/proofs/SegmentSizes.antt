@@ -2,7 +2,7 @@
 use Rattle.std.proofs.Common.{◌≡◌, ℕ, ◌+◌, Bool, true, false, List, [], ◌∷◌, length, map, refl, ap, ap₂, ◌∙◌, arith}
 use Rattle.std.specs.Prelude.{nat_le}
 use Rattle.hprof_text.specs.Segments.{size_of, cut_at, segments_of, sizes_at, segment_sizes}
-use Rattle.hprof_text.proofs.Cut.{Cutting, cut_by, size_more}
+use Rattle.hprof_text.proofs.Cutting.{Cutting, cut_by, size_more}
 
 -- the sizes of a cutting whose open segment has so many bytes already
 abbrev sizes : ℕ → Cutting → List ℕ

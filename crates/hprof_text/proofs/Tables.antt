@@ -12,9 +12,9 @@ use Rattle.heap_class.specs.declared.Kind.{Kind}
 use Rattle.heap_class.specs.declared.Field.{Field}
 use Rattle.heap_class.specs.Limits.{name_limit, slot_limit}
 use Rattle.heap_class.specs.Classes.{Class, first_uses, name_table, names_in, is_name, is_instance_class, slots_under, slot_table_after, slots_of, class_refusal, IsClassTable}
-use Rattle.heap_class.proofs.Refused.{none_holds}
+use Rattle.heap_class.proofs.Refusals.{none_holds}
 use Rattle.heap_class.proofs.Slots.{table_more, instance_within}
-use Rattle.heap_class.proofs.Defined.{super_stands, slots_fit}
+use Rattle.heap_class.proofs.Definitions.{super_stands, slots_fit}
 
 -- ---- slots
 

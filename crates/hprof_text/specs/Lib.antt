@@ -5,9 +5,8 @@ pub mod Sizes
 pub mod Records
 pub mod Fits
 pub mod Laws
-pub mod Opened
-pub mod Buffered
+pub mod SegmentContents
 pub mod Cursors
-pub mod Filled
-pub mod Measured
-pub mod Listed
+pub mod SegmentFilling
+pub mod SizeSums
+pub mod HeapLists

@@ -21,7 +21,9 @@ field_bytes ids name kind = id ids name ++ u1 (type_code kind)
 
 -- the ids of a class: its own, its super's and five that are null
 abbrev pub class_ids : IdSize → ℕ → ℕ → List ℕ
-class_ids ids k sup = u1 0x20 ++ id ids (class_id k) ++ u4 1 ++ id ids sup ++ id ids 0 ++ id ids 0 ++ id ids 0 ++ id ids 0 ++ id ids 0
+class_ids ids k sup =
+    u1 0x20 ++ id ids (class_id k) ++ u4 1 ++ id ids sup ++ id ids 0 ++ id ids 0 ++ id ids 0
+    ++ id ids 0 ++ id ids 0
 
 -- the numbers of a class: the size of its instances, no constants, no static fields, and the number of its own fields
 abbrev pub class_counts : ℕ → ℕ → List ℕ
@@ -37,4 +39,6 @@ instance_head ids x k size = u1 0x21 ++ id ids x ++ u4 1 ++ id ids (class_id k) 
 
 -- the records before the segments, by the classes alone
 abbrev pub opening_of : IdSize → List Class → ℕ → List ℕ
-opening_of ids classes time = header ids time ++ flat_map (utf8 ids) (enumerate_from 1 (name_table classes)) ++ flat_map (load_class ids classes) (enumerate_from 0 classes) ++ trace
+opening_of ids classes time =
+    header ids time ++ flat_map (utf8 ids) (enumerate_from 1 (name_table classes))
+    ++ flat_map (load_class ids classes) (enumerate_from 0 classes) ++ trace

@@ -28,7 +28,8 @@ AreFilled limit (s ∷ more) = HasNoRoom limit (size_of s) more × AreFilled lim
 
 -- the segments have the sub-records in order; none is empty, none is longer than `limit` unless it is a single sub-record, and
 -- none could take the next sub-record
-pub record AreSegments (limit : ℕ) (subs : List (List ℕ)) (segments : List (List (List ℕ))) : Type 0 where
+pub record AreSegments (limit : ℕ) (subs : List (List ℕ))
+    (segments : List (List (List ℕ))) : Type 0 where
   pub joined : flat_map (λ s. s) segments ≡ subs
   pub inhabited : All (λ s. s ≢ []) segments
   pub within : All (λ s. (size_of s ≤ limit) ⊎ (length s ≡ 1)) segments
@@ -52,7 +53,9 @@ segments_of limit (x ∷ xs) = let r = cut_at limit (length x) xs in (x ∷ r.0)
 -- the sizes of the segments, from the sizes of the sub-records alone; the first has `size` bytes already
 unfoldable pub sizes_at : ℕ → ℕ → List ℕ → List ℕ
 sizes_at limit size [] = size ∷ []
-sizes_at limit size (n ∷ ns) = elim (nat_le (size + n) limit) [ true ↦ sizes_at limit (size + n) ns | false ↦ size ∷ sizes_at limit n ns ]
+sizes_at limit size (n ∷ ns) =
+    elim (nat_le (size + n) limit)
+    [ true ↦ sizes_at limit (size + n) ns | false ↦ size ∷ sizes_at limit n ns ]
 
 -- the sizes of the segments, from the sizes of the sub-records alone
 unfoldable pub segment_sizes : ℕ → List ℕ → List ℕ
@@ -79,11 +82,13 @@ pieces_of ids image time = opening_records ids image time ∷ records_from (sub_
 
 -- the whole text of a dump
 unfoldable pub dump_text : IdSize → Image → ℕ → List ℕ
-dump_text ids image time = opening_records ids image time ++ concat (segment_records (sub_records ids image)) ++ end_record
+dump_text ids image time =
+    opening_records ids image time ++ concat (segment_records (sub_records ids image)) ++ end_record
 
 -- piece i of these, empty past the last
 unfoldable pub nth_piece : ℕ → List (List ℕ) → Piece
-nth_piece i pieces = record { bytes = unwrap_or (slice_get pieces i) []; last = nat_le (length pieces) (i + 1) }
+nth_piece i pieces =
+    record { bytes = unwrap_or (slice_get pieces i) []; last = nat_le (length pieces) (i + 1) }
 
 -- piece i of a dump
 unfoldable pub piece_of : IdSize → Image → ℕ → ℕ → Piece

@@ -18,7 +18,8 @@ names_size ids names = sum_by (utf8_size ids) names
 
 -- the size of the records before the segments
 unfoldable pub opening_size : IdSize → List Class → ℕ
-opening_size ids classes = 52 + names_size ids (name_table classes) + (17 + 2 * id_bytes ids) * length classes
+opening_size ids classes =
+    52 + names_size ids (name_table classes) + (17 + 2 * id_bytes ids) * length classes
 
 -- the size of the sub-record of a class
 abbrev pub class_size : IdSize → Class → ℕ

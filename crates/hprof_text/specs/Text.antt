@@ -44,7 +44,9 @@ record_of tag body = u1 tag ++ u4 0 ++ u4 (length body) ++ body
 
 -- the header: the format's name, the size of identifiers, and the time in milliseconds since 1970
 unfoldable pub header : IdSize → ℕ → List ℕ
-header ids time = codes "JAVA PROFILE 1.0.2" ++ u1 0 ++ u4 (id_bytes ids) ++ u4 (time / 2 ^ 32) ++ u4 (time % 2 ^ 32)
+header ids time =
+    codes "JAVA PROFILE 1.0.2" ++ u1 0 ++ u4 (id_bytes ids) ++ u4 (time / 2 ^ 32)
+    ++ u4 (time % 2 ^ 32)
 
 -- the UTF8 record of a name with its id
 unfoldable pub utf8 : IdSize → ℕ × List ℕ → List ℕ
@@ -52,7 +54,9 @@ utf8 ids n = record_of 0x01 (id ids n.0 ++ n.1)
 
 -- the LOAD CLASS record of class k, whose serial is k + 1
 unfoldable pub load_class : IdSize → List Class → ℕ × Class → List ℕ
-load_class ids classes c = record_of 0x02 (u4 (c.0 + 1) ++ id ids (class_id c.0) ++ u4 1 ++ id ids (name_id classes c.1.name))
+load_class ids classes c =
+    record_of 0x02
+    (u4 (c.0 + 1) ++ id ids (class_id c.0) ++ u4 1 ++ id ids (name_id classes c.1.name))
 
 -- the TRACE record: serial 1, thread 0, no frames
 unfoldable pub trace : List ℕ
@@ -67,8 +71,11 @@ field_entry ids classes f = id ids (name_id classes f.name) ++ u1 (type_code f.k
 -- the CLASS DUMP of a class: its super; no loader, signers or protection domain; no constants and no static fields; its own
 -- fields
 unfoldable pub class_dump : IdSize → List Class → ℕ × Class → List ℕ
-class_dump ids classes c = u1 0x20 ++ id ids (class_id c.0) ++ u4 1 ++ id ids (option_map_or class_id c.1.sup 0) ++ id ids 0 ++ id ids 0 ++ id ids 0 ++ id ids 0 ++ id ids 0
-    ++ u4 (instance_size ids classes c.0) ++ u2 0 ++ u2 0 ++ u2 (length c.1.fields) ++ flat_map (field_entry ids classes) c.1.fields
+class_dump ids classes c =
+    u1 0x20 ++ id ids (class_id c.0) ++ u4 1 ++ id ids (option_map_or class_id c.1.sup 0)
+    ++ id ids 0 ++ id ids 0 ++ id ids 0 ++ id ids 0 ++ id ids 0
+    ++ u4 (instance_size ids classes c.0) ++ u2 0 ++ u2 0 ++ u2 (length c.1.fields)
+    ++ flat_map (field_entry ids classes) c.1.fields
 
 -- the root of a class
 unfoldable pub root_sticky_class : IdSize → ℕ × Class → List ℕ
@@ -84,9 +91,15 @@ value_bytes ids v = big_bytes (width_of ids v.0) v.1
 
 -- the INSTANCE DUMP, OBJECT ARRAY DUMP or PRIMITIVE ARRAY DUMP of an object, by its kind
 unfoldable pub dump_of : IdSize → List Class → ℕ → ObjKind → List ℕ → List ℕ
-dump_of ids classes x (Instance k) words = let values = flat_map (value_bytes ids) (zip (slots_of classes k) words) in u1 0x21 ++ id ids x ++ u4 1 ++ id ids (class_id k) ++ u4 (length values) ++ values
-dump_of ids classes x (Array k) words = u1 0x22 ++ id ids x ++ u4 1 ++ u4 (length words) ++ id ids (class_id k) ++ flat_map (id ids) words
-dump_of ids classes x (Prim kind) words = u1 0x23 ++ id ids x ++ u4 1 ++ u4 (length words) ++ u1 (type_code kind) ++ flat_map (λ w. value_bytes ids (kind, w)) words
+dump_of ids classes x (Instance k) words =
+    let values = flat_map (value_bytes ids) (zip (slots_of classes k) words) in
+    u1 0x21 ++ id ids x ++ u4 1 ++ id ids (class_id k) ++ u4 (length values) ++ values
+dump_of ids classes x (Array k) words =
+    u1 0x22 ++ id ids x ++ u4 1 ++ u4 (length words) ++ id ids (class_id k)
+    ++ flat_map (id ids) words
+dump_of ids classes x (Prim kind) words =
+    u1 0x23 ++ id ids x ++ u4 1 ++ u4 (length words) ++ u1 (type_code kind)
+    ++ flat_map (λ w. value_bytes ids (kind, w)) words
 
 -- the sub-record of an object
 unfoldable pub object_dump : IdSize → List Class → DumpedObject → List ℕ
@@ -96,11 +109,15 @@ object_dump ids classes o = dump_of ids classes o.id o.kind o.words
 
 -- the records before the segments: header, names, classes, and the empty trace
 unfoldable pub opening_records : IdSize → Image → ℕ → List ℕ
-opening_records ids image time = header ids time ++ flat_map (utf8 ids) (enumerate_from 1 (name_table image.classes)) ++ flat_map (load_class ids image.classes) (enumerate_from 0 image.classes) ++ trace
+opening_records ids image time =
+    header ids time ++ flat_map (utf8 ids) (enumerate_from 1 (name_table image.classes))
+    ++ flat_map (load_class ids image.classes) (enumerate_from 0 image.classes) ++ trace
 
 -- the sub-records of the classes, then their roots
 unfoldable pub class_records : IdSize → Image → List (List ℕ)
-class_records ids image = map (class_dump ids image.classes) (enumerate_from 0 image.classes) ++ map (root_sticky_class ids) (enumerate_from 0 image.classes)
+class_records ids image =
+    map (class_dump ids image.classes) (enumerate_from 0 image.classes)
+    ++ map (root_sticky_class ids) (enumerate_from 0 image.classes)
 
 -- the sub-records of the objects
 unfoldable pub object_records : IdSize → Image → List (List ℕ)
@@ -112,4 +129,5 @@ register_roots ids image = map (root_unknown ids) (filter (λ x. not (x == 0)) i
 
 -- all sub-records, in order
 unfoldable pub sub_records : IdSize → Image → List (List ℕ)
-sub_records ids image = class_records ids image ++ object_records ids image ++ register_roots ids image
+sub_records ids image =
+    class_records ids image ++ object_records ids image ++ register_roots ids image

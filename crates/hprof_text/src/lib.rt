@@ -17,17 +17,17 @@ use heap_class::{ClassNo, FirstClasses, IdSize, ObjKind, ObjRef, Refusal};
 use std::alloc::Global;
 use std::marker::Model;
 
-mod buffer;
 mod list_view;
 mod measure;
 mod parts;
 mod pieces;
 mod records;
 mod segment;
+mod segment_bytes;
 mod sizes;
 
-pub use crate::buffer::Buffer;
 pub use crate::list_view::{ListView, ListedObject};
+pub use crate::segment_bytes::SegmentBytes;
 
 /// The most bytes of a segment's body, unless it is a single sub-record.
 pub const SEGMENT_LIMIT: u64 = 4096;
@@ -131,22 +131,26 @@ pub trait View {
 
     /// Returns the place of the object after the one at this place.
     fn next(&self, at: ObjRef) -> Option<ObjRef>
-        ensures { (i : ℕ) → slice_get (places self.now) i ≡ Some at → result ≡ slice_get (places self.now) (i + 1) };
+        ensures { (i : ℕ) → slice_get (places self.now) i ≡ Some at
+            → result ≡ slice_get (places self.now) (i + 1) };
 
     /// Returns the kind of the object at this place, which must have one.
     fn kind(&self, at: ObjRef) -> ObjKind
         requires { Contains (places self.now) at }
-        ensures { (i : ℕ) → slice_get (places self.now) i ≡ Some at → IfSome (slice_get (image self.now).objects i) (λ o. result ≡ o.kind) };
+        ensures { (i : ℕ) → slice_get (places self.now) i ≡ Some at
+            → IfSome (slice_get (image self.now).objects i) (λ o. result ≡ o.kind) };
 
     /// Returns the id of the object at this place, which must have one.
     fn id(&self, at: ObjRef) -> u64
         requires { Contains (places self.now) at }
-        ensures { (i : ℕ) → slice_get (places self.now) i ≡ Some at → IfSome (slice_get (image self.now).objects i) (λ o. result ≡ o.id) };
+        ensures { (i : ℕ) → slice_get (places self.now) i ≡ Some at
+            → IfSome (slice_get (image self.now).objects i) (λ o. result ≡ o.id) };
 
     /// Returns the words of the object at this place, which must have one, in slot order.
     fn words(&self, at: ObjRef) -> &[u64]
         requires { Contains (places self.now) at }
-        ensures { (i : ℕ) → slice_get (places self.now) i ≡ Some at → IfSome (slice_get (image self.now).objects i) (λ o. result.now ≡ o.words) };
+        ensures { (i : ℕ) → slice_get (places self.now) i ≡ Some at
+            → IfSome (slice_get (image self.now).objects i) (λ o. result.now ≡ o.words) };
 }
 
 /// Returns the length of a view's dump in bytes. It doesn't depend on the time.
@@ -189,8 +193,12 @@ pub fn piece_from<V: View>(
     time: u64,
 ) -> Result<(Piece, Cursor), Refusal>
     requires { (i : ℕ) × IsAt (V.ids view.now) (V.image view.now) (V.places view.now) cursor i }
-    ensures piece { IfOk result (λ p. (i : ℕ) → IsAt (V.ids view.now) (V.image view.now) (V.places view.now) cursor i → p.0 ≡ piece_of (V.ids view.now) (V.image view.now) time i) }
-    ensures next { IfOk result (λ p. (i : ℕ) → IsAt (V.ids view.now) (V.image view.now) (V.places view.now) cursor i → IsAt (V.ids view.now) (V.image view.now) (V.places view.now) p.1 (i + 1)) }
+    ensures piece { IfOk result
+        (λ p. (i : ℕ) → IsAt (V.ids view.now) (V.image view.now) (V.places view.now) cursor i
+        → p.0 ≡ piece_of (V.ids view.now) (V.image view.now) time i) }
+    ensures next { IfOk result
+        (λ p. (i : ℕ) → IsAt (V.ids view.now) (V.image view.now) (V.places view.now) cursor i
+        → IsAt (V.ids view.now) (V.image view.now) (V.places view.now) p.1 (i + 1)) }
     ensures small { IfOk result (λ p. length p.0.bytes ≤ 2 ^ 24) }
     ensures refused { IfErr result (λ e. e ≡ NoMemory) }
 {

@@ -1,6 +1,6 @@
 //! The length of a dump, added up from the sizes of its sub-records.
 ghost use Rattle.std.specs.Prelude.{◌≡◌, ◌+◌, ◌*◌, ◌<◌, ◌≤◌, ◌^◌, ℕ, List, [], ◌∷◌, ◌++◌, length, map, replicate};
-ghost use Rattle.hprof_text.specs.Measured.{IsMeasured, total};
+ghost use Rattle.hprof_text.specs.SizeSums.{IsMeasured, total};
 ghost use Rattle.hprof_text.specs.Sizes.{class_size, object_size};
 
 use crate::sizes::{class_size, dump_size};
@@ -28,7 +28,8 @@ impl Measure {
         requires some { 0 < size }
         requires limit { self.old.closed + self.old.body + size < 2 ^ 40 }
         ensures added { IsMeasured (size ∷ []) self.old self.new }
-        ensures limit { self.new.closed + self.new.body ≤ self.old.closed + self.old.body + size + 9 }
+        ensures limit { self.new.closed + self.new.body
+            ≤ self.old.closed + self.old.body + size + 9 }
     {
         if self.body != 0 && self.body + size > SEGMENT_LIMIT {
             self.closed += 9 + self.body;
@@ -54,7 +55,8 @@ impl Measure {
         requires some { (0 < size) × (size ≤ 9) × (count ≤ 256) }
         requires limit { self.old.closed + self.old.body < 2 ^ 32 }
         ensures added { IsMeasured (replicate count size) self.old self.new }
-        ensures limit { self.new.closed + self.new.body ≤ self.old.closed + self.old.body + 256 * 18 }
+        ensures limit { self.new.closed + self.new.body
+            ≤ self.old.closed + self.old.body + 256 * 18 }
     {
         for _added in 0..count {
             self.add(size);
@@ -64,7 +66,9 @@ impl Measure {
     /// Adds the sub-records of a view's objects.
     pub fn add_objects<V: View>(&mut self, view: &V)
         requires { self.old.closed + self.old.body < 2 ^ 24 }
-        ensures added { IsMeasured (map (object_size (V.ids view.now) (V.image view.now).classes) (V.image view.now).objects) self.old self.new }
+        ensures added { IsMeasured
+            (map (object_size (V.ids view.now) (V.image view.now).classes)
+            (V.image view.now).objects) self.old self.new }
         ensures limit { self.new.closed + self.new.body < 2 ^ 24 + 65536 * 8226 }
     {
         let classes = view.classes();

@@ -4,24 +4,27 @@ ghost use Rattle.std.specs.List.{enumerate_from};
 ghost use Rattle.byteorder.specs.Endian.{big_bytes};
 ghost use Rattle.heap_class.specs.Classes.{fields_of, name_table};
 ghost use Rattle.heap_class.specs.Limits.{class_limit, array_limit};
-ghost use Rattle.hprof_text.specs.Buffered.{HasRoom};
+ghost use Rattle.hprof_text.specs.SegmentContents.{HasRoom};
 ghost use Rattle.hprof_text.specs.Image.{IsKnown};
 ghost use Rattle.hprof_text.specs.Records.{opening_of};
 ghost use Rattle.hprof_text.specs.Text.{id, field_entry, utf8, load_class, value_bytes, dump_of};
 
-use crate::buffer::Buffer;
+use crate::segment_bytes::SegmentBytes;
 use byteorder::{BigEndian, ByteOrder};
 use heap_class::{ClassNo, FirstClasses, IdSize, Kind, ObjKind};
 
 // The number of words that are put in order before they are appended.
 const WORDS_AT_ONCE: usize = 32;
 
-impl Buffer {
+impl SegmentBytes {
     /// Appends the own fields of a class, in order. There must be room.
     pub fn fields(&mut self, ids: IdSize, classes: &FirstClasses<'_>, class: ClassNo)
-        requires room { HasRoom self.old (flat_map (field_entry ids classes.now) (fields_of classes.now class)) }
+        requires room { HasRoom self.old
+            (flat_map (field_entry ids classes.now) (fields_of classes.now class)) }
         requires known { class < length classes.now }
-        ensures written { self.new.written ≡ self.old.written ++ flat_map (field_entry ids classes.now) (fields_of classes.now class) }
+        ensures written { self.new.written
+            ≡ self.old.written
+            ++ flat_map (field_entry ids classes.now) (fields_of classes.now class) }
         ensures limit { self.new.limit ≡ self.old.limit }
     {
         for field in 0..classes.field_count(class) {
@@ -56,7 +59,8 @@ impl Buffer {
     pub fn values(&mut self, ids: IdSize, kinds: &[Kind], words: &[u64])
         requires room { HasRoom self.old (flat_map (value_bytes ids) (zip kinds.now words.now)) }
         requires same { length words.now ≡ length kinds.now }
-        ensures written { self.new.written ≡ self.old.written ++ flat_map (value_bytes ids) (zip kinds.now words.now) }
+        ensures written { self.new.written
+            ≡ self.old.written ++ flat_map (value_bytes ids) (zip kinds.now words.now) }
         ensures limit { self.new.limit ≡ self.old.limit }
     {
         for (slot, kind) in kinds.iter().enumerate() {
@@ -68,7 +72,8 @@ impl Buffer {
     pub fn numbers(&mut self, width: u64, words: &[u64])
         requires width { width ≤ 8 }
         requires room { HasRoom self.old (flat_map (big_bytes width) words.now) }
-        ensures written { self.new.written ≡ self.old.written ++ flat_map (big_bytes width) words.now }
+        ensures written { self.new.written
+            ≡ self.old.written ++ flat_map (big_bytes width) words.now }
         ensures limit { self.new.limit ≡ self.old.limit }
     {
         if width == 8 {
@@ -98,8 +103,10 @@ impl Buffer {
 
     /// Appends a UTF8 record for each distinct name, in order of first use. There must be room.
     pub fn names(&mut self, ids: IdSize, classes: &FirstClasses<'_>)
-        requires { HasRoom self.old (flat_map (utf8 ids) (enumerate_from 1 (name_table classes.now))) }
-        ensures written { self.new.written ≡ self.old.written ++ flat_map (utf8 ids) (enumerate_from 1 (name_table classes.now)) }
+        requires { HasRoom self.old
+            (flat_map (utf8 ids) (enumerate_from 1 (name_table classes.now))) }
+        ensures written { self.new.written
+            ≡ self.old.written ++ flat_map (utf8 ids) (enumerate_from 1 (name_table classes.now)) }
         ensures limit { self.new.limit ≡ self.old.limit }
     {
         for index in 0..classes.name_count() {
@@ -109,8 +116,11 @@ impl Buffer {
 
     /// Appends a LOAD CLASS record for each class, in order. There must be room.
     pub fn load_classes(&mut self, ids: IdSize, classes: &FirstClasses<'_>)
-        requires { HasRoom self.old (flat_map (load_class ids classes.now) (enumerate_from 0 classes.now)) }
-        ensures written { self.new.written ≡ self.old.written ++ flat_map (load_class ids classes.now) (enumerate_from 0 classes.now) }
+        requires { HasRoom self.old
+            (flat_map (load_class ids classes.now) (enumerate_from 0 classes.now)) }
+        ensures written { self.new.written
+            ≡ self.old.written
+            ++ flat_map (load_class ids classes.now) (enumerate_from 0 classes.now) }
         ensures limit { self.new.limit ≡ self.old.limit }
     {
         for class in 0..classes.len() {
@@ -143,7 +153,8 @@ impl Buffer {
         requires room { HasRoom self.old (dump_of ids classes.now object kind words.now) }
         requires known { IsKnown classes.now kind (length words.now) }
         requires small { length words.now ≤ array_limit }
-        ensures written { self.new.written ≡ self.old.written ++ dump_of ids classes.now object kind words.now }
+        ensures written { self.new.written
+            ≡ self.old.written ++ dump_of ids classes.now object kind words.now }
         ensures limit { self.new.limit ≡ self.old.limit }
     {
         let _count = classes.len();

@@ -5,12 +5,12 @@ ghost use Rattle.heap_class.specs.declared.Refusal.TheVariants.{NoMemory};
 ghost use Rattle.hprof_text.specs.declared.Cursor.TheVariants.{Past};
 ghost use Rattle.hprof_text.specs.Records.{opening_of};
 ghost use Rattle.hprof_text.specs.Cursors.{IsAt, IsBefore, from_class, from_root, from_object, from_register};
-ghost use Rattle.hprof_text.specs.Filled.{IsFilledFrom, IsFilledTo, IsFilledBefore, IsFilledRoots, IsRest};
+ghost use Rattle.hprof_text.specs.SegmentFilling.{IsFilledFrom, IsFilledTo, IsFilledBefore, IsFilledRoots, IsRest};
 ghost use Rattle.hprof_text.specs.Segments.{piece_of};
 ghost use Rattle.hprof_text.specs.Text.{class_dump, root_sticky_class, object_records};
 
-use crate::buffer::Buffer;
 use crate::segment::Segment;
+use crate::segment_bytes::SegmentBytes;
 use crate::sizes::opening_size;
 use crate::{Bytes, Cursor, Piece, View};
 use heap_class::{ClassNo, FirstClasses, IdSize, ObjRef, Refusal};
@@ -30,7 +30,8 @@ impl Segment {
         classes: &FirstClasses<'_>,
         from: ClassNo,
     ) -> Option<ClassNo>
-        ensures { IsFilledFrom (map (class_dump ids classes.now) (enumerate_from 0 classes.now)) from result self.old self.new }
+        ensures { IsFilledFrom (map (class_dump ids classes.now) (enumerate_from 0 classes.now))
+            from result self.old self.new }
     {
         for class in from..classes.len() {
             if !self.offer_class_dump(ids, classes, class) {
@@ -47,7 +48,8 @@ impl Segment {
         classes: &FirstClasses<'_>,
         from: ClassNo,
     ) -> Option<ClassNo>
-        ensures { IsFilledFrom (map (root_sticky_class ids) (enumerate_from 0 classes.now)) from result self.old self.new }
+        ensures { IsFilledFrom (map (root_sticky_class ids) (enumerate_from 0 classes.now)) from
+            result self.old self.new }
     {
         for class in from..classes.len() {
             if !self.offer_class_root(ids, class) {
@@ -59,8 +61,11 @@ impl Segment {
 
     // Offers the sub-records of a view's objects from a place on. Returns the place of the first that wasn't taken.
     fn fill_objects<V: View>(&mut self, view: &V, from: Option<ObjRef>) -> Option<ObjRef>
-        requires { (n : ℕ) × (from ≡ slice_get (V.places view.now) n) × (n ≤ length (V.places view.now)) }
-        ensures { (n : ℕ) → from ≡ slice_get (V.places view.now) n → n ≤ length (V.places view.now) → IsFilledBefore (V.places view.now) (object_records (V.ids view.now) (V.image view.now)) n result self.old self.new }
+        requires { (n : ℕ) × (from ≡ slice_get (V.places view.now) n)
+            × (n ≤ length (V.places view.now)) }
+        ensures { (n : ℕ) → from ≡ slice_get (V.places view.now) n → n ≤ length (V.places view.now)
+            → IsFilledBefore (V.places view.now)
+            (object_records (V.ids view.now) (V.image view.now)) n result self.old self.new }
     {
         let classes = view.classes();
         let ids = view.id_size();
@@ -91,7 +96,9 @@ impl Segment {
 
     // Fills the segment from a register's root on. Returns the cursor at the first sub-record that is left.
     fn fill_from_register<V: View>(&mut self, view: &V, from: u64) -> Cursor
-        ensures { IsFilledTo (V.ids view.now) (V.image view.now) (V.places view.now) (from_register (V.ids view.now) (V.image view.now).registers from) result self.old self.new }
+        ensures { IsFilledTo (V.ids view.now) (V.image view.now) (V.places view.now)
+            (from_register (V.ids view.now) (V.image view.now).registers from) result self.old
+            self.new }
     {
         match self.fill_register_roots(view.id_size(), view.registers(), from) {
             Some(register) => Cursor::RegisterRoot(register),
@@ -101,8 +108,11 @@ impl Segment {
 
     // Fills the segment from an object on, or from the first register's root if there is no object.
     fn fill_from_object<V: View>(&mut self, view: &V, from: Option<ObjRef>) -> Cursor
-        requires { (n : ℕ) × (from ≡ slice_get (V.places view.now) n) × (n ≤ length (V.places view.now)) }
-        ensures { (n : ℕ) → from ≡ slice_get (V.places view.now) n → n ≤ length (V.places view.now) → IsFilledTo (V.ids view.now) (V.image view.now) (V.places view.now) (from_object (V.ids view.now) (V.image view.now) n) result self.old self.new }
+        requires { (n : ℕ) × (from ≡ slice_get (V.places view.now) n)
+            × (n ≤ length (V.places view.now)) }
+        ensures { (n : ℕ) → from ≡ slice_get (V.places view.now) n → n ≤ length (V.places view.now)
+            → IsFilledTo (V.ids view.now) (V.image view.now) (V.places view.now)
+            (from_object (V.ids view.now) (V.image view.now) n) result self.old self.new }
     {
         match self.fill_objects(view, from) {
             Some(at) => Cursor::Object(at),
@@ -112,7 +122,8 @@ impl Segment {
 
     // Fills the segment from a class's root on.
     fn fill_from_root<V: View>(&mut self, view: &V, from: ClassNo) -> Cursor
-        ensures { IsFilledTo (V.ids view.now) (V.image view.now) (V.places view.now) (from_root (V.ids view.now) (V.image view.now) from) result self.old self.new }
+        ensures { IsFilledTo (V.ids view.now) (V.image view.now) (V.places view.now)
+            (from_root (V.ids view.now) (V.image view.now) from) result self.old self.new }
     {
         match self.fill_class_roots(view.id_size(), &view.classes(), from) {
             Some(class) => Cursor::ClassRoot(class),
@@ -122,7 +133,8 @@ impl Segment {
 
     // Fills the segment from a class on.
     fn fill_from_class<V: View>(&mut self, view: &V, from: ClassNo) -> Cursor
-        ensures { IsFilledTo (V.ids view.now) (V.image view.now) (V.places view.now) (from_class (V.ids view.now) (V.image view.now) from) result self.old self.new }
+        ensures { IsFilledTo (V.ids view.now) (V.image view.now) (V.places view.now)
+            (from_class (V.ids view.now) (V.image view.now) from) result self.old self.new }
     {
         match self.fill_class_dumps(view.id_size(), &view.classes(), from) {
             Some(class) => Cursor::ClassDump(class),
@@ -132,8 +144,12 @@ impl Segment {
 
     // Fills the segment from the cursor on.
     fn fill<V: View>(&mut self, view: &V, cursor: Cursor) -> Cursor
-        requires { (rest : List (List ℕ)) × IsRest (V.ids view.now) (V.image view.now) (V.places view.now) cursor rest }
-        ensures { (rest : List (List ℕ)) → IsRest (V.ids view.now) (V.image view.now) (V.places view.now) cursor rest → IsFilledTo (V.ids view.now) (V.image view.now) (V.places view.now) rest result self.old self.new }
+        requires { (rest : List (List ℕ))
+            × IsRest (V.ids view.now) (V.image view.now) (V.places view.now) cursor rest }
+        ensures { (rest : List (List ℕ))
+            → IsRest (V.ids view.now) (V.image view.now) (V.places view.now) cursor rest
+            → IsFilledTo (V.ids view.now) (V.image view.now) (V.places view.now) rest result
+            self.old self.new }
     {
         match cursor {
             Cursor::ClassDump(class) => self.fill_from_class(view, class),
@@ -159,7 +175,7 @@ fn opening_bytes(
     ensures small { IfOk result (λ b. length b ≤ 2 ^ 24) }
     ensures refused { IfErr result (λ e. e ≡ NoMemory) }
 {
-    match Buffer::new(alloc, opening_size(ids, classes) as usize) {
+    match SegmentBytes::new(alloc, opening_size(ids, classes) as usize) {
         Ok(mut buffer) => {
             buffer.opening_records(ids, classes, time);
             Ok(Bytes::from_vec(buffer.into_vec()))
@@ -171,7 +187,8 @@ fn opening_bytes(
 /// Returns the first piece, and the cursor after it. Fails with NoMemory if an allocation fails.
 pub fn start_from<V: View>(alloc: Global, view: &V, time: u64) -> Result<(Piece, Cursor), Refusal>
     ensures piece { IfOk result (λ p. p.0 ≡ piece_of (V.ids view.now) (V.image view.now) time 0) }
-    ensures next { IfOk result (λ p. IsAt (V.ids view.now) (V.image view.now) (V.places view.now) p.1 1) }
+    ensures next { IfOk result
+        (λ p. IsAt (V.ids view.now) (V.image view.now) (V.places view.now) p.1 1) }
     ensures small { IfOk result (λ p. length p.0.bytes ≤ 2 ^ 24) }
     ensures refused { IfErr result (λ e. e ≡ NoMemory) }
 {
@@ -186,9 +203,18 @@ pub fn segment_from<V: View>(
     view: &V,
     cursor: Cursor,
 ) -> Result<(Piece, Cursor), Refusal>
-    requires { (rest : List (List ℕ)) × IsRest (V.ids view.now) (V.image view.now) (V.places view.now) cursor rest }
-    ensures piece { IfOk result (λ p. (time i : ℕ) (rest : List (List ℕ)) → IsRest (V.ids view.now) (V.image view.now) (V.places view.now) cursor rest → IsBefore (V.ids view.now) (V.image view.now) rest i → p.0 ≡ piece_of (V.ids view.now) (V.image view.now) time i) }
-    ensures next { IfOk result (λ p. (i : ℕ) (rest : List (List ℕ)) → IsRest (V.ids view.now) (V.image view.now) (V.places view.now) cursor rest → IsBefore (V.ids view.now) (V.image view.now) rest i → IsAt (V.ids view.now) (V.image view.now) (V.places view.now) p.1 (i + 1)) }
+    requires { (rest : List (List ℕ))
+        × IsRest (V.ids view.now) (V.image view.now) (V.places view.now) cursor rest }
+    ensures piece { IfOk result
+        (λ p. (time i : ℕ) (rest : List (List ℕ))
+        → IsRest (V.ids view.now) (V.image view.now) (V.places view.now) cursor rest
+        → IsBefore (V.ids view.now) (V.image view.now) rest i
+        → p.0 ≡ piece_of (V.ids view.now) (V.image view.now) time i) }
+    ensures next { IfOk result
+        (λ p. (i : ℕ) (rest : List (List ℕ))
+        → IsRest (V.ids view.now) (V.image view.now) (V.places view.now) cursor rest
+        → IsBefore (V.ids view.now) (V.image view.now) rest i
+        → IsAt (V.ids view.now) (V.image view.now) (V.places view.now) p.1 (i + 1)) }
     ensures small { IfOk result (λ p. length p.0.bytes ≤ 2 ^ 24) }
     ensures refused { IfErr result (λ e. e ≡ NoMemory) }
 {
@@ -204,7 +230,9 @@ pub fn segment_from<V: View>(
 
 /// Returns the empty piece past the last.
 pub fn past_from<V: View>(alloc: Global, view: &V) -> (Piece, Cursor)
-    ensures piece { (time i : ℕ) → IsAt (V.ids view.now) (V.image view.now) (V.places view.now) Past i → result.0 ≡ piece_of (V.ids view.now) (V.image view.now) time i }
+    ensures piece { (time i : ℕ)
+        → IsAt (V.ids view.now) (V.image view.now) (V.places view.now) Past i
+        → result.0 ≡ piece_of (V.ids view.now) (V.image view.now) time i }
     ensures next { result.1 ≡ Past }
     ensures small { length result.0.bytes ≡ 0 }
 {

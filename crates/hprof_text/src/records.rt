@@ -3,14 +3,14 @@ ghost use Rattle.std.specs.Prelude.{◌≡◌, ◌<◌, ◌≤◌, ◌++◌, [],
 ghost use Rattle.std.specs.Option.{option_map_or};
 ghost use Rattle.heap_class.specs.Classes.{sup_of};
 ghost use Rattle.heap_class.specs.Limits.{class_limit, name_limit, slot_limit, array_limit};
-ghost use Rattle.hprof_text.specs.Buffered.{HasRoom};
+ghost use Rattle.hprof_text.specs.SegmentContents.{HasRoom};
 ghost use Rattle.hprof_text.specs.Image.{IsKnown};
 ghost use Rattle.hprof_text.specs.Records.{class_at, record_head, field_bytes, class_ids, class_counts, instance_head, sticky_root};
 ghost use Rattle.heap_class.specs.declared.IdSize.TheVariants.{Eight};
 ghost use Rattle.heap_class.specs.declared.ObjKind.TheVariants.{Instance, Array, Prim};
 ghost use Rattle.hprof_text.specs.Text.{class_id, header, utf8, load_class, trace, class_dump, root_unknown, dump_of};
 
-use crate::buffer::Buffer;
+use crate::segment_bytes::SegmentBytes;
 use crate::sizes::instance_size;
 use byteorder::{BigEndian, ByteOrder};
 use heap_class::{ClassNo, FirstClasses, IdSize, Kind};
@@ -53,7 +53,7 @@ fn head_of_eight(object: u64, class: ClassNo, size: u32) -> [u8; HEAD_OF_EIGHT]
     head
 }
 
-impl Buffer {
+impl SegmentBytes {
     /// Appends the header: the format's name, the size of identifiers, and the time in milliseconds since 1970. There must be
     /// room.
     #[tactic(auto, unfolding(crate::specs::Text::header))]
@@ -80,7 +80,7 @@ impl Buffer {
     }
 
     /// Appends a UTF8 record: a name of at most 64 bytes with its id. There must be room.
-    #[tactic(auto, using(crate::proofs::Written::utf8_body), unfolding(crate::specs::Text::utf8, crate::specs::Text::record_of))]
+    #[tactic(auto, using(crate::proofs::WrittenRecords::utf8_body), unfolding(crate::specs::Text::utf8, crate::specs::Text::record_of))]
     pub fn utf8(&mut self, ids: IdSize, number: u64, name: &[u8])
         requires room { HasRoom self.old (utf8 ids (number, name.now)) }
         requires short { length name.now ≤ name_limit }
@@ -93,12 +93,14 @@ impl Buffer {
     }
 
     /// Appends a LOAD CLASS record. The serial of class k is k + 1. There must be room.
-    #[tactic(auto, using(crate::proofs::Written::load_body, crate::proofs::Written::name_at), unfolding(crate::specs::Text::load_class, crate::specs::Text::record_of))]
+    #[tactic(auto, using(crate::proofs::WrittenRecords::load_body, crate::proofs::WrittenRecords::name_at), unfolding(crate::specs::Text::load_class, crate::specs::Text::record_of))]
     pub fn load_class(&mut self, ids: IdSize, classes: &FirstClasses<'_>, class: ClassNo)
-        requires room { HasRoom self.old (load_class ids classes.now (class, class_at classes.now class)) }
+        requires room { HasRoom self.old
+            (load_class ids classes.now (class, class_at classes.now class)) }
         requires known { class < length classes.now }
         requires few { length classes.now ≤ class_limit }
-        ensures written { self.new.written ≡ self.old.written ++ load_class ids classes.now (class, class_at classes.now class) }
+        ensures written { self.new.written
+            ≡ self.old.written ++ load_class ids classes.now (class, class_at classes.now class) }
         ensures limit { self.new.limit ≡ self.old.limit }
     {
         self.record_head(0x02, (8 + 2 * ids.bytes()) as u32);
@@ -165,10 +167,12 @@ impl Buffer {
     /// Appends a CLASS DUMP: super, size of instances and own fields. There is no loader, signer, protection domain, constant
     /// or static field. There must be room.
     pub fn class_dump(&mut self, ids: IdSize, classes: &FirstClasses<'_>, class: ClassNo)
-        requires room { HasRoom self.old (class_dump ids classes.now (class, class_at classes.now class)) }
+        requires room { HasRoom self.old
+            (class_dump ids classes.now (class, class_at classes.now class)) }
         requires known { class < length classes.now }
         requires few { length classes.now ≤ class_limit }
-        ensures written { self.new.written ≡ self.old.written ++ class_dump ids classes.now (class, class_at classes.now class) }
+        ensures written { self.new.written
+            ≡ self.old.written ++ class_dump ids classes.now (class, class_at classes.now class) }
         ensures limit { self.new.limit ≡ self.old.limit }
     {
         self.class_ids(ids, class, super_id(classes, class));
@@ -207,7 +211,8 @@ impl Buffer {
     fn instance_head(&mut self, ids: IdSize, object: u64, class: ClassNo, size: u32)
         requires room { HasRoom self.old (instance_head ids object class size) }
         requires few { class < class_limit }
-        ensures written { self.new.written ≡ self.old.written ++ instance_head ids object class size }
+        ensures written { self.new.written
+            ≡ self.old.written ++ instance_head ids object class size }
         ensures limit { self.new.limit ≡ self.old.limit }
     {
         match ids {
@@ -233,10 +238,12 @@ impl Buffer {
         class: ClassNo,
         words: &[u64],
     )
-        requires room { HasRoom self.old (dump_of ids classes.now object (Instance class) words.now) }
+        requires room { HasRoom self.old
+            (dump_of ids classes.now object (Instance class) words.now) }
         requires known { IsKnown classes.now (Instance class) (length words.now) }
         requires few { length classes.now ≤ class_limit }
-        ensures written { self.new.written ≡ self.old.written ++ dump_of ids classes.now object (Instance class) words.now }
+        ensures written { self.new.written
+            ≡ self.old.written ++ dump_of ids classes.now object (Instance class) words.now }
         ensures limit { self.new.limit ≡ self.old.limit }
     {
         let kinds = classes.slots(class);
@@ -250,7 +257,8 @@ impl Buffer {
         requires room { HasRoom self.old (dump_of ids [] object (Array class) words.now) }
         requires small { length words.now ≤ array_limit }
         requires few { class < class_limit }
-        ensures written { self.new.written ≡ self.old.written ++ dump_of ids [] object (Array class) words.now }
+        ensures written { self.new.written
+            ≡ self.old.written ++ dump_of ids [] object (Array class) words.now }
         ensures limit { self.new.limit ≡ self.old.limit }
     {
         let count = words.len();
@@ -267,7 +275,8 @@ impl Buffer {
     pub fn primitive_array_dump(&mut self, ids: IdSize, object: u64, kind: Kind, words: &[u64])
         requires room { HasRoom self.old (dump_of ids [] object (Prim kind) words.now) }
         requires small { length words.now ≤ array_limit }
-        ensures written { self.new.written ≡ self.old.written ++ dump_of ids [] object (Prim kind) words.now }
+        ensures written { self.new.written
+            ≡ self.old.written ++ dump_of ids [] object (Prim kind) words.now }
         ensures limit { self.new.limit ≡ self.old.limit }
     {
         self.u1(0x23);

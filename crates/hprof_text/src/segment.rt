@@ -3,12 +3,12 @@ ghost use Rattle.std.specs.Prelude.{◌≡◌, ◌<◌, ◌≤◌, [], length, I
 ghost use Rattle.heap_class.specs.Limits.{class_limit, array_limit};
 ghost use Rattle.heap_class.specs.declared.ObjKind.TheVariants.{Instance};
 ghost use Rattle.heap_class.specs.declared.Refusal.TheVariants.{NoMemory};
-ghost use Rattle.hprof_text.specs.Filled.{takes, IsOffered};
+ghost use Rattle.hprof_text.specs.SegmentFilling.{takes, IsOffered};
 ghost use Rattle.hprof_text.specs.Image.{IsKnown};
 ghost use Rattle.hprof_text.specs.Records.{class_at};
 ghost use Rattle.hprof_text.specs.Text.{record_of, class_dump, root_sticky_class, root_unknown, dump_of};
 
-use crate::buffer::Buffer;
+use crate::segment_bytes::SegmentBytes;
 use crate::sizes::{class_size, dump_size, root_size};
 use crate::{Bytes, SEGMENT_LIMIT};
 use heap_class::{ClassNo, FirstClasses, IdSize, ObjKind, Refusal};
@@ -24,7 +24,7 @@ const LONGEST: usize = 8217;
 /// A segment that is being filled. Contracts see its body.
 #[derive(Drop)]
 pub struct Segment {
-    buffer: Buffer,
+    buffer: SegmentBytes,
 }
 
 impl Model for Segment {
@@ -34,7 +34,8 @@ impl Model for Segment {
 
     ghost view = { λ s. drop 9 s.buffer.written };
 
-    ghost invariant = { λ s. (9 ≤ length s.buffer.written) × (length s.buffer.written ≤ 9 + 8217) × (s.buffer.limit ≡ 9 + 8217) };
+    ghost invariant = { λ s. (9 ≤ length s.buffer.written) × (length s.buffer.written ≤ 9 + 8217)
+        × (s.buffer.limit ≡ 9 + 8217) };
 }
 
 impl Segment {
@@ -43,7 +44,7 @@ impl Segment {
         ensures empty { IfOk result (λ s. s ≡ []) }
         ensures refused { IfErr result (λ e. e ≡ NoMemory) }
     {
-        match Buffer::new(alloc, HEAD + LONGEST) {
+        match SegmentBytes::new(alloc, HEAD + LONGEST) {
             Ok(mut buffer) => {
                 buffer.record_head(0, 0);
                 Ok(Segment { buffer })
@@ -77,7 +78,8 @@ impl Segment {
         class: ClassNo,
     ) -> bool
         requires { class < length classes.now }
-        ensures { IsOffered (class_dump ids classes.now (class, class_at classes.now class)) self.old self.new result }
+        ensures { IsOffered (class_dump ids classes.now (class, class_at classes.now class))
+            self.old self.new result }
     {
         let _count = classes.len();
         let taken = self.takes(class_size(ids, classes, class));
@@ -90,7 +92,8 @@ impl Segment {
     /// Offers the root of a class, and tells whether it was taken.
     pub fn offer_class_root(&mut self, ids: IdSize, class: ClassNo) -> bool
         requires { class < class_limit }
-        ensures { IsOffered (root_sticky_class ids (class, class_at [] class)) self.old self.new result }
+        ensures { IsOffered (root_sticky_class ids (class, class_at [] class)) self.old self.new
+            result }
     {
         let taken = self.takes(root_size(ids));
         if taken {
@@ -111,7 +114,8 @@ impl Segment {
     ) -> bool
         requires known { IsKnown classes.now (Instance class) (length words.now) }
         requires small { length words.now ≤ array_limit }
-        ensures { IsOffered (dump_of ids classes.now object (Instance class) words.now) self.old self.new result }
+        ensures { IsOffered (dump_of ids classes.now object (Instance class) words.now) self.old
+            self.new result }
     {
         let _count = classes.len();
         let kind = ObjKind::Instance(class);
@@ -134,7 +138,8 @@ impl Segment {
     ) -> bool
         requires known { IsKnown classes.now kind (length words.now) }
         requires small { length words.now ≤ array_limit }
-        ensures { IsOffered (dump_of ids classes.now object kind words.now) self.old self.new result }
+        ensures { IsOffered (dump_of ids classes.now object kind words.now) self.old self.new
+            result }
     {
         let taken = self.takes(dump_size(ids, classes, kind, words.len() as u64));
         if taken {
@@ -156,7 +161,8 @@ impl Segment {
     ) -> bool
         requires known { IsKnown classes.now kind (length words.now) }
         requires small { length words.now ≤ array_limit }
-        ensures { IsOffered (dump_of ids classes.now object kind words.now) self.old self.new result }
+        ensures { IsOffered (dump_of ids classes.now object kind words.now) self.old self.new
+            result }
     {
         match kind {
             ObjKind::Instance(class) => self.offer_instance(ids, classes, object, class, words),

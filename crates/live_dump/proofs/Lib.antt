@@ -1,2 +1,3 @@
-pub mod Supplying
-pub mod Streaming
+pub mod SupplySteps
+pub mod ToldStreams
+pub mod LiveTexts

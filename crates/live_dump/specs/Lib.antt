@@ -1,2 +1,3 @@
 pub mod Supplies
 pub mod Streams
+pub mod StreamTexts

@@ -1,10 +1,13 @@
 -- What a source over the lock gave, and how it ended.
-use Rattle.std.specs.Prelude.{◌≡◌, ℕ, ◌-◌, ◌⊎◌, false, List, [], ◌∷◌, ◌++◌, map, Option, Some, None, if◌then◌else◌}
+use Rattle.std.specs.Prelude.{◌≡◌, ℕ, ◌+◌, ◌-◌, ◌≤◌, ◌⊎◌, false, List, [], ◌∷◌, ◌++◌, map, length, Option, Some, None, if◌then◌else◌}
+use mathlib.Core.List.{IsPrefix}
+use Rattle.heap_class.specs.declared.IdSize.{IdSize}
 use Rattle.heap_class.specs.declared.LostCause.{LostCause}
 use Rattle.heap_class.specs.declared.LostCause.TheVariants.{Closed}
 use Rattle.heap_class.specs.declared.Refusal.{Refusal}
-use Rattle.heap_world.specs.Limits.{Settings}
+use Rattle.heap_world.specs.Limits.{HeapSettings}
 use Rattle.heap_trail.specs.declared.Action.TheVariants.{NextPiece}
+use Rattle.heap_trail.specs.declared.Reply.{Reply}
 use Rattle.heap_trail.specs.declared.Reply.TheVariants as Said
 use Rattle.heap_trail.specs.Laws.{IsPieceOfLegal}
 use Rattle.hprof_text.specs.declared.Piece.{Piece}
@@ -13,70 +16,103 @@ use Rattle.dump_pump.specs.declared.source.Ending.TheVariants as End
 use Rattle.dump_pump.specs.declared.source.Next.{Next}
 use Rattle.dump_pump.specs.declared.source.Next.TheVariants.{Part, Lost, Cancelled}
 use Rattle.dump_pump.specs.Sources.{Supply, part_limit}
-use Rattle.heap_lock.specs.Held.{WasDumped}
+use Rattle.heap_lock.specs.Calls.{Call}
 use Rattle.heap_lock.specs.Sources.{IsLoss}
 
--- a source: its pin, the time in the header, the pieces that it gave, how many it counts, and how it ended
-pub record Told : Type 0 where
+-- a source: its pin, the time in the header, the calls that its witness had seen at first and those that it has seen now, the
+-- pieces that it gave, how many it counts, and how it ended
+pub record ToldSupply : Type 0 where
   pub pin : ℕ
   pub time : ℕ
+  pub start : List Call
+  pub seen : List Call
   pub given : List Piece
   pub count : ℕ
   pub ended : Option Ending
 
 -- one that gave nothing
-abbrev pub nothing_of : ℕ → ℕ → Told
-nothing_of pin time = record { pin = pin; time = time; given = []; count = 0; ended = None }
+abbrev pub nothing_of : ℕ → ℕ → List Call → ToldSupply
+nothing_of pin time calls =
+    record {
+      pin = pin;
+      time = time;
+      start = calls;
+      seen = calls;
+      given = [];
+      count = 0;
+      ended = None;
+    }
 
 -- what is seen of a source that tells its pieces
-abbrev pub supply : List Piece → ℕ → Option Ending → Supply
-supply given count ended = record { told = Some given; ended = ended; left = part_limit - count }
+abbrev pub told_supply : List Piece → ℕ → Option Ending → Supply
+told_supply given count ended =
+    record { told = Some given; ended = ended; left = part_limit - count }
 
--- the pieces of a ledger
+-- the calls that a log has first
+abbrev pub first_in : List (List Call × Unit {0}) → List Call
+first_in [] = []
+first_in (e ∷ es) = e.0
+
+-- the pieces of a log
 abbrev pub pieces_in : List (Piece × Unit {0}) → List Piece
 pieces_in entries = map (λ e. e.0) entries
 
 -- the pieces given, with what is given next
-abbrev pub given_with : List Piece → Next → List Piece
-given_with given (Part p) = given ++ p ∷ []
-given_with given (Lost cause) = given
-given_with given Cancelled = given
+abbrev pub pieces_with : List Piece → Next → List Piece
+pieces_with given (Part p) = given ++ p ∷ []
+pieces_with given (Lost cause) = given
+pieces_with given Cancelled = given
 
 -- how a source ended, with what it gives next
-abbrev pub ended_by : Option Ending → Next → Option Ending
-ended_by ended (Part p) = if p.last then Some End.Whole else ended
-ended_by ended (Lost cause) = Some (End.Lost cause)
-ended_by ended Cancelled = Some End.Cancelled
+abbrev pub ended_with : Option Ending → Next → Option Ending
+ended_with ended (Part p) = if p.last then Some End.Whole else ended
+ended_with ended (Lost cause) = Some (End.Lost cause)
+ended_with ended Cancelled = Some End.Cancelled
 
--- some machine at the end of a legal history replied this piece to the request for the pin's next one: a piece of the dump of
--- a legal state
-abbrev pub WasGiven : Settings → ℕ → ℕ → Piece → Type 0
-WasGiven config pin time p = WasDumped config (NextPiece pin time) (Said.Part p) × IsPieceOfLegal config.ids time p
+-- from `start` to `seen`, these pieces were given in turn to requests for the pin's next one, with others' calls between
+abbrev pub AreGiven : ℕ → ℕ → List Call → List Piece → List Call → Type 0
+AreGiven pin time start [] seen = IsPrefix start seen
+AreGiven pin time start (p ∷ ps) seen =
+    (between : List Call)
+    × AreGiven pin time ((start ++ between) ++ (NextPiece pin time, Said.Part p) ∷ []) ps seen
 
--- each of the pieces was
-abbrev pub AllGiven : Settings → ℕ → ℕ → List Piece → Type 0
-AllGiven config pin time [] = Unit {0}
-AllGiven config pin time (p ∷ ps) = WasGiven config pin time p × AllGiven config pin time ps
+-- each is a piece of the dump of a legal state
+abbrev pub AllLegal : IdSize → ℕ → List Piece → Type 0
+AllLegal ids time [] = Unit {0}
+AllLegal ids time (p ∷ ps) = IsPieceOfLegal ids time p × AllLegal ids time ps
 
--- some machine at the end of a legal history refused the request for the pin's next piece, with this cause
-abbrev pub WasRefused : Settings → ℕ → ℕ → LostCause → Type 0
-WasRefused config pin time cause = (e : Refusal) × WasDumped config (NextPiece pin time) (Said.Refused e) × IsLoss e cause
+-- between `start` and `seen` this was replied to a request for the pin's next piece
+abbrev pub WasReplied : ℕ → ℕ → List Call → List Call → Reply → Type 0
+WasReplied pin time start seen r =
+    (before : List Call) × IsPrefix start before
+    × IsPrefix (before ++ (NextPiece pin time, r) ∷ []) seen
+
+-- a request for the pin's next piece was refused, with this cause
+abbrev pub WasRefused : ℕ → ℕ → List Call → List Call → LostCause → Type 0
+WasRefused pin time start seen cause =
+    (e : Refusal) × WasReplied pin time start seen (Said.Refused e) × IsLoss e cause
 
 -- a piece that isn't the last was one too many
-abbrev pub WasTooMany : Settings → ℕ → ℕ → LostCause → Type 0
-WasTooMany config pin time cause = (p : Piece) × WasGiven config pin time p × (p.last ≡ false) × (cause ≡ Closed)
+abbrev pub WasTooMany : ℕ → ℕ → List Call → List Piece → List Call → LostCause → Type 0
+WasTooMany pin time start given seen cause =
+    (p : Piece) × WasReplied pin time start seen (Said.Part p) × (p.last ≡ false)
+    × (part_limit ≤ length given + 1) × (cause ≡ Closed)
 
 -- why a source is lost
-abbrev pub IsLost : Settings → ℕ → ℕ → LostCause → Type 0
-IsLost config pin time cause = WasRefused config pin time cause ⊎ WasTooMany config pin time cause
+abbrev pub IsLost : ℕ → ℕ → List Call → List Piece → List Call → LostCause → Type 0
+IsLost pin time start given seen cause =
+    WasRefused pin time start seen cause ⊎ WasTooMany pin time start given seen cause
 
 -- a source may have ended so
-abbrev pub MayEnd : Settings → ℕ → ℕ → Option Ending → Type 0
-MayEnd config pin time None = Unit {0}
-MayEnd config pin time (Some End.Whole) = Unit {0}
-MayEnd config pin time (Some (End.Lost cause)) = IsLost config pin time cause
-MayEnd config pin time (Some End.Cancelled) = ⊥
+abbrev pub MayEnd : ℕ → ℕ → List Call → List Piece → List Call → Option Ending → Type 0
+MayEnd pin time start given seen None = Unit {0}
+MayEnd pin time start given seen (Some End.Whole) = Unit {0}
+MayEnd pin time start given seen (Some (End.Lost cause)) = IsLost pin time start given seen cause
+MayEnd pin time start given seen (Some End.Cancelled) = ⊥
 
 -- what is known of a source's pieces and of how it ended
-abbrev pub IsSupplied : Settings → ℕ → ℕ → List Piece → Option Ending → Type 0
-IsSupplied config pin time given ended = AllGiven config pin time given × MayEnd config pin time ended
+pub record IsSupplied (config : HeapSettings) (t : ToldSupply) : Type 0 where
+  pub given : AreGiven t.pin t.time t.start t.given t.seen
+  pub legal : AllLegal config.ids t.time t.given
+  pub counted : t.count ≡ length t.given
+  pub ended : MayEnd t.pin t.time t.start t.given t.seen t.ended

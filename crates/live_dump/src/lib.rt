@@ -1,8 +1,10 @@
 //! Dumps of a shared heap through a pipe: the lock for one piece at a time, and the outlet in another thread.
 #![tactic(auto)]
 
+pub mod laws;
 pub mod source;
 pub mod streams;
 
+pub use laws::streams_are_text;
 pub use source::ToldSource;
 pub use streams::stream;

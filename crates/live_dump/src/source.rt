@@ -1,37 +1,58 @@
 //! A source over the lock that tells what it gave.
 ghost use Rattle.std.specs.Prelude.{◌≡◌, ◌<◌};
-ghost use Rattle.live_dump.specs.Supplies.{IsSupplied, pieces_in, ended_by, given_with, nothing_of};
+ghost use Rattle.heap_lock.specs.Calls.{IsLegalLedger};
+ghost use Rattle.live_dump.specs.Supplies.{IsSupplied, pieces_in, ended_with, pieces_with, nothing_of};
 
 use dump_pump::source::PART_LIMIT;
 use dump_pump::{Ending, Next, Source};
-use heap_lock::{Heap, LockedSource, Shared};
+use heap_lock::{Heap, LockedSource, Shared, Witness};
 use hprof_text::Piece;
 use http_server::Log;
 use std::marker::Model;
 use std::sync::Wait;
 
-/// A source over the lock of a shared heap. Contracts see its pin, its time, the pieces that it gave and how it ended.
+/// A source over the lock of a shared heap. Contracts see its pin, its time, what its witness had seen and has seen, the pieces
+/// that it gave and how it ended.
 #[derive(Drop)]
 pub struct ToldSource<'a, L: Heap, R: Wait> {
     source: LockedSource<'a, L, R>,
+    start: Log<Witness<L>, ()>,
     given: Log<Piece, ()>,
     ended: Option<Ending>,
 }
 
 impl<'a, L: Heap, R: Wait> Model for ToldSource<'a, L, R> {
-    ghost use Rattle.live_dump.specs.Supplies.{Told, IsSupplied, pieces_in};
+    ghost use Rattle.live_dump.specs.Supplies.{ToldSupply, IsSupplied, first_in, pieces_in};
 
-    ghost Value = { Told };
+    ghost Value = { ToldSupply };
 
-    ghost view = { λ s. record { pin = s.source.pin; time = s.source.time; given = pieces_in s.given.items; count = s.source.count; ended = s.ended } };
+    ghost view = { λ s.
+        record {
+          pin = s.source.pin;
+          time = s.source.time;
+          start = first_in s.start.items;
+          seen = s.source.witness;
+          given = pieces_in s.given.items;
+          count = s.source.count;
+          ended = s.ended;
+        } };
 
-    ghost invariant = { λ s. IsSupplied L.config s.source.pin s.source.time (pieces_in s.given.items) s.ended };
+    ghost invariant = { λ s. IsSupplied L.config
+        (record {
+          pin = s.source.pin;
+          time = s.source.time;
+          start = first_in s.start.items;
+          seen = s.source.witness;
+          given = pieces_in s.given.items;
+          count = s.source.count;
+          ended = s.ended;
+        }) };
 }
 
 /// Notes what was given next, and how the source ended.
 fn note(given: &mut Log<Piece, ()>, ended: &mut Option<Ending>, next: &Next)
-    ensures given { pieces_in given.new.items ≡ given_with (pieces_in given.old.items) next.now }
-    ensures ended { ended.new ≡ ended_by ended.old next.now }
+    ensures given { pieces_in given.new.items ≡ pieces_with (pieces_in given.old.items) next.now }
+    ensures ended { ended.new ≡ ended_with ended.old next.now }
 {
     match next {
         Next::Part(piece) => {
@@ -47,34 +68,60 @@ fn note(given: &mut Log<Piece, ()>, ended: &mut Option<Ending>, next: &Next)
 
 impl<'a, L: Heap, R: Wait> ToldSource<'a, L, R> {
     /// Creates a source that has given nothing yet. Takes neither the lock nor memory.
-    pub fn new(shared: &'a Shared<L>, rt: &'a R, pin: u64, time: u64) -> ToldSource<'a, L, R>
-        ensures { result ≡ nothing_of pin time }
+    pub fn new(
+        shared: &'a Shared<L>,
+        rt: &'a R,
+        witness: Witness<L>,
+        pin: u64,
+        time: u64,
+    ) -> ToldSource<'a, L, R>
+        ensures { result ≡ nothing_of pin time witness }
     {
+        let start = Log::new().and(&witness, &());
         ToldSource {
-            source: LockedSource::new(shared, rt, pin, time),
+            source: LockedSource::new(shared, rt, witness, pin, time),
+            start,
             given: Log::new(),
             ended: None,
         }
     }
 
-    /// Returns how the source ended, if it has. Its contract says what is known of the pieces that it gave.
-    pub fn ended(&self) -> Option<Ending>
-        ensures ended { result ≡ self.now.ended }
-        ensures supplied { IsSupplied L.config self.now.pin self.now.time self.now.given self.now.ended }
+    /// Returns the witness, which has seen the calls of the source. The contract says what is known of the pieces that it gave.
+    pub fn into_witness(self) -> Witness<L>
+        ensures witness { result ≡ self.entry.seen }
+        ensures legal { IsLegalLedger L.config self.entry.seen }
+        ensures supplied { IsSupplied L.config self.entry }
     {
-        self.ended
+        let ToldSource {
+            source,
+            start: _,
+            given: _,
+            ended: _,
+        } = self;
+        let LockedSource {
+            shared: _,
+            rt: _,
+            witness,
+            pin: _,
+            time: _,
+            count: _,
+            ending: _,
+        } = source;
+        witness.legal();
+        witness
     }
 }
 
 impl<'a, L: Heap, R: Wait> Source for ToldSource<'a, L, R> {
-    ghost use Rattle.std.specs.Prelude.{ℕ};
-    ghost use Rattle.live_dump.specs.Supplies.{supply};
+    ghost use Rattle.std.specs.Prelude.{ℕ, List};
+    ghost use Rattle.heap_lock.specs.Calls.{Call};
+    ghost use Rattle.live_dump.specs.Supplies.{told_supply};
 
-    ghost Kept = { ℕ × ℕ };
+    ghost Kept = { ℕ × ℕ × List Call };
 
-    ghost kept = { λ s. (s.pin, s.time) };
+    ghost kept = { λ s. (s.pin, s.time, s.start) };
 
-    ghost seen = { λ s. supply s.given s.count s.ended };
+    ghost seen = { λ s. told_supply s.given s.count s.ended };
 
     fn next(&mut self) -> Next {
         let next = self.source.next_part();

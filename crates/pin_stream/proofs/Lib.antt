@@ -1,1 +1,1 @@
-pub mod Streaming
+pub mod SourceStreams

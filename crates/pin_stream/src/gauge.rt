@@ -1,20 +1,20 @@
-//! What sees a dump go out.
+//! Gauges, which see a dump go out.
 ghost use Rattle.std.specs.Prelude.{◌≡◌};
 
 use dump_meter::{Progress, ReadSeat};
 use dump_pump::{Outlet, Put};
 use heap_trail::Machine;
 
-/// What sees a dump go out, such as a line on a terminal. It is asked by the thread that puts the dump out. No contract says
-/// what it does.
+/// A gauge, which sees a dump go out, such as a line on a terminal. It is asked by the thread that puts the dump out. No
+/// contract says what it does.
 pub trait Gauge {
     /// Sees the machine whose current state is dumped next.
     fn begin(&mut self, machine: &Machine);
 
-    /// Sees how many bytes of the dump were out before the last put. It is asked after each put.
+    /// Sees the number of bytes of the dump that were out before the last put. It is asked after each put.
     fn show(&mut self, bytes: u64);
 
-    /// Sees that the dump has ended, and how many bytes of it are out.
+    /// Sees that the dump has ended, and the number of its bytes that are out.
     fn end(&mut self, bytes: u64);
 }
 
@@ -30,7 +30,7 @@ impl Gauge for Silent {
     fn end(&mut self, _bytes: u64) {}
 }
 
-/// An outlet that shows a gauge the progress after each put. Contracts see what they see of the outlet.
+// An outlet that shows a gauge the progress after each put. Contracts see what they see of the outlet.
 #[derive(Drop)]
 pub(crate) struct Shown<'a, O: Outlet, G: Gauge> {
     pub(crate) outlet: O,

@@ -1,4 +1,4 @@
-//! Dumps of a machine's pins through a pipe: the pieces are made in a thread of their own, and a gauge sees what is out.
+//! Dumps of a machine's pins through a pipe: the pieces are made in a second thread, and a gauge sees the bytes that are out.
 #![tactic(auto)]
 
 mod gauge;

@@ -1,10 +1,10 @@
 //! Dumps of the current state through a pipe.
 ghost use Rattle.std.specs.Prelude.{◌≡◌, All, length};
 ghost use Rattle.dump_pump.specs.Pumps.{bytes_of};
-ghost use Rattle.dump_meter.specs.Seats.{sum, seen};
+ghost use Rattle.dump_meter.specs.Seats.{sum, sum_read};
 ghost use Rattle.heap_trail.specs.Pins.{pin_at};
-ghost use Rattle.heap_dump.specs.Handed.{given_of, ungiven};
-ghost use Rattle.heap_dump.specs.Dumped.{IsDumped, PutsPin};
+ghost use Rattle.heap_dump.specs.HandedPieces.{given_of, ungiven};
+ghost use Rattle.heap_dump.specs.PinDumps.{IsPlaceDumped, PutsPin};
 ghost use Rattle.pin_stream.specs.Streams.{StreamsPin};
 
 use crate::gauge::{Gauge, Shown};
@@ -18,7 +18,7 @@ use std::alloc::Global;
 use std::sync::Wait;
 use std::thread::Threads;
 
-/// Streams a pin by a meter, whose progress a gauge sees after each put.
+// Streams a pin by a meter, whose progress a gauge sees after each put.
 fn stream_seen<'a, O: Outlet, G: Gauge, R: Threads + Wait + Sync>(
     rt: &R,
     alloc: Global,
@@ -54,7 +54,7 @@ fn stream_seen<'a, O: Outlet, G: Gauge, R: Threads + Wait + Sync>(
     (pumped, taken)
 }
 
-/// Streams a pin by a new meter, whose progress a gauge sees.
+// Streams a pin by a new meter, whose progress a gauge sees.
 fn stream_metered<O: Outlet, G: Gauge, R: Threads + Wait + Sync>(
     rt: &R,
     alloc: Global,
@@ -68,7 +68,7 @@ fn stream_metered<O: Outlet, G: Gauge, R: Threads + Wait + Sync>(
     requires fresh { given_of (pin_at pin machine.old.pins) ≡ 0 }
     requires out { made.out ≡ sum made.meter 0 }
     requires reader_count { length made.readers.items ≡ 1 }
-    requires readers { All (λ s. s ≡ seen made.meter 0) made.readers.items }
+    requires readers { All (λ s. s ≡ sum_read made.meter 0) made.readers.items }
     ensures put { PutsPin pin time machine.old (O.seen outlet) (O.seen result.1) result.0 }
     ensures same { ungiven pin machine.new ≡ ungiven pin machine.old }
 {
@@ -87,7 +87,7 @@ fn stream_metered<O: Outlet, G: Gauge, R: Threads + Wait + Sync>(
     )
 }
 
-/// Returns how many bytes are out.
+// Returns the number of bytes that are out.
 fn bytes_of(pumped: Pumped) -> u64
     ensures { result ≡ bytes_of pumped }
 {
@@ -99,7 +99,7 @@ fn bytes_of(pumped: Pumped) -> u64
     }
 }
 
-/// Streams a pin, and shows a gauge its progress. Lost by Memory, with 0 bytes, if there is no memory for a meter.
+// Streams a pin, and shows a gauge its progress. The dump is lost by Memory, with 0 bytes, if a meter can't be allocated.
 fn stream_shown<O: Outlet, G: Gauge, R: Threads + Wait + Sync>(
     rt: &R,
     alloc: Global,
@@ -126,10 +126,9 @@ fn stream_shown<O: Outlet, G: Gauge, R: Threads + Wait + Sync>(
     (pumped, taken)
 }
 
-/// Puts out the dump of the current state as `dump_place` does: opens a pin on it, streams its pieces by pages, and closes it.
-/// If the pin is refused, nothing is put out: the dump is lost for want of memory if that is why, and else because the pin is
-/// closed. Lost by Memory, with 0 bytes, also if there is no memory for a meter. While it goes out, a gauge sees the progress.
-/// Returns the outlet, too. May wait.
+/// Puts out the dump of the current state: opens a pin on it, streams its pieces by pages, and closes it. If the pin is
+/// refused, nothing is put out: the dump is lost by Memory if an allocation failed, and else by Closed. It is lost by Memory,
+/// with 0 bytes, also if a meter can't be allocated. A gauge sees the progress. Returns the outlet, too. May wait.
 pub fn stream_place<O: Outlet, G: Gauge, R: Threads + Wait + Sync>(
     rt: &R,
     alloc: Global,
@@ -138,7 +137,8 @@ pub fn stream_place<O: Outlet, G: Gauge, R: Threads + Wait + Sync>(
     outlet: O,
     gauge: &mut G,
 ) -> (Pumped, O)
-    ensures { IsDumped time machine.old machine.new (O.seen outlet) (O.seen result.1) result.0 }
+    ensures { IsPlaceDumped time machine.old machine.new (O.seen outlet) (O.seen result.1)
+        result.0 }
 {
     // Its contract says that no open pin has the next number.
     machine.next_pin();

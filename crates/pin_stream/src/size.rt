@@ -1,4 +1,4 @@
-//! How many bytes a dump has.
+//! The size of a dump.
 ghost use Rattle.std.specs.Prelude.{◌≡◌, ℕ, length, IfSome};
 ghost use Rattle.hprof_text.specs.Segments.{dump_text};
 ghost use Rattle.heap_world.specs.Legal.{IsLegal};
@@ -10,11 +10,12 @@ use heap_world::World;
 use hprof_text::text_len;
 use std::alloc::Global;
 
-/// Tells how many bytes the dump of a state has, whatever its time, with ids of this size. Returns None if memory is refused.
-/// No contract says that it was: callers may show no size.
+/// Returns the size in bytes of the dump of a state with ids of this size, or None if an allocation fails. It doesn't depend
+/// on the time. No contract says that an allocation failed: callers may show no size.
 pub fn dump_size(alloc: Global, world: &World, ids: IdSize) -> Option<u64>
     requires { IsLegal world.now }
-    ensures { IfSome result (λ n. (time : ℕ) → n ≡ length (dump_text ids (image_of world.now) time)) }
+    ensures { IfSome result
+        (λ n. (time : ℕ) → n ≡ length (dump_text ids (image_of world.now) time)) }
 {
     match Pin::open(alloc, world) {
         Ok(pin) => {

@@ -1,17 +1,16 @@
 //! A source of a machine's pin that may go to another thread.
 ghost use Rattle.std.specs.Prelude.{◌≡◌, None, false};
 ghost use Rattle.heap_trail.specs.Pins.{pin_at};
-ghost use Rattle.heap_dump.specs.Handed.{given_of};
-ghost use Rattle.heap_dump.specs.Endings.{is_whole};
-ghost use Rattle.heap_dump.specs.Pinned.{IsCaused};
+ghost use Rattle.heap_dump.specs.HandedPieces.{given_of};
+ghost use Rattle.heap_dump.specs.Endings.{is_whole_ending};
+ghost use Rattle.heap_dump.specs.PinSupplies.{IsCaused};
 
-use dump_pump::source::PART_LIMIT;
 use dump_pump::{Ending, Next, Source};
-use heap_dump::hand_out;
+use heap_dump::{hand_out, parts_left};
 use heap_trail::Machine;
 
-/// The pieces of a machine's pin that had given none, in order. It keeps no snapshot of the machine, as `PinSource` does, so that
-/// it may go to another thread.
+/// The pieces of a machine's pin that had given none, in order. It keeps no snapshot of the machine, as `PinSource` does, so
+/// that it may go to another thread.
 #[derive(Drop)]
 pub struct FreshSource<'a> {
     /// The machine that has the pin.
@@ -20,16 +19,17 @@ pub struct FreshSource<'a> {
     pub pin: u64,
     /// The time in the header, in milliseconds.
     pub time: u64,
-    /// How many parts were handed out, at most 66,178.
+    /// The number of parts handed out, at most 66,178.
     pub count: u64,
     /// How the source ended.
     pub ended: Option<Ending>,
-    ghost counted: { is_whole ended ≡ false → given_of (pin_at pin machine.now.pins) ≡ count },
+    ghost counted: { is_whole_ending ended ≡ false
+        → given_of (pin_at pin machine.now.pins) ≡ count },
     ghost caused: { IsCaused pin machine.now ended },
 }
 
 impl<'a> FreshSource<'a> {
-    /// Returns a source of the pieces of a pin that has given none. If no such pin is open, it will be lost. Takes no memory.
+    /// Creates a source of the pieces of a pin that has given none. If no such pin is open, it will be lost. Takes no memory.
     pub fn new(machine: &'a mut Machine, pin: u64, time: u64) -> FreshSource<'a>
         requires { given_of (pin_at pin machine.old.pins) ≡ 0 }
         ensures machine { result.machine.ghost_name ≡ machine.entry.ghost_name }
@@ -49,18 +49,11 @@ impl<'a> FreshSource<'a> {
     }
 }
 
-/// Tells whether an ending is that with the last part.
-fn is_whole(ended: &Option<Ending>) -> bool
-    ensures { result ≡ is_whole ended.now }
-{
-    matches!(ended, Some(Ending::Whole))
-}
-
 impl<'a> Source for FreshSource<'a> {
-    ghost use Rattle.heap_dump.specs.Pinned.{Pinned};
+    ghost use Rattle.heap_dump.specs.PinSupplies.{PinOrigin};
     ghost use Rattle.pin_stream.specs.Fresh.{fresh_pinned, fresh_supply};
 
-    ghost Kept = { Pinned };
+    ghost Kept = { PinOrigin };
 
     ghost kept = { λ s. fresh_pinned s.machine.ghost_name s.pin s.time s.machine.now };
 
@@ -77,10 +70,6 @@ impl<'a> Source for FreshSource<'a> {
     }
 
     fn left(&self) -> u64 {
-        if is_whole(&self.ended) {
-            0
-        } else {
-            PART_LIMIT.saturating_sub(self.count)
-        }
+        parts_left(&self.ended, self.count)
     }
 }

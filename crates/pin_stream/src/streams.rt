@@ -3,8 +3,8 @@ ghost use Rattle.std.specs.Prelude.{◌≡◌, ◌+◌, ◌<◌, ◌^◌};
 ghost use Rattle.dump_pump.specs.Pumps.{bytes_of};
 ghost use Rattle.dump_pipe.specs.Pipes.{byte_limit};
 ghost use Rattle.heap_trail.specs.Pins.{pin_at};
-ghost use Rattle.heap_dump.specs.Dumped.{PutsPin};
-ghost use Rattle.heap_dump.specs.Handed.{given_of, ungiven};
+ghost use Rattle.heap_dump.specs.PinDumps.{PutsPin};
+ghost use Rattle.heap_dump.specs.HandedPieces.{given_of, ungiven};
 
 use crate::source::FreshSource;
 use dump_meter::{OutSeat, Progress};
@@ -15,10 +15,10 @@ use std::alloc::Global;
 use std::sync::Wait;
 use std::thread::Threads;
 
-/// Puts out the pieces of a pin that has given none, as `dump_pin` does. A thread of its own asks for the pieces and joins them
-/// to pages, and the caller's puts each page out at once; without a pipe or such a thread, the caller's does both. What is put
-/// out is added to the progress. May wait. The seat is one of the progress's meter, and its sum has room for the bytes of a
-/// dump.
+/// Puts out the pieces of a pin that has given none. A second thread asks for the pieces and joins them to pages, and the
+/// caller's puts each page out at once; without a pipe or such a thread, the caller's does both. The bytes put out are added
+/// to the progress. Nothing of the machine changes but the number of pieces that the pin gave. May wait. The seat is one of
+/// the progress's meter, and its sum has room for the bytes of a dump.
 pub fn stream_pin<O: Outlet, R: Threads + Wait + Sync>(
     rt: &R,
     alloc: Global,

@@ -5,19 +5,19 @@ use session_text::Ended;
 use std::alloc::Global;
 use std::test::*;
 
-/// The dump of an array of 1,024 ints, which has 4,096 bytes of elements: its text needs more than a page, so that a write is
-/// made in its middle.
+// The dump of an array of 1,024 ints, which has 4,096 bytes of elements: its text needs more than a page, so that a write is
+// made in its middle.
 const LONG_DUMP: &str = "newprim 0 0 int 1024\ndump -\n";
 
-/// What stands before the dump: `ok object 0x10000000`.
+// The size of the line before the dump: `ok object 0x10000000`.
 const BEFORE: usize = 21;
 
-/// Lines that open as many pins as may be open, and their replies: the dump had pin 1, which no longer counts.
+// Lines that open as many pins as may be open, and their replies: the dump had pin 1, which no longer counts.
 const FOUR_PINS: &str = "open -\nopen -\nopen -\nopen -\n";
 
 const FOUR_PINNED: &str = "ok pin 2 at 1\nok pin 3 at 1\nok pin 4 at 1\nok pin 5 at 1\n";
 
-/// Creates a writer that fails once it took so many bytes.
+// Creates a writer that fails once it took `room` bytes.
 fn short_writer(alloc: Global, room: usize) -> Sips {
     Sips {
         taken: Vec::new(alloc),
@@ -27,14 +27,14 @@ fn short_writer(alloc: Global, room: usize) -> Sips {
     }
 }
 
-/// Returns how many bytes the session has that dumps the array.
+// Returns the size of the session that dumps the array.
 fn text_size(alloc: Global) -> Result<usize, Fail> {
     let mut local = local(alloc, 2, 1, 64)?;
     let (_, text) = talk(alloc, &mut local, LONG_DUMP.as_bytes());
     Ok(text.len())
 }
 
-/// Returns whether four pins can be opened once a writer of so much room failed in that session.
+// Returns whether four pins can be opened once a writer of this room failed in that session.
 fn four_pins_are_left(alloc: Global, room: usize) -> Result<bool, Fail> {
     let mut local = local(alloc, 2, 1, 64)?;
     let writer = short_writer(alloc, room);
@@ -47,8 +47,8 @@ fn four_pins_are_left(alloc: Global, room: usize) -> Result<bool, Fail> {
     )
 }
 
-/// Returns whether four pins are left wherever the writer fails in the dump, tried at each sixteenth byte, and whether the session
-/// has more than a page.
+// Returns whether four pins are left wherever the writer fails in the dump, tried at each sixteenth byte, and whether the session
+// has more than a page.
 fn four_pins_are_always_left(alloc: Global) -> Result<bool, Fail> {
     let size = text_size(alloc)?;
     for room in BEFORE..size {

@@ -1,9 +1,9 @@
 //! Dumps of a point through the pump.
 use crate::examples::DUMP_OF_ONE_POINT;
 use crate::streams::Sips;
-use dump_pump::{Pumped, WriteOutlet};
+use dump_pump::{Outlet, Pumped, WriteOutlet, pump};
 use heap_class::LostCause;
-use heap_dump::{dump_pin, dump_place};
+use heap_dump::PinSource;
 use heap_scripts::{new, point, settings, take};
 use heap_step::Event;
 use heap_trail::Machine;
@@ -24,15 +24,39 @@ pub fn with_point(alloc: Global) -> Result<Machine, Fail> {
     Ok(machine)
 }
 
-/// How a dump is put out: by way of a page with so much room, in writes of so many bytes at most, and in no more writes than these.
+// Puts out the pieces of a pin that it has not given yet, by the pump.
+fn pump_pin<O: Outlet>(machine: &mut Machine, pin: u64, outlet: &mut O) -> Pumped {
+    let mut source = PinSource::new(machine, pin, 0);
+    let pumped = pump(&mut source, outlet);
+    let PinSource {
+        machine: _machine,
+        start: _,
+        pin: _,
+        time: _,
+        count: _,
+        ended: _,
+    } = source;
+    pumped
+}
+
+/// Puts out the dump of the current state by the pump: opens a pin on it, puts its pieces out, and closes it. Returns None if
+/// the pin is refused.
+pub fn pump_state<O: Outlet>(machine: &mut Machine, outlet: &mut O) -> Option<Pumped> {
+    let opened = machine.open_pin(None).ok()?;
+    let pumped = pump_pin(machine, opened.pin, outlet);
+    machine.close_pin(opened.pin).ok()?;
+    Some(pumped)
+}
+
+// The writes of a dump: each takes at most `most` bytes, and there are at most `writes`.
 #[derive(Clone, Copy)]
 struct Way {
-    room: usize,
     most: usize,
     writes: usize,
 }
 
-/// Dumps the current state. Returns whether that ended so, and so many bytes are out, which are the first of the dump of one point.
+// Dumps the current state. Returns whether that ended as told, and the bytes that are out are this number of the first bytes of
+// the dump of one point.
 fn ends(
     alloc: Global,
     machine: &mut Machine,
@@ -46,16 +70,19 @@ fn ends(
         writes_left: way.writes,
         room: usize::MAX,
     });
-    let mut page = Vec::with_capacity(alloc, way.room)?;
-    let end = dump_place(machine, &mut page, &mut outlet, 0);
+    let end = pump_state(machine, &mut outlet);
     let digits = hex::encode(alloc, outlet.into_writer().taken.as_slice())?;
-    Ok(end == pumped && digits.len() / 2 == bytes && DUMP_OF_ONE_POINT.starts_with(digits.as_str()))
+    Ok(
+        end == Some(pumped)
+            && digits.len() / 2 == bytes
+            && DUMP_OF_ONE_POINT.starts_with(digits.as_str()),
+    )
 }
 
+// Returns whether the dump of a point is put out whole.
 fn is_whole(alloc: Global) -> Result<bool, Fail> {
     let mut machine = with_point(alloc)?;
     let way = Way {
-        room: 0,
         most: 1000,
         writes: 1000,
     };
@@ -69,16 +96,14 @@ fn current_state_is_dumped(rt: HostRuntime) -> Result<(), Fail> {
     Ok(())
 }
 
-/// Returns whether a first put that fails, and then a second, end a dump as they must. The first piece has 143 bytes.
+// Returns whether a first put that fails, and then a second, end a dump as they must. The first piece has 143 bytes.
 fn end_where_a_put_fails(alloc: Global) -> Result<bool, Fail> {
     let mut machine = with_point(alloc)?;
     let none = Way {
-        room: 0,
         most: 1000,
         writes: 0,
     };
     let one = Way {
-        room: 0,
         most: 100,
         writes: 1,
     };
@@ -106,58 +131,43 @@ fn put_that_fails_ends_the_dump(rt: HostRuntime) -> Result<(), Fail> {
     Ok(())
 }
 
-/// Returns whether a page with so much room needs so many writes, and with one fewer so many bytes are out.
-fn needs(
-    alloc: Global,
-    machine: &mut Machine,
-    room: usize,
-    writes: usize,
-    short: usize,
-) -> Result<bool, Fail> {
-    let enough = Way {
-        room,
-        most: 1000,
-        writes,
-    };
-    let fewer = Way {
-        writes: writes.saturating_sub(1),
-        ..enough
-    };
+// Returns whether a dump of which `writes` writes can be made fails with these bytes out.
+fn fails(alloc: Global, machine: &mut Machine, writes: usize, bytes: usize) -> Result<bool, Fail> {
+    let way = Way { most: 1000, writes };
     let failed = Pumped::OutletFailed {
-        bytes: short as u64,
+        bytes: bytes as u64,
     };
-    Ok(
-        ends(alloc, machine, fewer, failed, short)?
-            && ends(alloc, machine, enough, Pumped::Done { bytes: 301 }, 301)?,
-    )
+    ends(alloc, machine, way, failed, bytes)
 }
 
-/// Returns whether that is so of pages that have room for all three pieces, for the first two, and for the first alone. The pieces
-/// have 143, 149 and 9 bytes.
-fn each_page_needs(alloc: Global) -> Result<bool, Fail> {
+// Returns whether the three pieces are put out by a write each. They have 143, 149 and 9 bytes.
+fn each_piece_needs_a_write(alloc: Global) -> Result<bool, Fail> {
     let mut machine = with_point(alloc)?;
+    let three = Way {
+        most: 1000,
+        writes: 3,
+    };
     Ok(
-        needs(alloc, &mut machine, 301, 1, 0)?
-            && needs(alloc, &mut machine, 292, 2, 292)?
-            && needs(alloc, &mut machine, 143, 3, 292)?,
+        fails(alloc, &mut machine, 1, 143)?
+            && fails(alloc, &mut machine, 2, 292)?
+            && ends(alloc, &mut machine, three, Pumped::Done { bytes: 301 }, 301)?,
     )
 }
 
 #[test]
-fn pieces_wait_in_a_page(rt: HostRuntime) -> Result<(), Fail> {
-    let all = each_page_needs(rt.alloc())?;
+fn each_piece_is_a_write(rt: HostRuntime) -> Result<(), Fail> {
+    let all = each_piece_needs_a_write(rt.alloc())?;
     assert!(rt; all);
     Ok(())
 }
 
-/// Returns how a dump of a pin on the current state ends, once the last step is undone.
+// Returns how a dump of a pin on the current state ends, once the last step is undone.
 fn dumped_below(alloc: Global) -> Result<Pumped, Fail> {
     let mut machine = with_point(alloc)?;
     let pinned = machine.open_pin(None)?;
     machine.rewind(1)?;
     let mut outlet = WriteOutlet::new(Vec::new(alloc));
-    let mut page = Vec::new(alloc);
-    Ok(dump_pin(&mut machine, pinned.pin, 0, &mut page, &mut outlet))
+    Ok(pump_pin(&mut machine, pinned.pin, &mut outlet))
 }
 
 #[test]

@@ -3,7 +3,7 @@
 /// Lines that make a point with x 7, at place 3.
 pub const POINT: &str = "class Point - x:int y:int\nnew 0 0 0\nput 0 0 0 7\n";
 
-/// What they are answered.
+/// The answers to them.
 pub const POINT_MADE: &str = "ok class 0\nok object 0x10000000\nok\n";
 
 /// The digits of its dump, which has 301 bytes.
@@ -19,7 +19,7 @@ pub const DUMP_OF_ONE_POINT: &str = "\
 /// The lines of a point and its dump.
 pub const POINT_AND_DUMP: &str = "class Point - x:int y:int\nnew 0 0 0\nput 0 0 0 7\ndump -\n";
 
-/// What they are answered.
+/// The answers to them.
 pub const POINT_DUMPED: &str = "\
 ok class 0\n\
 ok object 0x10000000\n\

@@ -1,20 +1,17 @@
 //! Outlets that fail at each put, or at each byte, of the dump of one point.
-ghost use Rattle.std.specs.Prelude.{◌≡◌, []};
-
-use crate::dumps::with_point;
+use crate::dumps::{pump_state, with_point};
 use crate::examples::DUMP_OF_ONE_POINT;
 use crate::streams::{Sips, byte_writer};
 use dump_pump::{Pumped, WriteOutlet};
-use heap_dump::dump_place;
 use heap_step::Event;
 use heap_trail::Machine;
 use std::alloc::Global;
 use std::test::Fail;
 
-/// Bytes of the dump of one point.
+// Bytes of the dump of one point.
 const SIZE: usize = 301;
 
-/// Returns what the readers of a machine tell of its trail, its first register and its marker.
+// Returns what the readers of a machine tell of its trail, its first register and its marker.
 fn told(alloc: Global, machine: &Machine) -> Result<String, Fail> {
     let world = machine.world();
     let text = format!(in alloc;
@@ -30,25 +27,23 @@ fn told(alloc: Global, machine: &Machine) -> Result<String, Fail> {
     Ok(text)
 }
 
-/// Dumps the current state by way of this page. Returns how it went, and what is out.
-fn dumped(machine: &mut Machine, mut page: Vec<u8>, sips: Sips) -> (Pumped, Vec<u8>)
-    requires { page.items ≡ [] }
-{
+// Dumps the current state. Returns how that ended, and the bytes that are out.
+fn dumped(machine: &mut Machine, sips: Sips) -> (Option<Pumped>, Vec<u8>) {
     let mut outlet = WriteOutlet::new(sips);
-    let pumped = dump_place(machine, &mut page, &mut outlet, 0);
+    let pumped = pump_state(machine, &mut outlet);
     (pumped, outlet.into_writer().taken)
 }
 
-/// Returns how a dump must go of which so many bytes can be put out.
-fn expected(most: usize) -> Pumped {
+// Returns how a dump must end of which `most` bytes can be put out.
+fn expected(most: usize) -> Option<Pumped> {
     if most < SIZE {
-        Pumped::OutletFailed { bytes: most as u64 }
+        Some(Pumped::OutletFailed { bytes: most as u64 })
     } else {
-        Pumped::Done { bytes: SIZE as u64 }
+        Some(Pumped::Done { bytes: SIZE as u64 })
     }
 }
 
-/// Returns whether a writer that fails once it has so many bytes ends the dump as it must, and then a sound one gets it whole.
+// Returns whether a writer that fails once it has `most` bytes ends the dump as it must, and then a sound one gets it whole.
 fn ends_as_it_must(
     alloc: Global,
     machine: &mut Machine,
@@ -56,22 +51,22 @@ fn ends_as_it_must(
     failing: Sips,
     most: usize,
 ) -> bool {
-    let (pumped, out) = dumped(machine, Vec::new(alloc), failing);
+    let (pumped, out) = dumped(machine, failing);
     let sound = Sips {
         taken: Vec::new(alloc),
         most: usize::MAX,
         writes_left: usize::MAX,
         room: usize::MAX,
     };
-    let (again, whole) = dumped(machine, Vec::new(alloc), sound);
+    let (again, whole) = dumped(machine, sound);
     pumped == expected(most)
         && text.get(..most) == Some(out.as_slice())
         && again == expected(SIZE)
         && whole.as_slice() == text
 }
 
-/// Returns whether dumps into writers that take one byte a write and fail at each of their writes, and into writers that fail once
-/// they have 0, 1, .. bytes, end as they must.
+// Returns whether dumps into writers that take one byte a write and fail at each of their writes, and into writers that fail once
+// they have 0, 1, .. bytes, end as they must.
 fn each_ends_as_it_must(alloc: Global, machine: &mut Machine, text: &[u8]) -> bool {
     for most in 0..=SIZE {
         let by_puts = byte_writer(alloc, most);
@@ -90,7 +85,7 @@ fn each_ends_as_it_must(alloc: Global, machine: &mut Machine, text: &[u8]) -> bo
     true
 }
 
-/// Returns whether all dumps of a point end as they must while a cycle runs, and the readers then tell what they told before.
+// Returns whether all dumps of a point end as they must while a cycle runs, and the readers then tell what they told before.
 fn all_end_as_they_must(alloc: Global) -> Result<bool, Fail> {
     let mut machine = with_point(alloc)?;
     machine.step(&Event::Snap)?;

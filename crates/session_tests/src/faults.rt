@@ -6,14 +6,14 @@ use session_text::Ended;
 use std::alloc::Global;
 use std::test::Fail;
 
-/// How many lines a text has whole.
+// Returns the number of whole lines of a text.
 fn lines_in(text: &[u8]) -> usize {
     text.iter().filter(|b| **b == b'\n').count()
 }
 
 // ---- sessions
 
-/// A session of some bytes, read and written byte by byte, with so many reads and writes.
+// Plays a session of some bytes, read and written byte by byte, with this number of reads and writes.
 fn session<'a>(
     alloc: Global,
     bytes: &'a [u8],
@@ -28,7 +28,7 @@ fn session<'a>(
     play(alloc, local(alloc, 1, 1, 64)?, reader, writer)
 }
 
-/// The text of some bytes' session that ends at the end of input, without what that ending adds to the replies.
+// Returns the text of some bytes' session that ends at the end of input, without the line that this ending adds.
 fn replies(alloc: Global, bytes: &[u8]) -> Result<Vec<u8>, Fail> {
     let mut text = session(alloc, bytes, usize::MAX, usize::MAX)?.writer.taken;
     if text.ends_with(b"bad cut\n".as_slice()) {
@@ -37,7 +37,7 @@ fn replies(alloc: Global, bytes: &[u8]) -> Result<Vec<u8>, Fail> {
     Ok(text)
 }
 
-/// What the machine answers to the questions after the lines of a text, read and written at once.
+/// Returns the machine's answers to the questions after the lines of a text, read and written at once.
 pub fn state_after(alloc: Global, bytes: &[u8]) -> Result<Vec<u8>, Fail> {
     let outcome = play(alloc, local(alloc, 1, 1, 64)?, bytes, Vec::new(alloc))?;
     Ok(outcome.state)
@@ -45,17 +45,17 @@ pub fn state_after(alloc: Global, bytes: &[u8]) -> Result<Vec<u8>, Fail> {
 
 // ---- examples
 
-/// An example, and what a sound session of it leaves.
+// An example, and the text and the states of a sound session of it.
 #[derive(Drop)]
 struct Example<'a> {
     bytes: &'a [u8],
     text: Vec<u8>,
-    /// What the machine answers to the questions after no line, after one, and so on to all.
+    // The machine's answers to the questions after no line, after one, and so on to all.
     states: Vec<Vec<u8>>,
 }
 
 impl<'a> Example<'a> {
-    /// The example of some lines.
+    // Plays the session of some lines, and after each line.
     fn new(alloc: Global, bytes: &'a [u8]) -> Result<Example<'a>, Fail> {
         let mut states = Vec::new(alloc);
         states.push(state_after(alloc, b"")?)?;
@@ -73,14 +73,14 @@ impl<'a> Example<'a> {
 }
 
 impl Example<'_> {
-    /// Whether the machine of these answers is that after so many lines.
+    // Returns whether the machine of these answers is that after `lines` lines.
     fn is_after(&self, lines: usize, state: &[u8]) -> bool {
         self.states
             .get(lines)
             .is_some_and(|after| after.as_slice() == state)
     }
 
-    /// Returns whether the third of four lines changes the machine's answers from those before, and the fourth doesn't.
+    // Returns whether the third of four lines changes the machine's answers from those before, and the fourth doesn't.
     fn changes_but_by_the_dump(&self) -> bool {
         let [none, one, two, three, four] = self.states.as_slice() else {
             return false;
@@ -92,8 +92,8 @@ impl Example<'_> {
             && four.as_slice() == after
     }
 
-    /// Whether a reader that fails at the read after so many bytes leaves the replies to the lines before, and
-    /// `bad read`, and the machine that is after those lines.
+    // Returns whether a reader that fails at the read after `count` bytes leaves the replies to the lines before, and `bad
+    // read`, and the machine that is after those lines.
     fn fails_after(&self, alloc: Global, count: usize) -> Result<bool, Fail> {
         let given = &self.bytes[..count.min(self.bytes.len())];
         let failed = session(alloc, self.bytes, count, usize::MAX)?;
@@ -106,7 +106,7 @@ impl Example<'_> {
         )
     }
 
-    /// Whether a reader gave so many lines with a read for each byte, and no read was made after them.
+    // Returns whether a reader gave `lines` lines with a read for each byte, and no read was made after them.
     fn gave_lines(&self, reader: &ByteReader<'_>, lines: usize) -> bool {
         match self.bytes.strip_suffix(reader.rest) {
             Some(given) => {
@@ -118,8 +118,8 @@ impl Example<'_> {
         }
     }
 
-    /// Whether a writer that takes so many bytes takes a beginning of the text, the machine is that after the lines up
-    /// to the one that was being answered, and nothing after that line was read.
+    // Returns whether a writer that takes `count` bytes takes a beginning of the text, the machine is that after the lines up
+    // to the one that was being answered, and nothing after that line was read.
     fn stops_after(&self, alloc: Global, count: usize) -> Result<bool, Fail> {
         let stopped = session(alloc, self.bytes, usize::MAX, count)?;
         let text = stopped.writer.taken.as_slice();
@@ -134,15 +134,17 @@ impl Example<'_> {
     }
 }
 
-/// Which of the failing points of an example a test tries: those whose number of bytes leaves this rest when it is halved.
+// The half of an example's failing points that a test tries.
 #[derive(Clone, Copy)]
 enum Half {
+    // Those with an even number of bytes.
     Even,
+    // Those with an odd number of bytes.
     Odd,
 }
 
 impl Half {
-    /// Returns whether a number of bytes is one of them.
+    // Returns whether a number of bytes is one of them.
     fn has(self, count: usize) -> bool {
         match self {
             Half::Even => count % 2 == 0,
@@ -151,7 +153,7 @@ impl Half {
     }
 }
 
-/// Returns whether each writer that takes less than an example's text stops so, of half of them.
+// Returns whether each writer that takes less than an example's text stops as it must, of half of them.
 fn stop_at_each_byte(alloc: Global, lines: &str, half: Half) -> Result<bool, Fail> {
     let example = Example::new(alloc, lines.as_bytes())?;
     for count in 0..example.text.len() {
@@ -162,7 +164,8 @@ fn stop_at_each_byte(alloc: Global, lines: &str, half: Half) -> Result<bool, Fai
     Ok(true)
 }
 
-/// Whether each reader that gives an example's beginning, or all of it but the end of input, fails so, of half of them.
+// Returns whether each reader that gives an example's beginning, or all of it but the end of input, fails as it must, of half
+// of them.
 fn fail_at_each_read(alloc: Global, lines: &str, half: Half) -> Result<bool, Fail> {
     let example = Example::new(alloc, lines.as_bytes())?;
     for count in 0..=lines.len() {
@@ -180,7 +183,7 @@ fn each_line_but_the_dump_changes_the_state(rt: HostRuntime) -> Result<(), Fail>
     Ok(())
 }
 
-/// Returns whether readers fail so after half of the numbers of bytes of both examples.
+// Returns whether readers fail as they must after half of the numbers of bytes of both examples.
 fn readers_fail(alloc: Global, half: Half) -> Result<bool, Fail> {
     Ok(
         fail_at_each_read(alloc, POINT_AND_DUMP, half)?
@@ -188,7 +191,7 @@ fn readers_fail(alloc: Global, half: Half) -> Result<bool, Fail> {
     )
 }
 
-/// Returns whether writers stop so after half of the numbers of bytes of both examples.
+// Returns whether writers stop as they must after half of the numbers of bytes of both examples.
 fn writers_stop(alloc: Global, half: Half) -> Result<bool, Fail> {
     Ok(
         stop_at_each_byte(alloc, POINT_AND_DUMP, half)?
@@ -226,8 +229,8 @@ fn writers_that_fail_at_odd_bytes(rt: HostRuntime) -> Result<(), Fail> {
 
 // ---- lines that are read at once
 
-/// Returns whether a writer that takes so many bytes of an example's answers, where its lines are read at once, takes a
-/// beginning of their text, and the machine is that after all lines.
+// Returns whether a writer that takes `count` bytes of an example's answers, if its lines are read at once, takes a beginning
+// of their text, and the machine is that after all lines.
 fn is_cut(alloc: Global, example: &Example<'_>, count: usize) -> Result<bool, Fail> {
     let writer = byte_writer(alloc, count);
     let stopped = play(alloc, local(alloc, 1, 1, 64)?, example.bytes, writer)?;
@@ -240,7 +243,7 @@ fn is_cut(alloc: Global, example: &Example<'_>, count: usize) -> Result<bool, Fa
     )
 }
 
-/// Returns whether writers that take 0, 1, 11 and 600 bytes do so.
+// Returns whether writers that take 0, 1, 11 and 600 bytes do so.
 fn each_is_cut(alloc: Global) -> Result<bool, Fail> {
     let example = Example::new(alloc, POINT_AND_DUMP.as_bytes())?;
     for count in [0, 1, 11, 600] {

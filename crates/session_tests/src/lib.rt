@@ -1,7 +1,7 @@
-//! Tests of what can't be seen from outside of sessions, dumps and saves: what they leave of their machine where a reader, a writer or an
-//! outlet fails, what dumps and saves put out by way of pages, and what a gauge sees. What sessions are answered, also over streams
-//! that chop, are interrupted or fail, and saves into files and to listeners, are looked at by `checks/cases.py`, `checks/streams.py`,
-//! `checks/model` and `checks/program.py`.
+//! Tests of what can't be seen from outside of sessions, dumps and saves: the machine after a reader, a writer or an outlet
+//! failed, the bytes that dumps and saves put out by pages, and the sights of a gauge. The answers of sessions, also over
+//! streams that chop, are interrupted or fail, and saves into files and to listeners are tested by `checks/cases.py`,
+//! `checks/streams.py`, `checks/model` and `checks/program`.
 #![tactic(auto)]
 
 #[cfg(test)]

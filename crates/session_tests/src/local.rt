@@ -1,4 +1,4 @@
-//! A session over a machine of its own.
+//! A session over a private machine.
 use crate::examples::{POINT_AND_DUMP, POINT_DUMPED};
 use crate::sessions::local;
 use dump_pump::WriteOutlet;
@@ -6,7 +6,7 @@ use session_text::{Ended, Local, ReadInlet, serve_local};
 use std::alloc::Global;
 use std::test::*;
 
-/// Returns whether a machine of its own answers the lines of one point.
+// Returns whether a private machine answers the lines of one point.
 fn is_answered(alloc: Global, local: &mut Local) -> bool {
     let mut reader = ReadInlet::new(POINT_AND_DUMP.as_bytes());
     let mut writer = WriteOutlet::new(Vec::new(alloc));

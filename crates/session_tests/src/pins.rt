@@ -8,7 +8,7 @@ use std::sync::Wait;
 use std::test::*;
 use std::thread::Threads;
 
-/// Returns the commands of a machine on which so many pins are open already.
+// Returns the commands of a machine on which `pins` pins are open already.
 fn pinned(alloc: Global, pins: u64) -> Result<Local, Fail> {
     let Local {
         mut machine,
@@ -20,7 +20,8 @@ fn pinned(alloc: Global, pins: u64) -> Result<Local, Fail> {
     Ok(Local::new(machine))
 }
 
-/// Returns whether a save beside so many pins of others ends in this line, with as many outlets made, and the pins stay open.
+// Returns whether a save beside `pins` pins of others ends in this line, with this number of outlets made, and the pins stay
+// open.
 fn stay<R: Threads + Wait + Sync>(
     rt: &R,
     alloc: Global,
@@ -39,7 +40,7 @@ fn stay<R: Threads + Wait + Sync>(
     )
 }
 
-/// With four pins of others there is no room for the pin of the dump, and so no outlet is made.
+// With four pins of others there is no room for the pin of the dump, and so no outlet is made.
 #[test]
 fn pins_of_others_stay(rt: HostRuntime) -> Result<(), Fail> {
     let three = stay(&rt, rt.alloc(), 3, "saved 61\n", 1)?;

@@ -1,8 +1,8 @@
 //! A dump of two pages, through the pipe, and what a gauge sees of it.
+use crate::dumps::pump_state;
 use crate::saves::saved;
 use crate::sessions::local;
 use dump_pump::{Pumped, WriteOutlet};
-use heap_dump::dump_place;
 use heap_trail::Machine;
 use pin_stream::Gauge;
 use session_text::{Local, ReadInlet};
@@ -11,14 +11,14 @@ use std::sync::Wait;
 use std::test::*;
 use std::thread::Threads;
 
-/// How many bytes the dump of 2,000 points has: its opening, 17 segments and its end.
+// The size of the dump of 2,000 points: its opening, 17 segments and its end.
 const SIZE: usize = 66412;
 
-/// How many of them the first page has: the opening and 15 segments.
+// The size of the first page: the opening and 15 segments.
 const FIRST: u64 = 61657;
 
-/// Notes what it saw: how often it was begun and shown, what it was shown last, whether that rose, and the bytes that its ends
-/// told.
+// The sights of a gauge: how often it was begun and shown, what it was shown last, whether that rose, and the bytes that its
+// ends told.
 #[derive(Clone, Copy, Drop, PartialEq)]
 struct Notes {
     begun: u64,
@@ -44,7 +44,7 @@ impl Gauge for Notes {
     }
 }
 
-/// Creates commands of a machine with 2,000 points.
+// Creates commands of a machine with 2,000 points.
 fn many_points(alloc: Global) -> Result<Local, Fail> {
     let mut lines = String::from_str(alloc, "class Point - x:int y:int\n")?;
     for _ in 0..2000 {
@@ -57,15 +57,14 @@ fn many_points(alloc: Global) -> Result<Local, Fail> {
     Ok(local)
 }
 
-/// Returns the text that the pump puts out.
+// Returns the text that the pump puts out.
 fn pumped_text(alloc: Global, local: &mut Local) -> Vec<u8> {
     let mut outlet = WriteOutlet::new(Vec::new(alloc));
-    let mut page = Vec::new(alloc);
-    dump_place(&mut local.machine, &mut page, &mut outlet, 0);
+    pump_state(&mut local.machine, &mut outlet);
     outlet.into_writer()
 }
 
-/// Returns whether the dump of 2,000 points is saved as the pump puts it out, and what a gauge saw of it.
+// Returns whether the dump of 2,000 points is saved as the pump puts it out, and what a gauge saw of it.
 fn many_saved<R: Threads + Wait + Sync>(rt: &R, alloc: Global) -> Result<(bool, Notes), Fail> {
     let mut local = many_points(alloc)?;
     let text = pumped_text(alloc, &mut local);

@@ -2,7 +2,7 @@
 use crate::examples::{DUMP_OF_ONE_POINT, POINT, POINT_MADE};
 use crate::sessions::local;
 use dump_pump::{Pumped, WriteOutlet};
-use heap_save::{Place, Saved, save_into};
+use heap_save::{Outlets, Saved, save_into};
 use pin_stream::{Gauge, Silent};
 use session_text::{Ended, Local, ReadInlet};
 use std::alloc::Global;
@@ -10,14 +10,14 @@ use std::sync::Wait;
 use std::test::*;
 use std::thread::Threads;
 
-/// Makes an outlet that takes all bytes, and counts how often it was asked to.
+// A place that makes an outlet that takes all bytes, and counts how often it was asked to.
 #[derive(Drop)]
 struct Memory {
     alloc: Global,
     asked: u64,
 }
 
-impl Place for Memory {
+impl Outlets for Memory {
     type Out = WriteOutlet<Vec<u8>>;
 
     ghost makes = { λ place outlet. Unit {0} };
@@ -28,16 +28,16 @@ impl Place for Memory {
     }
 }
 
-/// What came of a session that was saved.
+/// The outcome of a session that was saved.
 #[derive(Drop)]
 pub struct Outcome {
     pub ended: Ended,
     pub pumped: Option<Pumped>,
-    /// How often the place was asked for an outlet.
+    /// The number of times that the place was asked for an outlet.
     pub asked: u64,
     /// Whether an outlet was handed out.
     pub is_made: bool,
-    /// What the outlet took.
+    /// The bytes that the outlet took.
     pub taken: Vec<u8>,
     pub text: Vec<u8>,
 }
@@ -74,7 +74,7 @@ pub fn saved<G: Gauge, R: Threads + Wait + Sync>(
     }
 }
 
-/// Returns whether the session of a point was answered line by line, and dumped whole.
+// Returns whether the session of a point was answered line by line, and dumped whole.
 fn is_of_the_point(alloc: Global, whole: &Outcome) -> Result<bool, Fail> {
     let text = format!(in alloc; "{POINT_MADE}saved 301\n")?;
     let digits = hex::encode(alloc, whole.taken.as_slice())?;
@@ -87,6 +87,7 @@ fn is_of_the_point(alloc: Global, whole: &Outcome) -> Result<bool, Fail> {
     )
 }
 
+// Returns whether the session of a point is saved as it must be.
 fn is_saved<R: Threads + Wait + Sync>(rt: &R, alloc: Global) -> Result<bool, Fail> {
     let mut local = local(alloc, 16, 2, 1024)?;
     let whole = saved(rt, alloc, &mut local, POINT, &mut Silent);

@@ -13,7 +13,7 @@ pub fn local(alloc: Global, regions: u64, mutators: u64, keep: u64) -> Result<Lo
     Ok(Local::new(Machine::new(alloc, config)?))
 }
 
-// ---- what is written
+// ---- the text of a session
 
 /// Returns how a session ends, with its reader and its writer.
 pub fn served<R: Read + Drop, W: Write + Drop>(
@@ -34,13 +34,13 @@ pub fn talk<R: Read + Drop>(alloc: Global, local: &mut Local, reader: R) -> (End
     (ended, text)
 }
 
-// ---- what is left behind
+// ---- the machine after a session
 
-/// Lines whose answers tell the place, how many steps are retained, classes, objects and registers, and the phase.
+// Lines whose answers tell the place, the number of retained steps, classes, objects and registers, and the phase.
 const QUESTIONS: &str =
     "rewind 0\nrewind 65537\ndump -\nmark\ndrain\nfinish\nsweep 0\nsnap\nrewind 2\ndump -\n";
 
-/// Returns what a machine answers to the questions, or None if it doesn't answer all.
+// Returns a machine's answers to the questions, or None if it doesn't answer all.
 fn state_of(alloc: Global, local: &mut Local) -> Option<Vec<u8>> {
     let (ended, text) = talk(alloc, local, QUESTIONS.as_bytes());
     if ended == Ended::Eof {
@@ -50,13 +50,13 @@ fn state_of(alloc: Global, local: &mut Local) -> Option<Vec<u8>> {
     }
 }
 
-/// What came of a session.
+/// The outcome of a session.
 #[derive(Drop)]
 pub struct Outcome<R, W> {
     pub ended: Ended,
     pub reader: R,
     pub writer: W,
-    /// What the machine then answers to the questions.
+    /// The machine's answers to the questions after it.
     pub state: Vec<u8>,
 }
 

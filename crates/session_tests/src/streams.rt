@@ -1,9 +1,9 @@
-//! A reader that gives a byte a read, and writers that take some bytes a write, which fail where no read, write or room is left.
+//! A reader that gives a byte a read, and writers that take some bytes a write. They fail once no read, write or room is left.
 use std::alloc::Global;
 use std::io;
 use std::io::{ErrorKind, Read, Write};
 
-/// Gives a text byte by byte, and fails where no read is left.
+/// A reader that gives a text byte by byte, and fails once no read is left.
 #[derive(Drop)]
 pub struct ByteReader<'a> {
     pub rest: &'a [u8],
@@ -27,7 +27,7 @@ impl Read for ByteReader<'_> {
     }
 }
 
-/// Takes at most `most` bytes a write, while writes and room are left to it.
+/// A writer that takes at most `most` bytes a write, while writes and room are left to it.
 #[derive(Drop)]
 pub struct Sips {
     pub taken: Vec<u8>,
@@ -55,7 +55,7 @@ impl Write for Sips {
     }
 }
 
-/// Creates a writer that takes a byte a write, and fails where no write is left.
+/// Creates a writer that takes a byte a write, and fails once no write is left.
 pub fn byte_writer(alloc: Global, writes_left: usize) -> Sips {
     Sips {
         taken: Vec::new(alloc),

@@ -1,7 +1,6 @@
 -- Lists cut in two.
-use Rattle.std.proofs.Common.{◌≡◌, ℕ, ◌+◌, ◌-◌, ◌<◌, ◌≤◌, true, false, List, [], ◌∷◌, ◌++◌, take, drop, length, get_or, refl, ap, sym, ◌∙◌, subst, arith, append_assoc, add-one, drop-cons}
+use Rattle.std.proofs.Common.{◌≡◌, ℕ, ◌+◌, ◌-◌, ◌<◌, ◌≤◌, true, false, List, [], ◌∷◌, ◌++◌, take, drop, length, get_or, refl, ap, sym, ◌∙◌, subst, arith, add-one, drop-cons}
 use Rattle.std.proofs.lemmas.List.{take-append-drop, length-take-le, length-drop, take_all}
-use Rattle.std.proofs.Math.Seq.{take-add}
 use Rattle.std.proofs.lemmas.List.{take-take, drop-take, drop-drop, take-append-le}
 use Rattle.std.proofs.Math.Seq.{take-append-add}
 use Rattle.std.specs.Bool.{◌==◌}
@@ -9,32 +8,13 @@ use Rattle.std.proofs.lemmas.Bool.Decides.{nat_tests}
 use Rattle.std.proofs.lemmas.Slice.{take-put_mid_below}
 use borrow.Rule.Slice.PartMut.{put_mid, post_of}
 use Rattle.session_text.specs.declared.inlet.Take.{Take}
-use Rattle.session_text.specs.Inlets.{Incoming, IsTake, IsRead, count_of}
+use Rattle.session_text.specs.Inlets.{Incoming, IsTake, IsInletRead, count_of}
 use Rattle.session_text.specs.Lines.{NoLf}
-use Rattle.session_text.specs.Writes.{IsCutShort}
 
 pub split_at : (xs : List ℕ) (n : ℕ) → n < length xs → get_or xs n 0 ≡ 10 → xs ≡ take n xs ++ 10 ∷ drop (n + 1) xs
 split_at xs n lt is =
     let e : drop n xs ≡ get_or xs n 0 ∷ drop (n + 1) xs = rw (add-one, drop-cons xs n 0) in
     sym (take-append-drop n xs) ∙ ap (λ l. take n xs ++ l) (e ∙ ap (λ b. b ∷ drop (n + 1) xs) is)
-
--- what was put out goes on with a beginning of the rest
-pub put_more : (before bytes out out' : List ℕ) (at n : ℕ) → at ≤ length bytes → n ≤ length (take (length bytes - at) (drop at bytes)) → out ≡ before ++ take at bytes → out' ≡ out ++ take n (take (length bytes - at) (drop at bytes))
-    → (at + n ≤ length bytes) × (out' ≡ before ++ take (at + n) bytes)
-put_more before bytes out out' at n le fits was is =
-    let rest : take (length bytes - at) (drop at bytes) ≡ drop at bytes = take_all (length bytes - at) (drop at bytes) (omega (arith, length-drop at bytes)) in (
-      omega (arith, fits, ap length rest, length-drop at bytes, le),
-      is ∙ (λ i. was i ++ take n (rest i)) ∙ append_assoc before (take at bytes) (take n (drop at bytes)) ∙ ap (λ l. before ++ l) (sym (take-add at n bytes)),
-    )
-
-pub short_at : (before bytes out out' : List ℕ) (at : ℕ) → at < length bytes → out ≡ before ++ take at bytes → out' ≡ out → IsCutShort bytes before out'
-short_at before bytes out out' at less was is = record {
-  part = take at bytes;
-  rest = drop at bytes;
-  has = is ∙ was;
-  lacks = sym (take-append-drop at bytes);
-  some = omega (arith, less, length-drop at bytes);
-}
 
 -- a window whose front moves
 pub drop_window : (xs : List ℕ) (s e n : ℕ) → s ≤ e → e ≤ length xs → n ≤ length (take (e - s) (drop s xs)) → take (e - (s + n)) (drop (s + n) xs) ≡ drop n (take (e - s) (drop s xs))
@@ -44,7 +24,7 @@ drop_window xs s e n se el le =
     sym (ap (λ k. drop n (take k (drop s xs))) q ∙ drop-take n (e - (s + n)) (drop s xs) ∙ ap (λ l. take (e - (s + n)) l) (drop-drop n s xs))
 
 -- a read into what lies behind the bytes in use
-pub refilled : (used : ℕ) (bytes room : List ℕ) (a b : Incoming) (t : Take) → used < length bytes → IsTake room a b t → IsRead (take used bytes) (take (used + count_of t) (put_mid used (length bytes - used) bytes room)) a b t
+pub refilled : (used : ℕ) (bytes room : List ℕ) (a b : Incoming) (t : Take) → used < length bytes → IsTake room a b t → IsInletRead (take used bytes) (take (used + count_of t) (put_mid used (length bytes - used) bytes room)) a b t
 refilled used bytes room a b (Take.Got n) lt h =
     let size : length (take used bytes) ≡ used = length-take-le used bytes (omega arith) in
     let behind = room ++ post_of used (length bytes - used) bytes in
@@ -78,16 +58,16 @@ is_empty_of s m b e f h = empty_of b (sym (ap (λ l. length l) (e ∙ f)) ∙ ze
 pub is_some_of : (s m b : List ℕ) → s ≡ m → m ≡ b → false ≡ (length s == 0) → 0 < length b
 is_some_of s m b e f h = omega (arith, some_of (length s) h, ap (λ l. length l) (e ∙ f))
 
--- what had no LF has none where it moved
+-- bytes without an LF have none after a move
 pub still_none : (xs ys zs : List ℕ) (s used k : ℕ) → k ≤ used → NoLf (take k (drop s xs)) → take used ys ≡ take used (drop s xs) → take used zs ≡ take used ys → NoLf (take k zs)
 still_none xs ys zs s used k le none moved kept =
     subst (λ l. NoLf l) (sym (sym (take-take k used zs le) ∙ ap (λ l. take k l) (kept ∙ moved) ∙ take-take k used (drop s xs) le)) none
 
 pub refilled_from : (used n : ℕ) (was bytes room : List ℕ) (start : ℕ) (a b : Incoming) (t : Take) → used ≡ n → used < length bytes → take used bytes ≡ take used (drop start was) → IsTake room a b t
-    → IsRead (take n (drop start was)) (take (n + count_of t) (put_mid used (length bytes - used) bytes room)) a b t
+    → IsInletRead (take n (drop start was)) (take (n + count_of t) (put_mid used (length bytes - used) bytes room)) a b t
 refilled_from used n was bytes room start a b t e lt same h =
-    subst (λ k. IsRead (take k (drop start was)) (take (k + count_of t) (put_mid used (length bytes - used) bytes room)) a b t) e
-    (subst (λ l. IsRead l (take (used + count_of t) (put_mid used (length bytes - used) bytes room)) a b t) same (refilled used bytes room a b t lt h))
+    subst (λ k. IsInletRead (take k (drop start was)) (take (k + count_of t) (put_mid used (length bytes - used) bytes room)) a b t) e
+    (subst (λ l. IsInletRead l (take (used + count_of t) (put_mid used (length bytes - used) bytes room)) a b t) same (refilled used bytes room a b t lt h))
 
 pub moved_none : (xs ys : List ℕ) (s used k : ℕ) → k ≤ used → NoLf (take k (drop s xs)) → take used ys ≡ take used (drop s xs) → NoLf (take k ys)
 moved_none xs ys s used k le none moved =

@@ -10,11 +10,11 @@ use Rattle.std.proofs.lemmas.Str.{digit_value_digit}
 use Rattle.std.specs.Char.{is_ascii_digit, digit_value}
 use Rattle.std.specs.List.{list_all}
 use Rattle.std.specs.Str.Parse.{digits_value_after}
-use Rattle.session_text.specs.Grammar.{words_of, value_of, number, next_number}
+use Rattle.session_text.specs.Grammar.{words_of_line, value_of_digits, number_of_word, next_number}
 use Rattle.session_text.specs.Reads.{word_size, first_word, with_digit, with_size, value_from, IsReadTo, IsNumberAt}
 use Rattle.session_text.proofs.Plain.{none_if}
 use Rattle.session_text.proofs.Firsts.{size_space, size_other, first_other, first_size, sized, cut}
-use Rattle.session_text.proofs.Worded.{words_first}
+use Rattle.session_text.proofs.TextWords.{words_first}
 
 -- ---- digits, read one after the other with a bound at each
 
@@ -57,7 +57,7 @@ value_bounded : (bs : List ℕ) (n : ℕ) → n < 2 ^ 64 → value_from n bs ≡
 value_bounded [] n h = sym (ap (λ v. cond v (Some n) None) (lt-ltb n (2 ^ 64) h))
 value_bounded (b ∷ bs) n h = from_digit n b bs (is_ascii_digit b) (nat_lt (n * 10 + (b - 48)) (2 ^ 64)) refl refl (value_bounded bs)
 
-pub value_is : (bs : List ℕ) → value_from 0 bs ≡ value_of bs
+pub value_is : (bs : List ℕ) → value_from 0 bs ≡ value_of_digits bs
 value_is bs = value_bounded bs 0 (lit< tt)
 
 -- ---- the first word's digits
@@ -75,11 +75,11 @@ read_digit t i value n lt other digit h =
       h.1 ∙ ap (λ l. value_from value (first_word l)) begins ∙ ap (λ l. value_from value l) (first_other b rest (ne_eqb b 32 other)) ∙ ap (λ o. option_and_then (λ k. value_from k (first_word rest)) o) (sym digit),
     )
 
-no_value : (t : List ℕ) → value_of (first_word t) ≡ None → number (first_word t) ≡ None
-unfolding number
+no_value : (t : List ℕ) → value_of_digits (first_word t) ≡ None → number_of_word (first_word t) ≡ None
+unfolding number_of_word
 no_value t e = ap (λ o. cond (nat_lt 0 (length (first_word t)) && nat_le (length (first_word t)) 20) o None) e ∙ none_if (nat_lt 0 (length (first_word t)) && nat_le (length (first_word t)) 20)
 
-no_number : (t : List ℕ) → number (first_word t) ≡ None → IsNumberAt t 0 0
+no_number : (t : List ℕ) → number_of_word (first_word t) ≡ None → IsNumberAt t 0 0
 no_number t e = ap (with_size t) e
 
 -- the first word has a byte that is no digit more
@@ -90,12 +90,12 @@ read_other t i value lt other digit h =
     no_number t (no_value t (h.1 ∙ ap (λ l. value_from value (first_word l)) (cut t i lt) ∙ ap (λ l. value_from value l) (first_other b rest (ne_eqb b 32 other)) ∙ ap (λ o. option_and_then (λ k. value_from k (first_word rest)) o) (sym digit)))
 
 -- the first word has more than 20 bytes
-too_long : (t : List ℕ) → nat_le (word_size t) 20 ≡ false → number (first_word t) ≡ None
-unfolding number
+too_long : (t : List ℕ) → nat_le (word_size t) 20 ≡ false → number_of_word (first_word t) ≡ None
+unfolding number_of_word
 too_long t e =
-    ap (λ n. cond (nat_lt 0 n && nat_le n 20) (value_of (first_word t)) None) (first_size t)
-    ∙ ap (λ v. cond (nat_lt 0 (word_size t) && v) (value_of (first_word t)) None) e
-    ∙ and_none (nat_lt 0 (word_size t)) (value_of (first_word t))
+    ap (λ n. cond (nat_lt 0 n && nat_le n 20) (value_of_digits (first_word t)) None) (first_size t)
+    ∙ ap (λ v. cond (nat_lt 0 (word_size t) && v) (value_of_digits (first_word t)) None) e
+    ∙ and_none (nat_lt 0 (word_size t)) (value_of_digits (first_word t))
 
 pub read_long : (t : List ℕ) (value : ℕ) → 20 < length t → (get_or t 20 0 ≡ 32 → ⊥) → IsReadTo t (drop 20 t) 20 value → IsNumberAt t 0 0
 read_long t value lt other h =
@@ -107,15 +107,15 @@ read_long t value lt other h =
 some_sized : (value size : ℕ) → (size ≡ 0 → ⊥) → cond {A = Option (ℕ × ℕ)} (size == 0) None (Some (value, size)) ≡ Some (value, size)
 some_sized value size some = ap (λ v. cond {A = Option (ℕ × ℕ)} v None (Some (value, size))) (ne_eqb size 0 some)
 
-sized_number : (t : List ℕ) (size value : ℕ) → word_size t ≡ size → size ≤ 20 → value_of (first_word t) ≡ Some value → IsNumberAt t value size
-unfolding number
-sized_number t zero value is most has = ap (λ n. with_size t (cond (nat_lt 0 n && nat_le n 20) (value_of (first_word t)) None)) (first_size t ∙ is)
+sized_number : (t : List ℕ) (size value : ℕ) → word_size t ≡ size → size ≤ 20 → value_of_digits (first_word t) ≡ Some value → IsNumberAt t value size
+unfolding number_of_word
+sized_number t zero value is most has = ap (λ n. with_size t (cond (nat_lt 0 n && nat_le n 20) (value_of_digits (first_word t)) None)) (first_size t ∙ is)
 sized_number t (suc n) value is most has =
     let few : nat_le (suc n) 20 ≡ true = le-leb (suc n) 20 most in
     let some : nat_lt 0 (suc n) ≡ true = lt-ltb 0 (suc n) (omega arith) in
-    ap (λ m. with_size t (cond (nat_lt 0 m && nat_le m 20) (value_of (first_word t)) None)) (first_size t ∙ is)
-    ∙ ap (λ v. with_size t (cond (v && nat_le (suc n) 20) (value_of (first_word t)) None)) some
-    ∙ ap (λ v. with_size t (cond v (value_of (first_word t)) None)) few
+    ap (λ m. with_size t (cond (nat_lt 0 m && nat_le m 20) (value_of_digits (first_word t)) None)) (first_size t ∙ is)
+    ∙ ap (λ v. with_size t (cond (v && nat_le (suc n) 20) (value_of_digits (first_word t)) None)) some
+    ∙ ap (λ v. with_size t (cond v (value_of_digits (first_word t)) None)) few
     ∙ ap (with_size t) has
     ∙ ap {A = ℕ} {B = Option (ℕ × ℕ)} (λ m. Some (value, m)) is
     ∙ sym (some_sized value (suc n) (λ e. omega (arith, e)))
@@ -166,15 +166,15 @@ read_bad t i value lt other digit h =
 
 -- ---- the number at a place
 
-pub number_next : (t : List ℕ) (at value size : ℕ) → IsNumberAt (drop at t) value size → (size ≡ 0 → ⊥) → next_number (words_of (drop at t)) ≡ Some (value, words_of (drop (at + size + 1) t))
+pub number_next : (t : List ℕ) (at value size : ℕ) → IsNumberAt (drop at t) value size → (size ≡ 0 → ⊥) → next_number (words_of_line (drop at t)) ≡ Some (value, words_of_line (drop (at + size + 1) t))
 number_next t at value size h some =
     let u = drop at t in
-    let with : Some (value, size) ≡ with_size u (number (first_word u)) = sym (h ∙ some_sized value size some) in
-    let is = sized u (number (first_word u)) value size with in
+    let with : Some (value, size) ≡ with_size u (number_of_word (first_word u)) = sym (h ∙ some_sized value size some) in
+    let is = sized u (number_of_word (first_word u)) value size with in
     let longer : 0 < word_size u = omega (arith, is.1, some) in
     ap next_number (words_first u longer)
-    ∙ ap (λ o. option_map (λ n. (n, words_of (drop (word_size u + 1) u))) o) is.0
-    ∙ ap (λ k. Some (value, words_of k)) (ap (λ n. drop (n + 1) u) (sym is.1) ∙ drop-drop (size + 1) at t ∙ ap (λ n. drop n t) (omega arith))
+    ∙ ap (λ o. option_map (λ n. (n, words_of_line (drop (word_size u + 1) u))) o) is.0
+    ∙ ap (λ k. Some (value, words_of_line k)) (ap (λ n. drop (n + 1) u) (sym is.1) ∙ drop-drop (size + 1) at t ∙ ap (λ n. drop n t) (omega arith))
 
 -- ---- tables
 

@@ -13,7 +13,7 @@ use Rattle.heap_step.specs.declared.Event.TheVariants.{Class, ArrayClass, NewPri
 use Rattle.heap_trail.specs.declared.Action.TheVariants.{Step}
 use Rattle.session_text.specs.declared.command.Command.{Command}
 use Rattle.session_text.specs.declared.command.Command.TheVariants.{Blank, Bad, Ask, End}
-use Rattle.session_text.specs.Grammar.{words_of, is_plain, value_of, number, number_or_dash, all_kinds, kind_of, field_of, fields_of, next_number, next_number_or_dash, next_kind, at_end, one_number, one_number_or_dash, two_numbers, three_numbers, four_numbers, newprim_line, dump_of, Rule, class_rules, making_rules, access_rules, marking_rules, session_rules, all_rules, by_rule, class_line, array_line, command_of_words, command_of_text}
+use Rattle.session_text.specs.Grammar.{words_of_line, is_plain, value_of_digits, number_of_word, number_or_dash, all_kinds, kind_of_word, field_of_word, fields_of_words, next_number, next_number_or_dash, next_kind, at_end, one_number, one_number_or_dash, two_numbers, three_numbers, four_numbers, newprim_line, dump_command, Rule, class_rules, making_rules, access_rules, marking_rules, session_rules, all_rules, by_rule, class_line, array_line, command_of_words, command_of_text}
 use Rattle.session_text.specs.Reads.{TakesMemory, MayTakeMemory, plain_field, plain_fields, plain_class, plain_array, plain_class_rules, plain_rules}
 
 abbrev pub is_plain_byte : ℕ → Bool
@@ -50,9 +50,9 @@ some_plain ((b ∷ w) ∷ ws) =
     let others = filter (λ l. nat_lt 0 (length l)) ws in
     ap (λ v. is_plain (b ∷ w) && v) (some_plain ws) ∙ ap (λ v. are_plain (cond v ((b ∷ w) ∷ others) others)) (sym (lt-ltb 0 (length (b ∷ w)) (omega arith)))
 
--- a text is plain where its words are
-words_plain : (t : List ℕ) → is_plain t ≡ are_plain (words_of t)
-unfolding words_of
+-- a text is plain if its words are
+words_plain : (t : List ℕ) → is_plain t ≡ are_plain (words_of_line t)
+unfolding words_of_line
 words_plain t = split_plain t ∙ some_plain (slice_split is_space t)
 
 -- ---- words that are keywords, numbers and kinds
@@ -75,9 +75,9 @@ if_some : {A : Type 0} (v : Bool) (o : Option A) (x : A) → cond v o None ≡ S
 if_some true o x e = (refl, e)
 if_some false o x e = cc
 
-number_plain : (w : List ℕ) (n : ℕ) → number w ≡ Some n → is_plain w ≡ true
-unfolding number
-number_plain w n e = digits_plain w (and_parts _ _ (if_some _ _ n (if_some _ (value_of w) n e).1).0).0
+number_plain : (w : List ℕ) (n : ℕ) → number_of_word w ≡ Some n → is_plain w ≡ true
+unfolding number_of_word
+number_plain w n e = digits_plain w (and_parts _ _ (if_some _ _ n (if_some _ (value_of_digits w) n e).1).0).0
 
 kind_plain_word : (k : Kind) → is_plain (kind_word k) ≡ true
 kind_plain_word Kind.Object = refl
@@ -98,8 +98,8 @@ found : (f : Kind → Bool) (ks : List Kind) (k : Kind) → find f ks ≡ Some k
 found f [] k e = cc
 found f (first ∷ ks) k e = found_or f first k (find f ks) (f first) refl (found f ks k) e
 
-pub kind_plain : (w : List ℕ) (k : Kind) → kind_of w ≡ Some k → is_plain w ≡ true
-unfolding kind_of
+pub kind_plain : (w : List ℕ) (k : Kind) → kind_of_word w ≡ Some k → is_plain w ≡ true
+unfolding kind_of_word
 kind_plain w k e = ap is_plain (sym ((bytes_eq-Decides (kind_word k) w).0 (found (λ j. bytes_eq (kind_word j) w) all_kinds k e))) ∙ kind_plain_word k
 
 kind_long_word : (k : Kind) → 3 ≤ length (kind_word k)
@@ -114,8 +114,8 @@ kind_long_word Int = omega arith
 kind_long_word Long = omega arith
 
 -- a kind's word has 3 bytes or more
-pub kind_long : (w : List ℕ) (k : Kind) → kind_of w ≡ Some k → 3 ≤ length w
-unfolding kind_of
+pub kind_long : (w : List ℕ) (k : Kind) → kind_of_word w ≡ Some k → 3 ≤ length w
+unfolding kind_of_word
 kind_long w k e = subst (λ l. 3 ≤ length l) ((bytes_eq-Decides (kind_word k) w).0 (found (λ j. bytes_eq (kind_word j) w) all_kinds k e)) (kind_long_word k)
 
 -- ---- lines whose words are all plain
@@ -123,11 +123,11 @@ kind_long w k e = subst (λ l. 3 ≤ length l) ((bytes_eq-Decides (kind_word k) 
 abbrev Read : Type 0 → Type 0
 Read A = A × List (List ℕ)
 
--- a reading of the first word, which is plain where it gives something
+-- a reading of the first word, which is plain if it gives something
 abbrev IsPlainRead : {A : Type 0} → List (List ℕ) → Option (Read A) → Type 0
 IsPlainRead {A = A} ws o = (r : Read A) → o ≡ Some r → are_plain ws ≡ are_plain r.1
 
--- all words are plain where they give something
+-- all words are plain if they give something
 abbrev OnlyPlain : {A : Type 0} → List (List ℕ) → Option A → Type 0
 OnlyPlain {A = A} ws o = (c : A) → o ≡ Some c → are_plain ws ≡ true
 
@@ -137,15 +137,15 @@ mapped w ws (Some x) h r e = let same : (x, ws) ≡ r = cc in ap (λ v. v && are
 
 number_read : (ws : List (List ℕ)) → IsPlainRead ws (next_number ws)
 number_read [] r e = cc
-number_read (w ∷ ws) r e = mapped w ws (number w) (number_plain w) r e
+number_read (w ∷ ws) r e = mapped w ws (number_of_word w) (number_plain w) r e
 
 kind_read : (ws : List (List ℕ)) → IsPlainRead ws (next_kind ws)
 kind_read [] r e = cc
-kind_read (w ∷ ws) r e = mapped w ws (kind_of w) (kind_plain w) r e
+kind_read (w ∷ ws) r e = mapped w ws (kind_of_word w) (kind_plain w) r e
 
-dash_some : (w : List ℕ) (v : Bool) (s : Option ℕ) → bytes_eq w (codes "-") ≡ v → cond v (Some None) (option_map Some (number w)) ≡ Some s → is_plain w ≡ true
+dash_some : (w : List ℕ) (v : Bool) (s : Option ℕ) → bytes_eq w (codes "-") ≡ v → cond v (Some None) (option_map Some (number_of_word w)) ≡ Some s → is_plain w ≡ true
 dash_some w true s e h = keyword_plain w (codes "-") e
-dash_some w false s e h = made w (number w) s (number_plain w) h
+dash_some w false s e h = made w (number_of_word w) s (number_plain w) h
   where
     made : (w : List ℕ) (o : Option ℕ) (s : Option ℕ) → ((n : ℕ) → o ≡ Some n → is_plain w ≡ true) → option_map Some o ≡ Some s → is_plain w ≡ true
     made w None s h e = cc
@@ -228,7 +228,7 @@ session_plain w ws =
     rule_plain w ws _ _ refl (made_plain ws _ (one_number ws) (one_plain ws))
     (rule_plain w ws _ _ refl (made_plain ws _ (one_number_or_dash ws) (dash_alone ws))
     (rule_plain w ws _ _ refl (made_plain ws _ (one_number ws) (one_plain ws))
-    (rule_plain w ws _ _ refl (made_plain ws (λ pin. dump_of pin) (one_number_or_dash ws) (dash_alone ws))
+    (rule_plain w ws _ _ refl (made_plain ws (λ pin. dump_command pin) (one_number_or_dash ws) (dash_alone ws))
     (rule_plain w ws _ _ refl (made_plain ws _ (one_number ws) (one_plain ws))
     (rule_plain w ws _ _ refl (end_plain End ws) (no_rule w ws))))))
 
@@ -289,19 +289,19 @@ fields_if true v None rest = sym (none_if v)
 fields_if true v (Some f) rest = map_if (λ fs. f ∷ fs) v rest
 fields_if false v o rest = refl
 
-fields_plain : (ws : List (List ℕ)) → plain_fields ws ≡ cond (are_plain ws) (fields_of ws) None
+fields_plain : (ws : List (List ℕ)) → plain_fields ws ≡ cond (are_plain ws) (fields_of_words ws) None
 fields_plain [] = refl
-fields_plain (w ∷ ws) = ap (λ rest. option_and_then (more_fields rest) (plain_field w)) (fields_plain ws) ∙ fields_if (is_plain w) (are_plain ws) (field_of w) (fields_of ws)
+fields_plain (w ∷ ws) = ap (λ rest. option_and_then (more_fields rest) (plain_field w)) (fields_plain ws) ∙ fields_if (is_plain w) (are_plain ws) (field_of_word w) (fields_of_words ws)
 
 -- a class of this name and super
 abbrev class_with : List ℕ → Option ℕ → Option (List Field) → Option Command
 class_with name sup fields = option_map (λ fs. Ask (Step (Class name sup fs))) fields
 
-super_if : (name : List ℕ) (o : Option (Option ℕ)) (ws : List (List ℕ)) → option_and_then (λ (s : Option ℕ × List (List ℕ)). class_with name s.0 (plain_fields s.1)) (option_map (λ n. (n, ws)) o) ≡ cond (are_plain ws) (option_and_then (λ s. class_with name s (fields_of ws)) o) None
+super_if : (name : List ℕ) (o : Option (Option ℕ)) (ws : List (List ℕ)) → option_and_then (λ (s : Option ℕ × List (List ℕ)). class_with name s.0 (plain_fields s.1)) (option_map (λ n. (n, ws)) o) ≡ cond (are_plain ws) (option_and_then (λ s. class_with name s (fields_of_words ws)) o) None
 super_if name None ws = sym (none_if (are_plain ws))
-super_if name (Some s) ws = ap (class_with name s) (fields_plain ws) ∙ map_if (λ fs. Ask (Step (Class name s fs))) (are_plain ws) (fields_of ws)
+super_if name (Some s) ws = ap (class_with name s) (fields_plain ws) ∙ map_if (λ fs. Ask (Step (Class name s fs))) (are_plain ws) (fields_of_words ws)
 
-super_plain : (name : List ℕ) (o : Option (Option ℕ)) (ws : List (List ℕ)) (v : Bool) → ((s : Option ℕ) → o ≡ Some s → v ≡ true) → option_and_then (λ (s : Option ℕ × List (List ℕ)). class_with name s.0 (plain_fields s.1)) (option_map (λ n. (n, ws)) o) ≡ cond (v && are_plain ws) (option_and_then (λ s. class_with name s (fields_of ws)) o) None
+super_plain : (name : List ℕ) (o : Option (Option ℕ)) (ws : List (List ℕ)) (v : Bool) → ((s : Option ℕ) → o ≡ Some s → v ≡ true) → option_and_then (λ (s : Option ℕ × List (List ℕ)). class_with name s.0 (plain_fields s.1)) (option_map (λ n. (n, ws)) o) ≡ cond (v && are_plain ws) (option_and_then (λ s. class_with name s (fields_of_words ws)) o) None
 super_plain name o ws true h = super_if name o ws
 super_plain name None ws false h = refl
 super_plain name (Some s) ws false h = absurd (true≢false (sym (h s refl)))
@@ -343,7 +343,7 @@ read_if w ws true a e h = class_plain ws ∙ ap (λ v. cond (v && are_plain ws) 
 read_if w ws false true e h = array_plain ws ∙ ap (λ v. cond (v && are_plain ws) (array_line ws) None) (sym (keyword_plain w (codes "array") h))
 read_if w ws false false e h = guarded (by_rule other_rules w ws) (are_plain (w ∷ ws)) (making_plain w ws)
 
--- a line is read where its words are plain
+-- a line is read if its words are plain
 read_plain : (w : List ℕ) (ws : List (List ℕ)) → by_rule plain_rules w ws ≡ cond (are_plain (w ∷ ws)) (by_rule all_rules w ws) None
 unfolding class_rules plain_class_rules
 read_plain w ws =
@@ -351,17 +351,17 @@ read_plain w ws =
     ∙ read_if w ws _ _ refl refl
     ∙ ap (λ o. cond (are_plain (w ∷ ws)) o None) (sym (two_rules w ws (codes "class", class_line) (codes "array", array_line) other_rules))
 
-text_of_words : (t : List ℕ) (ws : List (List ℕ)) → words_of t ≡ ws → command_of_text t ≡ cond (are_plain ws) (command_of_words ws) Bad
-text_of_words t ws e = ap (λ v. cond v (command_of_words (words_of t)) Bad) (words_plain t) ∙ ap (λ l. cond (are_plain l) (command_of_words l) Bad) e
+text_of_words : (t : List ℕ) (ws : List (List ℕ)) → words_of_line t ≡ ws → command_of_text t ≡ cond (are_plain ws) (command_of_words ws) Bad
+text_of_words t ws e = ap (λ v. cond v (command_of_words (words_of_line t)) Bad) (words_plain t) ∙ ap (λ l. cond (are_plain l) (command_of_words l) Bad) e
 
-pub text_blank : (t : List ℕ) → words_of t ≡ [] → Blank ≡ command_of_text t
+pub text_blank : (t : List ℕ) → words_of_line t ≡ [] → Blank ≡ command_of_text t
 text_blank t e = sym (text_of_words t [] e)
 
 or_bad : (v : Bool) (o : Option Command) → unwrap_or (cond v o None) Bad ≡ cond v (unwrap_or o Bad) Bad
 or_bad true o = refl
 or_bad false o = refl
 
-pub text_read : (t w : List ℕ) (ws : List (List ℕ)) → words_of t ≡ w ∷ ws → unwrap_or (by_rule plain_rules w ws) Bad ≡ command_of_text t
+pub text_read : (t w : List ℕ) (ws : List (List ℕ)) → words_of_line t ≡ w ∷ ws → unwrap_or (by_rule plain_rules w ws) Bad ≡ command_of_text t
 text_read t w ws e = ap (λ o. unwrap_or o Bad) (read_plain w ws) ∙ or_bad (are_plain (w ∷ ws)) (by_rule all_rules w ws) ∙ sym (text_of_words t (w ∷ ws) e)
 
 may_take : (o : Option Command) → MayTakeMemory o → TakesMemory (unwrap_or o Bad)

@@ -3,36 +3,42 @@ use Rattle.std.specs.Prelude.{◌≡◌, ℕ, ◌+◌, ◌⊎◌, Bool, true, fa
 use Rattle.dump_pump.specs.Outlets.{Outgoing}
 use Rattle.session_text.specs.declared.Ended.{Ended}
 use Rattle.session_text.specs.declared.Ended.TheVariants.{Quit, Eof, CutLine, TooLong, ReadFault, TooManyReads, WriteFault, NoMemory}
+use Rattle.session_text.specs.declared.TheConstants.{READ_LIMIT}
 use Rattle.session_text.specs.declared.answer.Step.{Step}
 use Rattle.session_text.specs.declared.answer.Step.TheVariants.{Next, Fault}
 use Rattle.session_text.specs.Inlets.{Incoming, NothingLeft}
-use Rattle.session_text.specs.Writes.{IsWritten}
+use Rattle.session_text.specs.Writes.{IsTextWritten}
 
+-- the next line comes, unless a write failed
 abbrev pub step_of : Bool → Step
 step_of true = Next
 step_of false = Fault
 
+-- the ending, unless a write failed
 abbrev pub ended_of : Ended → Bool → Ended
 ended_of ended true = ended
 ended_of ended false = WriteFault
 
 -- the page and an ending's line were put out, or the session ended by a write that failed in them
 abbrev pub EndsWith : List ℕ → List ℕ → Outgoing → Outgoing → Ended → Ended → Type 0
-EndsWith line page w w' ended result = (written : Bool) × IsWritten (page ++ line) w w' written × (result ≡ ended_of ended written)
+EndsWith line page w w' ended result =
+    (written : Bool) × IsTextWritten (page ++ line) w w' written × (result ≡ ended_of ended written)
 
--- the reader before and after, where no write failed
+-- the reader before and after, if no write failed
 abbrev pub ReaderEnds : Incoming → Incoming → Ended → Type 0
 ReaderEnds a b Quit = b.failures ≡ a.failures
 ReaderEnds a b Eof = NothingLeft b × (b.failures ≡ a.failures)
 ReaderEnds a b CutLine = NothingLeft b × (b.failures ≡ a.failures)
 ReaderEnds a b TooLong = b.failures ≡ a.failures
 ReaderEnds a b ReadFault = b.failures ≡ a.failures + 1
-ReaderEnds a b TooManyReads = (length b.reads ≡ length a.reads + 1000000) × (b.failures ≡ a.failures)
+ReaderEnds a b TooManyReads =
+    (length b.reads ≡ length a.reads + READ_LIMIT) × (b.failures ≡ a.failures)
 ReaderEnds a b WriteFault = ⊥
 ReaderEnds a b NoMemory = b ≡ a
 
 -- the reader and the writer before and after
-abbrev pub Ends : Incoming → Incoming → Outgoing → Outgoing → Ended → Type 0
-Ends a b w w' WriteFault = (w'.failures ≡ w.failures + 1) × ((b.failures ≡ a.failures) ⊎ (b.failures ≡ a.failures + 1))
-Ends a b w w' NoMemory = (b ≡ a) × (w' ≡ w)
-Ends a b w w' ended = (w'.failures ≡ w.failures) × ReaderEnds a b ended
+abbrev pub EndsSession : Incoming → Incoming → Outgoing → Outgoing → Ended → Type 0
+EndsSession a b w w' WriteFault =
+    (w'.failures ≡ w.failures + 1) × ((b.failures ≡ a.failures) ⊎ (b.failures ≡ a.failures + 1))
+EndsSession a b w w' NoMemory = (b ≡ a) × (w' ≡ w)
+EndsSession a b w w' ended = (w'.failures ≡ w.failures) × ReaderEnds a b ended

@@ -17,45 +17,54 @@ use Rattle.session_text.specs.declared.command.Command.TheVariants.{Blank, Bad, 
 -- ---- words and numbers
 
 -- the words of a line: the longest runs of bytes other than space
-unfoldable pub words_of : List ℕ → List (List ℕ)
-words_of line = filter (λ w. nat_lt 0 (length w)) (slice_split (λ b. b == 32) line)
+unfoldable pub words_of_line : List ℕ → List (List ℕ)
+words_of_line line = filter (λ w. nat_lt 0 (length w)) (slice_split (λ b. b == 32) line)
 
--- the value of decimal digits, where it is below 2 ^ 64
-abbrev pub value_of : List ℕ → Option ℕ
-value_of ds = if list_all is_ascii_digit ds && nat_lt (digits_value 10 ds) (2 ^ 64) then Some (digits_value 10 ds) else None
+-- the value of decimal digits, if it is below 2 ^ 64
+abbrev pub value_of_digits : List ℕ → Option ℕ
+value_of_digits ds =
+    if list_all is_ascii_digit ds && nat_lt (digits_value 10 ds) (2 ^ 64)
+    then Some (digits_value 10 ds) else None
 
 -- 1 to 20 decimal digits with a value below 2 ^ 64
-unfoldable pub number : List ℕ → Option ℕ
-number w = if nat_lt 0 (length w) && nat_le (length w) 20 then value_of w else None
+unfoldable pub number_of_word : List ℕ → Option ℕ
+number_of_word w = if nat_lt 0 (length w) && nat_le (length w) 20 then value_of_digits w else None
 
 -- a number, or None for `-`
 abbrev pub number_or_dash : List ℕ → Option (Option ℕ)
-number_or_dash w = if bytes_eq w (codes "-") then Some None else option_map Some (number w)
+number_or_dash w = if bytes_eq w (codes "-") then Some None else option_map Some (number_of_word w)
 
 -- ---- kinds and fields
 
+-- all kinds of slots
 abbrev pub all_kinds : List Kind
 all_kinds = Kind.Object ∷ Boolean ∷ Char ∷ Float ∷ Double ∷ Byte ∷ Short ∷ Int ∷ Long ∷ []
 
-unfoldable pub kind_of : List ℕ → Option Kind
-kind_of w = find (λ k. bytes_eq (kind_word k) w) all_kinds
+-- the kind that a word names
+unfoldable pub kind_of_word : List ℕ → Option Kind
+kind_of_word w = find (λ k. bytes_eq (kind_word k) w) all_kinds
 
 -- NAME:KIND with one colon; no kind's word has one
-abbrev pub field_of : List ℕ → Option Field
-field_of w = option_and_then (λ n. option_map (λ k. record { name = take n w; kind = k }) (kind_of (drop (n + 1) w))) (position (λ b. b == 58) w)
+abbrev pub field_of_word : List ℕ → Option Field
+field_of_word w =
+    option_and_then
+    (λ n. option_map (λ k. record { name = take n w; kind = k }) (kind_of_word (drop (n + 1) w)))
+    (position (λ b. b == 58) w)
 
-abbrev pub fields_of : List (List ℕ) → Option (List Field)
-fields_of [] = Some []
-fields_of (w ∷ ws) = option_and_then (λ f. option_map (λ fs. f ∷ fs) (fields_of ws)) (field_of w)
+-- the fields that these words are, if each is one
+abbrev pub fields_of_words : List (List ℕ) → Option (List Field)
+fields_of_words [] = Some []
+fields_of_words (w ∷ ws) =
+    option_and_then (λ f. option_map (λ fs. f ∷ fs) (fields_of_words ws)) (field_of_word w)
 
 -- ---- the words after the first
 
--- the number that the first word is, and the other words
+-- the number that the first word holds, and the other words
 abbrev pub next_number : List (List ℕ) → Option (ℕ × List (List ℕ))
 next_number [] = None
-next_number (w ∷ ws) = option_map (λ n. (n, ws)) (number w)
+next_number (w ∷ ws) = option_map (λ n. (n, ws)) (number_of_word w)
 
--- the number that the first word is, or None where it is `-`, and the other words
+-- the number that the first word holds, or None from a `-`, and the other words
 abbrev pub next_number_or_dash : List (List ℕ) → Option (Option ℕ × List (List ℕ))
 next_number_or_dash [] = None
 next_number_or_dash (w ∷ ws) = option_map (λ n. (n, ws)) (number_or_dash w)
@@ -63,34 +72,50 @@ next_number_or_dash (w ∷ ws) = option_map (λ n. (n, ws)) (number_or_dash w)
 -- the kind that the first word names, and the other words
 abbrev pub next_kind : List (List ℕ) → Option (Kind × List (List ℕ))
 next_kind [] = None
-next_kind (w ∷ ws) = option_map (λ k. (k, ws)) (kind_of w)
+next_kind (w ∷ ws) = option_map (λ k. (k, ws)) (kind_of_word w)
 
--- x, where no word is left
+-- x, if no word is left
 abbrev pub at_end : {A : Type 0} → A → List (List ℕ) → Option A
 at_end x [] = Some x
 at_end x (w ∷ ws) = None
 
+-- the one number that the words are
 abbrev pub one_number : List (List ℕ) → Option ℕ
 one_number ws = option_and_then (λ a. at_end a.0 a.1) (next_number ws)
 
+-- the one number that the words are, or None from a `-`
 abbrev pub one_number_or_dash : List (List ℕ) → Option (Option ℕ)
 one_number_or_dash ws = option_and_then (λ a. at_end a.0 a.1) (next_number_or_dash ws)
 
+-- the two numbers that the words are
 abbrev pub two_numbers : List (List ℕ) → Option (ℕ × ℕ)
-two_numbers ws = option_and_then (λ a. option_and_then (λ b. at_end (a.0, b.0) b.1) (next_number a.1)) (next_number ws)
+two_numbers ws =
+    option_and_then (λ a. option_and_then (λ b. at_end (a.0, b.0) b.1) (next_number a.1))
+    (next_number ws)
 
+-- the three numbers that the words are
 abbrev pub three_numbers : List (List ℕ) → Option (ℕ × ℕ × ℕ)
-three_numbers ws = option_and_then (λ a. option_and_then (λ b. option_and_then (λ c. at_end (a.0, b.0, c.0) c.1) (next_number b.1)) (next_number a.1)) (next_number ws)
+three_numbers ws =
+    option_and_then
+    (λ a. option_and_then (λ b. option_and_then (λ c. at_end (a.0, b.0, c.0) c.1) (next_number b.1))
+    (next_number a.1)) (next_number ws)
 
+-- the four numbers that the words are
 abbrev pub four_numbers : List (List ℕ) → Option (ℕ × ℕ × ℕ × ℕ)
 four_numbers ws =
-    option_and_then (λ a. option_and_then (λ b. option_and_then (λ c. option_and_then (λ d. at_end (a.0, b.0, c.0, d.0) d.1) (next_number c.1)) (next_number b.1)) (next_number a.1)) (next_number ws)
+    option_and_then
+    (λ a. option_and_then
+    (λ b. option_and_then
+    (λ c. option_and_then (λ d. at_end (a.0, b.0, c.0, d.0) d.1) (next_number c.1))
+    (next_number b.1)) (next_number a.1)) (next_number ws)
 
 -- `class NAME SUPER FIELD ..`
 abbrev pub class_line : List (List ℕ) → Option Command
 class_line [] = None
 class_line (name ∷ []) = None
-class_line (name ∷ sup ∷ fields) = option_and_then (λ s. option_map (λ fs. Ask (Step (Class name s fs))) (fields_of fields)) (number_or_dash sup)
+class_line (name ∷ sup ∷ fields) =
+    option_and_then (λ s. option_map (λ fs. Ask (Step (Class name s fs))) (fields_of_words fields))
+    (number_or_dash sup)
 
 -- `array NAME`
 abbrev pub array_line : List (List ℕ) → Option Command
@@ -108,7 +133,11 @@ newarray_line ws = option_map (λ n. Ask (Step (NewArray n.0 n.1 n.2 n.3))) (fou
 -- `newprim M R KIND LEN`
 abbrev pub newprim_line : List (List ℕ) → Option Command
 newprim_line ws =
-    option_and_then (λ m. option_and_then (λ r. option_and_then (λ k. option_and_then (λ n. at_end (Ask (Step (NewPrim m.0 r.0 k.0 n.0))) n.1) (next_number k.1)) (next_kind r.1)) (next_number m.1)) (next_number ws)
+    option_and_then
+    (λ m. option_and_then
+    (λ r. option_and_then
+    (λ k. option_and_then (λ n. at_end (Ask (Step (NewPrim m.0 r.0 k.0 n.0))) n.1)
+    (next_number k.1)) (next_kind r.1)) (next_number m.1)) (next_number ws)
 
 -- `load M TO FROM SLOT`
 abbrev pub load_line : List (List ℕ) → Option Command
@@ -151,13 +180,13 @@ abbrev pub piece_line : List (List ℕ) → Option Command
 piece_line ws = option_map (λ pin. Piece pin) (one_number ws)
 
 -- a dump of a pin, or of the current state
-abbrev pub dump_of : Option ℕ → Command
-dump_of (Some pin) = Dump pin
-dump_of None = DumpNow
+abbrev pub dump_command : Option ℕ → Command
+dump_command (Some pin) = Dump pin
+dump_command None = DumpNow
 
 -- `dump PIN` or `dump -`
 abbrev pub dump_line : List (List ℕ) → Option Command
-dump_line ws = option_map (λ pin. dump_of pin) (one_number_or_dash ws)
+dump_line ws = option_map (λ pin. dump_command pin) (one_number_or_dash ws)
 
 -- `close PIN`
 abbrev pub close_line : List (List ℕ) → Option Command
@@ -179,7 +208,9 @@ class_rules = (codes "class", class_line) ∷ (codes "array", array_line) ∷ []
 
 -- lines that make an object
 unfoldable pub making_rules : List Rule
-making_rules = (codes "new", new_line) ∷ (codes "newarray", newarray_line) ∷ (codes "newprim", newprim_line) ∷ []
+making_rules =
+    (codes "new", new_line) ∷ (codes "newarray", newarray_line) ∷ (codes "newprim", newprim_line)
+    ∷ []
 
 -- lines that read or write a slot or a register
 unfoldable pub access_rules : List Rule
@@ -233,8 +264,9 @@ without_cr l = if slice_index l (length l - 1) == 13 then take (length l - 1) l 
 abbrev pub is_plain : List ℕ → Bool
 is_plain t = list_all (λ b. nat_le 0x20 b && nat_le b 0x7e) t
 
+-- the command of a line without its CR; a line with a bad byte is none of the grammar's
 abbrev pub command_of_text : List ℕ → Command
-command_of_text t = if is_plain t then command_of_words (words_of t) else Bad
+command_of_text t = if is_plain t then command_of_words (words_of_line t) else Bad
 
 -- what a line without its LF asks for
 unfoldable pub command_of : List ℕ → Command

@@ -1,27 +1,27 @@
--- A session of a machine of one's own is a list of actions.
+-- A session of a private machine is a list of actions.
 use Rattle.std.specs.Prelude.{◌≡◌, ℕ, ◌⊎◌, List, [], ◌∷◌, ◌++◌, codes}
 use Rattle.heap_trail.specs.declared.Action.{Action}
-use Rattle.heap_trail.specs.Machine.{Machine, Mark, MayStand, AreMarks, machine_after, replies_of}
+use Rattle.heap_trail.specs.Machine.{Machine, Allocation, MayStand, AreAllocations, machine_after, replies_of}
 use Rattle.session_text.specs.declared.Ended.{Ended}
 use Rattle.session_text.specs.declared.Ended.TheVariants.{Quit, Eof, CutLine, TooLong, ReadFault, TooManyReads, WriteFault, NoMemory as NoRoom}
 use Rattle.session_text.specs.declared.ReadEnd.{ReadEnd}
-use Rattle.session_text.specs.Answers.{Answers, Begins}
+use Rattle.session_text.specs.Answers.{AnswersCommand, Begins, all_bad}
 use Rattle.session_text.specs.Dumps.{Acts}
-use Rattle.session_text.specs.Grammar.{command_of}
-use Rattle.session_text.specs.Session.{MarksFit, StopsAfter, session_of}
+use Rattle.session_text.specs.Session.{AllocationsFit, StopsAfter, session_of}
 use Rattle.session_text.specs.Talks.{IsLine, IsLong, IsQuit, IsTalk, BeginsWith}
 
 -- the actions done on a machine so far, one more, under a mark that may stand beside it, and its reply
-abbrev pub InTurn : Machine → Acts (List (Action × Mark))
+abbrev pub InTurn : Machine → Acts (List (Action × Allocation))
 InTurn m before a r after =
-    (mark : Mark) × MayStand (machine_after m before) (a, mark) × (after ≡ before ++ (a, mark) ∷ [])
+    (mark : Allocation) × MayStand (machine_after m before) (a, mark)
+    × (after ≡ before ++ (a, mark) ∷ [])
     × (replies_of m after ≡ replies_of m before ++ r ∷ [])
 
 -- no whole line is left, or `end` comes next, or a line that is too long
 abbrev pub IsStop : List ℕ → Type 0
 IsStop rest = IsLine rest ⊎ (IsQuit rest ⊎ IsLong rest)
 
--- what an ending prints
+-- the line of an ending
 abbrev pub ending_line : Ended → List ℕ
 ending_line Quit = []
 ending_line Eof = []
@@ -32,42 +32,45 @@ ending_line TooManyReads = codes "bad reads\n"
 ending_line WriteFault = []
 ending_line NoRoom = []
 
--- the lines of the bytes asked for these actions, in order, and the text is their replies'; they lead to the machine m'
+-- the lines of the bytes asked for these actions, in order, and the text is that of their replies; they lead to the machine
+-- m'
 pub record IsList (m : Machine) (time : ℕ) (bytes text : List ℕ) (m' : Machine) : Type 0 where
-  pub actions : List (Action × Mark)
-  pub marks : AreMarks m actions
+  pub actions : List (Action × Allocation)
+  pub marks : AreAllocations m actions
   pub rest : List ℕ
-  pub talk : IsTalk (Answers (InTurn m) time) bytes [] rest text actions
+  pub talk : IsTalk (AnswersCommand (InTurn m) all_bad time) bytes [] rest text actions
   pub stop : IsStop rest
   pub machine : m' ≡ machine_after m actions
 
--- a session is a list of actions: it leaves their machine, and writes their replies and what its ending prints
-abbrev pub IsListed : Machine → List Mark → ℕ → List ℕ → ReadEnd → Type 0
+-- a session is a list of actions: it leaves their machine, and writes their replies and the line of its ending
+abbrev pub IsListed : Machine → List Allocation → ℕ → List ℕ → ReadEnd → Type 0
 IsListed m marks time bytes e =
     let s = session_of m marks time bytes e in
-    MarksFit m marks time bytes → (text : List ℕ) × IsList m time bytes text s.0.machine
+    AllocationsFit m marks time bytes → (text : List ℕ) × IsList m time bytes text s.0.machine
     × (s.0.written ≡ text ++ ending_line s.1)
 
 -- no line of the rest was acted on, or the first one was, a dump up to some piece
-abbrev pub IsBegun : Machine → ℕ → List ℕ → List (Action × Mark) → List (Action × Mark) → Type 0
+abbrev pub IsBegun : Machine → ℕ → List ℕ → List (Action × Allocation) → List (Action × Allocation)
+    → Type 0
 IsBegun m time rest before after =
     (after ≡ before)
     ⊎ ((l : List ℕ) × (tail : List ℕ) × BeginsWith l rest
-    × Begins (InTurn m) time (command_of l) before tail after)
+    × Begins (InTurn m) all_bad time l before tail after)
 
 -- the lines before the rest asked for the actions that were answered, in order, and all actions lead to the machine m'
 pub record IsCutList (m : Machine) (time : ℕ) (bytes : List ℕ) (m' : Machine) : Type 0 where
-  pub actions : List (Action × Mark)
-  pub marks : AreMarks m actions
-  pub answered : List (Action × Mark)
+  pub actions : List (Action × Allocation)
+  pub marks : AreAllocations m actions
+  pub answered : List (Action × Allocation)
   pub rest : List ℕ
   pub text : List ℕ
-  pub talk : IsTalk (Answers (InTurn m) time) bytes [] rest text answered
+  pub talk : IsTalk (AnswersCommand (InTurn m) all_bad time) bytes [] rest text answered
   pub begun : IsBegun m time rest answered actions
   pub machine : m' ≡ machine_after m actions
 
 -- a session in which a write failed leaves the machine of a list of actions
-abbrev pub IsCutListed : Machine → List Mark → ℕ → List ℕ → ReadEnd → Type 0
+abbrev pub IsCutListed : Machine → List Allocation → ℕ → List ℕ → ReadEnd → Type 0
 IsCutListed m marks time bytes e =
-    MarksFit m marks time bytes → (out : List ℕ) (m' : Machine) → StopsAfter m marks time bytes e out m'
+    AllocationsFit m marks time bytes → (out : List ℕ) (m' : Machine)
+    → StopsAfter m marks time bytes e out m'
     → IsCutList m time bytes m'

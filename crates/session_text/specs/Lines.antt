@@ -1,6 +1,7 @@
--- Where lines end.
+-- The ends of lines.
 use Rattle.std.specs.Prelude.{◌≡◌, ℕ, ◌+◌, ◌<◌, false, ◌==◌, List, ◌∷◌, ◌++◌, take, drop, length, All}
 
+-- no byte is an LF
 abbrev pub NoLf : List ℕ → Type 0
 NoLf l = All (λ b. (b == 10) ≡ false) l
 

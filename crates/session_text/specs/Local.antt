@@ -1,13 +1,14 @@
--- What a machine of one's own does.
+-- The actions of a private machine.
 use Rattle.std.specs.Prelude.{◌≡◌, ℕ}
 use Rattle.heap_trail.specs.declared.Action.{Action}
 use Rattle.heap_trail.specs.declared.Reply.{Reply}
 use Rattle.heap_trail.specs.Pins.{pins_below}
-use Rattle.heap_trail.specs.Machine.{Machine, Mark, MayStand, acted_under}
+use Rattle.heap_trail.specs.Machine.{Machine, Allocation, MayStand, acted_under}
 
 -- an action under one of the marks that may stand beside it
 abbrev pub LocalActs : Machine → Action → Reply → Machine → Type 0
-LocalActs m a r m' = (mark : Mark) × MayStand m (a, mark) × (acted_under m (a, mark) ≡ (m', r))
+LocalActs m a r m' =
+    (mark : Allocation) × MayStand m (a, mark) × (acted_under m (a, mark) ≡ (m', r))
 
 -- the machine without the pins that have this number or a greater one
 abbrev pub own_closed : ℕ → Machine → Machine

@@ -4,6 +4,7 @@ use Rattle.dump_pump.specs.Outlets.{Outgoing}
 use Rattle.heap_step.specs.declared.Event.{Event}
 use Rattle.heap_trail.specs.declared.Action.TheVariants.{Step}
 use Rattle.heap_trail.specs.declared.Reply.{Reply}
+use Rattle.session_text.specs.declared.TheConstants.{LINE_LIMIT}
 use Rattle.session_text.specs.declared.command.Command.{Command}
 use Rattle.session_text.specs.declared.command.Command.TheVariants.{Ask}
 use Rattle.session_text.specs.declared.mutator.Quick.{Quick}
@@ -11,24 +12,26 @@ use Rattle.session_text.specs.declared.mutator.Quick.TheVariants.{No, Next, Faul
 use Rattle.session_text.specs.declared.mutator.Verb.{Verb}
 use Rattle.session_text.specs.declared.mutator.Verb.TheVariants.{Load, Store, Put, Move, Clear, New, Mark, Other}
 use Rattle.session_text.specs.Dumps.{Acts}
-use Rattle.session_text.specs.Grammar.{words_of, command_of_text, without_cr}
+use Rattle.session_text.specs.Grammar.{words_of_line, command_of_text, without_cr}
 use Rattle.session_text.specs.Lines.{NoLf, IsLineAt}
 use Rattle.session_text.specs.Replies.{reply_text}
-use Rattle.session_text.specs.Writes.{IsAdded}
+use Rattle.session_text.specs.Writes.{IsTextAdded}
 
 -- the line's words are this keyword and those from a place on
 abbrev pub Follows : List ℕ → List ℕ → ℕ → Type 0
-Follows key line at = words_of line ≡ key ∷ words_of (drop at line)
+Follows key line at = words_of_line line ≡ key ∷ words_of_line (drop at line)
 
 -- so it is with each line that begins as the text does up to that place, and no line ends before it
 abbrev pub FollowsIn : List ℕ → List ℕ → ℕ → Type 0
-FollowsIn key text at = (at ≤ length text) × NoLf (take at text) × ((n : ℕ) → at ≤ n → n ≤ length text → Follows key (take n text) at)
+FollowsIn key text at =
+    (at ≤ length text) × NoLf (take at text)
+    × ((n : ℕ) → at ≤ n → n ≤ length text → Follows key (take n text) at)
 
 -- the text's first line ends here, it isn't too long, and no CR ends it
 abbrev pub IsShortLine : ℕ → List ℕ → Type 0
-IsShortLine n text = IsLineAt n text × (n ≤ 4096) × (take n text ≡ without_cr (take n text))
+IsShortLine n text = IsLineAt n text × (n ≤ LINE_LIMIT) × (take n text ≡ without_cr (take n text))
 
--- what a verb says of a text
+-- the verb is that of a text's beginning
 abbrev pub IsVerb : List ℕ → Verb → Type 0
 IsVerb text Load = FollowsIn (codes "load") text 5
 IsVerb text Store = FollowsIn (codes "store") text 6
@@ -40,18 +43,25 @@ IsVerb text Mark = IsShortLine 4 text × (take 4 text ≡ codes "mark")
 IsVerb text Other = Unit {0}
 
 -- the event was done, and its reply was added
-abbrev pub IsDone : {S : Type 0} → Acts S → Event → S → List ℕ → Outgoing → S → List ℕ → Outgoing → Bool → Type 0
-IsDone acts e c page w c' page' w' added = (r : Reply) × acts c (Step e) r c' × IsAdded (reply_text r) page w page' w' added
+abbrev pub IsEventDone : {S : Type 0} → Acts S → Event → S → List ℕ → Outgoing → S → List ℕ
+    → Outgoing
+    → Bool → Type 0
+IsEventDone acts e c page w c' page' w' added =
+    (r : Reply) × acts c (Step e) r c' × IsTextAdded (reply_text r) page w page' w' added
 
 -- the line's command asks for an event, which was done, and its reply was added
-abbrev pub IsAsked : {S : Type 0} → Acts S → Command → S → List ℕ → Outgoing → S → List ℕ → Outgoing → Bool → Type 0
-IsAsked acts k c page w c' page' w' added = (e : Event) × (k ≡ Ask (Step e)) × IsDone acts e c page w c' page' w' added
+abbrev pub IsEventAsked : {S : Type 0} → Acts S → Command → S → List ℕ → Outgoing → S → List ℕ
+    → Outgoing
+    → Bool → Type 0
+IsEventAsked acts k c page w c' page' w' added =
+    (e : Event) × (k ≡ Ask (Step e)) × IsEventDone acts e c page w c' page' w' added
 
--- what has come of a line's command
-abbrev pub IsQuick : {S : Type 0} → Acts S → Command → S → List ℕ → Outgoing → S → List ℕ → Outgoing → Quick → Type 0
+-- the outcome of a fast reading of a line's command
+abbrev pub IsQuick : {S : Type 0} → Acts S → Command → S → List ℕ → Outgoing → S → List ℕ → Outgoing
+    → Quick → Type 0
 IsQuick acts k c page w c' page' w' No = (c' ≡ c) × (page' ≡ page) × (w' ≡ w)
-IsQuick acts k c page w c' page' w' Next = IsAsked acts k c page w c' page' w' true
-IsQuick acts k c page w c' page' w' Fault = IsAsked acts k c page w c' page' w' false
+IsQuick acts k c page w c' page' w' Next = IsEventAsked acts k c page w c' page' w' true
+IsQuick acts k c page w c' page' w' Fault = IsEventAsked acts k c page w c' page' w' false
 
 -- if a text's first line was answered, it ends here
 abbrev pub IsPassed : List ℕ → Quick → ℕ → Type 0
@@ -59,6 +69,8 @@ IsPassed text No n = Unit {0}
 IsPassed text Next n = IsShortLine n text
 IsPassed text Fault n = IsShortLine n text
 
--- what has come of a text's first line
-abbrev pub IsQuickIn : {S : Type 0} → Acts S → List ℕ → S → List ℕ → Outgoing → S → List ℕ → Outgoing → Quick × ℕ → Type 0
-IsQuickIn acts text c page w c' page' w' r = IsPassed text r.0 r.1 × IsQuick acts (command_of_text (take r.1 text)) c page w c' page' w' r.0
+-- the outcome of a fast reading of a text's first line
+abbrev pub IsQuickIn : {S : Type 0} → Acts S → List ℕ → S → List ℕ → Outgoing → S → List ℕ
+    → Outgoing → Quick × ℕ → Type 0
+IsQuickIn acts text c page w c' page' w' r =
+    IsPassed text r.0 r.1 × IsQuick acts (command_of_text (take r.1 text)) c page w c' page' w' r.0

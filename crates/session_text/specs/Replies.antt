@@ -1,4 +1,4 @@
--- The lines that a session answers.
+-- The lines of replies.
 use Rattle.std.specs.Prelude.{ℕ, zero, suc, List, [], ◌∷◌, ◌++◌, length, take, drop, flat_map, codes, decimal, Option, Some, None, if◌then◌else◌}
 use Rattle.byteorder.specs.Endian.{big_bytes}
 use Rattle.hex.specs.Hex.{encode_lower}
@@ -12,11 +12,14 @@ use Rattle.heap_step.specs.declared.Answer.TheVariants.{Class, Object, Null, Val
 use Rattle.heap_trail.specs.declared.Reply.{Reply}
 use Rattle.heap_trail.specs.declared.Reply.TheVariants.{Answered, Place, Pinned, Part, Closed, Refused}
 use Rattle.hprof_text.specs.declared.Piece.{Piece}
+use Rattle.session_text.specs.declared.commands.LineAnswer.{LineAnswer}
+use Rattle.session_text.specs.declared.commands.LineAnswer.TheVariants.{BadCommand, Known, Line, Number, Text}
 
 -- a space and a number
 abbrev pub and_number : ℕ → List ℕ
 and_number n = 32 ∷ decimal n
 
+-- the words of an event's answer
 abbrev pub answer_text : Answer → List ℕ
 answer_text (Class k) = codes "ok class" ++ and_number k
 answer_text (Object x) = codes "ok object 0x" ++ encode_lower (big_bytes 4 x)
@@ -25,14 +28,16 @@ answer_text (Value v) = codes "ok value" ++ and_number v
 answer_text Done = codes "ok"
 answer_text (Pushed n) = codes "ok pushed" ++ and_number n
 answer_text (Condemned n) = codes "ok condemned" ++ and_number n
-answer_text (Swept dead emptied) = (codes "ok swept" ++ and_number dead) ++ (if emptied then codes " empty" else [])
+answer_text (Swept dead emptied) =
+    (codes "ok swept" ++ and_number dead) ++ (if emptied then codes " empty" else [])
 
+-- the word of a cause
 abbrev pub cause_text : LostCause → List ℕ
 cause_text Rewound = codes "Rewound"
 cause_text Memory = codes "Memory"
 cause_text LostCause.Closed = codes "Closed"
 
--- what a refusal says beside its name
+-- the facts of a refusal beside its name
 abbrev pub facts_text : Refusal → List ℕ
 facts_text (NotDone gray undrained) = and_number gray ++ and_number undrained
 facts_text (SweepPending region) = and_number region
@@ -43,7 +48,8 @@ facts_text r = []
 
 -- the number and the name of a refusal, and its facts
 abbrev pub refusal_text : Refusal → List ℕ
-refusal_text r = ((codes "no" ++ and_number (refusal_number r)) ++ 32 ∷ refusal_name r) ++ facts_text r
+refusal_text r =
+    ((codes "no" ++ and_number (refusal_number r)) ++ 32 ∷ refusal_name r) ++ facts_text r
 
 -- a text and its LF
 abbrev pub line : List ℕ → List ℕ
@@ -67,11 +73,12 @@ data_lines bytes = flat_map data_line (chunks_of_64 (length bytes) bytes)
 
 -- ---- replies
 
--- the length of a piece that is the last, or isn't
+-- the size of a piece, which is the last or isn't
 abbrev pub piece_words : Piece → List ℕ
-piece_words piece = (if piece.last then codes "ok last" else codes "ok piece") ++ and_number (length piece.bytes)
+piece_words piece =
+    (if piece.last then codes "ok last" else codes "ok piece") ++ and_number (length piece.bytes)
 
--- what a reply prints on its last line, without its LF
+-- the last line of a reply, without its LF
 abbrev pub reply_words : Reply → List ℕ
 reply_words (Answered a) = answer_text a
 reply_words (Place p) = codes "ok place" ++ and_number p
@@ -80,7 +87,7 @@ reply_words (Part piece) = piece_words piece
 reply_words Closed = codes "ok"
 reply_words (Refused r) = refusal_text r
 
--- what a reply prints before its last line
+-- the lines of a reply before its last
 abbrev pub reply_data : Reply → List ℕ
 reply_data (Answered a) = []
 reply_data (Place p) = []
@@ -89,9 +96,17 @@ reply_data (Part piece) = data_lines piece.bytes
 reply_data Closed = []
 reply_data (Refused r) = []
 
--- what a reply prints
+-- the lines of a reply
 abbrev pub reply_text : Reply → List ℕ
 reply_text r = reply_data r ++ line (reply_words r)
+
+-- what is printed for a line that the grammar doesn't know
+abbrev pub line_answer_text : LineAnswer → List ℕ
+line_answer_text BadCommand = codes "bad command\n"
+line_answer_text (Known r) = reply_text r
+line_answer_text (Line text) = text.now
+line_answer_text (Number words n) = words.now ++ line (and_number n)
+line_answer_text (Text text) = text.items
 
 -- ---- what a dump takes from replies
 

@@ -1,4 +1,4 @@
--- A whole session over a machine of one's own: bytes in, bytes out.
+-- A whole session over a private machine: bytes in, bytes out.
 use Rattle.std.specs.Prelude.{◌≡◌, ℕ, zero, suc, ◌+◌, ◌≤◌, ◌⊎◌, Bool, true, false, ◌==◌, nat_lt, List, [], ◌∷◌, ◌++◌, length, codes, Option, Some, None, if◌then◌else◌}
 use Rattle.std.specs.List.{slice_split}
 use Rattle.std.specs.Io.KnownBytes.{Keeps}
@@ -6,15 +6,17 @@ use Rattle.dump_pump.specs.Outlets.{Outgoing}
 use Rattle.heap_trail.specs.declared.Action.{Action}
 use Rattle.heap_trail.specs.declared.Action.TheVariants.{OpenPin, NextPiece, ClosePin}
 use Rattle.heap_trail.specs.declared.Reply.{Reply}
-use Rattle.heap_trail.specs.Machine.{Machine, Mark, Fine, Refusing, MayStand, acted, acted_under}
+use Rattle.heap_trail.specs.Machine.{Machine, Allocation, Granted, Denied, MayStand, acted, acted_under}
 use Rattle.hprof_text.specs.declared.Piece.{Piece as GivenPiece}
 use Rattle.session_text.specs.declared.Ended.{Ended}
 use Rattle.session_text.specs.declared.Ended.TheVariants.{Quit, Eof, CutLine, TooLong, ReadFault, TooManyReads, WriteFault, NoMemory as NoRoom}
 use Rattle.session_text.specs.declared.ReadEnd.{ReadEnd}
 use Rattle.session_text.specs.declared.ReadEnd.TheVariants.{Over, Failed, Spent}
+use Rattle.session_text.specs.declared.TheConstants.{LINE_LIMIT}
 use Rattle.session_text.specs.declared.command.Command.{Command}
 use Rattle.session_text.specs.declared.command.Command.TheVariants.{Blank, Bad, Ask, Piece, Dump, DumpNow, End}
-use Rattle.session_text.specs.Dumps.{total_line, piece_limit}
+use Rattle.session_text.specs.Dumps.{total_line}
+use Rattle.dump_pump.specs.Sources.{part_limit}
 use Rattle.session_text.specs.Grammar.{command_of}
 use Rattle.session_text.specs.Inlets.{Incoming, whole}
 use Rattle.session_text.specs.Reads.{ActionTakesMemory}
@@ -22,31 +24,36 @@ use Rattle.session_text.specs.Replies.{reply_text, data_lines, piece_in, pin_in}
 use Rattle.session_text.specs.Talks.{IsLine, BeginsWith}
 use Rattle.session_text.specs.Writes.{IsCutShort}
 
--- a session between two lines: the machine, the marks of what is to come (none: fine), and what was written
+-- a session between two lines: the machine, the marks of what is to come (none: each action gets its memory), and the text
+-- written so far
 pub record Talk : Type 0 where
   pub machine : Machine
-  pub marks : List Mark
+  pub marks : List Allocation
   pub written : List ℕ
 
+-- the session with a text appended to what was written
 abbrev pub wrote : List ℕ → Talk → Talk
 wrote text t = record { machine = t.machine; marks = t.marks; written = t.written ++ text }
 
 -- the mark of what comes next, and the session without it
-abbrev pub mark_of : List Mark → Mark
-mark_of [] = Fine
-mark_of (k ∷ ks) = k
+abbrev pub allocation_of : List Allocation → Allocation
+allocation_of [] = Granted
+allocation_of (k ∷ ks) = k
 
-abbrev pub marks_after : List Mark → List Mark
-marks_after [] = []
-marks_after (k ∷ ks) = ks
+-- the marks without the first
+abbrev pub allocations_after : List Allocation → List Allocation
+allocations_after [] = []
+allocations_after (k ∷ ks) = ks
 
 -- ---- the answers of lines
 
 -- the session after an action, and its reply, of which nothing is written yet
 abbrev pub done_quietly : Action → Talk → Talk × Reply
-done_quietly a t = let r = acted_under t.machine (a, mark_of t.marks) in (record { machine = r.0; marks = marks_after t.marks; written = t.written }, r.1)
+done_quietly a t =
+    let r = acted_under t.machine (a, allocation_of t.marks) in
+    (record { machine = r.0; marks = allocations_after t.marks; written = t.written }, r.1)
 
--- an action; where its line found no memory it is as an action that found none
+-- the session after an action; if an allocation for its line failed, it is as an action that failed to get memory
 abbrev pub done : Action → Talk → Talk
 done a t = let r = done_quietly a t in wrote (reply_text r.1) r.0
 
@@ -54,39 +61,45 @@ done a t = let r = done_quietly a t in wrote (reply_text r.1) r.0
 abbrev pub after_reply : (Talk → ℕ → Talk) → ℕ → Reply → Option GivenPiece → Talk → Talk
 after_reply more so_far r (Some p) t =
     let n = so_far + length p.bytes in
-    if p.last then wrote (total_line n) (wrote (data_lines p.bytes) t) else more (wrote (data_lines p.bytes) t) n
+    if p.last then wrote (total_line n) (wrote (data_lines p.bytes) t)
+    else more (wrote (data_lines p.bytes) t) n
 after_reply more so_far r None t = wrote (reply_text r) t
 
--- at most so many pieces of a pin
-unfoldable pub dumped : ℕ → ℕ → ℕ → Talk → ℕ → Talk
-dumped zero pin time t so_far = t
-dumped (suc n) pin time t so_far = let r = done_quietly (NextPiece pin time) t in after_reply (dumped n pin time) so_far r.1 (piece_in r.1) r.0
+-- at most n pieces of a pin
+unfoldable pub pieces_dumped : ℕ → ℕ → ℕ → Talk → ℕ → Talk
+pieces_dumped zero pin time t so_far = t
+pieces_dumped (suc n) pin time t so_far =
+    let r = done_quietly (NextPiece pin time) t in
+    after_reply (pieces_dumped n pin time) so_far r.1 (piece_in r.1) r.0
 
--- the close of a pin, which takes no memory and so no mark
+-- the session after a pin is closed, which allocates nothing and so has no mark
 abbrev pub closed : ℕ → Talk → Talk
-closed pin t = record { machine = (acted t.machine (ClosePin pin)).0; marks = t.marks; written = t.written }
+closed pin t =
+    record { machine = (acted t.machine (ClosePin pin)).0; marks = t.marks; written = t.written }
 
 -- a dump of the current state after the reply to OpenPin
-abbrev pub after_open : ℕ → ℕ → Reply → Option ℕ → Talk → Talk
-after_open most time r (Some pin) t = closed pin (dumped most pin time t 0)
-after_open most time r None t = wrote (reply_text r) t
+abbrev pub after_open_reply : ℕ → ℕ → Reply → Option ℕ → Talk → Talk
+after_open_reply most time r (Some pin) t = closed pin (pieces_dumped most pin time t 0)
+after_open_reply most time r None t = wrote (reply_text r) t
 
--- after a command other than `end`, of a dump at most so many pieces
+-- after a command other than `end`, with at most `most` pieces of a dump
 abbrev pub after_up_to : ℕ → ℕ → Command → Talk → Talk
 after_up_to most time Blank t = t
 after_up_to most time Bad t = wrote (codes "bad command\n") t
 after_up_to most time (Ask a) t = done a t
 after_up_to most time (Piece pin) t = done (NextPiece pin time) t
-after_up_to most time (Dump pin) t = dumped most pin time t 0
-after_up_to most time DumpNow t = let r = done_quietly (OpenPin None) t in after_open most time r.1 (pin_in r.1) r.0
+after_up_to most time (Dump pin) t = pieces_dumped most pin time t 0
+after_up_to most time DumpNow t =
+    let r = done_quietly (OpenPin None) t in after_open_reply most time r.1 (pin_in r.1) r.0
 after_up_to most time End t = t
 
 -- ---- the session
 
 -- after a command other than `end`
 abbrev pub after_command : ℕ → Command → Talk → Talk
-after_command time k t = after_up_to piece_limit time k t
+after_command time k t = after_up_to part_limit time k t
 
+-- whether the command is `end`
 abbrev pub is_end : Command → Bool
 is_end End = true
 is_end Blank = false
@@ -107,96 +120,136 @@ at_end Over false t = (wrote (codes "bad cut\n") t, CutLine)
 at_end Failed none t = (wrote (codes "bad read\n") t, ReadFault)
 at_end Spent none t = (wrote (codes "bad reads\n") t, TooManyReads)
 
+-- after a line that is too long
 abbrev pub at_long : Talk → Talk × Ended
 at_long t = (wrote (codes "bad long\n") t, TooLong)
 
 -- the lines, of which the last has no LF
 abbrev pub talked : ℕ → ReadEnd → List (List ℕ) → Talk → Talk × Ended
 talked time e [] t = at_end e true t
-talked time e (rest ∷ []) t = if nat_lt 4096 (length rest) then at_long t else at_end e (length rest == 0) t
-talked time e (l ∷ m ∷ more) t = if nat_lt 4096 (length l) then at_long t else go_on (talked time e (m ∷ more)) time (command_of l) t
+talked time e (rest ∷ []) t =
+    if nat_lt LINE_LIMIT (length rest) then at_long t else at_end e (length rest == 0) t
+talked time e (l ∷ m ∷ more) t =
+    if nat_lt LINE_LIMIT (length l) then at_long t
+    else go_on (talked time e (m ∷ more)) time (command_of l) t
 
 -- the session's end, from the machine at its start, the marks, the bytes read and how reading ended
-unfoldable pub session_of : Machine → List Mark → ℕ → List ℕ → ReadEnd → Talk × Ended
-session_of m marks time bytes e = talked time e (slice_split (λ b. b == 10) bytes) (record { machine = m; marks = marks; written = [] })
+unfoldable pub session_of : Machine → List Allocation → ℕ → List ℕ → ReadEnd → Talk × Ended
+session_of m marks time bytes e =
+    talked time e (slice_split (λ b. b == 10) bytes)
+    (record { machine = m; marks = marks; written = [] })
 
 -- ---- which marks may stand
 
 -- the next mark may stand beside this action
-abbrev pub Fits : Action → Talk → Type 0
-Fits a t = MayStand t.machine (a, mark_of t.marks)
+abbrev pub FitsAction : Action → Talk → Type 0
+FitsAction a t = MayStand t.machine (a, allocation_of t.marks)
 
--- in the rest of a dump, after the reply to NextPiece
+-- the marks may stand in the rest of a dump, after the reply to NextPiece
 abbrev pub FitsRest : (Talk → ℕ → Type 0) → ℕ → Option GivenPiece → Talk → Type 0
-FitsRest more so_far (Some p) t = p.last ≡ false → more (wrote (data_lines p.bytes) t) (so_far + length p.bytes)
+FitsRest more so_far (Some p) t =
+    p.last ≡ false → more (wrote (data_lines p.bytes) t) (so_far + length p.bytes)
 FitsRest more so_far None t = Unit {0}
 
--- in a dump
+-- the marks may stand in a dump
 unfoldable pub FitsDump : ℕ → ℕ → ℕ → Talk → ℕ → Type 0
 FitsDump zero pin time t so_far = Unit {0}
-FitsDump (suc n) pin time t so_far = let r = done_quietly (NextPiece pin time) t in Fits (NextPiece pin time) t × FitsRest (FitsDump n pin time) so_far (piece_in r.1) r.0
+FitsDump (suc n) pin time t so_far =
+    let r = done_quietly (NextPiece pin time) t in
+    FitsAction (NextPiece pin time) t × FitsRest (FitsDump n pin time) so_far (piece_in r.1) r.0
 
--- in a dump of the current state, after the reply to OpenPin
+-- the marks may stand in a dump of the current state, after the reply to OpenPin
 abbrev pub FitsOpen : ℕ → Option ℕ → Talk → Type 0
-FitsOpen time (Some pin) t = FitsDump piece_limit pin time t 0
+FitsOpen time (Some pin) t = FitsDump part_limit pin time t 0
 FitsOpen time None t = Unit {0}
 
--- the mark of an action may stand beside it, or it refuses a line whose reading takes memory
+-- the mark of an action may stand beside it, or it refuses a line whose reading allocates
 abbrev pub FitsCommand : ℕ → Command → Talk → Type 0
 FitsCommand time Blank t = Unit {0}
 FitsCommand time Bad t = Unit {0}
-FitsCommand time (Ask a) t = Fits a t ⊎ (ActionTakesMemory a × (mark_of t.marks ≡ Refusing))
-FitsCommand time (Piece pin) t = Fits (NextPiece pin time) t
-FitsCommand time (Dump pin) t = FitsDump piece_limit pin time t 0
-FitsCommand time DumpNow t = let r = done_quietly (OpenPin None) t in Fits (OpenPin None) t × FitsOpen time (pin_in r.1) r.0
+FitsCommand time (Ask a) t =
+    FitsAction a t ⊎ (ActionTakesMemory a × (allocation_of t.marks ≡ Denied))
+FitsCommand time (Piece pin) t = FitsAction (NextPiece pin time) t
+FitsCommand time (Dump pin) t = FitsDump part_limit pin time t 0
+FitsCommand time DumpNow t =
+    let r =
+    done_quietly (OpenPin None) t in
+    FitsAction (OpenPin None) t × FitsOpen time (pin_in r.1) r.0
 FitsCommand time End t = Unit {0}
 
+-- the marks may stand in the answers of these lines
 abbrev pub FitLines : ℕ → List (List ℕ) → Talk → Type 0
 FitLines time [] t = Unit {0}
 FitLines time (rest ∷ []) t = Unit {0}
-FitLines time (l ∷ m ∷ more) t = FitsCommand time (command_of l) t × FitLines time (m ∷ more) (after_command time (command_of l) t)
+FitLines time (l ∷ m ∷ more) t =
+    FitsCommand time (command_of l) t
+    × FitLines time (m ∷ more) (after_command time (command_of l) t)
 
 -- the marks may stand in the session of these bytes
-abbrev pub MarksFit : Machine → List Mark → ℕ → List ℕ → Type 0
-MarksFit m marks time bytes = FitLines time (slice_split (λ b. b == 10) bytes) (record { machine = m; marks = marks; written = [] })
+abbrev pub AllocationsFit : Machine → List Allocation → ℕ → List ℕ → Type 0
+AllocationsFit m marks time bytes =
+    FitLines time (slice_split (λ b. b == 10) bytes)
+    (record { machine = m; marks = marks; written = [] })
 
--- ---- what of it is shown
+-- ---- the output of a session
 
 -- all marks are used up, this was written, and the machine is so
-abbrev pub Shows : Machine → List Mark → ℕ → List ℕ → ReadEnd → List ℕ → Machine → Ended → Type 0
-Shows m marks time bytes e out m' ended = session_of m marks time bytes e ≡ (record { machine = m'; marks = []; written = out }, ended)
+abbrev pub ShowsSession : Machine → List Allocation → ℕ → List ℕ → ReadEnd → List ℕ → Machine
+    → Ended → Type 0
+ShowsSession m marks time bytes e out m' ended =
+    session_of m marks time bytes e ≡ (record { machine = m'; marks = []; written = out }, ended)
 
 -- the next line was acted on, a dump up to some piece, and the text with its answer was cut short
 abbrev pub CutsLine : ℕ → List ℕ → Talk → List ℕ → Machine → Type 0
 CutsLine time rest t out m' =
-    (l : List ℕ) × BeginsWith l rest × (pieces : ℕ) × (pieces ≤ piece_limit)
-    × (m' ≡ (after_up_to pieces time (command_of l) t).machine) × IsCutShort (after_up_to pieces time (command_of l) t).written [] out
+    (l : List ℕ) × BeginsWith l rest × (pieces : ℕ) × (pieces ≤ part_limit)
+    × (m' ≡ (after_up_to pieces time (command_of l) t).machine)
+    × IsCutShort (after_up_to pieces time (command_of l) t).written [] out
 
 -- all lines were answered, and the text with what the ending prints was cut short
-abbrev pub CutsEnd : Machine → List Mark → ℕ → List ℕ → ReadEnd → Talk → List ℕ → Machine → Type 0
-CutsEnd m marks time bytes e t out m' = (whole : List ℕ) × (ended : Ended) × Shows m marks time bytes e whole m' ended × (m' ≡ t.machine) × IsCutShort whole [] out
+abbrev pub CutsEnd : Machine → List Allocation → ℕ → List ℕ → ReadEnd → Talk → List ℕ → Machine
+    → Type 0
+CutsEnd m marks time bytes e t out m' =
+    (whole : List ℕ) × (ended : Ended) × ShowsSession m marks time bytes e whole m' ended
+    × (m' ≡ t.machine) × IsCutShort whole [] out
 
 -- no whole line was left, and the text was cut short before a read
 abbrev pub CutsPage : List ℕ → Talk → List ℕ → Machine → Type 0
 CutsPage rest t out m' = IsLine rest × (m' ≡ t.machine) × IsCutShort t.written [] out
 
 -- the lines at the front of the bytes were acted on and left t, and the text was cut in their answers or behind them
-abbrev pub StopsAfter : Machine → List Mark → ℕ → List ℕ → ReadEnd → List ℕ → Machine → Type 0
+abbrev pub StopsAfter : Machine → List Allocation → ℕ → List ℕ → ReadEnd → List ℕ → Machine → Type 0
 StopsAfter m marks time bytes e out m' =
-    (lines : List ℕ) × (rest : List ℕ) × (t : Talk) × (bytes ≡ lines ++ rest) × (session_of m marks time lines Over ≡ (t, Eof))
-    × (CutsLine time rest t out m' ⊎ (CutsEnd m marks time bytes e t out m' ⊎ CutsPage rest t out m'))
+    (lines : List ℕ) × (rest : List ℕ) × (t : Talk) × (bytes ≡ lines ++ rest)
+    × (session_of m marks time lines Over ≡ (t, Eof))
+    × (CutsLine time rest t out m'
+    ⊎ (CutsEnd m marks time bytes e t out m' ⊎ CutsPage rest t out m'))
 
-abbrev pub IsShown : Machine → List Mark → ℕ → List ℕ → List ℕ → Machine → Ended → Type 0
-IsShown m marks time bytes out m' Quit = (e : ReadEnd) → Shows m marks time bytes e out m' Quit
-IsShown m marks time bytes out m' Eof = Shows m marks time bytes Over out m' Eof
-IsShown m marks time bytes out m' CutLine = Shows m marks time bytes Over out m' CutLine
-IsShown m marks time bytes out m' TooLong = (e : ReadEnd) → Shows m marks time bytes e out m' TooLong
-IsShown m marks time bytes out m' ReadFault = Shows m marks time bytes Failed out m' ReadFault
-IsShown m marks time bytes out m' TooManyReads = Shows m marks time bytes Spent out m' TooManyReads
-IsShown m marks time bytes out m' WriteFault = (e : ReadEnd) × IsCutShort (session_of m marks time bytes e).0.written [] out × StopsAfter m marks time bytes e out m'
-IsShown m marks time bytes out m' NoRoom = (bytes ≡ []) × (out ≡ []) × (m' ≡ m)
+-- the output and the machine are those of the session, or a beginning of the output if a write failed
+abbrev pub IsSessionShown : Machine → List Allocation → ℕ → List ℕ → List ℕ → Machine → Ended
+    → Type 0
+IsSessionShown m marks time bytes out m' Quit =
+    (e : ReadEnd) → ShowsSession m marks time bytes e out m' Quit
+IsSessionShown m marks time bytes out m' Eof = ShowsSession m marks time bytes Over out m' Eof
+IsSessionShown m marks time bytes out m' CutLine =
+    ShowsSession m marks time bytes Over out m' CutLine
+IsSessionShown m marks time bytes out m' TooLong =
+    (e : ReadEnd) → ShowsSession m marks time bytes e out m' TooLong
+IsSessionShown m marks time bytes out m' ReadFault =
+    ShowsSession m marks time bytes Failed out m' ReadFault
+IsSessionShown m marks time bytes out m' TooManyReads =
+    ShowsSession m marks time bytes Spent out m' TooManyReads
+IsSessionShown m marks time bytes out m' WriteFault =
+    (e : ReadEnd) × IsCutShort (session_of m marks time bytes e).0.written [] out
+    × StopsAfter m marks time bytes e out m'
+IsSessionShown m marks time bytes out m' NoRoom = (bytes ≡ []) × (out ≡ []) × (m' ≡ m)
 
--- the bytes taken (those that the reader tells, where it tells them) and the bytes put out, for some marks of refused memory that
--- may stand there
-abbrev pub IsSession : Machine → ℕ → Incoming → Incoming → Outgoing → Outgoing → Machine → Ended → Type 0
-IsSession m time a b w w' m' ended = (bytes : List ℕ) × (out : List ℕ) × (marks : List Mark) × MarksFit m marks time bytes × (b.taken ≡ a.taken ++ bytes) × Keeps (whole a) (whole b) × (w'.out ≡ w.out ++ out) × IsShown m marks time bytes out m' ended
+-- the bytes taken (those that the reader tells, if it tells them) and the bytes put out, for some marks of failed allocations
+-- that may stand there
+abbrev pub IsSession : Machine → ℕ → Incoming → Incoming → Outgoing → Outgoing → Machine → Ended
+    → Type 0
+IsSession m time a b w w' m' ended =
+    (bytes : List ℕ) × (out : List ℕ) × (marks : List Allocation)
+    × AllocationsFit m marks time bytes
+    × (b.taken ≡ a.taken ++ bytes) × Keeps (whole a) (whole b) × (w'.out ≡ w.out ++ out)
+    × IsSessionShown m marks time bytes out m' ended

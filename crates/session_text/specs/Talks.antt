@@ -1,132 +1,193 @@
--- Sessions: the lines that were read, and the texts that were written for them.
+-- Sessions: the lines that were read, and the texts written for them.
 use Rattle.std.specs.Prelude.{◌≡◌, ℕ, ◌+◌, ◌≤◌, ◌<◌, ◌⊎◌, true, false, List, [], ◌∷◌, ◌++◌, take, length, flat_map, codes, All, Option, Some, None}
 use Rattle.std.specs.Io.KnownBytes.{Keeps}
 use Rattle.dump_pump.specs.Outlets.{Outgoing}
 use Rattle.session_text.specs.declared.Ended.{Ended}
 use Rattle.session_text.specs.declared.Ended.TheVariants.{Quit, Eof, CutLine, TooLong, ReadFault, TooManyReads, WriteFault, NoMemory}
+use Rattle.session_text.specs.declared.TheConstants.{LINE_LIMIT, READ_LIMIT}
 use Rattle.session_text.specs.declared.answer.Step.{Step}
 use Rattle.session_text.specs.declared.answer.Step.TheVariants.{Next, Quit as Stop, Long, Fault}
 use Rattle.session_text.specs.declared.command.Command.{Command}
 use Rattle.session_text.specs.declared.command.Command.TheVariants.{End}
-use Rattle.session_text.specs.Answers.{Says}
+use Rattle.session_text.specs.Answers.{Reaction, AnswerRelation}
 use Rattle.session_text.specs.Grammar.{command_of}
 use Rattle.session_text.specs.Inlets.{Incoming, NothingLeft, whole}
 use Rattle.session_text.specs.Lines.{NoLf}
-use Rattle.session_text.specs.Writes.{IsWritten, IsAdded}
+use Rattle.session_text.specs.Writes.{IsTextWritten, IsTextAdded}
 
 -- a line without its LF, or the beginning of one
 pub record IsLine (l : List ℕ) : Type 0 where
-  pub most : length l ≤ 4096
+  pub most : length l ≤ LINE_LIMIT
   pub no_lf : NoLf l
 
 -- bytes that begin with a line that is too long, or with the beginning of one
 abbrev pub IsLong : List ℕ → Type 0
-IsLong rest = (4096 < length rest) × NoLf (take 4097 rest)
+IsLong rest = (LINE_LIMIT < length rest) × NoLf (take (LINE_LIMIT + 1) rest)
 
 -- ---- lines
 
 -- each line in turn, and the texts of their answers in order
-abbrev pub Talks : {S : Type 0} → Says S → List (List ℕ) → S → List ℕ → S → Type 0
-Talks says [] c text c' = (text ≡ []) × (c' ≡ c)
-Talks {S} says (l ∷ ls) c text c' = (first : List ℕ) × (between : S) × (more : List ℕ) × IsLine l × says (command_of l) c first between × Talks says ls between more c' × (text ≡ first ++ more)
+abbrev pub AnswersAll : {S : Type 0} → AnswerRelation S → List (List ℕ) → S → List ℕ → S → Type 0
+AnswersAll says [] c text c' = (text ≡ []) × (c' ≡ c)
+AnswersAll {S} says (l ∷ ls) c text c' =
+    (first : List ℕ) × (between : S) × (more : List ℕ) × IsLine l × says l c first between
+    × AnswersAll says ls between more c' × (text ≡ first ++ more)
 
 -- the lines as they came
 abbrev pub stream : List (List ℕ) → List ℕ
 stream ls = flat_map (λ l. l ++ 10 ∷ []) ls
 
 -- the bytes are lines, all answered, and then `rest`
-pub record IsTalk {S : Type 0} (says : Says S) (bytes : List ℕ) (c : S) (rest text : List ℕ) (c' : S) : Type 0 where
+pub record IsTalk {S : Type 0} (says : AnswerRelation S) (bytes : List ℕ) (c : S)
+    (rest text : List ℕ)
+    (c' : S) : Type 0 where
   pub lines : List (List ℕ)
   pub are : bytes ≡ stream lines ++ rest
-  pub talks : Talks says lines c text c'
+  pub talks : AnswersAll says lines c text c'
 
 -- bytes that begin with this line
 abbrev pub BeginsWith : List ℕ → List ℕ → Type 0
 BeginsWith l bytes = IsLine l × (more : List ℕ) × (bytes ≡ l ++ 10 ∷ more)
 
+-- bytes that begin with the line `end`
 abbrev pub IsQuit : List ℕ → Type 0
 IsQuit rest = (l : List ℕ) × BeginsWith l rest × (command_of l ≡ End)
 
 -- the next line was acted on, and a text that was to be put out before its answer, and the answer, were cut short
-abbrev pub IsBrokenOff : {S : Type 0} → Says S → List ℕ → List ℕ → S → Outgoing → S → Outgoing → Type 0
-IsBrokenOff begins text rest c w c' w' = (l : List ℕ) × (tail : List ℕ) × BeginsWith l rest × begins (command_of l) c tail c' × IsWritten (text ++ tail) w w' false
+abbrev pub IsBrokenOff : {S : Type 0} → AnswerRelation S → List ℕ → List ℕ → S → Outgoing → S
+    → Outgoing
+    → Type 0
+IsBrokenOff begins text rest c w c' w' =
+    (l : List ℕ) × (tail : List ℕ) × BeginsWith l rest × begins l c tail c'
+    × IsTextWritten (text ++ tail) w w' false
 
 -- ---- one line, and all whole lines of a buffer
 
-abbrev pub IsStep : {S : Type 0} → Says S → Says S → Command → S → List ℕ → Outgoing → S → List ℕ → Outgoing → Step → Type 0
-IsStep says begins k c page w c' page' w' Next = (text : List ℕ) × says k c text c' × IsAdded text page w page' w' true
-IsStep says begins k c page w c' page' w' Stop = (k ≡ End) × (c' ≡ c) × (page' ≡ page) × (w' ≡ w)
-IsStep says begins k c page w c' page' w' Long = ⊥
-IsStep says begins k c page w c' page' w' Fault = (text : List ℕ) × begins k c text c' × IsAdded text page w page' w' false
+-- a line's command was answered, and the answer added to a page
+abbrev pub IsSessionStep : {S : Type 0} → Reaction S → Reaction S → Command → S → List ℕ → Outgoing
+    → S
+    → List ℕ → Outgoing → Step → Type 0
+IsSessionStep says begins k c page w c' page' w' Next =
+    (text : List ℕ) × says c text c' × IsTextAdded text page w page' w' true
+IsSessionStep says begins k c page w c' page' w' Stop =
+    (k ≡ End) × (c' ≡ c) × (page' ≡ page) × (w' ≡ w)
+IsSessionStep says begins k c page w c' page' w' Long = ⊥
+IsSessionStep says begins k c page w c' page' w' Fault =
+    (text : List ℕ) × begins c text c' × IsTextAdded text page w page' w' false
 
--- the page was empty before
-abbrev pub IsAnswered : {S : Type 0} → Says S → Says S → List ℕ → S → Outgoing → List ℕ → S → List ℕ → Outgoing → Step → Type 0
-IsAnswered says begins bytes c w rest c' page' w' Next = (text : List ℕ) × IsTalk says bytes c rest text c' × IsLine rest × IsAdded text [] w page' w' true
-IsAnswered says begins bytes c w rest c' page' w' Stop = (text : List ℕ) × IsTalk says bytes c rest text c' × IsQuit rest × IsAdded text [] w page' w' true
-IsAnswered says begins bytes c w rest c' page' w' Long = (text : List ℕ) × IsTalk says bytes c rest text c' × IsLong rest × IsAdded text [] w page' w' true
-IsAnswered {S} says begins bytes c w rest c' page' w' Fault =
-    (left : List ℕ) × (text : List ℕ) × (between : S) × IsTalk says bytes c left text between × IsBrokenOff begins text left between w c' w'
+-- all whole lines of a buffer were answered up to a stop, over an empty page
+abbrev pub AreLinesAnswered : {S : Type 0} → AnswerRelation S → AnswerRelation S → List ℕ → S
+    → Outgoing → List ℕ → S → List ℕ
+    → Outgoing → Step → Type 0
+AreLinesAnswered says begins bytes c w rest c' page' w' Next =
+    (text : List ℕ) × IsTalk says bytes c rest text c' × IsLine rest
+    × IsTextAdded text [] w page' w' true
+AreLinesAnswered says begins bytes c w rest c' page' w' Stop =
+    (text : List ℕ) × IsTalk says bytes c rest text c' × IsQuit rest
+    × IsTextAdded text [] w page' w' true
+AreLinesAnswered says begins bytes c w rest c' page' w' Long =
+    (text : List ℕ) × IsTalk says bytes c rest text c' × IsLong rest
+    × IsTextAdded text [] w page' w' true
+AreLinesAnswered {S} says begins bytes c w rest c' page' w' Fault =
+    (left : List ℕ) × (text : List ℕ) × (between : S) × IsTalk says bytes c left text between
+    × IsBrokenOff begins text left between w c' w'
 
 -- the first line of some bytes, if it is whole: it is answered, or it is left and nothing has changed
-abbrev pub IsFirst : {S : Type 0} → Says S → Says S → List ℕ → S → List ℕ → Outgoing → List ℕ → S → List ℕ → Outgoing → Option Step → Type 0
-IsFirst says begins bytes c page w rest c' page' w' None = (rest ≡ bytes) × IsLine rest × (c' ≡ c) × (page' ≡ page) × (w' ≡ w)
-IsFirst says begins bytes c page w rest c' page' w' (Some Next) = (length rest < length bytes) × (text : List ℕ) × IsTalk says bytes c rest text c' × IsAdded text page w page' w' true
-IsFirst says begins bytes c page w rest c' page' w' (Some Stop) = (rest ≡ bytes) × IsQuit rest × (c' ≡ c) × (page' ≡ page) × (w' ≡ w)
-IsFirst says begins bytes c page w rest c' page' w' (Some Long) = (rest ≡ bytes) × IsLong rest × (c' ≡ c) × (page' ≡ page) × (w' ≡ w)
-IsFirst says begins bytes c page w rest c' page' w' (Some Fault) = (l : List ℕ) × (tail : List ℕ) × BeginsWith l bytes × begins (command_of l) c tail c' × IsAdded tail page w page' w' false
+abbrev pub IsFirst : {S : Type 0} → AnswerRelation S → AnswerRelation S → List ℕ → S → List ℕ
+    → Outgoing → List ℕ → S
+    → List ℕ → Outgoing → Option Step → Type 0
+IsFirst says begins bytes c page w rest c' page' w' None =
+    (rest ≡ bytes) × IsLine rest × (c' ≡ c) × (page' ≡ page) × (w' ≡ w)
+IsFirst says begins bytes c page w rest c' page' w' (Some Next) =
+    (length rest < length bytes) × (text : List ℕ) × IsTalk says bytes c rest text c'
+    × IsTextAdded text page w page' w' true
+IsFirst says begins bytes c page w rest c' page' w' (Some Stop) =
+    (rest ≡ bytes) × IsQuit rest × (c' ≡ c) × (page' ≡ page) × (w' ≡ w)
+IsFirst says begins bytes c page w rest c' page' w' (Some Long) =
+    (rest ≡ bytes) × IsLong rest × (c' ≡ c) × (page' ≡ page) × (w' ≡ w)
+IsFirst says begins bytes c page w rest c' page' w' (Some Fault) =
+    (l : List ℕ) × (tail : List ℕ) × BeginsWith l bytes × begins l c tail c'
+    × IsTextAdded tail page w page' w' false
 
 -- ---- endings
 
--- what an ending says of the bytes behind the last line that was answered, of the reader, and what it prints
-abbrev pub Closes : List ℕ → Incoming → Incoming → Ended → List ℕ → Type 0
-Closes rest a b Quit tail = IsQuit rest × (tail ≡ []) × (b.failures ≡ a.failures)
-Closes rest a b Eof tail = (rest ≡ []) × NothingLeft b × (tail ≡ []) × (b.failures ≡ a.failures)
-Closes rest a b CutLine tail = IsLine rest × (0 < length rest) × NothingLeft b × (tail ≡ codes "bad cut\n") × (b.failures ≡ a.failures)
-Closes rest a b TooLong tail = IsLong rest × (tail ≡ codes "bad long\n") × (b.failures ≡ a.failures)
-Closes rest a b ReadFault tail = IsLine rest × (tail ≡ codes "bad read\n") × (b.failures ≡ a.failures + 1)
-Closes rest a b TooManyReads tail = IsLine rest × (length b.reads ≡ length a.reads + 1000000) × (tail ≡ codes "bad reads\n") × (b.failures ≡ a.failures)
-Closes rest a b WriteFault tail = ⊥
-Closes rest a b NoMemory tail = ⊥
+-- the condition of an ending on the bytes behind the last line that was answered and on the reader, and the line that it
+-- prints
+abbrev pub EndsCleanly : List ℕ → Incoming → Incoming → Ended → List ℕ → Type 0
+EndsCleanly rest a b Quit tail = IsQuit rest × (tail ≡ []) × (b.failures ≡ a.failures)
+EndsCleanly rest a b Eof tail =
+    (rest ≡ []) × NothingLeft b × (tail ≡ []) × (b.failures ≡ a.failures)
+EndsCleanly rest a b CutLine tail =
+    IsLine rest × (0 < length rest) × NothingLeft b × (tail ≡ codes "bad cut\n")
+    × (b.failures ≡ a.failures)
+EndsCleanly rest a b TooLong tail =
+    IsLong rest × (tail ≡ codes "bad long\n") × (b.failures ≡ a.failures)
+EndsCleanly rest a b ReadFault tail =
+    IsLine rest × (tail ≡ codes "bad read\n") × (b.failures ≡ a.failures + 1)
+EndsCleanly rest a b TooManyReads tail =
+    IsLine rest × (length b.reads ≡ length a.reads + READ_LIMIT) × (tail ≡ codes "bad reads\n")
+    × (b.failures ≡ a.failures)
+EndsCleanly rest a b WriteFault tail = ⊥
+EndsCleanly rest a b NoMemory tail = ⊥
 
 -- all whole lines were answered, and their texts were to be put out before the next read
-abbrev pub Waits : {S : Type 0} → List ℕ → List ℕ → Incoming → Incoming → S → Outgoing → S → Outgoing → Type 0
-Waits text rest a b c w c' w' = IsLine rest × (b.failures ≡ a.failures) × (c' ≡ c) × IsWritten text w w' false
+abbrev pub Waits : {S : Type 0} → List ℕ → List ℕ → Incoming → Incoming → S → Outgoing → S
+    → Outgoing → Type 0
+Waits text rest a b c w c' w' =
+    IsLine rest × (b.failures ≡ a.failures) × (c' ≡ c) × IsTextWritten text w w' false
 
 -- a write failed in a text or behind it: with the answer of the next line, with what an ending prints, or before a read
-abbrev pub Breaks : {S : Type 0} → Says S → List ℕ → List ℕ → Incoming → Incoming → S → Outgoing → S → Outgoing → Type 0
-Breaks begins text rest a b c w c' w' =
+abbrev pub FailsWhileWriting : {S : Type 0} → AnswerRelation S → List ℕ → List ℕ → Incoming
+    → Incoming → S → Outgoing → S
+    → Outgoing → Type 0
+FailsWhileWriting begins text rest a b c w c' w' =
     (IsBrokenOff begins text rest c w c' w' × (b.failures ≡ a.failures))
-    ⊎ (((ended : Ended) × (tail : List ℕ) × Closes rest a b ended tail × (c' ≡ c) × IsWritten (text ++ tail) w w' false)
+    ⊎ (((ended : Ended) × (tail : List ℕ) × EndsCleanly rest a b ended tail × (c' ≡ c)
+    × IsTextWritten (text ++ tail) w w' false)
     ⊎ Waits text rest a b c w c' w')
 
 -- some whole lines were answered, and a write failed in their texts or behind them
-abbrev pub Fails : {S : Type 0} → Says S → Says S → List ℕ → Incoming → Incoming → S → Outgoing → S → Outgoing → Type 0
-Fails {S} says begins bytes a b c w c' w' =
-    (rest : List ℕ) × (text : List ℕ) × (between : S) × IsTalk says bytes c rest text between × Breaks begins text rest a b between w c' w'
+abbrev pub IsTruncatedRun : {S : Type 0} → AnswerRelation S → AnswerRelation S → List ℕ → Incoming
+    → Incoming → S → Outgoing → S
+    → Outgoing → Type 0
+IsTruncatedRun {S} says begins bytes a b c w c' w' =
+    (rest : List ℕ) × (text : List ℕ) × (between : S) × IsTalk says bytes c rest text between
+    × FailsWhileWriting begins text rest a b between w c' w'
 
 -- the last read took `last`. Each read earlier took some bytes; when the last one was made, all whole lines of the bytes
 -- before were answered, their texts were out, and a line's beginning was left
-pub record IsLastRead {S : Type 0} (says : Says S) (before last : List ℕ) (a b : Incoming) (c : S) (w : Outgoing) (rest : List ℕ) (c' : S) (w' : Outgoing) : Type 0 where
+pub record IsLastRead {S : Type 0} (says : AnswerRelation S) (before last : List ℕ) (a b : Incoming)
+    (c : S)
+    (w : Outgoing) (rest : List ℕ) (c' : S) (w' : Outgoing) : Type 0 where
   pub earlier : List ℕ
   pub text : List ℕ
   pub reads : b.reads ≡ a.reads ++ (earlier ++ length last ∷ [])
   pub each : All (λ n. 0 < n) earlier
   pub talk : IsTalk says before c rest text c'
   pub line : IsLine rest
-  pub written : IsWritten text w w' true
+  pub written : IsTextWritten text w w' true
 
 -- ---- whole sessions
 
 -- the bytes read, the commands and the writer before and after, and the ending
-abbrev pub IsServed : {S : Type 0} → Says S → Says S → List ℕ → Incoming → Incoming → S → Outgoing → S → Outgoing → Ended → Type 0
-IsServed {S} says begins bytes a b c w c' w' WriteFault =
+abbrev pub IsSessionServed : {S : Type 0} → AnswerRelation S → AnswerRelation S → List ℕ → Incoming
+    → Incoming → S → Outgoing
+    → S → Outgoing → Ended → Type 0
+IsSessionServed {S} says begins bytes a b c w c' w' WriteFault =
     (before : List ℕ) × (last : List ℕ) × (rest : List ℕ) × (c1 : S) × (w1 : Outgoing)
-    × (bytes ≡ before ++ last) × IsLastRead says before last a b c w rest c1 w1 × Fails says begins (rest ++ last) a b c1 w1 c' w'
-IsServed says begins bytes a b c w c' w' NoMemory = (bytes ≡ []) × (b ≡ a) × (c' ≡ c) × (w' ≡ w)
-IsServed says begins bytes a b c w c' w' ended =
+    × (bytes ≡ before ++ last) × IsLastRead says before last a b c w rest c1 w1
+    × IsTruncatedRun says begins (rest ++ last) a b c1 w1 c' w'
+IsSessionServed says begins bytes a b c w c' w' NoMemory =
+    (bytes ≡ []) × (b ≡ a) × (c' ≡ c) × (w' ≡ w)
+IsSessionServed says begins bytes a b c w c' w' ended =
     (rest : List ℕ) × (text : List ℕ) × (tail : List ℕ)
-    × IsTalk says bytes c rest text c' × Closes rest a b ended tail × IsWritten (text ++ tail) w w' true
+    × IsTalk says bytes c rest text c' × EndsCleanly rest a b ended tail
+    × IsTextWritten (text ++ tail) w w' true
 
 -- what `serve` does
-abbrev pub Serves : {S : Type 0} → Says S → Says S → Incoming → Incoming → S → Outgoing → S → Outgoing → Ended → Type 0
-Serves says begins a b c w c' w' ended = (bytes : List ℕ) × (b.taken ≡ a.taken ++ bytes) × Keeps (whole a) (whole b) × IsServed says begins bytes a b c w c' w' ended
+abbrev pub Serves : {S : Type 0} → AnswerRelation S → AnswerRelation S → Incoming → Incoming → S
+    → Outgoing → S
+    → Outgoing → Ended → Type 0
+Serves says begins a b c w c' w' ended =
+    (bytes : List ℕ) × (b.taken ≡ a.taken ++ bytes) × Keeps (whole a) (whole b)
+    × IsSessionServed says begins bytes a b c w c' w' ended

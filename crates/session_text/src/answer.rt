@@ -1,25 +1,26 @@
 //! Lines and their answers.
-ghost use Rattle.std.specs.Prelude.{◌≡◌, ◌≤◌, length, [], true};
+ghost use Rattle.std.specs.Prelude.{◌≡◌, ◌≤◌, ℕ, List, length, [], true};
 ghost use Rattle.heap_step.specs.declared.Answer.TheVariants.{Done};
 ghost use Rattle.heap_trail.specs.declared.Reply.TheVariants.{Answered};
-ghost use Rattle.session_text.specs.Answers.{Answers, Begins};
+ghost use Rattle.session_text.specs.Answers.{AnswersCommand, Begins, AnswersTo, BeginsTo};
 ghost use Rattle.session_text.specs.Endings.{step_of};
 ghost use Rattle.session_text.specs.Grammar.{command_of, command_of_text};
 ghost use Rattle.heap_trail.specs.declared.Reply.{Reply};
-ghost use Rattle.session_text.specs.Replies.{reply_text};
-ghost use Rattle.session_text.specs.Talks.{IsFirst, IsStep, IsAnswered};
-ghost use Rattle.session_text.specs.Writes.{IsAdded};
+ghost use Rattle.session_text.specs.Replies.{line_answer_text, reply_text};
+ghost use Rattle.session_text.specs.Talks.{IsFirst, IsSessionStep, AreLinesAnswered};
+ghost use Rattle.session_text.specs.Writes.{IsTextAdded};
+ghost use Rattle.session_text.specs.declared.TheConstants.{LINE_LIMIT};
 
 use crate::LINE_LIMIT;
 use crate::buffer::Buffer;
 use crate::command::{Command, command_of_text, without_cr};
-use crate::commands::Commands;
+use crate::commands::{Commands, LineAnswer};
 use crate::dump::{write_dump, write_dump_now};
-use crate::marks::FieldMarks;
 use crate::mutator::{Quick, answer_mutator};
 use crate::page::Page;
 use crate::reply::{write_answer, write_reply};
-use crate::write::write_text;
+use crate::spans::FieldSpans;
+use crate::write::{write_long, write_number_line, write_text};
 use dump_pump::Outlet;
 use heap_class::Refusal;
 use heap_step::Answer;
@@ -29,7 +30,9 @@ use std::alloc::Global;
 /// Whether a session goes on after a line.
 #[derive(Clone, Copy, PartialEq, Eq, Debug)]
 pub enum Step {
+    /// The next line comes.
     Next,
+    /// The line is `end`.
     Quit,
     /// The line is too long.
     Long,
@@ -37,13 +40,14 @@ pub enum Step {
     Fault,
 }
 
+// Returns Next, or Fault if a write failed.
 fn next_unless(written: bool) -> Step
     ensures { result ≡ step_of written }
 {
     if written { Step::Next } else { Step::Fault }
 }
 
-/// Whether a reply prints no more than that an event was done.
+// Tells whether a reply prints no more than that an event was done.
 #[inline(always)]
 fn is_done(reply: &Reply) -> bool
     ensures { result ≡ true → reply.now ≡ Answered Done }
@@ -51,7 +55,7 @@ fn is_done(reply: &Reply) -> bool
     matches!(reply, Reply::Answered(Answer::Done))
 }
 
-/// Does an action, and adds its reply to a page.
+/// Does an action and adds its reply to a page. Returns false if a write failed.
 #[inline(always)]
 pub fn answer_action<O: Outlet, C: Commands>(
     action: Action,
@@ -59,7 +63,9 @@ pub fn answer_action<O: Outlet, C: Commands>(
     writer: &mut O,
     commands: &mut C,
 ) -> bool
-    ensures { (r : Reply) × C.acts commands.old action r commands.new × IsAdded (reply_text r) page.old (O.seen writer.old) page.new (O.seen writer.new) result }
+    ensures { (r : Reply) × C.acts commands.old action r commands.new
+        × IsTextAdded (reply_text r) page.old (O.seen writer.old) page.new (O.seen writer.new)
+        result }
 {
     let reply = commands.act(action);
     if is_done(&reply) {
@@ -71,32 +77,69 @@ pub fn answer_action<O: Outlet, C: Commands>(
     }
 }
 
-/// Adds a reply to a page, which is flushed each time that it is full.
+// Adds a reply to a page, which is flushed whenever it is full.
 #[inline(never)]
 fn write_other<O: Outlet>(page: &mut Page, writer: &mut O, reply: Reply) -> bool
-    ensures { IsAdded (reply_text reply) page.old (O.seen writer.old) page.new (O.seen writer.new) result }
+    ensures { IsTextAdded (reply_text reply) page.old (O.seen writer.old) page.new
+        (O.seen writer.new) result }
 {
     write_reply(page, writer, &reply)
 }
 
-/// Adds the answer of one line to a page, which is flushed each time that it is full.
+// Adds the answer of a line that the grammar doesn't know to a page, which is flushed whenever it is full.
+fn write_line_answer<O: Outlet>(page: &mut Page, writer: &mut O, answer: &LineAnswer) -> bool
+    ensures { IsTextAdded (line_answer_text answer.now) page.old (O.seen writer.old) page.new
+        (O.seen writer.new) result }
+{
+    match answer {
+        LineAnswer::BadCommand => write_text(page, writer, b"bad command\n"),
+        LineAnswer::Known(reply) => write_reply(page, writer, reply),
+        LineAnswer::Line(line) => write_long(page, writer, line),
+        LineAnswer::Number(words, n) => {
+            write_long(page, writer, words) && write_number_line(page, writer, *n)
+        }
+        LineAnswer::Text(text) => write_long(page, writer, text),
+    }
+}
+
+// Has the commands answer a line that the grammar doesn't know, and adds the answer to a page, which is flushed whenever it is
+// full.
+#[inline(never)]
+fn answer_unknown<O: Outlet, C: Commands>(
+    alloc: Global,
+    text: &[u8],
+    page: &mut Page,
+    writer: &mut O,
+    commands: &mut C,
+) -> bool
+    ensures { (answer : List ℕ) × C.unknown text.now commands.old answer commands.new
+        × IsTextAdded answer page.old (O.seen writer.old) page.new (O.seen writer.new) result }
+{
+    let answer = commands.answer_unknown(alloc, text);
+    write_line_answer(page, writer, &answer)
+}
+
+// Adds the answer to a line without its CR to a page, which is flushed whenever it is full.
 #[inline(never)]
 fn answer_text<O: Outlet, C: Commands>(
     alloc: Global,
-    marks: &mut FieldMarks,
+    marks: &mut FieldSpans,
     text: &[u8],
     time: u64,
     page: &mut Page,
     writer: &mut O,
     commands: &mut C,
 ) -> Step
-    requires { length text.now ≤ 4096 }
-    ensures { IsStep (Answers C.acts time) (Begins C.acts time) (command_of_text text.now) commands.old page.old (O.seen writer.old) commands.new page.new (O.seen writer.new) result }
+    requires { length text.now ≤ LINE_LIMIT }
+    ensures { IsSessionStep (AnswersTo C.acts (C.unknown text.now) time (command_of_text text.now))
+        (BeginsTo C.acts (C.unknown text.now) time (command_of_text text.now))
+        (command_of_text text.now) commands.old page.old (O.seen writer.old) commands.new page.new
+        (O.seen writer.new) result }
 {
     match command_of_text(alloc, marks, text) {
         Err(_) => next_unless(write_reply(page, writer, &Reply::Refused(Refusal::NoMemory))),
         Ok(Command::Blank) => Step::Next,
-        Ok(Command::Bad) => next_unless(write_text(page, writer, b"bad command\n")),
+        Ok(Command::Bad) => next_unless(answer_unknown(alloc, text, page, writer, commands)),
         Ok(Command::Ask(action)) => next_unless(answer_action(action, page, writer, commands)),
         Ok(Command::Piece(pin)) => {
             let action = Action::NextPiece { pin, time };
@@ -108,34 +151,39 @@ fn answer_text<O: Outlet, C: Commands>(
     }
 }
 
-/// Adds the answer of one line to a page, which is flushed each time that it is full.
+// Adds the answer to a line to a page, which is flushed whenever it is full.
 fn answer_line<O: Outlet, C: Commands>(
     alloc: Global,
-    marks: &mut FieldMarks,
+    marks: &mut FieldSpans,
     line: &[u8],
     time: u64,
     page: &mut Page,
     writer: &mut O,
     commands: &mut C,
 ) -> Step
-    requires { length line.now ≤ 4096 }
-    ensures { IsStep (Answers C.acts time) (Begins C.acts time) (command_of line.now) commands.old page.old (O.seen writer.old) commands.new page.new (O.seen writer.new) result }
+    requires { length line.now ≤ LINE_LIMIT }
+    ensures { IsSessionStep (AnswersCommand C.acts C.unknown time line.now)
+        (Begins C.acts C.unknown time line.now) (command_of line.now) commands.old page.old
+        (O.seen writer.old) commands.new page.new (O.seen writer.new) result }
 {
     answer_text(alloc, marks, without_cr(line), time, page, writer, commands)
 }
 
-/// Answers the first line of a buffer if it is whole. Its answer is added to a page, which is flushed each time that it is full.
+// Answers the first line of a buffer if it is whole, and adds the answer to a page, which is flushed whenever it is full.
+// Returns None if no line is whole.
 #[inline(never)]
 fn answer_first<O: Outlet, C: Commands>(
     alloc: Global,
-    marks: &mut FieldMarks,
+    marks: &mut FieldSpans,
     time: u64,
     buffer: &mut Buffer,
     page: &mut Page,
     writer: &mut O,
     commands: &mut C,
 ) -> Option<Step>
-    ensures { IsFirst (Answers C.acts time) (Begins C.acts time) buffer.old commands.old page.old (O.seen writer.old) buffer.new commands.new page.new (O.seen writer.new) result }
+    ensures { IsFirst (AnswersCommand C.acts C.unknown time) (Begins C.acts C.unknown time)
+        buffer.old commands.old page.old (O.seen writer.old) buffer.new commands.new page.new
+        (O.seen writer.new) result }
 {
     let Some(n) = buffer.line_end() else {
         if buffer.as_slice().len() > LINE_LIMIT {
@@ -156,11 +204,11 @@ fn answer_first<O: Outlet, C: Commands>(
     Some(Step::Next)
 }
 
-/// Answers the whole lines of a buffer, up to the first that is too long. Their answers are added to an empty page, which is
-/// flushed each time that it is full.
+/// Answers the whole lines of a buffer, up to the first that is too long, and adds their answers to an empty page, which is
+/// flushed whenever it is full.
 pub fn answer_lines<O: Outlet, C: Commands>(
     alloc: Global,
-    marks: &mut FieldMarks,
+    marks: &mut FieldSpans,
     time: u64,
     buffer: &mut Buffer,
     page: &mut Page,
@@ -168,7 +216,9 @@ pub fn answer_lines<O: Outlet, C: Commands>(
     commands: &mut C,
 ) -> Step
     requires { page.old ≡ [] }
-    ensures { IsAnswered (Answers C.acts time) (Begins C.acts time) buffer.old commands.old (O.seen writer.old) buffer.new commands.new page.new (O.seen writer.new) result }
+    ensures { AreLinesAnswered (AnswersCommand C.acts C.unknown time) (Begins C.acts C.unknown time)
+        buffer.old commands.old (O.seen writer.old) buffer.new commands.new page.new
+        (O.seen writer.new) result }
 {
     loop {
         match answer_mutator(buffer.as_slice(), page, writer, commands) {

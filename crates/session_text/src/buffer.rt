@@ -1,21 +1,22 @@
-//! What has come of the lines that aren't answered yet.
+//! The bytes that were read and aren't answered yet.
 ghost use Rattle.std.specs.Prelude.{◌≡◌, ◌+◌, ◌-◌, ◌≤◌, ◌<◌, [], take, drop, length, IfOk, MatchOption};
-ghost use Rattle.session_text.specs.Inlets.{IsRead, count_of};
+ghost use Rattle.session_text.specs.Inlets.{IsInletRead, count_of};
 ghost use Rattle.session_text.specs.Limits.{buffer_limit};
 ghost use Rattle.session_text.specs.Lines.{NoLf, IsLineAt};
+ghost use Rattle.session_text.specs.declared.TheConstants.{LINE_LIMIT};
 
 use crate::inlet::{Inlet, Take, count_of};
 use memchr::memchr;
 use std::alloc::{AllocError, Global};
 use std::marker::Model;
 
-/// What ends a line.
+/// The byte that ends a line.
 pub const LF: u8 = b'\n';
 
-/// The most bytes of a buffer.
+// The largest number of bytes of a buffer.
 const BUFFER_LIMIT: usize = 65_536;
 
-/// Bytes that were read. It takes its memory when it is made. Contracts see the bytes.
+/// Bytes that were read. All memory is allocated when the buffer is made. Contracts see the bytes.
 #[derive(Drop)]
 pub struct Buffer {
     bytes: Vec<u8>,
@@ -33,11 +34,13 @@ impl Model for Buffer {
 
     ghost view = { λ b. take (b.end - b.start) (drop b.start b.bytes.items) };
 
-    ghost invariant = { λ b. (b.start + b.scanned ≤ b.end) × (b.end ≤ buffer_limit) × (length b.bytes.items ≡ buffer_limit) × NoLf (take b.scanned (drop b.start b.bytes.items)) };
+    ghost invariant = { λ b. (b.start + b.scanned ≤ b.end) × (b.end ≤ buffer_limit)
+        × (length b.bytes.items ≡ buffer_limit)
+        × NoLf (take b.scanned (drop b.start b.bytes.items)) };
 }
 
 impl Buffer {
-    /// An empty buffer.
+    /// Creates an empty buffer. Fails if the allocation fails.
     pub fn new(alloc: Global) -> Result<Buffer, AllocError>
         ensures { IfOk result (λ b. b ≡ []) }
     {
@@ -49,14 +52,14 @@ impl Buffer {
         })
     }
 
-    /// The bytes.
+    /// Returns the bytes.
     pub fn as_slice(&self) -> &[u8]
         ensures { result.now ≡ self.now }
     {
         &self.bytes[self.start..self.end]
     }
 
-    /// Drops bytes at the front.
+    /// Drops `n` bytes at the front.
     pub fn pass(&mut self, n: usize)
         requires { n ≤ length self.old }
         ensures { self.new ≡ drop n self.old }
@@ -65,7 +68,7 @@ impl Buffer {
         self.scanned = 0;
     }
 
-    /// Where the first LF stands. What was looked at before isn't looked at again.
+    /// Returns the place of the first LF, or None. Bytes that were searched before aren't searched again.
     pub fn line_end(&mut self) -> Option<usize>
         ensures same { self.new ≡ self.old }
         ensures found { MatchOption result (NoLf self.old) (λ n. IsLineAt n self.old) }
@@ -83,10 +86,10 @@ impl Buffer {
         found
     }
 
-    /// Reads once, behind what is there.
+    /// Reads once, and appends the bytes.
     pub fn read<I: Inlet>(&mut self, inlet: &mut I) -> Take
-        requires { length self.old ≤ 4096 }
-        ensures { IsRead self.old self.new (I.seen inlet.old) (I.seen inlet.new) result }
+        requires { length self.old ≤ LINE_LIMIT }
+        ensures { IsInletRead self.old self.new (I.seen inlet.old) (I.seen inlet.new) result }
     {
         let Buffer {
             bytes,
@@ -102,10 +105,12 @@ impl Buffer {
     }
 }
 
-/// Moves a range to the front and reads once behind it.
+// Moves a range to the front and reads once behind it.
 fn refill<I: Inlet>(bytes: &mut [u8], start: usize, end: usize, inlet: &mut I) -> Take
     requires { (start ≤ end) × (end ≤ length bytes.old) × (end - start < length bytes.old) }
-    ensures read { IsRead (take (end - start) (drop start bytes.old)) (take (end - start + count_of result) bytes.new) (I.seen inlet.old) (I.seen inlet.new) result }
+    ensures read { IsInletRead (take (end - start) (drop start bytes.old))
+        (take (end - start + count_of result) bytes.new) (I.seen inlet.old) (I.seen inlet.new)
+        result }
     ensures kept { take (end - start) bytes.new ≡ take (end - start) (drop start bytes.old) }
     ensures fits { end - start + count_of result ≤ length bytes.new }
 {
@@ -113,10 +118,11 @@ fn refill<I: Inlet>(bytes: &mut [u8], start: usize, end: usize, inlet: &mut I) -
     inlet.take(&mut bytes[used..])
 }
 
-/// Moves a range to the front, and answers its length.
+// Moves a range to the front and returns its length.
 fn shift(bytes: &mut [u8], start: usize, end: usize) -> usize
     requires { (start ≤ end) × (end ≤ length bytes.old) }
-    ensures { (start + result ≡ end) × (take result bytes.new ≡ take result (drop start bytes.old)) }
+    ensures { (start + result ≡ end)
+        × (take result bytes.new ≡ take result (drop start bytes.old)) }
 {
     if start > 0 {
         bytes.copy_within(start..end, 0);
@@ -124,7 +130,7 @@ fn shift(bytes: &mut [u8], start: usize, end: usize) -> usize
     end - start
 }
 
-/// Where the first LF stands, from a place before which there is none.
+// Returns the place of the first LF, or None. There must be none before `from`.
 fn find_lf(bytes: &[u8], from: usize) -> Option<usize>
     requires { (from ≤ length bytes.now) × NoLf (take from bytes.now) }
     ensures { MatchOption result (NoLf bytes.now) (λ n. IsLineAt n bytes.now) }

@@ -1,24 +1,25 @@
-//! What a line asks for.
+//! Commands: the requests of lines.
 ghost use Rattle.std.specs.Prelude.{◌≡◌, ◌≤◌, ◌++◌, length, option_map, MatchResult};
 ghost use Rattle.std.specs.Str.{bytes_eq};
-ghost use Rattle.session_text.specs.Grammar.{words_of, next_number, next_number_or_dash, next_kind, at_end, one_number, one_number_or_dash, three_numbers, two_numbers, four_numbers, new_line, newarray_line, newprim_line, load_line, store_line, put_line, move_line, clear_line, step_line, sweep_line, rewind_line, open_line, piece_line, dump_line, close_line, end_line, making_rules, access_rules, marking_rules, session_rules, by_rule, without_cr, command_of_text, command_of};
-ghost use Rattle.session_text.specs.Reads.{TakesMemory, MayTakeMemory, IsNext, next_name, plain_class, plain_array, plain_rules};
+ghost use Rattle.session_text.specs.Grammar.{words_of_line, next_number, next_number_or_dash, next_kind, at_end, one_number, one_number_or_dash, three_numbers, two_numbers, four_numbers, new_line, newarray_line, newprim_line, load_line, store_line, put_line, move_line, clear_line, step_line, sweep_line, rewind_line, open_line, piece_line, dump_line, close_line, end_line, making_rules, access_rules, marking_rules, session_rules, by_rule, without_cr, command_of_text, command_of};
+ghost use Rattle.session_text.specs.Reads.{TakesMemory, MayTakeMemory, IsNextWord, next_name, plain_class, plain_array, plain_rules};
+ghost use Rattle.session_text.specs.declared.TheConstants.{LINE_LIMIT};
 
 use crate::fields::{copied_all, kind_at, name_at, read_fields};
-use crate::marks::FieldMarks;
 use crate::number::{number_at, number_or_dash_at};
+use crate::spans::FieldSpans;
 use crate::words::Words;
 use heap_class::{Kind, Name};
 use heap_step::Event;
 use heap_trail::Action;
 use std::alloc::{AllocError, Global};
 
-/// What a line asks for.
+/// The request of a line.
 #[derive(Drop)]
 pub enum Command {
-    /// Nothing: it has no words.
+    /// The line has no words, and asks for nothing.
     Blank,
-    /// It is none of the grammar's lines.
+    /// The line is none of the grammar's.
     Bad,
     /// An action, and its reply.
     Ask(Action),
@@ -32,16 +33,16 @@ pub enum Command {
     End,
 }
 
-/// Whether a word is this one.
+// Tells whether a word is this one.
 fn is_word(word: &[u8], name: &[u8]) -> bool
     ensures { result ≡ bytes_eq word.now name.now }
 {
     word == name
 }
 
-/// The number that the next word is.
+// Reads the number that the next word holds. Returns None if it holds none.
 fn next_number(words: &mut Words) -> Option<u64>
-    ensures { IsNext (next_number (words_of words.old)) (words_of words.new) result }
+    ensures { IsNextWord (next_number (words_of_line words.old)) (words_of_line words.new) result }
 {
     let (value, size) = number_at(words.front()?);
     if size == 0 {
@@ -51,9 +52,10 @@ fn next_number(words: &mut Words) -> Option<u64>
     Some(value)
 }
 
-/// The number that the next word is, or None where it is `-`.
+// Reads the number that the next word holds, or None from a `-`. Returns None if it holds neither.
 fn next_number_or_dash(words: &mut Words) -> Option<Option<u64>>
-    ensures next { IsNext (next_number_or_dash (words_of words.old)) (words_of words.new) result }
+    ensures next { IsNextWord (next_number_or_dash (words_of_line words.old))
+        (words_of_line words.new) result }
     ensures shorter { length words.new ≤ length words.old }
 {
     let (value, size) = number_or_dash_at(words.front()?)?;
@@ -61,18 +63,19 @@ fn next_number_or_dash(words: &mut Words) -> Option<Option<u64>>
     Some(value)
 }
 
-/// The kind that the next word names.
+// Reads the kind that the next word names. Returns None if it names none.
 fn next_kind(words: &mut Words) -> Option<Kind>
-    ensures { IsNext (next_kind (words_of words.old)) (words_of words.new) result }
+    ensures { IsNextWord (next_kind (words_of_line words.old)) (words_of_line words.new) result }
 {
     let (kind, size) = kind_at(words.front()?)?;
     words.pass(size);
     Some(kind)
 }
 
-/// The next word, where none of its bytes is bad.
+// Reads the next word as a name. Returns None if one of its bytes is bad.
 fn next_name<'a>(words: &mut Words<'a>) -> Option<&'a [u8]>
-    ensures next { IsNext (next_name (words_of words.old)) (words_of words.new) (option_map (λ w. w.now) result) }
+    ensures next { IsNextWord (next_name (words_of_line words.old)) (words_of_line words.new)
+        (option_map (λ w. w.now) result) }
     ensures shorter { length words.new ≤ length words.old }
 {
     let text = words.front()?;
@@ -81,9 +84,9 @@ fn next_name<'a>(words: &mut Words<'a>) -> Option<&'a [u8]>
     Some(&text[..size])
 }
 
-/// A value, where no word is left.
+// Returns a value if no word is left.
 fn at_end<T: Drop>(value: T, mut words: Words) -> Option<T>
-    ensures { result ≡ at_end value (words_of words.entry) }
+    ensures { result ≡ at_end value (words_of_line words.entry) }
 {
     if words.front().is_some() {
         return None;
@@ -91,34 +94,34 @@ fn at_end<T: Drop>(value: T, mut words: Words) -> Option<T>
     Some(value)
 }
 
-/// The words' one number.
+// Returns the one number that the words are.
 fn one_number(mut words: Words) -> Option<u64>
-    ensures { result ≡ one_number (words_of words.entry) }
+    ensures { result ≡ one_number (words_of_line words.entry) }
 {
     let a = next_number(&mut words)?;
     at_end(a, words)
 }
 
-/// The words' one number, or None where it is `-`.
+// Returns the one number that the words are, or None from a `-`.
 fn one_number_or_dash(mut words: Words) -> Option<Option<u64>>
-    ensures { result ≡ one_number_or_dash (words_of words.entry) }
+    ensures { result ≡ one_number_or_dash (words_of_line words.entry) }
 {
     let a = next_number_or_dash(&mut words)?;
     at_end(a, words)
 }
 
-/// The words' two numbers.
+// Returns the two numbers that the words are.
 fn two_numbers(mut words: Words) -> Option<(u64, u64)>
-    ensures { result ≡ two_numbers (words_of words.entry) }
+    ensures { result ≡ two_numbers (words_of_line words.entry) }
 {
     let a = next_number(&mut words)?;
     let b = next_number(&mut words)?;
     at_end((a, b), words)
 }
 
-/// The words' three numbers.
+// Returns the three numbers that the words are.
 fn three_numbers(mut words: Words) -> Option<(u64, u64, u64)>
-    ensures { result ≡ three_numbers (words_of words.entry) }
+    ensures { result ≡ three_numbers (words_of_line words.entry) }
 {
     let a = next_number(&mut words)?;
     let b = next_number(&mut words)?;
@@ -126,9 +129,9 @@ fn three_numbers(mut words: Words) -> Option<(u64, u64, u64)>
     at_end((a, b, c), words)
 }
 
-/// The words' four numbers.
+// Returns the four numbers that the words are.
 fn four_numbers(mut words: Words) -> Option<(u64, u64, u64, u64)>
-    ensures { result ≡ four_numbers (words_of words.entry) }
+    ensures { result ≡ four_numbers (words_of_line words.entry) }
 {
     let a = next_number(&mut words)?;
     let b = next_number(&mut words)?;
@@ -137,14 +140,16 @@ fn four_numbers(mut words: Words) -> Option<(u64, u64, u64, u64)>
     at_end((a, b, c, d), words)
 }
 
-/// `class NAME SUPER FIELD ..`. No memory is taken where it isn't one.
+// Reads the words of `class NAME SUPER FIELD ..`. Returns None, and allocates nothing, if they don't fit. Fails if an
+// allocation fails.
 fn class_line(
     alloc: Global,
-    marks: &mut FieldMarks,
+    marks: &mut FieldSpans,
     mut words: Words,
 ) -> Result<Option<Command>, AllocError>
-    requires { length words ≤ 4096 }
-    ensures { MatchResult result (λ c. c ≡ plain_class (words_of words.entry)) (λ _. MayTakeMemory (plain_class (words_of words.entry))) }
+    requires { length words ≤ LINE_LIMIT }
+    ensures { MatchResult result (λ c. c ≡ plain_class (words_of_line words.entry))
+        (λ _. MayTakeMemory (plain_class (words_of_line words.entry))) }
 {
     let Some(name) = next_name(&mut words) else {
         return Ok(None);
@@ -161,9 +166,10 @@ fn class_line(
     Ok(Some(Command::Ask(Action::Step(Event::Class { name, sup, fields }))))
 }
 
-/// `array NAME`. No memory is taken where it isn't one.
+// Reads the words of `array NAME`. Returns None, and allocates nothing, if they don't fit. Fails if an allocation fails.
 fn array_line(alloc: Global, mut words: Words) -> Result<Option<Command>, AllocError>
-    ensures { MatchResult result (λ c. c ≡ plain_array (words_of words.entry)) (λ _. MayTakeMemory (plain_array (words_of words.entry))) }
+    ensures { MatchResult result (λ c. c ≡ plain_array (words_of_line words.entry))
+        (λ _. MayTakeMemory (plain_array (words_of_line words.entry))) }
 {
     let Some(name) = next_name(&mut words) else {
         return Ok(None);
@@ -175,25 +181,25 @@ fn array_line(alloc: Global, mut words: Words) -> Result<Option<Command>, AllocE
     Ok(Some(Command::Ask(Action::Step(Event::ArrayClass { name }))))
 }
 
-/// `new M R CLASS`.
+// Reads the words of `new M R CLASS`.
 fn new_line(words: Words) -> Option<Command>
-    ensures { result ≡ new_line (words_of words.entry) }
+    ensures { result ≡ new_line (words_of_line words.entry) }
 {
     let (m, r, class) = three_numbers(words)?;
     Some(Command::Ask(Action::Step(Event::New { m, r, class })))
 }
 
-/// `newarray M R CLASS LEN`.
+// Reads the words of `newarray M R CLASS LEN`.
 fn newarray_line(words: Words) -> Option<Command>
-    ensures { result ≡ newarray_line (words_of words.entry) }
+    ensures { result ≡ newarray_line (words_of_line words.entry) }
 {
     let (m, r, class, len) = four_numbers(words)?;
     Some(Command::Ask(Action::Step(Event::NewArray { m, r, class, len })))
 }
 
-/// `newprim M R KIND LEN`.
+// Reads the words of `newprim M R KIND LEN`.
 fn newprim_line(mut words: Words) -> Option<Command>
-    ensures { result ≡ newprim_line (words_of words.entry) }
+    ensures { result ≡ newprim_line (words_of_line words.entry) }
 {
     let m = next_number(&mut words)?;
     let r = next_number(&mut words)?;
@@ -205,17 +211,17 @@ fn newprim_line(mut words: Words) -> Option<Command>
     )
 }
 
-/// `load M TO FROM SLOT`.
+// Reads the words of `load M TO FROM SLOT`.
 fn load_line(words: Words) -> Option<Command>
-    ensures { result ≡ load_line (words_of words.entry) }
+    ensures { result ≡ load_line (words_of_line words.entry) }
 {
     let (m, to, from, slot) = four_numbers(words)?;
     Some(Command::Ask(Action::Step(Event::Load { m, to, from, slot })))
 }
 
-/// `store M TARGET SLOT SOURCE`.
+// Reads the words of `store M TARGET SLOT SOURCE`.
 fn store_line(words: Words) -> Option<Command>
-    ensures { result ≡ store_line (words_of words.entry) }
+    ensures { result ≡ store_line (words_of_line words.entry) }
 {
     let (m, target, slot, source) = four_numbers(words)?;
     Some(Command::Ask(Action::Step(Event::Store {
@@ -226,9 +232,9 @@ fn store_line(words: Words) -> Option<Command>
     })))
 }
 
-/// `put M TARGET SLOT VALUE`.
+// Reads the words of `put M TARGET SLOT VALUE`.
 fn put_line(words: Words) -> Option<Command>
-    ensures { result ≡ put_line (words_of words.entry) }
+    ensures { result ≡ put_line (words_of_line words.entry) }
 {
     let (m, target, slot, value) = four_numbers(words)?;
     Some(Command::Ask(Action::Step(Event::Put {
@@ -239,9 +245,9 @@ fn put_line(words: Words) -> Option<Command>
     })))
 }
 
-/// `move M TO FROM_M FROM`.
+// Reads the words of `move M TO FROM_M FROM`.
 fn move_line(words: Words) -> Option<Command>
-    ensures { result ≡ move_line (words_of words.entry) }
+    ensures { result ≡ move_line (words_of_line words.entry) }
 {
     let (m, to, from_m, from) = four_numbers(words)?;
     Some(Command::Ask(Action::Step(Event::Move {
@@ -252,56 +258,56 @@ fn move_line(words: Words) -> Option<Command>
     })))
 }
 
-/// `clear M R`.
+// Reads the words of `clear M R`.
 fn clear_line(words: Words) -> Option<Command>
-    ensures { result ≡ clear_line (words_of words.entry) }
+    ensures { result ≡ clear_line (words_of_line words.entry) }
 {
     let (m, r) = two_numbers(words)?;
     Some(Command::Ask(Action::Step(Event::Clear { m, r })))
 }
 
-/// A step that takes no words.
+// Returns a step that takes no words, if there are none.
 fn step_line(event: Event, words: Words) -> Option<Command>
-    ensures { result ≡ step_line event (words_of words.entry) }
+    ensures { result ≡ step_line event (words_of_line words.entry) }
 {
     at_end(Command::Ask(Action::Step(event)), words)
 }
 
-/// `sweep REGION`.
+// Reads the words of `sweep REGION`.
 fn sweep_line(words: Words) -> Option<Command>
-    ensures { result ≡ sweep_line (words_of words.entry) }
+    ensures { result ≡ sweep_line (words_of_line words.entry) }
 {
     let region = one_number(words)?;
     Some(Command::Ask(Action::Step(Event::Sweep { region })))
 }
 
-/// `rewind N`.
+// Reads the words of `rewind N`.
 fn rewind_line(words: Words) -> Option<Command>
-    ensures { result ≡ rewind_line (words_of words.entry) }
+    ensures { result ≡ rewind_line (words_of_line words.entry) }
 {
     let n = one_number(words)?;
     Some(Command::Ask(Action::Rewind(n)))
 }
 
-/// `open AT`.
+// Reads the words of `open AT`.
 fn open_line(words: Words) -> Option<Command>
-    ensures { result ≡ open_line (words_of words.entry) }
+    ensures { result ≡ open_line (words_of_line words.entry) }
 {
     let at = one_number_or_dash(words)?;
     Some(Command::Ask(Action::OpenPin(at)))
 }
 
-/// `piece PIN`.
+// Reads the words of `piece PIN`.
 fn piece_line(words: Words) -> Option<Command>
-    ensures { result ≡ piece_line (words_of words.entry) }
+    ensures { result ≡ piece_line (words_of_line words.entry) }
 {
     let pin = one_number(words)?;
     Some(Command::Piece(pin))
 }
 
-/// `dump PIN` or `dump -`.
+// Reads the words of `dump PIN` or `dump -`.
 fn dump_line(words: Words) -> Option<Command>
-    ensures { result ≡ dump_line (words_of words.entry) }
+    ensures { result ≡ dump_line (words_of_line words.entry) }
 {
     match one_number_or_dash(words)? {
         Some(pin) => Some(Command::Dump(pin)),
@@ -309,25 +315,27 @@ fn dump_line(words: Words) -> Option<Command>
     }
 }
 
-/// `close PIN`.
+// Reads the words of `close PIN`.
 fn close_line(words: Words) -> Option<Command>
-    ensures { result ≡ close_line (words_of words.entry) }
+    ensures { result ≡ close_line (words_of_line words.entry) }
 {
     let pin = one_number(words)?;
     Some(Command::Ask(Action::ClosePin(pin)))
 }
 
-/// `end`.
+// Reads the words of `end`, of which there must be none.
 fn end_line(words: Words) -> Option<Command>
-    ensures { result ≡ end_line (words_of words.entry) }
+    ensures { result ≡ end_line (words_of_line words.entry) }
 {
     at_end(Command::End, words)
 }
 
-/// The command of a first word that makes an object, or of one of `access_line`, and of the words after it.
+// Reads a line by its first word, if that makes an object or `access_line` knows it.
 #[tactic(auto, unfolding(crate::specs::Grammar::by_rule, crate::specs::Grammar::making_rules))]
 fn making_line(word: &[u8], words: Words) -> Option<Command>
-    ensures { result ≡ by_rule (making_rules ++ (access_rules ++ (marking_rules ++ session_rules))) word.now (words_of words.entry) }
+    ensures { result
+        ≡ by_rule (making_rules ++ (access_rules ++ (marking_rules ++ session_rules))) word.now
+        (words_of_line words.entry) }
 {
     if is_word(word, b"new") {
         return new_line(words);
@@ -341,10 +349,12 @@ fn making_line(word: &[u8], words: Words) -> Option<Command>
     access_line(word, words)
 }
 
-/// The command of a first word that reads or writes a slot or a register, or of one of `marking_line`, and of the words after it.
+// Reads a line by its first word, if that reads or writes a slot or a register or `marking_line` knows it.
 #[tactic(auto, unfolding(crate::specs::Grammar::by_rule, crate::specs::Grammar::access_rules))]
 fn access_line(word: &[u8], words: Words) -> Option<Command>
-    ensures { result ≡ by_rule (access_rules ++ (marking_rules ++ session_rules)) word.now (words_of words.entry) }
+    ensures { result
+        ≡ by_rule (access_rules ++ (marking_rules ++ session_rules)) word.now
+        (words_of_line words.entry) }
 {
     if is_word(word, b"load") {
         return load_line(words);
@@ -364,10 +374,11 @@ fn access_line(word: &[u8], words: Words) -> Option<Command>
     marking_line(word, words)
 }
 
-/// The command of a first word that marks or sweeps, or of one of `session_line`, and of the words after it.
+// Reads a line by its first word, if that marks or sweeps or `session_line` knows it.
 #[tactic(auto, unfolding(crate::specs::Grammar::by_rule, crate::specs::Grammar::marking_rules))]
 fn marking_line(word: &[u8], words: Words) -> Option<Command>
-    ensures { result ≡ by_rule (marking_rules ++ session_rules) word.now (words_of words.entry) }
+    ensures { result
+        ≡ by_rule (marking_rules ++ session_rules) word.now (words_of_line words.entry) }
 {
     if is_word(word, b"snap") {
         return step_line(Event::Snap, words);
@@ -387,10 +398,10 @@ fn marking_line(word: &[u8], words: Words) -> Option<Command>
     session_line(word, words)
 }
 
-/// The command of a first word that asks the machine or the session for something, and of the words after it.
+// Reads a line by its first word, if that asks the machine or the session for something.
 #[tactic(auto, unfolding(crate::specs::Grammar::by_rule, crate::specs::Grammar::session_rules))]
 fn session_line(word: &[u8], words: Words) -> Option<Command>
-    ensures { result ≡ by_rule session_rules word.now (words_of words.entry) }
+    ensures { result ≡ by_rule session_rules word.now (words_of_line words.entry) }
 {
     if is_word(word, b"rewind") {
         return rewind_line(words);
@@ -413,16 +424,18 @@ fn session_line(word: &[u8], words: Words) -> Option<Command>
     None
 }
 
-/// The command of a first word and those after it.
+// Reads a line from its first word and the words after it. Returns None if it is none of the grammar's. Fails if an
+// allocation fails.
 #[tactic(auto, unfolding(crate::specs::Grammar::by_rule, crate::specs::Reads::plain_class_rules))]
 fn line_after(
     alloc: Global,
-    marks: &mut FieldMarks,
+    marks: &mut FieldSpans,
     word: &[u8],
     words: Words,
 ) -> Result<Option<Command>, AllocError>
-    requires { length words ≤ 4096 }
-    ensures { MatchResult result (λ c. c ≡ by_rule plain_rules word.now (words_of words.entry)) (λ _. MayTakeMemory (by_rule plain_rules word.now (words_of words.entry))) }
+    requires { length words ≤ LINE_LIMIT }
+    ensures { MatchResult result (λ c. c ≡ by_rule plain_rules word.now (words_of_line words.entry))
+        (λ _. MayTakeMemory (by_rule plain_rules word.now (words_of_line words.entry))) }
 {
     if is_word(word, b"class") {
         return class_line(alloc, marks, words);
@@ -433,7 +446,7 @@ fn line_after(
     Ok(making_line(word, words))
 }
 
-/// Drops a CR at the end.
+/// Returns the line without a CR at its end.
 pub fn without_cr(line: &[u8]) -> &[u8]
     ensures { result.now ≡ without_cr line.now }
 {
@@ -445,13 +458,15 @@ pub fn without_cr(line: &[u8]) -> &[u8]
     }
 }
 
+/// Returns the command of a line without its CR. Fails if an allocation for a class fails.
 pub fn command_of_text(
     alloc: Global,
-    marks: &mut FieldMarks,
+    marks: &mut FieldSpans,
     text: &[u8],
 ) -> Result<Command, AllocError>
-    requires { length text.now ≤ 4096 }
-    ensures { MatchResult result (λ c. c ≡ command_of_text text.now) (λ _. TakesMemory (command_of_text text.now)) }
+    requires { length text.now ≤ LINE_LIMIT }
+    ensures { MatchResult result (λ c. c ≡ command_of_text text.now)
+        (λ _. TakesMemory (command_of_text text.now)) }
 {
     let mut words = Words::new(text);
     let Some(word) = words.next_word() else {

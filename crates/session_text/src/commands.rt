@@ -1,24 +1,48 @@
-//! What acts on lines.
+//! Commands: the performers of a session's actions.
 ghost use Rattle.std.specs.Prelude.{◌≡◌};
 ghost use Rattle.session_text.specs.Local.{own_closed};
 
 use heap_trail::{Action, Machine, Reply};
+use std::alloc::Global;
 
-/// What acts on the lines of a session. Contracts see what an action may answer and leave.
+/// The answer of a line that the grammar doesn't know.
+#[derive(Drop)]
+pub enum LineAnswer {
+    /// `bad command`.
+    BadCommand,
+    /// What this reply prints.
+    Known(Reply),
+    /// A fixed line with its LF.
+    Line(&'static [u8]),
+    /// Fixed words, a space, this number and LF.
+    Number(&'static [u8], u64),
+    /// Lines, each with its LF.
+    Text(Vec<u8>),
+}
+
+/// A performer of the actions of a session. Contracts see what an action may answer and leave.
 pub trait Commands {
     ghost use Rattle.heap_trail.specs.declared.Action.{Action};
     ghost use Rattle.heap_trail.specs.declared.Reply.{Reply};
+    ghost use Rattle.std.specs.Prelude.{ℕ, List};
     ghost use Rattle.heap_trail.specs.Machine.{IsSmall};
+    ghost use Rattle.session_text.specs.Replies.{line_answer_text};
 
     ghost acts: { Self → Action → Reply → Self → Type 0 };
 
-    /// Does an action. A piece has at most 2^24 bytes.
+    ghost unknown: { List ℕ → Self → List ℕ → Self → Type 0 };
+
+    /// Does an action and returns its reply. A piece has at most 2^24 bytes.
     fn act(&mut self, action: Action) -> Reply
         ensures acts { acts self.old action result self.new }
         ensures small { IsSmall result };
+
+    /// Answers a line that the grammar doesn't know.
+    fn answer_unknown(&mut self, alloc: Global, line: &[u8]) -> LineAnswer
+        ensures { unknown line.now self.old (line_answer_text result) self.new };
 }
 
-/// A machine of one's own, which acts on the lines of a session. No action changes which number was the first.
+/// A private machine, which acts on the lines of a session. No action changes `first_pin`.
 #[derive(Drop)]
 pub struct Local {
     /// The machine.
@@ -38,7 +62,8 @@ impl Local {
 
     /// Closes each pin that was opened through these commands and is not closed, lost or not. Takes no memory.
     pub fn close_all(&mut self)
-        ensures { self.new ≡ record self.old { machine = own_closed self.old.first_pin self.old.machine } }
+        ensures { self.new
+            ≡ record self.old { machine = own_closed self.old.first_pin self.old.machine } }
     {
         self.machine.close_from(self.first_pin);
     }
@@ -47,11 +72,18 @@ impl Local {
 impl Commands for Local {
     ghost use Rattle.std.specs.Prelude.{◌≡◌};
     ghost use Rattle.session_text.specs.Local.{LocalActs};
+    ghost use Rattle.session_text.specs.Answers.{all_bad};
 
     ghost acts = { λ c a r d. LocalActs c.machine a r d.machine × (d.first_pin ≡ c.first_pin) };
+
+    ghost unknown = { all_bad };
 
     #[inline(always)]
     fn act(&mut self, action: Action) -> Reply {
         self.machine.act(&action)
+    }
+
+    fn answer_unknown(&mut self, _alloc: Global, _line: &[u8]) -> LineAnswer {
+        LineAnswer::BadCommand
     }
 }

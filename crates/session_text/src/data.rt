@@ -1,18 +1,19 @@
 //! Pieces, in data lines.
 ghost use Rattle.std.specs.Prelude.{◌≡◌, ◌≤◌, ◌++◌, length};
 ghost use Rattle.session_text.specs.Replies.{data_line, data_lines};
-ghost use Rattle.session_text.specs.Writes.{IsAdded};
+ghost use Rattle.session_text.specs.Writes.{IsTextAdded};
+ghost use Rattle.session_text.specs.declared.write.TheConstants.{LINE_START};
 
 use crate::page::Page;
 use crate::write::make_room;
 use dump_pump::Outlet;
 
-/// The most bytes of a data line's digits.
+// The largest number of bytes on a data line.
 const DATA_LIMIT: usize = 64;
 
-/// Adds a data line of at most 64 bytes.
+// Adds a data line of at most 64 bytes.
 fn add_data_line(page: &mut Page, bytes: &[u8])
-    requires { (length page.old ≤ 8000) × (length bytes.now ≤ 64) }
+    requires { (length page.old ≤ LINE_START) × (length bytes.now ≤ 64) }
     ensures { page.new ≡ page.old ++ data_line bytes.now }
 {
     page.add(b"data ");
@@ -20,9 +21,10 @@ fn add_data_line(page: &mut Page, bytes: &[u8])
     page.add(b"\n");
 }
 
-/// Adds the data lines of a piece to a page, which is flushed each time that it is full.
+/// Adds the data lines of a piece to a page, which is flushed whenever it is full. Returns false if a write failed.
 pub fn write_data<O: Outlet>(page: &mut Page, outlet: &mut O, bytes: &[u8]) -> bool
-    ensures { IsAdded (data_lines bytes.now) page.old (O.seen outlet.old) page.new (O.seen outlet.new) result }
+    ensures { IsTextAdded (data_lines bytes.now) page.old (O.seen outlet.old) page.new
+        (O.seen outlet.new) result }
 {
     let mut rest = bytes;
     while !rest.is_empty() {

@@ -2,7 +2,7 @@
 ghost use Rattle.std.specs.Prelude.{◌≡◌, ◌*◌, ◌<◌, length, slice_index};
 ghost use Rattle.hex.specs.Hex.{encode_lower, lower_digits};
 
-/// The lower-case hexadecimal digit of a number below 16.
+// Returns the lower-case hexadecimal digit of a number below 16.
 fn digit(n: u8) -> u8
     requires { n < 16 }
     ensures { result ≡ slice_index lower_digits n }

@@ -1,20 +1,21 @@
 //! Dumps.
 ghost use Rattle.std.specs.Prelude.{◌≡◌, ◌≤◌, ◌++◌, length};
 ghost use Rattle.session_text.specs.Dumps.{DumpsNow, DumpsPin, WritesDump, total_line};
-ghost use Rattle.session_text.specs.Writes.{IsAdded};
+ghost use Rattle.session_text.specs.Writes.{IsTextAdded};
+ghost use Rattle.session_text.specs.declared.write.TheConstants.{LINE_START};
 
-use crate::PIECE_LIMIT;
 use crate::commands::Commands;
 use crate::data::write_data;
 use crate::page::Page;
 use crate::reply::{piece_in, pin_in, write_reply};
 use crate::write::make_room;
 use dump_pump::Outlet;
+use dump_pump::source::PART_LIMIT;
 use heap_trail::Action;
 
-/// Adds the last line of a dump.
+// Adds the last line of a dump.
 fn add_total(page: &mut Page, total: u64)
-    requires { length page.old ≤ 8000 }
+    requires { length page.old ≤ LINE_START }
     ensures { page.new ≡ page.old ++ total_line total }
 {
     page.add(b"ok dump");
@@ -22,9 +23,11 @@ fn add_total(page: &mut Page, total: u64)
     page.add(b"\n");
 }
 
-/// Adds the last line of a dump to a page, which is flushed first unless it has room for one more line.
+// Adds the last line of a dump to a page, which is flushed first unless it has room for one more line. Returns false if a
+// write failed.
 fn write_total<O: Outlet>(page: &mut Page, outlet: &mut O, total: u64) -> bool
-    ensures { IsAdded (total_line total) page.old (O.seen outlet.old) page.new (O.seen outlet.new) result }
+    ensures { IsTextAdded (total_line total) page.old (O.seen outlet.old) page.new
+        (O.seen outlet.new) result }
 {
     if !make_room(page, outlet) {
         return false;
@@ -33,8 +36,8 @@ fn write_total<O: Outlet>(page: &mut Page, outlet: &mut O, total: u64) -> bool
     true
 }
 
-/// Adds a dump of a pin to a page, which is flushed each time that it is full: the data lines of the pin's pieces, and their
-/// length or the line of a refusal.
+/// Adds a dump of a pin to a page, which is flushed whenever it is full: the data lines of the pin's pieces, and their length
+/// or the line of a refusal. Returns false if a write failed.
 pub fn write_dump<O: Outlet, C: Commands>(
     page: &mut Page,
     outlet: &mut O,
@@ -42,10 +45,11 @@ pub fn write_dump<O: Outlet, C: Commands>(
     pin: u64,
     time: u64,
 ) -> bool
-    ensures { WritesDump (DumpsPin C.acts pin time) commands.old commands.new page.old (O.seen outlet.old) page.new (O.seen outlet.new) result }
+    ensures { WritesDump (DumpsPin C.acts pin time) commands.old commands.new page.old
+        (O.seen outlet.old) page.new (O.seen outlet.new) result }
 {
     let mut total: u64 = 0;
-    for number in 0..PIECE_LIMIT {
+    for number in 0..PART_LIMIT {
         let reply = commands.act(Action::NextPiece { pin, time });
         let Some(piece) = piece_in(&reply) else {
             return write_reply(page, outlet, &reply);
@@ -61,14 +65,16 @@ pub fn write_dump<O: Outlet, C: Commands>(
     true
 }
 
-/// Adds a dump of the current state likewise: opens a pin, dumps it, and closes it, also if a write fails.
+/// Adds a dump of the current state to a page: opens a pin, dumps it as `write_dump` does, and closes it, also if a write
+/// fails. Returns false if one did.
 pub fn write_dump_now<O: Outlet, C: Commands>(
     page: &mut Page,
     outlet: &mut O,
     commands: &mut C,
     time: u64,
 ) -> bool
-    ensures { WritesDump (DumpsNow C.acts time) commands.old commands.new page.old (O.seen outlet.old) page.new (O.seen outlet.new) result }
+    ensures { WritesDump (DumpsNow C.acts time) commands.old commands.new page.old
+        (O.seen outlet.old) page.new (O.seen outlet.new) result }
 {
     let opened = commands.act(Action::OpenPin(None));
     let Some(pin) = pin_in(&opened) else {

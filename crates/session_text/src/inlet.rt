@@ -1,19 +1,19 @@
-//! Where lines come from.
+//! The trait of inlets, which give bytes.
 ghost use Rattle.std.specs.Prelude.{◌≡◌};
 ghost use Rattle.session_text.specs.Inlets.{count_of};
 
-/// What a read gave.
+/// The outcome of a read.
 #[derive(Clone, Copy, PartialEq, Eq, Debug)]
 pub enum Take {
-    /// So many bytes, at least one.
+    /// This many bytes came, at least one.
     Got(usize),
-    /// Nothing, and nothing is left.
+    /// Nothing came, and nothing is left.
     End,
-    /// Nothing, by a fault.
+    /// Nothing came, by a fault.
     Failed,
 }
 
-/// How many bytes a read gave.
+/// Returns the number of bytes that a read gave.
 pub fn count_of(took: Take) -> usize
     ensures { result ≡ count_of took }
 {
@@ -23,15 +23,15 @@ pub fn count_of(took: Take) -> usize
     }
 }
 
-/// What gives bytes. Contracts see it as the bytes that it gave so far, those that are left where it tells them, how many
-/// each read took, and how many reads failed.
+/// An inlet, which gives bytes. Contracts see the bytes that it gave so far, those that are left if it tells them, the number
+/// of bytes of each read, and the number of reads that failed.
 pub trait Inlet {
     ghost use Rattle.std.specs.Prelude.{◌<◌, length};
     ghost use Rattle.session_text.specs.Inlets.{Incoming, IsTake};
 
     ghost seen: { Self → Incoming };
 
-    /// Reads once, to the front of `room`.
+    /// Reads once, to the front of `room`, which must not be empty.
     fn take(&mut self, room: &mut [u8]) -> Take
         requires { 0 < length room.old }
         ensures { IsTake room.new (seen self.old) (seen self.new) result };

@@ -1,8 +1,8 @@
-//! The lines of mutators, read in one pass, in which their end is found, and answered at once.
+//! A fast reading of mutators' lines, in one pass that finds their end too.
 ghost use Rattle.std.specs.Prelude.{◌≡◌, ◌≤◌, Some, codes, length, take, drop, IfSome};
 ghost use Rattle.heap_trail.specs.declared.Action.TheVariants.{Step};
 ghost use Rattle.session_text.specs.declared.command.Command.TheVariants.{Ask};
-ghost use Rattle.session_text.specs.Grammar.{words_of, two_numbers, three_numbers, four_numbers, command_of_text};
+ghost use Rattle.session_text.specs.Grammar.{words_of_line, two_numbers, three_numbers, four_numbers, command_of_text};
 ghost use Rattle.session_text.specs.Lines.{NoLf};
 ghost use Rattle.session_text.specs.Mutators.{FollowsIn, IsVerb, IsQuick, IsQuickIn, IsShortLine};
 
@@ -16,33 +16,41 @@ use dump_pump::Outlet;
 use heap_step::Event;
 use heap_trail::Action;
 
-/// What a line begins with, if it may be answered at once.
+// The beginning of a line that may be answered at once.
 #[derive(Clone, Copy, PartialEq, Eq, Debug)]
 enum Verb {
+    // `load `.
     Load,
+    // `store `.
     Store,
+    // `put `.
     Put,
+    // `move `.
     Move,
+    // `clear `.
     Clear,
+    // `new `.
     New,
+    // The whole line `mark`.
     Mark,
+    // Any other.
     Other,
 }
 
-/// What has come of a text's first line.
+/// The outcome of a fast reading of a text's first line.
 #[derive(Clone, Copy, PartialEq, Eq, Debug)]
 pub enum Quick {
-    /// Nothing. It is read as any other, if it is whole.
+    /// The line wasn't answered. It is read as any other, if it is whole.
     No,
-    /// It was answered.
+    /// The line was answered.
     Next,
-    /// A write failed in its answer.
+    /// A write failed in the line's answer.
     Fault,
 }
 
-/// The keyword that a text begins with.
+// Returns the keyword that a text begins with.
 #[inline(always)]
-#[tactic(auto, using(crate::proofs::Mutating::load_in, crate::proofs::Mutating::store_in, crate::proofs::Mutating::put_in, crate::proofs::Mutating::move_in, crate::proofs::Mutating::clear_in, crate::proofs::Mutating::new_in, crate::proofs::Mutating::mark_in))]
+#[tactic(auto, using(crate::proofs::QuickLines::load_in, crate::proofs::QuickLines::store_in, crate::proofs::QuickLines::put_in, crate::proofs::QuickLines::move_in, crate::proofs::QuickLines::clear_in, crate::proofs::QuickLines::new_in, crate::proofs::QuickLines::mark_in))]
 fn verb_of(text: &[u8]) -> Verb
     ensures { IsVerb text.now result }
 {
@@ -58,12 +66,13 @@ fn verb_of(text: &[u8]) -> Verb
     }
 }
 
-/// The two numbers that the first line of a text has from a place on, and where it ends.
+// Returns the two numbers that the first line of a text has from a place on, and the line's end, or None if it has others.
 #[inline(always)]
 fn two_in(text: &[u8], at: usize) -> Option<(u64, u64, usize)>
     requires { (at ≤ 6) × (at ≤ length text.now) × NoLf (take at text.now) }
     ensures line { IfSome result (λ r. IsShortLine r.2 text.now × (at ≤ r.2)) }
-    ensures numbers { IfSome result (λ r. two_numbers (words_of (drop at (take r.2 text.now))) ≡ Some (r.0, r.1)) }
+    ensures numbers { IfSome result
+        (λ r. two_numbers (words_of_line (drop at (take r.2 text.now))) ≡ Some (r.0, r.1)) }
 {
     let (a, end) = number_then(text, at, SPACE);
     let (b, end) = number_then(text, end + 1, LF);
@@ -73,12 +82,13 @@ fn two_in(text: &[u8], at: usize) -> Option<(u64, u64, usize)>
     Some((a, b, end))
 }
 
-/// The three numbers that the first line of a text has from a place on, and where it ends.
+// Returns the three numbers that the first line of a text has from a place on, and the line's end, or None if it has others.
 #[inline(always)]
 fn three_in(text: &[u8], at: usize) -> Option<(u64, u64, u64, usize)>
     requires { (at ≤ 6) × (at ≤ length text.now) × NoLf (take at text.now) }
     ensures line { IfSome result (λ r. IsShortLine r.3 text.now × (at ≤ r.3)) }
-    ensures numbers { IfSome result (λ r. three_numbers (words_of (drop at (take r.3 text.now))) ≡ Some (r.0, r.1, r.2)) }
+    ensures numbers { IfSome result
+        (λ r. three_numbers (words_of_line (drop at (take r.3 text.now))) ≡ Some (r.0, r.1, r.2)) }
 {
     let (a, end) = number_then(text, at, SPACE);
     let (b, end) = number_then(text, end + 1, SPACE);
@@ -89,12 +99,14 @@ fn three_in(text: &[u8], at: usize) -> Option<(u64, u64, u64, usize)>
     Some((a, b, c, end))
 }
 
-/// The four numbers that the first line of a text has from a place on, and where it ends.
+// Returns the four numbers that the first line of a text has from a place on, and the line's end, or None if it has others.
 #[inline(always)]
 fn four_in(text: &[u8], at: usize) -> Option<(u64, u64, u64, u64, usize)>
     requires { (at ≤ 6) × (at ≤ length text.now) × NoLf (take at text.now) }
     ensures line { IfSome result (λ r. IsShortLine r.4 text.now × (at ≤ r.4)) }
-    ensures numbers { IfSome result (λ r. four_numbers (words_of (drop at (take r.4 text.now))) ≡ Some (r.0, r.1, r.2, r.3)) }
+    ensures numbers { IfSome result
+        (λ r. four_numbers (words_of_line (drop at (take r.4 text.now)))
+        ≡ Some (r.0, r.1, r.2, r.3)) }
 {
     let (a, end) = number_then(text, at, SPACE);
     let (b, end) = number_then(text, end + 1, SPACE);
@@ -106,7 +118,7 @@ fn four_in(text: &[u8], at: usize) -> Option<(u64, u64, u64, u64, usize)>
     Some((a, b, c, d, end))
 }
 
-/// Does an event and adds its reply.
+// Does an event and adds its reply.
 #[inline(always)]
 fn answer_event<O: Outlet, C: Commands>(
     event: Event,
@@ -116,7 +128,8 @@ fn answer_event<O: Outlet, C: Commands>(
     commands: &mut C,
 ) -> Quick
     requires { command_of_text line.now ≡ Ask (Step event) }
-    ensures { IsQuick C.acts (command_of_text line.now) commands.old page.old (O.seen writer.old) commands.new page.new (O.seen writer.new) result }
+    ensures { IsQuick C.acts (command_of_text line.now) commands.old page.old (O.seen writer.old)
+        commands.new page.new (O.seen writer.new) result }
 {
     if answer_action(Action::Step(event), page, writer, commands) {
         Quick::Next
@@ -125,7 +138,7 @@ fn answer_event<O: Outlet, C: Commands>(
     }
 }
 
-/// `load M TO FROM SLOT`.
+// Answers `load M TO FROM SLOT`.
 #[inline(never)]
 fn answer_load<O: Outlet, C: Commands>(
     text: &[u8],
@@ -134,7 +147,8 @@ fn answer_load<O: Outlet, C: Commands>(
     commands: &mut C,
 ) -> (Quick, usize)
     requires { FollowsIn (codes "load") text.now 5 }
-    ensures { IsQuickIn C.acts text.now commands.old page.old (O.seen writer.old) commands.new page.new (O.seen writer.new) result }
+    ensures { IsQuickIn C.acts text.now commands.old page.old (O.seen writer.old) commands.new
+        page.new (O.seen writer.new) result }
 {
     let Some((m, to, from, slot, n)) = four_in(text, 5) else {
         return (Quick::No, 0);
@@ -149,7 +163,7 @@ fn answer_load<O: Outlet, C: Commands>(
     (quick, n)
 }
 
-/// `store M TARGET SLOT SOURCE`.
+// Answers `store M TARGET SLOT SOURCE`.
 #[inline(never)]
 fn answer_store<O: Outlet, C: Commands>(
     text: &[u8],
@@ -158,7 +172,8 @@ fn answer_store<O: Outlet, C: Commands>(
     commands: &mut C,
 ) -> (Quick, usize)
     requires { FollowsIn (codes "store") text.now 6 }
-    ensures { IsQuickIn C.acts text.now commands.old page.old (O.seen writer.old) commands.new page.new (O.seen writer.new) result }
+    ensures { IsQuickIn C.acts text.now commands.old page.old (O.seen writer.old) commands.new
+        page.new (O.seen writer.new) result }
 {
     let Some((m, target, slot, source, n)) = four_in(text, 6) else {
         return (Quick::No, 0);
@@ -178,7 +193,7 @@ fn answer_store<O: Outlet, C: Commands>(
     (quick, n)
 }
 
-/// `put M TARGET SLOT VALUE`.
+// Answers `put M TARGET SLOT VALUE`.
 #[inline(never)]
 fn answer_put<O: Outlet, C: Commands>(
     text: &[u8],
@@ -187,7 +202,8 @@ fn answer_put<O: Outlet, C: Commands>(
     commands: &mut C,
 ) -> (Quick, usize)
     requires { FollowsIn (codes "put") text.now 4 }
-    ensures { IsQuickIn C.acts text.now commands.old page.old (O.seen writer.old) commands.new page.new (O.seen writer.new) result }
+    ensures { IsQuickIn C.acts text.now commands.old page.old (O.seen writer.old) commands.new
+        page.new (O.seen writer.new) result }
 {
     let Some((m, target, slot, value, n)) = four_in(text, 4) else {
         return (Quick::No, 0);
@@ -207,7 +223,7 @@ fn answer_put<O: Outlet, C: Commands>(
     (quick, n)
 }
 
-/// `move M TO FROM_M FROM`.
+// Answers `move M TO FROM_M FROM`.
 #[inline(never)]
 fn answer_move<O: Outlet, C: Commands>(
     text: &[u8],
@@ -216,7 +232,8 @@ fn answer_move<O: Outlet, C: Commands>(
     commands: &mut C,
 ) -> (Quick, usize)
     requires { FollowsIn (codes "move") text.now 5 }
-    ensures { IsQuickIn C.acts text.now commands.old page.old (O.seen writer.old) commands.new page.new (O.seen writer.new) result }
+    ensures { IsQuickIn C.acts text.now commands.old page.old (O.seen writer.old) commands.new
+        page.new (O.seen writer.new) result }
 {
     let Some((m, to, from_m, from, n)) = four_in(text, 5) else {
         return (Quick::No, 0);
@@ -236,7 +253,7 @@ fn answer_move<O: Outlet, C: Commands>(
     (quick, n)
 }
 
-/// `clear M R`.
+// Answers `clear M R`.
 #[inline(never)]
 fn answer_clear<O: Outlet, C: Commands>(
     text: &[u8],
@@ -245,7 +262,8 @@ fn answer_clear<O: Outlet, C: Commands>(
     commands: &mut C,
 ) -> (Quick, usize)
     requires { FollowsIn (codes "clear") text.now 6 }
-    ensures { IsQuickIn C.acts text.now commands.old page.old (O.seen writer.old) commands.new page.new (O.seen writer.new) result }
+    ensures { IsQuickIn C.acts text.now commands.old page.old (O.seen writer.old) commands.new
+        page.new (O.seen writer.new) result }
 {
     let Some((m, r, n)) = two_in(text, 6) else {
         return (Quick::No, 0);
@@ -254,7 +272,7 @@ fn answer_clear<O: Outlet, C: Commands>(
     (quick, n)
 }
 
-/// `new M R CLASS`.
+// Answers `new M R CLASS`.
 #[inline(never)]
 fn answer_new<O: Outlet, C: Commands>(
     text: &[u8],
@@ -263,7 +281,8 @@ fn answer_new<O: Outlet, C: Commands>(
     commands: &mut C,
 ) -> (Quick, usize)
     requires { FollowsIn (codes "new") text.now 4 }
-    ensures { IsQuickIn C.acts text.now commands.old page.old (O.seen writer.old) commands.new page.new (O.seen writer.new) result }
+    ensures { IsQuickIn C.acts text.now commands.old page.old (O.seen writer.old) commands.new
+        page.new (O.seen writer.new) result }
 {
     let Some((m, r, class, n)) = three_in(text, 4) else {
         return (Quick::No, 0);
@@ -278,7 +297,7 @@ fn answer_new<O: Outlet, C: Commands>(
     (quick, n)
 }
 
-/// `mark`.
+// Answers `mark`.
 #[inline(never)]
 fn answer_mark<O: Outlet, C: Commands>(
     text: &[u8],
@@ -287,14 +306,15 @@ fn answer_mark<O: Outlet, C: Commands>(
     commands: &mut C,
 ) -> (Quick, usize)
     requires { IsShortLine 4 text.now × (take 4 text.now ≡ codes "mark") }
-    ensures { IsQuickIn C.acts text.now commands.old page.old (O.seen writer.old) commands.new page.new (O.seen writer.new) result }
+    ensures { IsQuickIn C.acts text.now commands.old page.old (O.seen writer.old) commands.new
+        page.new (O.seen writer.new) result }
 {
     let quick = answer_event(Event::Mark, &text[..4], page, writer, commands);
     (quick, 4)
 }
 
-/// Answers the first line of a text at once, if it is one of a mutator or `mark`, in the shortest form: single spaces, none at
-/// the end. Returns where that line ends, too.
+/// Answers the first line of a text at once, if it is one of a mutator or `mark`, in the shortest form: single spaces, none
+/// at the end. Returns the line's end, too.
 #[inline(always)]
 pub fn answer_mutator<O: Outlet, C: Commands>(
     text: &[u8],
@@ -302,7 +322,8 @@ pub fn answer_mutator<O: Outlet, C: Commands>(
     writer: &mut O,
     commands: &mut C,
 ) -> (Quick, usize)
-    ensures { IsQuickIn C.acts text.now commands.old page.old (O.seen writer.old) commands.new page.new (O.seen writer.new) result }
+    ensures { IsQuickIn C.acts text.now commands.old page.old (O.seen writer.old) commands.new
+        page.new (O.seen writer.new) result }
 {
     match verb_of(text) {
         Verb::Load => answer_load(text, page, writer, commands),

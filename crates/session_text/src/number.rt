@@ -1,18 +1,18 @@
 //! Numbers in decimal.
 ghost use Rattle.std.specs.Prelude.{◌≡◌, ◌+◌, ◌^◌, ◌≤◌, ◌<◌, length, drop, codes, IfSome};
 ghost use Rattle.std.specs.Str.{bytes_eq};
-ghost use Rattle.session_text.specs.Grammar.{number, number_or_dash};
+ghost use Rattle.session_text.specs.Grammar.{number_of_word, number_or_dash};
 ghost use Rattle.session_text.specs.Reads.{first_word, with_digit, with_size, IsReadTo, IsReadIn, IsNumberAt, IsNumberThen};
 
 use crate::words::SPACE;
 
-/// The most digits of a number, leading zeros included.
+// The largest number of digits of a number, leading zeros included.
 const DIGIT_LIMIT: usize = 20;
 
-/// The digits of which any make a number below 2^64.
+// The largest number of digits that always make a number below 2^64.
 const SURE_DIGITS: usize = 19;
 
-/// A number with a digit more. None where `b` is no digit or the number comes to 2^64.
+// Returns a number with one more digit, or None if `b` is no digit or the number comes to 2^64.
 fn with_digit(value: u64, b: u8) -> Option<u64>
     ensures { result ≡ with_digit value b }
 {
@@ -22,7 +22,8 @@ fn with_digit(value: u64, b: u8) -> Option<u64>
     value.checked_mul(10)?.checked_add(u64::from(b - b'0'))
 }
 
-/// The number that the text's first word is, given the value of its first 19 digits, and its bytes, or 0 bytes.
+// Returns the number that the text's first word holds, given the value of its first 19 digits, and its size, or size 0 if it
+// holds no number.
 #[inline(never)]
 fn last_digit(text: &[u8], value: u64) -> (u64, usize)
     requires { (19 < length text.now) × IsReadTo text.now (drop 19 text.now) 19 value }
@@ -41,7 +42,8 @@ fn last_digit(text: &[u8], value: u64) -> (u64, usize)
     (whole, DIGIT_LIMIT)
 }
 
-/// The number that the text's first word is, and its bytes: 1 to 20 digits below 2^64. It has 0 bytes if it is no number.
+/// Returns the number that the text's first word holds, 1 to 20 digits below 2^64, and its size, or size 0 if it holds no
+/// number.
 pub fn number_at(text: &[u8]) -> (u64, usize)
     ensures value { IsNumberAt text.now result.0 result.1 }
     ensures within { result.1 ≤ length text.now }
@@ -66,8 +68,18 @@ pub fn number_at(text: &[u8]) -> (u64, usize)
     last_digit(text, value)
 }
 
-/// Returns the value of the digits that stand at a place, read two by two while both are digits, and how many they are: at most
-/// `sure`.
+/// Returns the number that a word is: 1 to 20 digits below 2^64, or None if it is no number.
+pub fn number_of(word: &[u8]) -> Option<u64>
+    ensures { result ≡ number_of_word word.now }
+{
+    let (value, size) = number_at(word);
+    if size == 0 || size < word.len() {
+        return None;
+    }
+    Some(value)
+}
+
+// Returns the value of the digits at a place, read two by two while both are digits, and their number: at most `sure`.
 #[inline(always)]
 fn pairs_in(text: &[u8], at: usize, sure: usize) -> (u64, usize)
     requires within { at + sure ≤ length text.now }
@@ -90,7 +102,7 @@ fn pairs_in(text: &[u8], at: usize, sure: usize) -> (u64, usize)
     (value, size)
 }
 
-/// The value of the digits that stand at a place, and how many they are: at most 20, with a value below 2^64.
+// Returns the value of the digits at a place, and their number: at most 20, with a value below 2^64.
 fn digits_in(text: &[u8], at: usize) -> (u64, usize)
     requires { at ≤ length text.now }
     ensures { IsReadIn text.now at result.0 result.1 }
@@ -114,7 +126,8 @@ fn digits_in(text: &[u8], at: usize) -> (u64, usize)
     }
 }
 
-/// The number at a place of a text, if this byte ends it, and that byte's place; or the text's end if there is no such number.
+/// Returns the number at a place of a text, if this byte ends it, and that byte's place; or the text's end if there is no
+/// such number.
 #[inline(always)]
 pub fn number_then(text: &[u8], at: usize, ender: u8) -> (u64, usize)
     requires { at ≤ length text.now + 1 }
@@ -135,7 +148,7 @@ pub fn number_then(text: &[u8], at: usize, ender: u8) -> (u64, usize)
     (value, end)
 }
 
-/// Whether the text's first word is `-`.
+// Tells whether the text's first word is `-`.
 fn is_dash_at(text: &[u8]) -> bool
     ensures { result ≡ bytes_eq (first_word text.now) (codes "-") }
 {
@@ -146,7 +159,7 @@ fn is_dash_at(text: &[u8]) -> bool
     }
 }
 
-/// The number that the text's first word is, or None where it is `-`, and its bytes.
+/// Returns the number that the text's first word holds, or None from a `-`, and its size. Returns None if it holds neither.
 pub fn number_or_dash_at(text: &[u8]) -> Option<(Option<u64>, usize)>
     ensures value { result ≡ with_size text.now (number_or_dash (first_word text.now)) }
     ensures within { IfSome result (λ r. r.1 ≤ length text.now) }

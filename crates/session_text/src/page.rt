@@ -1,16 +1,17 @@
-//! Text on its way out.
+//! Pages: text that isn't written yet.
 ghost use Rattle.std.specs.Prelude.{◌≡◌, ◌+◌, ◌*◌, ◌≤◌, ◌++◌, [], ◌∷◌, take, decimal, length, IfOk};
 ghost use Rattle.hex.specs.Hex.{encode_lower};
 ghost use Rattle.session_text.specs.Replies.{and_number};
+ghost use Rattle.session_text.specs.declared.page.TheConstants.{PAGE_LIMIT};
 
 use crate::digits::write_digits;
 use std::alloc::{AllocError, Global};
 use std::marker::Model;
 
-/// The most bytes of a page.
+/// The largest number of bytes of a page.
 pub const PAGE_LIMIT: usize = 8192;
 
-/// Text that isn't written yet. It takes its memory when it is made. Contracts see the bytes.
+/// Text that isn't written yet. All memory is allocated when the page is made. Contracts see the bytes.
 #[derive(Drop)]
 pub struct Page {
     bytes: Vec<u8>,
@@ -19,16 +20,17 @@ pub struct Page {
 
 impl Model for Page {
     ghost use Rattle.std.specs.Prelude.{◌≡◌, ℕ, ◌≤◌, List, take, length};
+    ghost use Rattle.session_text.specs.declared.page.TheConstants.{PAGE_LIMIT};
 
     ghost Value = { List ℕ };
 
     ghost view = { λ p. take p.used p.bytes.items };
 
-    ghost invariant = { λ p. (p.used ≤ 8192) × (length p.bytes.items ≡ 8192) };
+    ghost invariant = { λ p. (p.used ≤ PAGE_LIMIT) × (length p.bytes.items ≡ PAGE_LIMIT) };
 }
 
 impl Page {
-    /// An empty page.
+    /// Creates an empty page. Fails if the allocation fails.
     pub fn new(alloc: Global) -> Result<Page, AllocError>
         ensures { IfOk result (λ p. p ≡ []) }
     {
@@ -38,10 +40,10 @@ impl Page {
         })
     }
 
-    /// The bytes.
+    /// Returns the bytes.
     pub fn as_slice(&self) -> &[u8]
         ensures value { result.now ≡ self.now }
-        ensures most { length self.now ≤ 8192 }
+        ensures most { length self.now ≤ PAGE_LIMIT }
     {
         &self.bytes[..self.used]
     }
@@ -53,18 +55,18 @@ impl Page {
         self.used = 0;
     }
 
-    /// Adds a text.
+    /// Adds a text, for which there must be room.
     pub fn add(&mut self, text: &[u8])
-        requires { length self.old + length text.now ≤ 8192 }
+        requires { length self.old + length text.now ≤ PAGE_LIMIT }
         ensures { self.new ≡ self.old ++ text.now }
     {
         place(&mut self.bytes, self.used, text);
         self.used += text.len();
     }
 
-    /// Adds the lower-case hexadecimal digits of some bytes.
+    /// Adds the lower-case hexadecimal digits of some bytes, for which there must be room.
     pub fn add_hex(&mut self, given: &[u8])
-        requires { length self.old + 2 * length given.now ≤ 8192 }
+        requires { length self.old + 2 * length given.now ≤ PAGE_LIMIT }
         ensures { self.new ≡ self.old ++ encode_lower given.now }
     {
         place_hex(&mut self.bytes, self.used, given);
@@ -73,7 +75,7 @@ impl Page {
 
     /// Adds a space and a number.
     pub fn add_number(&mut self, n: u64)
-        requires { length self.old + 21 ≤ 8192 }
+        requires { length self.old + 21 ≤ PAGE_LIMIT }
         ensures text { self.new ≡ self.old ++ and_number n }
         ensures short { length self.new ≤ length self.old + 21 }
     {
@@ -82,7 +84,7 @@ impl Page {
     }
 }
 
-/// Writes a text behind the bytes before a place.
+// Writes a text behind the bytes before a place.
 fn place(bytes: &mut [u8], at: usize, text: &[u8])
     requires { at + length text.now ≤ length bytes.old }
     ensures { take (at + length text.now) bytes.new ≡ take at bytes.old ++ text.now }
@@ -90,10 +92,11 @@ fn place(bytes: &mut [u8], at: usize, text: &[u8])
     bytes[at..at + text.len()].copy_from_slice(text);
 }
 
-/// Writes hexadecimal digits behind the bytes before a place.
+// Writes hexadecimal digits behind the bytes before a place.
 fn place_hex(bytes: &mut [u8], at: usize, given: &[u8])
     requires { at + 2 * length given.now ≤ length bytes.old }
-    ensures { take (at + 2 * length given.now) bytes.new ≡ take at bytes.old ++ encode_lower given.now }
+    ensures { take (at + 2 * length given.now) bytes.new
+        ≡ take at bytes.old ++ encode_lower given.now }
 {
     write_digits(&mut bytes[at..at + 2 * given.len()], given);
 }

@@ -4,15 +4,13 @@ ghost use Rattle.session_text.specs.Inlets.{IsTriedRead};
 
 use crate::inlet::{Inlet, Take, count_of};
 use dump_pump::ledger::note_bytes;
+use dump_pump::write_outlet::INTERRUPT_LIMIT;
 use http_server::Log;
 use std::io::{ErrorKind, Read};
 use std::marker::Model;
 
-/// How often an interrupted read is made again.
-pub const INTERRUPT_LIMIT: u32 = 100;
-
-/// An inlet of a reader. A read that stays interrupted is a failure. Contracts see the reader, the bytes that it gave since the
-/// inlet was made, how many each read took, and the number of reads that failed.
+/// An inlet over a reader. A read that stays interrupted is a failure. Contracts see the reader, the bytes that it gave since
+/// the inlet was made, the number of bytes of each read, and the number of reads that failed.
 #[derive(Drop)]
 pub struct ReadInlet<R: Read> {
     reader: R,
@@ -24,15 +22,21 @@ pub struct ReadInlet<R: Read> {
 impl<R: Read> Model for ReadInlet<R> {
     ghost use Rattle.std.specs.Prelude.{length, map};
     ghost use Rattle.dump_pump.specs.Outlets.{bytes_of};
-    ghost use Rattle.session_text.specs.Inlets.{Reading};
+    ghost use Rattle.session_text.specs.Inlets.{InletState};
 
-    ghost Value = { Reading R };
+    ghost Value = { InletState R };
 
-    ghost view = { λ i. record { reader = i.reader; taken = bytes_of i.taken.items; reads = map (λ e. e.0) i.asked.items; failures = length i.failed.items } };
+    ghost view = { λ i.
+        record {
+          reader = i.reader;
+          taken = bytes_of i.taken.items;
+          reads = map (λ e. e.0) i.asked.items;
+          failures = length i.failed.items;
+        } };
 }
 
 impl<R: Read> ReadInlet<R> {
-    /// Returns an inlet that has given nothing yet.
+    /// Creates an inlet that has given nothing yet.
     pub fn new(reader: R) -> ReadInlet<R>
         ensures { result ≡ record { reader = reader; taken = []; reads = []; failures = 0 } }
     {
@@ -58,7 +62,7 @@ impl<R: Read> ReadInlet<R> {
     }
 }
 
-/// Reads once, and again where it is interrupted.
+// Reads once, and again if it is interrupted, at most INTERRUPT_LIMIT times in all.
 fn read_once<R: Read>(reader: &mut R, room: &mut [u8]) -> Take
     requires { 0 < length room.old }
     ensures { IsTriedRead (R.remaining reader.old) (R.remaining reader.new) result room.new }
@@ -78,7 +82,13 @@ fn read_once<R: Read>(reader: &mut R, room: &mut [u8]) -> Take
 }
 
 impl<R: Read> Inlet for ReadInlet<R> {
-    ghost seen = { λ i. record { taken = i.taken; left = R.remaining i.reader; reads = i.reads; failures = i.failures } };
+    ghost seen = { λ i.
+        record {
+          taken = i.taken;
+          left = R.remaining i.reader;
+          reads = i.reads;
+          failures = i.failures;
+        } };
 
     fn take(&mut self, room: &mut [u8]) -> Take {
         let took = read_once(&mut self.reader, room);

@@ -1,10 +1,12 @@
-//! The lines that a session answers.
+//! The lines of replies.
 ghost use Rattle.std.specs.Prelude.{◌≡◌, ◌+◌, ◌≤◌, ◌++◌, ◌∷◌, codes, length, Some, None, MatchOption};
 ghost use Rattle.heap_class.specs.Table.{refusal_name};
 ghost use Rattle.heap_step.specs.declared.Answer.TheVariants.{Object, Swept};
 ghost use Rattle.heap_trail.specs.declared.Reply.TheVariants.{Answered, Pinned};
 ghost use Rattle.session_text.specs.Replies.{answer_text, cause_text, facts_text, refusal_text, line, piece_words, reply_words, reply_data, reply_text, data_lines, piece_in, pin_in};
-ghost use Rattle.session_text.specs.Writes.{IsAdded};
+ghost use Rattle.session_text.specs.Writes.{IsTextAdded};
+ghost use Rattle.session_text.specs.declared.page.TheConstants.{PAGE_LIMIT};
+ghost use Rattle.session_text.specs.declared.write.TheConstants.{LINE_START};
 
 use crate::data::write_data;
 use crate::page::Page;
@@ -15,8 +17,9 @@ use heap_step::Answer;
 use heap_trail::Reply;
 use hprof_text::Piece;
 
+// Adds the answer of an event that made or loaded an object.
 fn add_object(page: &mut Page, id: u64)
-    requires { length page.old ≤ 8000 }
+    requires { length page.old ≤ LINE_START }
     ensures text { page.new ≡ page.old ++ answer_text (Object id) }
     ensures short { length page.new ≤ length page.old + 21 }
 {
@@ -24,8 +27,9 @@ fn add_object(page: &mut Page, id: u64)
     page.add_hex(&id.to_be_bytes()[4..]);
 }
 
+// Adds the answer of a sweep.
 fn add_swept(page: &mut Page, dead: u64, emptied: bool)
-    requires { length page.old ≤ 8000 }
+    requires { length page.old ≤ LINE_START }
     ensures text { page.new ≡ page.old ++ answer_text (Swept dead emptied) }
     ensures short { length page.new ≤ length page.old + 35 }
 {
@@ -36,8 +40,9 @@ fn add_swept(page: &mut Page, dead: u64, emptied: bool)
     }
 }
 
+// Adds the answer of an event.
 fn add_answer(page: &mut Page, answer: Answer)
-    requires { length page.old ≤ 8000 }
+    requires { length page.old ≤ LINE_START }
     ensures text { page.new ≡ page.old ++ answer_text answer }
     ensures short { length page.new ≤ length page.old + 35 }
 {
@@ -65,6 +70,7 @@ fn add_answer(page: &mut Page, answer: Answer)
     }
 }
 
+// Returns the word of a cause.
 fn cause_word(cause: LostCause) -> &'static [u8]
     ensures word { result.now ≡ cause_text cause }
     ensures short { length result.now ≤ 9 }
@@ -76,8 +82,9 @@ fn cause_word(cause: LostCause) -> &'static [u8]
     }
 }
 
+// Adds the facts of a refusal beside its name.
 fn add_facts(page: &mut Page, refusal: Refusal)
-    requires { length page.old ≤ 8100 }
+    requires { length page.old + 42 ≤ PAGE_LIMIT }
     ensures text { page.new ≡ page.old ++ facts_text refusal }
     ensures short { length page.new ≤ length page.old + 42 }
 {
@@ -100,7 +107,7 @@ fn add_facts(page: &mut Page, refusal: Refusal)
     }
 }
 
-/// The name of a refusal.
+// Returns the name of a refusal.
 fn name_of(refusal: Refusal) -> &'static [u8]
     ensures word { result.now ≡ refusal_name refusal }
     ensures short { length result.now ≤ 14 }
@@ -108,9 +115,9 @@ fn name_of(refusal: Refusal) -> &'static [u8]
     refusal.name().as_bytes()
 }
 
-/// Adds a refusal's number, name and facts.
+// Adds a refusal's number, name and facts.
 fn add_refusal(page: &mut Page, refusal: Refusal)
-    requires { length page.old ≤ 8000 }
+    requires { length page.old ≤ LINE_START }
     ensures text { page.new ≡ page.old ++ refusal_text refusal }
     ensures short { length page.new ≤ length page.old + 80 }
 {
@@ -121,9 +128,9 @@ fn add_refusal(page: &mut Page, refusal: Refusal)
     add_facts(page, refusal);
 }
 
-/// Adds the number of a new pin and its place.
+// Adds the number of a new pin and its place.
 fn add_pinned(page: &mut Page, pin: u64, at: u64)
-    requires { length page.old ≤ 8000 }
+    requires { length page.old ≤ LINE_START }
     ensures text { page.new ≡ page.old ++ reply_words (Pinned pin at) }
     ensures short { length page.new ≤ length page.old + 51 }
 {
@@ -133,9 +140,9 @@ fn add_pinned(page: &mut Page, pin: u64, at: u64)
     page.add_number(at);
 }
 
-/// Adds the length of a piece, and whether it is the last.
+// Adds the length of a piece, and whether it is the last.
 fn add_piece(page: &mut Page, piece: &Piece)
-    requires { length page.old ≤ 8000 }
+    requires { length page.old ≤ LINE_START }
     ensures text { page.new ≡ page.old ++ piece_words piece.now }
     ensures short { length page.new ≤ length page.old + 29 }
 {
@@ -143,9 +150,9 @@ fn add_piece(page: &mut Page, piece: &Piece)
     page.add_number(piece.bytes.as_slice().len() as u64);
 }
 
-/// Adds the last line of a reply.
+// Adds the last line of a reply.
 fn add_last_line(page: &mut Page, reply: &Reply)
-    requires { length page.old ≤ 8000 }
+    requires { length page.old ≤ LINE_START }
     ensures { page.new ≡ page.old ++ line (reply_words reply.now) }
 {
     match reply {
@@ -162,9 +169,11 @@ fn add_last_line(page: &mut Page, reply: &Reply)
     page.add(b"\n");
 }
 
-/// Adds the last line of a reply to a page, which is flushed first unless it has room for one more line.
+// Adds the last line of a reply to a page, which is flushed first unless it has room for one more line. Returns false if a
+// write failed.
 fn write_last_line<O: Outlet>(page: &mut Page, outlet: &mut O, reply: &Reply) -> bool
-    ensures { IsAdded (line (reply_words reply.now)) page.old (O.seen outlet.old) page.new (O.seen outlet.new) result }
+    ensures { IsTextAdded (line (reply_words reply.now)) page.old (O.seen outlet.old) page.new
+        (O.seen outlet.new) result }
 {
     if !make_room(page, outlet) {
         return false;
@@ -173,19 +182,21 @@ fn write_last_line<O: Outlet>(page: &mut Page, outlet: &mut O, reply: &Reply) ->
     true
 }
 
-/// Adds the line of what an event answers.
+// Adds the line of an event's answer.
 fn add_answer_line(page: &mut Page, answer: Answer)
-    requires { length page.old ≤ 8000 }
+    requires { length page.old ≤ LINE_START }
     ensures { page.new ≡ page.old ++ line (answer_text answer) }
 {
     add_answer(page, answer);
     page.add(b"\n");
 }
 
-/// Adds what an event answers to a page, which is flushed first unless it has room for one more line.
+/// Adds the line of an event's answer to a page, which is flushed first unless it has room for one more line. Returns false
+/// if a write failed.
 #[inline(always)]
 pub fn write_answer<O: Outlet>(page: &mut Page, outlet: &mut O, answer: Answer) -> bool
-    ensures { IsAdded (reply_text (Answered answer)) page.old (O.seen outlet.old) page.new (O.seen outlet.new) result }
+    ensures { IsTextAdded (reply_text (Answered answer)) page.old (O.seen outlet.old) page.new
+        (O.seen outlet.new) result }
 {
     if !make_room(page, outlet) {
         return false;
@@ -194,7 +205,7 @@ pub fn write_answer<O: Outlet>(page: &mut Page, outlet: &mut O, answer: Answer) 
     true
 }
 
-/// Returns the bytes that a reply prints before its last line: those of a piece.
+// Returns the bytes that a reply prints before its last line: those of a piece.
 #[tactic(auto, unfolding(crate::specs::Replies::data_lines, crate::specs::Replies::chunks_of_64))]
 fn data_of(reply: &Reply) -> &[u8]
     ensures { data_lines result.now ≡ reply_data reply.now }
@@ -205,16 +216,18 @@ fn data_of(reply: &Reply) -> &[u8]
     }
 }
 
-/// Adds a reply to a page, which is flushed each time that it is full.
+/// Adds a reply to a page, which is flushed whenever it is full. Returns false if a write failed.
 pub fn write_reply<O: Outlet>(page: &mut Page, outlet: &mut O, reply: &Reply) -> bool
-    ensures { IsAdded (reply_text reply.now) page.old (O.seen outlet.old) page.new (O.seen outlet.new) result }
+    ensures { IsTextAdded (reply_text reply.now) page.old (O.seen outlet.old) page.new
+        (O.seen outlet.new) result }
 {
     write_data(page, outlet, data_of(reply)) && write_last_line(page, outlet, reply)
 }
 
-/// Returns the piece that a reply gives.
+/// Returns the piece that a reply gives, if it gives one.
 pub fn piece_in(reply: &Reply) -> Option<&Piece>
-    ensures { MatchOption result (piece_in reply.now ≡ None) (λ p. piece_in reply.now ≡ Some p.now) }
+    ensures { MatchOption result (piece_in reply.now ≡ None)
+        (λ p. piece_in reply.now ≡ Some p.now) }
 {
     match reply {
         Reply::Part(piece) => Some(piece),
@@ -222,7 +235,7 @@ pub fn piece_in(reply: &Reply) -> Option<&Piece>
     }
 }
 
-/// Returns the number of the pin that was opened.
+/// Returns the number of the pin that was opened, if the reply tells one.
 pub fn pin_in(reply: &Reply) -> Option<u64>
     ensures { result ≡ pin_in reply.now }
 {

@@ -1,24 +1,25 @@
 //! Sessions.
 ghost use Rattle.std.specs.Prelude.{◌≡◌, ◌≤◌, [], length};
-ghost use Rattle.session_text.specs.Answers.{Answers, Begins};
-ghost use Rattle.session_text.specs.Endings.{Ends, EndsWith};
+ghost use Rattle.session_text.specs.Answers.{AnswersCommand, Begins};
+ghost use Rattle.session_text.specs.Endings.{EndsSession, EndsWith};
 ghost use Rattle.session_text.specs.Session.{IsSession};
 ghost use Rattle.session_text.specs.Talks.{Serves};
+ghost use Rattle.session_text.specs.declared.write.TheConstants.{TEXT_LIMIT};
 
 use crate::answer::{Step, answer_lines};
 use crate::buffer::Buffer;
 use crate::commands::{Commands, Local};
 use crate::inlet::{Inlet, Take};
-use crate::marks::FieldMarks;
 use crate::page::Page;
+use crate::spans::FieldSpans;
 use crate::write::{flush, write_text};
 use crate::{Ended, READ_LIMIT};
 use dump_pump::Outlet;
 use std::alloc::Global;
 
-/// Puts out a page and an ending's line.
+// Puts out a page and the line of an ending.
 fn end_with<O: Outlet>(page: &mut Page, outlet: &mut O, ended: Ended, line: &[u8]) -> Ended
-    requires { length line.now ≤ 192 }
+    requires { length line.now ≤ TEXT_LIMIT }
     ensures { EndsWith line.now page.old (O.seen outlet.old) (O.seen outlet.new) ended result }
 {
     if !write_text(page, outlet, line) {
@@ -30,9 +31,10 @@ fn end_with<O: Outlet>(page: &mut Page, outlet: &mut O, ended: Ended, line: &[u8
     ended
 }
 
+// Reads and answers lines until an ending, with an empty buffer and an empty page.
 fn talk<I: Inlet, O: Outlet, C: Commands>(
     alloc: Global,
-    marks: &mut FieldMarks,
+    marks: &mut FieldSpans,
     time: u64,
     buffer: &mut Buffer,
     page: &mut Page,
@@ -40,9 +42,10 @@ fn talk<I: Inlet, O: Outlet, C: Commands>(
     writer: &mut O,
     commands: &mut C,
 ) -> Ended
-    requires buffer { buffer.old ≡ [] }
-    requires page { page.old ≡ [] }
-    ensures { Serves (Answers C.acts time) (Begins C.acts time) (I.seen reader.old) (I.seen reader.new) commands.old (O.seen writer.old) commands.new (O.seen writer.new) result }
+    requires { (buffer.old ≡ []) × (page.old ≡ []) }
+    ensures { Serves (AnswersCommand C.acts C.unknown time) (Begins C.acts C.unknown time)
+        (I.seen reader.old) (I.seen reader.new) commands.old (O.seen writer.old) commands.new
+        (O.seen writer.new) result }
 {
     let mut reads: u64 = 0;
     loop {
@@ -72,11 +75,15 @@ fn talk<I: Inlet, O: Outlet, C: Commands>(
     }
 }
 
-/// Reads lines, and writes the answers of the commands in order, until an ending. In which chunks bytes come and go doesn't
-/// show. Answers wait in a page, which is put out when it is full, before each read and at the end. After a write that failed
-/// nothing more is read and no line is acted on: a beginning of the answers to the lines that were acted on, and of what the
-/// ending prints, is out, in which all answers to lines that were whole before the last read are. A dump then asks for no more
-/// pieces, and one of the current state closes its pin. `time`, in milliseconds, stands in the header of each dump.
+/// Reads lines and writes the answers of the commands, in order, until an ending. The sizes of single reads and writes don't
+/// show. Answers wait in a page, which is put out when it is full, before each read and at the end.
+///
+/// After a write that failed nothing more is read and no line is acted on. What is out is then a beginning of the answers to
+/// the lines that were acted on and of the line of the ending, with all answers to lines that were whole before the last
+/// read. A dump asks for no more pieces, and one of the current state closes its pin.
+///
+/// `time`, in milliseconds, stands in the header of each dump. Fails with NoMemory, before the first read, if an allocation
+/// for the session fails.
 pub fn serve<I: Inlet, O: Outlet, C: Commands>(
     alloc: Global,
     reader: &mut I,
@@ -84,10 +91,13 @@ pub fn serve<I: Inlet, O: Outlet, C: Commands>(
     commands: &mut C,
     time: u64,
 ) -> Ended
-    ensures ends { Ends (I.seen reader.old) (I.seen reader.new) (O.seen writer.old) (O.seen writer.new) result }
-    ensures text { Serves (Answers C.acts time) (Begins C.acts time) (I.seen reader.old) (I.seen reader.new) commands.old (O.seen writer.old) commands.new (O.seen writer.new) result }
+    ensures ends { EndsSession (I.seen reader.old) (I.seen reader.new) (O.seen writer.old)
+        (O.seen writer.new) result }
+    ensures text { Serves (AnswersCommand C.acts C.unknown time) (Begins C.acts C.unknown time)
+        (I.seen reader.old) (I.seen reader.new) commands.old (O.seen writer.old) commands.new
+        (O.seen writer.new) result }
 {
-    match (Buffer::new(alloc), Page::new(alloc), FieldMarks::new(alloc)) {
+    match (Buffer::new(alloc), Page::new(alloc), FieldSpans::new(alloc)) {
         (Ok(mut buffer), Ok(mut page), Ok(mut marks)) => {
             talk(
                 alloc,
@@ -104,11 +114,12 @@ pub fn serve<I: Inlet, O: Outlet, C: Commands>(
     }
 }
 
-/// A session of a machine of one's own: `serve`, where what is written and the machine afterwards are a function of the
-/// bytes read, of where memory was refused and of how reading ended. After a write that failed a beginning of that is
-/// written, and the machine is that after some of the lines; of the text up to their answers something is missing. If the last
-/// of them is a dump, it may have been acted on up to some piece. The bytes read are those that the reader tells, if it tells
-/// them.
+/// Serves a session of a private machine as `serve` does. The output and the machine afterwards are a function of the bytes
+/// read, of which allocations failed, and of how reading ended.
+///
+/// After a write that failed a beginning of that output is written, and the machine is that after some of the lines; a part
+/// of the text up to their answers is missing. If the last of these lines is a dump, it may have been acted on up to some
+/// piece. The bytes read are those that the reader tells, if it tells them.
 pub fn serve_local<I: Inlet, O: Outlet>(
     alloc: Global,
     reader: &mut I,
@@ -116,9 +127,11 @@ pub fn serve_local<I: Inlet, O: Outlet>(
     local: &mut Local,
     time: u64,
 ) -> Ended
-    ensures ends { Ends (I.seen reader.old) (I.seen reader.new) (O.seen writer.old) (O.seen writer.new) result }
+    ensures ends { EndsSession (I.seen reader.old) (I.seen reader.new) (O.seen writer.old)
+        (O.seen writer.new) result }
     ensures first { local.new.first_pin ≡ local.old.first_pin }
-    ensures session { IsSession local.old.machine time (I.seen reader.old) (I.seen reader.new) (O.seen writer.old) (O.seen writer.new) local.new.machine result }
+    ensures session { IsSession local.old.machine time (I.seen reader.old) (I.seen reader.new)
+        (O.seen writer.old) (O.seen writer.new) local.new.machine result }
 {
     serve(alloc, reader, writer, local, time)
 }

@@ -1,22 +1,22 @@
 //! The words of a line.
 ghost use Rattle.std.specs.Prelude.{◌≡◌, ◌+◌, ◌<◌, ◌≤◌, ◌==◌, not, [], ◌∷◌, length, drop, IfSome, MatchOption};
 ghost use Rattle.std.specs.List.{position};
-ghost use Rattle.session_text.specs.Grammar.{words_of};
+ghost use Rattle.session_text.specs.Grammar.{words_of_line};
 ghost use Rattle.session_text.specs.Reads.{word_size, IsFront, IsRestOf};
 
 use std::marker::Model;
 
-/// What stands between words.
+/// The byte between words.
 pub const SPACE: u8 = b' ';
 
-/// What isn't read yet of a text's words, which are its longest runs of bytes other than space. It goes on only and has no copy:
-/// what was passed can't be read again. Contracts see the text that is left.
+/// The words of a text that aren't read yet: its longest runs of bytes other than space. It only goes on and has no copy, so
+/// no word is read twice. Contracts see the text that is left.
 #[derive(Drop)]
 pub struct Words<'a> {
     rest: &'a [u8],
 }
 
-/// Where the first word begins.
+// Returns the place at which the first word begins.
 fn word_start(text: &[u8]) -> Option<usize>
     ensures value { result ≡ position (λ b. not (b == 32)) text.now }
     ensures within { IfSome result (λ n. n < length text.now) }
@@ -24,14 +24,14 @@ fn word_start(text: &[u8]) -> Option<usize>
     text.iter().position(|b| *b != SPACE)
 }
 
-/// Where the first space stands.
+// Returns the place of the first space.
 fn first_space(text: &[u8]) -> Option<usize>
     ensures { result ≡ position (λ b. b == 32) text.now }
 {
     text.iter().position(|b| *b == SPACE)
 }
 
-/// The bytes of the word that the text begins with.
+/// Returns the size of the word that the text begins with.
 pub fn word_size(text: &[u8]) -> usize
     ensures value { result ≡ word_size text.now }
     ensures within { result ≤ length text.now }
@@ -48,23 +48,24 @@ impl<'a> Model for Words<'a> {
 }
 
 impl<'a> Words<'a> {
-    /// All words of a text.
+    /// Returns all words of a text.
     pub fn new(text: &'a [u8]) -> Words<'a>
         ensures { result ≡ text.now }
     {
         Words { rest: text }
     }
 
-    /// What isn't read yet.
+    /// Returns the text that isn't read yet.
     pub fn rest(&self) -> &'a [u8]
         ensures { result.now ≡ self.now }
     {
         self.rest
     }
 
-    /// What isn't read yet, from its first word on, if it has one. Only spaces are passed.
+    /// Skips spaces, and returns the text that is left from its first word on, or None if no word is left.
     pub fn front(&mut self) -> Option<&'a [u8]>
-        ensures front { MatchOption result (words_of self.old ≡ []) (λ t. IsFront (words_of self.old) self.new t.now) }
+        ensures front { MatchOption result (words_of_line self.old ≡ [])
+            (λ t. IsFront (words_of_line self.old) self.new t.now) }
         ensures rest { IsRestOf self.old self.new }
     {
         let start = word_start(self.rest)?;
@@ -72,7 +73,7 @@ impl<'a> Words<'a> {
         Some(self.rest)
     }
 
-    /// Passes so many bytes and the one behind them, if there is one. After a word that one is a space.
+    /// Skips `size` bytes and the separator after them, if any.
     pub fn pass(&mut self, size: usize)
         requires { size ≤ length self.old }
         ensures next { self.new ≡ drop (size + 1) self.old }
@@ -82,9 +83,10 @@ impl<'a> Words<'a> {
         self.rest = self.rest.get(size + 1..).unwrap_or(&[]);
     }
 
-    /// The next word.
+    /// Reads the next word.
     pub fn next_word(&mut self) -> Option<&'a [u8]>
-        ensures next { MatchOption result (words_of self.old ≡ []) (λ w. words_of self.old ≡ w.now ∷ words_of self.new) }
+        ensures next { MatchOption result (words_of_line self.old ≡ [])
+            (λ w. words_of_line self.old ≡ w.now ∷ words_of_line self.new) }
         ensures shorter { length self.new ≤ length self.old }
     {
         let text = self.front()?;

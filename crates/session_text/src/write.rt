@@ -1,30 +1,31 @@
-//! Writing.
-ghost use Rattle.std.specs.Prelude.{◌≡◌, ◌≤◌, [], length};
-ghost use Rattle.session_text.specs.Writes.{IsWritten, IsAdded};
+//! The writing of a page.
+ghost use Rattle.std.specs.Prelude.{◌≡◌, ◌≤◌, ◌++◌, [], length};
+ghost use Rattle.session_text.specs.Replies.{and_number, line};
+ghost use Rattle.session_text.specs.Writes.{IsTextWritten, IsTextAdded};
+ghost use Rattle.session_text.specs.declared.write.TheConstants.{LINE_START, TEXT_LIMIT};
 
 use crate::page::Page;
-use dump_pump::{Outlet, Put};
+use dump_pump::Outlet;
+use dump_pump::transfer::put_all;
 
-/// The most bytes of a page to which a line is added.
-const LINE_START: usize = 8000;
+/// The largest number of bytes of a page that has room for one more line.
+pub const LINE_START: usize = 8000;
 
-/// Puts out all bytes, unless a write fails.
+/// The largest number of bytes of a text that is added as a line.
+pub const TEXT_LIMIT: usize = 192;
+
+/// Puts out all bytes. Returns false if a put failed.
+#[tactic(auto, using(crate::proofs::PageTexts::put_whole, crate::proofs::PageTexts::put_part))]
 pub fn write_all<O: Outlet>(outlet: &mut O, bytes: &[u8]) -> bool
-    ensures { IsWritten bytes.now (O.seen outlet.old) (O.seen outlet.new) result }
+    ensures { IsTextWritten bytes.now (O.seen outlet.old) (O.seen outlet.new) result }
 {
-    let mut at = 0;
-    while at < bytes.len() {
-        match outlet.put(&bytes[at..]) {
-            Put::Took(n) => at += n,
-            Put::Failed => return false,
-        }
-    }
-    true
+    put_all(outlet, bytes) >= bytes.len()
 }
 
-/// Puts out a page, which is empty afterwards.
+/// Puts out a page, which is empty afterwards. Returns false if a put failed.
 pub fn flush<O: Outlet>(page: &mut Page, outlet: &mut O) -> bool
-    ensures added { IsAdded [] page.old (O.seen outlet.old) page.new (O.seen outlet.new) result }
+    ensures added { IsTextAdded [] page.old (O.seen outlet.old) page.new (O.seen outlet.new)
+        result }
     ensures empty { page.new ≡ [] }
 {
     let written = write_all(outlet, page.as_slice());
@@ -32,10 +33,11 @@ pub fn flush<O: Outlet>(page: &mut Page, outlet: &mut O) -> bool
     written
 }
 
-/// Flushes a page unless it has room for one more line.
+/// Flushes a page unless it has room for one more line. Returns false if a put failed.
 pub fn make_room<O: Outlet>(page: &mut Page, outlet: &mut O) -> bool
-    ensures added { IsAdded [] page.old (O.seen outlet.old) page.new (O.seen outlet.new) result }
-    ensures room { length page.new ≤ 8000 }
+    ensures added { IsTextAdded [] page.old (O.seen outlet.old) page.new (O.seen outlet.new)
+        result }
+    ensures room { length page.new ≤ LINE_START }
 {
     if page.as_slice().len() <= LINE_START {
         return true;
@@ -43,14 +45,44 @@ pub fn make_room<O: Outlet>(page: &mut Page, outlet: &mut O) -> bool
     flush(page, outlet)
 }
 
-/// Adds a short text to a page, which is flushed first unless it has room for one more line.
+/// Adds a short text to a page, which is flushed first unless it has room for one more line. Returns false if a put failed.
 pub fn write_text<O: Outlet>(page: &mut Page, outlet: &mut O, text: &[u8]) -> bool
-    requires { length text.now ≤ 192 }
-    ensures { IsAdded text.now page.old (O.seen outlet.old) page.new (O.seen outlet.new) result }
+    requires { length text.now ≤ TEXT_LIMIT }
+    ensures { IsTextAdded text.now page.old (O.seen outlet.old) page.new (O.seen outlet.new)
+        result }
 {
     if !make_room(page, outlet) {
         return false;
     }
     page.add(text);
+    true
+}
+
+/// Flushes a page and puts out a long text.
+pub fn write_long<O: Outlet>(page: &mut Page, outlet: &mut O, text: &[u8]) -> bool
+    ensures { IsTextAdded text.now page.old (O.seen outlet.old) page.new (O.seen outlet.new)
+        result }
+{
+    flush(page, outlet) && write_all(outlet, text)
+}
+
+// Adds a space, a number and LF to a page.
+fn add_number_line(page: &mut Page, n: u64)
+    requires { length page.old ≤ LINE_START }
+    ensures { page.new ≡ page.old ++ line (and_number n) }
+{
+    page.add_number(n);
+    page.add(b"\n");
+}
+
+/// Adds a space, a number and LF to a page, which is flushed first unless it has room for one more line.
+pub fn write_number_line<O: Outlet>(page: &mut Page, outlet: &mut O, n: u64) -> bool
+    ensures { IsTextAdded (line (and_number n)) page.old (O.seen outlet.old) page.new
+        (O.seen outlet.new) result }
+{
+    if !make_room(page, outlet) {
+        return false;
+    }
+    add_number_line(page, n);
     true
 }

@@ -6,7 +6,7 @@ use heap_class::{Field, Fields, Kind, LostCause, Name, Refusal};
 use heap_lock::{Blank, Heap, Kept, Outcome, Receipt, Role, Seat, Shared, audit};
 use heap_scripts::{FIRST, point};
 use heap_step::{Answer, Event};
-use heap_trail::{Action, Pinned};
+use heap_trail::{Action, PinAt};
 use heap_world::Config;
 use std::alloc::{AllocError, Global};
 use std::marker::Brand;
@@ -124,7 +124,7 @@ fn all_told<L: Heap, R: Wait>(
 }
 
 fn refused<L: Heap, R: Wait>(rt: &R, alloc: Global, blank: Blank) -> Option<bool>
-    requires { (blank.config ≡ L.config) × (blank.tables ≡ L.tables) }
+    requires { (blank.config ≡ L.config) × (blank.tables ≡ L.tables) × (blank.ledger ≡ L.ledger) }
 {
     let (shared, mut seats) = blank.open::<L>();
     let mut user = seats.take()?;
@@ -203,7 +203,7 @@ fn between_in<L: Heap, R: Wait>(
 }
 
 fn between<L: Heap, R: Wait>(rt: &R, blank: Blank) -> Option<bool>
-    requires { (blank.config ≡ L.config) × (blank.tables ≡ L.tables) }
+    requires { (blank.config ≡ L.config) × (blank.tables ≡ L.tables) × (blank.ledger ≡ L.ledger) }
 {
     let (shared, mut seats) = blank.open::<L>();
     let mut one = seats.take()?;
@@ -260,16 +260,16 @@ fn closes_held<L: Heap>(kept: &mut Kept<L>) -> bool {
 }
 
 fn all_held<L: Heap>(kept: &mut Kept<L>, seat: &mut Seat<L>) -> bool {
-    kept.open_held(None) == Ok(Pinned { pin: 1, at: 0 })
+    kept.open_held(None) == Ok(PinAt { pin: 1, at: 0 })
         && acts_held(kept, seat)
-        && kept.open_held(Some(1)) == Ok(Pinned { pin: 2, at: 1 })
+        && kept.open_held(Some(1)) == Ok(PinAt { pin: 2, at: 1 })
         && rewinds_held(kept, seat)
         && closes_held(kept)
         && kept.chronicle().len() == 2
 }
 
 fn held<L: Heap, R: Wait>(rt: &R, blank: Blank) -> Option<bool>
-    requires { (blank.config ≡ L.config) × (blank.tables ≡ L.tables) }
+    requires { (blank.config ≡ L.config) × (blank.tables ≡ L.tables) × (blank.ledger ≡ L.ledger) }
 {
     let (shared, mut seats) = blank.open::<L>();
     let mut user = seats.take()?;
@@ -320,7 +320,7 @@ fn filled_in<L: Heap, R: Wait>(
 }
 
 fn filled<L: Heap, R: Wait>(rt: &R, blank: Blank) -> Option<(u64, bool, usize, u64)>
-    requires { (blank.config ≡ L.config) × (blank.tables ≡ L.tables) }
+    requires { (blank.config ≡ L.config) × (blank.tables ≡ L.tables) × (blank.ledger ≡ L.ledger) }
 {
     let (shared, mut seats) = blank.open::<L>();
     let mut user = seats.take()?;

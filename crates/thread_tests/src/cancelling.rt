@@ -1,7 +1,7 @@
 //! Sources that are watched: asked before, between two parts, and by another thread in the middle of a stream.
 ghost use Rattle.std.specs.Prelude.{◌≡◌, ◌<◌, All, false};
 ghost use denote.Param.Send.{IsSync};
-ghost use Rattle.dump_meter.specs.Seats.{sum, asking, finding};
+ghost use Rattle.dump_meter.specs.Seats.{sum, cancel_asked, cancel_found};
 
 use crate::parts::{Asking, PinParts, one_point, points, text_of};
 use crate::sinks::{Gated, reaches};
@@ -151,7 +151,8 @@ fn cancelled_by_two<R: Threads + Wait + Sync>(
             ask_once_held(&meter.cancel(), &mut seat, here_now, gate_now)
         },
         move || -> (Pumped, Vec<u8>)
-            requires { IsSync R.row × (0 < parts.left) × (out ≡ sum meter.now 0) × (feed.meter ≡ meter.now) }
+            requires { IsSync R.row × (0 < parts.left) × (out ≡ sum meter.now 0)
+                × (feed.meter ≡ meter.now) }
         {
             let mut seat = out;
             let mut source = Watched {
@@ -188,8 +189,8 @@ fn cancelled_meanwhile<R: Threads + Wait + Sync>(
 ) -> Option<(bool, Pumped, Vec<u8>)>
     requires parts { 0 < parts.left }
     requires out { made.out ≡ sum made.meter 0 }
-    requires askers { All (λ s. s ≡ asking made.meter false) made.askers.items }
-    requires feed { made.feed ≡ finding made.meter false }
+    requires askers { All (λ s. s ≡ cancel_asked made.meter false) made.askers.items }
+    requires feed { made.feed ≡ cancel_found made.meter false }
 {
     let NewMeter {
         meter,

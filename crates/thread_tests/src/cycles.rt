@@ -7,7 +7,7 @@ use heap_lock::{Blank, Heap, Outcome, Receipt, Role, Seat, Shared, audit};
 use heap_scripts::node;
 use heap_step::{Answer, Event};
 use heap_trail::Action;
-use heap_work::{Gate, Marked, Swept, mark_worker, sweep_worker};
+use heap_work::{Gate, MarkEnd, SweepEnd, mark_worker, sweep_worker};
 use heap_world::Config;
 use std::alloc::{AllocError, Global};
 use std::marker::Brand;
@@ -268,7 +268,7 @@ fn marks<L: Heap, R: Wait>(
     shared: &Shared<L>,
     seat: &mut Seat<L>,
     gate: &mut Counting,
-) -> Option<Marked> {
+) -> Option<MarkEnd> {
     if seat.role() == Role::Marker {
         return Some(mark_worker(shared, rt, seat, gate, TURNS));
     }
@@ -286,14 +286,14 @@ fn finishes<L: Heap, R: Wait>(
     swept: &AtomicU64,
 ) -> Option<Receipt> {
     let mut end = marks(rt, shared, seat, gate)?;
-    if let Marked::Pending(_) = end {
+    if let MarkEnd::Pending(_) = end {
         if !reaches(swept, rounds) {
             return None;
         }
         end = marks(rt, shared, seat, gate)?;
     }
     match end {
-        Marked::Finished(receipt) => Some(receipt),
+        MarkEnd::Finished(receipt) => Some(receipt),
         _ => None,
     }
 }
@@ -329,7 +329,7 @@ fn sweeps<L: Heap, R: Wait>(
     seat: &mut Seat<L>,
     gate: &mut Counting,
 ) -> bool {
-    seat.role() == Role::Sweeper && sweep_worker(shared, rt, seat, gate, REGIONS) == Swept::Swept
+    seat.role() == Role::Sweeper && sweep_worker(shared, rt, seat, gate, REGIONS) == SweepEnd::Swept
 }
 
 /// Sweeps all regions once after each cycle, and tells how many rounds there were. Returns whether all were, and how many acts.
@@ -513,7 +513,7 @@ fn opened<L: Heap + Send + Sync, R: Threads + Wait + Sync>(
     class: Event,
     blank: Blank,
 ) -> Option<bool>
-    requires { (blank.config ≡ L.config) × (blank.tables ≡ L.tables) }
+    requires { (blank.config ≡ L.config) × (blank.tables ≡ L.tables) × (blank.ledger ≡ L.ledger) }
 {
     let (shared, mut seats) = blank.open::<L>();
     let mut user = seats.take()?;

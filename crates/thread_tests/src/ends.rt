@@ -3,7 +3,7 @@ ghost use Rattle.std.specs.Prelude.{◌≡◌, ◌<◌, []};
 ghost use Rattle.crossbeam_channel.specs.Claims.{view, IsSeatAt};
 ghost use Rattle.crossbeam_channel.specs.Ends.{sends_on, receives_on};
 ghost use Rattle.dump_meter.specs.Seats.{sum};
-ghost use Rattle.dump_pipe.specs.declared.view.View.TheVariants.{Sends, Gets};
+ghost use Rattle.dump_pipe.specs.declared.view.EndView.TheVariants.{Sends, Gets};
 
 use crate::parts::{Counted, PinParts, one_point, points};
 use crate::sinks::{Sink, reaches};
@@ -53,7 +53,8 @@ fn by_two<R: Threads + Wait + Sync>(
             (ending, source.source)
         },
         move || -> (u64, Pumped, Sink)
-            requires { IsSeatAt (receives_on receiver) other × (view other ≡ Gets []) × (out ≡ sum meter 0) }
+            requires { IsSeatAt (receives_on receiver) other × (view other ≡ Gets [])
+                × (out ≡ sum meter 0) }
         {
             let mut end = other;
             let mut seat = out;

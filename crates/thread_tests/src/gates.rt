@@ -6,7 +6,7 @@ use crate::workers::{began, three};
 use heap_lock::{Blank, Heap, Role, Seat, Shared};
 use heap_scripts::node;
 use heap_step::Event;
-use heap_work::{Gate, Marked, Swept, mark_worker, sweep_worker};
+use heap_work::{Gate, MarkEnd, SweepEnd, mark_worker, sweep_worker};
 use std::alloc::Global;
 use std::marker::Brand;
 use std::sync::Wait;
@@ -81,8 +81,8 @@ fn works<L: Heap, R: Wait>(
         seen,
     };
     let ended = match seat.role() {
-        Role::Marker => mark_worker(shared, rt, &mut seat, &mut gate, turns) == Marked::TurnsOver,
-        Role::Sweeper => sweep_worker(shared, rt, &mut seat, &mut gate, turns) == Swept::Swept,
+        Role::Marker => mark_worker(shared, rt, &mut seat, &mut gate, turns) == MarkEnd::TurnsOver,
+        Role::Sweeper => sweep_worker(shared, rt, &mut seat, &mut gate, turns) == SweepEnd::Swept,
         _ => false,
     };
     ended && gate.passes == turns && !gate.in_vain
@@ -114,7 +114,7 @@ fn both_watched<L: Heap + Send + Sync, R: Threads + Wait + Sync>(
     class: Event,
     blank: Blank,
 ) -> Option<((bool, bool), (bool, bool))>
-    requires { (blank.config ≡ L.config) × (blank.tables ≡ L.tables) }
+    requires { (blank.config ≡ L.config) × (blank.tables ≡ L.tables) × (blank.ledger ≡ L.ledger) }
 {
     let (shared, mut seats) = blank.open::<L>();
     let mut user = seats.take()?;

@@ -1,6 +1,6 @@
 //! Dumps of a shared heap's pin, by `pump` and by `stream`.
 ghost use Rattle.std.specs.Prelude.{◌≡◌, All, false};
-ghost use Rattle.dump_meter.specs.Seats.{sum, asking, finding};
+ghost use Rattle.dump_meter.specs.Seats.{sum, cancel_asked, cancel_found};
 
 use crate::live::{pumped_beside, streamed_beside, streamed_cancelled};
 use crate::parts::{one_point, points, text_of};
@@ -56,7 +56,8 @@ fn is_pumped_of_its_pin<L: Heap + Send + Sync, R: Threads + Wait + Sync>(
     shared: &Shared<L>,
     mutator: Seat<L>,
 ) -> Result<bool, Fail> {
-    let pinned = shared.open_pin(rt, None)?;
+    let mut witness = shared.witness(rt);
+    let pinned = shared.open_pin(rt, &mut witness, None)?;
     let (written, pumped, text) = pumped_beside(rt, alloc, shared, pinned.pin, mutator);
     Ok(written && is_of_one_point(alloc, pumped, text.as_slice())?)
 }
@@ -68,7 +69,8 @@ fn is_streamed_of_its_pin<L: Heap + Send + Sync, R: Threads + Wait + Sync>(
     shared: &Shared<L>,
     mutator: Seat<L>,
 ) -> Result<bool, Fail> {
-    let pinned = shared.open_pin(rt, None)?;
+    let mut witness = shared.witness(rt);
+    let pinned = shared.open_pin(rt, &mut witness, None)?;
     let NewMeter {
         meter,
         out,
@@ -102,9 +104,10 @@ fn into_sink<L: Heap + Send + Sync, R: Threads + Wait + Sync>(
         askers: _,
         feed,
     } = Meter::new(alloc, 0, 0)?;
-    let pinned = shared.open_pin(rt, None)?;
+    let mut witness = shared.witness(rt);
+    let pinned = shared.open_pin(rt, &mut witness, None)?;
     let (pumped, sink) = streamed(rt, alloc, shared, pinned.pin, sink, &meter, out, feed);
-    shared.close_pin(rt, pinned.pin)?;
+    shared.close_pin(rt, &mut witness, pinned.pin)?;
     Ok((pumped, sink.taken))
 }
 
@@ -133,8 +136,8 @@ fn cancelled_meanwhile<L: Heap + Send + Sync, R: Threads + Wait + Sync>(
     made: NewMeter,
 ) -> Option<(bool, Pumped, Vec<u8>)>
     requires out { made.out ≡ sum made.meter 0 }
-    requires askers { All (λ s. s ≡ asking made.meter false) made.askers.items }
-    requires feed { made.feed ≡ finding made.meter false }
+    requires askers { All (λ s. s ≡ cancel_asked made.meter false) made.askers.items }
+    requires feed { made.feed ≡ cancel_found made.meter false }
 {
     let NewMeter {
         meter,
@@ -155,7 +158,8 @@ fn is_beginning<L: Heap + Send + Sync, R: Threads + Wait + Sync>(
 ) -> Result<bool, Fail> {
     let (_, whole) = pumped_now(rt, alloc, shared)?;
     let made = Meter::new(alloc, 0, 1)?;
-    let pinned = shared.open_pin(rt, None)?;
+    let mut witness = shared.witness(rt);
+    let pinned = shared.open_pin(rt, &mut witness, None)?;
     let Some((held, pumped, text)) = cancelled_meanwhile(rt, alloc, shared, pinned.pin, made) else {
         return Ok(false);
     };
@@ -257,7 +261,7 @@ fn opened<L: Heap + Send + Sync, R: Threads + Wait + Sync>(
     count: u64,
     case: Case,
 ) -> Result<bool, Fail>
-    requires { (blank.config ≡ L.config) × (blank.tables ≡ L.tables) }
+    requires { (blank.config ≡ L.config) × (blank.tables ≡ L.tables) × (blank.ledger ≡ L.ledger) }
 {
     let (shared, mut seats) = blank.open::<L>();
     let (Some(mut user), Some(mutator)) = (seats.take(), seats.take()) else {

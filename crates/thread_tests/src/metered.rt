@@ -1,7 +1,7 @@
 //! Streams of a shared heap's pin with a meter's seats: one that reads beside the stream, and one that asked before it.
 ghost use Rattle.std.specs.Prelude.{◌≡◌, All, false};
 ghost use denote.Param.Send.{IsSync};
-ghost use Rattle.dump_meter.specs.Seats.{sum, seen, asking, finding};
+ghost use Rattle.dump_meter.specs.Seats.{sum, sum_read, cancel_asked, cancel_found};
 
 use crate::shared::{has_points, pumped_now, streamed};
 use crate::streaming::read_along;
@@ -80,8 +80,8 @@ fn read_meanwhile<L: Heap + Send + Sync, R: Threads + Wait + Sync>(
     made: NewMeter,
 ) -> Option<Streamed>
     requires out { made.out ≡ sum made.meter 0 }
-    requires readers { All (λ s. s ≡ seen made.meter 0) made.readers.items }
-    requires feed { made.feed ≡ finding made.meter false }
+    requires readers { All (λ s. s ≡ sum_read made.meter 0) made.readers.items }
+    requires feed { made.feed ≡ cancel_found made.meter false }
 {
     let NewMeter {
         meter,
@@ -103,8 +103,8 @@ fn asked_before<L: Heap + Send + Sync, R: Threads + Wait + Sync>(
     made: NewMeter,
 ) -> Option<(Pumped, usize)>
     requires out { made.out ≡ sum made.meter 0 }
-    requires askers { All (λ s. s ≡ asking made.meter false) made.askers.items }
-    requires feed { made.feed ≡ finding made.meter false }
+    requires askers { All (λ s. s ≡ cancel_asked made.meter false) made.askers.items }
+    requires feed { made.feed ≡ cancel_found made.meter false }
 {
     let NewMeter {
         meter,
@@ -121,7 +121,8 @@ fn asked_before<L: Heap + Send + Sync, R: Threads + Wait + Sync>(
 
 /// Opens a pin on the current state, and returns its number.
 fn opened_pin<L: Heap, R: Wait>(rt: &R, shared: &Shared<L>) -> Result<u64, Fail> {
-    let pinned = shared.open_pin(rt, None)?;
+    let mut witness = shared.witness(rt);
+    let pinned = shared.open_pin(rt, &mut witness, None)?;
     Ok(pinned.pin)
 }
 
@@ -150,7 +151,7 @@ fn opened<L: Heap + Send + Sync, R: Threads + Wait + Sync>(
     alloc: Global,
     blank: Blank,
 ) -> Result<bool, Fail>
-    requires { (blank.config ≡ L.config) × (blank.tables ≡ L.tables) }
+    requires { (blank.config ≡ L.config) × (blank.tables ≡ L.tables) × (blank.ledger ≡ L.ledger) }
 {
     let (shared, mut seats) = blank.open::<L>();
     let Some(mut user) = seats.take() else {

@@ -1,7 +1,7 @@
 //! What a meter's reader sees: of a stream that is held, and of a dump in one thread.
 ghost use Rattle.std.specs.Prelude.{◌≡◌, ◌<◌, All};
 ghost use denote.Param.Send.{IsSync};
-ghost use Rattle.dump_meter.specs.Seats.{sum, seen};
+ghost use Rattle.dump_meter.specs.Seats.{sum, sum_read};
 
 use crate::parts::{PinParts, points};
 use crate::sinks::{Gated, Sink, reaches};
@@ -79,7 +79,7 @@ fn read_of_new<R: Threads + Wait + Sync>(
 ) -> Option<(Pumped, u64)>
     requires parts { 0 < parts.left }
     requires out { made.out ≡ sum made.meter 0 }
-    requires readers { All (λ s. s ≡ seen made.meter 0) made.readers.items }
+    requires readers { All (λ s. s ≡ sum_read made.meter 0) made.readers.items }
 {
     let NewMeter {
         meter,
@@ -118,7 +118,7 @@ fn counted(
 ) -> Option<(Pumped, usize, u64)>
     requires parts { 0 < parts.left }
     requires out { made.out ≡ sum made.meter 0 }
-    requires readers { All (λ s. s ≡ seen made.meter 0) made.readers.items }
+    requires readers { All (λ s. s ≡ sum_read made.meter 0) made.readers.items }
 {
     let NewMeter {
         meter,

@@ -200,7 +200,7 @@ fn all_told_apart<L: Heap>(alloc: Global, kept: &Kept<L>) -> Result<bool, AllocE
 }
 
 fn kept<L: Heap, R: Wait>(rt: &R, alloc: Global, blank: Blank) -> Option<(bool, bool)>
-    requires { (blank.config ≡ L.config) × (blank.tables ≡ L.tables) }
+    requires { (blank.config ≡ L.config) × (blank.tables ≡ L.tables) × (blank.ledger ≡ L.ledger) }
 {
     let (shared, mut seats) = blank.open::<L>();
     let mut user = seats.take()?;

@@ -69,10 +69,11 @@ pub fn streamed<L: Heap + Send + Sync, W: Write + Drop, R: Threads + Wait + Sync
 {
     let mut seat = out;
     let mut outlet = WriteOutlet::new(writer);
-    let (pumped, _) = stream(
+    let (pumped, _, _) = stream(
         rt,
         alloc,
         shared,
+        shared.witness(rt),
         pin,
         0,
         &mut outlet,
@@ -90,7 +91,7 @@ pub fn pumped<L: Heap, W: Write + Drop, R: Wait>(
     pin: u64,
     writer: W,
 ) -> (Pumped, W) {
-    let mut source = LockedSource::new(shared, rt, pin, 0);
+    let mut source = LockedSource::new(shared, rt, shared.witness(rt), pin, 0);
     let mut outlet = WriteOutlet::new(writer);
     let pumped = pump(&mut source, &mut outlet);
     (pumped, outlet.into_writer())
@@ -102,8 +103,9 @@ pub fn pumped_now<L: Heap, R: Wait>(
     alloc: Global,
     shared: &Shared<L>,
 ) -> Result<(Pumped, Vec<u8>), Fail> {
-    let pinned = shared.open_pin(rt, None)?;
+    let mut witness = shared.witness(rt);
+    let pinned = shared.open_pin(rt, &mut witness, None)?;
     let (pumped, text) = pumped(rt, shared, pinned.pin, Vec::new(alloc));
-    shared.close_pin(rt, pinned.pin)?;
+    shared.close_pin(rt, &mut witness, pinned.pin)?;
     Ok((pumped, text))
 }

@@ -1,7 +1,7 @@
 //! Streams: worked examples.
 ghost use Rattle.std.specs.Prelude.{◌≡◌, ◌+◌, ◌<◌, ◌^◌, All};
 ghost use denote.Param.Send.{IsSync};
-ghost use Rattle.dump_meter.specs.Seats.{sum, seen};
+ghost use Rattle.dump_meter.specs.Seats.{sum, sum_read};
 ghost use Rattle.dump_pipe.specs.Pipes.{byte_limit};
 
 use crate::cancelling::cancelled_before;
@@ -141,7 +141,7 @@ fn read_meanwhile<R: Threads + Wait + Sync>(
 ) -> Option<(Pumped, (u64, bool))>
     requires parts { 0 < parts.left }
     requires out { made.out ≡ sum made.meter 0 }
-    requires readers { All (λ s. s ≡ seen made.meter 0) made.readers.items }
+    requires readers { All (λ s. s ≡ sum_read made.meter 0) made.readers.items }
 {
     let NewMeter {
         meter,

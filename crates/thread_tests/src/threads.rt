@@ -180,7 +180,7 @@ fn by_two<L: Heap + Send + Sync, R: Threads + Wait + Sync>(
     alloc: Global,
     blank: Blank,
 ) -> Option<(Audits, Audits, usize)>
-    requires { (blank.config ≡ L.config) × (blank.tables ≡ L.tables) }
+    requires { (blank.config ≡ L.config) × (blank.tables ≡ L.tables) × (blank.ledger ≡ L.ledger) }
 {
     let (shared, mut seats) = blank.open::<L>();
     let one = seats.take()?;
@@ -302,7 +302,7 @@ fn by_four<L: Heap + Send + Sync, R: Threads + Wait + Sync>(
     alloc: Global,
     blank: Blank,
 ) -> Option<bool>
-    requires { (blank.config ≡ L.config) × (blank.tables ≡ L.tables) }
+    requires { (blank.config ≡ L.config) × (blank.tables ≡ L.tables) × (blank.ledger ≡ L.ledger) }
 {
     let (shared, mut seats) = blank.open::<L>();
     let one = seats.take()?;

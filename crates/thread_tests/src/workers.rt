@@ -7,7 +7,7 @@ use heap_lock::{Blank, Heap, Outcome, Receipt, Role, Seat, Shared, audit};
 use heap_scripts::node;
 use heap_step::{Answer, Event};
 use heap_trail::Action;
-use heap_work::{Gate, Marked, Open, Swept, mark_worker, sweep_worker};
+use heap_work::{Gate, MarkEnd, Open, SweepEnd, mark_worker, sweep_worker};
 use heap_world::Config;
 use std::alloc::Global;
 use std::marker::Brand;
@@ -22,7 +22,7 @@ fn marks<L: Heap, R: Wait>(
     shared: &Shared<L>,
     seat: &mut Seat<L>,
     turns: u64,
-) -> Option<Marked> {
+) -> Option<MarkEnd> {
     if seat.role() == Role::Marker {
         return Some(mark_worker(shared, rt, seat, &mut Open, turns));
     }
@@ -34,7 +34,7 @@ fn sweeps<L: Heap, R: Wait>(
     shared: &Shared<L>,
     seat: &mut Seat<L>,
     turns: u64,
-) -> Option<Swept> {
+) -> Option<SweepEnd> {
     if seat.role() == Role::Sweeper {
         return Some(sweep_worker(shared, rt, seat, &mut Open, turns));
     }
@@ -45,9 +45,9 @@ fn entries<L: Heap, R: Wait>(rt: &R, shared: &Shared<L>) -> usize {
     shared.lock(rt).chronicle().len()
 }
 
-fn is_finished(end: Option<Marked>) -> bool {
+fn is_finished(end: Option<MarkEnd>) -> bool {
     match end {
-        Some(Marked::Finished(receipt)) => {
+        Some(MarkEnd::Finished(receipt)) => {
             receipt.turn == 9 && receipt.answer == Outcome::Answered(Answer::Condemned(0))
         }
         _ => false,
@@ -87,9 +87,9 @@ pub fn began<L: Heap, R: Wait>(
 /// How the workers ended, how many entries there were after each, and how many of the sweeps were answered as they must.
 #[derive(Clone, Copy)]
 struct Ends {
-    marked: Option<Marked>,
+    marked: Option<MarkEnd>,
     after: usize,
-    swept: Option<Swept>,
+    swept: Option<SweepEnd>,
     last: usize,
     answered: u64,
 }
@@ -149,7 +149,7 @@ fn worked_in<L: Heap, R: Wait>(
 
 /// Creates two objects, and runs the workers.
 fn worked<L: Heap, R: Wait>(rt: &R, class: Event, blank: Blank, turns: (u64, u64)) -> Option<Ends>
-    requires { (blank.config ≡ L.config) × (blank.tables ≡ L.tables) }
+    requires { (blank.config ≡ L.config) × (blank.tables ≡ L.tables) × (blank.ledger ≡ L.ledger) }
 {
     let (shared, mut seats) = blank.open::<L>();
     let mut user = seats.take()?;
@@ -185,14 +185,14 @@ fn need_their_turns<R: Wait>(rt: &R, alloc: Global) -> Option<bool> {
     let six = ended(rt, alloc, (6, 16))?;
     let fifteen = ended(rt, alloc, (6, 15))?;
     Some(
-        five.marked == Some(Marked::TurnsOver)
+        five.marked == Some(MarkEnd::TurnsOver)
             && five.after == 8
             && is_finished(six.marked)
             && six.after == 9
-            && six.swept == Some(Swept::Swept)
+            && six.swept == Some(SweepEnd::Swept)
             && six.last == 25
             && six.answered == 16
-            && fifteen.swept == Some(Swept::TurnsOver)
+            && fifteen.swept == Some(SweepEnd::TurnsOver)
             && fifteen.last == 24
             && fifteen.answered == 15,
     )
@@ -235,7 +235,7 @@ fn marked_behind<L: Heap, R: Wait>(
 ) -> bool {
     let mut gate = Waiting { here, answered };
     seat.role() == Role::Marker
-        && mark_worker(shared, rt, &mut seat, &mut gate, 5) == Marked::TurnsOver
+        && mark_worker(shared, rt, &mut seat, &mut gate, 5) == MarkEnd::TurnsOver
 }
 
 fn acted_meanwhile<L: Heap, R: Wait>(
@@ -279,7 +279,7 @@ fn held<L: Heap + Send + Sync, R: Threads + Wait + Sync>(
     class: Event,
     blank: Blank,
 ) -> Option<(bool, bool, u64)>
-    requires { (blank.config ≡ L.config) × (blank.tables ≡ L.tables) }
+    requires { (blank.config ≡ L.config) × (blank.tables ≡ L.tables) × (blank.ledger ≡ L.ledger) }
 {
     let (shared, mut seats) = blank.open::<L>();
     let mut user = seats.take()?;

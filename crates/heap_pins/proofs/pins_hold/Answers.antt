@@ -1,8 +1,8 @@
 use Rattle.std.proofs.Common.{◌≡◌, suc, ◌+◌, ◌∷◌, take, subst, arith}
 use Rattle.heap_step.specs.Records.{undone}
-use Rattle.heap_pins.specs.Kept.{kept}
+use Rattle.heap_pins.specs.KeptCopies.{kept}
 use Rattle.heap_pins.specs.Shows.{Holds}
-use Rattle.heap_pins.proofs.Holding.{pin_stepped, held_image, pin_rewound}
+use Rattle.heap_pins.proofs.HeldPins.{pin_stepped, held_image, pin_rewound}
 use Rattle.heap_pins.proofs.pins_hold.Goals as goal
 
 pub returns-clause-stepped : goal.returns-clause-stepped

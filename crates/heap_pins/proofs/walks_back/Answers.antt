@@ -1,4 +1,4 @@
-use Rattle.heap_pins.proofs.WalkedBack.{walked_on, walk_holds}
+use Rattle.heap_pins.proofs.RecordWalks.{walked_on, walk_holds}
 use Rattle.heap_pins.proofs.walks_back.Goals as goal
 
 pub returns-clause-further : goal.returns-clause-further

@@ -1,4 +1,4 @@
-use Rattle.heap_world.proofs.Found.{reached_found}
+use Rattle.heap_world.proofs.CycleFindings.{reached_found}
 use Rattle.heap_step.proofs.finds_reached.Goals as goal
 
 pub returns : goal.returns

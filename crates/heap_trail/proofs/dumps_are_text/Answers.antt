@@ -1,4 +1,4 @@
-use Rattle.heap_trail.proofs.TextGiven.{gives_text}
+use Rattle.heap_trail.proofs.GivenText.{gives_text}
 use Rattle.heap_trail.proofs.dumps_are_text.Goals as goal
 
 pub returns : goal.returns

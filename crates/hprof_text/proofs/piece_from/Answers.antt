@@ -1,5 +1,5 @@
 use Rattle.std.proofs.lemmas.Result.{IfOk-weaker}
-use Rattle.hprof_text.proofs.Numbered.{at_rest}
+use Rattle.hprof_text.proofs.NumberedPieces.{at_rest}
 use Rattle.hprof_text.proofs.piece_from.Goals as goal
 
 pub segment_from-requires : goal.segment_from-requires

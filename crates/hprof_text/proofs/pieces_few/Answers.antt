@@ -1,4 +1,4 @@
-use Rattle.hprof_text.proofs.Counted.{pieces_few}
+use Rattle.hprof_text.proofs.PieceCounts.{pieces_few}
 use Rattle.hprof_text.proofs.pieces_few.Goals as goal
 
 pub returns : goal.returns

@@ -2,7 +2,7 @@ use Rattle.std.proofs.Common.{◌+◌, ℕ, length, replicate, map, sym, ap, ap�
 use Rattle.std.specs.Prelude.{count_by, not, ◌==◌}
 use Rattle.hprof_text.specs.Sizes.{opening_size, class_size, root_size, text_size}
 use Rattle.hprof_text.proofs.Lengths.{text_length}
-use Rattle.hprof_text.proofs.Measured.{measured_as, all_measured, total_small}
+use Rattle.hprof_text.proofs.AddedSizes.{measured_as, all_measured, total_small}
 use Rattle.hprof_text.proofs.text_len.Goals as goal
 
 pub overflow_add-result : goal.overflow_add-result

@@ -1,4 +1,4 @@
-use Rattle.session_text.proofs.Listed.{cut_session_listed}
+use Rattle.session_text.proofs.ActionLists.{cut_session_listed}
 use Rattle.session_text.proofs.cut_session_is_list.Goals as goal
 
 pub returns : goal.returns

@@ -1,4 +1,4 @@
-use Rattle.session_text.proofs.Listed.{session_listed}
+use Rattle.session_text.proofs.ActionLists.{session_listed}
 use Rattle.session_text.proofs.session_is_list.Goals as goal
 
 pub returns : goal.returns

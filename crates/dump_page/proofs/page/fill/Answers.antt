@@ -1,6 +1,6 @@
 use Rattle.std.proofs.Common.{true, subst, sym, ◌∙◌}
 use Rattle.dump_page.specs.Pages.{IsFilled}
-use Rattle.dump_page.proofs.Filling.{filled_last, filled_more}
+use Rattle.dump_page.proofs.PageFilling.{filled_last, filled_more}
 use Rattle.dump_page.proofs.page.fill.Goals as goal
 
 pub returns-in-Some-true-clause-filled : goal.returns-in-Some-true-clause-filled

@@ -1,5 +1,5 @@
 use Rattle.std.proofs.Common.{◌≡◌, None}
-use Rattle.dump_page.proofs.Filling.{IsFilling}
+use Rattle.dump_page.proofs.PageFilling.{IsFilling}
 use Rattle.dump_page.proofs.page.fill.Given as goal
 
 abbrev pub invariant-loop-next : goal.invariant-loop-next

@@ -1,5 +1,5 @@
 use Rattle.std.proofs.Common.{[]}
-use Rattle.dump_pipe.proofs.Piping.{begins, forks_as}
+use Rattle.dump_pipe.proofs.PipeSteps.{begins, forks_as}
 use Rattle.dump_pipe.proofs.channel.pipe.Goals as goal
 
 pub bounded_with-requires-clause-rule : goal.bounded_with-requires-clause-rule

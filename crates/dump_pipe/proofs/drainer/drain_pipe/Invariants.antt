@@ -2,7 +2,7 @@ use Rattle.std.proofs.Common.{◌≡◌, ◌+◌}
 use Rattle.crossbeam_channel.specs.Claims.{view, IsSeatAt}
 use Rattle.crossbeam_channel.specs.Ends.{receives_on}
 use Rattle.dump_pipe.specs.Pipes.{list_of}
-use Rattle.dump_pipe.proofs.Draining.{IsDraining}
+use Rattle.dump_pipe.proofs.DrainSteps.{IsDraining}
 use Rattle.dump_pipe.proofs.drainer.drain_pipe.Given as goal
 
 abbrev pub invariant-loop : goal.invariant-loop

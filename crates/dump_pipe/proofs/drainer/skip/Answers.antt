@@ -1,4 +1,4 @@
-use Rattle.dump_pipe.proofs.Draining.{skip_more}
+use Rattle.dump_pipe.proofs.DrainSteps.{skip_more}
 use Rattle.dump_pipe.proofs.drainer.skip.Goals as goal
 
 pub loop-preserved-in_default : goal.loop-preserved-in_default

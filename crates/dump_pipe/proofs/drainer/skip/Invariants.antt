@@ -1,7 +1,7 @@
 use Rattle.crossbeam_channel.specs.Claims.{view, IsSeatAt}
 use Rattle.crossbeam_channel.specs.Ends.{receives_on}
 use Rattle.dump_pipe.specs.Pipes.{list_of}
-use Rattle.dump_pipe.proofs.Draining.{IsSkipping}
+use Rattle.dump_pipe.proofs.DrainSteps.{IsSkipping}
 use Rattle.dump_pipe.proofs.drainer.skip.Given as goal
 
 abbrev pub invariant-loop : goal.invariant-loop

@@ -1,6 +1,6 @@
 use Rattle.std.proofs.Common.{◌∙◌}
 use Rattle.dump_pump.specs.declared.source.Ending.TheVariants as Ended
-use Rattle.dump_pipe.proofs.Feeding.{room_part, room_here, room_last, fed_more, fed_whole}
+use Rattle.dump_pipe.proofs.FeedSteps.{room_part, room_here, room_last, fed_more, fed_whole}
 use Rattle.dump_pipe.proofs.feeder.feed.Goals as goal
 
 pub send-requires-clause-room : goal.send-requires-clause-room

@@ -1,7 +1,7 @@
 use Rattle.std.proofs.Common.{◌≡◌}
 use Rattle.crossbeam_channel.specs.Claims.{view, IsSeatAt}
 use Rattle.crossbeam_channel.specs.Ends.{sends_on}
-use Rattle.dump_pipe.proofs.Feeding.{IsFeeding}
+use Rattle.dump_pipe.proofs.FeedSteps.{IsFeeding}
 use Rattle.dump_pipe.proofs.feeder.feed.Given as goal
 
 abbrev pub invariant-loop-piece : goal.invariant-loop-piece

@@ -1,6 +1,6 @@
 use Rattle.std.proofs.Common.{◌≡◌, ◌++◌, ℕ, List, take, length, sym, ap, ◌∙◌, arith}
 use Rattle.dump_meter.specs.Seats.{Sum}
-use Rattle.dump_pump.proofs.Pumping.{opened, done, failed_at}
+use Rattle.dump_pump.proofs.PumpSteps.{opened, done, failed_at}
 use Rattle.dump_pipe.proofs.pumps.pump_counted.Goals as goal
 
 pub returns-then-put-size-clause-pumped : goal.returns-then-put-size-clause-pumped

@@ -1,5 +1,5 @@
 use Rattle.std.proofs.Common.{◌≡◌, ◌+◌}
-use Rattle.dump_pump.proofs.Pumping.{IsOpen}
+use Rattle.dump_pump.proofs.PumpSteps.{IsOpen}
 use Rattle.dump_pipe.proofs.pumps.pump_counted.Given as goal
 
 abbrev pub invariant-loop-piece : goal.invariant-loop-piece

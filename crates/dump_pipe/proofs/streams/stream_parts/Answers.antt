@@ -2,8 +2,8 @@ use Rattle.std.proofs.Common.{subst}
 use Rattle.crossbeam_channel.specs.Claims.{view}
 use Rattle.dump_pipe.specs.Pipes.{list_of}
 use Rattle.dump_pipe.specs.Streams.{MayStream}
-use Rattle.dump_pipe.proofs.Piping.{merges_as, orders_as}
-use Rattle.dump_pipe.proofs.Streaming.{streamed, fed_sends, drained_gets}
+use Rattle.dump_pipe.proofs.PipeSteps.{merges_as, orders_as}
+use Rattle.dump_pipe.proofs.StreamEnds.{streamed, fed_sends, drained_gets}
 use Rattle.dump_pipe.proofs.streams.stream_parts.Goals as goal
 
 pub absorb-requires-clause-rule : goal.absorb-requires-clause-rule

@@ -1,5 +1,5 @@
 use Rattle.std.proofs.Common.{◌≡◌, ◌++◌, ℕ, List, take, length, sym, ap, ◌∙◌, arith}
-use Rattle.dump_pump.proofs.Pumping.{opened, done, failed_at}
+use Rattle.dump_pump.proofs.PumpSteps.{opened, done, failed_at}
 use Rattle.dump_pump.proofs.transfer.pump.Goals as goal
 
 pub returns-then-put-size-clause-pumped : goal.returns-then-put-size-clause-pumped

@@ -1,5 +1,5 @@
 use Rattle.std.proofs.Common.{◌∙◌}
-use Rattle.dump_pump.proofs.Pumping.{put_more}
+use Rattle.dump_pump.proofs.PumpSteps.{put_more}
 use Rattle.dump_pump.proofs.transfer.put_all.Goals as goal
 
 pub loop-at-preserved : goal.loop-at-preserved

@@ -1,10 +1,10 @@
 use Rattle.std.proofs.Common.{◌≡◌, ◌+◌, ◌≤◌, arith, length, length-append, map, ◌∙◌, ◌∷◌, ◌++◌, [], None, ap, sym, subst, refl}
 use Rattle.std.proofs.lemmas.List.{length-map}
 use Rattle.heap_class.specs.declared.Field.{Field}
-use Rattle.heap_class.specs.declared.Entry.{Entry}
+use Rattle.heap_class.specs.declared.ClassEntry.{ClassEntry}
 use Rattle.heap_class.specs.Entries.{AreSizes}
 use Rattle.heap_class.specs.Classes.{Class, class_refusal, names_in}
-use Rattle.heap_class.proofs.Defined.{super_stands, slots_fit, defined_table, defined_view}
+use Rattle.heap_class.proofs.Definitions.{super_stands, slots_fit, defined_table, defined_view}
 use Rattle.heap_class.proofs.Classes.add.Goals as goal
 
 pub slots_above-requires : goal.slots_above-requires
@@ -35,7 +35,7 @@ pub invariant_of-self-2 : goal.invariant_of-self-2
 unfolding names_in
 invariant_of-self-2 c =
     let class : Class = record { name = c.args.name.now; sup = c.args.sup; fields = c.args.fields.now; is_array = c.args.is_array } in
-    let entry : Entry = record { name = c.in_ok-name.name; sup = c.args.sup; fields = c.in_ok-name.fields; is_array = c.args.is_array; slots = c.in_ok-slots.slots; sizes = c.of-sizes.result; names_before = c.len-names_before.result } in
+    let entry : ClassEntry = record { name = c.in_ok-name.name; sup = c.args.sup; fields = c.in_ok-name.fields; is_array = c.args.is_array; slots = c.in_ok-slots.slots; sizes = c.of-sizes.result; names_before = c.len-names_before.result } in
     let accepted : class_refusal c.args.self.now class ≡ None = sym (c.in_default.ensures c.args.is_array) in
     defined_table c.self.inside.names.keys c.self.inside.entries.items c.self.invariant c.args.self.now c.self.view_is class entry
     c.place_names.new.names.keys c.push_reserved.new.self.items c.slots_above.result.now
@@ -46,7 +46,7 @@ pub returns-clause-defined : goal.returns-clause-defined
 unfolding names_in
 returns-clause-defined c =
     let class : Class = record { name = c.args.name.now; sup = c.args.sup; fields = c.args.fields.now; is_array = c.args.is_array } in
-    let entry : Entry = record { name = c.in_ok-name.name; sup = c.args.sup; fields = c.in_ok-name.fields; is_array = c.args.is_array; slots = c.in_ok-slots.slots; sizes = c.of-sizes.result; names_before = c.len-names_before.result } in
+    let entry : ClassEntry = record { name = c.in_ok-name.name; sup = c.args.sup; fields = c.in_ok-name.fields; is_array = c.args.is_array; slots = c.in_ok-slots.slots; sizes = c.of-sizes.result; names_before = c.len-names_before.result } in
     let accepted : class_refusal c.args.self.now class ≡ None = sym (c.in_default.ensures c.args.is_array) in
     defined_view c.self.inside.names.keys c.self.inside.entries.items c.self.invariant c.args.self.now c.self.view_is class entry
     c.place_names.new.names.keys c.push_reserved.new.self.items c.slots_above.result.now

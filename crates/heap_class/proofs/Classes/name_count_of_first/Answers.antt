@@ -4,7 +4,7 @@ use Rattle.std.proofs.lemmas.List.{take-append-drop}
 use Rattle.heap_class.specs.Classes.{name_table}
 use Rattle.heap_class.proofs.Tables.{table_names, few_names}
 use Rattle.heap_class.proofs.Front.{fewer_names}
-use Rattle.heap_class.proofs.Counted.{names_counted}
+use Rattle.heap_class.proofs.NameCounts.{names_counted}
 use Rattle.heap_class.proofs.Classes.name_count_of_first.Goals as goal
 
 pub returns-in-Some-clause-value : goal.returns-in-Some-clause-value

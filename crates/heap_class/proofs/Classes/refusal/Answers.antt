@@ -3,7 +3,7 @@ use Rattle.std.proofs.lemmas.Bool.{le-leb, lt-leb, lt-ltb, le-ltb}
 use Rattle.heap_class.specs.Limits.{class_limit, slot_limit}
 use Rattle.heap_class.specs.Classes.{Class, names_in, slots_under, slot_table_after}
 use Rattle.heap_class.proofs.Readers.{as_many}
-use Rattle.heap_class.proofs.Accepted.{no_class, class_limited, bad_name, duplicate_name, field_limited, accepted, slot_count}
+use Rattle.heap_class.proofs.Acceptance.{no_class, class_limited, bad_name, duplicate_name, field_limited, accepted, slot_count}
 use Rattle.heap_class.proofs.Classes.refusal.Goals as goal
 
 pub returns-then-not-has_super : goal.returns-then-not-has_super

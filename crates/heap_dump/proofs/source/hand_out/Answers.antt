@@ -2,7 +2,7 @@ use Rattle.std.proofs.Common.{refl, sym, ap, ◌∙◌, Some, if◌then◌else�
 use Rattle.dump_pump.specs.declared.source.Ending.TheVariants.{Whole}
 use Rattle.heap_trail.specs.Pins.{pin_at}
 use Rattle.heap_dump.specs.Endings.{may_lose}
-use Rattle.heap_dump.proofs.Handing.{gave, few_left, refused}
+use Rattle.heap_dump.proofs.PieceGiving.{gave, few_left, refused}
 use Rattle.heap_dump.proofs.source.hand_out.Goals as goal
 use Rattle.heap_dump.proofs.source.hand_out.Goals.{then-piece, else-piece}
 

@@ -17,4 +17,4 @@ returns-then-pack c =
 pub returns-else-pack : goal.returns-else-pack
 returns-else-pack c =
     let same = by_numbers c.args.whole.now c.args.pack.now c.if-pack.false in
-    subst (λ (x : Entry). IsTrue c.is_of-else-pack.result ↔ (x ≡ entry c.args.seat c.args.action.now c.args.answer)) (c.unpacked.ensures ∙ sym same) c.is_of-else-pack.ensures
+    subst (λ (x : Entry). IsTrue c.is_of-else-pack.result ↔ (x ≡ entry c.args.seat c.args.action.now c.args.answer)) (c.unpack.ensures ∙ sym same) c.is_of-else-pack.ensures

@@ -1,6 +1,6 @@
 use Rattle.std.proofs.Common.{length, Option, None, arith, ap}
 use Rattle.std.proofs.lemmas.List.{length-replicate}
-use Rattle.heap_region.specs.Frozen.{Frozen}
+use Rattle.heap_region.specs.RegionCopies.{Frozen}
 use Rattle.heap_pins.proofs.pin.no_copies.Goals as goal
 
 pub push_reserved-requires : goal.push_reserved-requires

@@ -1,7 +1,7 @@
 use Rattle.std.proofs.Common.{sym, ◌∙◌, refl}
 use Rattle.std.proofs.lemmas.List.{at_drop_all}
-use Rattle.heap_pins.specs.Kept.{with_dead}
-use Rattle.heap_pins.proofs.Keeping.{puts_next}
+use Rattle.heap_pins.specs.KeptCopies.{with_dead}
+use Rattle.heap_pins.proofs.AddedCopies.{puts_next}
 use Rattle.heap_pins.proofs.pin.put_dead.Goals as goal
 
 pub put-requires-clause-within : goal.put-requires-clause-within

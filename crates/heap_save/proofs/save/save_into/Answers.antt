@@ -1,5 +1,5 @@
 use Rattle.std.proofs.Common.{true, false, refl, sym}
-use Rattle.heap_save.proofs.Saving.{saved_so}
+use Rattle.heap_save.proofs.SavedSessions.{saved_so}
 use Rattle.heap_save.proofs.save.save_into.Goals as goal
 
 pub returns-then-not-write_last-clause-saved : goal.returns-then-not-write_last-clause-saved

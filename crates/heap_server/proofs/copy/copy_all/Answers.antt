@@ -1,6 +1,6 @@
 use Rattle.std.proofs.Common.{take}
 use Rattle.std.proofs.lemmas.List.{length-take-le}
-use Rattle.heap_server.proofs.Copying.{broke_off}
+use Rattle.heap_server.proofs.CopySteps.{broke_off}
 use Rattle.heap_server.proofs.copy.copy_all.Goals as goal
 
 pub returns-then-put_all-n : goal.returns-then-put_all-n

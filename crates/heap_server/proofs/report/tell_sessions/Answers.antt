@@ -1,5 +1,5 @@
 use Rattle.session_text.specs.declared.Ended.TheVariants.{Quit}
-use Rattle.heap_server.proofs.Reporting.{told}
+use Rattle.heap_server.proofs.ReportLines.{told}
 use Rattle.heap_server.proofs.report.tell_sessions.Goals as goal
 
 pub loop-i-preserved : goal.loop-i-preserved

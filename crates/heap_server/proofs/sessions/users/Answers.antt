@@ -1,5 +1,5 @@
 use Rattle.std.proofs.Common.{◌∙◌}
-use Rattle.heap_server.proofs.Seating.{seated}
+use Rattle.heap_server.proofs.UserSeats.{seated}
 use Rattle.heap_server.proofs.sessions.users.Goals as goal
 
 pub returns-clause-seats : goal.returns-clause-seats

@@ -2,7 +2,7 @@ use Rattle.std.proofs.Common.{refl, ◌∙◌}
 use Rattle.std.proofs.lemmas.Result.{err_from_is_err_and}
 use Rattle.heap_step.specs.Apply.{refusal_of, state_after, answer_of, event_may_grow}
 use Rattle.heap_step.specs.Records.{undo_record}
-use Rattle.heap_step.proofs.Applied.{refused_is, done_is, reg_record_is}
+use Rattle.heap_step.proofs.AppliedResults.{refused_is, done_is, reg_record_is}
 use Rattle.heap_step.proofs.events.clear.Goals as goal
 
 pub returns-in_err-held : goal.returns-in_err-held

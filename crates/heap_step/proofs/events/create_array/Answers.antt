@@ -3,7 +3,7 @@ use Rattle.std.proofs.lemmas.Result.{err_from_is_err_and}
 use Rattle.heap_step.specs.declared.Answer.{Answer}
 use Rattle.heap_step.specs.Apply.{refusal_of, state_after, answer_of, event_may_grow}
 use Rattle.heap_step.specs.Records.{undo_record}
-use Rattle.heap_step.proofs.Applied.{refused_is, done_is, new_record_is}
+use Rattle.heap_step.proofs.AppliedResults.{refused_is, done_is, new_record_is}
 use Rattle.heap_step.proofs.events.create_array.Goals as goal
 
 pub returns-in_err-created : goal.returns-in_err-created
@@ -12,4 +12,4 @@ returns-in_err-created c = let p = err_from_is_err_and c.from_residual.result c.
 
 pub returns : goal.returns
 unfolding refusal_of state_after answer_of undo_record
-returns c = let h = c.in_ok-created.ensures in done_is _ _ _ _ _ h.answered h.made (c.made.ensures.answer ∙ ap Answer.Object h.held.0) (c.made.ensures.record ∙ new_record_is c.args.world.now c.args.m c.args.r _ c.in_ok-created.created.at c.in_ok-created.created.fresh c.in_ok-created.created.old h.placed h.held.1)
+returns c = let h = c.in_ok-created.ensures in done_is _ _ _ _ _ h.answered h.made (c.record_new.ensures.answer ∙ ap Answer.Object h.held.0) (c.record_new.ensures.record ∙ new_record_is c.args.world.now c.args.m c.args.r _ c.in_ok-created.created.at c.in_ok-created.created.fresh c.in_ok-created.created.old h.placed h.held.1)

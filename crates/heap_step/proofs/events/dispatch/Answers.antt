@@ -1,4 +1,4 @@
-use Rattle.heap_step.proofs.Applied.{as_event}
+use Rattle.heap_step.proofs.AppliedResults.{as_event}
 use Rattle.heap_step.proofs.events.dispatch.Goals as goal
 
 pub returns-in-Class : goal.returns-in-Class

@@ -4,7 +4,7 @@ use Rattle.heap_step.specs.declared.Answer.{Answer}
 use Rattle.heap_step.specs.declared.Undo.{Undo}
 use Rattle.heap_step.specs.Apply.{refusal_of, state_after, answer_of, event_may_grow}
 use Rattle.heap_step.specs.Records.{undo_record}
-use Rattle.heap_step.proofs.Applied.{refused_is, done_is}
+use Rattle.heap_step.proofs.AppliedResults.{refused_is, done_is}
 use Rattle.heap_step.proofs.events.finish.Goals as goal
 
 pub returns-in_err-finished : goal.returns-in_err-finished

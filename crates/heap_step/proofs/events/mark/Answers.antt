@@ -3,7 +3,7 @@ use Rattle.std.proofs.lemmas.Result.{err_from_is_err_and}
 use Rattle.heap_step.specs.declared.Answer.{Answer}
 use Rattle.heap_step.specs.Apply.{refusal_of, state_after, answer_of, event_may_grow}
 use Rattle.heap_step.specs.Records.{undo_record}
-use Rattle.heap_step.proofs.Applied.{refused_is, done_is, mark_record_is}
+use Rattle.heap_step.proofs.AppliedResults.{refused_is, done_is, mark_record_is}
 use Rattle.heap_step.proofs.events.mark.Goals as goal
 
 pub returns-in_err-marked : goal.returns-in_err-marked

@@ -1,4 +1,4 @@
-use Rattle.heap_step.proofs.Applied.{done_of, refused_of, legal_of, found_of}
+use Rattle.heap_step.proofs.AppliedResults.{done_of, refused_of, legal_of, found_of}
 use Rattle.heap_step.proofs.step.apply.Goals as goal
 
 pub returns-clause-done : goal.returns-clause-done

@@ -3,7 +3,7 @@ use Rattle.heap_trail.specs.declared.Action.{Action}
 use Rattle.heap_trail.specs.declared.Action.TheVariants.{Step, Rewind, OpenPin, NextPiece, ClosePin}
 use Rattle.heap_trail.specs.declared.Reply.TheVariants.{Place, Pinned, Part, Closed, Refused}
 use Rattle.heap_trail.specs.Machine.{MayReply}
-use Rattle.heap_trail.proofs.Acting.{replies_fine, replies_refusing}
+use Rattle.heap_trail.proofs.Replies.{replies_fine, replies_refusing}
 use Rattle.heap_trail.proofs.Machine.act.Goals as goal
 
 pub returns-in-Err-clause-reply : goal.returns-in-Err-clause-reply

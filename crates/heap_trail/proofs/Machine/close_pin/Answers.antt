@@ -2,11 +2,11 @@ use Rattle.std.proofs.Common.{◌≡◌, List, sym, ap, subst, ◌∙◌}
 use Rattle.heap_class.specs.declared.Refusal.TheVariants.{NoPin}
 use Rattle.heap_trail.specs.declared.Action.TheVariants.{ClosePin}
 use Rattle.heap_trail.specs.declared.Reply.TheVariants.{Closed, Refused}
-use Rattle.heap_trail.specs.declared.held.Slot.{Slot}
+use Rattle.heap_trail.specs.declared.held.NumberedPin.{NumberedPin}
 use Rattle.heap_trail.specs.Machine.{Machine, acted}
 use Rattle.heap_trail.specs.Records.{machine_of}
-use Rattle.heap_trail.proofs.SlotFound.{slot_found, pin_missing}
-use Rattle.heap_trail.proofs.Closing.{close_done, close_missing}
+use Rattle.heap_trail.proofs.PinSearch.{slot_found, pin_missing}
+use Rattle.heap_trail.proofs.ClosedPins.{close_done, close_missing}
 use Rattle.heap_trail.proofs.Machine.close_pin.Goals as goal
 
 pub returns-in-Some-clause-done : goal.returns-in-Some-clause-done
@@ -17,7 +17,7 @@ returns-in-Some-clause-done c =
     subst (λ (m : Machine). acted m (ClosePin c.args.pin) ≡ (after, Closed)) c.self.view_is
     (subst (λ n. acted (machine_of i.ids i.world i.records i.place i.keep i.next i.pins.items) (ClosePin n) ≡ (after, Closed)) there.1
     (close_done i.ids i.world i.records i.place i.keep i.next c.in-Some.slot i.pins.items c.remove.result c.self.invariant.1 there.0
-    ∙ ap (λ (ss : List Slot). (machine_of i.ids i.world i.records i.place i.keep i.next ss, Closed)) (sym c.remove.ensures.items)))
+    ∙ ap (λ (ss : List NumberedPin). (machine_of i.ids i.world i.records i.place i.keep i.next ss, Closed)) (sym c.remove.ensures.items)))
 
 pub returns-in-None-clause-refused : goal.returns-in-None-clause-refused
 returns-in-None-clause-refused c =

@@ -3,7 +3,7 @@ use Rattle.std.proofs.lemmas.List.{take_more}
 use Rattle.heap_trail.specs.declared.Action.{Action}
 use Rattle.heap_trail.specs.declared.Reply.{Reply}
 use Rattle.heap_trail.specs.Machine.{MayDrive}
-use Rattle.heap_trail.proofs.Driving.{driven_none, driven_more}
+use Rattle.heap_trail.proofs.ActionLists.{driven_none, driven_more}
 use Rattle.heap_trail.proofs.Machine.drive.Goals as goal
 
 pub loop-action-init : goal.loop-action-init

@@ -1,7 +1,7 @@
 use Rattle.std.proofs.Common.{◌≡◌, ◌-◌, ◌<◌, ◌≤◌, ap, subst, ◌∙◌}
 use Rattle.std.specs.Prelude.{nat_le}
 use Rattle.heap_trail.specs.Machine.{Machine}
-use Rattle.heap_trail.proofs.Opened.{retained_below, retained_above}
+use Rattle.heap_trail.proofs.PinsAtPlaces.{retained_below, retained_above}
 use Rattle.heap_trail.proofs.Machine.has_retained.Goals as goal
 
 pub returns-then-at-self : goal.returns-then-at-self

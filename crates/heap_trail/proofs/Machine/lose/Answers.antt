@@ -2,9 +2,9 @@ use Rattle.std.proofs.Common.{◌≡◌, ◌++◌, length, take, drop, map, ap, 
 use Rattle.std.proofs.lemmas.List.{take_at, length-map}
 use Rattle.heap_trail.specs.Pins.{after_rewind}
 use Rattle.heap_trail.specs.Machine.{Machine}
-use Rattle.heap_trail.specs.Slots.{pins_of, slot_after_rewind}
+use Rattle.heap_trail.specs.OpenPins.{pins_of, slot_after_rewind}
 use Rattle.heap_trail.specs.Records.{machine_with}
-use Rattle.heap_trail.proofs.Unpinned.{pins_lost, pinning_lost}
+use Rattle.heap_trail.proofs.PinnedRewinds.{pins_lost, pinning_lost}
 use Rattle.heap_trail.proofs.Machine.lose.Goals as goal
 
 pub invariant_of-self : goal.invariant_of-self

@@ -3,7 +3,7 @@ use Rattle.circular_buffer.specs.Buffer.{buffer}
 use Rattle.heap_world.specs.State.{opening_state}
 use Rattle.heap_trail.specs.Machine.{opening_machine}
 use Rattle.heap_trail.specs.Records.{machine_of}
-use Rattle.heap_trail.specs.Slots.{pins_of}
+use Rattle.heap_trail.specs.OpenPins.{pins_of}
 use Rattle.heap_trail.proofs.Machine.new.Goals as goal
 
 pub returns-in-Ok : goal.returns-in-Ok

@@ -1,8 +1,8 @@
 use Rattle.std.proofs.Common.{ap, subst}
 use Rattle.heap_trail.specs.Machine.{Machine}
 use Rattle.heap_trail.specs.Pins.{AreDumpable, AreNumbered}
-use Rattle.heap_trail.specs.Slots.{pins_of}
-use Rattle.heap_trail.proofs.Numbered.{numbered, dumpable}
+use Rattle.heap_trail.specs.OpenPins.{pins_of}
+use Rattle.heap_trail.proofs.PinNumbers.{numbered, dumpable}
 use Rattle.heap_trail.proofs.Machine.next_pin.Goals as goal
 
 pub returns-clause-value : goal.returns-clause-value

@@ -3,13 +3,13 @@ use Rattle.std.proofs.lemmas.Result.{err_from_is_err_and}
 use Rattle.heap_class.specs.declared.Refusal.TheVariants.{NotRetained, PinLimit}
 use Rattle.heap_trail.specs.declared.Action.TheVariants.{OpenPin}
 use Rattle.heap_trail.specs.declared.Reply.TheVariants.{Pinned, Refused}
-use Rattle.heap_trail.specs.declared.held.Slot.{Slot}
+use Rattle.heap_trail.specs.declared.held.NumberedPin.{NumberedPin}
 use Rattle.heap_trail.specs.Limits.{pin_limit, last_pin}
 use Rattle.heap_trail.specs.Pins.{is_retained}
-use Rattle.heap_trail.specs.Machine.{Machine, Refusing, MayStand, acted}
+use Rattle.heap_trail.specs.Machine.{Machine, Denied, MayStand, acted}
 use Rattle.heap_trail.specs.Records.{IsPinning, machine_of}
-use Rattle.heap_trail.proofs.Recorded.{length-past_of}
-use Rattle.heap_trail.proofs.Opened.{retained_parts, pinning_more, open_done, open_unretained, open_full, open_starved, full_by_many, full_by_number}
+use Rattle.heap_trail.proofs.RecordedPast.{length-past_of}
+use Rattle.heap_trail.proofs.PinsAtPlaces.{retained_parts, pinning_more, open_done, open_unretained, open_full, open_starved, full_by_many, full_by_number}
 use Rattle.heap_trail.proofs.Machine.open_pin.Goals.{then-len-ge-PIN_LIMIT-via-then-len-ge-PIN_LIMIT, then-len-ge-PIN_LIMIT-via-else-len-ge-PIN_LIMIT+then-self-gt-LAST_PIN}
 use Rattle.heap_trail.proofs.Machine.open_pin.Goals as goal
 
@@ -60,7 +60,7 @@ returns-in_err-pin-clause-refused c =
     let low : i.next ≤ last_pin = omega (arith, c.if-self-gt-LAST_PIN.false) in
     rw (p.1, p.2)
     (inr (
-      subst (λ (m : Machine). MayStand m (OpenPin c.args.at, Refusing)) c.self.view_is
+      subst (λ (m : Machine). MayStand m (OpenPin c.args.at, Denied)) c.self.view_is
           (open_starved i.ids i.world i.records i.place i.keep i.next i.pins.items c.args.at c.unwrap_or-at.result c.unwrap_or-at.ensures r few low),
       c.in_err-pin.ensures.refused,
     ))
@@ -74,7 +74,7 @@ invariant_of-self c =
     let few : length i.pins.items < pin_limit = omega (arith, c.len.ensures, c.if-len-ge-PIN_LIMIT.false, i.pins.ok.0) in
     let low : i.next ≤ last_pin = omega (arith, c.if-self-gt-LAST_PIN.false) in (
       c.self.invariant.0,
-      subst (λ (ss : List Slot). IsPinning i.ids i.world i.records i.place (i.next + 1) ss) (sym c.push_reserved.ensures.items)
+      subst (λ (ss : List NumberedPin). IsPinning i.ids i.world i.records i.place (i.next + 1) ss) (sym c.push_reserved.ensures.items)
           (pinning_more i.ids i.world i.records i.place i.next c.unwrap_or-at.result i.pins.items c.in_ok-pin.pin c.self.invariant.1 parts.0 c.in_ok-pin.ensures.held few low),
       subst (λ n. pin_limit ≤ n) (sym c.push_reserved.ensures.capacity) c.self.invariant.2,
     )
@@ -88,4 +88,4 @@ returns-clause-done c =
     let low : i.next ≤ last_pin = omega (arith, c.if-self-gt-LAST_PIN.false) in
     ap (λ (m : Machine). acted m (OpenPin c.args.at)) (sym c.self.view_is)
     ∙ open_done i.ids i.world i.records i.place i.keep i.next i.pins.items c.args.at c.unwrap_or-at.result c.in_ok-pin.pin c.unwrap_or-at.ensures r c.in_ok-pin.ensures.held few low
-    ∙ ap (λ (ss : List Slot). (machine_of i.ids i.world i.records i.place i.keep (i.next + 1) ss, Pinned i.next c.unwrap_or-at.result)) (sym c.push_reserved.ensures.items)
+    ∙ ap (λ (ss : List NumberedPin). (machine_of i.ids i.world i.records i.place i.keep (i.next + 1) ss, Pinned i.next c.unwrap_or-at.result)) (sym c.push_reserved.ensures.items)

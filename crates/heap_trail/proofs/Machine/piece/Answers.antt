@@ -4,11 +4,11 @@ use Rattle.heap_class.specs.declared.Refusal.TheVariants.{NoMemory, NoPin}
 use Rattle.heap_trail.specs.declared.Action.TheVariants.{NextPiece}
 use Rattle.heap_trail.specs.declared.Reply.TheVariants.{Part, Refused}
 use Rattle.heap_trail.specs.Laws.{IsPieceOfLegal}
-use Rattle.heap_trail.specs.Machine.{Machine, Refusing, MayStand, acted}
-use Rattle.heap_trail.specs.Slots.{HasGiven}
+use Rattle.heap_trail.specs.Machine.{Machine, Denied, MayStand, acted}
+use Rattle.heap_trail.specs.OpenPins.{HasGiven}
 use Rattle.heap_trail.specs.Records.{past_of, machine_of}
-use Rattle.heap_trail.proofs.SlotFound.{slot_found, pin_missing, held_there}
-use Rattle.heap_trail.proofs.PieceGiven.{can_give, holds_after, of_legal, pinning_set, piece_done, piece_missing, piece_not_given}
+use Rattle.heap_trail.proofs.PinSearch.{slot_found, pin_missing, held_there}
+use Rattle.heap_trail.proofs.GivenPieces.{can_give, holds_after, of_legal, pinning_set, piece_done, piece_missing, piece_not_given}
 use Rattle.heap_trail.proofs.Machine.piece.Goals as goal
 
 pub next_piece-requires : goal.next_piece-requires
@@ -61,8 +61,8 @@ returns-in-Some-clause-refused c =
     let t = c.next_piece.new.self in
     let there = slot_found c.args.pin i.pins.items c.deref.result.now c.slot_of.result c.in-Some.slot s c.deref.ensures.value c.slot_of.ensures c.in-Some.is c.index_mut.ensures.value in
     let new : Machine = machine_of i.ids i.world i.records i.place i.keep i.next (set i.pins.items c.in-Some.slot t) in
-    subst (λ (m : Machine). IfErr c.next_piece.result (λ e. (acted m (NextPiece c.args.pin c.args.time) ≡ (new, Refused e)) ⊎ (MayStand m (NextPiece c.args.pin c.args.time, Refusing) × (e ≡ NoMemory)))) c.self.view_is
-    (subst (λ n. IfErr c.next_piece.result (λ e. (acted (machine_of i.ids i.world i.records i.place i.keep i.next i.pins.items) (NextPiece n c.args.time) ≡ (new, Refused e)) ⊎ (MayStand (machine_of i.ids i.world i.records i.place i.keep i.next i.pins.items) (NextPiece n c.args.time, Refusing) × (e ≡ NoMemory)))) there.1
+    subst (λ (m : Machine). IfErr c.next_piece.result (λ e. (acted m (NextPiece c.args.pin c.args.time) ≡ (new, Refused e)) ⊎ (MayStand m (NextPiece c.args.pin c.args.time, Denied) × (e ≡ NoMemory)))) c.self.view_is
+    (subst (λ n. IfErr c.next_piece.result (λ e. (acted (machine_of i.ids i.world i.records i.place i.keep i.next i.pins.items) (NextPiece n c.args.time) ≡ (new, Refused e)) ⊎ (MayStand (machine_of i.ids i.world i.records i.place i.keep i.next i.pins.items) (NextPiece n c.args.time, Denied) × (e ≡ NoMemory)))) there.1
     (piece_not_given i.ids i.world i.records i.place i.keep i.next i.pins.items c.in-Some.slot c.args.time s t c.next_piece.result c.self.invariant.1 there.0 c.next_piece.ensures.refused c.next_piece.ensures.unchanged))
 
 pub returns-in-None-clause-refused : goal.returns-in-None-clause-refused

@@ -1,8 +1,8 @@
 use Rattle.std.proofs.Common.{subst}
 use Rattle.heap_trail.specs.Laws.{IsTrail}
 use Rattle.heap_trail.specs.Machine.{Machine}
-use Rattle.heap_trail.specs.Slots.{pins_of}
-use Rattle.heap_trail.proofs.Recorded.{is_trail}
+use Rattle.heap_trail.specs.OpenPins.{pins_of}
+use Rattle.heap_trail.proofs.RecordedPast.{is_trail}
 use Rattle.heap_trail.proofs.Machine.place.Goals as goal
 
 pub returns-clause-trail : goal.returns-clause-trail

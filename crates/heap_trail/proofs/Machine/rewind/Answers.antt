@@ -4,9 +4,9 @@ use Rattle.heap_trail.specs.declared.Reply.TheVariants.{Place, Refused}
 use Rattle.heap_trail.specs.Trail.{retained, rewound}
 use Rattle.heap_trail.specs.Pins.{after_rewind}
 use Rattle.heap_trail.specs.Machine.{Machine}
-use Rattle.heap_trail.specs.Slots.{AreAllBelow}
-use Rattle.heap_trail.proofs.EachLost.{below_after, higher}
-use Rattle.heap_trail.proofs.Rewinding.{rewound_none, rewound_more, rewound_place, some_left, rewind_done, rewind_too_far}
+use Rattle.heap_trail.specs.OpenPins.{AreAllBelow}
+use Rattle.heap_trail.proofs.LostPins.{below_after, higher}
+use Rattle.heap_trail.proofs.RewoundMachines.{rewound_none, rewound_more, rewound_place, some_left, rewind_done, rewind_too_far}
 use Rattle.heap_trail.proofs.Machine.rewind.Goals as goal
 
 pub returns-then-n-retained-clause-refused : goal.returns-then-n-retained-clause-refused

@@ -9,16 +9,16 @@ use Rattle.heap_step.specs.declared.Undo.{Undo}
 use Rattle.heap_step.specs.Records.{undone}
 use Rattle.heap_trail.specs.declared.Action.TheVariants.{Step}
 use Rattle.heap_trail.specs.declared.Reply.TheVariants.{Refused}
-use Rattle.heap_trail.specs.declared.held.Slot.{Slot}
+use Rattle.heap_trail.specs.declared.held.NumberedPin.{NumberedPin}
 use Rattle.heap_trail.specs.Limits.{last_place}
-use Rattle.heap_trail.specs.Machine.{Machine, Refusing, MayStand, acted}
+use Rattle.heap_trail.specs.Machine.{Machine, Denied, MayStand, acted}
 use Rattle.heap_trail.specs.Laws.{SparesReached, FindsSnapshot}
-use Rattle.heap_trail.specs.Slots.{pins_of, EachSized, EachMayKeep}
-use Rattle.heap_trail.specs.Records.{past_of, IsWhole, machine_of, machine_with, with_record}
-use Rattle.heap_trail.proofs.Stepping.{IsAccepted, leads_back, kept_after_step, step_full, step_err}
-use Rattle.heap_trail.proofs.Pinning.{MayAnswer, same_length, pinning_after, step_pinned}
-use Rattle.heap_trail.proofs.EachKept.{sized_after}
-use Rattle.heap_trail.proofs.Reached.{sweep_leaves, finish_lives, finish_finds}
+use Rattle.heap_trail.specs.OpenPins.{pins_of, EachSized, EachMayKeep}
+use Rattle.heap_trail.specs.Records.{past_of, IsWholeMachine, machine_of, machine_with, with_record}
+use Rattle.heap_trail.proofs.MachineSteps.{IsAccepted, leads_back, kept_after_step, step_full, step_err}
+use Rattle.heap_trail.proofs.PinnedSteps.{MayAnswer, same_length, pinning_after, step_pinned}
+use Rattle.heap_trail.proofs.EachPin.{sized_after}
+use Rattle.heap_trail.proofs.ReachedObjects.{sweep_leaves, finish_lives, finish_finds}
 use Rattle.heap_trail.proofs.Machine.step.Goals as goal
 
 pub returns-then-self-ge-LAST_PLACE-clause-refused : goal.returns-then-self-ge-LAST_PLACE-clause-refused
@@ -31,8 +31,8 @@ returns-in_err-answer-clause-refused c =
     let p = err_from_is_err_and c.from_residual.result c.from_residual.ensures.1 in
     let under : c.self.inside.place < last_place = c.if-self-ge-LAST_PLACE.false in
     rw (p.1, p.2)
-    (subst (λ (m : Machine). (acted m (Step c.args.event.now) ≡ (machine_of c.self.inside.ids c.apply.new.world c.self.inside.records c.self.inside.place c.self.inside.keep c.self.inside.next c.self.inside.pins.items, Refused c.in_err-answer.field-0.0)) ⊎ (MayStand m (Step c.args.event.now, Refusing) × (c.in_err-answer.field-0.0 ≡ NoMemory))) c.self.view_is
-    (subst (λ (w : HeapState). (acted (machine_of c.self.inside.ids c.self.inside.world c.self.inside.records c.self.inside.place c.self.inside.keep c.self.inside.next c.self.inside.pins.items) (Step c.args.event.now) ≡ (machine_with c.self.inside.ids c.apply.new.world c.self.inside.records c.self.inside.place c.self.inside.keep (pins_of w c.self.inside.next c.self.inside.pins.items), Refused c.in_err-answer.field-0.0)) ⊎ (MayStand (machine_of c.self.inside.ids c.self.inside.world c.self.inside.records c.self.inside.place c.self.inside.keep c.self.inside.next c.self.inside.pins.items) (Step c.args.event.now, Refusing) × (c.in_err-answer.field-0.0 ≡ NoMemory))) (sym c.in_err-answer.ensures.unchanged)
+    (subst (λ (m : Machine). (acted m (Step c.args.event.now) ≡ (machine_of c.self.inside.ids c.apply.new.world c.self.inside.records c.self.inside.place c.self.inside.keep c.self.inside.next c.self.inside.pins.items, Refused c.in_err-answer.field-0.0)) ⊎ (MayStand m (Step c.args.event.now, Denied) × (c.in_err-answer.field-0.0 ≡ NoMemory))) c.self.view_is
+    (subst (λ (w : HeapState). (acted (machine_of c.self.inside.ids c.self.inside.world c.self.inside.records c.self.inside.place c.self.inside.keep c.self.inside.next c.self.inside.pins.items) (Step c.args.event.now) ≡ (machine_with c.self.inside.ids c.apply.new.world c.self.inside.records c.self.inside.place c.self.inside.keep (pins_of w c.self.inside.next c.self.inside.pins.items), Refused c.in_err-answer.field-0.0)) ⊎ (MayStand (machine_of c.self.inside.ids c.self.inside.world c.self.inside.records c.self.inside.place c.self.inside.keep c.self.inside.next c.self.inside.pins.items) (Step c.args.event.now, Denied) × (c.in_err-answer.field-0.0 ≡ NoMemory))) (sym c.in_err-answer.ensures.unchanged)
     (step_err c.self.inside.ids c.args.event.now c.self.inside.world c.apply.new.world c.self.inside.records c.self.inside.place c.self.inside.keep (pins_of c.self.inside.world c.self.inside.next c.self.inside.pins.items) c.in_err-answer.field-0.0 under c.in_err-answer.ensures.unchanged c.in_err-answer.ensures.refused)))
 
 pub remember-requires-clause-sized : goal.remember-requires-clause-sized
@@ -45,7 +45,7 @@ remember-requires-clause-sized c =
       law = c.undo_takes_back.ensures c.args.event.now c.self.inside.world;
     } in
     let back : undone c.in_ok-answer.left c.apply.new.world ≡ c.self.inside.world = leads_back c.args.event.now c.self.inside.world c.apply.new.world c.in_ok-answer.left c.self.invariant.0.legal a in
-    subst (λ (ss : List Slot). EachSized (length c.apply.new.world.regions) ss) (sym c.deref_mut.ensures.value)
+    subst (λ (ss : List NumberedPin). EachSized (length c.apply.new.world.regions) ss) (sym c.deref_mut.ensures.value)
     (sized_after c.self.inside.ids c.in_ok-answer.left c.apply.new.world c.self.inside.world (past_of c.self.inside.world c.self.inside.records.items) c.self.inside.place c.self.inside.next c.self.inside.pins.items back c.self.invariant.1.held)
 
 pub invariant_of-self-2 : goal.invariant_of-self-2
@@ -57,11 +57,11 @@ invariant_of-self-2 c =
       after = c.in_ok-answer.ensures.legal;
       law = c.undo_takes_back.ensures c.args.event.now c.self.inside.world;
     } in
-    let each : EachMayKeep c.in_ok-answer.left c.apply.new.world c.self.inside.pins.items c.remember.new.pins = subst (λ (ss : List Slot). EachMayKeep c.in_ok-answer.left c.apply.new.world ss c.remember.new.pins) c.deref_mut.ensures.value c.remember.ensures.pins in
+    let each : EachMayKeep c.in_ok-answer.left c.apply.new.world c.self.inside.pins.items c.remember.new.pins = subst (λ (ss : List NumberedPin). EachMayKeep c.in_ok-answer.left c.apply.new.world ss c.remember.new.pins) c.deref_mut.ensures.value c.remember.ensures.pins in
     let items : take c.self.inside.pins.len (c.remember.new.pins ++ drop (length c.remember.new.pins) c.self.inside.pins.items) ≡ c.remember.new.pins
     = take_at c.remember.new.pins (drop (length c.remember.new.pins) c.self.inside.pins.items) c.self.inside.pins.len (omega (arith, same_length _ _ _ _ each, c.self.inside.pins.ok.0)) in
     rw items
-    (subst (λ (r : Buffer Undo). IsWhole c.self.inside.ids c.apply.new.world r (c.self.inside.place + 1) c.self.inside.keep c.self.inside.next c.remember.new.pins (vec_capacity c.self.inside.pins)) (sym c.remember.ensures.records) (
+    (subst (λ (r : Buffer Undo). IsWholeMachine c.self.inside.ids c.apply.new.world r (c.self.inside.place + 1) c.self.inside.keep c.self.inside.next c.remember.new.pins (vec_capacity c.self.inside.pins)) (sym c.remember.ensures.records) (
       kept_after_step c.args.event.now c.self.inside.world c.apply.new.world c.in_ok-answer.left c.self.inside.records c.self.inside.place c.self.inside.keep c.self.invariant.0 a c.if-self-ge-LAST_PLACE.false,
       pinning_after c.self.inside.ids c.args.event.now c.self.inside.world c.apply.new.world c.in_ok-answer.left c.self.inside.records c.self.inside.place c.self.inside.keep c.self.inside.next c.self.inside.pins.items c.remember.new.pins c.self.invariant.0 c.self.invariant.1 a each,
       c.self.invariant.2,
@@ -76,10 +76,10 @@ returns-clause-done c =
       after = c.in_ok-answer.ensures.legal;
       law = c.undo_takes_back.ensures c.args.event.now c.self.inside.world;
     } in
-    let each : EachMayKeep c.in_ok-answer.left c.apply.new.world c.self.inside.pins.items c.remember.new.pins = subst (λ (ss : List Slot). EachMayKeep c.in_ok-answer.left c.apply.new.world ss c.remember.new.pins) c.deref_mut.ensures.value c.remember.ensures.pins in
+    let each : EachMayKeep c.in_ok-answer.left c.apply.new.world c.self.inside.pins.items c.remember.new.pins = subst (λ (ss : List NumberedPin). EachMayKeep c.in_ok-answer.left c.apply.new.world ss c.remember.new.pins) c.deref_mut.ensures.value c.remember.ensures.pins in
     let items : take c.self.inside.pins.len (c.remember.new.pins ++ drop (length c.remember.new.pins) c.self.inside.pins.items) ≡ c.remember.new.pins
     = take_at c.remember.new.pins (drop (length c.remember.new.pins) c.self.inside.pins.items) c.self.inside.pins.len (omega (arith, same_length _ _ _ _ each, c.self.inside.pins.ok.0)) in
-    subst (λ (ts : List Slot). MayAnswer c.args.self.now c.args.event.now (machine_of c.self.inside.ids c.apply.new.world c.remember.new.records (c.self.inside.place + 1) c.self.inside.keep c.self.inside.next ts) c.in_ok-answer.answer) (sym items)
+    subst (λ (ts : List NumberedPin). MayAnswer c.args.self.now c.args.event.now (machine_of c.self.inside.ids c.apply.new.world c.remember.new.records (c.self.inside.place + 1) c.self.inside.keep c.self.inside.next ts) c.in_ok-answer.answer) (sym items)
     (subst (λ (r : Buffer Undo). MayAnswer c.args.self.now c.args.event.now (machine_of c.self.inside.ids c.apply.new.world r (c.self.inside.place + 1) c.self.inside.keep c.self.inside.next c.remember.new.pins) c.in_ok-answer.answer) (sym c.remember.ensures.records)
     (subst (λ (m : Machine). MayAnswer m c.args.event.now (machine_of c.self.inside.ids c.apply.new.world (with_record c.in_ok-answer.left c.self.inside.records) (c.self.inside.place + 1) c.self.inside.keep c.self.inside.next c.remember.new.pins) c.in_ok-answer.answer) c.self.view_is
     (step_pinned c.self.inside.ids c.args.event.now c.self.inside.world c.apply.new.world c.in_ok-answer.left c.self.inside.records c.self.inside.place c.self.inside.keep c.self.inside.next c.self.inside.pins.items c.remember.new.pins c.in_ok-answer.answer c.self.invariant.0 c.self.invariant.1 a c.if-self-ge-LAST_PLACE.false c.in_ok-answer.ensures.done each)))

@@ -3,10 +3,10 @@ use Rattle.circular_buffer.specs.Buffer.{Buffer}
 use Rattle.heap_step.specs.declared.Undo.{Undo}
 use Rattle.heap_trail.specs.Trail.{rewound}
 use Rattle.heap_trail.specs.Machine.{Machine}
-use Rattle.heap_trail.specs.Slots.{AreAllBelow}
-use Rattle.heap_trail.specs.Records.{IsWhole, machine_of}
-use Rattle.heap_trail.proofs.Rewinding.{popped, was_step, kept_after_undo}
-use Rattle.heap_trail.proofs.Unpinned.{undone_pinned}
+use Rattle.heap_trail.specs.OpenPins.{AreAllBelow}
+use Rattle.heap_trail.specs.Records.{IsWholeMachine, machine_of}
+use Rattle.heap_trail.proofs.RewoundMachines.{popped, was_step, kept_after_undo}
+use Rattle.heap_trail.proofs.PinnedRewinds.{undone_pinned}
 use Rattle.heap_trail.proofs.Machine.undo_last.Goals as goal
 
 pub undo-requires : goal.undo-requires
@@ -16,7 +16,7 @@ pub invariant_of-self : goal.invariant_of-self
 invariant_of-self c =
     let i = c.self.inside in
     let below = subst (λ (m : Machine). AreAllBelow m.trail.place m.pins) (sym c.self.view_is) c.requires.below in
-    subst (λ (r : Buffer Undo). IsWhole c.self.inside.ids c.undo.new.world r (i.place - 1) i.keep i.next i.pins.items (vec_capacity i.pins)) (sym c.in-Some.ensures.items) (
+    subst (λ (r : Buffer Undo). IsWholeMachine c.self.inside.ids c.undo.new.world r (i.place - 1) i.keep i.next i.pins.items (vec_capacity i.pins)) (sym c.in-Some.ensures.items) (
       kept_after_undo i.world c.undo.new.world c.in-Some.left i.records i.place i.keep c.self.invariant.0 (sym c.in-Some.ensures.value) c.undo.ensures,
       (undone_pinned i.ids i.world c.undo.new.world c.in-Some.left i.records i.place i.keep i.next i.pins.items c.self.invariant.0 c.self.invariant.1 (sym c.in-Some.ensures.value) c.undo.ensures below).0,
       c.self.invariant.2,

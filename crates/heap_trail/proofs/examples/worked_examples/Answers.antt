@@ -1,4 +1,4 @@
-use Rattle.heap_trail.proofs.Computed as example
+use Rattle.heap_trail.proofs.ComputedExamples as example
 use Rattle.heap_trail.proofs.examples.worked_examples.Goals as goal
 
 pub returns-clause-limits_of_one_region : goal.returns-clause-limits_of_one_region

@@ -1,7 +1,7 @@
 use Rattle.std.proofs.Common.{◌≡◌, sym, ap, subst, ◌∙◌, arith}
 use Rattle.std.specs.Option.{option_copied}
 use Rattle.heap_trail.specs.Records.{past_of}
-use Rattle.heap_trail.proofs.WalkedPast.{IsWalkedTo, can_walk, one_back, walk_done, record_there}
+use Rattle.heap_trail.proofs.PastWalks.{IsWalkedTo, can_walk, one_back, walk_done, record_there}
 use Rattle.heap_trail.proofs.opening.past_pin.Goals as goal
 
 pub loop-i-init : goal.loop-i-init

@@ -1,4 +1,4 @@
-use Rattle.heap_trail.proofs.WalkedPast.{IsWalkedTo}
+use Rattle.heap_trail.proofs.PastWalks.{IsWalkedTo}
 use Rattle.heap_trail.proofs.opening.past_pin.Given as goal
 
 abbrev pub invariant-loop-i : goal.invariant-loop-i

@@ -1,4 +1,4 @@
-use Rattle.heap_world.proofs.Held.{entries_there}
+use Rattle.heap_world.proofs.MarkerParts.{entries_there}
 use Rattle.heap_world.proofs.Steps.{drain_held, drain_made}
 use Rattle.heap_world.proofs.World.drain.Goals as goal
 

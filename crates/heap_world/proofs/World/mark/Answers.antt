@@ -1,4 +1,4 @@
-use Rattle.heap_world.proofs.Held.{slots_there, children_there}
+use Rattle.heap_world.proofs.MarkerParts.{slots_there, children_there}
 use Rattle.heap_world.proofs.Steps.{mark_held, mark_made}
 use Rattle.heap_world.proofs.World.mark.Goals as goal
 

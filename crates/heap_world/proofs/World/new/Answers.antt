@@ -1,6 +1,6 @@
 use Rattle.std.proofs.Common.{◌*◌, ap, ◌∙◌}
 use Rattle.heap_mark.specs.Marker.{MarkerState}
-use Rattle.heap_world.proofs.Opening.{opens, opens_held}
+use Rattle.heap_world.proofs.OpeningState.{opens, opens_held}
 use Rattle.heap_region.specs.Pool.{opening_pool}
 use Rattle.heap_world.proofs.World.new.Goals as goal
 

@@ -1,4 +1,4 @@
-use Rattle.heap_world.proofs.Kept.{word_held}
+use Rattle.heap_world.proofs.KeptParts.{word_held}
 use Rattle.heap_world.proofs.World.unput.Goals as goal
 
 pub invariant_of-self : goal.invariant_of-self

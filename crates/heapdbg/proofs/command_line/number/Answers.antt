@@ -1,5 +1,5 @@
 use Rattle.std.proofs.Common.{rules, arith}
-use Rattle.heapdbg.proofs.Asked.{number_refused}
+use Rattle.heapdbg.proofs.AskedSettings.{number_refused}
 use Rattle.heapdbg.proofs.command_line.number.Goals as goal
 
 pub returns-in-Err : goal.returns-in-Err

@@ -1,6 +1,6 @@
 use Rattle.clap.specs.Words.{found_of, subcommand_rows_of}
 use Rattle.heapdbg.specs.CommandLine.{texts}
-use Rattle.heapdbg.proofs.Saved.{path_is}
+use Rattle.heapdbg.proofs.SavedRuns.{path_is}
 use Rattle.heapdbg.proofs.command_line.out_path.Goals as goal
 
 pub returns-in-Some : goal.returns-in-Some

@@ -2,7 +2,7 @@ use Rattle.std.proofs.Common.{◌∙◌, ap, sym}
 use Rattle.std.specs.Prelude.{option_map}
 use Rattle.clap.specs.Words.{found_of, rows_of}
 use Rattle.heapdbg.specs.declared.settings.Task.TheVariants.{Save}
-use Rattle.heapdbg.proofs.Saved.{given_mistake, given_target, of_places}
+use Rattle.heapdbg.proofs.SavedRuns.{given_mistake, given_target, of_places}
 use Rattle.heapdbg.proofs.save_options.save_task.Goals as goal
 
 pub returns-in-Ok-clause-ok : goal.returns-in-Ok-clause-ok

@@ -1,5 +1,5 @@
 use Rattle.std.proofs.Common.{◌∙◌}
-use Rattle.hprof_text.proofs.Numbered.{piece_past}
+use Rattle.hprof_text.proofs.NumberedPieces.{piece_past}
 use Rattle.hprof_text.proofs.pieces.past_from.Goals as goal
 
 pub returns-clause-piece : goal.returns-clause-piece

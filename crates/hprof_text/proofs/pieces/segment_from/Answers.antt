@@ -1,6 +1,6 @@
 use Rattle.std.proofs.Common.{◌+◌, [], false, true, ap, ◌∙◌, subst, arith}
-use Rattle.hprof_text.specs.Filled.{filled, IsFilledTo}
-use Rattle.hprof_text.proofs.Numbered.{piece_with, rest_some, rest_at, is_next}
+use Rattle.hprof_text.specs.SegmentFilling.{body_filled, IsFilledTo}
+use Rattle.hprof_text.proofs.NumberedPieces.{piece_with, rest_some, rest_at, is_next}
 use Rattle.hprof_text.proofs.pieces.segment_from.Goals as goal
 
 pub returns-then-len-eq0-clause-piece : goal.returns-then-len-eq0-clause-piece
@@ -45,4 +45,4 @@ returns-clause-next g c = λ i rest r b.
     let body = c.fill-next.new.self in
     let f = subst (λ s. IsFilledTo ids image places rest c.fill-next.result s body) c.in_ok-segment.ensures.empty (c.fill-next.ensures rest r) in
     let n = is_next ids image rest i body (rest_some ids image places c.args.cursor rest r) f.0 b in
-    rest_at ids image places c.fill-next.result (filled [] rest).1 (i + 1) f.1 (n.segment (omega (arith, c.len.ensures.value, c.if-len-eq0.false))).1
+    rest_at ids image places c.fill-next.result (body_filled [] rest).1 (i + 1) f.1 (n.segment (omega (arith, c.len.ensures.value, c.if-len-eq0.false))).1

@@ -1,7 +1,7 @@
 use Rattle.std.proofs.Common.{◌∙◌, ap₂}
 use Rattle.hprof_text.specs.Records.{opening_of}
 use Rattle.hprof_text.specs.Text.{opening_records}
-use Rattle.hprof_text.proofs.Numbered.{piece_first, first_at}
+use Rattle.hprof_text.proofs.NumberedPieces.{piece_first, first_at}
 use Rattle.hprof_text.proofs.pieces.start_from.Goals as goal
 
 pub returns-clause-piece : goal.returns-clause-piece

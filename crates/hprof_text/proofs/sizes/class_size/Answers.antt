@@ -1,6 +1,6 @@
 use Rattle.std.proofs.Common.{◌+◌, ◌*◌, length, ◌∙◌, ap, ap₂}
 use Rattle.heap_class.specs.Kinds.{id_bytes}
-use Rattle.hprof_text.proofs.Written.{fields_at}
+use Rattle.hprof_text.proofs.WrittenRecords.{fields_at}
 use Rattle.hprof_text.proofs.sizes.class_size.Goals as goal
 
 pub returns-clause-value : goal.returns-clause-value

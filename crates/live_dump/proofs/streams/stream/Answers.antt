@@ -1,11 +1,18 @@
-use Rattle.std.proofs.Common.{ℕ, ap}
+use Rattle.std.proofs.Common.{ℕ, List, sym, ap, subst}
 use Rattle.atomic_table.specs.Seated.{TableId}
-use Rattle.live_dump.proofs.Streaming.{puts}
+use Rattle.heap_lock.specs.Calls.{Call, IsLegalLedger}
+use Rattle.live_dump.specs.Streams.{PutsLive}
+use Rattle.live_dump.proofs.ToldStreams.{puts}
 use Rattle.live_dump.proofs.streams.stream.Goals as goal
 
 pub returns-clause-put : goal.returns-clause-put
 returns-clause-put g c =
     let e = c.stream_parts-pumped.ensures in
     let after = c.stream_parts-pumped.new in
-    puts g.L.Heap.config c.args.pin c.args.time c.new.result after.source.source c.args.feed.found after.source.seat.found (g.O.Outlet.seen c.args.outlet.now) (g.O.Outlet.seen after.outlet) c.stream_parts-pumped.result
-    c.new.ensures (ap (λ (k : (ℕ × ℕ) × TableId). k.0.0) e.kept) (ap (λ (k : (ℕ × ℕ) × TableId). k.0.1) e.kept) c.ended.ensures.supplied e.streamed
+    let i = c.into_witness.ensures in
+    subst (λ (seen : List Call). PutsLive g.L.Heap.config c.args.pin c.args.time c.args.witness seen after.source.seat.found (g.O.Outlet.seen c.args.outlet.now) (g.O.Outlet.seen after.outlet) c.stream_parts-pumped.result) (sym i.witness)
+    (puts g.L.Heap.config c.args.pin c.args.time c.args.witness c.new.result after.source.source c.args.feed.found after.source.seat.found (g.O.Outlet.seen c.args.outlet.now) (g.O.Outlet.seen after.outlet) c.stream_parts-pumped.result
+    c.new.ensures (ap (λ (k : (ℕ × ℕ × List Call) × TableId). k.0.0) e.kept) (ap (λ (k : (ℕ × ℕ × List Call) × TableId). k.0.1) e.kept) (ap (λ (k : (ℕ × ℕ × List Call) × TableId). k.0.2) e.kept) i.supplied e.streamed)
+
+pub returns-clause-legal : goal.returns-clause-legal
+returns-clause-legal g c = let i = c.into_witness.ensures in subst (IsLegalLedger g.L.Heap.config) (sym i.witness) i.legal

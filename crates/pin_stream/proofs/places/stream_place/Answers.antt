@@ -1,5 +1,5 @@
-use Rattle.heap_dump.proofs.Placing.{opened, not_opened, some_reply}
-use Rattle.pin_stream.proofs.Streaming.{placed_by, opens_fresh}
+use Rattle.heap_dump.proofs.DumpPins.{opened, not_opened, some_reply}
+use Rattle.pin_stream.proofs.SourceStreams.{placed_by, opens_fresh}
 use Rattle.pin_stream.proofs.places.stream_place.Goals as goal
 
 pub returns-in-Ok : goal.returns-in-Ok

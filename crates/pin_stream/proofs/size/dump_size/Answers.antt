@@ -2,8 +2,8 @@ use Rattle.std.proofs.Common.{◌∙◌, ap, length, [], ◌∷◌}
 use Rattle.hprof_text.specs.Segments.{dump_text}
 use Rattle.heap_pins.specs.Pin.{pin_image}
 use Rattle.heap_pins.specs.View.{PinShown}
-use Rattle.heap_pins.proofs.Seen.{image_is}
-use Rattle.heap_pins.proofs.WalkedBack.{walk_holds}
+use Rattle.heap_pins.proofs.ShownImages.{image_is}
+use Rattle.heap_pins.proofs.RecordWalks.{walk_holds}
 use Rattle.pin_stream.proofs.size.dump_size.Goals as goal
 
 pub new-view-requires : goal.new-view-requires

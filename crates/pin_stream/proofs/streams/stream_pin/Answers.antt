@@ -1,4 +1,4 @@
-use Rattle.pin_stream.proofs.Streaming.{streams}
+use Rattle.pin_stream.proofs.SourceStreams.{streams}
 use Rattle.pin_stream.proofs.streams.stream_pin.Goals as goal
 
 pub returns-clause-put : goal.returns-clause-put

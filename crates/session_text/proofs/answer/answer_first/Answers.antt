@@ -1,8 +1,8 @@
 use Rattle.std.proofs.Common.{◌∙◌, ◌+◌, ◌≤◌, ◌<◌, ap, sym, subst, refl, drop, length, arith}
 use Rattle.std.proofs.lemmas.List.{length-drop}
-use Rattle.session_text.specs.Answers.{Answers}
+use Rattle.session_text.specs.Answers.{AnswersCommand}
 use Rattle.session_text.specs.Talks.{IsLong}
-use Rattle.session_text.proofs.Talking.{line_answered, long_line, long_rest}
+use Rattle.session_text.proofs.AnsweredLines.{line_answered, long_line, long_rest}
 use Rattle.session_text.proofs.answer.answer_first.Goals as goal
 
 pub returns-then-as_slice-gt-LINE_LIMIT : goal.returns-then-as_slice-gt-LINE_LIMIT
@@ -30,6 +30,6 @@ returns g c =
     let less : length c.pass.new.self < length bytes = omega (arith, ap (λ l. length l) rest, length-drop (n + 1) bytes, at.0) in (
       less,
       e.0,
-      line_answered (Answers g.C.Commands.acts c.args.time) bytes c.as_slice-2.result.now c.pass.new.self n c.args.commands.now e.0 c.answer_line.new.commands (c.as_slice-2.ensures ∙ same) rest most at e.1,
+      line_answered (AnswersCommand g.C.Commands.acts g.C.Commands.unknown c.args.time) bytes c.as_slice-2.result.now c.pass.new.self n c.args.commands.now e.0 c.answer_line.new.commands (c.as_slice-2.ensures ∙ same) rest most at e.1,
       e.2,
     )

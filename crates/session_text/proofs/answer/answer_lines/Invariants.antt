@@ -1,13 +1,13 @@
 use Rattle.std.proofs.Common.{ℕ, List, [], true, length}
-use Rattle.session_text.specs.Answers.{Answers}
+use Rattle.session_text.specs.Answers.{AnswersCommand}
 use Rattle.session_text.specs.Talks.{IsTalk}
-use Rattle.session_text.specs.Writes.{IsAdded}
+use Rattle.session_text.specs.Writes.{IsTextAdded}
 use Rattle.session_text.proofs.answer.answer_lines.Given as goal
 
 abbrev pub invariant-loop-n : goal.invariant-loop-n
 invariant-loop-n g l =
-    (text : List ℕ) × IsTalk (Answers g.C.Commands.acts l.time) l.initial.buffer l.initial.commands l.buffer text l.commands
-    × IsAdded text [] (g.O.Outlet.seen l.initial.writer) l.page (g.O.Outlet.seen l.writer) true
+    (text : List ℕ) × IsTalk (AnswersCommand g.C.Commands.acts g.C.Commands.unknown l.time) l.initial.buffer l.initial.commands l.buffer text l.commands
+    × IsTextAdded text [] (g.O.Outlet.seen l.initial.writer) l.page (g.O.Outlet.seen l.writer) true
 
 abbrev pub decreases-loop-n : goal.decreases-loop-n
 decreases-loop-n g l = length l.buffer

@@ -1,4 +1,4 @@
-use Rattle.session_text.proofs.Found.{none_behind, line_behind}
+use Rattle.session_text.proofs.LineSearch.{none_behind, line_behind}
 use Rattle.session_text.proofs.buffer.find_lf.Goals as goal
 
 pub returns-in-Some : goal.returns-in-Some

@@ -1,8 +1,8 @@
 use Rattle.std.proofs.Common.{◌++◌, length, true}
 use Rattle.session_text.specs.Replies.{data_line}
-use Rattle.session_text.proofs.Dumping.{data_lines_go, data_lines_all}
+use Rattle.session_text.proofs.DumpLines.{data_lines_go, data_lines_all}
 use Rattle.session_text.proofs.Lists.{zero_of, some_of}
-use Rattle.session_text.proofs.Written.{added_then_here, added_more, added_as}
+use Rattle.session_text.proofs.PageTexts.{added_then_here, added_more, added_as}
 use Rattle.session_text.proofs.data.write_data.Goals as goal
 
 pub loop-rest-preserved : goal.loop-rest-preserved

@@ -1,9 +1,9 @@
 use Rattle.std.proofs.Common.{◌+◌, ◌++◌, true, false, ap, subst, length, arith}
 use Rattle.session_text.specs.Dumps.{total_line}
 use Rattle.session_text.specs.Replies.{reply_text, data_lines}
-use Rattle.session_text.specs.Writes.{IsAdded}
-use Rattle.session_text.proofs.Written.{added_more}
-use Rattle.session_text.proofs.Dumping.{small_piece, onward_piece, dump_last, dump_refused, dump_over, writes_whole, writes_cut}
+use Rattle.session_text.specs.Writes.{IsTextAdded}
+use Rattle.session_text.proofs.PageTexts.{added_more}
+use Rattle.session_text.proofs.DumpLines.{small_piece, onward_piece, dump_last, dump_refused, dump_over, writes_whole, writes_cut}
 use Rattle.session_text.proofs.dump.write_dump.Goals as goal
 
 pub returns-in_default : goal.returns-in_default
@@ -24,7 +24,7 @@ returns-then-not-write_data g c =
     let p = c.in-Some.piece.now in
     let a = g.O.Outlet.seen c.args.outlet.now in
     let b = g.O.Outlet.seen c.write_data.new.outlet in
-    let w : IsAdded (data_lines p.bytes) c.loop-number.page (g.O.Outlet.seen c.loop-number.outlet) c.write_data.new.page b false = subst (λ l. IsAdded (data_lines l) c.loop-number.page (g.O.Outlet.seen c.loop-number.outlet) c.write_data.new.page b false) c.as_slice.ensures c.if-not-write_data.ensures in
+    let w : IsTextAdded (data_lines p.bytes) c.loop-number.page (g.O.Outlet.seen c.loop-number.outlet) c.write_data.new.page b false = subst (λ l. IsTextAdded (data_lines l) c.loop-number.page (g.O.Outlet.seen c.loop-number.outlet) c.write_data.new.page b false) c.as_slice.ensures c.if-not-write_data.ensures in
     writes_cut g.C.Commands.acts c.args.pin c.args.time c.args.commands.now c.loop-number.number c.loop-number.commands c.loop-number.total i.1 p c.act-reply.result c.act-reply.new.self c.args.page.now a c.write_data.new.page b i.3
     (omega (arith, c.loop-number-test.true)) c.act-reply.ensures.acts c.in-Some.ensures
     (added_more i.1 (data_lines p.bytes) c.args.page.now a c.loop-number.page (g.O.Outlet.seen c.loop-number.outlet) c.write_data.new.page b false i.2 w)
@@ -38,7 +38,7 @@ returns-then-piece g c =
     let b = g.O.Outlet.seen c.write_data.new.outlet in
     let left = c.act-reply.new.self in
     let total = c.loop-number.total + length c.as_slice-in-loop-number.result.now in
-    let w : IsAdded (data_lines p.bytes) c.loop-number.page (g.O.Outlet.seen c.loop-number.outlet) c.write_data.new.page b true = subst (λ l. IsAdded (data_lines l) c.loop-number.page (g.O.Outlet.seen c.loop-number.outlet) c.write_data.new.page b true) c.as_slice.ensures c.if-not-write_data.ensures in
+    let w : IsTextAdded (data_lines p.bytes) c.loop-number.page (g.O.Outlet.seen c.loop-number.outlet) c.write_data.new.page b true = subst (λ l. IsTextAdded (data_lines l) c.loop-number.page (g.O.Outlet.seen c.loop-number.outlet) c.write_data.new.page b true) c.as_slice.ensures c.if-not-write_data.ensures in
     let d = dump_last acts c.args.pin c.args.time c.args.commands.now c.loop-number.number c.loop-number.commands c.loop-number.total i.1 p c.act-reply.result left total i.3
     (omega (arith, c.loop-number-test.true)) c.act-reply.ensures.acts c.in-Some.ensures c.if-piece.true (ap (λ l. c.loop-number.total + length l) c.as_slice-in-loop-number.ensures) in
     let lines = added_more i.1 (data_lines p.bytes) c.args.page.now a c.loop-number.page (g.O.Outlet.seen c.loop-number.outlet) c.write_data.new.page b true i.2 w in
@@ -52,7 +52,7 @@ loop-number-preserved g c =
     let a = g.O.Outlet.seen c.args.outlet.now in
     let b = g.O.Outlet.seen c.write_data.new.outlet in
     let total = c.loop-number.total + length c.as_slice-in-loop-number.result.now in
-    let w : IsAdded (data_lines p.bytes) c.loop-number.page (g.O.Outlet.seen c.loop-number.outlet) c.write_data.new.page b true = subst (λ l. IsAdded (data_lines l) c.loop-number.page (g.O.Outlet.seen c.loop-number.outlet) c.write_data.new.page b true) c.as_slice.ensures c.if-not-write_data.ensures in (
+    let w : IsTextAdded (data_lines p.bytes) c.loop-number.page (g.O.Outlet.seen c.loop-number.outlet) c.write_data.new.page b true = subst (λ l. IsTextAdded (data_lines l) c.loop-number.page (g.O.Outlet.seen c.loop-number.outlet) c.write_data.new.page b true) c.as_slice.ensures c.if-not-write_data.ensures in (
       omega (arith, i.0, small_piece c.act-reply.result p c.act-reply.ensures.small c.in-Some.ensures, ap (λ l. length l) c.as_slice-in-loop-number.ensures),
       i.1 ++ data_lines p.bytes,
       added_more i.1 (data_lines p.bytes) c.args.page.now a c.loop-number.page (g.O.Outlet.seen c.loop-number.outlet) c.write_data.new.page b true i.2 w,

@@ -1,7 +1,7 @@
 use Rattle.std.proofs.Common.{sym}
 use Rattle.session_text.specs.Dumps.{DumpsNow}
 use Rattle.session_text.specs.Replies.{reply_text}
-use Rattle.session_text.proofs.Dumping.{now_refused, now_written, writes_text}
+use Rattle.session_text.proofs.DumpLines.{now_refused, now_written, writes_text}
 use Rattle.session_text.proofs.dump.write_dump_now.Goals as goal
 
 pub returns-in_default : goal.returns-in_default

@@ -1,5 +1,5 @@
 use Rattle.session_text.specs.Dumps.{total_line}
-use Rattle.session_text.proofs.Written.{added_then_here}
+use Rattle.session_text.proofs.PageTexts.{added_then_here}
 use Rattle.session_text.proofs.dump.write_total.Goals as goal
 
 pub returns : goal.returns

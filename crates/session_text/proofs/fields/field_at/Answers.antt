@@ -1,5 +1,5 @@
 use Rattle.std.proofs.Common.{◌∙◌, sym, refl}
-use Rattle.session_text.proofs.Named.{field_none, field_other, field_unkind, field_some}
+use Rattle.session_text.proofs.NameBytes.{field_none, field_other, field_unkind, field_some}
 use Rattle.session_text.proofs.fields.field_at.Goals as goal
 
 pub returns-in_err-colon-clause-value : goal.returns-in_err-colon-clause-value

@@ -1,5 +1,5 @@
 use Rattle.std.proofs.Common.{◌∙◌, sym}
-use Rattle.session_text.proofs.Named.{kind_size}
+use Rattle.session_text.proofs.NameBytes.{kind_size}
 use Rattle.session_text.proofs.fields.kind_at.Goals as goal
 
 pub returns-clause-long : goal.returns-clause-long

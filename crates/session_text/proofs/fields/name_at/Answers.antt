@@ -1,5 +1,5 @@
 use Rattle.std.proofs.Common.{◌<◌, ◌≤◌, ◌∙◌, Some, ap, sym, subst, length, get_or}
-use Rattle.session_text.proofs.Named.{name_bad, name_to_space, name_to_end}
+use Rattle.session_text.proofs.NameBytes.{name_bad, name_to_space, name_to_end}
 use Rattle.session_text.proofs.fields.name_at.Goals.{else-size-text-via-then-size-text+else-text-size-ne-SPACE, else-size-text-via-else-size-text}
 use Rattle.session_text.proofs.fields.name_at.Goals as goal
 

@@ -1,7 +1,7 @@
 use Rattle.std.proofs.Common.{◌≤◌, ◌∙◌, length, subst, sym}
 use Rattle.std.specs.Prelude.{not}
 use Rattle.std.specs.Char.{is_ascii_graphic}
-use Rattle.session_text.proofs.Worded.{first_or_end, end_within}
+use Rattle.session_text.proofs.TextWords.{first_or_end, end_within}
 use Rattle.session_text.proofs.fields.name_end.Goals as goal
 
 pub returns : goal.returns

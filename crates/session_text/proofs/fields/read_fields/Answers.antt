@@ -1,5 +1,5 @@
 use Rattle.std.proofs.Common.{◌≡◌, ◌∙◌, ◌+◌, ◌-◌, ap, sym, arith, length, take, drop, Some}
-use Rattle.session_text.proofs.Fielded.{rest_of_rest, one_longer, within_more, fields_more}
+use Rattle.session_text.proofs.FieldSpans.{rest_of_rest, one_longer, within_more, fields_more}
 use Rattle.session_text.proofs.fields.read_fields.Goals as goal
 
 pub loop-rest-preserved : goal.loop-rest-preserved

@@ -1,5 +1,5 @@
 use Rattle.std.proofs.Common.{◌≤◌, take, length, arith}
-use Rattle.session_text.proofs.Mutating.{asks_move, passed}
+use Rattle.session_text.proofs.QuickLines.{asks_move, passed}
 use Rattle.session_text.proofs.mutator.answer_move.Goals as goal
 
 pub answer_event-quick-requires : goal.answer_event-quick-requires

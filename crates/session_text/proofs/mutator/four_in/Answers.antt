@@ -1,5 +1,5 @@
 use Rattle.std.proofs.Common.{◌<◌, length, arith}
-use Rattle.session_text.proofs.Mutating.{four_line, four_words}
+use Rattle.session_text.proofs.QuickLines.{four_line, four_words}
 use Rattle.session_text.proofs.mutator.four_in.Goals as goal
 
 pub returns-clause-line : goal.returns-clause-line

@@ -1,5 +1,5 @@
 use Rattle.std.proofs.Common.{◌<◌, length, arith}
-use Rattle.session_text.proofs.Mutating.{three_line, three_words}
+use Rattle.session_text.proofs.QuickLines.{three_line, three_words}
 use Rattle.session_text.proofs.mutator.three_in.Goals as goal
 
 pub returns-clause-line : goal.returns-clause-line

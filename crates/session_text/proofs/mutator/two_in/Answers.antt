@@ -1,5 +1,5 @@
 use Rattle.std.proofs.Common.{◌<◌, length, arith}
-use Rattle.session_text.proofs.Mutating.{two_line, two_words}
+use Rattle.session_text.proofs.QuickLines.{two_line, two_words}
 use Rattle.session_text.proofs.mutator.two_in.Goals as goal
 
 pub returns-clause-line : goal.returns-clause-line

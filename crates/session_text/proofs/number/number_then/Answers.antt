@@ -1,6 +1,6 @@
 use Rattle.std.proofs.Common.{◌∙◌, ◌-◌, ◌<◌, sym, subst, arith, length}
 use Rattle.session_text.specs.Reads.{IsReadIn}
-use Rattle.session_text.proofs.Reading.{read_in_one, then_of}
+use Rattle.session_text.proofs.NumberDigits.{read_in_one, then_of}
 use Rattle.session_text.proofs.number.number_then.Goals as goal
 
 pub returns-then-at-text-clause-number : goal.returns-then-at-text-clause-number

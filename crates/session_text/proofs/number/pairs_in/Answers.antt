@@ -1,6 +1,6 @@
 use Rattle.std.proofs.Common.{◌+◌, ◌*◌, ◌-◌, ◌<◌, ◌≤◌, arith, get_or, length}
 use Rattle.session_text.proofs.Numbers.{sure_more}
-use Rattle.session_text.proofs.Reading.{read_in_none, read_in_pair}
+use Rattle.session_text.proofs.NumberDigits.{read_in_none, read_in_pair}
 use Rattle.session_text.proofs.number.pairs_in.Goals as goal
 
 pub loop-size-init : goal.loop-size-init

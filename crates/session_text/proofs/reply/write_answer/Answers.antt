@@ -1,5 +1,5 @@
 use Rattle.session_text.specs.Replies.{answer_text, line}
-use Rattle.session_text.proofs.Written.{added_then_here}
+use Rattle.session_text.proofs.PageTexts.{added_then_here}
 use Rattle.session_text.proofs.reply.write_answer.Goals as goal
 
 pub returns : goal.returns

@@ -1,5 +1,5 @@
 use Rattle.session_text.specs.Replies.{line, reply_words}
-use Rattle.session_text.proofs.Written.{added_then_here}
+use Rattle.session_text.proofs.PageTexts.{added_then_here}
 use Rattle.session_text.proofs.reply.write_last_line.Goals as goal
 
 pub returns : goal.returns

@@ -1,5 +1,5 @@
 use Rattle.std.proofs.Common.{true, false, refl}
-use Rattle.session_text.proofs.Written.{ends_written}
+use Rattle.session_text.proofs.PageTexts.{ends_written}
 use Rattle.session_text.proofs.talk.end_with.Goals as goal
 
 pub returns-then-not-write_text : goal.returns-then-not-write_text

@@ -1,5 +1,5 @@
 use Rattle.std.proofs.Common.{◌≤◌, ◌∙◌, ◌==◌, length, subst, sym}
-use Rattle.session_text.proofs.Worded.{first_or_end, end_within}
+use Rattle.session_text.proofs.TextWords.{first_or_end, end_within}
 use Rattle.session_text.proofs.words.word_size.Goals as goal
 
 pub returns : goal.returns

@@ -1,4 +1,4 @@
-use Rattle.session_text.proofs.Written.{added_then_here}
+use Rattle.session_text.proofs.PageTexts.{added_then_here}
 use Rattle.session_text.proofs.write.write_text.Goals as goal
 
 pub returns : goal.returns

@@ -1,4 +1,4 @@
-use Rattle.heap_dump.proofs.Handing.{next_is}
+use Rattle.heap_dump.proofs.PieceGiving.{next_is}
 use Rattle.heap_dump.proofs.source.PinSourceSource.next.Goals as goal
 
 pub returns-clause-next : goal.returns-clause-next

@@ -1,20 +1,27 @@
 use Rattle.std.proofs.Common.{refl}
 use Rattle.heap_trail.specs.declared.Action.TheVariants.{OpenPin}
 use Rattle.heap_trail.specs.declared.Reply.TheVariants.{Pinned}
-use Rattle.heap_lock.proofs.Dumping.{dumped_keeps, dumped_done, dumped_refused}
+use Rattle.heap_lock.proofs.Histories.{kept_dumped}
+use Rattle.heap_lock.proofs.DumperCalls.{own_table, replied, may_reply, dumped_has, dumped_done}
 use Rattle.heap_lock.proofs.heap.Kept.open_held.Goals as goal
+
+pub note-requires : goal.note-requires
+note-requires g c = own_table _ _ c.self.inside.ledger c.self.invariant.1.0
 
 pub invariant_of-self : goal.invariant_of-self
 invariant_of-self g c =
-    dumped_keeps g.L.Heap.config g.L.Heap.tables c.self.inside.machine c.open_pin.new.self c.self.inside.chronicle.entries c.self.inside.desks.items (OpenPin c.args.at) (λ p. Pinned p.pin p.at)
-    c.open_pin.result c.self.invariant refl c.open_pin.ensures.done c.open_pin.ensures.unchanged
+    let reply = replied (λ p. Pinned p.pin p.at) c.open_pin-done.result in
+    let may = may_reply c.self.inside.machine c.open_pin-done.new.self (OpenPin c.args.at) (λ p. Pinned p.pin p.at) c.open_pin-done.result c.open_pin-done.ensures.done c.open_pin-done.ensures.refused c.open_pin-done.ensures.unchanged in (
+      kept_dumped g.L.Heap.config g.L.Heap.tables c.self.inside.machine c.open_pin-done.new.self c.self.inside.chronicle.entries c.self.inside.desks.items (OpenPin c.args.at) reply c.self.invariant.0 refl may,
+      dumped_has g.L.Heap.config g.L.Heap.ledger c.self.inside.machine c.open_pin-done.new.self c.self.inside.chronicle.entries c.self.inside.ledger c.note.new.self (OpenPin c.args.at, reply) c.self.invariant.1 refl may c.note.ensures,
+    )
 
 pub returns-clause-done : goal.returns-clause-done
 returns-clause-done g c =
-    dumped_done c.args.self.now c.self.inside.machine c.open_pin.new.self c.self.inside.chronicle.entries (OpenPin c.args.at) (λ p. Pinned p.pin p.at)
-    c.open_pin.result c.self.view_is c.open_pin.ensures.done
+    let may = may_reply c.self.inside.machine c.open_pin-done.new.self (OpenPin c.args.at) (λ p. Pinned p.pin p.at) c.open_pin-done.result c.open_pin-done.ensures.done c.open_pin-done.ensures.refused c.open_pin-done.ensures.unchanged in
+    (dumped_done c.args.self.now c.self.inside.machine c.open_pin-done.new.self c.self.inside.chronicle.entries c.self.inside.ledger c.note.new.self (OpenPin c.args.at) (λ p. Pinned p.pin p.at) c.open_pin-done.result c.self.view_is may c.note.ensures).0
 
 pub returns-clause-refused : goal.returns-clause-refused
 returns-clause-refused g c =
-    dumped_refused c.args.self.now c.self.inside.machine c.open_pin.new.self c.self.inside.chronicle.entries (OpenPin c.args.at) c.open_pin.result
-    c.self.view_is c.open_pin.ensures.refused c.open_pin.ensures.unchanged
+    let may = may_reply c.self.inside.machine c.open_pin-done.new.self (OpenPin c.args.at) (λ p. Pinned p.pin p.at) c.open_pin-done.result c.open_pin-done.ensures.done c.open_pin-done.ensures.refused c.open_pin-done.ensures.unchanged in
+    (dumped_done c.args.self.now c.self.inside.machine c.open_pin-done.new.self c.self.inside.chronicle.entries c.self.inside.ledger c.note.new.self (OpenPin c.args.at) (λ p. Pinned p.pin p.at) c.open_pin-done.result c.self.view_is may c.note.ensures).1

@@ -2,23 +2,30 @@ use Rattle.std.proofs.Common.{IfOk, refl, subst}
 use Rattle.heap_trail.specs.declared.Action.TheVariants.{NextPiece}
 use Rattle.heap_trail.specs.declared.Reply.TheVariants.{Part}
 use Rattle.heap_trail.specs.Laws.{IsPieceOfLegal}
-use Rattle.heap_lock.proofs.Dumping.{dumped_keeps, dumped_done, dumped_refused}
+use Rattle.heap_lock.proofs.Histories.{kept_dumped}
+use Rattle.heap_lock.proofs.DumperCalls.{own_table, replied, may_reply, dumped_has, dumped_done}
 use Rattle.heap_lock.proofs.heap.Kept.piece_held.Goals as goal
+
+pub note-requires : goal.note-requires
+note-requires g c = own_table _ _ c.self.inside.ledger c.self.invariant.1.0
 
 pub invariant_of-self : goal.invariant_of-self
 invariant_of-self g c =
-    dumped_keeps g.L.Heap.config g.L.Heap.tables c.self.inside.machine c.piece.new.self c.self.inside.chronicle.entries c.self.inside.desks.items (NextPiece c.args.pin c.args.time) (λ p. Part p)
-    c.piece.result c.self.invariant refl c.piece.ensures.done c.piece.ensures.unchanged
+    let reply = replied (λ p. Part p) c.piece-done.result in
+    let may = may_reply c.self.inside.machine c.piece-done.new.self (NextPiece c.args.pin c.args.time) (λ p. Part p) c.piece-done.result c.piece-done.ensures.done c.piece-done.ensures.refused c.piece-done.ensures.unchanged in (
+      kept_dumped g.L.Heap.config g.L.Heap.tables c.self.inside.machine c.piece-done.new.self c.self.inside.chronicle.entries c.self.inside.desks.items (NextPiece c.args.pin c.args.time) reply c.self.invariant.0 refl may,
+      dumped_has g.L.Heap.config g.L.Heap.ledger c.self.inside.machine c.piece-done.new.self c.self.inside.chronicle.entries c.self.inside.ledger c.note.new.self (NextPiece c.args.pin c.args.time, reply) c.self.invariant.1 refl may c.note.ensures,
+    )
 
 pub returns-clause-done : goal.returns-clause-done
 returns-clause-done g c =
-    dumped_done c.args.self.now c.self.inside.machine c.piece.new.self c.self.inside.chronicle.entries (NextPiece c.args.pin c.args.time) (λ p. Part p)
-    c.piece.result c.self.view_is c.piece.ensures.done
-
-pub returns-clause-legal : goal.returns-clause-legal
-returns-clause-legal g c = subst (λ ids. IfOk c.piece.result (λ p. IsPieceOfLegal ids c.args.time p)) c.self.invariant.ids c.piece.ensures.legal
+    let may = may_reply c.self.inside.machine c.piece-done.new.self (NextPiece c.args.pin c.args.time) (λ p. Part p) c.piece-done.result c.piece-done.ensures.done c.piece-done.ensures.refused c.piece-done.ensures.unchanged in
+    (dumped_done c.args.self.now c.self.inside.machine c.piece-done.new.self c.self.inside.chronicle.entries c.self.inside.ledger c.note.new.self (NextPiece c.args.pin c.args.time) (λ p. Part p) c.piece-done.result c.self.view_is may c.note.ensures).0
 
 pub returns-clause-refused : goal.returns-clause-refused
 returns-clause-refused g c =
-    dumped_refused c.args.self.now c.self.inside.machine c.piece.new.self c.self.inside.chronicle.entries (NextPiece c.args.pin c.args.time) c.piece.result
-    c.self.view_is c.piece.ensures.refused c.piece.ensures.unchanged
+    let may = may_reply c.self.inside.machine c.piece-done.new.self (NextPiece c.args.pin c.args.time) (λ p. Part p) c.piece-done.result c.piece-done.ensures.done c.piece-done.ensures.refused c.piece-done.ensures.unchanged in
+    (dumped_done c.args.self.now c.self.inside.machine c.piece-done.new.self c.self.inside.chronicle.entries c.self.inside.ledger c.note.new.self (NextPiece c.args.pin c.args.time) (λ p. Part p) c.piece-done.result c.self.view_is may c.note.ensures).1
+
+pub returns-clause-legal : goal.returns-clause-legal
+returns-clause-legal g c = subst (λ ids. IfOk c.piece-done.result (λ p. IsPieceOfLegal ids c.args.time p)) c.self.invariant.0.ids c.piece-done.ensures.legal

@@ -1,6 +1,6 @@
 use Rattle.std.proofs.Common.{◌≡◌, ◌∷◌, [], ◌<◌, ◌+◌, inl, sym, ap, ◌∙◌, reverse, length, arith, get_or}
 use Rattle.std.proofs.lemmas.List.{length-reverse, get_or_default}
-use Rattle.heap_mark.specs.Marking.{drained_once}
+use Rattle.heap_mark.specs.MarkSteps.{drained_once}
 use Rattle.heap_mark.specs.Marker.{MarkerState, at_work}
 use Rattle.heap_mark.proofs.Calls.{drain_idle, drain_none, drain_free, stack_grows}
 use Rattle.heap_mark.proofs.marker.Marker.drain.Goals as goal

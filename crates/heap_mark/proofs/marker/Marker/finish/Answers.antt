@@ -2,7 +2,7 @@ use Rattle.std.proofs.Common.{◌≡◌, ℕ, List, Vec, Global, ◌+◌, ◌-�
 use Rattle.std.proofs.lemmas.List.{length-reverse}
 use Rattle.std.specs.Prelude.{vec_capacity}
 use Rattle.heap_mark.specs.declared.Phase.TheVariants.{Idle}
-use Rattle.heap_mark.specs.Marking.{finished}
+use Rattle.heap_mark.specs.MarkSteps.{finished}
 use Rattle.heap_mark.specs.Marker.{MarkerState, at_work}
 use Rattle.heap_mark.proofs.Finishes.{finish_idle, finish_undone, finish_unswept, finish_free}
 use Rattle.heap_mark.proofs.marker.Marker.finish.Goals as goal

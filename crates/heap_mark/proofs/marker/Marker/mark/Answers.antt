@@ -1,7 +1,7 @@
 use Rattle.std.proofs.Common.{◌≡◌, ◌∷◌, inl, sym, ap, ◌∙◌, reverse, length, arith, Contains}
 use Rattle.std.proofs.lemmas.List.{length-reverse}
 use Rattle.heap_region.proofs.References.{member_head}
-use Rattle.heap_mark.specs.Marking.{children_of}
+use Rattle.heap_mark.specs.MarkSteps.{children_of}
 use Rattle.heap_mark.specs.Marker.{MarkerState, NamesMarked, at_work}
 use Rattle.heap_mark.proofs.Pops.{popped}
 use Rattle.heap_mark.proofs.Calls.{mark_idle, mark_none, mark_free, sound_popped, marked_is, stack_grows}

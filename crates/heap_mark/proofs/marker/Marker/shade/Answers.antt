@@ -1,6 +1,6 @@
 use Rattle.std.proofs.Common.{◌≡◌, ◌<◌, ◌∷◌, [], length, refl, sym, ap, ◌∙◌, arith, reverse}
 use Rattle.std.proofs.lemmas.List.{length-reverse, reverse-append}
-use Rattle.heap_region.proofs.Looked.{object_at_ref}
+use Rattle.heap_region.proofs.ChangedLookups.{object_at_ref}
 use Rattle.heap_mark.specs.Marker.{at_work}
 use Rattle.heap_mark.proofs.Work.{room_left, shaded_null, shaded_marked, shaded_white, told_mark}
 use Rattle.heap_mark.proofs.marker.Marker.shade.Goals as goal

@@ -1,6 +1,6 @@
 use Rattle.std.proofs.Common.{get_or, refl, arith}
 use Rattle.std.proofs.lemmas.List.{get_or_default}
-use Rattle.heap_mark.proofs.Way.{begun, gone_on_at, arrived_at, still_named}
+use Rattle.heap_mark.proofs.ShadeWalks.{begun, gone_on_at, arrived_at, still_named}
 use Rattle.heap_mark.proofs.marker.Marker.shade_all.Goals as goal
 
 pub loop-id-init : goal.loop-id-init

@@ -1,7 +1,7 @@
 use Rattle.std.proofs.Common.{fold, drop}
-use Rattle.heap_mark.specs.Marking.{shaded}
+use Rattle.heap_mark.specs.MarkSteps.{shaded}
 use Rattle.heap_mark.specs.Marker.{at_work}
-use Rattle.heap_mark.proofs.Way.{IsUnderWay}
+use Rattle.heap_mark.proofs.ShadeWalks.{IsUnderWay}
 use Rattle.heap_mark.proofs.marker.Marker.shade_all.Given as goal
 
 abbrev pub invariant-loop-id : goal.invariant-loop-id

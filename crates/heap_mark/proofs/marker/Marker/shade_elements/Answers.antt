@@ -2,7 +2,7 @@ use Rattle.std.proofs.Common.{◌≡◌, ℕ, ◌<◌, length, get_or, sym, ◌�
 use Rattle.std.proofs.lemmas.List.{get_or_default}
 use Rattle.heap_region.specs.Regions.{object_at}
 use Rattle.heap_mark.specs.Marker.{IsNullOrNames}
-use Rattle.heap_mark.proofs.Way.{begun, gone_on_at, arrived_at, still_named, within_words, word_was, some_there, if_there}
+use Rattle.heap_mark.proofs.ShadeWalks.{begun, gone_on_at, arrived_at, still_named, within_words, word_was, some_there, if_there}
 use Rattle.heap_mark.proofs.marker.Marker.shade_elements.Goals as goal
 
 pub word-requires-clause-there : goal.word-requires-clause-there

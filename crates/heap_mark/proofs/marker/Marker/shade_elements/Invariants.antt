@@ -1,8 +1,8 @@
 use Rattle.std.proofs.Common.{◌≡◌, fold, drop, Some}
 use Rattle.heap_region.specs.Regions.{Object, object_at}
-use Rattle.heap_mark.specs.Marking.{shaded}
+use Rattle.heap_mark.specs.MarkSteps.{shaded}
 use Rattle.heap_mark.specs.Marker.{at_work}
-use Rattle.heap_mark.proofs.Way.{IsUnderWay}
+use Rattle.heap_mark.proofs.ShadeWalks.{IsUnderWay}
 use Rattle.heap_mark.proofs.marker.Marker.shade_elements.Given as goal
 
 abbrev pub invariant-loop-slot : goal.invariant-loop-slot

@@ -4,7 +4,7 @@ use Rattle.heap_class.specs.declared.Kind.{Kind}
 use Rattle.heap_class.specs.Kinds.{is_reference}
 use Rattle.heap_region.specs.Regions.{object_at}
 use Rattle.heap_mark.specs.Marker.{references_among}
-use Rattle.heap_mark.proofs.Way.{begun, field_shaded, field_passed, fields_arrived, still_named, within_words, word_was, some_there, if_there}
+use Rattle.heap_mark.proofs.ShadeWalks.{begun, field_shaded, field_passed, fields_arrived, still_named, within_words, word_was, some_there, if_there}
 use Rattle.heap_mark.proofs.marker.Marker.shade_fields.Goals as goal
 use Rattle.heap_mark.proofs.marker.Marker.shade_fields.Goals.{then-is_reference, else-is_reference}
 

@@ -1,5 +1,5 @@
 use Rattle.std.proofs.Common.{inl, sym, ◌∙◌}
-use Rattle.heap_mark.specs.Marking.{snapped}
+use Rattle.heap_mark.specs.MarkSteps.{snapped}
 use Rattle.heap_mark.specs.Marker.{at_work}
 use Rattle.heap_mark.proofs.Calls.{snap_refused, snap_free}
 use Rattle.heap_mark.proofs.marker.Marker.snap.Goals as goal

@@ -1,5 +1,5 @@
 use Rattle.std.proofs.Common.{◌≡◌, ◌-◌, ap, ◌∙◌, arith}
-use Rattle.heap_mark.specs.Marking.{unshaded, undrained}
+use Rattle.heap_mark.specs.MarkSteps.{unshaded, undrained}
 use Rattle.heap_mark.specs.Marker.{MarkerState, at_work}
 use Rattle.heap_mark.proofs.Calls.{gray_named, at_work_after, drain_back}
 use Rattle.heap_mark.proofs.marker.Marker.undrain.Goals as goal

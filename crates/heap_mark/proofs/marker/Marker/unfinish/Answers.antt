@@ -1,7 +1,7 @@
 use Rattle.std.proofs.Common.{ℕ, List, reverse, ap₂, ◌∙◌}
 use Rattle.std.specs.Prelude.{vec_capacity}
 use Rattle.heap_mark.specs.declared.Phase.TheVariants.{Marking}
-use Rattle.heap_mark.specs.Marking.{unfinished}
+use Rattle.heap_mark.specs.MarkSteps.{unfinished}
 use Rattle.heap_mark.specs.Marker.{MarkerState, at_work}
 use Rattle.heap_mark.proofs.Calls.{at_work_after}
 use Rattle.heap_mark.proofs.Finishes.{finish_back}

@@ -2,7 +2,7 @@ use Rattle.std.proofs.Common.{◌≡◌, ◌≤◌, ◌∷◌, [], List, length,
 use Rattle.std.proofs.lemmas.List.{length-reverse, reverse-append}
 use Rattle.heap_region.specs.Regions.{Region}
 use Rattle.heap_region.specs.Pool.{RegionPool}
-use Rattle.heap_mark.specs.Marking.{unmarked}
+use Rattle.heap_mark.specs.MarkSteps.{unmarked}
 use Rattle.heap_mark.specs.Marker.{MarkerState, IsGraySound, at_work, after_work}
 use Rattle.heap_mark.proofs.Calls.{gray_named, within_room, at_work_after, mark_back_to}
 use Rattle.heap_mark.proofs.marker.Marker.unmark.Goals as goal

@@ -1,5 +1,5 @@
 use Rattle.std.proofs.Common.{◌≡◌, ℕ, ◌-◌, ◌+◌, suc, refl, ap, arith}
-use Rattle.heap_mark.specs.Marking.{unshaded}
+use Rattle.heap_mark.specs.MarkSteps.{unshaded}
 use Rattle.heap_mark.specs.Marker.{at_work}
 use Rattle.heap_mark.proofs.Pops.{one_undone, all_undone, top_is}
 use Rattle.heap_mark.proofs.marker.Marker.unshade.Goals as goal

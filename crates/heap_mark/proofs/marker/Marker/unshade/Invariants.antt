@@ -1,5 +1,5 @@
 use Rattle.std.proofs.Common.{◌-◌}
-use Rattle.heap_mark.specs.Marking.{unshaded}
+use Rattle.heap_mark.specs.MarkSteps.{unshaded}
 use Rattle.heap_mark.specs.Marker.{at_work}
 use Rattle.heap_mark.proofs.Pops.{IsUndoing}
 use Rattle.heap_mark.proofs.marker.Marker.unshade.Given as goal

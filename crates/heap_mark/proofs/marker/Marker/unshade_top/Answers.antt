@@ -1,7 +1,7 @@
 use Rattle.std.proofs.Common.{◌≡◌, ◌∷◌, List, ℕ, reverse, sym, ap, ◌∙◌, refl, IsSome, arith, get_or}
 use Rattle.std.proofs.lemmas.List.{length-reverse}
 use Rattle.heap_region.specs.Regions.{object_of}
-use Rattle.heap_region.proofs.Looked.{object_at_ref}
+use Rattle.heap_region.proofs.ChangedLookups.{object_at_ref}
 use Rattle.heap_mark.specs.Marker.{MarkerState, at_work}
 use Rattle.heap_mark.proofs.Pops.{popped, unshaded_at}
 use Rattle.heap_mark.proofs.marker.Marker.unshade_top.Goals as goal

@@ -1,7 +1,7 @@
 use Rattle.std.proofs.Common.{◌≡◌, length, ap, ◌∙◌, arith}
 use Rattle.std.proofs.lemmas.List.{length-reverse}
 use Rattle.heap_mark.specs.declared.Phase.TheVariants.{Idle}
-use Rattle.heap_mark.specs.Marking.{MarkState, unsnapped}
+use Rattle.heap_mark.specs.MarkSteps.{MarkState, unsnapped}
 use Rattle.heap_mark.specs.Marker.{MarkerState, at_work, after_work}
 use Rattle.heap_mark.proofs.Calls.{snap_named, snap_unshaded, snap_back, at_work_after}
 use Rattle.heap_mark.proofs.marker.Marker.unsnap.Goals as goal

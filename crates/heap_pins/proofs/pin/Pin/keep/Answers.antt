@@ -1,7 +1,7 @@
 use Rattle.std.proofs.Common.{◌<◌, sym, subst}
-use Rattle.heap_pins.specs.Kept.{touched, patched, copy_for, kept_if, kept}
-use Rattle.heap_pins.proofs.Fitting.{object_within, used_within, sweep_used, sweep_fit, reclaim_within}
-use Rattle.heap_pins.proofs.Keeping.{kept_other, on_err}
+use Rattle.heap_pins.specs.KeptCopies.{touched, patched, copy_for, kept_if, kept}
+use Rattle.heap_pins.proofs.RoomForCopies.{object_within, used_within, sweep_used, sweep_fit, reclaim_within}
+use Rattle.heap_pins.proofs.AddedCopies.{kept_other, on_err}
 use Rattle.heap_step.proofs.Steps.{put_there, put_within, store_there, store_within}
 use Rattle.heap_pins.proofs.pin.Pin.keep.Goals as goal
 

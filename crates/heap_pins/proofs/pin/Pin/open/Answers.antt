@@ -1,9 +1,9 @@
 use Rattle.std.proofs.Common.{List, length, replicate, Option, None, ap, subst, ◌∙◌}
 use Rattle.heap_class.specs.Classes.{Class}
 use Rattle.heap_region.specs.Pool.{RegionPool}
-use Rattle.heap_region.specs.Frozen.{Frozen}
+use Rattle.heap_region.specs.RegionCopies.{Frozen}
 use Rattle.heap_pins.specs.States.{AreStates}
-use Rattle.heap_pins.proofs.WalkedBack.{opens}
+use Rattle.heap_pins.proofs.RecordWalks.{opens}
 use Rattle.heap_pins.proofs.pin.Pin.open.Goals as goal
 
 pub returns-clause-opened : goal.returns-clause-opened

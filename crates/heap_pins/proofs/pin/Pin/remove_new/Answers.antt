@@ -2,7 +2,7 @@ use Rattle.std.proofs.Common.{sym, subst, arith}
 use Rattle.heap_step.specs.declared.Undo.TheVariants.{New}
 use Rattle.heap_pins.specs.States.{AreBefore}
 use Rattle.heap_pins.specs.Walk.{states_before}
-use Rattle.heap_pins.proofs.Patching.{bytes_written}
+use Rattle.heap_pins.proofs.PatchedPins.{bytes_written}
 use Rattle.heap_pins.proofs.Bytes.{cell_emptied}
 use Rattle.heap_pins.proofs.pin.Pin.remove_new.Goals as goal
 

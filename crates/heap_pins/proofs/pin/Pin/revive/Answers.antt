@@ -1,6 +1,6 @@
 use Rattle.std.proofs.Common.{arith}
 use Rattle.heap_step.specs.declared.Undo.TheVariants.{Finish}
-use Rattle.heap_pins.proofs.Patching.{bytes_written}
+use Rattle.heap_pins.proofs.PatchedPins.{bytes_written}
 use Rattle.heap_pins.proofs.pin.Pin.revive.Goals as goal
 
 pub returns : goal.returns

@@ -2,10 +2,10 @@ use Rattle.std.proofs.Common.{None, Some, sym, ap, subst, ◌∙◌, arith, List
 use Rattle.std.specs.Prelude.{option_map}
 use Rattle.heap_region.specs.Regions.{Object}
 use Rattle.heap_step.specs.declared.Undo.TheVariants.{Sweep}
-use Rattle.heap_pins.specs.Kept.{with_dead}
+use Rattle.heap_pins.specs.KeptCopies.{with_dead}
 use Rattle.heap_pins.specs.States.{AreBefore}
-use Rattle.heap_pins.specs.Walked.{with_copy}
-use Rattle.heap_pins.proofs.Patching.{copy_put, bytes_written}
+use Rattle.heap_pins.specs.WalkedPins.{with_copy}
+use Rattle.heap_pins.proofs.PatchedPins.{copy_put, bytes_written}
 use Rattle.heap_pins.proofs.pin.Pin.unsweep.Goals as goal
 
 pub returns-clause-swept : goal.returns-clause-swept

@@ -1,8 +1,8 @@
 use Rattle.std.proofs.Common.{None, Some, sym, ap, ◌∙◌}
 use Rattle.std.specs.Prelude.{option_map}
-use Rattle.heap_region.specs.Frozen.{frozen_word_set}
-use Rattle.heap_pins.specs.Walked.{with_copy}
-use Rattle.heap_pins.proofs.Patching.{copy_put}
+use Rattle.heap_region.specs.RegionCopies.{frozen_word_set}
+use Rattle.heap_pins.specs.WalkedPins.{with_copy}
+use Rattle.heap_pins.proofs.PatchedPins.{copy_put}
 use Rattle.heap_pins.proofs.pin.Pin.unwrite.Goals as goal
 
 pub returns-clause-written : goal.returns-clause-written

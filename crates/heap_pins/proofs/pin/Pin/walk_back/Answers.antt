@@ -1,11 +1,11 @@
 use Rattle.std.proofs.Common.{◌<◌, ℕ, List, length, sym, subst, ap, arith}
 use Rattle.heap_world.specs.State.{register_index}
-use Rattle.heap_pins.specs.Pin.{Pinned}
+use Rattle.heap_pins.specs.Pin.{PinContents}
 use Rattle.heap_pins.specs.States.{HasRegion}
 use Rattle.heap_step.proofs.Steps.{put_there, put_within, store_there, store_within, reg_register, new_there, new_register, class_there}
-use Rattle.heap_pins.proofs.Fitting.{object_within, used_within, sweep_used, sweep_fit, reclaim_within}
+use Rattle.heap_pins.proofs.RoomForCopies.{object_within, used_within, sweep_used, sweep_fit, reclaim_within}
 use Rattle.heap_pins.proofs.Walkable.{sees_slot, sees_room, dead_within, region_bytes, cell_within, register_within, reclaim_lifeless}
-use Rattle.heap_pins.proofs.WalkedBack.{put_back, store_back, reg_back, new_back, class_back, finish_back, sweep_back, reclaim_back, quiet_back, on_ok}
+use Rattle.heap_pins.proofs.RecordWalks.{put_back, store_back, reg_back, new_back, class_back, finish_back, sweep_back, reclaim_back, quiet_back, on_ok}
 use Rattle.heap_pins.proofs.pin.Pin.walk_back.Goals as goal
 
 -- ---- a word
@@ -66,7 +66,7 @@ remove_new-requires-clause-within c =
 pub remove_new-requires-clause-region : goal.remove_new-requires-clause-region
 remove_new-requires-clause-region c =
     let (x, e, s, pin, shows) = c.requires in
-    subst (λ (p : Pinned). HasRegion p.live c.in-New.at.region) (sym c.set_register-in-New.ensures)
+    subst (λ (p : PinContents). HasRegion p.live c.in-New.at.region) (sym c.set_register-in-New.ensures)
     (region_bytes c.args.self.now.live x.regions c.in-New.at.region pin.states (object_within x.regions c.in-New.at (new_there e _ x c.args.left.now s c.in-New.at c.in-New.fresh c.in-New.m c.in-New.r c.in-New.old c.in-New.is)))
 
 pub returns-in-New-clause-walked : goal.returns-in-New-clause-walked
@@ -78,7 +78,7 @@ returns-in-New-clause-walked c =
 pub overflow_sub-self : goal.overflow_sub-self
 overflow_sub-self c =
     let (x, e, s, pin, shows) = c.requires in
-    omega (arith, ap (λ (p : Pinned). p.classes) c.self.view_is, pin.classes, class_there e _ x c.args.left.now s c.in-Class.is)
+    omega (arith, ap (λ (p : PinContents). p.classes) c.self.view_is, pin.classes, class_there e _ x c.args.left.now s c.in-Class.is)
 
 pub returns-in-Class-clause-walked : goal.returns-in-Class-clause-walked
 returns-in-Class-clause-walked c = class_back c.args.left.now c.args.world.now c.args.self.now _ c.in-Class.is c.self.view_is

@@ -1,7 +1,7 @@
 use Rattle.std.proofs.Common.{ap, subst, take, ◌∙◌}
 use Rattle.heap_pins.specs.Pin.{pin_image}
 use Rattle.heap_pins.specs.View.{PinShown, ShowsSome}
-use Rattle.heap_pins.proofs.Viewed.{view_dumpable, view_placed}
+use Rattle.heap_pins.proofs.PinViews.{view_dumpable, view_placed}
 use Rattle.heap_pins.proofs.view.PinViewView.classes.Goals as goal
 
 pub returns-clause-value : goal.returns-clause-value

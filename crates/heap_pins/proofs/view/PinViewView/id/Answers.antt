@@ -2,7 +2,7 @@ use Rattle.std.proofs.Common.{◌≡◌, IfSome, sym, subst}
 use Rattle.heap_pins.specs.Pin.{object_seen}
 use Rattle.heap_pins.specs.Shows.{IsSeen}
 use Rattle.heap_pins.specs.View.{PinShown, ShowsSome}
-use Rattle.heap_pins.proofs.Viewed.{view_sees, view_there}
+use Rattle.heap_pins.proofs.PinViews.{view_sees, view_there}
 use Rattle.heap_pins.proofs.view.PinViewView.id.Goals as goal
 
 pub id-requires : goal.id-requires

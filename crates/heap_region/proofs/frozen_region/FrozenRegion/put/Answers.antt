@@ -2,7 +2,7 @@ use Rattle.std.proofs.Common.{◌≡◌, ◌<◌, length, arith}
 use Rattle.heap_region.specs.declared.cell.Header.{Header}
 use Rattle.heap_region.proofs.Sound.{size_few}
 use Rattle.heap_region.proofs.Cells.{cell_lies, length-cells_from}
-use Rattle.heap_region.proofs.Frozen.{laid_put}
+use Rattle.heap_region.proofs.RegionCopies.{laid_put}
 use Rattle.heap_region.proofs.frozen_region.FrozenRegion.put.Goals as goal
 
 pub overflow_mul-start : goal.overflow_mul-start

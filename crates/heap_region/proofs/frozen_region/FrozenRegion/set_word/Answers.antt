@@ -1,6 +1,6 @@
 use Rattle.std.proofs.Common.{arith}
 use Rattle.heap_region.proofs.Cells.{slot_lies}
-use Rattle.heap_region.proofs.Frozen.{laid_slot}
+use Rattle.heap_region.proofs.RegionCopies.{laid_slot}
 use Rattle.heap_region.proofs.frozen_region.FrozenRegion.set_word.Goals as goal
 
 pub overflow_mul-at : goal.overflow_mul-at

@@ -1,6 +1,6 @@
 use Rattle.std.proofs.Common.{arith, ap, ◌∙◌}
 use Rattle.heap_region.proofs.Cells.{header_here, header_shows}
-use Rattle.heap_region.proofs.Frozen.{laid_within}
+use Rattle.heap_region.proofs.RegionCopies.{laid_within}
 use Rattle.heap_region.proofs.frozen_region.FrozenRegion.words.Goals as goal
 
 pub header_at-len-requires : goal.header_at-len-requires

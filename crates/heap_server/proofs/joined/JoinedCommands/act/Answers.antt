@@ -1,10 +1,10 @@
-use Rattle.std.proofs.Common.{subst, sym}
+use Rattle.std.proofs.Common.{refl, subst, sym}
 use Rattle.heap_trail.specs.declared.Action.TheVariants.{Step}
-use Rattle.heap_server.specs.Joined.{IsJoined}
-use Rattle.heap_server.proofs.Acting.{acted}
+use Rattle.heap_server.specs.JoinedActs.{IsJoined}
+use Rattle.heap_server.proofs.Acts.{acted}
 use Rattle.heap_server.proofs.joined.JoinedCommands.act.Goals as goal
 
 pub returns-in-Step-clause-acts : goal.returns-in-Step-clause-acts
 returns-in-Step-clause-acts g c =
-    subst (λ a. IsJoined g.L.Heap.config c.args.self.now.seat a c.replied.result c.act.new.seat) (sym c.in-Step.is)
-    (acted g.L.Heap.config c.args.self.now.seat c.act.new.seat (Step c.in-Step.event) c.act.result c.replied.result c.act.ensures.receipt c.act.ensures.stands c.act.ensures.refused c.replied.ensures.reply)
+    subst (λ a. IsJoined g.L.Heap.config c.args.self.now.seat c.args.self.now.witness a c.reply_to_act.result c.act.new.seat c.args.self.now.witness) (sym c.in-Step.is)
+    (acted g.L.Heap.config c.args.self.now.seat c.act.new.seat (Step c.in-Step.event) c.act.result c.reply_to_act.result c.act.ensures.receipt c.act.ensures.stands c.act.ensures.refused c.reply_to_act.ensures.reply, refl)

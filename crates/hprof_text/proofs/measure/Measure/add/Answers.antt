@@ -1,5 +1,5 @@
 use Rattle.std.proofs.Common.{◌≡◌, ◌+◌, ◌<◌, ap, arith}
-use Rattle.hprof_text.proofs.Measured.{fresh, continued, closed, has_room, has_none}
+use Rattle.hprof_text.proofs.AddedSizes.{fresh, continued, closed, has_room, has_none}
 use Rattle.hprof_text.proofs.measure.Measure.add.Goals.{else-self-ne0-via-then-self-ne0+else-self-size-gt-SEGMENT_LIMIT, else-self-ne0-via-else-self-ne0}
 use Rattle.hprof_text.proofs.measure.Measure.add.Goals as goal
 

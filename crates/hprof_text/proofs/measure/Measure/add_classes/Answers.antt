@@ -3,7 +3,7 @@ use Rattle.heap_class.specs.Classes.{array_class}
 use Rattle.hprof_text.specs.Records.{class_at}
 use Rattle.hprof_text.specs.Sizes.{class_size}
 use Rattle.hprof_text.proofs.Loops.{item_at, all_taken}
-use Rattle.hprof_text.proofs.Measured.{measured_more, measured_as, taken_sizes}
+use Rattle.hprof_text.proofs.AddedSizes.{measured_more, measured_as, taken_sizes}
 use Rattle.hprof_text.proofs.measure.Measure.add_classes.Goals as goal
 
 pub add-requires-clause-limit : goal.add-requires-clause-limit

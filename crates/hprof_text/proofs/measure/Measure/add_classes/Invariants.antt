@@ -1,5 +1,5 @@
 use Rattle.std.proofs.Common.{◌+◌, ◌*◌, ◌≤◌, map, take}
-use Rattle.hprof_text.specs.Measured.{IsMeasured}
+use Rattle.hprof_text.specs.SizeSums.{IsMeasured}
 use Rattle.hprof_text.specs.Sizes.{class_size}
 use Rattle.hprof_text.proofs.measure.Measure.add_classes.Given as goal
 

@@ -1,5 +1,5 @@
 use Rattle.std.proofs.Common.{[], ◌∷◌, replicate, arith}
-use Rattle.hprof_text.proofs.Measured.{measured_more, measured_as, replicated}
+use Rattle.hprof_text.proofs.AddedSizes.{measured_more, measured_as, replicated}
 use Rattle.hprof_text.proofs.measure.Measure.add_each.Goals as goal
 
 pub add-requires-clause-limit : goal.add-requires-clause-limit

@@ -1,5 +1,5 @@
 use Rattle.std.proofs.Common.{◌+◌, ◌*◌, ◌≤◌, replicate}
-use Rattle.hprof_text.specs.Measured.{IsMeasured}
+use Rattle.hprof_text.specs.SizeSums.{IsMeasured}
 use Rattle.hprof_text.proofs.measure.Measure.add_each.Given as goal
 
 abbrev pub invariant-loop-added : goal.invariant-loop-added

@@ -2,8 +2,8 @@ use Rattle.std.proofs.Common.{◌≡◌, [], ◌∷◌, length, map, take, sym, 
 use Rattle.std.proofs.lemmas.Option.{slice_get_within}
 use Rattle.hprof_text.specs.Sizes.{dump_size, object_size}
 use Rattle.hprof_text.proofs.Loops.{all_taken, item_got}
-use Rattle.hprof_text.proofs.Measured.{measured_more, measured_as, taken_sizes}
-use Rattle.hprof_text.proofs.Viewed.{here, within, none_left}
+use Rattle.hprof_text.proofs.AddedSizes.{measured_more, measured_as, taken_sizes}
+use Rattle.hprof_text.proofs.ViewedObjects.{here, within, none_left}
 use Rattle.hprof_text.proofs.measure.Measure.add_objects.Goals as goal
 
 pub add-requires-clause-limit : goal.add-requires-clause-limit

@@ -1,6 +1,6 @@
 use Rattle.std.proofs.Common.{◌≡◌, ◌≤◌, ◌-◌, ◌+◌, ◌*◌, length, map, take}
 use Rattle.std.specs.Prelude.{slice_get}
-use Rattle.hprof_text.specs.Measured.{IsMeasured}
+use Rattle.hprof_text.specs.SizeSums.{IsMeasured}
 use Rattle.hprof_text.specs.Sizes.{object_size}
 use Rattle.hprof_text.proofs.measure.Measure.add_objects.Given as goal
 

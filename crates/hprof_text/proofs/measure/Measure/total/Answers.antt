@@ -1,5 +1,5 @@
 use Rattle.std.proofs.Common.{◌<◌, arith}
-use Rattle.hprof_text.proofs.Measured.{total_none, total_some}
+use Rattle.hprof_text.proofs.AddedSizes.{total_none, total_some}
 use Rattle.hprof_text.proofs.measure.Measure.total.Goals as goal
 
 pub returns-then-self-eq0 : goal.returns-then-self-eq0

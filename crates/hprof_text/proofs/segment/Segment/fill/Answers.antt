@@ -1,6 +1,6 @@
 use Rattle.std.proofs.Common.{subst}
-use Rattle.hprof_text.specs.Filled.{IsRest}
-use Rattle.hprof_text.proofs.Numbered.{filled_end}
+use Rattle.hprof_text.specs.SegmentFilling.{IsRest}
+use Rattle.hprof_text.proofs.NumberedPieces.{filled_end}
 use Rattle.hprof_text.proofs.segment.Segment.fill.Goals as goal
 
 pub returns-in-End : goal.returns-in-End

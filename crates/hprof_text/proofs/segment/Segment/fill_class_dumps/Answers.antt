@@ -1,9 +1,9 @@
 use Rattle.std.proofs.Common.{◌<◌, length, map, arith, subst}
 use Rattle.std.specs.List.{enumerate_from}
-use Rattle.hprof_text.specs.Filled.{IsOffered}
+use Rattle.hprof_text.specs.SegmentFilling.{IsOffered}
 use Rattle.hprof_text.specs.Records.{class_at}
 use Rattle.hprof_text.specs.Text.{class_dump}
-use Rattle.hprof_text.proofs.Filled.{items_more, items_stop, items_done}
+use Rattle.hprof_text.proofs.FilledSegments.{items_more, items_stop, items_done}
 use Rattle.hprof_text.proofs.Loops.{class_item, length_items}
 use Rattle.hprof_text.proofs.segment.Segment.fill_class_dumps.Goals as goal
 

@@ -1,9 +1,9 @@
 use Rattle.std.proofs.Common.{◌≡◌, ◌+◌, ◌++◌, drop, sym, ap, ◌∙◌, subst, arith}
 use Rattle.std.specs.Prelude.{slice_get}
-use Rattle.hprof_text.specs.Filled.{filled, IsOffered}
+use Rattle.hprof_text.specs.SegmentFilling.{body_filled, IsOffered}
 use Rattle.hprof_text.specs.Text.{dump_of, object_records}
-use Rattle.hprof_text.proofs.Filled.{items_more, items_stop, items_done}
-use Rattle.hprof_text.proofs.Viewed.{object_record, count_records, within, none_left}
+use Rattle.hprof_text.proofs.FilledSegments.{items_more, items_stop, items_done}
+use Rattle.hprof_text.proofs.ViewedObjects.{object_record, count_records, within, none_left}
 use Rattle.hprof_text.proofs.segment.Segment.fill_objects.Goals as goal
 
 pub returns-then-not-offer_object : goal.returns-then-not-offer_object
@@ -47,7 +47,7 @@ loop-here-preserved g c =
           let r = object_record ids image places i at c.id_size-ids.result c.classes-classes.result c.id.result c.kind.result c.words.result.now c.classes-classes.ensures.limits c.classes-classes.ensures.placed e c.id_size-ids.ensures c.classes-classes.ensures.value (c.id.ensures i e) (c.kind.ensures i e) (c.words.ensures i e) in
           let s : n + p + 1 ≡ n + (p + 1) = omega arith in
           items_more (object_records ids image) i x c.args.self.now c.loop-here.self c.offer_object.new.self n more r (subst (IsOffered x c.loop-here.self c.offer_object.new.self) c.if-not-offer_object.false c.offer_object.ensures) (c.loop-here.invariant.filled n b more)
-          ∙ ap (λ k. filled c.offer_object.new.self (drop k (object_records ids image) ++ more)) s;
+          ∙ ap (λ k. body_filled c.offer_object.new.self (drop k (object_records ids image) ++ more)) s;
     }
 
 pub returns : goal.returns

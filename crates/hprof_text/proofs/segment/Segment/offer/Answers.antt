@@ -1,7 +1,7 @@
 use Rattle.std.proofs.Common.{sym, ◌∙◌}
 use Rattle.hprof_text.specs.Text.{dump_of}
 use Rattle.hprof_text.proofs.Lengths.{dump_length}
-use Rattle.hprof_text.proofs.Offered.{room_taken, still_segment, offer_taken, offer_left}
+use Rattle.hprof_text.proofs.RecordOffers.{room_taken, still_segment, offer_taken, offer_left}
 use Rattle.hprof_text.proofs.segment.Segment.offer.Goals as goal
 
 pub object_dump-requires-clause-room : goal.object_dump-requires-clause-room

@@ -2,7 +2,7 @@ use Rattle.std.proofs.Common.{sym, ◌∙◌, arith}
 use Rattle.hprof_text.specs.Records.{class_at}
 use Rattle.hprof_text.specs.Text.{class_dump}
 use Rattle.hprof_text.proofs.Lengths.{class_dump_length}
-use Rattle.hprof_text.proofs.Offered.{room_taken, still_segment, offer_taken, offer_left}
+use Rattle.hprof_text.proofs.RecordOffers.{room_taken, still_segment, offer_taken, offer_left}
 use Rattle.hprof_text.proofs.segment.Segment.offer_class_dump.Goals as goal
 
 pub class_dump-requires-clause-room : goal.class_dump-requires-clause-room

@@ -3,7 +3,7 @@ use Rattle.std.specs.Prelude.{[]}
 use Rattle.hprof_text.specs.Records.{class_at}
 use Rattle.hprof_text.specs.Text.{root_sticky_class}
 use Rattle.hprof_text.proofs.Lengths.{sticky_length}
-use Rattle.hprof_text.proofs.Offered.{room_taken, still_segment, offer_taken, offer_left}
+use Rattle.hprof_text.proofs.RecordOffers.{room_taken, still_segment, offer_taken, offer_left}
 use Rattle.hprof_text.proofs.segment.Segment.offer_class_root.Goals as goal
 
 pub root_sticky_class-requires-clause-room : goal.root_sticky_class-requires-clause-room

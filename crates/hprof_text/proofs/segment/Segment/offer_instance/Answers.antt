@@ -2,7 +2,7 @@ use Rattle.std.proofs.Common.{sym, ◌∙◌}
 use Rattle.heap_class.specs.declared.ObjKind.TheVariants.{Instance}
 use Rattle.hprof_text.specs.Text.{dump_of}
 use Rattle.hprof_text.proofs.Lengths.{dump_length}
-use Rattle.hprof_text.proofs.Offered.{room_taken, still_segment, offer_taken, offer_left}
+use Rattle.hprof_text.proofs.RecordOffers.{room_taken, still_segment, offer_taken, offer_left}
 use Rattle.hprof_text.proofs.segment.Segment.offer_instance.Goals as goal
 
 pub instance_dump-requires-clause-room : goal.instance_dump-requires-clause-room

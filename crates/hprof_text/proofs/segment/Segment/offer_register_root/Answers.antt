@@ -1,7 +1,7 @@
 use Rattle.std.proofs.Common.{sym, ◌∙◌, arith}
 use Rattle.hprof_text.specs.Text.{root_unknown}
 use Rattle.hprof_text.proofs.Lengths.{root_length}
-use Rattle.hprof_text.proofs.Offered.{room_taken, still_segment, offer_taken, offer_left}
+use Rattle.hprof_text.proofs.RecordOffers.{room_taken, still_segment, offer_taken, offer_left}
 use Rattle.hprof_text.proofs.segment.Segment.offer_register_root.Goals as goal
 
 pub root_unknown-requires : goal.root_unknown-requires

@@ -1,5 +1,5 @@
-use Rattle.live_dump.specs.Supplies.{pieces_in}
-use Rattle.live_dump.proofs.Supplying.{supplied_as}
+use Rattle.live_dump.specs.Supplies.{ToldSupply, first_in, pieces_in}
+use Rattle.live_dump.proofs.SupplySteps.{supplied_as}
 use Rattle.live_dump.proofs.source.ToldSourceSource.next.Goals as goal
 
 pub invariant_of-self : goal.invariant_of-self
@@ -7,5 +7,6 @@ invariant_of-self g c =
     let before = c.self.inside in
     let after = c.next_part-next.new.self in
     let e = c.next_part-next.ensures in
-    supplied_as g.L.Heap.config before.source.pin after.pin before.source.time after.time before.source.count (pieces_in before.given.items) (pieces_in c.note.new.given.items) before.ended c.note.new.ended c.next_part-next.result
-    e.names.0 e.names.1 c.note.ensures.given c.note.ensures.ended e.supplies c.self.invariant
+    let t : ToldSupply = record { pin = before.source.pin; time = before.source.time; start = first_in before.start.items; seen = before.source.witness; given = pieces_in before.given.items; count = before.source.count; ended = before.ended } in
+    supplied_as g.L.Heap.config t after.pin after.time after.count after.witness (pieces_in c.note.new.given.items) c.note.new.ended c.next_part-next.result
+    e.names.0 e.names.1 c.note.ensures.given c.note.ensures.ended e.supplies e.count c.self.invariant

@@ -1,4 +1,4 @@
-use Rattle.pin_stream.proofs.Streaming.{next_fresh}
+use Rattle.pin_stream.proofs.SourceStreams.{next_fresh}
 use Rattle.pin_stream.proofs.source.FreshSourceSource.next.Goals as goal
 
 pub returns-clause-next : goal.returns-clause-next

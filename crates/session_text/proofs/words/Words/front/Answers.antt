@@ -2,7 +2,7 @@ use Rattle.std.proofs.Common.{◌∙◌, ap, sym, refl, ◌-◌, take, drop, len
 use Rattle.std.specs.Prelude.{not}
 use Rattle.std.specs.Bool.{◌==◌}
 use Rattle.std.specs.List.{position}
-use Rattle.session_text.proofs.Worded.{words_none, front_word}
+use Rattle.session_text.proofs.TextWords.{words_none, front_word}
 use Rattle.session_text.proofs.words.Words.front.Goals as goal
 
 pub returns-in_err-start-clause-front : goal.returns-in_err-start-clause-front

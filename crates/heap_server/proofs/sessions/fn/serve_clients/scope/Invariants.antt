@@ -1,5 +1,5 @@
 use Rattle.std.proofs.Common.{◌≡◌, ◌+◌, ◌≤◌, false, length, vec_len, vec_capacity}
-use Rattle.heap_server.specs.Seating.{AreUsers}
+use Rattle.heap_server.specs.SessionSeats.{AreUsers}
 use Rattle.heap_server.proofs.sessions.fn.serve_clients.scope.Given as goal
 
 abbrev pub invariant-loop-seat : goal.invariant-loop-seat

@@ -1,0 +1,62 @@
+"""Sessions at random with questions among their lines."""
+from draws import Draw
+from heap import FIRST_OBJECT, REGION_WORDS
+from questions import QUESTIONS, Asking
+
+# What questions have to be answered, and how often at least: refusals by number.
+ABOUT_A_MOMENT = ("ok", "no 22", "no 23", "no 24")
+WANTED = {
+    "histogram": ABOUT_A_MOMENT,
+    "garbage": ABOUT_A_MOMENT,
+    "growth": ABOUT_A_MOMENT,
+    "path": (*ABOUT_A_MOMENT, "no 27", "no 28"),
+    "referrers": (*ABOUT_A_MOMENT, "no 28"),
+    "registers": ABOUT_A_MOMENT,
+}
+LEAST = 3
+
+
+class AskingDraw(Draw):
+    """A session at random, a third of whose lines are questions."""
+
+    def __init__(self, seed, **settings):
+        super().__init__(seed, **settings)
+        self.session = Asking(self.machine)
+        self.seen = []
+
+    def moment(self):
+        """Returns a word for a moment: mostly the current state, an open pin or a retained place."""
+        lots, machine = self.lots, self.machine
+        what = lots.weighed({"-": 4, "pin": 3, "place": 3})
+        if what == "-":
+            return "-"
+        if what == "pin":
+            return self.pin()
+        if lots.once_in(6):
+            return "@{}".format(lots.pick([max(0, machine.place - machine.retained - 1), machine.place + 1]))
+        return f"@{machine.place - lots.below(machine.retained + 1)}"
+
+    def identifier(self):
+        """Returns a word for an object: mostly one that is there, or was; else one of no object."""
+        lots = self.lots
+        there = [word for word, _ in self.state.objects()]
+        self.seen = [*self.seen, *there[-3:]][-60:]
+        word = lots.pick(there or [0])
+        if self.seen and lots.once_in(4):
+            word = lots.pick(self.seen)
+        if lots.once_in(12):
+            word = lots.pick([0, 8, word + 8, FIRST_OBJECT + 8 * REGION_WORDS * len(self.state.regions), (1 << 32) - 8])
+        return f"0x{word:08x}" if lots.below(24) else lots.pick([word, f"0x{word:x}0", f"0x{word:08X}", f"{word:08x}"])
+
+    def ask(self):
+        """Asks a question."""
+        word = self.lots.pick(list(QUESTIONS))
+        draws = {"a": self.moment, "i": self.identifier}
+        accepted = self.say(word.decode(), *(draws[form]() for form in QUESTIONS[word]))
+        last = self.lines[-1][1].split(b"\n")[-2].decode().split()
+        sort = " ".join(last[:2]) if last[0] == "no" else last[0]
+        self.machine.sights.met[f"{word.decode()}: {sort}"] += 1
+        return accepted
+
+    def turn(self):
+        return self.ask() if self.lots.once_in(3) else super().turn()

@@ -1,0 +1,123 @@
+"""Clients of the program, and runs of `serve` and `ask`."""
+import contextlib
+import itertools
+import random
+import socket
+import subprocess
+import threading
+import time
+
+from runs import SECONDS, run
+
+
+def told_all(lines):
+    """Returns clients: one, which sends these lines while it reads what comes, until its session has ended."""
+
+    def clients(port):
+        with connected(port) as client:
+            sender = threading.Thread(target=client.sendall, args=(lines + b"end\n",))
+            sender.start()
+            got = rest_of(client, b"")
+            sender.join()
+            return (got,)
+
+    return clients
+
+
+# Ports are asked for one after another, from a place at random on, and lie below those that the system gives to clients. So none is
+# taken by somebody else of this run before it is listened on.
+PORTS = itertools.count(random.randrange(20_000))
+
+
+def free_port():
+    """Returns a port that nobody listens on."""
+    for number in PORTS:
+        port = 10_000 + number % 20_000
+        with socket.socket() as probe, contextlib.suppress(OSError):
+            probe.setsockopt(socket.SOL_SOCKET, socket.SO_REUSEADDR, 1)
+            probe.bind(("127.0.0.1", port))
+            return port
+
+
+def connected(port, room=None):
+    """Returns a client of the port, which may not be listened on yet; its buffer for what comes has `room` bytes, if that is
+    given."""
+    end = time.monotonic() + SECONDS
+    while True:
+        client = socket.socket()
+        client.settimeout(SECONDS)
+        if room:
+            client.setsockopt(socket.SOL_SOCKET, socket.SO_RCVBUF, room)
+        try:
+            client.connect(("127.0.0.1", port))
+            return client
+        except ConnectionRefusedError:
+            client.close()
+            if time.monotonic() > end:
+                raise
+            time.sleep(0.01)
+
+
+def answered(client, lines, size):
+    """Sends lines, and returns the next `size` bytes that come, or all that come before the end."""
+    client.sendall(lines)
+    got = b""
+    while len(got) < size:
+        part = client.recv(size - len(got))
+        if not part:
+            break
+        got += part
+    return got
+
+
+def rest_of(client, lines):
+    """Sends lines, and returns all that comes until the session has ended."""
+    return answered(client, lines, 1 << 30)
+
+
+def asked(program, port, given, **how):
+    """Runs `ask`, again while nobody listens on the port yet."""
+    end = time.monotonic() + SECONDS
+    while True:
+        ran = run(program, ["ask", "--port", str(port)], given, **how)
+        if ran[2] != b"heapdbg: connect\n" or time.monotonic() > end:
+            return ran
+        time.sleep(0.01)
+
+
+def served(program, clients, words=(), **how):
+    """Returns what happened to a run of `serve`, and then what its clients return, which are given its port."""
+    port = free_port()
+    how.setdefault("stdout", subprocess.PIPE)
+    line = ["heapdbg", "serve", "--port", str(port), *words]
+    child = subprocess.Popen(line, executable=program, stderr=subprocess.PIPE, **how)
+    try:
+        got = clients(port)
+        out, error = child.communicate(timeout=SECONDS)
+        return (child.returncode, out or b"", error, *got)
+    finally:
+        if child.poll() is None:
+            child.kill()
+            child.communicate()
+
+
+def ended(lines):
+    """Returns clients: one, which sends these lines and returns what comes until its session has ended."""
+
+    def clients(port):
+        with connected(port) as client:
+            return (rest_of(client, lines),)
+
+    return clients
+
+
+def ended_by(given):
+    """Returns clients: one, which sends these bytes, closes its writing side, and returns what comes until its session ends."""
+
+    def clients(port):
+        with connected(port) as client, client.makefile("rb") as come:
+            client.sendall(given)
+            client.shutdown(socket.SHUT_WR)
+            return (come.read(),)
+
+    return clients

@@ -1,0 +1,80 @@
+"""Cases of bad command lines."""
+from runs import EXAMPLE, run
+
+MISTAKE = b"error: %s\n\nFor more information, try 'heapdbg --help'.\n"
+NOT_UTF8 = b"error: a word of the command line is not UTF-8\n"
+USAGE = b"Usage: heapdbg <COMMAND>\n"
+RUN_ABOUT = b"Reads commands from standard input and writes replies to standard output\n"
+SAVE_ABOUT = b"""Runs a session, and dumps the state that it leaves; one of --out and --to is required
+
+Usage: heapdbg save [OPTIONS] <--out <PATH>|--to <N>>
+"""
+VERSION = b"heapdbg 1.0.0 (logic dac8208d650f15bf)\n"
+SERVE_ABOUT = b"Serves sessions over one heap to clients on 127.0.0.1, and tells how each ended\n"
+ASK_ABOUT = b"Sends standard input to a session that is served, and copies what comes back to standard output\n"
+
+# What is said of a value that is out of its range or is not in digits alone, and command lines with one.
+MISTAKES = {
+    b"--regions takes 1 to 256": """run --regions 0, run --regions 257, run --regions=, run --regions +4, run --regions=-4,
+        run --regions 4k, run --regions 0 --keep 4, serve --port 7000 --regions 257, save --out x --regions 257""",
+    b"--mutators takes 1 to 16": """run --mutators 0, run --mutators 17, run --regions 4 --mutators 0,
+        serve --port 7000 --mutators 17""",
+    b"--keep takes 1 to 65536": """run --keep 0, run --keep 65537, run --keep +4, run --keep 0 --regions 4,
+        save --to 7000 --keep 0""",
+    b"--time takes 0 to 18446744073709551615": """run --time 1x, run --time 18446744073709551616, run --time= --keep 4,
+        serve --port 7000 --time=-1""",
+    b"--ids takes 4 or 8": """run --ids 0, run --ids 3, run --ids 5, run --ids 6, run --ids 7, run --ids 9, run --ids eight,
+        serve --port 7000 --ids 5, save --out x --ids 16""",
+    b"--port takes 1 to 65535": """serve --port 0, serve --port 65536, serve --port +80, serve --port=, serve --port 4k,
+        serve --sessions 2 --port 0, ask --port 0, ask --port 65536, ask --port=-1x""",
+    b"--sessions takes 1 to 1000": """serve --port 7000 --sessions 0, serve --port 7000 --sessions 1001,
+        serve --port 7000 --sessions x""",
+    b"--to takes 1 to 65535": """save --to 0, save --to 65536, save --to +80, save --to=, save --to 4k,
+        save --to 0 --keep 4""",
+    b"save takes one of --out and --to": "save, save --out x --to 7000, save --regions 4, save --to 0 --out x",
+}
+
+# Command lines that clap refuses, and the first line of what it says.
+REFUSED = {
+    "": b"'heapdbg' requires a subcommand but one was not provided",
+    "go": b"unrecognized subcommand 'go'",
+    "--regions 4 run": b"unexpected argument '--regions' found",
+    "run --version": b"unexpected argument '--version' found",
+    "run four": b"unexpected argument 'four' found",
+    "run --region 4": b"unexpected argument '--region' found",
+    "run --regions": b"a value is required for '--regions <N>' but none was supplied",
+    "run --ids": b"a value is required for '--ids <N>' but none was supplied",
+    "run --regions 4 --regions=4": b"the argument '--regions <N>' cannot be used multiple times",
+    "run --ids 4 --ids 4": b"the argument '--ids <N>' cannot be used multiple times",
+    "run --out x": b"unexpected argument '--out' found",
+    "run --to 7000": b"unexpected argument '--to' found",
+    "save --out": b"a value is required for '--out <PATH>' but none was supplied",
+    "save --to": b"a value is required for '--to <N>' but none was supplied",
+    "save --out x --out y": b"the argument '--out <PATH>' cannot be used multiple times",
+    "save --port 7000": b"unexpected argument '--port' found",
+    "run --port 7000": b"unexpected argument '--port' found",
+    "run --sessions 2": b"unexpected argument '--sessions' found",
+    "serve": b"the following required arguments were not provided:",
+    "serve --sessions 2": b"the following required arguments were not provided:",
+    "serve --port": b"a value is required for '--port <N>' but none was supplied",
+    "serve --port 7000 --port 7000": b"the argument '--port <N>' cannot be used multiple times",
+    "ask": b"the following required arguments were not provided:",
+    "ask --port 7000 --sessions 2": b"unexpected argument '--sessions' found",
+    "ask --port 7000 --keep 2": b"unexpected argument '--keep' found",
+}
+
+
+def bad_lines(program):
+    """Yields bad command lines as (name, what happened, what must happen). Only the first line of a text of clap's is looked at."""
+    for text, lines in MISTAKES.items():
+        for words in map(str.split, lines.split(",")):
+            yield " ".join(words), run(program, words, EXAMPLE), (2, b"", MISTAKE % text)
+    for words in ("--version", "-V"):
+        yield words, run(program, [words], EXAMPLE), (2, b"", VERSION)
+    for words in (["\udcff"], ["run", "--regions", "\udcff"]):
+        yield "a word that is not UTF-8", run(program, words, EXAMPLE), (2, b"", NOT_UTF8)
+    firsts = {words: b"error: %s\n" % text for words, text in REFUSED.items()}
+    helps = {"--help": USAGE, "run --help": RUN_ABOUT, "save --help": SAVE_ABOUT, "serve --help": SERVE_ABOUT, "ask --help": ASK_ABOUT}
+    for words, line in {**helps, **firsts}.items():
+        status, out, error = run(program, words.split(), EXAMPLE)
+        yield words or "no words", (status, out, error[: len(line)]), (2, b"", line)

@@ -1,0 +1,452 @@
+"""A client of heapdbg: a session as Python calls.
+
+A `Session` sends lines to a heapdbg, over a command's pipes, a socket or any pair of binary streams, and returns each reply as
+a value. A refusal is raised as `Refused`, a session that ended as `Ended`. Objects are their ids, as `ObjectId`; null is None.
+Needs Python 3.9 and its standard library alone."""
+from __future__ import annotations
+
+import contextlib
+import socket
+import subprocess
+from typing import Any, BinaryIO, Callable, Iterable, Iterator, NamedTuple, Optional, Sequence, Union
+
+__all__ = ["Session", "Batch", "Later", "Refused", "Ended", "BadCommand", "ObjectId", "Swept", "PinAt", "Piece", "Moment"]
+
+# The most bytes of lines that a batch sends before it reads replies: they fit into any pipe or socket, so neither side waits.
+CHUNK = 32_768
+FIELDS_KINDS = ("object", "boolean", "char", "float", "double", "byte", "short", "int", "long")
+
+
+class ObjectId(int):
+    """The id of an object, printed as heapdbg prints it."""
+
+    def __str__(self) -> str:
+        return f"0x{self:08x}"
+
+    __repr__ = __str__
+
+
+class Swept(NamedTuple):
+    """What a sweep did: how many objects it removed, and whether the region is empty now."""
+
+    dead: int
+    emptied: bool
+
+
+class PinAt(NamedTuple):
+    """A pin that was opened: its number and its place."""
+
+    pin: int
+    place: int
+
+
+class Piece(NamedTuple):
+    """A piece of a dump, and whether it is the last."""
+
+    data: bytes
+    last: bool
+
+
+class Refused(Exception):
+    """A line that was refused, and changed nothing: the refusal's number, its name and its facts."""
+
+    def __init__(self, line: str, number: int, name: str, facts: tuple[Union[int, str], ...], data: bytes = b"") -> None:
+        super().__init__(" ".join(map(str, (f"{line}: {number} {name}", *facts))))
+        self.line = line
+        self.number = number
+        self.name = name
+        self.facts = facts
+        # The bytes of the dump that came before the refusal.
+        self.data = data
+
+
+class BadCommand(ValueError):
+    """A line that heapdbg's grammar doesn't know."""
+
+
+class Ended(EOFError):
+    """The session ended before it answered. `word` says how: `cut`, `long`, `read` or `reads`, or None if nothing was said."""
+
+    def __init__(self, line: str, word: Optional[str]) -> None:
+        super().__init__(f"{line}: the session ended" + (f" ({word})" if word else ""))
+        self.line = line
+        self.word = word
+
+
+# A state to ask about: None for the current one, a pin's number, or a place as `"@120"`.
+Moment = Union[None, int, str]
+# What turns the words after `ok` and the lines before them into a value.
+Reader = Callable[[list, list], Any]
+
+
+def number(words: list, _lines: list) -> int:
+    """Returns the last word as a number."""
+    return int(words[-1])
+
+
+def nothing(_words: list, _lines: list) -> None:
+    """Returns None."""
+
+
+def loaded(words: list, _lines: list) -> Union[ObjectId, int, None]:
+    """Returns an object's id, a value, or None."""
+    if words[0] == "null":
+        return None
+    return ObjectId(words[1], 16) if words[0] == "object" else int(words[1])
+
+
+def swept(words: list, _lines: list) -> Swept:
+    """Returns what a sweep did."""
+    return Swept(int(words[1]), words[2:] == ["empty"])
+
+
+def pinned(words: list, _lines: list) -> PinAt:
+    """Returns a pin and its place."""
+    return PinAt(int(words[1]), int(words[3]))
+
+
+def bytes_of(_words: list, lines: list) -> bytes:
+    """Returns the bytes of data lines."""
+    return bytes.fromhex("".join(line[5:] for line in lines))
+
+
+def piece(words: list, lines: list) -> Piece:
+    """Returns a piece."""
+    return Piece(bytes_of(words, lines), words[0] == "last")
+
+
+def value_of(word: str) -> Union[int, ObjectId, str, None]:
+    """Returns a word of a row as a value."""
+    if word == "null":
+        return None
+    if word.startswith("0x"):
+        return ObjectId(word, 16)
+    return int(word) if word.isdigit() else word
+
+
+def rows(_words: list, lines: list) -> list:
+    """Returns the rows of a question's answer, each a tuple of its words as values."""
+    return [tuple(map(value_of, line.split()[1:])) for line in lines]
+
+
+def place_or_older(words: list, _lines: list) -> tuple:
+    """Returns the last words of an answer, such as ("place", 12), ("older", 3) or ("reached",)."""
+    return tuple(map(value_of, words))
+
+
+def facts_of(words: Iterable[str]) -> tuple[Union[int, str], ...]:
+    """Returns the facts of a refusal."""
+    return tuple(int(word) if word.isdigit() else word for word in words)
+
+
+def at_of(moment: Moment) -> str:
+    """Returns the word of a moment."""
+    return "-" if moment is None else str(moment)
+
+
+class Calls:
+    """The lines of a session as methods. `send` sends a line and returns what becomes of its reply."""
+
+    def send(self, line: str, reader: Reader) -> Any:
+        """Sends a line whose reply `reader` turns into a value."""
+        raise NotImplementedError
+
+    # ---- classes and objects
+
+    def define_class(self, name: str, fields: Sequence[tuple[str, str]] = (), sup: Optional[int] = None) -> Any:
+        """Defines a class with fields (name, kind), and returns its number."""
+        texts = [f"{field}:{kind}" for field, kind in fields]
+        return self.send(" ".join(["class", name, "-" if sup is None else str(sup), *texts]), number)
+
+    def define_array(self, name: str) -> Any:
+        """Defines a class of object arrays, and returns its number."""
+        return self.send(f"array {name}", number)
+
+    def new(self, m: int, r: int, class_number: int) -> Any:
+        """Makes an instance in register `r` of mutator `m`, and returns its id."""
+        return self.send(f"new {m} {r} {class_number}", loaded)
+
+    def new_array(self, m: int, r: int, class_number: int, length: int) -> Any:
+        """Makes an object array, and returns its id."""
+        return self.send(f"newarray {m} {r} {class_number} {length}", loaded)
+
+    def new_values(self, m: int, r: int, kind: str, length: int) -> Any:
+        """Makes an array of values of a kind, and returns its id."""
+        return self.send(f"newprim {m} {r} {kind} {length}", loaded)
+
+    def load(self, m: int, to: int, source: int, slot: int) -> Any:
+        """Reads a slot: returns a value, or an id or None, which is then in register `to`."""
+        return self.send(f"load {m} {to} {source} {slot}", loaded)
+
+    def store(self, m: int, target: int, slot: int, source: int) -> Any:
+        """Writes what register `source` holds to a reference slot of the object in register `target`."""
+        return self.send(f"store {m} {target} {slot} {source}", nothing)
+
+    def put(self, m: int, target: int, slot: int, value: int) -> Any:
+        """Writes a value slot of the object in register `target`."""
+        return self.send(f"put {m} {target} {slot} {value}", nothing)
+
+    def move(self, m: int, to: int, from_m: int, source: int) -> Any:
+        """Copies a register of mutator `from_m` to one of mutator `m`."""
+        return self.send(f"move {m} {to} {from_m} {source}", nothing)
+
+    def clear(self, m: int, r: int) -> Any:
+        """Makes a register null."""
+        return self.send(f"clear {m} {r}", nothing)
+
+    # ---- collecting
+
+    def snap(self) -> Any:
+        """Begins a cycle, and returns how many objects were marked."""
+        return self.send("snap", number)
+
+    def mark(self) -> Any:
+        """Looks at a gray object, and returns how many were marked."""
+        return self.send("mark", number)
+
+    def drain(self) -> Any:
+        """Looks at an entry of the log, and returns how many objects were marked."""
+        return self.send("drain", number)
+
+    def finish(self) -> Any:
+        """Ends the cycle, and returns how many objects aren't live."""
+        return self.send("finish", number)
+
+    def sweep(self, region: int) -> Any:
+        """Removes a region's objects that aren't live, and returns a `Swept`."""
+        return self.send(f"sweep {region}", swept)
+
+    # ---- the past and dumps
+
+    def rewind(self, count: int) -> Any:
+        """Undoes the last steps, and returns the place."""
+        return self.send(f"rewind {count}", number)
+
+    def open(self, place: Optional[int] = None) -> Any:
+        """Opens a pin on a retained place, or on the current state, and returns a `PinAt`."""
+        return self.send(f"open {at_of(place)}", pinned)
+
+    def piece(self, pin: int) -> Any:
+        """Returns the next `Piece` of a pin's dump."""
+        return self.send(f"piece {pin}", piece)
+
+    def dump(self, pin: Optional[int] = None) -> Any:
+        """Returns the bytes of a pin's dump from the next piece on, or those of the current state."""
+        return self.send(f"dump {at_of(pin)}", bytes_of)
+
+    def close(self, pin: int) -> Any:
+        """Closes a pin."""
+        return self.send(f"close {pin}", nothing)
+
+    # ---- questions, of a heapdbg that answers them
+
+    def show(self, moment: Moment, of: int) -> Any:
+        """Returns rows (slot, name, kind, value) of an object."""
+        return self.send(f"show {at_of(moment)} {ObjectId(of)}", rows)
+
+    def registers(self, moment: Moment = None) -> Any:
+        """Returns rows (mutator, register, None) or (mutator, register, id, class)."""
+        return self.send(f"registers {at_of(moment)}", rows)
+
+    def classes(self, moment: Moment = None) -> Any:
+        """Returns rows (number, name, super, field..)."""
+        return self.send(f"classes {at_of(moment)}", rows)
+
+    def histogram(self, moment: Moment = None) -> Any:
+        """Returns rows (objects, bytes, class), the most bytes first."""
+        return self.send(f"histogram {at_of(moment)}", rows)
+
+    def growth(self, older: Moment, newer: Moment = None) -> Any:
+        """Returns rows (class, objects, bytes, objects, bytes) of what differs, older then newer."""
+        return self.send(f"growth {at_of(older)} {at_of(newer)}", rows)
+
+    def path(self, moment: Moment, to: int) -> Any:
+        """Returns the rows of a shortest path: (mutator, register, id), then (id, slot, id) for each slot."""
+        return self.send(f"path {at_of(moment)} {ObjectId(to)}", rows)
+
+    def referrers(self, moment: Moment, of: int) -> Any:
+        """Returns rows (mutator, register), then (id, slot), of what names an object."""
+        return self.send(f"referrers {at_of(moment)} {ObjectId(of)}", rows)
+
+    def garbage(self, moment: Moment = None) -> Any:
+        """Returns rows (objects, bytes, class) of the live objects that no register reaches."""
+        return self.send(f"garbage {at_of(moment)}", rows)
+
+    def wrote(self, of: int, slot: int) -> Any:
+        """Returns ("place", P) of the newest retained step that changed a slot, or ("older", P)."""
+        return self.send(f"wrote {ObjectId(of)} {slot}", place_or_older)
+
+    def born(self, of: int) -> Any:
+        """Returns ("place", P) of the step that made an object, or ("older", P)."""
+        return self.send(f"born {ObjectId(of)}", place_or_older)
+
+    def dropped(self, of: int) -> Any:
+        """Returns ("place", P) of the step after which no register reached an object, ("reached",) or ("older", P)."""
+        return self.send(f"dropped {ObjectId(of)}", place_or_older)
+
+    def history(self, count: int) -> Any:
+        """Returns rows (place, record, fact..) of the newest retained steps, the newest first."""
+        return self.send(f"history {count}", rows)
+
+    def pins(self) -> Any:
+        """Returns rows (pin, place, "held", bytes) or (pin, place, "lost", cause, bytes)."""
+        return self.send("pins", rows)
+
+
+class Later:
+    """The reply to a line of a batch: its value once the batch has ended."""
+
+    def __init__(self, line: str, reader: Reader) -> None:
+        self.line = line
+        self.reader = reader
+        self.done = False
+        self.given: Any = None
+        self.fault: Optional[Exception] = None
+
+    @property
+    def value(self) -> Any:
+        """The reply as a value. Raises what the call would have raised."""
+        if not self.done:
+            raise RuntimeError(f"{self.line}: the batch has not ended")
+        if self.fault:
+            raise self.fault
+        return self.given
+
+
+class Batch(Calls):
+    """Lines that are sent many at once. Each call returns a `Later`."""
+
+    def __init__(self, session: "Session") -> None:
+        self.session = session
+        self.waiting: list[Later] = []
+        self.size = 0
+
+    def send(self, line: str, reader: Reader) -> Later:
+        later = Later(line, reader)
+        self.waiting.append(later)
+        self.size += len(line) + 1
+        if self.size >= CHUNK:
+            self.flush()
+        return later
+
+    def flush(self) -> None:
+        """Sends the lines that wait, and reads their replies."""
+        waiting, self.waiting, self.size = self.waiting, [], 0
+        self.session.write("".join(later.line + "\n" for later in waiting))
+        for later in waiting:
+            try:
+                later.given = self.session.read(later.line, later.reader)
+            except (Refused, BadCommand, Ended) as fault:
+                later.fault = fault
+            later.done = True
+
+
+class Session(Calls):
+    """A session with a heapdbg."""
+
+    def __init__(self, reader: BinaryIO, writer: BinaryIO, stop: Optional[Callable[[], Any]] = None) -> None:
+        """A session over two binary streams. `stop` is called when the session ends."""
+        self.reader = reader
+        self.writer = writer
+        self.stop = stop
+        self.status: Any = None
+
+    @classmethod
+    def run(cls, *command: str, stderr: Optional[int] = None) -> "Session":
+        """Starts a command, such as `Session.run("heapdbg", "run", "--keep", "4096")`. `stderr` is what subprocess makes of it."""
+        child = subprocess.Popen(command, stdin=subprocess.PIPE, stdout=subprocess.PIPE, stderr=stderr)
+        assert child.stdin and child.stdout
+        return cls(child.stdout, child.stdin, child.wait)
+
+    @classmethod
+    def connect(cls, port: int, host: str = "127.0.0.1", timeout: Optional[float] = None) -> "Session":
+        """Connects to a `heapdbg serve`."""
+        connection = socket.create_connection((host, port), timeout)
+        connection.setsockopt(socket.IPPROTO_TCP, socket.TCP_NODELAY, 1)
+        return cls(connection.makefile("rb"), connection.makefile("wb"), connection.close)
+
+    def __enter__(self) -> "Session":
+        return self
+
+    def __exit__(self, *_fault: object) -> None:
+        self.end()
+
+    # ---- lines
+
+    def write(self, lines: str) -> None:
+        """Sends lines, each with its LF."""
+        with contextlib.suppress(BrokenPipeError, ConnectionError):
+            self.writer.write(lines.encode("ascii"))
+            self.writer.flush()
+
+    def lines_of(self, line: str) -> Iterator[str]:
+        """Yields the lines of a reply, the last one last."""
+        while True:
+            try:
+                came = self.reader.readline()
+            except ConnectionError:
+                came = b""
+            if not came.endswith(b"\n"):
+                raise Ended(line, None)
+            text = came[:-1].decode("ascii")
+            yield text
+            if not text.startswith(("data ", "row ")):
+                return
+
+    def read(self, line: str, reader: Reader) -> Any:
+        """Reads the reply to a line, and returns it as a value."""
+        *before, last = self.lines_of(line)
+        word, *words = last.split()
+        if word == "ok":
+            return reader(words, before)
+        if word == "no":
+            raise Refused(line, int(words[0]), words[1], facts_of(words[2:]), bytes_of(words, before))
+        if last == "bad command":
+            raise BadCommand(line)
+        raise Ended(line, words[0] if word == "bad" and words else None)
+
+    def send(self, line: str, reader: Reader) -> Any:
+        if not line.split() or line.split() == ["end"]:
+            raise BadCommand(line)
+        self.write(line + "\n")
+        return self.read(line, reader)
+
+    def say(self, line: str) -> list[str]:
+        """Sends any line, and returns the lines of its reply as they came."""
+        return self.send(line, lambda words, before: [*before, " ".join(["ok", *words])])
+
+    # ---- more
+
+    @contextlib.contextmanager
+    def batch(self) -> Iterator[Batch]:
+        """Has lines sent many at once: in `with session.batch() as batch`, each call of `batch` returns a `Later`."""
+        batch = Batch(self)
+        yield batch
+        batch.flush()
+
+    def dump_to(self, file: BinaryIO, pin: Optional[int] = None) -> int:
+        """Writes a dump to a binary file, piece by piece, and returns its size."""
+        number, _ = self.open() if pin is None else (pin, None)
+        size = 0
+        try:
+            while True:
+                data, last = self.piece(number)
+                file.write(data)
+                size += len(data)
+                if last:
+                    return size
+        finally:
+            if pin is None:
+                self.close(number)
+
+    def end(self) -> Any:
+        """Ends the session. Returns the exit status of a command."""
+        if self.stop:
+            stop, self.stop = self.stop, None
+            self.write("end\n")
+            with contextlib.suppress(BrokenPipeError, ConnectionError):
+                self.writer.close()
+            self.reader.read()
+            self.reader.close()
+            self.status = stop()
+        return self.status

@@ -1,0 +1,35 @@
+# Completions of heapdbg for bash.
+
+_heapdbg() {
+    local word=${COMP_WORDS[COMP_CWORD]} before=${COMP_WORDS[COMP_CWORD - 1]}
+    local heap="--regions --mutators --keep --time --ids" options
+    COMPREPLY=()
+    case $before in
+        --ids)
+            mapfile -t COMPREPLY < <(compgen -W "4 8" -- "$word")
+            return
+            ;;
+        --out)
+            compopt -o filenames
+            mapfile -t COMPREPLY < <(compgen -f -- "$word")
+            return
+            ;;
+        --regions | --mutators | --keep | --time | --port | --to | --sessions)
+            return
+            ;;
+    esac
+    if ((COMP_CWORD == 1)); then
+        mapfile -t COMPREPLY < <(compgen -W "run explore save serve ask --help --version" -- "$word")
+        return
+    fi
+    case ${COMP_WORDS[1]} in
+        run | explore) options=$heap ;;
+        save) options="$heap --out --to" ;;
+        serve) options="$heap --port --sessions" ;;
+        ask) options="--port" ;;
+        *) return ;;
+    esac
+    mapfile -t COMPREPLY < <(compgen -W "$options --help" -- "$word")
+}
+
+complete -F _heapdbg heapdbg

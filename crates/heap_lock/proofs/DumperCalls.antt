@@ -1,0 +1,91 @@
+-- A dumper's call moves the machine and leaves what else lies under the lock.
+use Rattle.std.proofs.Common.{◌≡◌, List, [], ◌∷◌, ◌++◌, true, false, Result, Ok, Err, IfOk, IfErr, OnErr, refl, sym, ap, ◌∙◌, subst, inl, inr}
+use mathlib.Core.List.{IsPrefix}
+use Rattle.atomic_table.specs.Seated.{TableId}
+use Rattle.heap_class.specs.declared.Refusal.{Refusal}
+use Rattle.heap_world.specs.Limits.{HeapSettings}
+use Rattle.heap_trail.specs.declared.Action.{Action}
+use Rattle.heap_trail.specs.declared.Reply.{Reply}
+use Rattle.heap_trail.specs.declared.Reply.TheVariants.{Refused}
+use Rattle.heap_trail.specs.Machine.{MayFail, MayReply, Machine, Granted, Denied, acted, acted_under, is_dump_action}
+use Rattle.heap_lock.specs.declared.desk.Desk.{Desk}
+use Rattle.heap_lock.specs.declared.entry.Entry.{Entry}
+use Rattle.heap_lock.specs.declared.ledger.Ledger.{Ledger}
+use Rattle.heap_lock.specs.declared.sight.Sight.TheVariants.{Full}
+use Rattle.heap_lock.specs.Calls.{Call, call_of, IsLedger, IsLegalLedger, Witnesses}
+use Rattle.heap_lock.specs.History.{reply_of}
+use Rattle.heap_lock.specs.Sights.{calls_of}
+use Rattle.heap_lock.specs.Ledgers.{table_of, all_in, HasCalls, HasLedger, CallsAs}
+use Rattle.heap_lock.specs.LockStates.{LockState, IsDumperAct, IsUnderLock}
+use Rattle.heap_lock.proofs.CallLists.{acted_more, dumped_more}
+
+done_moves : (m m' : Machine) (a : Action) (r : Reply) → acted m a ≡ (m', r) → MayReply m a m' r
+unfolding acted_under
+done_moves m m' a r is = (Granted, tt, is)
+
+refused_moves : (m m' : Machine) (a : Action) (e : Refusal) → MayFail m a m' e → m' ≡ m → MayReply m a m' (Refused e)
+unfolding acted_under
+refused_moves m m' a e (inl is) same = done_moves m m' a (Refused e) is
+refused_moves m m' a e (inr t) same = (Denied, t.0, λ i. (sym same i, Refused (sym t.1 i)))
+
+all_as : (l l' : Ledger) (calls : List Call) → CallsAs l l' calls → all_in l' ≡ calls
+all_as l l' calls as' = ap (λ m. calls_of m.0) as'.2
+
+-- a ledger that has these calls now
+pub gained : (config : HeapSettings) (table : TableId) (m : Machine) (es : List Entry) (l l' : Ledger) (calls : List Call) → HasCalls table (all_in l) l → IsLedger config m es calls → CallsAs l l' calls → HasLedger config table m es l'
+gained config table m es l l' calls has is as' =
+    let all = all_as l l' calls as' in
+    ((has.0, as'.0 ∙ has.1, as'.1 ∙ has.2, as'.2 ∙ ap (λ cs. (Full cs, [])) (sym all)), subst (IsLedger config m es) (sym all) is)
+
+-- a ledger that gained the call of an act has all calls
+pub acted_has : (config : HeapSettings) (table : TableId) (m m' : Machine) (es : List Entry) (l l' : Ledger) (e : Entry) → HasLedger config table m es l → is_dump_action e.action ≡ false → MayReply m e.action m' (reply_of e.answer)
+    → CallsAs l l' (all_in l ++ call_of e ∷ []) → HasLedger config table m' (es ++ e ∷ []) l'
+acted_has config table m m' es l l' e has deed may as' = gained config table m' (es ++ e ∷ []) l l' (all_in l ++ call_of e ∷ []) has.0 (acted_more config m m' es (all_in l) e has.1 deed may) as'
+
+-- the ledger's own table is the one it is to have
+pub own_table : (table : TableId) (calls : List Call) (l : Ledger) → HasCalls table calls l → HasCalls (table_of l) calls l
+own_table table calls l h = subst (λ t. HasCalls t calls l) (sym h.1) h
+
+-- the reply that a call's result is
+abbrev pub replied : {A : Type 0} → (A → Reply) → Result A Refusal → Reply
+replied reply (Ok p) = reply p
+replied reply (Err e) = Refused e
+
+-- whatever a call's result is, the machine may reply it
+pub may_reply : {A : Type 0} (m m' : Machine) (a : Action) (reply : A → Reply) (r : Result A Refusal)
+    → IfOk r (λ p. acted m a ≡ (m', reply p)) → IfErr r (λ e. MayFail m a m' e) → OnErr r (m' ≡ m) → MayReply m a m' (replied reply r)
+may_reply m m' a reply (Ok p) done refused same = done_moves m m' a (reply p) done
+may_reply m m' a reply (Err e) done refused same = refused_moves m m' a e refused same
+
+-- a ledger that gained the call has all calls
+pub dumped_has : (config : HeapSettings) (table : TableId) (m m' : Machine) (es : List Entry) (l l' : Ledger) (c : Call) → HasLedger config table m es l → is_dump_action c.0 ≡ true → MayReply m c.0 m' c.1
+    → CallsAs l l' (all_in l ++ c ∷ []) → HasLedger config table m' es l'
+dumped_has config table m m' es l l' c has dump may as' =
+    let more : IsLedger config m' es (all_in l ++ c ∷ []) = dumped_more config m m' es (all_in l) c has.1 dump may in
+    gained config table m' es l l' (all_in l ++ c ∷ []) has.0 more as'
+
+pub dumped_done : {A : Type 0} (k : LockState) (m m' : Machine) (es : List Entry) (l l' : Ledger) (a : Action) (reply : A → Reply) (r : Result A Refusal)
+    → record { machine = m; chronicle = es; ledger = all_in l } ≡ k → MayReply m a m' (replied reply r) → CallsAs l l' (all_in l ++ (a, replied reply r) ∷ [])
+    → IfOk r (λ p. IsDumperAct a k (reply p) (record { machine = m'; chronicle = es; ledger = all_in l' })) × IfErr r (λ e. IsDumperAct a k (Refused e) (record { machine = m'; chronicle = es; ledger = all_in l' }))
+dumped_done k m m' es l l' a reply (Ok p) was may as' =
+    (subst (λ (h : LockState). IsDumperAct a h (reply p) (record { machine = m'; chronicle = es; ledger = all_in l' })) was (may, refl, all_as l l' _ as'), tt)
+dumped_done k m m' es l l' a reply (Err e) was may as' =
+    (tt, subst (λ (h : LockState). IsDumperAct a h (Refused e) (record { machine = m'; chronicle = es; ledger = all_in l' })) was (may, refl, all_as l l' _ as'))
+
+-- a call that takes no memory
+pub plainly : {A : Type 0} (m m' : Machine) (a : Action) (r : Result A Refusal) → IfErr r (λ e. acted m a ≡ (m', Refused e)) → IfErr r (λ e. MayFail m a m' e)
+plainly m m' a (Ok p) refused = tt
+plainly m m' a (Err e) refused = inl refused
+
+-- all calls of a heap under its lock are a legal ledger
+pub legal_of : (config : HeapSettings) (tables : List TableId) (table : TableId) (m : Machine) (es : List Entry) (desks : List Desk) (l : Ledger) → IsUnderLock config tables m es desks → HasLedger config table m es l → IsLegalLedger config (all_in l)
+legal_of config tables table m es desks l k has = (m, es, has.1, k.legal)
+
+-- what a witness knows of a call that is the last of the calls that it is shown
+pub witnessed : {A : Type 0} (config : HeapSettings) (k l : LockState) (a : Action) (reply : A → Reply) (r : Result A Refusal) (before after : List Call)
+    → IsPrefix before k.ledger → after ≡ l.ledger → IsLegalLedger config l.ledger → IfOk r (λ p. IsDumperAct a k (reply p) l) → IfErr r (λ e. IsDumperAct a k (Refused e) l)
+    → IfOk r (λ p. Witnesses config before a (reply p) after) × IfErr r (λ e. Witnesses config before a (Refused e) after)
+witnessed config k l a reply (Ok p) before after begins is legal done refused =
+    ((begins.0, is ∙ done.2 ∙ ap (λ cs. cs ++ (a, reply p) ∷ []) (sym begins.1), subst (IsLegalLedger config) (sym is) legal), tt)
+witnessed config k l a reply (Err e) before after begins is legal done refused =
+    (tt, (begins.0, is ∙ refused.2 ∙ ap (λ cs. cs ++ (a, Refused e) ∷ []) (sym begins.1), subst (IsLegalLedger config) (sym is) legal))

@@ -1,0 +1,150 @@
+-- What a pin gives to all callers together is the text of its state.
+use Rattle.std.proofs.Common.{◌≡◌, ℕ, Bool, true, false, List, [], ◌∷◌, ◌++◌, map, append-nil, append_assoc, refl, sym, ap, ◌∙◌, subst, Option, Some}
+use Rattle.std.specs.Prelude.{◌==◌, ◌&&◌, ◌||◌, ◌-◌, if◌then◌else◌}
+use Rattle.std.specs.List.{list_any}
+use Rattle.std.proofs.lemmas.List.Folds.{list_any-append}
+use Rattle.heap_class.specs.declared.IdSize.{IdSize}
+use Rattle.heap_class.specs.declared.Refusal.TheVariants.{NoMemory}
+use Rattle.heap_world.specs.Limits.{HeapSettings}
+use Rattle.hprof_text.specs.declared.Piece.{Piece}
+use Rattle.hprof_text.specs.Segments.{dump_text}
+use Rattle.heap_pins.specs.Images.{image_of}
+use Rattle.heap_trail.specs.declared.Action.{Action}
+use Rattle.heap_trail.specs.declared.Action.TheVariants.{Step, Rewind, OpenPin, NextPiece, ClosePin}
+use Rattle.heap_trail.specs.declared.Reply.{Reply}
+use Rattle.heap_trail.specs.declared.Reply.TheVariants.{Answered, Place, Pinned, Part, Closed, Refused}
+use Rattle.heap_trail.specs.Trail.{Trail, state_ago}
+use Rattle.heap_trail.specs.Pins.{AreNumbered}
+use Rattle.heap_trail.specs.Machine.{Machine, Allocation, Granted, Denied, LosesPins, MayReply, acted, acted_under, may_overwrite, opening_machine, machine_after, replies_of}
+use Rattle.heap_trail.specs.Laws.{AskAt, AsksAt, piece_given, last_given, bytes_given, gave_last}
+use Rattle.heap_trail.proofs.ByTrail.{dumps_leave}
+use Rattle.heap_trail.proofs.GivenText.{gives_text}
+use Rattle.heap_trail.proofs.OpenedPins.{opens_pin}
+use Rattle.dump_pump.specs.Pumps.{joined}
+use Rattle.heap_lock.specs.Calls.{Call}
+use Rattle.heap_lock.specs.History.{opening}
+use Rattle.heap_lock.specs.Laws.{piece_in, pieces_given, CallsAskAt, trail_by, GiveText}
+use Rattle.heap_lock.proofs.CallLists.{Leads, leads_split, leads_head}
+use Rattle.heap_lock.proofs.NumberedPins.{numbered_after, opening_numbered}
+use Rattle.heap_lock.proofs.CallTrails.{trail_is}
+
+-- ---- one call
+
+or_false : (b : Bool) → (b || false) ≡ b
+or_false true = refl
+or_false false = refl
+
+one_bytes : (pin n time : ℕ) (p : Piece) → piece_given pin (NextPiece n time) (Part p) ≡ joined (piece_in pin (NextPiece n time, Part p))
+unfolding piece_given piece_in
+one_bytes pin n time p = go (n == pin)
+  where
+    go : (b : Bool) → (if b then p.bytes else []) ≡ joined (if b then p ∷ [] else [])
+    go true = sym (append-nil p.bytes)
+    go false = refl
+
+one_last : (pin n time : ℕ) (p : Piece) → last_given pin (NextPiece n time) (Part p) ≡ list_any (λ (q : Piece). q.last) (piece_in pin (NextPiece n time, Part p))
+unfolding last_given piece_in
+one_last pin n time p = go (n == pin)
+  where
+    go : (b : Bool) → (b && p.last) ≡ list_any (λ (q : Piece). q.last) (if b then p ∷ [] else [])
+    go true = sym (or_false p.last)
+    go false = refl
+
+abbrev GivesOne : ℕ → Action → Reply → Type 0
+GivesOne pin a r = (piece_given pin a r ≡ joined (piece_in pin (a, r))) × (last_given pin a r ≡ list_any (λ (q : Piece). q.last) (piece_in pin (a, r)))
+
+asked_one : (pin n time : ℕ) (r : Reply) → GivesOne pin (NextPiece n time) r
+unfolding piece_given last_given piece_in
+asked_one pin n time (Part p) = (one_bytes pin n time p, one_last pin n time p)
+asked_one pin n time (Answered a) = (refl, refl)
+asked_one pin n time (Place p) = (refl, refl)
+asked_one pin n time (Pinned p a) = (refl, refl)
+asked_one pin n time Closed = (refl, refl)
+asked_one pin n time (Refused e) = (refl, refl)
+
+gives_one : (pin : ℕ) (a : Action) (r : Reply) → GivesOne pin a r
+unfolding piece_given last_given piece_in
+gives_one pin (NextPiece n time) r = asked_one pin n time r
+gives_one pin (Step e) r = (refl, refl)
+gives_one pin (Rewind n) r = (refl, refl)
+gives_one pin (OpenPin at) r = (refl, refl)
+gives_one pin (ClosePin n) r = (refl, refl)
+
+-- ---- all calls
+
+joined_both : (xs ys : List Piece) → joined (xs ++ ys) ≡ joined xs ++ joined ys
+joined_both [] ys = refl
+joined_both (x ∷ xs) ys = ap (λ l. x.bytes ++ l) (joined_both xs ys) ∙ sym (append_assoc x.bytes (joined xs) (joined ys))
+
+abbrev GivesAll : ℕ → Machine → List (Action × Allocation) → List Call → Type 0
+GivesAll pin m marked cs = (bytes_given pin m marked ≡ joined (pieces_given pin cs)) × (gave_last pin m marked ≡ list_any (λ (q : Piece). q.last) (pieces_given pin cs))
+
+gives_all : (pin : ℕ) (m : Machine) (marked : List (Action × Allocation)) (cs : List Call) → map (λ a. a.0) marked ≡ map (λ (c : Call). c.0) cs → map (λ (c : Call). c.1) cs ≡ replies_of m marked → GivesAll pin m marked cs
+unfolding bytes_given gave_last pieces_given replies_of
+gives_all pin m [] [] actions replies = (refl, refl)
+gives_all pin m [] (c ∷ cs) actions replies = absurd (clash actions)
+  where
+    clash : [] ≡ c.0 ∷ map (λ (x : Call). x.0) cs → ⊥
+    clash e = cc
+gives_all pin m (x ∷ marked) [] actions replies = absurd (clash actions)
+  where
+    clash : x.0 ∷ map (λ a. a.0) marked ≡ [] → ⊥
+    clash e = cc
+gives_all pin m (x ∷ marked) (c ∷ cs) actions replies =
+    let first : x.0 ≡ c.0 = cc actions in
+    let rest : map (λ a. a.0) marked ≡ map (λ (y : Call). y.0) cs = cc actions in
+    let reply : c.1 ≡ (acted_under m x).1 = cc replies in
+    let later : map (λ (y : Call). y.1) cs ≡ replies_of (acted_under m x).0 marked = cc replies in
+    let more = gives_all pin (acted_under m x).0 marked cs rest later in
+    let one = subst (λ (y : Action × Reply). (piece_given pin y.0 y.1 ≡ joined (piece_in pin c)) × (last_given pin y.0 y.1 ≡ list_any (λ (q : Piece). q.last) (piece_in pin c))) (λ i. (sym first i, reply i)) (gives_one pin c.0 c.1) in (
+      (λ i. one.0 i ++ more.0 i) ∙ sym (joined_both (piece_in pin c) (pieces_given pin cs)),
+      (λ i. one.1 i || more.1 i) ∙ sym (list_any-append (λ (q : Piece). q.last) (piece_in pin c) (pieces_given pin cs)),
+    )
+
+asks_all : (pin time : ℕ) (marked : List (Action × Allocation)) (cs : List Call) → map (λ a. a.0) marked ≡ map (λ (c : Call). c.0) cs → CallsAskAt pin time cs → AskAt pin time marked
+asks_all pin time [] cs actions asks = tt
+asks_all pin time (x ∷ marked) [] actions asks = absurd (clash actions)
+  where
+    clash : x.0 ∷ map (λ a. a.0) marked ≡ [] → ⊥
+    clash e = cc
+asks_all pin time (x ∷ marked) (c ∷ cs) actions asks =
+    let first : x.0 ≡ c.0 = cc actions in
+    let rest : map (λ a. a.0) marked ≡ map (λ (y : Call). y.0) cs = cc actions in
+    (subst (AsksAt pin time) (sym first) asks.0, asks_all pin time marked cs rest asks.1)
+
+-- ---- the opening
+
+granted : (k l : Machine) (at : Option ℕ) (pin place : ℕ) → MayReply k (OpenPin at) l (Pinned pin place) → acted k (OpenPin at) ≡ (l, Pinned pin place)
+unfolding acted_under may_overwrite
+granted k l at pin place (Granted, stands, is) = is
+granted k l at pin place (Denied, stands, is) = absurd (clash (ap (λ (x : Machine × Reply). x.1) is))
+  where
+    clash : Refused NoMemory ≡ Pinned pin place → ⊥
+    clash e = cc
+granted k l at pin place (LosesPins pins, stands, is) = absurd (clash stands.0)
+  where
+    clash : false ≡ true → ⊥
+    clash e = cc
+
+numbered_there : (m n : Machine) (cs : List Call) → AreNumbered m.pins → Leads m cs n → AreNumbered n.pins
+numbered_there m n cs h l = subst (λ (x : Machine). AreNumbered x.pins) (sym l.4) (numbered_after m l.0 h)
+
+abbrev TextOf : HeapSettings → IdSize → Trail → ℕ → ℕ → ℕ → List Call → Type 0
+TextOf config ids t pin place time after =
+    (rest : List ℕ) × (joined (pieces_given pin after) ++ rest ≡ dump_text ids (image_of (state_ago (t.place - place) t)) time)
+    × (list_any (λ (q : Piece). q.last) (pieces_given pin after) ≡ true → rest ≡ [])
+
+pub give_text : (config : HeapSettings) (before after : List Call) (at : Option ℕ) (pin place time : ℕ) → GiveText config before at pin place after time
+give_text config before after at pin place time legal asks =
+    let start = opening_machine config.ids config.regions config.mutators config.keep in
+    let opening_call : Call = (OpenPin at, Pinned pin place) in
+    let s = leads_split start legal.0 before (opening_call ∷ after) legal.2.leads in
+    let h = leads_head s.0 legal.0 opening_call after s.2 in
+    let by = trail_is config s.0 legal.0 legal.1 before (opening_call ∷ after) s.1 legal.2 legal.3 in
+    let numbered = numbered_there start s.0 before (opening_numbered config.ids config.regions config.mutators config.keep) s.1 in
+    let opens = opens_pin s.0 numbered at h.0 pin place (granted s.0 h.0 at pin place h.1) in
+    let ids = (dumps_leave s.0 h.0 (OpenPin at) h.1.0 (Pinned pin place) refl h.1.2).2 ∙ by.1 in
+    let told = gives_text h.0 h.2.0 pin time place (image_of (state_ago (s.0.trail.place - place) s.0.trail)) opens.2 opens.1 (asks_all pin time h.2.0 after h.2.1 asks) in
+    let all = gives_all pin h.0 h.2.0 after h.2.1 h.2.3 in
+    let text : TextOf config h.0.ids s.0.trail pin place time after = (told.0, ap (λ l. l ++ told.0) (sym all.0) ∙ told.1, λ last. told.2 (all.1 ∙ last)) in
+    subst (λ (x : IdSize × Trail). TextOf config x.0 x.1 pin place time after) (λ i. (ids i, by.0 i)) text

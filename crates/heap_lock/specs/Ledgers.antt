@@ -1,0 +1,46 @@
+-- The table of a ledger, and what goes with those who saw a beginning of it.
+use Rattle.std.specs.Prelude.{◌≡◌, List, [], ◌∷◌}
+use Rattle.atomic_table.specs.Seated.{TableId}
+use Rattle.atomic_table.specs.declared.badge.Badge.{Badge}
+use Rattle.heap_world.specs.Limits.{HeapSettings}
+use Rattle.heap_trail.specs.Machine.{Machine}
+use Rattle.heap_lock.specs.declared.entry.Entry.{Entry}
+use Rattle.heap_lock.specs.declared.ledger.Ledger.{Ledger}
+use Rattle.heap_lock.specs.declared.sight.Sight.{Sight}
+use Rattle.heap_lock.specs.declared.sight.Sight.TheVariants.{Full, Seen}
+use Rattle.heap_lock.specs.Calls.{Call, IsLedger}
+use Rattle.heap_lock.specs.Sights.{calls_of}
+
+-- the table of a ledger
+abbrev pub table_of : Ledger → TableId
+table_of l = l.table.shared.table_id
+
+-- all calls
+abbrev pub all_in : Ledger → List Call
+all_in l = calls_of l.full.me.0
+
+-- the calls of a badge
+abbrev pub calls_in : List Sight → List Call
+calls_in [] = []
+calls_in (v ∷ vs) = calls_of v
+
+-- a ledger of this table with these calls
+abbrev pub HasCalls : TableId → List Call → Ledger → Type 0
+HasCalls table calls l =
+    (table.words ≡ 1) × (table_of l ≡ table) × (l.full.table_id ≡ table)
+    × (l.full.me ≡ (Full calls, []))
+
+-- the same tables, and these calls
+abbrev pub CallsAs : Ledger → Ledger → List Call → Type 0
+CallsAs l l' calls =
+    (table_of l' ≡ table_of l) × (l'.full.table_id ≡ l.full.table_id)
+    × (l'.full.me ≡ (Full calls, []))
+
+-- these calls were seen of the ledger of this table
+abbrev pub IsSight : TableId → List Call → Badge Sight → Type 0
+IsSight table calls b = (b.table_id ≡ table) × (b.views ≡ Seen calls ∷ [])
+
+-- the ledger of this table has all calls of a heap with this machine and this chronicle
+abbrev pub HasLedger : HeapSettings → TableId → Machine → List Entry → Ledger → Type 0
+HasLedger config table m chronicle l =
+    HasCalls table (all_in l) l × IsLedger config m chronicle (all_in l)

@@ -1,0 +1,135 @@
+-- What lies under the lock, what a seat has, and what an act does to both.
+use Rattle.std.specs.Prelude.{◌≡◌, ℕ, ◌+◌, ◌<◌, ◌≤◌, ◌⊎◌, List, [], ◌∷◌, ◌++◌, length, slice_index_or}
+use mathlib.Core.Option.{some}
+use lib.ListN.{get_elem?}
+use Rattle.atomic_table.specs.Seated.{TableId}
+use Rattle.atomic_table.specs.declared.badge.Badge.{Badge}
+use Rattle.heap_class.specs.declared.Refusal.{Refusal}
+use Rattle.heap_class.specs.declared.Refusal.TheVariants.{NoMemory, ChronicleFull}
+use Rattle.heap_world.specs.Limits.{HeapSettings}
+use Rattle.heap_trail.specs.declared.Action.{Action}
+use Rattle.heap_trail.specs.declared.Reply.{Reply}
+use Rattle.heap_trail.specs.Machine.{MayReply, Machine}
+use Rattle.heap_lock.specs.declared.desk.Desk.{Desk}
+use Rattle.heap_lock.specs.declared.entry.Entry.{Entry}
+use Rattle.heap_lock.specs.declared.entry.Outcome.{Outcome}
+use Rattle.heap_lock.specs.declared.entry.Receipt.{Receipt}
+use Rattle.heap_lock.specs.declared.entry.Role.{Role}
+use Rattle.heap_lock.specs.declared.view.SeatView.{SeatView}
+use Rattle.heap_lock.specs.declared.view.SeatView.TheVariants.{Book, Share}
+use Rattle.heap_lock.specs.Limits.{chronicle_limit}
+use Rattle.heap_lock.specs.History.{entry, reply_of, opening, trail_after, IsDue, IsLegalHistory, history_trail, tally}
+use Rattle.heap_lock.specs.Tally.{tally_in}
+use Rattle.heap_lock.specs.Calls.{Call}
+
+-- a seat: its number, its role, and its share of the chronicle, each entry with its turn
+pub record Chair : Type 0 where
+  pub number : ℕ
+  pub role : Role
+  pub share : List (ℕ × Entry)
+
+-- what lies under the lock, and all calls, of which no code stores the list
+pub record LockState : Type 0 where
+  pub machine : Machine
+  pub chronicle : List Entry
+  pub ledger : List Call
+
+-- each entry names one of so many seats
+abbrev pub AllSeated : ℕ → List Entry → Type 0
+AllSeated n [] = Unit {0}
+AllSeated n (e ∷ es) = (e.seat < n) × AllSeated n es
+
+-- a table that stands for none
+abbrev pub no_table : TableId
+no_table =
+    record {
+      words = 0;
+      slots = 0;
+      views_name = 0;
+      atom = 0;
+      block = 0;
+      offset = 0;
+      slot_names = [];
+    }
+
+-- the table of seat n
+abbrev pub table_at : List TableId → ℕ → TableId
+table_at tables n = slice_index_or tables n no_table
+
+-- a badge of seat n's table that holds a share
+abbrev pub IsChair : List TableId → ℕ → Badge SeatView → Type 0
+IsChair tables n b =
+    (n < length tables) × (b.table_id ≡ table_at tables n)
+    × (b.views ≡ Share (tally_in b.views) ∷ [])
+
+-- a desk with this table, whose book has these marks
+abbrev pub IsDesk : TableId → List (ℕ × Entry) → Desk → Type 0
+IsDesk table marks d =
+    (d.table.shared.table_id.words ≡ 1) × (d.table.shared.table_id ≡ table)
+    × (d.book.table_id ≡ table) × (d.book.me ≡ (Book marks, []))
+
+-- what holds under the lock: the chronicle is a legal history of the heap's seats, the machine's trail is what it leaves,
+-- and each seat's book has its tally
+pub record IsUnderLock (config : HeapSettings) (tables : List TableId) (machine : Machine)
+    (chronicle : List Entry) (desks : List Desk) : Type 0 where
+  pub legal : IsLegalHistory config.keep (opening config) chronicle
+  pub keep : machine.keep ≡ config.keep
+  pub ids : machine.ids ≡ config.ids
+  pub folds : machine.trail ≡ history_trail config.keep (opening config) chronicle
+  pub seated : AllSeated (length tables) chronicle
+  pub count : length desks ≡ length tables
+  pub booked : (n : ℕ) (d : Desk) → get_elem? desks n ≡ some d
+      → IsDesk (table_at tables n) (tally n chronicle) d
+
+-- the machine's trail is what the chronicle leaves
+abbrev pub Folds : HeapSettings → LockState → Type 0
+Folds config k = k.machine.trail ≡ history_trail config.keep (opening config) k.chronicle
+
+-- the seat with an entry more
+abbrev pub with_entry : ℕ → Action → Outcome → Chair → Chair
+with_entry turn action answer s =
+    record s { share = s.share ++ (turn, entry s.number action answer) ∷ [] }
+
+-- what an act does to the machine: it goes on as the model says, its trail by the trail alone, and the answer is the one due there
+abbrev pub IsMoved : HeapSettings → Action → LockState → Receipt → LockState → Type 0
+IsMoved config action k r k' =
+    MayReply k.machine action k'.machine (reply_of r.answer)
+    × (k'.machine.trail ≡ trail_after config.keep k.machine.trail action)
+    × IsDue config.keep k.machine.trail (entry r.seat action r.answer)
+
+-- what it does to the rest: chronicle and share gain the entry with this answer, and the ledger gains the call
+abbrev pub IsAct : Action → LockState → Chair → Receipt → LockState → Chair → Type 0
+IsAct action k s r k' s' =
+    (k'.chronicle ≡ k.chronicle ++ entry s.number action r.answer ∷ [])
+    × (k'.ledger ≡ k.ledger ++ (action, reply_of r.answer) ∷ [])
+    × (length k.chronicle < chronicle_limit) × (r.seat ≡ s.number) × (r.turn ≡ length k'.chronicle)
+    × (s' ≡ with_entry r.turn action r.answer s)
+
+-- what the receipt of an act says of its seat
+abbrev pub IsReceived : Action → Chair → Receipt → Chair → Type 0
+IsReceived action s r s' = (r.seat ≡ s.number) × (s' ≡ with_entry r.turn action r.answer s)
+
+-- a refusal of an act that has no entry
+abbrev pub IsNoEntry : Refusal → Type 0
+IsNoEntry e = (e ≡ NoMemory) ⊎ (e ≡ ChronicleFull)
+
+-- which of the two it is tells whether the chronicle is full
+abbrev pub IsRefused : LockState → Refusal → Type 0
+IsRefused k e =
+    ((e ≡ NoMemory) × (length k.chronicle < chronicle_limit))
+    ⊎ ((e ≡ ChronicleFull) × (chronicle_limit ≤ length k.chronicle))
+
+-- some legal history of so many turns ends with this entry, and has of the seat just the share
+abbrev pub Stands : HeapSettings → Chair → ℕ → Action → Outcome → Type 0
+Stands config s turn action answer =
+    (before : List Entry)
+    × IsLegalHistory config.keep (opening config) (before ++ entry s.number action answer ∷ [])
+    × (length before + 1 ≡ turn)
+    × (tally s.number (before ++ entry s.number action answer ∷ []) ≡ s.share)
+
+-- what a dumper's action does: the machine goes on as the model says and replies this, the chronicle stays, and the ledger gains
+-- the call
+abbrev pub IsDumperAct : Action → LockState → Reply → LockState → Type 0
+IsDumperAct action k r k' =
+    MayReply k.machine action k'.machine r × (k'.chronicle ≡ k.chronicle)
+    × (k'.ledger ≡ k.ledger ++ (action, r) ∷ [])

@@ -1,0 +1,76 @@
+//! What a dumper saw of a shared heap's calls.
+ghost use Rattle.std.specs.Prelude.{◌≡◌};
+ghost use mathlib.Core.List.{IsPrefix};
+ghost use Rattle.heap_lock.specs.Calls.{IsLegalLedger};
+ghost use Rattle.heap_lock.specs.Ledgers.{calls_in, IsSight};
+
+use crate::heap::{Heap, Kept, Shared};
+use crate::sight::Sight;
+use atomic_table::Badge;
+use std::marker::{Model, PhantomData};
+use std::mem::replace;
+use std::sync::Wait;
+
+/// One who saw the first calls on a shared heap, whoever made them. Contracts see these calls, in order, dumps among them; they
+/// may be all calls of a heap. It takes no memory.
+#[derive(Drop)]
+pub struct Witness<L: Heap> {
+    sight: Badge<Sight>,
+    heap: PhantomData<L>,
+}
+
+impl<L: Heap> Model for Witness<L> {
+    ghost use Rattle.std.specs.Prelude.{List};
+    ghost use Rattle.heap_lock.specs.Calls.{Call, IsLegalLedger};
+    ghost use Rattle.heap_lock.specs.Ledgers.{calls_in, IsSight};
+
+    ghost Value = { List Call };
+
+    ghost view = { λ w. calls_in w.sight.views };
+
+    ghost invariant = { λ w. IsSight L.ledger (calls_in w.sight.views) w.sight
+        × IsLegalLedger L.config (calls_in w.sight.views) };
+}
+
+impl<L: Heap> Witness<L> {
+    /// Does nothing. Its contract says that what was seen may be all calls of a heap.
+    pub fn legal(&self)
+        ensures { IsLegalLedger L.config self.now }
+    {
+        let _ = &self.sight;
+    }
+}
+
+impl<L: Heap> Kept<L> {
+    /// Returns a witness of all calls so far. Takes no memory.
+    pub fn witness(&mut self) -> Witness<L>
+        ensures witness { result ≡ self.old.ledger }
+        ensures legal { IsLegalLedger L.config self.old.ledger }
+        ensures same { self.new ≡ self.old }
+    {
+        Witness {
+            sight: self.ledger.sight(),
+            heap: PhantomData,
+        }
+    }
+
+    /// Shows a witness all calls so far, of which it saw a beginning. Takes no memory.
+    pub fn show(&mut self, witness: &mut Witness<L>)
+        ensures witness { witness.new ≡ self.old.ledger }
+        ensures begins { IsPrefix witness.old self.old.ledger }
+        ensures legal { IsLegalLedger L.config self.old.ledger }
+        ensures same { self.new ≡ self.old }
+    {
+        let sight = replace(&mut witness.sight, Badge::blank());
+        witness.sight = self.ledger.show(sight);
+    }
+}
+
+impl<L: Heap> Shared<L> {
+    /// Returns a witness of all calls so far, under the lock. Takes no memory. May wait.
+    pub fn witness<R: Wait>(&self, rt: &R) -> Witness<L>
+        ensures { IsLegalLedger L.config result }
+    {
+        self.lock(rt).witness()
+    }
+}

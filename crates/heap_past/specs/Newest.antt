@@ -1,0 +1,53 @@
+-- The newest retained steps, and the objects that they wrote or created.
+use Rattle.std.specs.Prelude.{◌≡◌, ℕ, ◌+◌, ◌-◌, ◌*◌, ◌/◌, ◌≤◌, min, List, length, Option, Some, None, option_map, slice_get, slice_set, slice_index_or, All}
+use Rattle.heap_class.specs.declared.ObjRef.{ObjRef}
+use Rattle.heap_region.specs.Limits.{region_words}
+use Rattle.heap_region.specs.Regions.{UsedRegion, id_of, object_base, used_at}
+use Rattle.heap_world.specs.State.{HeapState}
+use Rattle.heap_step.specs.declared.Undo.{Undo}
+use Rattle.heap_step.specs.declared.Undo.TheVariants.{Put, Store, New, Reclaim}
+use Rattle.heap_trail.specs.Trail.{Trail, retained, state_ago}
+use Rattle.heap_trail.specs.Views.{HasRecord}
+use Rattle.heap_past.specs.declared.steps.PastStep.{PastStep}
+
+-- the place of the object that a step with this record wrote or created, if it did
+abbrev pub written_at : Undo → Option ObjRef
+written_at (Put at slot old) = Some at
+written_at (Store at slot old logged) = Some at
+written_at (New at fresh m r old) = Some at
+written_at left = None
+
+-- the step to the state of n steps ago: the place that it led to, and the id of the object that it wrote or created
+pub record IsPastStep (t : Trail) (n : ℕ) (s : PastStep) : Type 0 where
+  pub place : s.place ≡ t.place - n
+  pub left : Undo
+  pub recorded : HasRecord t n left
+  pub object : s.object ≡ option_map (id_of (state_ago n t).regions) (written_at left)
+
+-- the newest `count` retained steps, or all if fewer are retained, the newest first
+pub record AreNewest (t : Trail) (count : ℕ) (steps : List PastStep) : Type 0 where
+  pub many : length steps ≡ min count (retained t)
+  pub each : (n : ℕ) (s : PastStep) → slice_get steps n ≡ Some s → IsPastStep t n s
+
+-- ---- cell sizes
+
+-- the sizes of the cells of regions in use
+pub record AreSizes (w : HeapState) (sizes : List ℕ) : Type 0 where
+  pub many : length sizes ≡ length w.regions
+  pub small : All (λ s. s ≤ region_words) sizes
+  pub used : (r : ℕ) (u : UsedRegion) → used_at w.regions r ≡ Some u
+      → slice_index_or sizes r 0 ≡ u.cell_size
+
+-- the size of the cells of a region with so many, which fill it
+abbrev pub size_of : UsedRegion → ℕ
+size_of u = region_words / length u.cells
+
+-- the sizes before a step with this record, from those after it
+abbrev pub sizes_before : Undo → List ℕ → List ℕ
+sizes_before (Reclaim region storage) sizes = slice_set sizes region (size_of storage)
+sizes_before left sizes = sizes
+
+-- the id of the object at a place, by the size of its region's cells
+abbrev pub id_by : List ℕ → ObjRef → ℕ
+id_by sizes at =
+    object_base + 8 * (region_words * at.region + at.cell * slice_index_or sizes at.region 0)

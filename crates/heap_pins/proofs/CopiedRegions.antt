@@ -1,0 +1,154 @@
+-- What a pin copies is the region as it was before the step.
+use Rattle.std.proofs.Common.{◌≡◌, ◌⊎◌, ℕ, zero, suc, ◌≤◌, Bool, true, false, List, [], ◌∷◌, length, set, fold, Option, Some, None, refl, sym, ap, subst, ◌∙◌, arith, length-set}
+use mathlib.Core.Logic.{inl, inr}
+use Rattle.std.proofs.lemmas.Bool.{cases_lt}
+use Rattle.std.specs.Prelude.{slice_index_or, slice_set, option_map, is_some}
+use Rattle.std.proofs.lemmas.List.{get_or-set_same, get_or-set_other}
+use Rattle.heap_class.specs.declared.ObjRef.{ObjRef}
+use Rattle.heap_region.specs.Regions.{Object, UsedRegion, Region, InUse, used_at, with_object, with_word, updated}
+use Rattle.heap_region.specs.Layout.{word_set}
+use Rattle.heap_region.specs.Pool.{RegionPool, restored}
+use Rattle.heap_region.specs.RegionCopies.{Frozen, frozen, frozen_word_set, region_frozen}
+use Rattle.heap_region.proofs.ChangedLookups.{same_or_not}
+use Rattle.heap_region.proofs.Lookups.{used_there}
+use Rattle.heap_region.proofs.ShownRegions.{updated_cells}
+use Rattle.heap_sweep.specs.Sweep.{unswept, unswept_region}
+use Rattle.heap_world.specs.State.{HeapState, pool_of}
+use Rattle.heap_step.specs.declared.Undo.{Undo}
+use Rattle.heap_step.specs.declared.Undo.TheVariants.{Put, Store, Reg, New, Class, Snap, Mark, Drain, Finish, Sweep, Reclaim}
+use Rattle.heap_step.specs.Records.{undone}
+use Rattle.heap_pins.specs.Covers.{Covers}
+use Rattle.heap_pins.specs.Pin.{PinContents}
+use Rattle.heap_pins.specs.KeptCopies.{touched, with_dead, patched, copy_for, kept_at, kept_if, kept}
+use Rattle.heap_pins.specs.Shows.{KeepsRegion, KeepsFor}
+use Rattle.heap_pins.proofs.CoveringCopies.{covers_same, covers_none, none_left}
+
+-- ---- the touched region
+
+changed_frozen : (change : UsedRegion → UsedRegion) (patch : Frozen → Frozen) → ((u : UsedRegion) → frozen (change u) ≡ patch (frozen u)) → (x : Option UsedRegion) → option_map frozen (option_map change x) ≡ option_map patch (option_map frozen x)
+changed_frozen change patch same None = refl
+changed_frozen change patch same (Some u) = ap Some (same u)
+
+word_copied : (at : ObjRef) (slot old : ℕ) (regions : List Region) → region_frozen (with_word at slot old regions) at.region ≡ option_map (frozen_word_set at.cell slot old) (region_frozen regions at.region)
+unfolding region_frozen with_word with_object frozen_word_set
+word_copied at slot old regions =
+    ap (option_map frozen) (used_there at.region (λ u. record u { cells = updated at.cell (option_map (word_set slot old)) u.cells }) regions)
+    ∙ changed_frozen (λ u. record u { cells = updated at.cell (option_map (word_set slot old)) u.cells }) _ (λ u. ap (λ cs. let f : Frozen = record { cell_size = u.cell_size; cells = cs } in f) (updated_cells at.cell (word_set slot old) u.cells)) (used_at regions at.region)
+
+dead_back : (dead : List (ℕ × Object)) (size : ℕ) (cells : List (Option Object)) → record { cell_size = size; cells = fold (λ cells d. slice_set cells d.0 (Some d.1)) cells dead } ≡ with_dead dead (record { cell_size = size; cells = cells })
+unfolding with_dead
+dead_back [] size cells = refl
+dead_back (d ∷ dead) size cells = dead_back dead size (slice_set cells d.0 (Some d.1))
+
+sweep_copied : (region : ℕ) (dead : List (ℕ × Object)) (s : RegionPool) → region_frozen (unswept region dead s).regions region ≡ option_map (with_dead dead) (region_frozen s.regions region)
+unfolding region_frozen unswept unswept_region
+sweep_copied region dead s =
+    ap (option_map frozen) (used_there region (unswept_region dead) s.regions)
+    ∙ changed_frozen (unswept_region dead) (with_dead dead) (λ u. dead_back dead u.cell_size u.cells) (used_at s.regions region)
+
+put_back : (r : ℕ) (u : UsedRegion) (regions : List Region) → (used_at (set regions r (InUse u)) r ≡ None) ⊎ (used_at (set regions r (InUse u)) r ≡ Some u)
+unfolding used_at
+put_back r u [] = inl refl
+put_back zero u (x ∷ regions) = inr refl
+put_back (suc r) u (x ∷ regions) = put_back r u regions
+
+reclaim_copied : (region : ℕ) (storage : UsedRegion) (s : RegionPool) → Covers (region_frozen (restored region storage s).regions region) (Some (frozen storage))
+unfolding region_frozen restored
+reclaim_copied region storage s = elim (put_back region storage s.regions) [
+  | inl e ↦ covers_none _ _ (ap (option_map frozen) e)
+  | inr e ↦ covers_same _ _ (sym (ap (option_map frozen) e))
+]
+
+named : (q r : ℕ) → Some q ≡ Some r → q ≡ r
+named q r e = cc
+
+none_named : (r : ℕ) (P : Type 0) → None ≡ Some r → P
+none_named r P e = absurd (clash e)
+  where
+    clash : None ≡ Some r → ⊥
+    clash e = cc
+
+-- the copy has all of the region before the step
+pub copy_covers : (left : Undo) (v : HeapState) (r : ℕ) → touched left ≡ Some r → Covers (region_frozen (undone left v).regions r) (copy_for left v r)
+unfolding touched undone copy_for patched
+copy_covers (Put at slot old) v r t = subst (λ q. Covers (region_frozen (with_word at slot old v.regions) q) (option_map (frozen_word_set at.cell slot old) (region_frozen v.regions q))) (named at.region r t) (covers_same _ _ (sym (word_copied at slot old v.regions)))
+copy_covers (Store at slot old logged) v r t = subst (λ q. Covers (region_frozen (with_word at slot old v.regions) q) (option_map (frozen_word_set at.cell slot old) (region_frozen v.regions q))) (named at.region r t) (covers_same _ _ (sym (word_copied at slot old v.regions)))
+copy_covers (Reg m k old) v r t = none_named r _ t
+copy_covers (New at fresh m k old) v r t = none_named r _ t
+copy_covers Class v r t = none_named r _ t
+copy_covers Snap v r t = none_named r _ t
+copy_covers (Mark parent pushed) v r t = none_named r _ t
+copy_covers (Drain pushed) v r t = none_named r _ t
+copy_covers (Finish log) v r t = none_named r _ t
+copy_covers (Sweep region dead) v r t = subst (λ q. Covers (region_frozen (unswept region dead (pool_of v)).regions q) (option_map (with_dead dead) (region_frozen v.regions q))) (named region r t) (covers_same _ _ (sym (sweep_copied region dead (pool_of v))))
+copy_covers (Reclaim region storage) v r t = subst (λ q. Covers (region_frozen (restored region storage (pool_of v)).regions q) (Some (frozen storage))) (named region r t) (reclaim_copied region storage (pool_of v))
+
+-- ---- the pin with it
+
+past_end : (regions : List Region) (r : ℕ) → length regions ≤ r → region_frozen regions r ≡ None
+unfolding region_frozen used_at
+past_end [] r h = refl
+past_end (x ∷ regions) zero h = absurd (omega (arith, h))
+past_end (x ∷ regions) (suc r) h = past_end regions r (omega (arith, h))
+
+abbrev copy_at : List (Option Frozen) → ℕ → Option Frozen
+copy_at copies r = slice_index_or copies r None
+
+set_past : (copies : List (Option Frozen)) (q r : ℕ) (c : Option Frozen) → length copies ≤ q → copy_at (slice_set copies q c) r ≡ copy_at copies r
+set_past [] q r c h = refl
+set_past (x ∷ copies) zero r c h = absurd (omega (arith, h))
+set_past (x ∷ copies) (suc q) zero c h = refl
+set_past (x ∷ copies) (suc q) (suc r) c h = set_past copies q r c (omega (arith, h))
+
+not_some : (x : Option Frozen) → is_some x ≡ false → x ≡ None
+not_some None e = refl
+not_some (Some f) e = cc
+
+is_not_none : (x : Option Frozen) → is_some x ≡ true → x ≡ None → ⊥
+is_not_none None e n = cc
+is_not_none (Some f) e n = cc
+
+module _ (left : Undo) (v : HeapState) (p : PinContents) (sized : length p.copies ≡ length (undone left v).regions) where
+  each_at : (q : ℕ) → touched left ≡ Some q → (b : Bool) → is_some (copy_at p.copies q) ≡ b → (r : ℕ) → KeepsRegion p (kept_at q (copy_for left v q) b p) (undone left v) r
+  unfolding kept_at
+  each_at q t true e r = inl refl
+  each_at q t false e r = elim (same_or_not r q) [
+    | inl same ↦ elim (cases_lt q (length p.copies)) [
+      | inl lt ↦ inr (ap (copy_at p.copies) same ∙ not_some (copy_at p.copies q) e, rw same (subst (Covers (region_frozen (undone left v).regions q)) (sym (get_or-set_same p.copies q (copy_for left v q) None lt)) (copy_covers left v q t)))
+      | inr past ↦ inl (set_past p.copies q r (copy_for left v q) (omega arith))
+    ]
+    | inr ne ↦ inl (get_or-set_other p.copies q r (copy_for left v q) None ne)
+  ]
+
+  done_at : (q : ℕ) → touched left ≡ Some q → (b : Bool) → is_some (copy_at p.copies q) ≡ b → copy_at (kept_at q (copy_for left v q) b p).copies q ≡ None → region_frozen (undone left v).regions q ≡ None
+  unfolding kept_at
+  done_at q t true e none = absurd (is_not_none (copy_at p.copies q) e none)
+  done_at q t false e none = elim (cases_lt q (length p.copies)) [
+    | inl lt ↦ none_left (region_frozen (undone left v).regions q) (copy_for left v q) (sym (get_or-set_same p.copies q (copy_for left v q) None lt) ∙ none) (copy_covers left v q t)
+    | inr past ↦ past_end (undone left v).regions q (omega (arith, sized))
+  ]
+
+  alike_at : (q : ℕ) (c : Option Frozen) (b : Bool) → ((kept_at q c b p).classes ≡ p.classes) × ((kept_at q c b p).registers ≡ p.registers) × ((kept_at q c b p).live ≡ p.live) × (length (kept_at q c b p).copies ≡ length p.copies)
+  unfolding kept_at
+  alike_at q c true = (refl, refl, refl, refl)
+  alike_at q c false = (refl, refl, refl, length-set p.copies q c)
+
+  keeps_if : (x : Option ℕ) → touched left ≡ x → KeepsFor left v p (kept_if x left v p)
+  unfolding kept_if
+  keeps_if None t = record { classes = refl; registers = refl; live = refl; as_many = refl; each = λ r. inl refl; done = λ r e. none_named r _ (sym t ∙ e) }
+  keeps_if (Some q) t =
+      let b : Bool = is_some (copy_at p.copies q) in
+      let a = alike_at q (copy_for left v q) b in
+      record {
+        classes = a.0;
+        registers = a.1;
+        live = a.2;
+        as_many = a.3;
+        each = each_at q t b refl;
+        done = λ r e none. (let same : q ≡ r = named q r (sym t ∙ e) in subst (λ k. region_frozen (undone left v).regions k ≡ None) same (done_at q t b refl (subst (λ k. copy_at (kept_at q (copy_for left v q) b p).copies k ≡ None) (sym same) none)));
+      }
+
+-- a pin with a place for each region keeps what it has to
+pub kept_keeps : (left : Undo) (v : HeapState) (p : PinContents) → length p.copies ≡ length (undone left v).regions → KeepsFor left v p (kept left v p)
+unfolding kept
+kept_keeps left v p sized = keeps_if left v p sized (touched left) refl

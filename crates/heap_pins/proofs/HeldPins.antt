@@ -1,0 +1,71 @@
+-- A pin through steps and rewinds.
+use Rattle.std.proofs.Common.{◌≡◌, ℕ, zero, suc, List, [], ◌∷◌, length, take, sym, ap, ◌∙◌}
+use Rattle.heap_world.specs.State.{HeapState}
+use Rattle.heap_step.specs.declared.Undo.{Undo}
+use Rattle.heap_step.specs.Records.{undone}
+use Rattle.heap_pins.specs.Images.{image_of}
+use Rattle.heap_pins.specs.Pin.{PinContents, places_from, pin_image}
+use Rattle.heap_pins.specs.KeptCopies.{kept}
+use Rattle.heap_pins.specs.Shows.{IsPinOf, ShowsState, KeepsFor, OfFirst, Holds}
+use Rattle.heap_pins.proofs.ShownStates.{shows_before, shows_after}
+use Rattle.heap_pins.proofs.CopiedRegions.{kept_keeps}
+use Rattle.heap_pins.proofs.ShownImages.{image_is}
+
+of_weaker : (P Q : HeapState → Type 0) → ((x : HeapState) → P x → Q x) → (n : ℕ) (xs : List HeapState) → OfFirst P n xs → OfFirst Q n xs
+of_weaker P Q f n [] h = tt
+of_weaker P Q f zero (x ∷ xs) h = f x h
+of_weaker P Q f (suc n) (x ∷ xs) h = (f x h.0, of_weaker P Q f n xs h.1)
+
+of_fewer : (P : HeapState → Type 0) (n k : ℕ) (xs : List HeapState) → OfFirst P n xs → OfFirst P n (take k xs)
+of_fewer P n zero [] h = tt
+of_fewer P n zero (x ∷ xs) h = tt
+of_fewer P n (suc k) [] h = tt
+of_fewer P zero (suc k) (x ∷ xs) h = h
+of_fewer P (suc n) (suc k) (x ∷ xs) h = (h.0, of_fewer P n k xs h.1)
+
+pub first_of : (P : HeapState → Type 0) (n : ℕ) (x : HeapState) (xs : List HeapState) → OfFirst P n (x ∷ xs) → P x
+first_of P zero x xs h = h
+first_of P (suc n) x xs h = h.0
+
+-- what the pin shows is the image of its state
+pub held_image : (p : PinContents) (u : HeapState) (n : ℕ) (w : HeapState) (past : List HeapState) → Holds p u n (w ∷ past) → pin_image p w ≡ image_of u
+held_image p u n w past h = image_is p u w h.pin (first_of (ShowsState p u) n w past h.shows)
+
+-- the pin keeps what it has to
+still_pin : (left : Undo) (v : HeapState) (p q : PinContents) (u : HeapState) → KeepsFor left v p q → IsPinOf p u → IsPinOf q u
+still_pin left v p q u k i = record {
+  legal = i.legal;
+  classes = k.classes ∙ i.classes;
+  registers = k.registers ∙ i.registers;
+  live = ap (places_from 0) k.live ∙ i.live;
+  bytes = ap length k.live ∙ i.bytes;
+  copies = k.as_many ∙ i.copies;
+}
+
+-- a step that left this record and the state v, of which k states are retained
+pub pin_stepped : (left : Undo) (v : HeapState) (p : PinContents) (u : HeapState) (n k : ℕ) (past : List HeapState) → Holds p u n (undone left v ∷ past) → Holds (kept left v p) u (suc n) (v ∷ take k (undone left v ∷ past))
+pin_stepped left v p u n k past h =
+    let w : HeapState = undone left v in
+    let q : PinContents = kept left v p in
+    let before : ShowsState p u w = first_of (ShowsState p u) n w past h.shows in
+    let keeps : KeepsFor left v p q = kept_keeps left v p (h.pin.copies ∙ sym before.count) in
+    record {
+      pin = still_pin left v p q u keeps h.pin;
+      shows = (
+        shows_after left v p q u keeps before,
+        of_fewer (ShowsState q u) n k (w ∷ past) (of_weaker (ShowsState p u) (ShowsState q u) (λ x. shows_before left v p q u x keeps before) n (w ∷ past) h.shows),
+      );
+    }
+
+-- its image stays
+pub stepped_image : (left : Undo) (v : HeapState) (p : PinContents) (u : HeapState) (n k : ℕ) (past : List HeapState) → Holds p u n (undone left v ∷ past) → pin_image (kept left v p) v ≡ pin_image p (undone left v)
+stepped_image left v p u n k past h =
+    held_image (kept left v p) u (suc n) v (take k (undone left v ∷ past)) (pin_stepped left v p u n k past h)
+    ∙ sym (held_image p u n (undone left v) past h)
+
+-- a rewind of one step that isn't older than the pin
+pub pin_rewound : (p : PinContents) (u : HeapState) (n : ℕ) (w v : HeapState) (past : List HeapState) → Holds p u (suc n) (w ∷ v ∷ past) → Holds p u n (v ∷ past)
+pin_rewound p u n w v past h = record { pin = h.pin; shows = h.shows.1 }
+
+pub rewound_image : (p : PinContents) (u : HeapState) (n : ℕ) (w v : HeapState) (past : List HeapState) → Holds p u (suc n) (w ∷ v ∷ past) → pin_image p v ≡ pin_image p w
+rewound_image p u n w v past h = held_image p u n v past (pin_rewound p u n w v past h) ∙ sym (held_image p u (suc n) w (v ∷ past) h)

@@ -1,0 +1,83 @@
+-- A pin that keeps what steps overwrite goes on showing its state.
+use Rattle.std.proofs.Common.{◌≡◌, ◌≢◌, ◌⊎◌, ℕ, ◌≤◌, length, take, Option, Some, None, refl, sym, ap, subst, ◌∙◌, List, arith, length-take}
+use mathlib.Core.Logic.{inl, inr}
+use Rattle.std.specs.Prelude.{slice_index_or}
+use Rattle.std.proofs.lemmas.List.{take-take}
+use Rattle.heap_class.specs.Classes.{Class}
+use Rattle.heap_region.proofs.ChangedLookups.{same_or_not}
+use Rattle.heap_region.specs.RegionCopies.{Frozen, region_frozen}
+use Rattle.heap_world.specs.State.{HeapState}
+use Rattle.heap_step.specs.declared.Undo.{Undo}
+use Rattle.heap_step.specs.Records.{undone}
+use Rattle.heap_pins.specs.Covers.{Covers}
+use Rattle.heap_pins.specs.KeptCopies.{touched}
+use Rattle.heap_pins.specs.Pin.{PinContents, copy_or_now, region_seen}
+use Rattle.heap_pins.specs.Shows.{ShowsState, KeepsFor}
+use Rattle.heap_pins.proofs.CoveringCopies.{covers_none, covers_then, none_left}
+use Rattle.heap_pins.proofs.Classes.{record_extends}
+use Rattle.heap_pins.proofs.Others.{keeps_others, length_undone}
+
+pub option_or_not : (x : Option ℕ) (r : ℕ) → (x ≡ Some r) ⊎ (x ≢ Some r)
+option_or_not None r = inr (λ e. clash e)
+  where
+    clash : None ≡ Some r → ⊥
+    clash e = cc
+option_or_not (Some q) r = elim (same_or_not q r) [ inl e ↦ inl (ap Some e) | inr ne ↦ inr (λ e. ne (cc e)) ]
+
+none_covered : (u before : Option Frozen) → Covers before None → Covers u before → u ≡ None
+none_covered u before c s = none_left u before (none_left before None refl c) s
+
+-- ---- a region
+
+-- what covers the region before the step covers it in every state beside which the pin shows as much
+kept_region : (a b now before then' : Option Frozen) → (b ≡ a) ⊎ ((a ≡ None) × Covers before b) → Covers then' (copy_or_now a before) → Covers then' (copy_or_now a now) → Covers then' (copy_or_now b now)
+kept_region a b now before u (inl e) shows here = subst (λ x. Covers u (copy_or_now x now)) (sym e) here
+kept_region a b now before u (inr k) shows here = go b k.1 (subst (λ x. Covers u (copy_or_now x before)) k.0 shows)
+  where
+    go : (b : Option Frozen) → Covers before b → Covers u before → Covers u (copy_or_now b now)
+    go None c s = covers_none u now (none_covered u before c s)
+    go (Some g) c s = covers_then u before (Some g) s c
+
+-- ---- states before
+
+-- a state beside which the old pin shows u, while it shows it too before the step
+pub shows_before : (left : Undo) (v : HeapState) (p q : PinContents) (u x : HeapState) → KeepsFor left v p q → ShowsState p u (undone left v) → ShowsState p u x → ShowsState q u x
+unfolding region_seen
+shows_before left v p q u x k before here = record {
+  count = here.count;
+  classes = here.classes;
+  objects = λ r. kept_region (slice_index_or p.copies r None) (slice_index_or q.copies r None) (region_frozen x.regions r) (region_frozen (undone left v).regions r) (region_frozen u.regions r) (k.each r) (before.objects r) (here.objects r);
+}
+
+-- ---- the state after
+
+-- the first classes of the first classes
+pub first_classes : (us ws vs : List Class) → take (length us) ws ≡ us → take (length ws) vs ≡ ws → take (length us) vs ≡ us
+first_classes us ws vs e f =
+    let few : length us ≤ length ws = omega (arith, length-take (length us) ws, ap length e) in
+    sym (take-take (length us) (length ws) vs few) ∙ ap (take (length us)) f ∙ e
+
+pub shows_after : (left : Undo) (v : HeapState) (p q : PinContents) (u : HeapState) → KeepsFor left v p q → ShowsState p u (undone left v) → ShowsState q u v
+unfolding region_seen
+shows_after left v p q u k before = record {
+  count = length_undone left v ∙ before.count;
+  classes = first_classes u.classes w.classes v.classes before.classes (record_extends left v);
+  objects = λ r. objects r (slice_index_or q.copies r None) refl;
+}
+  where
+    w : HeapState
+    w = undone left v
+
+    shown : (r : ℕ) → Covers (region_frozen u.regions r) (copy_or_now (slice_index_or q.copies r None) (region_frozen w.regions r))
+    shown r = (shows_before left v p q u w k before before).objects r
+
+    objects : (r : ℕ) (b : Option Frozen) → slice_index_or q.copies r None ≡ b → Covers (region_frozen u.regions r) (copy_or_now (slice_index_or q.copies r None) (region_frozen v.regions r))
+    objects r (Some g) e = rw e (rw e at (shown r))
+    objects r None e = rw e (go (option_or_not (touched left) r))
+      where
+        here : Covers (region_frozen u.regions r) (region_frozen w.regions r)
+        here = rw e at (shown r)
+
+        go : (touched left ≡ Some r) ⊎ (touched left ≢ Some r) → Covers (region_frozen u.regions r) (region_frozen v.regions r)
+        go (inl t) = covers_none _ _ (none_left (region_frozen u.regions r) (region_frozen w.regions r) (k.done r t e) here)
+        go (inr t) = covers_then (region_frozen u.regions r) (region_frozen w.regions r) (region_frozen v.regions r) here (keeps_others left v r t)

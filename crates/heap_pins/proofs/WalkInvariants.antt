@@ -1,0 +1,64 @@
+-- Walking back, a pin goes on showing its state beside all that came since, and beside that state itself.
+use Rattle.std.proofs.Common.{◌≡◌, ◌≢◌, ◌⊎◌, ℕ, zero, suc, List, [], ◌∷◌, Option, Some, None, refl, sym, subst, ◌∙◌}
+use mathlib.Core.Logic.{inl, inr}
+use Rattle.std.specs.Prelude.{slice_index_or, slice_get}
+use Rattle.heap_region.specs.RegionCopies.{Frozen, region_frozen}
+use Rattle.heap_world.specs.State.{HeapState}
+use Rattle.heap_step.specs.declared.Undo.{Undo}
+use Rattle.heap_step.specs.Records.{undone}
+use Rattle.heap_pins.specs.Covers.{Covers}
+use Rattle.heap_pins.specs.KeptCopies.{touched}
+use Rattle.heap_pins.specs.Pin.{PinContents, copy_or_now, region_seen}
+use Rattle.heap_pins.specs.Shows.{ShowsState, OfFirst}
+use Rattle.heap_pins.specs.Walk.{WalksFor}
+use Rattle.heap_pins.proofs.Classes.{record_extends, all_taken}
+use Rattle.heap_pins.proofs.CoveringCopies.{covers_same, covers_none, covers_then, none_left}
+use Rattle.heap_pins.proofs.Others.{keeps_others, length_undone}
+use Rattle.heap_pins.proofs.ShownStates.{option_or_not, first_classes}
+use Rattle.heap_pins.proofs.WalkSteps.{walked_covers}
+
+-- a copy that covers a region does so beside any state
+copy_seen : (a g now : Option Frozen) → Covers a g → Covers a (copy_or_now g now)
+copy_seen a (Some f) now h = h
+copy_seen a None now h = covers_none a now (none_left a None refl h)
+
+-- beside a state that came since, and the current one is such a state
+pub walk_shows : (left : Undo) (x w s : HeapState) (p q : PinContents) → WalksFor left w p q → ShowsState p x w → ShowsState p x s → ShowsState q (undone left x) s
+unfolding region_seen
+walk_shows left x w s p q k now here = record {
+  count = here.count ∙ length_undone left x;
+  classes = first_classes (undone left x).classes x.classes s.classes (record_extends left x) here.classes;
+  objects = λ r. go r (option_or_not (touched left) r);
+}
+  where
+    go : (r : ℕ) → (touched left ≡ Some r) ⊎ (touched left ≢ Some r) → Covers (region_frozen (undone left x).regions r) (copy_or_now (slice_index_or q.copies r None) (region_frozen s.regions r))
+    go r (inl t) = subst (λ g. Covers (region_frozen (undone left x).regions r) (copy_or_now g (region_frozen s.regions r))) (sym (k.patched_region r t))
+        (copy_seen _ _ _ (walked_covers left x r (region_seen p w.regions r) t (now.objects r)))
+    go r (inr t) = subst (λ g. Covers (region_frozen (undone left x).regions r) (copy_or_now g (region_frozen s.regions r))) (sym (k.others r t))
+        (covers_then _ _ _ (keeps_others left x r t) (here.objects r))
+
+-- beside the state itself
+pub walk_itself : (left : Undo) (x w : HeapState) (p q : PinContents) → WalksFor left w p q → ShowsState p x w → ShowsState p x x → ShowsState q (undone left x) (undone left x)
+unfolding region_seen
+walk_itself left x w p q k now here = record {
+  count = refl;
+  classes = all_taken (undone left x).classes;
+  objects = λ r. go r (option_or_not (touched left) r);
+}
+  where
+    kept : (r : ℕ) (g : Option Frozen) → Covers (region_frozen (undone left x).regions r) (region_frozen x.regions r) → Covers (region_frozen x.regions r) (copy_or_now g (region_frozen x.regions r)) → Covers (region_frozen (undone left x).regions r) (copy_or_now g (region_frozen (undone left x).regions r))
+    kept r (Some f) a b = covers_then _ _ _ a b
+    kept r None a b = covers_same _ _ refl
+
+    go : (r : ℕ) → (touched left ≡ Some r) ⊎ (touched left ≢ Some r) → Covers (region_frozen (undone left x).regions r) (copy_or_now (slice_index_or q.copies r None) (region_frozen (undone left x).regions r))
+    go r (inl t) = subst (λ g. Covers (region_frozen (undone left x).regions r) (copy_or_now g (region_frozen (undone left x).regions r))) (sym (k.patched_region r t))
+        (copy_seen _ _ _ (walked_covers left x r (region_seen p w.regions r) t (now.objects r)))
+    go r (inr t) = subst (λ g. Covers (region_frozen (undone left x).regions r) (copy_or_now g (region_frozen (undone left x).regions r))) (sym (k.others r t))
+        (kept r (slice_index_or p.copies r None) (keeps_others left x r t) (here.objects r))
+
+-- of the first n + 1 states, and of the next
+pub of_one_more : (P Q : HeapState → Type 0) → ((s : HeapState) → P s → Q s) → (n : ℕ) (xs : List HeapState) → OfFirst P n xs → ((u : HeapState) → slice_get xs (suc n) ≡ Some u → Q u) → OfFirst Q (suc n) xs
+of_one_more P Q f n [] h next = tt
+of_one_more P Q f zero (x ∷ []) h next = (f x h, tt)
+of_one_more P Q f zero (x ∷ (y ∷ xs)) h next = (f x h, next y refl)
+of_one_more P Q f (suc n) (x ∷ xs) h next = (f x h.0, of_one_more P Q f n xs h.1 next)

@@ -1,0 +1,98 @@
+-- Walking back: a copy that has all of a region has, once patched, all of the region before the step.
+use Rattle.std.proofs.Common.{◌≡◌, ℕ, zero, suc, List, [], ◌∷◌, length, set, Option, Some, None, refl, sym, ap, subst, ◌∙◌, arith, length-set}
+use Rattle.std.specs.Prelude.{slice_index_or, slice_set, option_map}
+use Rattle.heap_region.specs.Regions.{Object}
+use Rattle.heap_region.specs.Layout.{word_set}
+use Rattle.heap_region.specs.RegionCopies.{Frozen, frozen_object, frozen_with, frozen_word_set, region_frozen}
+use Rattle.heap_world.specs.State.{HeapState}
+use Rattle.heap_step.specs.declared.Undo.{Undo}
+use Rattle.heap_step.specs.declared.Undo.TheVariants.{Put, Store, Reg, New, Class, Snap, Mark, Drain, Finish, Sweep, Reclaim}
+use Rattle.heap_step.specs.Records.{undone}
+use Rattle.heap_pins.specs.Covers.{HasAll, Covers}
+use Rattle.heap_pins.specs.KeptCopies.{touched, with_dead, patched, copy_for}
+use Rattle.heap_pins.specs.Walk.{walked_copy}
+use Rattle.heap_pins.proofs.CoveringCopies.{covers_then}
+use Rattle.heap_pins.proofs.CopiedRegions.{copy_covers}
+
+-- what stands in a cell of both stands so after both are written there
+abbrev Stands : List (Option Object) → List (Option Object) → Type 0
+Stands fs gs = (c : ℕ) (o : Object) → slice_index_or fs c None ≡ Some o → (p : Object) × (slice_index_or gs c None ≡ Some p) × (p.kind ≡ o.kind) × (p.words ≡ o.words)
+
+written : (fs gs : List (Option Object)) (i : ℕ) (x y : Option Object) → length gs ≡ length fs → Stands fs gs → ((o : Object) → x ≡ Some o → (p : Object) × (y ≡ Some p) × (p.kind ≡ o.kind) × (p.words ≡ o.words)) → Stands (set fs i x) (set gs i y)
+written [] gs i x y same h at c o e = absurd (clash e)
+  where
+    clash : None ≡ Some o → ⊥
+    clash e = cc
+written (f ∷ fs) [] i x y same h at c o e = cc
+written (f ∷ fs) (g ∷ gs) zero x y same h at zero o e = at o e
+written (f ∷ fs) (g ∷ gs) zero x y same h at (suc c) o e = h (suc c) o e
+written (f ∷ fs) (g ∷ gs) (suc i) x y same h at zero o e = h zero o e
+written (f ∷ fs) (g ∷ gs) (suc i) x y same h at (suc c) o e = written fs gs i x y (omega (arith, same)) (λ c. h (suc c)) at c o e
+
+word_at : (f g : Frozen) (cell slot word : ℕ) → HasAll f g → HasAll (frozen_word_set cell slot word f) (frozen_word_set cell slot word g)
+unfolding frozen_word_set
+word_at f g cell slot word h = record {
+  size = h.size;
+  count = length-set g.cells cell _ ∙ h.count ∙ sym (length-set f.cells cell _);
+  objects = written f.cells g.cells cell _ _ h.count h.objects (λ o. go (frozen_object f cell) (frozen_object g cell) (h.objects cell) o);
+}
+  where
+    go : (x y : Option Object) → ((o : Object) → x ≡ Some o → (p : Object) × (y ≡ Some p) × (p.kind ≡ o.kind) × (p.words ≡ o.words)) → (o : Object) → option_map (word_set slot word) x ≡ Some o
+        → (p : Object) × (option_map (word_set slot word) y ≡ Some p) × (p.kind ≡ o.kind) × (p.words ≡ o.words)
+    go None y at o e = absurd (clash e)
+      where
+        clash : None ≡ Some o → ⊥
+        clash e = cc
+    go (Some x) y at o e =
+        let p = at x refl in
+        let s : word_set slot word x ≡ o = cc in
+        (word_set slot word p.0, ap (option_map (word_set slot word)) p.1, p.2 ∙ ap (λ (o : Object). o.kind) s, ap (λ ws. slice_set ws slot word) p.3 ∙ ap (λ (o : Object). o.words) s)
+
+dead_at : (dead : List (ℕ × Object)) (f g : Frozen) → HasAll f g → HasAll (with_dead dead f) (with_dead dead g)
+unfolding with_dead
+dead_at [] f g h = h
+dead_at (d ∷ dead) f g h = dead_at dead (frozen_with d.0 (Some d.1) f) (frozen_with d.0 (Some d.1) g) (record {
+  size = h.size;
+  count = length-set g.cells d.0 (Some d.1) ∙ h.count ∙ sym (length-set f.cells d.0 (Some d.1));
+  objects = written f.cells g.cells d.0 (Some d.1) (Some d.1) h.count h.objects (λ o e. (o, e, refl, refl));
+})
+
+-- of a record that has no region of its own
+has_patched : (left : Undo) (f g : Frozen) → HasAll f g → HasAll (patched left f) (patched left g)
+unfolding patched
+has_patched (Put at slot old) f g h = word_at f g at.cell slot old h
+has_patched (Store at slot old logged) f g h = word_at f g at.cell slot old h
+has_patched (Sweep region dead) f g h = dead_at dead f g h
+has_patched (Reg m k old) f g h = h
+has_patched (New at fresh m k old) f g h = h
+has_patched Class f g h = h
+has_patched Snap f g h = h
+has_patched (Mark parent pushed) f g h = h
+has_patched (Drain pushed) f g h = h
+has_patched (Finish log) f g h = h
+has_patched (Reclaim region storage) f g h = h
+
+patched_covers : (left : Undo) (a b : Option Frozen) → Covers a b → Covers (option_map (patched left) a) (option_map (patched left) b)
+patched_covers left None b h f e = absurd (clash e)
+  where
+    clash : None ≡ Some f → ⊥
+    clash e = cc
+patched_covers left (Some x) b h f e =
+    let c = h x refl in
+    let s : patched left x ≡ f = cc in
+    (patched left c.0, ap (option_map (patched left)) c.1, subst (λ z. HasAll z (patched left c.0)) s (has_patched left x c.0 c.2))
+
+-- the pin's part of the touched region, of which it had all after the step, has all before it once patched
+pub walked_covers : (left : Undo) (x : HeapState) (r : ℕ) (g : Option Frozen) → touched left ≡ Some r → Covers (region_frozen x.regions r) g → Covers (region_frozen (undone left x).regions r) (walked_copy left g)
+unfolding walked_copy copy_for
+walked_covers (Reclaim region storage) x r g t h = copy_covers (Reclaim region storage) x r t
+walked_covers (Put at slot old) x r g t h = covers_then _ _ _ (copy_covers (Put at slot old) x r t) (patched_covers (Put at slot old) (region_frozen x.regions r) g h)
+walked_covers (Store at slot old logged) x r g t h = covers_then _ _ _ (copy_covers (Store at slot old logged) x r t) (patched_covers (Store at slot old logged) (region_frozen x.regions r) g h)
+walked_covers (Sweep region dead) x r g t h = covers_then _ _ _ (copy_covers (Sweep region dead) x r t) (patched_covers (Sweep region dead) (region_frozen x.regions r) g h)
+walked_covers (Reg m k old) x r g t h = covers_then _ _ _ (copy_covers (Reg m k old) x r t) (patched_covers (Reg m k old) (region_frozen x.regions r) g h)
+walked_covers (New at fresh m k old) x r g t h = covers_then _ _ _ (copy_covers (New at fresh m k old) x r t) (patched_covers (New at fresh m k old) (region_frozen x.regions r) g h)
+walked_covers Class x r g t h = covers_then _ _ _ (copy_covers Class x r t) (patched_covers Class (region_frozen x.regions r) g h)
+walked_covers Snap x r g t h = covers_then _ _ _ (copy_covers Snap x r t) (patched_covers Snap (region_frozen x.regions r) g h)
+walked_covers (Mark parent pushed) x r g t h = covers_then _ _ _ (copy_covers (Mark parent pushed) x r t) (patched_covers (Mark parent pushed) (region_frozen x.regions r) g h)
+walked_covers (Drain pushed) x r g t h = covers_then _ _ _ (copy_covers (Drain pushed) x r t) (patched_covers (Drain pushed) (region_frozen x.regions r) g h)
+walked_covers (Finish log) x r g t h = covers_then _ _ _ (copy_covers (Finish log) x r t) (patched_covers (Finish log) (region_frozen x.regions r) g h)

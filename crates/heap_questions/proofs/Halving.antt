@@ -1,0 +1,90 @@
+-- Finding a node by halves.
+use Rattle.std.proofs.Common.{◌≡◌, ◌≢◌, ℕ, ◌+◌, ◌-◌, ◌<◌, ◌≤◌, false, cond, List, length, get_or, sym, ap, subst, ◌∙◌, inl, inr, arith}
+use Rattle.std.specs.Prelude.{slice_get, Some, None, ◌==◌}
+use Rattle.std.specs.List.{position_or_len}
+use Rattle.std.proofs.lemmas.Option.{slice_get_within, slice_get-get_or, get_or_from_slice_get}
+use Rattle.std.proofs.lemmas.List.Sums.{position_or_len_is}
+use Rattle.std.proofs.lemmas.Bool.{cases_eq, eq-eqb, ne_eqb, le-ltb, cases_lt}
+use Rattle.heap_questions.specs.Search.{AreBelow, AreFrom, AreRising, node_with}
+use Rattle.heap_questions.specs.declared.nodes.Node.{Node}
+use Rattle.heap_questions.proofs.Got.{got_same}
+use Rattle.heap_questions.proofs.Placed.{place_found}
+
+-- the first n nodes rise
+abbrev pub AreRisingTo : List Node → ℕ → Type 0
+AreRisingTo nodes n = (i j : ℕ) (a b : Node) → i ≤ j → j < n → slice_get nodes i ≡ Some a → slice_get nodes j ≡ Some b → a.id ≤ b.id
+
+pub rising_one : (nodes : List Node) → AreRisingTo nodes 1
+rising_one nodes i j a b l m p q =
+    let z : i ≡ j = omega (arith, l, m) in
+    let e : a ≡ b = got_same nodes j a b (ap (slice_get nodes) (sym z) ∙ p) q in
+    let d : a.id ≡ b.id = ap (λ (n : Node). n.id) e in
+    omega (arith, d)
+
+pub rising_more : (nodes : List Node) (i : ℕ) (d : Node) → 1 ≤ i → i < length nodes → AreRisingTo nodes i → (get_or nodes (i - 1) d).id ≤ (get_or nodes i d).id → AreRisingTo nodes (i + 1)
+rising_more nodes i d one lt h le j k a b l m p q =
+    elim (cases_eq k i) [
+      | inl z ↦
+          let be : get_or nodes i d ≡ b = ap (λ n. get_or nodes n d) (sym z) ∙ get_or_from_slice_get nodes k b d q in
+          let bd : (get_or nodes i d).id ≡ b.id = ap (λ (n : Node). n.id) be in
+          elim (cases_eq j i) [
+            | inl y ↦
+                let ae : get_or nodes i d ≡ a = ap (λ n. get_or nodes n d) (sym y) ∙ get_or_from_slice_get nodes j a d p in
+                let ad : (get_or nodes i d).id ≡ a.id = ap (λ (n : Node). n.id) ae in
+                omega (arith, ad, bd)
+            | inr y ↦
+                let w = h j (i - 1) a (get_or nodes (i - 1) d) (omega (arith, l, y, z)) (omega (arith, one)) p (slice_get-get_or nodes (i - 1) d (omega (arith, lt, one))) in
+                omega (arith, w, le, bd)
+          ]
+      | inr z ↦ h j k a b l (omega (arith, m, z)) p q
+    ]
+
+pub rising_all : (nodes : List Node) (n : ℕ) → length nodes ≤ n → AreRisingTo nodes n → AreRising nodes
+rising_all nodes n l h i j a b le p q = h i j a b le (omega (arith, l, slice_get_within nodes j b q)) p q
+
+-- ---- halves
+
+pub more_below : (nodes : List Node) (m x : ℕ) (d : Node) → AreRising nodes → m < length nodes → (get_or nodes m d).id < x → AreBelow nodes (m + 1) x
+more_below nodes m x d r lt h k n l e =
+    let w = r k m n (get_or nodes m d) (omega (arith, l)) e (slice_get-get_or nodes m d lt) in
+    omega (arith, w, h)
+
+pub more_from : (nodes : List Node) (m x : ℕ) (d : Node) → AreRising nodes → m < length nodes → x ≤ (get_or nodes m d).id → AreFrom nodes m x
+more_from nodes m x d r lt h k n l e =
+    let w = r m k (get_or nodes m d) n l (slice_get-get_or nodes m d lt) e in
+    omega (arith, w, h)
+
+before : (nodes : List Node) (first x k : ℕ) (d : Node) → AreBelow nodes first x → first ≤ length nodes → k < first → ((get_or nodes k d).id == x) ≡ false
+before nodes first x k d b l lt =
+    let h = b k (get_or nodes k d) lt (slice_get-get_or nodes k d (omega (arith, l, lt))) in
+    ne_eqb _ x (λ e. absurd (omega (arith, h, e)))
+
+pub found_by_halves : (nodes : List Node) (first x : ℕ) (d : Node) → AreBelow nodes first x → first < length nodes → (get_or nodes first d).id ≡ x → Some first ≡ node_with nodes x
+found_by_halves nodes first x d b l e =
+    let at : position_or_len (λ n. n.id == x) nodes ≡ first = position_or_len_is (λ n. n.id == x) nodes first d (omega (arith, l)) (λ k h. before nodes first x k d b (omega (arith, l)) h) (λ h. eq-eqb _ x e) in
+    sym (place_found (λ n. n.id == x) nodes (omega (arith, at, l)) ∙ ap Some at)
+
+pub none_by_halves : (nodes : List Node) (first x : ℕ) (d : Node) → AreBelow nodes first x → AreFrom nodes first x → first ≤ length nodes → (first < length nodes → (get_or nodes first d).id ≢ x) → AreRising nodes → None ≡ node_with nodes x
+none_by_halves nodes first x d b f l ne r =
+    let at : position_or_len (λ n. n.id == x) nodes ≡ length nodes = position_or_len_is (λ n. n.id == x) nodes (length nodes) d (omega arith) (λ k h. elim (cases_lt k first) [
+      | inl lt ↦ before nodes first x k d b l lt
+      | inr ge ↦
+          let here = slice_get-get_or nodes first d (omega (arith, h, ge)) in
+          let w = r first k (get_or nodes first d) (get_or nodes k d) ge here (slice_get-get_or nodes k d h) in
+          let g = f first (get_or nodes first d) (omega arith) here in
+          ne_eqb _ x (λ e. ne (omega (arith, h, ge)) (omega (arith, w, g, e)))
+    ]) (λ h. absurd (omega (arith, h))) in
+    sym (ap (λ b. cond b (Some (position_or_len (λ n. n.id == x) nodes)) None) (le-ltb _ _ (omega (arith, at))))
+
+-- ---- a guess
+
+pub none_below : (nodes : List Node) (p x : ℕ) → p ≡ 0 → AreBelow nodes p x
+none_below nodes p x z k n l e = absurd (omega (arith, z, l))
+
+pub all_below : (nodes : List Node) (p x : ℕ) (d : Node) → AreRising nodes → p ≢ 0 → p ≤ length nodes → (get_or nodes (p - 1) d).id < x → AreBelow nodes p x
+all_below nodes p x d r nz l h =
+    let one : p - 1 + 1 ≡ p = omega (arith, nz) in
+    subst (λ q. AreBelow nodes q x) one (more_below nodes (p - 1) x d r (omega (arith, nz, l)) h)
+
+pub none_from : (nodes : List Node) (p x : ℕ) → p ≡ length nodes → AreFrom nodes p x
+none_from nodes p x z k n l e = absurd (omega (arith, z, l, slice_get_within nodes k n e))

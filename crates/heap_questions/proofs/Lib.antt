@@ -1,0 +1,13 @@
+pub mod Got
+pub mod Placed
+pub mod Searching
+pub mod Traced
+pub mod Counting
+pub mod Passing
+pub mod Looking
+pub mod Halving
+pub mod Reaching
+pub mod Named
+pub mod Ranked
+pub mod SearchOrder
+pub mod PathOrder

@@ -1,0 +1,149 @@
+-- Looking at the slots of what was found, and at the registers.
+use Rattle.std.proofs.Common.{◌≡◌, ℕ, ◌+◌, ◌<◌, ◌≤◌, Bool, true, false, cond, List, length, get_or, refl, sym, ap, ◌∙◌, subst, inl, inr, arith}
+use Rattle.std.specs.Prelude.{slice_get, Some, None, option_and_then}
+use Rattle.std.proofs.lemmas.Option.{none-some, same_Some, slice_get_within, slice_get-get_or}
+use Rattle.std.proofs.lemmas.Bool.{cases_eq, cases_Bool}
+use Rattle.heap_class.specs.declared.ObjRef.{ObjRef}
+use Rattle.heap_class.specs.Classes.{Class}
+use Rattle.hprof_text.specs.Image.{Image, DumpedObject}
+use Rattle.hprof_text.proofs.Loops.{some_item}
+use Rattle.heap_questions.specs.Graph.{HasId, is_reference_slot, named, object_with, slot_names}
+use Rattle.heap_questions.specs.Search.{AreNodes, HasAllRoots, HasRoots, HasChildren, IsFound, IsNear, IsOffered, IsOrdered, IsSearching, IsWithin, node_with}
+use Rattle.heap_questions.specs.declared.nodes.Node.{Node}
+use Rattle.heap_questions.specs.declared.search.Found.{Found}
+use Rattle.heap_questions.specs.declared.search.Via.TheVariants.{Register, Slot}
+use Rattle.heap_questions.proofs.Placed.{node_place, node_within, object_of_node}
+use Rattle.heap_questions.proofs.SearchOrder.{next_register, next_slot, ordered_more, ordered_next, registers_looked_at, slots_looked_at}
+use Rattle.heap_questions.proofs.Searching.{IsKept, kept, stepped}
+
+-- ---- the slots of an object
+
+pub named_is : (image : Image) (x s : ℕ) (o : DumpedObject) → object_with image x ≡ Some o → named image x s ≡ slot_names image.classes o s
+unfolding named
+named_is image x s o e = ap (option_and_then (λ o. slot_names image.classes o s)) e
+
+pub slot_is : (classes : List Class) (o : DumpedObject) (s w : ℕ) → s < length o.words → w ≡ get_or o.words s w → is_reference_slot classes o.kind s ≡ true → slot_names classes o s ≡ Some w
+unfolding slot_names
+slot_is classes o s w h e r = ap (λ b. cond b (slice_get o.words s) None) r ∙ slice_get-get_or o.words s w h ∙ ap Some (sym e)
+
+pub slot_is_none : (classes : List Class) (o : DumpedObject) (s : ℕ) → is_reference_slot classes o.kind s ≡ false → slot_names classes o s ≡ None
+unfolding slot_names
+slot_is_none classes o s r = ap (λ b. cond b (slice_get o.words s) None) r
+
+pub slot_within : (classes : List Class) (o : DumpedObject) (s y : ℕ) → slot_names classes o s ≡ Some y → s < length o.words
+unfolding slot_names
+slot_within classes o s y h =
+    elim (cases_Bool (is_reference_slot classes o.kind s)) [
+      | inl t ↦ slice_get_within o.words s y (sym (ap (λ b. cond b (slice_get o.words s) None) t) ∙ h)
+      | inr f ↦ absurd (none-some y (sym (ap (λ b. cond b (slice_get o.words s) None) f) ∙ h))
+    ]
+
+-- ---- what was found and its object
+
+-- what was found stands at node `f.node`, which is this object's
+pub record StandsFor (image : Image) (places : List ObjRef) (nodes : List Node) (f : Found) (at : ObjRef) : Type 0 where
+  pub within : f.node < length nodes
+  pub placed : slice_get places f.node ≡ Some at
+  pub object : object_with image f.id ≡ slice_get image.objects f.node
+
+pub stands : (image : Image) (places : List ObjRef) (nodes : List Node) (f : Found) (at : ObjRef) → AreNodes image places nodes → node_with nodes f.id ≡ Some f.node → ((n : Node) → slice_get nodes f.node ≡ Some n → at ≡ n.at) → StandsFor image places nodes f at
+stands image places nodes f at n e p =
+    let w = node_within nodes f.id f.node e in
+    let m = some_item nodes f.node w in
+    record { within = w; placed = node_place image places nodes f.node m.0 n m.1 ∙ ap Some (sym (p m.0 m.1)); object = object_of_node image places nodes f.id f.node n e }
+
+-- ---- slot by slot
+
+-- the first slots of what stands at `head` were looked at; before, `first` was found
+pub record IsLooking (image : Image) (nodes : List Node) (first : List Found) (head : ℕ) (f : Found) (seen : List Bool) (queue : List Found) (slot : ℕ) : Type 0 where
+  pub search : IsSearching image nodes seen queue head
+  pub within : IsWithin queue (f.depth + 1)
+  pub here : slice_get queue head ≡ Some f
+  pub children : HasChildren image queue f.id slot (f.depth + 1)
+  pub longer : length first ≤ length queue
+  pub roots : (n : ℕ) → HasRoots image first n → HasRoots image queue n
+  pub all_roots : HasAllRoots image queue
+  pub ordered : IsOrdered image queue (Slot head slot)
+
+pub looking_begins : (image : Image) (nodes : List Node) (queue : List Found) (head : ℕ) (f : Found) (seen : List Bool) → IsSearching image nodes seen queue head → IsNear queue head → HasAllRoots image queue → IsOrdered image queue (Slot head 0) → slice_get queue head ≡ Some f → IsLooking image nodes queue head f seen queue 0
+looking_begins image nodes queue head f seen s n r o h =
+    record { search = s; within = n f h; here = h; children = λ s y l. absurd (omega (arith, l)); longer = omega arith; roots = λ n r. r; all_roots = r; ordered = o }
+
+-- a slot that names nothing
+pub looked_past : (image : Image) (nodes : List Node) (first : List Found) (head : ℕ) (f : Found) (seen : List Bool) (queue : List Found) (slot : ℕ) → IsLooking image nodes first head f seen queue slot → named image f.id slot ≡ None → IsLooking image nodes first head f seen queue (slot + 1)
+looked_past image nodes first head f seen queue slot l n =
+    record {
+      search = l.search;
+      within = l.within;
+      here = l.here;
+      children = λ s y lt e o. elim (cases_eq s slot) [
+        | inl p ↦ absurd (none-some y (sym n ∙ ap (named image f.id) (sym p) ∙ e))
+        | inr p ↦ l.children s y (omega (arith, lt, p)) e o
+      ];
+      longer = l.longer;
+      roots = l.roots;
+      all_roots = l.all_roots;
+      ordered = ordered_next image queue (Slot head slot) (Slot head (slot + 1)) (next_slot head slot) l.ordered;
+    }
+
+-- a slot that names x, which was offered
+pub looked_at : (image : Image) (places : List ObjRef) (nodes : List Node) (first : List Found) (head : ℕ) (f : Found) (seen : List Bool) (queue : List Found) (slot x : ℕ) (seen_after : List Bool) (new : List Found)
+    → AreNodes image places nodes → IsLooking image nodes first head f seen queue slot → named image f.id slot ≡ Some x → IsOffered nodes x (f.depth + 1) (Slot head slot) seen queue seen_after new → IsLooking image nodes first head f seen_after new (slot + 1)
+looked_at image places nodes first head f seen queue slot x seen_after new n l e o =
+    let w = slice_get_within queue head f l.here in
+    let d = l.search.early head f l.here in
+    let k : IsKept image nodes seen_after queue new head x (f.depth + 1) =
+    kept image places nodes seen queue head x (f.depth + 1) (Slot head slot) seen_after new n l.search l.within (omega (arith, w)) (omega (arith, w, d)) (f, l.here, refl, e) o in
+    record {
+      search = k.search;
+      within = k.within;
+      here = k.there head f l.here;
+      children = λ s y lt q h. elim (cases_eq s slot) [
+        | inl p ↦
+            let same : x ≡ y = same_Some x y (sym e ∙ ap (named image f.id) (sym p) ∙ q) in
+            subst (λ z. IsFound new z (f.depth + 1)) same (k.found (subst (HasId image) (sym same) h))
+        | inr p ↦ k.stays y (f.depth + 1) (l.children s y (omega (arith, lt, p)) q h)
+      ];
+      longer = omega (arith, k.longer, l.longer);
+      roots = λ m r n y lt q h. k.stays y 0 (l.roots m r n y lt q h);
+      all_roots = λ r y lt q h. k.stays y 0 (l.all_roots r y lt q h);
+      ordered = ordered_more image places nodes seen queue head x (f.depth + 1) (Slot head slot) (Slot head (slot + 1)) seen_after new n l.search l.ordered
+          (slots_looked_at image nodes seen queue head slot f l.search l.all_roots l.here l.children) (next_slot head slot) (inr (refl, omega arith)) (f, l.here, refl, e) o;
+    }
+
+-- all slots
+pub looked_through : (image : Image) (nodes : List Node) (first : List Found) (head : ℕ) (f : Found) (seen : List Bool) (queue : List Found) (slot : ℕ) (o : DumpedObject) → IsLooking image nodes first head f seen queue slot → object_with image f.id ≡ Some o → slot ≡ length o.words → IsSearching image nodes seen queue (head + 1)
+looked_through image nodes first head f seen queue slot o l e n =
+    stepped image nodes seen queue head f l.search l.here
+    (λ s y q h. l.children s y (omega (arith, n, slot_within image.classes o s y (sym (named_is image f.id s o e) ∙ q))) q h)
+
+-- ---- register by register
+
+pub record IsRooting (image : Image) (nodes : List Node) (seen : List Bool) (queue : List Found) (r : ℕ) : Type 0 where
+  pub search : IsSearching image nodes seen queue 0
+  pub within : IsWithin queue 0
+  pub roots : HasRoots image queue r
+  pub ordered : IsOrdered image queue (Register r)
+
+pub rooting_begins : (image : Image) (nodes : List Node) (seen : List Bool) (queue : List Found) → IsSearching image nodes seen queue 0 → IsWithin queue 0 → IsOrdered image queue (Register 0) → IsRooting image nodes seen queue 0
+rooting_begins image nodes seen queue s w o = record { search = s; within = w; roots = λ n y l. absurd (omega (arith, l)); ordered = o }
+
+pub rooted : (image : Image) (places : List ObjRef) (nodes : List Node) (seen : List Bool) (queue : List Found) (r x : ℕ) (seen_after : List Bool) (new : List Found) → AreNodes image places nodes → IsRooting image nodes seen queue r → slice_get image.registers r ≡ Some x
+    → IsOffered nodes x 0 (Register r) seen queue seen_after new → IsRooting image nodes seen_after new (r + 1)
+rooted image places nodes seen queue r x seen_after new n l e o =
+    let k : IsKept image nodes seen_after queue new 0 x 0 = kept image places nodes seen queue 0 x 0 (Register r) seen_after new n l.search l.within (omega arith) (omega arith) (refl, e) o in
+    record {
+      search = k.search;
+      within = k.within;
+      roots = λ s y lt q h. elim (cases_eq s r) [
+        | inl p ↦
+            let same : x ≡ y = same_Some x y (sym e ∙ ap (slice_get image.registers) (sym p) ∙ q) in
+            subst (λ z. IsFound new z 0) same (k.found (subst (HasId image) (sym same) h))
+        | inr p ↦ k.stays y 0 (l.roots s y (omega (arith, lt, p)) q h)
+      ];
+      ordered = ordered_more image places nodes seen queue 0 x 0 (Register r) (Register (r + 1)) seen_after new n l.search l.ordered (registers_looked_at image queue r l.roots) (next_register r) (omega arith) (refl, e) o;
+    }
+
+pub looking_as : (image : Image) (nodes : List Node) (first : List Found) (head : ℕ) (f : Found) (seen others : List Bool) (queue same : List Found) (slot : ℕ) → others ≡ seen → same ≡ queue → IsLooking image nodes first head f seen queue slot → IsLooking image nodes first head f others same slot
+looking_as image nodes first head f seen others queue same slot a b l =
+    subst (λ (q : List Found). IsLooking image nodes first head f others q slot) (sym b) (subst (λ (m : List Bool). IsLooking image nodes first head f m queue slot) (sym a) l)

@@ -1,0 +1,48 @@
+use Rattle.std.proofs.Common.{◌≡◌, sym, ◌∙◌, arith}
+use Rattle.std.specs.Prelude.{slice_get}
+use Rattle.hprof_text.specs.Image.{DumpedObject}
+use Rattle.hprof_text.proofs.Loops.{some_item}
+use Rattle.hprof_text.proofs.ViewedObjects.{here, none_left, within}
+use Rattle.heap_questions.proofs.Named.{object_none, others_more, said_of, shown_is}
+use Rattle.heap_questions.proofs.objects.object_with.Goals as goal
+
+pub returns-then-id : goal.returns-then-id
+returns-then-id g c =
+    let v = c.args.view.now in
+    let image = g.V.View.image v in
+    let i = c.loop-here.passed in
+    let e = sym c.loop-here.invariant.here ∙ c.in-Some.is in
+    let kind = c.kind-kind.result in
+    let words = c.words-words.result.now in
+    let h = here image (g.V.View.places v) i c.in-Some.at kind words c.classes-classes.ensures.limits c.classes-classes.ensures.placed e (c.kind-kind.ensures i e) (c.words-words.ensures i e) in
+    let same = said_of (λ (o : DumpedObject). c.id.result ≡ o.id) (slice_get image.objects i) h.object h.there (c.id.ensures i e) in
+    shown_is image c.args.id i c.id.result kind words h.object c.loop-here.invariant.others h.there same c.if-id.true h.same_kind h.same_words
+
+pub loop-here-smaller : goal.loop-here-smaller
+loop-here-smaller g c =
+    let w = within (g.V.View.places c.args.view.now) c.loop-here.passed c.in-Some.at (sym c.loop-here.invariant.here ∙ c.in-Some.is) in
+    omega (arith, w)
+
+pub loop-here-preserved : goal.loop-here-preserved
+loop-here-preserved g c =
+    let v = c.args.view.now in
+    let image = g.V.View.image v in
+    let places = g.V.View.places v in
+    let i = c.loop-here.passed in
+    let e = sym c.loop-here.invariant.here ∙ c.in-Some.is in
+    let w = within places i c.in-Some.at e in
+    let o = some_item image.objects i (omega (arith, w, c.classes-classes.ensures.placed)) in
+    let same = said_of (λ (o : DumpedObject). c.id.result ≡ o.id) (slice_get image.objects i) o.0 o.1 (c.id.ensures i e) in
+    record {
+      here = c.next-here.ensures i e;
+      passed = w;
+      others = others_more image c.args.id i c.id.result o.0 c.loop-here.invariant.others o.1 same c.if-id.false;
+    }
+
+pub returns : goal.returns
+returns g c =
+    let v = c.args.view.now in
+    let image = g.V.View.image v in
+    let i = c.loop-here.passed in
+    let n = none_left (g.V.View.places v) i (sym c.in_default.is ∙ c.loop-here.invariant.here) in
+    sym (object_none image c.args.id i c.loop-here.invariant.others (omega (arith, n, c.loop-here.invariant.passed, c.classes-classes.ensures.placed)))

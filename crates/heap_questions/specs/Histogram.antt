@@ -1,0 +1,83 @@
+-- How many objects there are of each class, and of arrays of each kind, and the bytes of their values.
+use Rattle.std.specs.Prelude.{ℕ, Bool, [], ◌∷◌, if◌then◌else◌, ◌+◌, ◌*◌, ◌==◌, List, length, map, filter, sum_by, slice_index_or, slice_set, All, ◌≡◌, ◌<◌, ◌≤◌}
+use Rattle.std.specs.List.{range_with_len}
+use Rattle.heap_class.specs.declared.IdSize.{IdSize}
+use Rattle.heap_class.specs.declared.ObjKind.{ObjKind}
+use Rattle.heap_class.specs.declared.ObjKind.TheVariants.{Instance, Array, Prim}
+use Rattle.heap_class.specs.Kinds.{id_bytes, width_of, type_code}
+use Rattle.heap_class.specs.Classes.{Class, instance_size}
+use Rattle.hprof_text.specs.Image.{Image, DumpedObject}
+use Rattle.heap_questions.specs.declared.rows.Row.{Row}
+
+-- rows that stand before those of the classes: arrays of values have the row with their kind's type code
+abbrev pub class_rows : ℕ
+class_rows = 12
+
+-- the row of an object of this kind
+unfoldable pub row_number : ObjKind → ℕ
+row_number (Instance k) = class_rows + k
+row_number (Array k) = class_rows + k
+row_number (Prim kind) = type_code kind
+
+-- the bytes that the values of an object of this kind with n words have in a dump
+unfoldable pub value_size : IdSize → List Class → ObjKind → ℕ → ℕ
+value_size ids classes (Instance k) n = instance_size ids classes k
+value_size ids classes (Array k) n = id_bytes ids * n
+value_size ids classes (Prim kind) n = width_of ids kind * n
+
+abbrev pub object_bytes : IdSize → List Class → DumpedObject → ℕ
+object_bytes ids classes o = value_size ids classes o.kind (length o.words)
+
+-- those of some objects that are counted in row g
+abbrev pub members : List DumpedObject → ℕ → List DumpedObject
+members objects g = filter (λ o. row_number o.kind == g) objects
+
+-- row g: how many objects are counted there, and the bytes of their values
+unfoldable pub row_of : IdSize → List Class → List DumpedObject → ℕ → Row
+row_of ids classes objects g =
+    record {
+      objects = length (members objects g);
+      bytes = sum_by (object_bytes ids classes) (members objects g);
+    }
+
+-- all rows of some objects
+abbrev pub rows_of : IdSize → List Class → List DumpedObject → List Row
+rows_of ids classes objects =
+    map (row_of ids classes objects) (range_with_len 0 (class_rows + length classes))
+
+-- all rows of an image
+abbrev pub histogram_of : IdSize → Image → List Row
+histogram_of ids image = rows_of ids image.classes image.objects
+
+-- ---- counting
+
+abbrev pub no_objects : Row
+no_objects = record { objects = 0; bytes = 0 }
+
+abbrev pub row_at : List Row → ℕ → Row
+row_at rows g = slice_index_or rows g no_objects
+
+-- one object more, of so many bytes
+abbrev pub one_more : Row → ℕ → Row
+one_more r n = record { objects = r.objects + 1; bytes = r.bytes + n }
+
+-- it is counted in row g
+abbrev pub with_counted : List Row → ℕ → ℕ → List Row
+with_counted rows g n = slice_set rows g (one_more (row_at rows g) n)
+
+-- it is, unless it is marked
+abbrev pub counted_unless : Bool → ℕ → ℕ → List Row → List Row
+counted_unless marked g n rows = if marked then rows else with_counted rows g n
+
+-- the objects without those that are marked; past the last mark none is
+abbrev pub unmarked : List Bool → List DumpedObject → List DumpedObject
+unmarked [] objects = objects
+unmarked (b ∷ bs) [] = []
+unmarked (b ∷ bs) (o ∷ os) = if b then unmarked bs os else o ∷ unmarked bs os
+
+-- these objects were counted
+pub record AreRows (ids : IdSize) (classes : List Class) (counted : List DumpedObject)
+    (rows : List Row) : Type 0 where
+  pub count : length rows ≡ class_rows + length classes
+  pub each : (g : ℕ) → g < length rows → row_at rows g ≡ row_of ids classes counted g
+  pub small : All (λ r. (r.objects ≤ length counted) × (r.bytes ≤ length counted * 8192)) rows

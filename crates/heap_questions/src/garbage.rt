@@ -1,0 +1,47 @@
+//! The objects that no register reaches.
+ghost use Rattle.std.specs.Prelude.{◌≡◌, map, IfOk, IfErr};
+ghost use Rattle.heap_class.specs.declared.Refusal.TheVariants.{NoMemory};
+ghost use Rattle.heap_questions.specs.Garbage.{IsGarbage, is_reached};
+
+use crate::nodes::NodeList;
+use crate::rows::{Histogram, count_unmarked};
+use crate::search::search;
+use heap_class::Refusal;
+use hprof_text::View;
+use std::alloc::Global;
+
+// Tells whether the node with this id was found.
+fn is_reached(nodes: &NodeList, seen: &[bool], id: u64) -> bool
+    ensures { result ≡ is_reached nodes.now seen.now id }
+{
+    match nodes.find(id) {
+        Some(node) => node < seen.len() && seen[node],
+        None => false,
+    }
+}
+
+// Returns for each node whether the node with its id was found. Fails with NoMemory.
+fn reached_marks(alloc: Global, nodes: &NodeList, seen: &[bool]) -> Result<Vec<bool>, Refusal>
+    ensures marks { IfOk result (λ marks. marks.items
+        ≡ map (λ n. is_reached nodes.now seen.now n.id) nodes.now) }
+    ensures refused { IfErr result (λ e. e ≡ NoMemory) }
+{
+    let mut marks = Vec::with_capacity(alloc, nodes.len())?;
+    for node in 0..nodes.len() {
+        let id = nodes.id(node);
+        marks.push(is_reached(nodes, seen, id))?;
+    }
+    Ok(marks)
+}
+
+/// Counts the objects of a view that no register reaches, in the rows in which `count_by_class` counts all. Fails with
+/// NoMemory if an allocation fails. Reads each object at most twice.
+pub fn count_garbage<V: View>(alloc: Global, view: &V) -> Result<Histogram, Refusal>
+    ensures rows { IfOk result (λ h. IsGarbage (V.ids view.now) (V.image view.now) h) }
+    ensures refused { IfErr result (λ e. e ≡ NoMemory) }
+{
+    let nodes = NodeList::new(alloc, view)?;
+    let reach = search(alloc, view, &nodes)?;
+    let marks = reached_marks(alloc, &nodes, reach.seen.as_slice())?;
+    count_unmarked(alloc, view, marks.as_slice())
+}

@@ -1,0 +1,22 @@
+//! Exact answers about the heap that a view shows: of the current state, or of a pin.
+#![tactic(auto)]
+
+mod garbage;
+mod growth;
+mod nodes;
+mod objects;
+mod order;
+mod paths;
+mod references;
+mod registers;
+mod rows;
+mod search;
+
+pub use garbage::count_garbage;
+pub use growth::{Change, compare};
+pub use objects::{ShownObject, object_with, slot_kind};
+pub use order::ranking;
+pub use paths::{Path, shortest_path};
+pub use references::{Referrer, referrers};
+pub use registers::{NamedObject, named_by_registers};
+pub use rows::{Histogram, Row, count_by_class};

@@ -1,0 +1,269 @@
+//! The objects of a view with their places, and how one is found by its id.
+ghost use Rattle.std.specs.Prelude.{◌≡◌, ◌<◌, ◌≤◌, ◌^◌, ℕ, length, Some, IsTrue, IfOk, IfErr, slice_get};
+ghost use Rattle.heap_class.specs.declared.Refusal.TheVariants.{NoMemory};
+ghost use Rattle.hprof_text.specs.Image.{object_limit};
+ghost use Rattle.heap_questions.specs.declared.nodes.Node.{Node};
+ghost use Rattle.heap_questions.specs.Search.{AreBelow, AreFrom, AreNodes, AreRising, node_with};
+
+use heap_class::{ObjRef, Refusal};
+use hprof_text::View;
+use std::alloc::Global;
+use std::marker::Model;
+
+/// The ids of two objects of a heap differ by a multiple of 8.
+const ID_STEP: u64 = 8;
+
+/// The number of words of a heap: 1,024 for each of 256 regions.
+const HEAP_WORDS: u64 = 262_144;
+
+/// An object of a view: its place and its id.
+#[derive(Clone, Copy)]
+pub(crate) struct Node {
+    pub(crate) at: ObjRef,
+    pub(crate) id: u64,
+}
+
+/// The objects of a view with their places, in order. If ids rise, as those of a heap do, hints tell where an id stands.
+/// Contracts see the list.
+#[derive(Drop)]
+pub(crate) struct NodeList {
+    nodes: Vec<Node>,
+    rising: bool,
+    first: u64,
+    hints: Vec<u32>,
+}
+
+impl Model for NodeList {
+    ghost use Rattle.std.specs.Prelude.{List, IsTrue};
+    ghost use Rattle.heap_questions.specs.declared.nodes.Node.{Node};
+    ghost use Rattle.heap_questions.specs.Search.{AreRising};
+
+    ghost Value = { List Node };
+
+    ghost view = { λ n. n.nodes.items };
+
+    ghost invariant = { λ n. IsTrue n.rising → AreRising n.nodes.items };
+}
+
+// Returns the objects of a view, in order. Fails with NoMemory.
+fn nodes_of<V: View>(alloc: Global, view: &V) -> Result<Vec<Node>, Refusal>
+    ensures nodes { IfOk result (λ ns. AreNodes (V.image view.now) (V.places view.now) ns.items) }
+    ensures few { IfOk result (λ ns. length ns.items ≤ object_limit) }
+    ensures refused { IfErr result (λ e. e ≡ NoMemory) }
+{
+    let _classes = view.classes();
+    let mut nodes = Vec::new(alloc);
+    let mut here = view.first();
+    while let Some(at) = here {
+        nodes.push(Node {
+            at,
+            id: view.id(at),
+        })?;
+        here = view.next(at);
+    }
+    Ok(nodes)
+}
+
+// Tells whether the ids of nodes rise, as those of a heap do.
+fn are_rising(nodes: &[Node]) -> bool
+    ensures { IsTrue result → AreRising nodes.now }
+{
+    for i in 1..nodes.len() {
+        if nodes[i].id < nodes[i - 1].id {
+            return false;
+        }
+    }
+    true
+}
+
+// Tells whether the nodes before this place have smaller ids, of nodes whose ids rise.
+fn ends_below(nodes: &[Node], place: usize, id: u64) -> bool
+    requires rising { AreRising nodes.now }
+    requires within { place ≤ length nodes.now }
+    ensures { IsTrue result → AreBelow nodes.now place id }
+{
+    if place == 0 {
+        return true;
+    }
+    nodes[place - 1].id < id
+}
+
+// Tells whether the nodes from this place on have no smaller ids, of nodes whose ids rise.
+fn begins_from(nodes: &[Node], place: usize, id: u64) -> bool
+    requires rising { AreRising nodes.now }
+    requires within { place ≤ length nodes.now }
+    ensures { IsTrue result → AreFrom nodes.now place id }
+{
+    if place == nodes.len() {
+        return true;
+    }
+    id <= nodes[place].id
+}
+
+// Finds the first node whose id is at least this by halves, of nodes whose ids rise.
+fn first_by_halves(nodes: &[Node], id: u64) -> usize
+    requires { AreRising nodes.now }
+    ensures within { result ≤ length nodes.now }
+    ensures below { AreBelow nodes.now result id }
+    ensures above { AreFrom nodes.now result id }
+{
+    let mut low = 0;
+    let mut high = nodes.len();
+    while low < high {
+        let middle = low + (high - low) / 2;
+        if nodes[middle].id < id {
+            low = middle + 1;
+        } else {
+            high = middle;
+        }
+    }
+    low
+}
+
+// Finds the first node whose id is at least this, of nodes whose ids rise: at the guess if it is right, and else by halves.
+fn first_from(nodes: &[Node], guess: usize, id: u64) -> usize
+    requires { AreRising nodes.now }
+    ensures within { result ≤ length nodes.now }
+    ensures below { AreBelow nodes.now result id }
+    ensures above { AreFrom nodes.now result id }
+{
+    if guess > nodes.len() {
+        return first_by_halves(nodes, id);
+    }
+    if ends_below(nodes, guess, id) && begins_from(nodes, guess, id) {
+        guess
+    } else {
+        first_by_halves(nodes, id)
+    }
+}
+
+// Finds the first node with this id. If ids rise, the guess may tell where it stands.
+fn node_with(nodes: &[Node], rising: bool, guess: usize, id: u64) -> Option<usize>
+    requires { IsTrue rising → AreRising nodes.now }
+    ensures { result ≡ node_with nodes.now id }
+{
+    if !rising {
+        return nodes.iter().position(|node| node.id == id);
+    }
+    let first = first_from(nodes, guess, id);
+    if first < nodes.len() && nodes[first].id == id {
+        Some(first)
+    } else {
+        None
+    }
+}
+
+// Returns the number of steps from an id to another, which may be any number if the other is smaller.
+fn steps_between(first: u64, id: u64) -> u64
+    ensures { result ≤ 2 ^ 61 }
+{
+    id.wrapping_sub(first) / ID_STEP
+}
+
+// Returns how many hints the nodes need: one for each step from the first id to the last, but not more than a heap has words.
+fn hint_count(nodes: &[Node]) -> usize
+    ensures { result ≤ 262145 }
+{
+    match (nodes.first(), nodes.last()) {
+        (Some(first), Some(last)) => steps_between(first.id, last.id).min(HEAP_WORDS) as usize + 1,
+        _ => 0,
+    }
+}
+
+// Returns the id of the first node, or 0 if there is none.
+fn first_id(nodes: &[Node]) -> u64 {
+    match nodes.first() {
+        Some(node) => node.id,
+        None => 0,
+    }
+}
+
+// Returns the hint for an id so many steps from the first.
+fn hint_at(hints: &[u32], steps: u64) -> usize {
+    if steps < hints.len() as u64 {
+        hints[steps as usize] as usize
+    } else {
+        0
+    }
+}
+
+// Returns for each step from the first id on the node that stands there, or any. Fails with NoMemory.
+fn hints_of(alloc: Global, nodes: &[Node], first: u64) -> Result<Vec<u32>, Refusal>
+    requires { length nodes.now ≤ object_limit }
+    ensures { IfErr result (λ e. e ≡ NoMemory) }
+{
+    let mut hints = vec![in alloc; 0u32; hint_count(nodes)]?;
+    for node in 0..nodes.len() {
+        let steps = steps_between(first, nodes[node].id);
+        if steps < hints.len() as u64 {
+            hints[steps as usize] = node as u32;
+        }
+    }
+    Ok(hints)
+}
+
+// Returns the id of a node.
+fn id_of(nodes: &[Node], node: usize) -> u64
+    requires { node < length nodes.now }
+    ensures { (n : Node) → slice_get nodes.now node ≡ Some n → result ≡ n.id }
+{
+    nodes[node].id
+}
+
+// Returns the place of a node.
+fn place_of(nodes: &[Node], node: usize) -> ObjRef
+    requires { node < length nodes.now }
+    ensures { (n : Node) → slice_get nodes.now node ≡ Some n → result ≡ n.at }
+{
+    nodes[node].at
+}
+
+impl NodeList {
+    /// Lists the objects of a view. Fails with NoMemory. Reads each object's id once.
+    pub(crate) fn new<V: View>(alloc: Global, view: &V) -> Result<NodeList, Refusal>
+        ensures nodes { IfOk result (λ ns. AreNodes (V.image view.now) (V.places view.now) ns) }
+        ensures refused { IfErr result (λ e. e ≡ NoMemory) }
+    {
+        let nodes = nodes_of(alloc, view)?;
+        let rising = are_rising(nodes.as_slice());
+        let first = first_id(nodes.as_slice());
+        let hints = hints_of(alloc, nodes.as_slice(), first)?;
+        Ok(NodeList {
+            nodes,
+            rising,
+            first,
+            hints,
+        })
+    }
+
+    /// Returns the number of objects.
+    pub(crate) fn len(&self) -> usize
+        ensures { result ≡ length self.now }
+    {
+        self.nodes.len()
+    }
+
+    /// Finds the first node with this id.
+    pub(crate) fn find(&self, id: u64) -> Option<usize>
+        ensures { result ≡ node_with self.now id }
+    {
+        let guess = hint_at(self.hints.as_slice(), steps_between(self.first, id));
+        node_with(self.nodes.as_slice(), self.rising, guess, id)
+    }
+
+    /// Returns the place of a node.
+    pub(crate) fn place(&self, node: usize) -> ObjRef
+        requires { node < length self.now }
+        ensures { (n : Node) → slice_get self.now node ≡ Some n → result ≡ n.at }
+    {
+        place_of(self.nodes.as_slice(), node)
+    }
+
+    /// Returns the id of a node.
+    pub(crate) fn id(&self, node: usize) -> u64
+        requires { node < length self.now }
+        ensures { (n : Node) → slice_get self.now node ≡ Some n → result ≡ n.id }
+    {
+        id_of(self.nodes.as_slice(), node)
+    }
+}

@@ -1,0 +1,155 @@
+//! A search for all that the registers reach, breadth first.
+ghost use Rattle.std.specs.Prelude.{◌≡◌, ◌+◌, ◌<◌, ◌≤◌, ℕ, length, Some, IfOk, IfErr, OnOk, slice_get};
+ghost use Rattle.heap_class.specs.declared.Refusal.TheVariants.{NoMemory};
+ghost use Rattle.heap_questions.specs.Search.{AreNodes, AreSeen, HasAllRoots, HasOrder, IsNear, IsOffered, IsOrdered, IsSearched, IsSearching, IsWithin, KeepsRoots};
+ghost use Rattle.heap_questions.specs.declared.search.Via.TheVariants.{Register, Slot};
+
+use crate::nodes::NodeList;
+use crate::references::is_reference_slot;
+use heap_class::Refusal;
+use hprof_text::View;
+use std::alloc::Global;
+
+/// How an object was found: by a register, or by a slot of an object that was found before.
+#[derive(Clone, Copy)]
+pub(crate) enum Via {
+    Register(u64),
+    Slot { parent: usize, slot: u64 },
+}
+
+/// An object that was found: which node it is, its id, how many slots lead to it, and the last of them.
+#[derive(Clone, Copy)]
+pub(crate) struct Found {
+    pub(crate) node: usize,
+    pub(crate) id: u64,
+    pub(crate) depth: u64,
+    pub(crate) via: Via,
+}
+
+/// What the registers reach: which nodes were found, and how, in the order in which they were.
+#[derive(Drop)]
+pub(crate) struct Reach {
+    pub(crate) seen: Vec<bool>,
+    pub(crate) queue: Vec<Found>,
+}
+
+// Returns what was found at this place of a queue.
+pub(crate) fn found_at(queue: &[Found], index: usize) -> Found
+    requires { index < length queue.now }
+    ensures { slice_get queue.now index ≡ Some result }
+{
+    queue[index]
+}
+
+// Adds an object to what was found, unless it was found before or there is none with this id. Fails with NoMemory.
+fn offer(
+    nodes: &NodeList,
+    seen: &mut Vec<bool>,
+    queue: &mut Vec<Found>,
+    id: u64,
+    depth: u64,
+    via: Via,
+) -> Result<(), Refusal>
+    requires many { length seen.old.items ≡ length nodes.now }
+    ensures done { OnOk result (IsOffered nodes.now id depth via
+        seen.old.items queue.old.items seen.new.items queue.new.items) }
+    ensures refused { IfErr result (λ e. e ≡ NoMemory) }
+{
+    if let Some(node) = nodes.find(id) {
+        if !seen[node] {
+            seen[node] = true;
+            queue.push(Found {
+                node,
+                id,
+                depth,
+                via,
+            })?;
+        }
+    }
+    Ok(())
+}
+
+// Finds what the registers name. Fails with NoMemory.
+fn find_roots<V: View>(
+    view: &V,
+    nodes: &NodeList,
+    seen: &mut Vec<bool>,
+    queue: &mut Vec<Found>,
+) -> Result<(), Refusal>
+    requires nodes { AreNodes (V.image view.now) (V.places view.now) nodes.now }
+    requires search { IsSearching (V.image view.now) nodes.now seen.old.items queue.old.items 0 }
+    requires within { IsWithin queue.old.items 0 }
+    requires ordered { IsOrdered (V.image view.now) queue.old.items (Register 0) }
+    ensures search { OnOk result (IsSearching (V.image view.now)
+        nodes.now seen.new.items queue.new.items 0) }
+    ensures within { OnOk result (IsWithin queue.new.items 0) }
+    ensures roots { OnOk result (HasAllRoots (V.image view.now) queue.new.items) }
+    ensures ordered { OnOk result (IsOrdered (V.image view.now) queue.new.items (Slot 0 0)) }
+    ensures refused { IfErr result (λ e. e ≡ NoMemory) }
+{
+    let registers = view.registers();
+    for r in 0..registers.len() {
+        offer(nodes, seen, queue, registers[r], 0, Via::Register(r as u64))?;
+    }
+    Ok(())
+}
+
+// Finds what the slots of an object name that was found. Fails with NoMemory.
+fn expand<V: View>(
+    view: &V,
+    nodes: &NodeList,
+    seen: &mut Vec<bool>,
+    queue: &mut Vec<Found>,
+    head: usize,
+) -> Result<(), Refusal>
+    requires nodes { AreNodes (V.image view.now) (V.places view.now) nodes.now }
+    requires search { IsSearching (V.image view.now) nodes.now seen.old.items queue.old.items head }
+    requires there { head < length queue.old.items }
+    requires near { IsNear queue.old.items head }
+    requires roots { HasAllRoots (V.image view.now) queue.old.items }
+    requires ordered { IsOrdered (V.image view.now) queue.old.items (Slot head 0) }
+    ensures search { OnOk result (IsSearching (V.image view.now)
+        nodes.now seen.new.items queue.new.items (head + 1)) }
+    ensures near { OnOk result (IsNear queue.new.items (head + 1)) }
+    ensures longer { OnOk result (length queue.old.items ≤ length queue.new.items) }
+    ensures roots { OnOk result (KeepsRoots (V.image view.now) queue.old.items queue.new.items) }
+    ensures ordered { OnOk result (IsOrdered (V.image view.now)
+        queue.new.items (Slot (head + 1) 0)) }
+    ensures refused { IfErr result (λ e. e ≡ NoMemory) }
+{
+    let found = found_at(queue.as_slice(), head);
+    let at = nodes.place(found.node);
+    let classes = view.classes();
+    let kind = view.kind(at);
+    let words = view.words(at);
+    for slot in 0..words.len() {
+        if is_reference_slot(&classes, kind, words.len() as u64, slot as u64) {
+            let via = Via::Slot {
+                parent: head,
+                slot: slot as u64,
+            };
+            offer(nodes, seen, queue, words[slot], found.depth + 1, via)?;
+        }
+    }
+    Ok(())
+}
+
+/// Finds all that the registers reach, breadth first. The nodes must be the view's. Fails with NoMemory. Reads each object
+/// once.
+pub(crate) fn search<V: View>(alloc: Global, view: &V, nodes: &NodeList) -> Result<Reach, Refusal>
+    requires { AreNodes (V.image view.now) (V.places view.now) nodes.now }
+    ensures searched { IfOk result (λ r. IsSearched (V.image view.now) r.queue.items) }
+    ensures seen { IfOk result (λ r. AreSeen nodes.now r.seen.items r.queue.items) }
+    ensures order { IfOk result (λ r. HasOrder (V.image view.now) r.queue.items) }
+    ensures refused { IfErr result (λ e. e ≡ NoMemory) }
+{
+    let mut seen = vec![in alloc; false; nodes.len()]?;
+    let mut queue = Vec::with_capacity(alloc, nodes.len())?;
+    find_roots(view, nodes, &mut seen, &mut queue)?;
+    let mut head = 0;
+    while head < queue.len() {
+        expand(view, nodes, &mut seen, &mut queue, head)?;
+        head += 1;
+    }
+    Ok(Reach { seen, queue })
+}

@@ -1,0 +1,91 @@
+-- What is found after an allocation.
+use Rattle.std.proofs.Common.{◌≡◌, ℕ, zero, suc, ◌/◌, ◌<◌, Bool, true, false, cond, length, set, drop, replicate, Option, Some, None, inl, inr, refl, ap, ◌∙◌, arith}
+use Rattle.std.specs.Prelude.{◌⊎◌, nat_le, slice_get, option_map, option_and_then, unwrap_or}
+use Rattle.std.proofs.lemmas.Option.{slice_get_within}
+use Rattle.std.proofs.lemmas.List.{length-replicate}
+use Rattle.heap_class.specs.declared.ObjRef.{ObjRef}
+use Rattle.heap_region.specs.Regions.{Object, UsedRegion, Empty, used_at, object_at, object_of, id_of, cell_size_for}
+use Rattle.heap_region.specs.Pool.{RegionPool, fresh_region, new_place, taken, restored, allocated}
+use Rattle.heap_region.proofs.Lookups.{used_there}
+use Rattle.heap_region.proofs.Ids.{ref_back}
+use Rattle.heap_region.proofs.FoundObjects.{taken_there, taken_keeps, restored_there, fresh_found}
+use Rattle.heap_region.proofs.Places.{IsNextFree, IsNextFresh, new_place_is, HeadIsEmpty, PoolIsEmpty}
+
+-- a region has a cell of each size
+pub has_cell : (n : ℕ) → 0 < 1024 / cell_size_for n
+unfolding cell_size_for
+has_cell n = go (nat_le n 4) (nat_le n 16) (nat_le n 64) (nat_le n 256) (nat_le n 1024)
+  where
+    go : (a b c d e : Bool) → 0 < 1024 / unwrap_or (cond a (Some 4) (cond b (Some 16) (cond c (Some 64) (cond d (Some 256) (cond e (Some 1024) None))))) 1024
+    go true b c d e = omega arith
+    go false true c d e = omega arith
+    go false false true d e = omega arith
+    go false false false true e = omega arith
+    go false false false false true = omega arith
+    go false false false false false = omega arith
+
+first_cell : (n : ℕ) → 0 < n → slice_get (replicate {A = Option Object} n None) 0 ≡ Some None
+first_cell zero h = absurd (omega arith)
+first_cell (suc n) h = refl
+
+-- The cell that a new object takes: `before` is the regions as they are then, with a fresh one where one was needed.
+pub record IsNewCell (at : ObjRef) (fresh : Bool) (o : Object) (s : RegionPool) : Type 0 where
+  pub before : RegionPool
+  pub region : UsedRegion
+  pub is_taken : allocated at fresh o s ≡ taken at o before
+  pub used : used_at before.regions at.region ≡ Some region
+  pub empty : slice_get region.cells at.cell ≡ Some None
+  pub size : region.cell_size ≡ cell_size_for (length o.words)
+  pub found : (x : ℕ) → object_of before.regions x ≡ object_of s.regions x
+  pub cells : (used_at s.regions at.region ≡ Some region) ⊎ (length region.cells ≡ 1024 / region.cell_size)
+
+-- each accepted allocation has one
+pub new_cell : (at : ObjRef) (fresh : Bool) (o : Object) (s : RegionPool) → new_place (length o.words) s ≡ Some (at, fresh) → HeadIsEmpty s at → PoolIsEmpty s at → IsNewCell at fresh o s
+unfolding allocated fresh_region
+new_cell at fresh o s place head pool = go fresh (new_place_is (length o.words) s at fresh place)
+  where
+    size : ℕ
+    size = cell_size_for (length o.words)
+
+    go : (b : Bool) → ((b ≡ false) × IsNextFree (length o.words) s.regions at) ⊎ ((b ≡ true) × IsNextFresh s.pool at) → IsNewCell at b o s
+    go true (inl e) = cc
+    go true (inr e) = record {
+      before = restored at.region (fresh_region size) s;
+      region = fresh_region size;
+      is_taken = refl;
+      used = restored_there at.region (fresh_region size) s Empty (pool e.1.0);
+      empty = ap (slice_get (replicate {A = Option Object} (1024 / size) None)) e.1.1 ∙ first_cell (1024 / size) (has_cell (length o.words));
+      size = refl;
+      found = λ x. fresh_found at.region size x s (pool e.1.0);
+      cells = inr (length-replicate (1024 / size) None);
+    }
+    go false (inl e) = record { before = s; region = e.1.0; is_taken = refl; used = e.1.1; empty = head e.1.0 e.1.1 e.1.3; size = e.1.2; found = λ x. refl; cells = inl e.1.1 }
+    go false (inr e) = cc
+
+-- a new object leaves what each id names
+pub allocated_keeps : (at : ObjRef) (fresh : Bool) (o : Object) (s : RegionPool) → new_place (length o.words) s ≡ Some (at, fresh) → HeadIsEmpty s at → PoolIsEmpty s at
+    → (x : ℕ) (p : Object) → object_of s.regions x ≡ Some p → object_of (allocated at fresh o s).regions x ≡ Some p
+unfolding object_at
+allocated_keeps at fresh o s place head pool x p found =
+    let c : IsNewCell at fresh o s = new_cell at fresh o s place head pool in
+    ap (λ (t : RegionPool). object_of t.regions x) c.is_taken
+    ∙ taken_keeps at o c.before x p (ap (option_and_then (λ (u : UsedRegion). option_and_then (λ (o : Option Object). o) (slice_get u.cells at.cell))) c.used ∙ ap (option_and_then (λ (o : Option Object). o)) c.empty) (c.found x ∙ found)
+
+-- and is named by the id of its place
+pub allocated_named : (at : ObjRef) (fresh : Bool) (o : Object) (s : RegionPool) → new_place (length o.words) s ≡ Some (at, fresh) → HeadIsEmpty s at → PoolIsEmpty s at
+    → ((u : UsedRegion) → used_at s.regions at.region ≡ Some u → length u.cells ≡ 1024 / u.cell_size)
+    → object_of (allocated at fresh o s).regions (id_of (allocated at fresh o s).regions at) ≡ Some o
+unfolding object_of taken
+allocated_named at fresh o s place head pool full =
+    let c : IsNewCell at fresh o s = new_cell at fresh o s place head pool in
+    let within : at.cell < 1024 / c.region.cell_size = omega (arith, slice_get_within c.region.cells at.cell None c.empty, whole c.region c.cells) in
+    ap (λ (t : RegionPool). object_of t.regions (id_of t.regions at)) c.is_taken
+    ∙ ap (option_and_then (object_at (taken at o c.before).regions)) (ref_back (taken at o c.before).regions at (change c.region) (used_there at.region change c.before.regions ∙ ap (option_map change) c.used) within)
+    ∙ taken_there at o c.before c.region None c.used c.empty
+  where
+    change : UsedRegion → UsedRegion
+    change u = record u { cells = set u.cells at.cell (Some o); free = drop 1 u.free }
+
+    whole : (u : UsedRegion) → (used_at s.regions at.region ≡ Some u) ⊎ (length u.cells ≡ 1024 / u.cell_size) → length u.cells ≡ 1024 / u.cell_size
+    whole u (inl e) = full u e
+    whole u (inr e) = e

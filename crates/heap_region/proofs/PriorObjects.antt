@@ -1,0 +1,96 @@
+-- What was there before an object was changed.
+use Rattle.std.proofs.Common.{◌≡◌, ◌≢◌, ◌⊎◌, ◌↔◌, ℕ, List, refl, sym, ap, subst, ◌∙◌, Option, Some, None, IfSome}
+use mathlib.Core.Logic.{inl, inr}
+use Rattle.std.specs.Prelude.{slice_get, option_map}
+use Rattle.heap_class.specs.declared.ObjRef.{ObjRef}
+use Rattle.heap_region.specs.Regions.{Object, UsedRegion, Region, Empty, InUse, used_at, object_at, updated, in_used, with_region, with_object}
+use Rattle.heap_region.proofs.ChangedLookups.{same_or_not, get_updated, get_updated_other, used_with_region, used_with_region_other, object_with_object, object_with_object_other}
+
+some_map : {A : Type 0} (f : A → A) (p : Option A) (y : A) → option_map f p ≡ Some y → (x : A) × (p ≡ Some x) × (y ≡ f x)
+some_map f None y h = cc
+some_map f (Some x) y h = (x, refl, cc)
+
+-- two places are one or not
+pub same_place : (a b : ObjRef) → (a ≡ b) ⊎ (a ≢ b)
+same_place a b = go (same_or_not a.region b.region) (same_or_not a.cell b.cell)
+  where
+    go : (a.region ≡ b.region) ⊎ (a.region ≢ b.region) → (a.cell ≡ b.cell) ⊎ (a.cell ≢ b.cell) → (a ≡ b) ⊎ (a ≢ b)
+    go (inl p) (inl q) = inl (λ i. record { region = p i; cell = q i })
+    go (inr n) q = inr (λ e. n (ap (λ (r : ObjRef). r.region) e))
+    go (inl p) (inr n) = inr (λ e. n (ap (λ (r : ObjRef). r.cell) e))
+
+-- the region that was changed
+pub used_was_region : (f : UsedRegion → UsedRegion) (rs : List Region) (a r : ℕ) (v : UsedRegion) → used_at (with_region a f rs) r ≡ Some v
+    → (u : UsedRegion) × (used_at rs r ≡ Some u) × (((r ≡ a) × (v ≡ f u)) ⊎ ((r ≢ a) × (v ≡ u)))
+used_was_region f rs a r v h = go (same_or_not r a)
+  where
+    go : (r ≡ a) ⊎ (r ≢ a) → (u : UsedRegion) × (used_at rs r ≡ Some u) × (((r ≡ a) × (v ≡ f u)) ⊎ ((r ≢ a) × (v ≡ u)))
+    go (inl e) =
+        let p = some_map f (used_at rs a) v (sym (used_with_region f rs a) ∙ ap (used_at (with_region a f rs)) (sym e) ∙ h) in
+        (p.0, ap (used_at rs) e ∙ p.1, inl (e, p.2))
+    go (inr n) = (v, sym (used_with_region_other f rs a r n) ∙ h, inr (n, refl))
+
+pub object_was : (f : Object → Object) (rs : List Region) (at b : ObjRef) (o' : Object) → object_at (with_object at f rs) b ≡ Some o'
+    → (o : Object) × (object_at rs b ≡ Some o) × (((b ≡ at) × (o' ≡ f o)) ⊎ ((b ≢ at) × (o' ≡ o)))
+object_was f rs at b o' h = go (same_place b at)
+  where
+    go : (b ≡ at) ⊎ (b ≢ at) → (o : Object) × (object_at rs b ≡ Some o) × (((b ≡ at) × (o' ≡ f o)) ⊎ ((b ≢ at) × (o' ≡ o)))
+    go (inl e) =
+        let p = some_map f (object_at rs at) o' (sym (object_with_object f rs at) ∙ ap (object_at (with_object at f rs)) (sym e) ∙ h) in
+        (p.0, ap (object_at rs) e ∙ p.1, inl (e, p.2))
+    go (inr n) = (o', sym (object_with_object_other f rs at b n) ∙ h, inr (n, refl))
+
+-- what holds of a region's number, whatever its cells, still holds
+pub part_with_region : (Q : UsedRegion → Type 0) (f : UsedRegion → UsedRegion) → ((u : UsedRegion) → Q u → Q (f u)) → (rs : List Region) (a r : ℕ) → IfSome (used_at rs r) Q → IfSome (used_at (with_region a f rs) r) Q
+part_with_region Q f keep rs a r h = go (same_or_not r a)
+  where
+    over : (p : Option UsedRegion) → IfSome p Q → IfSome (option_map f p) Q
+    over None q = q
+    over (Some u) q = keep u q
+
+    go : (r ≡ a) ⊎ (r ≢ a) → IfSome (used_at (with_region a f rs) r) Q
+    go (inl e) = subst (λ k. IfSome (used_at (with_region a f rs) k) Q) (sym e) (subst (λ p. IfSome p Q) (sym (used_with_region f rs a)) (over (used_at rs a) (subst (λ k. IfSome (used_at rs k) Q) e h)))
+    go (inr n) = subst (λ p. IfSome p Q) (sym (used_with_region_other f rs a r n)) h
+
+pub part_with_object : (Q : UsedRegion → Type 0) → ((u : UsedRegion) (cs : List (Option Object)) → Q u → Q (record u { cells = cs })) → (f : Object → Object) (rs : List Region) (at : ObjRef) (r : ℕ) → IfSome (used_at rs r) Q → IfSome (used_at (with_object at f rs) r) Q
+unfolding with_object
+part_with_object Q keep f rs at r h = part_with_region Q (λ u. record u { cells = updated at.cell (option_map f) u.cells }) (λ u q. keep u (updated at.cell (option_map f) u.cells) q) rs at.region r h
+
+empty_map : (f : UsedRegion → UsedRegion) (p : Option Region) → (option_map (in_used f) p ≡ Some Empty) ↔ (p ≡ Some Empty)
+unfolding in_used
+empty_map f None = (λ h. h, λ h. h)
+empty_map f (Some Empty) = (λ h. h, λ h. h)
+empty_map f (Some (InUse u)) = (λ h. cc, λ h. cc)
+
+-- a change of a region leaves the same regions empty
+pub empty_with_region : (f : UsedRegion → UsedRegion) (rs : List Region) (a r : ℕ) → (slice_get (with_region a f rs) r ≡ Some Empty) ↔ (slice_get rs r ≡ Some Empty)
+unfolding with_region
+empty_with_region f rs a r = go (same_or_not r a)
+  where
+    go : (r ≡ a) ⊎ (r ≢ a) → (slice_get (updated a (in_used f) rs) r ≡ Some Empty) ↔ (slice_get rs r ≡ Some Empty)
+    go (inl e) =
+        let here : slice_get (updated a (in_used f) rs) r ≡ option_map (in_used f) (slice_get rs r) = ap (slice_get (updated a (in_used f) rs)) e ∙ get_updated (in_used f) rs a ∙ ap (λ k. option_map (in_used f) (slice_get rs k)) (sym e) in
+        (λ h. (empty_map f (slice_get rs r)).0 (sym here ∙ h), λ h. here ∙ (empty_map f (slice_get rs r)).1 h)
+    go (inr n) = (λ h. sym (get_updated_other (in_used f) rs a r n) ∙ h, λ h. get_updated_other (in_used f) rs a r n ∙ h)
+
+none_map : (f : Object → Object) (p : Option (Option Object)) → (option_map (option_map f) p ≡ Some None) ↔ (p ≡ Some None)
+none_map f None = (λ h. cc, λ h. cc)
+none_map f (Some None) = (λ h. refl, λ h. refl)
+none_map f (Some (Some o)) = (λ h. cc, λ h. cc)
+
+-- a change of an object leaves the same cells free, and with an object
+pub free_with_object : (f : Object → Object) (cells : List (Option Object)) (c k : ℕ) → (slice_get (updated c (option_map f) cells) k ≡ Some None) ↔ (slice_get cells k ≡ Some None)
+free_with_object f cells c k = go (same_or_not k c)
+  where
+    go : (k ≡ c) ⊎ (k ≢ c) → (slice_get (updated c (option_map f) cells) k ≡ Some None) ↔ (slice_get cells k ≡ Some None)
+    go (inl e) =
+        let here : slice_get (updated c (option_map f) cells) k ≡ option_map (option_map f) (slice_get cells k) = ap (slice_get (updated c (option_map f) cells)) e ∙ get_updated (option_map f) cells c ∙ ap (λ i. option_map (option_map f) (slice_get cells i)) (sym e) in
+        (λ h. (none_map f (slice_get cells k)).0 (sym here ∙ h), λ h. here ∙ (none_map f (slice_get cells k)).1 h)
+    go (inr n) = (λ h. sym (get_updated_other (option_map f) cells c k n) ∙ h, λ h. get_updated_other (option_map f) cells c k n ∙ h)
+
+pub inhabited_with_object : (f : Object → Object) (cells : List (Option Object)) (c k : ℕ) (o : Object) → slice_get cells k ≡ Some (Some o) → (p : Object) × (slice_get (updated c (option_map f) cells) k ≡ Some (Some p))
+inhabited_with_object f cells c k o h = go (same_or_not k c)
+  where
+    go : (k ≡ c) ⊎ (k ≢ c) → (p : Object) × (slice_get (updated c (option_map f) cells) k ≡ Some (Some p))
+    go (inl e) = (f o, ap (slice_get (updated c (option_map f) cells)) e ∙ get_updated (option_map f) cells c ∙ ap (λ i. option_map (option_map f) (slice_get cells i)) (sym e) ∙ ap (option_map (option_map f)) h)
+    go (inr n) = (o, get_updated_other (option_map f) cells c k n ∙ h)

@@ -1,0 +1,137 @@
+-- What is found in the regions that a table shows, and how a change of the table changes them.
+use Rattle.std.proofs.Common.{◌≡◌, ℕ, zero, suc, ◌<◌, Bool, List, length, [], ◌∷◌, map, Option, Some, None, IsSome, IfSome, option_map, get_or, set, refl, sym, ap, subst, ◌∙◌}
+use Rattle.std.specs.Prelude.{slice_get, option_and_then, drop}
+use Rattle.std.proofs.lemmas.List.{map-set}
+use Rattle.heap_class.specs.declared.ObjRef.{ObjRef}
+use Rattle.heap_region.specs.Regions.{Object, UsedRegion, Region, used_part, used_at, object_at, updated, in_used, with_region, with_object, with_word, with_mark, cell_object, slot_object}
+use Rattle.heap_region.specs.Changes.{with_live, with_pending}
+use Rattle.heap_region.specs.Pool.{RegionPool, taken, freed, released, restored, cell_freed}
+use Rattle.heap_region.specs.Layout.{words_of, changed_at, cell_filled, word_set, mark_set, live_set, pending_set}
+use Rattle.heap_region.specs.Table.{shown_region}
+
+-- an item of a list, by either word
+pub get_joined : {X : Type 0} (xs : List (Option X)) (i : ℕ) → option_and_then (λ (x : Option X). x) (slice_get xs i) ≡ get_or xs i None
+get_joined [] i = refl
+get_joined (x ∷ xs) zero = refl
+get_joined (x ∷ xs) (suc i) = get_joined xs i
+
+pub get_shown : (slots : List (Option UsedRegion)) (r : ℕ) → slice_get (map shown_region slots) r ≡ option_map shown_region (slice_get slots r)
+get_shown [] r = refl
+get_shown (s ∷ slots) zero = refl
+get_shown (s ∷ slots) (suc r) = get_shown slots r
+
+part_shown : (s : Option UsedRegion) → used_part (shown_region s) ≡ s
+part_shown None = refl
+part_shown (Some u) = refl
+
+-- a region in use
+pub used_shown : (slots : List (Option UsedRegion)) (r : ℕ) → used_at (map shown_region slots) r ≡ get_or slots r None
+unfolding used_at
+used_shown [] r = refl
+used_shown (s ∷ slots) zero = part_shown s
+used_shown (s ∷ slots) (suc r) = used_shown slots r
+
+-- an object of a region that is in use or not
+pub object_of_used : (regions : List Region) (at : ObjRef) → object_at regions at ≡ slot_object (used_at regions at.region) at.cell
+unfolding object_at
+object_of_used regions at = go (used_at regions at.region)
+  where
+    go : (s : Option UsedRegion) → option_and_then (λ (u : UsedRegion). option_and_then (λ (o : Option Object). o) (slice_get u.cells at.cell)) s ≡ slot_object s at.cell
+    go None = refl
+    go (Some u) = get_joined u.cells at.cell
+
+pub object_shown : (slots : List (Option UsedRegion)) (at : ObjRef) → object_at (map shown_region slots) at ≡ slot_object (get_or slots at.region None) at.cell
+object_shown slots at = object_of_used (map shown_region slots) at ∙ ap (λ s. slot_object s at.cell) (used_shown slots at.region)
+
+-- an object of a region that is known
+pub object_here : (regions : List Region) (at : ObjRef) (u : UsedRegion) → used_at regions at.region ≡ Some u → object_at regions at ≡ cell_object u at.cell
+object_here regions at u used = object_of_used regions at ∙ ap (λ s. slot_object s at.cell) used
+
+slot_is_used : (s : Option UsedRegion) (cell : ℕ) → IsSome (slot_object s cell) → IsSome s
+slot_is_used None cell some = some
+slot_is_used (Some u) cell some = search
+
+-- a region with an object is in use
+pub used_by_object : (regions : List Region) (at : ObjRef) → IsSome (object_at regions at) → IsSome (used_at regions at.region)
+used_by_object regions at some = slot_is_used (used_at regions at.region) at.cell (subst IsSome (object_of_used regions at) some)
+
+-- a region that is changed
+in_shown : (f : UsedRegion → UsedRegion) (s : Option UsedRegion) → in_used f (shown_region s) ≡ shown_region (option_map f s)
+unfolding in_used
+in_shown f None = refl
+in_shown f (Some u) = refl
+
+pub with_shown : (slots : List (Option UsedRegion)) (r : ℕ) (f : UsedRegion → UsedRegion) → with_region r f (map shown_region slots) ≡ map shown_region (set slots r (option_map f (get_or slots r None)))
+unfolding with_region updated
+with_shown [] r f = refl
+with_shown (s ∷ slots) zero f = ap (λ x. x ∷ map shown_region slots) (in_shown f s)
+with_shown (s ∷ slots) (suc r) f = ap (λ xs. shown_region s ∷ xs) (with_shown slots r f)
+
+-- a cell that is changed
+pub updated_cells : (cell : ℕ) (f : Object → Object) (cells : List (Option Object)) → updated cell (option_map f) cells ≡ set cells cell (option_map f (get_or cells cell None))
+unfolding updated
+updated_cells cell f [] = refl
+updated_cells zero f (x ∷ cells) = refl
+updated_cells (suc cell) f (x ∷ cells) = ap (λ xs. x ∷ xs) (updated_cells cell f cells)
+
+-- no region in use, no object
+pub none_unused : (regions : List Region) (at : ObjRef) → used_at regions at.region ≡ None → object_at regions at ≡ None
+none_unused regions at unused = object_of_used regions at ∙ ap (λ s. slot_object s at.cell) unused
+
+-- ---- an object that is known to be there
+
+pub length_known : (o : Option Object) (n : ℕ) → n ≡ length (words_of o) → IfSome o (λ o. n ≡ length o.words)
+length_known None n e = tt
+length_known (Some o) n e = e
+
+pub slot_known : (o : Option Object) (slot : ℕ) → IsSome o → IfSome o (λ o. slot < length o.words) → slot < length (words_of o)
+slot_known None slot some lt = absurd (cc)
+slot_known (Some o) slot some lt = lt
+
+pub word_known : (o : Option Object) (slot w : ℕ) → w ≡ get_or (words_of o) slot 0 → IfSome o (λ o. w ≡ get_or o.words slot 0)
+word_known None slot w e = tt
+word_known (Some o) slot w e = e
+
+-- ---- a change of one region
+
+pub taken_shown : (slots : List (Option UsedRegion)) (pool : List ℕ) (at : ObjRef) (o : Object) → taken at o (record { regions = map shown_region slots; pool = pool }) ≡ record { regions = map shown_region (set slots at.region (option_map (λ u. cell_filled u at.cell o) (get_or slots at.region None))); pool = pool }
+unfolding taken
+taken_shown slots pool at o = ap (λ (rs : List Region). let s : RegionPool = record { regions = rs; pool = pool } in s) (with_shown slots at.region (λ u. cell_filled u at.cell o))
+
+pub freed_shown : (slots : List (Option UsedRegion)) (pool : List ℕ) (at : ObjRef) → freed at (record { regions = map shown_region slots; pool = pool }) ≡ record { regions = map shown_region (set slots at.region (option_map (λ u. cell_freed u at.cell) (get_or slots at.region None))); pool = pool }
+unfolding freed
+freed_shown slots pool at = ap (λ (rs : List Region). let s : RegionPool = record { regions = rs; pool = pool } in s) (with_shown slots at.region (λ u. cell_freed u at.cell))
+
+pub released_shown : (slots : List (Option UsedRegion)) (pool : List ℕ) (r : ℕ) → released r (record { regions = map shown_region slots; pool = pool }) ≡ record { regions = map shown_region (set slots r None); pool = r ∷ pool }
+unfolding released
+released_shown slots pool r = ap (λ (rs : List Region). let s : RegionPool = record { regions = rs; pool = r ∷ pool } in s) (sym (map-set shown_region slots r None))
+
+pub restored_shown : (slots : List (Option UsedRegion)) (pool : List ℕ) (r : ℕ) (u : UsedRegion) → restored r u (record { regions = map shown_region slots; pool = pool }) ≡ record { regions = map shown_region (set slots r (Some u)); pool = drop 1 pool }
+unfolding restored
+restored_shown slots pool r u = ap (λ (rs : List Region). let s : RegionPool = record { regions = rs; pool = drop 1 pool } in s) (sym (map-set shown_region slots r (Some u)))
+
+pub changed_shown : (slots : List (Option UsedRegion)) (at : ObjRef) (f : Object → Object) → with_object at f (map shown_region slots) ≡ map shown_region (set slots at.region (option_map (λ u. changed_at u at.cell f) (get_or slots at.region None)))
+unfolding with_object
+changed_shown slots at f =
+    with_shown slots at.region (λ u. record u { cells = updated at.cell (option_map f) u.cells })
+    ∙ ap (λ s. map shown_region (set slots at.region s)) (go (get_or slots at.region None))
+  where
+    go : (s : Option UsedRegion) → option_map {T = UsedRegion} (λ u. record u { cells = updated at.cell (option_map f) u.cells }) s ≡ option_map (λ u. changed_at u at.cell f) s
+    go None = refl
+    go (Some u) = ap (λ cs. Some (record u { cells = cs })) (updated_cells at.cell f u.cells)
+
+pub word_shown : (slots : List (Option UsedRegion)) (at : ObjRef) (slot w : ℕ) → with_word at slot w (map shown_region slots) ≡ map shown_region (set slots at.region (option_map (λ u. changed_at u at.cell (word_set slot w)) (get_or slots at.region None)))
+unfolding with_word
+word_shown slots at slot w = changed_shown slots at (word_set slot w)
+
+pub mark_shown : (slots : List (Option UsedRegion)) (at : ObjRef) (mark : Bool) → with_mark mark at (map shown_region slots) ≡ map shown_region (set slots at.region (option_map (λ u. changed_at u at.cell (mark_set mark)) (get_or slots at.region None)))
+unfolding with_mark
+mark_shown slots at mark = changed_shown slots at (mark_set mark)
+
+pub live_shown : (slots : List (Option UsedRegion)) (at : ObjRef) (live : Bool) → with_live live at (map shown_region slots) ≡ map shown_region (set slots at.region (option_map (λ u. changed_at u at.cell (live_set live)) (get_or slots at.region None)))
+unfolding with_live
+live_shown slots at live = changed_shown slots at (live_set live)
+
+pub pending_shown : (slots : List (Option UsedRegion)) (r : ℕ) (pending : Bool) → with_pending pending r (map shown_region slots) ≡ map shown_region (set slots r (option_map (pending_set pending) (get_or slots r None)))
+unfolding with_pending
+pending_shown slots r pending = with_shown slots r (pending_set pending)

@@ -1,0 +1,152 @@
+-- What a dump into an outlet is that is made at its first put.
+use Rattle.std.proofs.Common.{◌≡◌, ℕ, ◌+◌, ◌<◌, true, false, List, [], ◌++◌, length, Option, Some, None, inl, inr, ap, sym, ◌∙◌, subst, arith, length-append}
+use Rattle.std.specs.List.{concat}
+use Rattle.std.proofs.lemmas.Bool.Decides.{nat_tests}
+use Rattle.std.proofs.lemmas.List.{append-nil}
+use Rattle.std.specs.Bool.{◌==◌}
+use Rattle.heap_class.specs.declared.IdSize.{IdSize}
+use Rattle.heap_class.specs.declared.LostCause.{LostCause}
+use Rattle.heap_class.specs.declared.LostCause.TheVariants.{Memory, Closed}
+use Rattle.heap_class.specs.declared.Refusal.{Refusal}
+use Rattle.hprof_text.specs.Image.{Image}
+use Rattle.hprof_text.specs.Segments.{dump_text, segment_records, end_record}
+use Rattle.hprof_text.specs.Text.{opening_records, sub_records}
+use Rattle.hprof_text.proofs.Lengths.{length-record_of}
+use Rattle.heap_pins.specs.Images.{image_of}
+use Rattle.heap_trail.specs.Pins.{open_refusal}
+use Rattle.heap_trail.specs.Machine.{Machine}
+use Rattle.dump_pump.specs.declared.transfer.Pumped.{Pumped}
+use Rattle.dump_pump.specs.declared.transfer.Pumped.TheVariants.{Done, OutletFailed, Lost, Cancelled}
+use Rattle.dump_pump.specs.Outlets.{Outgoing}
+use Rattle.dump_pump.specs.Pumps.{bytes_of}
+use Rattle.heap_dump.specs.PinDumps.{FitsText, PutsText, DumpsUnless, IsPlaceDumped, with_number_used}
+use Rattle.heap_save.specs.declared.late_outlet.Opening.{Opening}
+use Rattle.heap_save.specs.declared.late_outlet.Opening.TheVariants.{Unasked, Made, Refused}
+use Rattle.heap_save.specs.LateOutlets.{Since, IsLate, outlet_in}
+use Rattle.heap_save.specs.Saves.{HasBegun, LandsNowhere, LandsLate, is_unasked}
+
+-- ---- a dump
+
+abbrev since_then : List ℕ → ℕ → Outgoing
+since_then put f = record { out = put; failures = f }
+
+abbrev nothing : Outgoing
+nothing = record { out = []; failures = 0 }
+
+ends_long : (a b c : List ℕ) → 0 < length c → 0 < length (a ++ b ++ c)
+ends_long a b c some = omega (arith, some, length-append a (b ++ c), length-append b c, length-append (a ++ b) c, length-append a b)
+
+end_long : 0 < length end_record
+unfolding end_record
+end_long = omega (arith, length-record_of 0x2c [])
+
+long : (ids : IdSize) (image : Image) (time : ℕ) → 0 < length (dump_text ids image time)
+unfolding dump_text
+long ids image time = ends_long (opening_records ids image time) (concat (segment_records (sub_records ids image))) end_record end_long
+
+-- how a dump ended, and how many puts failed
+abbrev Tells : Machine → Machine → ℕ → Pumped → Type 0
+Tells m m' f (Done n) = (f ≡ 0) × (0 < n)
+Tells m m' f (OutletFailed n) = (f ≡ 1) × (m' ≡ with_number_used m)
+Tells m m' f (Lost cause n) = f ≡ 0
+Tells m m' f (Cancelled n) = ⊥
+
+abbrev IsTold : Machine → Machine → List ℕ → ℕ → Pumped → Type 0
+IsTold m m' put f r = (bytes_of r ≡ length put) × Tells m m' f r
+
+told_lost : (m m' : Machine) (put : List ℕ) (f : ℕ) (cause : LostCause) (r : Pumped) → since_then put f ≡ nothing → r ≡ Lost cause 0 → IsTold m m' put f r
+told_lost m m' put f cause r same is = subst (λ x. IsTold m m' put f x) (sym is) (sym (ap (λ (o : Outgoing). length o.out) same), ap (λ (o : Outgoing). o.failures) same)
+
+told_text : (m m' : Machine) (text put : List ℕ) (f : ℕ) (r : Pumped) → 0 < length text → m' ≡ with_number_used m → PutsText text nothing (since_then put f) r → IsTold m m' put f r
+told_text m m' text put f (Done n) some used p = (p.counted ∙ sym (ap (λ (l : List ℕ). length l) p.grows), (p.fits.1, omega (arith, p.counted, ap (λ (l : List ℕ). length l) p.fits.0, some)))
+told_text m m' text put f (OutletFailed n) some used p = (p.counted ∙ sym (ap (λ (l : List ℕ). length l) p.grows), (omega (arith, p.fits), used))
+told_text m m' text put f (Lost cause n) some used p = (p.counted ∙ sym (ap (λ (l : List ℕ). length l) p.grows), p.fits.1)
+told_text m m' text put f (Cancelled n) some used p = absurd p.fits
+
+told_by : (q : Option Refusal) (time : ℕ) (m m' : Machine) (put : List ℕ) (f : ℕ) (r : Pumped) → DumpsUnless q time m m' nothing (since_then put f) r → IsTold m m' put f r
+told_by (Some e) time m m' put f r h = told_lost m m' put f Closed r h.0.1 h.1
+told_by None time m m' put f r (inl h) = told_lost m m' put f Memory r h.0.1 h.1
+told_by None time m m' put f r (inr h) = told_text m m' (dump_text m.ids (image_of m.trail.current) time) put f r (long m.ids (image_of m.trail.current) time) h.0 h.1
+
+told : (time : ℕ) (m m' : Machine) (put : List ℕ) (f : ℕ) (r : Pumped) → IsPlaceDumped time m m' nothing (since_then put f) r → IsTold m m' put f r
+told time m m' put f r h = told_by (open_refusal m.trail.place m.trail m.pins) time m m' put f r h
+
+-- what is said of a dump from nothing is said of one into an outlet that goes on
+fits_on : (text out : List ℕ) (g g' f : ℕ) (r : Pumped) → g' ≡ g + f → FitsText text out 0 f r → FitsText text out g g' r
+fits_on text out g g' f (Done n) is h = (h.0, omega (arith, is, h.1))
+fits_on text out g g' f (OutletFailed n) is h = omega (arith, is, h)
+fits_on text out g g' f (Lost cause n) is h = (h.0, omega (arith, is, h.1))
+fits_on text out g g' f (Cancelled n) is h = absurd h
+
+text_on : (text : List ℕ) (start now : Outgoing) (put : List ℕ) (f : ℕ) (r : Pumped) → Since start now put f → PutsText text nothing (since_then put f) r → PutsText text start now r
+text_on text start now put f r since p = record {
+  out = p.out;
+  grows = since.0 ∙ ap (λ l. start.out ++ l) p.grows;
+  begins = p.begins;
+  counted = p.counted;
+  fits = fits_on text p.out start.failures now.failures f r since.1 p.fits;
+}
+
+same_on : (start now : Outgoing) (put : List ℕ) (f : ℕ) → Since start now put f → since_then put f ≡ nothing → now ≡ start
+same_on start now put f since same =
+    let out : now.out ≡ start.out = since.0 ∙ ap (λ (o : Outgoing). start.out ++ o.out) same ∙ append-nil start.out in
+    let failures : now.failures ≡ start.failures = omega (arith, since.1, ap (λ (o : Outgoing). o.failures) same) in
+    λ i. record { out = out i; failures = failures i }
+
+goes_on : (q : Option Refusal) (time : ℕ) (m m' : Machine) (start now : Outgoing) (put : List ℕ) (f : ℕ) (r : Pumped) → Since start now put f
+    → DumpsUnless q time m m' nothing (since_then put f) r → DumpsUnless q time m m' start now r
+goes_on (Some e) time m m' start now put f r since h = ((h.0.0, same_on start now put f since h.0.1), h.1)
+goes_on None time m m' start now put f r since (inl h) = inl ((h.0.0, same_on start now put f since h.0.1), h.1)
+goes_on None time m m' start now put f r since (inr h) = inr (h.0, text_on (dump_text m.ids (image_of m.trail.current) time) start now put f r since h.1)
+
+dumped_on : (time : ℕ) (m m' : Machine) (start now : Outgoing) (put : List ℕ) (f : ℕ) (r : Pumped) → Since start now put f → IsPlaceDumped time m m' nothing (since_then put f) r → IsPlaceDumped time m m' start now r
+dumped_on time m m' start now put f r since h = goes_on (open_refusal m.trail.place m.trail m.pins) time m m' start now put f r since h
+
+-- ---- where it lands
+
+nothing_since : (start : Outgoing) (put : List ℕ) (f : ℕ) → put ≡ [] → f ≡ 0 → Since start start put f
+nothing_since start put f empty zero = (sym (ap (λ l. start.out ++ l) empty ∙ append-nil start.out), omega (arith, zero))
+
+some_is : (n : ℕ) → 0 < n → (n == 0) ≡ true → ⊥
+some_is n some e = grind (arith, nat_tests)
+
+not_so : false ≡ true → ⊥
+not_so e = cc
+
+nowhere_lost : (makes : Option Outgoing → Type 0) (time : ℕ) (m m' : Machine) (put : List ℕ) (f : ℕ) (r : Pumped) → put ≡ [] → f ≡ 0 → IsTold m m' put f r → IsPlaceDumped time m m' nothing (since_then put f) r → LandsNowhere makes time m m' r
+nowhere_lost makes time m m' put f (Done n) empty zero t d = absurd (omega (arith, t.0, t.1.1, ap (λ (l : List ℕ). length l) empty))
+nowhere_lost makes time m m' put f (OutletFailed n) empty zero t d = absurd (omega (arith, t.1.0, zero))
+nowhere_lost makes time m m' put f (Lost cause n) empty zero t d =
+    (omega (arith, t.0, ap (λ (l : List ℕ). length l) empty), λ w. dumped_on time m m' w w put f (Lost cause n) (nothing_since w put f empty zero) d)
+nowhere_lost makes time m m' put f (Cancelled n) empty zero t d = absurd t.1
+
+nowhere_failed : (makes : Option Outgoing → Type 0) (time : ℕ) (m m' : Machine) (put : List ℕ) (f : ℕ) (r : Pumped) (X : Type 0) → put ≡ [] → 0 < f → makes None → IsTold m m' put f r → LandsNowhere makes time m m' r × (is_unasked (Some r) ≡ true → X)
+nowhere_failed makes time m m' put f (Done n) X empty some unmade t = absurd (omega (arith, t.1.0, some))
+nowhere_failed makes time m m' put f (OutletFailed n) X empty some unmade t = ((omega (arith, t.0, ap (λ (l : List ℕ). length l) empty), unmade, t.1.1), λ is. absurd (not_so is))
+nowhere_failed makes time m m' put f (Lost cause n) X empty some unmade t = absurd (omega (arith, t.1, some))
+nowhere_failed makes time m m' put f (Cancelled n) X empty some unmade t = absurd t.1
+
+begun : (m m' : Machine) (put : List ℕ) (f : ℕ) (r : Pumped) (X : Type 0) → 0 < length put + f → IsTold m m' put f r → HasBegun r × (is_unasked (Some r) ≡ true → X)
+begun m m' put f (Done n) X some t = (tt, λ is. absurd (not_so is))
+begun m m' put f (OutletFailed n) X some t = (tt, λ is. absurd (not_so is))
+begun m m' put f (Lost cause n) X some t =
+    let more : 0 < n = omega (arith, t.0, t.1, some) in
+    (more, λ is. absurd (some_is n more is))
+begun m m' put f (Cancelled n) X some t = absurd t.1
+
+pub landed : {P O : Type 0} (was : P → Type 0) (makes : P → Option Outgoing → Type 0) (seen : O → Outgoing) (time : ℕ) (m m' : Machine) (place : P) (opening : Opening O) (put : List ℕ) (f : ℕ) (r : Pumped)
+    → IsLate was makes seen place opening put f → IsPlaceDumped time m m' nothing (since_then put f) r → LandsLate was makes seen time m m' place (outlet_in opening) r
+landed was makes seen time m m' place Unasked put f r (before, empty, zero) d =
+    (place, before, nowhere_lost (makes place) time m m' put f r empty zero (told time m m' put f r d) d, λ is. before)
+landed was makes seen time m m' place (Made o) put f r (first, before, (start, made, since), some) d =
+    let b = begun m m' put f r (was place) some (told time m m' put f r d) in
+    (first, before, (b.0, (start, made, dumped_on time m m' start (seen o) put f r since d)), b.1)
+landed was makes seen time m m' place Refused put f r (first, before, unmade, empty, some) d =
+    let b = nowhere_failed (makes first) time m m' put f r (was place) empty some unmade (told time m m' put f r d) in
+    (first, before, b.0, b.1)
+
+-- the place and the outlet as they were handed out
+pub handed_out : {P O : Type 0} (was : P → Type 0) (makes : P → Option Outgoing → Type 0) (seen : O → Outgoing) (time : ℕ) (m m' : Machine) (place place' : P) (outlet outlet' : Option O) (r : Pumped) → place' ≡ place → outlet' ≡ outlet
+    → LandsLate was makes seen time m m' place outlet r → LandsLate was makes seen time m m' place' outlet' r
+handed_out was makes seen time m m' place place' outlet outlet' r here there h =
+    subst (λ p. LandsLate was makes seen time m m' p outlet' r) (sym here) (subst (λ o. LandsLate was makes seen time m m' place o r) (sym there) h)

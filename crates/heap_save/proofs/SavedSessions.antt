@@ -1,0 +1,55 @@
+-- A session that is saved.
+use Rattle.std.proofs.Common.{◌≡◌, ℕ, Bool, true, false, refl, subst, sym, Option, Some, None}
+use Rattle.dump_pump.specs.declared.transfer.Pumped.{Pumped}
+use Rattle.dump_pump.specs.declared.transfer.Pumped.TheVariants.{Done, OutletFailed, Lost, Cancelled}
+use Rattle.dump_pump.specs.Outlets.{Outgoing}
+use Rattle.heap_trail.specs.Machine.{Machine}
+use Rattle.session_text.specs.declared.Ended.{Ended}
+use Rattle.session_text.specs.Endings.{EndsSession, ended_of}
+use Rattle.session_text.specs.Inlets.{Incoming}
+use Rattle.session_text.specs.Limits.{is_whole_session}
+use Rattle.session_text.specs.Local.{own_closed}
+use Rattle.session_text.specs.Session.{IsSession}
+use Rattle.session_text.specs.Writes.{IsTextWritten}
+use Rattle.heap_save.specs.Saves.{IsSaved, EndsSave, Lands, LandsNowhere, last_line}
+
+-- after a session in which each line was run, a dump and a last line
+pub saved_so : (makes : Option Outgoing → Type 0) (first own time : ℕ) (m left m' : Machine) (a b : Incoming) (w between w' : Outgoing) (outlet : Option Outgoing) (talked ended : Ended) (r : Pumped) (written : Bool)
+    → is_whole_session talked ≡ true → own ≡ first → IsSession m time a b w between left talked → EndsSession a b w between talked → Lands makes time (own_closed own left) m' outlet r
+    → IsTextWritten (last_line r) between w' written → ended ≡ ended_of talked written → IsSaved makes first time m m' a b w w' outlet ended (Some r)
+saved_so makes first own time m left m' a b w between w' outlet talked ended r written whole same session ends lands said is = record {
+  talked = talked;
+  left = left;
+  between = between;
+  session = session;
+  ends = ends;
+  goes =
+      subst (λ q. EndsSave makes first time left m' between w' outlet talked ended (Some r) q) (sym whole)
+      (r, subst (λ n. Lands makes time (own_closed n left) m' outlet r) same lands, refl, (written, said, is));
+}
+
+-- the same wherever an outlet may be made
+pub saved_anywhere : (makes others : Option Outgoing → Type 0) (first time : ℕ) (m m' : Machine) (a b : Incoming) (w w' : Outgoing) (outlet : Option Outgoing) (ended : Ended) (pumped : Option Pumped)
+    → ((o : Option Outgoing) → makes o → others o) → IsSaved makes first time m m' a b w w' outlet ended pumped → IsSaved others first time m m' a b w w' outlet ended pumped
+saved_anywhere makes others first time m m' a b w w' outlet ended pumped more s = record {
+  talked = s.talked;
+  left = s.left;
+  between = s.between;
+  session = s.session;
+  ends = s.ends;
+  goes = go (is_whole_session s.talked) s.goes;
+}
+  where
+    nowhere_there : (n n' : Machine) (r : Pumped) → LandsNowhere makes time n n' r → LandsNowhere others time n n' r
+    nowhere_there n n' (Done k) h = h
+    nowhere_there n n' (OutletFailed k) h = (h.0, more None h.1, h.2)
+    nowhere_there n n' (Lost cause k) h = h
+    nowhere_there n n' (Cancelled k) h = h
+
+    lands_there : (n n' : Machine) (o : Option Outgoing) (r : Pumped) → Lands makes time n n' o r → Lands others time n n' o r
+    lands_there n n' None r h = nowhere_there n n' r h
+    lands_there n n' (Some w2) r (begun, (w1, made, dumped)) = (begun, (w1, more (Some w1) made, dumped))
+
+    go : (q : Bool) → EndsSave makes first time s.left m' s.between w' outlet s.talked ended pumped q → EndsSave others first time s.left m' s.between w' outlet s.talked ended pumped q
+    go true (r, lands, is, line) = (r, lands_there (own_closed first s.left) m' outlet r lands, is, line)
+    go false h = h

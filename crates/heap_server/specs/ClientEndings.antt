@@ -1,0 +1,45 @@
+-- What a client sends, and how it ends.
+use Rattle.std.specs.Prelude.{◌≡◌, ◌⊎◌, ℕ, [], Bool, true, false, codes}
+use Rattle.dump_pump.specs.Outlets.{Outgoing}
+use Rattle.dump_pump.specs.Pumps.{PutsAll}
+use Rattle.session_text.specs.Inlets.{Incoming}
+use Rattle.heap_server.specs.declared.client.Asked.{Asked}
+use Rattle.heap_server.specs.declared.client.Asked.TheVariants.{Done, ReadFault as Unread, WriteFault as Unwritten, NoMemory}
+use Rattle.heap_server.specs.declared.copy.Copied.{Copied}
+use Rattle.heap_server.specs.declared.copy.Copied.TheVariants.{Whole, ReadFault, WriteFault}
+use Rattle.heap_server.specs.Copies.{Copies}
+
+-- the last line was put out, or a beginning of it
+abbrev pub PutsLastLine : Outgoing → Outgoing → Type 0
+PutsLastLine w w' = (n : ℕ) × PutsAll (codes "\nend\n") w w' n
+
+-- after the input's copy the last line was put out, unless a write failed
+abbrev pub SendsAfter : Outgoing → Outgoing → Bool → Copied → Type 0
+SendsAfter between w' failed Whole = (failed ≡ false) × PutsLastLine between w'
+SendsAfter between w' failed ReadFault = (failed ≡ true) × PutsLastLine between w'
+SendsAfter between w' failed WriteFault = (failed ≡ false) × (w' ≡ between)
+
+-- what is read is written on until the input ends, a read fails or a write does
+abbrev pub Sends : Incoming → Incoming → Outgoing → Outgoing → Bool → Type 0
+Sends a b w w' failed =
+    (copied : Copied) × (between : Outgoing) × Copies a b w between copied
+    × SendsAfter between w' failed copied
+
+-- a fault of the input goes before one of the copy
+abbrev pub asked_end : Bool → Copied → Asked
+asked_end true copied = Unread
+asked_end false Whole = Done
+asked_end false ReadFault = Unread
+asked_end false WriteFault = Unwritten
+
+-- what came from the socket was put out as its copy says
+abbrev pub Receives : Incoming → Incoming → Outgoing → Outgoing → Asked → Type 0
+Receives a b w w' result =
+    (copied : Copied) × (failed : Bool) × Copies a b w w' copied
+    × (result ≡ asked_end failed copied)
+
+-- a socket that had given nothing before was received from; or there was no memory, and nothing was put out
+abbrev pub AsksServer : Outgoing → Outgoing → Asked → Type 0
+AsksServer w w' result =
+    ((a : Incoming) × (b : Incoming) × (a.taken ≡ []) × Receives a b w w' result)
+    ⊎ ((result ≡ NoMemory) × (w' ≡ w))

@@ -1,0 +1,24 @@
+-- Seats for sessions.
+use Rattle.std.specs.Prelude.{◌≡◌, ◌≤◌, ℕ, false, List, [], ◌∷◌, ⊤, length}
+use Rattle.heap_lock.specs.declared.entry.Role.TheVariants.{User}
+use Rattle.heap_lock.specs.Blanks.{Maker}
+use Rattle.heap_lock.specs.LockStates.{Chair}
+use Rattle.heap_server.specs.declared.sessions.Served.{Served}
+use Rattle.heap_server.specs.declared.sessions.ServedHeap.{ServedHeap}
+
+-- the most sessions
+abbrev pub session_limit : ℕ
+session_limit = 1000
+
+-- each is a user's
+abbrev pub AreUsers : List Chair → Type 0
+AreUsers [] = ⊤
+AreUsers (s ∷ seats) = (s.role ≡ User) × AreUsers seats
+
+-- at most so many sessions, and as many unless an accept failed
+abbrev pub IsFor : ℕ → Served → Type 0
+IsFor most s = (length s.ends.items ≤ most) × (s.refused ≡ false → length s.ends.items ≡ most)
+
+-- these sessions were over this heap, with this time in its dumps
+abbrev pub IsOver : Maker → ℕ → ℕ → ServedHeap → Type 0
+IsOver blank time most h = (h.made.value ≡ blank) × (h.time ≡ time) × IsFor most h.served

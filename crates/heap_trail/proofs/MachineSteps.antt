@@ -1,0 +1,109 @@
+-- What a step makes of a machine.
+use Rattle.heap_class.specs.declared.IdSize.{IdSize}
+use Rattle.std.proofs.Common.{◌≡◌, ℕ, ◌+◌, ◌<◌, ◌≤◌, true, false, List, ◌∷◌, length, length-take, take, sym, ap, subst, ◌∙◌, None, Ok, Err, inl, inr, arith}
+use Rattle.std.specs.Prelude.{nat_le, ◌⊎◌}
+use Rattle.circular_buffer.specs.Buffer.{Buffer}
+use Rattle.heap_class.specs.declared.Refusal.{Refusal}
+use Rattle.heap_class.specs.declared.Refusal.TheVariants.{NoMemory, ChronicleFull}
+use Rattle.heap_world.specs.State.{HeapState}
+use Rattle.heap_world.specs.Legal.{IsLegal}
+use Rattle.heap_step.specs.declared.Event.{Event}
+use Rattle.heap_step.specs.declared.Answer.{Answer}
+use Rattle.heap_step.specs.declared.Undo.{Undo}
+use Rattle.heap_step.specs.Apply.{refusal_of, state_after, applied, applied_unless, event_may_grow}
+use Rattle.heap_step.specs.Records.{undo_record, undone}
+use Rattle.heap_step.specs.Laws.{IsStep, IsTakenBack}
+use Rattle.heap_trail.specs.declared.Action.TheVariants.{Step}
+use Rattle.heap_trail.specs.declared.Reply.TheVariants.{Answered, Refused}
+use Rattle.heap_trail.specs.Limits.{last_place}
+use Rattle.heap_trail.specs.Trail.{stepped}
+use Rattle.heap_trail.specs.Machine.{Machine, after_result, after_step_at, acted, Denied, may_grow, is_accepted, MayStand}
+use Rattle.heap_trail.specs.Records.{past_of, AreRecorded, IsRetaining, machine_with, with_record}
+use Rattle.heap_trail.specs.Pins.{Pins}
+use Rattle.heap_trail.proofs.RecordedPast.{past_of-take, recorded-take}
+
+-- an accepted event, the state after it and its record
+pub record IsAccepted (e : Event) (w v : HeapState) (left : Undo) : Type 0 where
+  pub accepted : refusal_of e w ≡ None
+  pub gave : v ≡ state_after e w
+  pub recorded : left ≡ undo_record e w
+  pub after : IsLegal v
+  pub law : IsTakenBack e w
+
+-- its record leads back
+pub leads_back : (e : Event) (w v : HeapState) (left : Undo) → IsLegal w → IsAccepted e w v left → undone left v ≡ w
+leads_back e w v left legal a = (λ i. undone (a.recorded i) (a.gave i)) ∙ a.law legal a.accepted
+
+short_take : {A : Type 0} (n : ℕ) (xs : List A) → length (take n xs) ≤ n
+short_take n xs = omega (arith, length-take n xs)
+
+pub kept_after_step : (e : Event) (w v : HeapState) (left : Undo) (ring : Buffer Undo) (place keep : ℕ) → IsRetaining w ring place keep → IsAccepted e w v left → place < last_place → IsRetaining v (with_record left ring) (place + 1) keep
+kept_after_step e w v left ring place keep k a h = record {
+  legal = a.after;
+  recorded = recorded-take ring.capacity v (left ∷ ring.items) all;
+  few = omega (arith, short_take ring.capacity (left ∷ ring.items), k.room);
+  room = k.room;
+  within = k.within;
+  placed = omega (arith, shorter ring.capacity (left ∷ ring.items), k.placed);
+  counted = omega (arith, h);
+}
+  where
+    Told : HeapState → Type 0
+    Told u = ((e : Event) × IsStep e u v left) × AreRecorded u ring.items
+
+    all : AreRecorded v (left ∷ ring.items)
+    all = subst Told (sym (leads_back e w v left k.legal a)) ((e, record { legal = k.legal; accepted = a.accepted; gave = a.gave; recorded = a.recorded }), k.recorded)
+
+    shorter : (n : ℕ) (xs : List Undo) → length (take n xs) ≤ length xs
+    shorter n xs = omega (arith, length-take n xs)
+
+not_last : (place : ℕ) → place < last_place → nat_le last_place place ≡ false
+not_last place h = grind (arith, h)
+
+is_last : (place : ℕ) → last_place ≤ place → nat_le last_place place ≡ true
+is_last place h = grind (arith, h)
+
+-- ---- replies
+
+pub step_done : (ids : IdSize) (e : Event) (w v : HeapState) (left : Undo) (ring : Buffer Undo) (place keep : ℕ) (ps : Pins) (answer : Answer) → IsRetaining w ring place keep → IsAccepted e w v left → place < last_place → applied e w ≡ Ok (v, answer)
+    → acted (machine_with ids w ring place keep ps) (Step e) ≡ (machine_with ids v (with_record left ring) (place + 1) keep ps, Answered answer)
+unfolding acted after_step_at after_result stepped
+step_done ids e w v left ring place keep ps answer k a h done =
+    ap (λ b. after_step_at b e (machine_with ids w ring place keep ps)) (not_last place h)
+    ∙ ap (after_result (machine_with ids w ring place keep ps)) done
+    ∙ ap (λ vs. (let m : Machine = record (machine_with ids w ring place keep ps) { trail = record { place = place + 1; current = v; past = vs } } in m, Answered answer)) past
+  where
+    past : take keep (w ∷ past_of w ring.items) ≡ past_of v (take ring.capacity (left ∷ ring.items))
+    past = ap (λ n. take n (w ∷ past_of w ring.items)) (sym k.room)
+        ∙ ap (λ u. take ring.capacity (u ∷ past_of u ring.items)) (sym (leads_back e w v left k.legal a))
+        ∙ sym (past_of-take ring.capacity v (left ∷ ring.items))
+
+pub step_refused : (ids : IdSize) (e : Event) (w : HeapState) (ring : Buffer Undo) (place keep : ℕ) (ps : Pins) (r : Refusal) → place < last_place → applied e w ≡ Err r
+    → acted (machine_with ids w ring place keep ps) (Step e) ≡ (machine_with ids w ring place keep ps, Refused r)
+unfolding acted after_step_at after_result
+step_refused ids e w ring place keep ps r h refused =
+    ap (λ b. after_step_at b e (machine_with ids w ring place keep ps)) (not_last place h)
+    ∙ ap (after_result (machine_with ids w ring place keep ps)) refused
+
+-- at the last place
+pub step_full : (ids : IdSize) (e : Event) (w : HeapState) (ring : Buffer Undo) (place keep : ℕ) (ps : Pins) → last_place ≤ place
+    → acted (machine_with ids w ring place keep ps) (Step e) ≡ (machine_with ids w ring place keep ps, Refused ChronicleFull)
+unfolding acted after_step_at
+step_full ids e w ring place keep ps h = ap (λ b. after_step_at b e (machine_with ids w ring place keep ps)) (is_last place h)
+
+-- for want of memory, where nothing else refuses it
+pub step_starved : (ids : IdSize) (e : Event) (w : HeapState) (ring : Buffer Undo) (place keep : ℕ) (ps : Pins) → place < last_place → refusal_of e w ≡ None → event_may_grow e w ≡ true
+    → MayStand (machine_with ids w ring place keep ps) (Step e, Denied)
+unfolding acted after_step_at after_result applied applied_unless may_grow is_accepted
+step_starved ids e w ring place keep ps h none grows = (
+  grows,
+  ap (λ b. is_accepted (after_step_at b e (machine_with ids w ring place keep ps)).1) (not_last place h)
+      ∙ ap (λ r. is_accepted (after_result (machine_with ids w ring place keep ps) (applied_unless r e w)).1) none,
+)
+
+-- a step that is refused by its event
+pub step_err : (ids : IdSize) (e : Event) (w v : HeapState) (ring : Buffer Undo) (place keep : ℕ) (ps : Pins) (r : Refusal) → place < last_place → v ≡ w
+    → (applied e w ≡ Err r) ⊎ ((refusal_of e w ≡ None) × (event_may_grow e w ≡ true) × (r ≡ NoMemory))
+    → (acted (machine_with ids w ring place keep ps) (Step e) ≡ (machine_with ids v ring place keep ps, Refused r)) ⊎ (MayStand (machine_with ids w ring place keep ps) (Step e, Denied) × (r ≡ NoMemory))
+step_err ids e w v ring place keep ps r h same (inl refused) = inl (step_refused ids e w ring place keep ps r h refused ∙ ap (λ u. (machine_with ids u ring place keep ps, Refused r)) (sym same))
+step_err ids e w v ring place keep ps r h same (inr starved) = inr (step_starved ids e w ring place keep ps h starved.0 starved.1, starved.2)

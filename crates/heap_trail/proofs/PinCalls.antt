@@ -1,0 +1,80 @@
+-- What the calls on one pin give.
+use Rattle.std.proofs.Common.{◌≡◌, ℕ, ◌<◌, ◌≤◌, Bool, true, false, sym, ap, subst, ◌∙◌, IsSome, arith, refl, inl, inr, Some, None, Result, Ok, Err}
+use Rattle.std.specs.Prelude.{nat_lt, slice_index_or, is_some, if◌then◌else◌, OnOk, OnErr}
+use Rattle.std.specs.Result.{is_err}
+use Rattle.heap_class.specs.declared.LostCause.{LostCause}
+use Rattle.heap_class.specs.declared.LostCause.TheVariants.{Rewound, Memory}
+use Rattle.heap_world.specs.State.{HeapState}
+use Rattle.heap_step.specs.declared.Undo.{Undo}
+use Rattle.hprof_text.specs.declared.Cursor.{Cursor}
+use Rattle.heap_pins.specs.Pin.{PinContents}
+use Rattle.heap_pins.specs.KeptCopies.{copy_for, kept, kept_at, kept_if, touched}
+use Rattle.heap_trail.specs.declared.held.Held.{Held}
+use Rattle.heap_trail.specs.declared.held.Held.TheVariants.{Kept, Lost}
+use Rattle.heap_trail.specs.declared.held.NumberedPin.{NumberedPin}
+use Rattle.heap_trail.specs.OpenPins.{IsSizedHeld, IsRegionWithin, held_kept, is_kept, is_settled, MayKeep, held_after_rewind, slot_after_rewind}
+
+pub at_err : {A E P : Type 0} (r : Result A E) → is_err r ≡ true → OnErr r P → P
+at_err (Ok a) e p = cc
+at_err (Err e') e p = p
+
+pub at_ok : {A E P : Type 0} (r : Result A E) → is_err r ≡ false → OnOk r P → P
+at_ok (Ok a) e p = p
+at_ok (Err e') e p = cc
+
+pub is_clash : {P : Type 0} (b : Bool) → b ≡ false → b ≡ true → P
+is_clash b f t = absurd (clash (sym f ∙ t))
+  where
+    clash : false ≡ true → ⊥
+    clash e = cc
+
+-- a kept pin is lost for want of memory
+pub loses : (left : Undo) (v : HeapState) (s : NumberedPin) (n place : ℕ) (pin : PinContents) (cursor : Cursor) (given : ℕ) → n ≡ s.number → s.held ≡ Kept place pin cursor given → IsSome (touched left) → MayKeep left v s (record { number = n; held = Lost Memory })
+unfolding is_kept
+loses left v s n place pin cursor given same is some = inr (λ i. record { number = same i; held = Lost Memory }, ap is_kept is, some)
+
+-- a kept pin keeps what it has to
+pub keeps : (left : Undo) (v : HeapState) (s t : NumberedPin) (place : ℕ) (pin q : PinContents) (cursor : Cursor) (given : ℕ) → t ≡ record { number = s.number; held = Kept place q cursor given } → s.held ≡ Kept place pin cursor given → q ≡ kept left v pin → MayKeep left v s t
+unfolding held_kept
+keeps left v s t place pin q cursor given e is k = inl (e ∙ (λ i. record { number = s.number; held = Kept place (k i) cursor given }) ∙ ap (λ h. record s { held = held_kept left v h }) (sym is))
+
+-- a lost one stays so
+pub stays_lost : (left : Undo) (v : HeapState) (s t : NumberedPin) (cause : LostCause) → t ≡ record { number = s.number; held = s.held } → s.held ≡ Lost cause → MayKeep left v s t
+unfolding held_kept
+stays_lost left v s t cause e is = inl (e ∙ ap (λ h. record s { held = h }) is ∙ ap (λ h. record s { held = held_kept left v h }) (sym is))
+
+-- a settled one stays as it is
+settled_pin : (left : Undo) (v : HeapState) (r : ℕ) (p : PinContents) → touched left ≡ Some r → is_some (slice_index_or p.copies r None) ≡ true → kept left v p ≡ p
+unfolding kept kept_if kept_at
+settled_pin left v r p at some = ap (λ t. kept_if t left v p) at ∙ ap (λ b. kept_at r (copy_for left v r) b p) some
+
+settled_held : (left : Undo) (v : HeapState) (r : ℕ) (h : Held) → touched left ≡ Some r → is_settled r h ≡ true → h ≡ held_kept left v h
+unfolding held_kept is_settled
+settled_held left v r (Kept place pin cursor given) at settled = ap (λ p. Kept place p cursor given) (sym (settled_pin left v r pin at settled))
+settled_held left v r (Lost cause) at settled = refl
+
+pub settled_stays : (left : Undo) (v : HeapState) (r : ℕ) (s : NumberedPin) → touched left ≡ Some r → is_settled r s.held ≡ true → MayKeep left v s s
+settled_stays left v r s at settled = inl (ap (λ (h : Held). (let t : NumberedPin = record s { held = h } in t)) (settled_held left v r s.held at settled))
+
+-- a pin with a place for the copy of each region has one for this
+pub held_within : (n r : ℕ) (h : Held) → IsSizedHeld n h → r < n → IsRegionWithin r h
+held_within n r (Kept place pin cursor given) sized lt = subst (λ m. r < m) (sym sized) lt
+held_within n r (Lost cause) sized lt = tt
+
+-- ---- a rewind
+
+pub above_lost : (s : NumberedPin) (n to place : ℕ) (pin : PinContents) (cursor : Cursor) (given : ℕ) → n ≡ s.number → s.held ≡ Kept place pin cursor given → to < place → record { number = n; held = Lost Rewound } ≡ slot_after_rewind to s
+unfolding held_after_rewind
+above_lost s n to place pin cursor given same is above =
+    let t : nat_lt to place ≡ true = grind (arith, above) in
+    (λ i. record { number = same i; held = Lost Rewound }) ∙ ap (λ b. record s { held = (if b then Lost Rewound else Kept place pin cursor given) }) (sym t) ∙ ap (λ h. record s { held = held_after_rewind to h }) (sym is)
+
+pub below_stays : (s t : NumberedPin) (to place : ℕ) (pin : PinContents) (cursor : Cursor) (given : ℕ) → t ≡ record { number = s.number; held = s.held } → s.held ≡ Kept place pin cursor given → place ≤ to → t ≡ slot_after_rewind to s
+unfolding held_after_rewind
+below_stays s t to place pin cursor given e is below =
+    let f : nat_lt to place ≡ false = grind (arith, below) in
+    e ∙ ap (λ h. record s { held = h }) is ∙ ap (λ b. record s { held = (if b then Lost Rewound else Kept place pin cursor given) }) (sym f) ∙ ap (λ h. record s { held = held_after_rewind to h }) (sym is)
+
+pub lost_stays : (s t : NumberedPin) (to : ℕ) (cause : LostCause) → t ≡ record { number = s.number; held = s.held } → s.held ≡ Lost cause → t ≡ slot_after_rewind to s
+unfolding held_after_rewind
+lost_stays s t to cause e is = e ∙ ap (λ h. record s { held = h }) is ∙ ap (λ h. record s { held = held_after_rewind to h }) (sym is)

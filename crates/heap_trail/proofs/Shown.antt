@@ -1,0 +1,54 @@
+-- What pins show.
+use Rattle.std.proofs.Common.{◌≡◌, ℕ, List, ◌∷◌, Some, None, sym, ap, subst, ◌∙◌}
+use Rattle.circular_buffer.specs.Buffer.{Buffer}
+use Rattle.heap_class.specs.declared.IdSize.{IdSize}
+use Rattle.heap_class.specs.declared.Refusal.{Refusal}
+use Rattle.heap_world.specs.State.{HeapState}
+use Rattle.heap_step.specs.declared.Undo.{Undo}
+use Rattle.heap_pins.specs.Pin.{PinContents, pin_image}
+use Rattle.heap_pins.specs.Shows.{ShowsState}
+use Rattle.heap_pins.specs.View.{PinShown}
+use Rattle.heap_pins.proofs.HeldPins.{first_of, held_image}
+use Rattle.heap_trail.specs.declared.held.Held.{Held}
+use Rattle.heap_trail.specs.declared.held.Held.TheVariants.{Kept, Lost}
+use Rattle.heap_trail.specs.declared.held.NumberedPin.{NumberedPin}
+use Rattle.heap_trail.specs.Pins.{PinState, pin_at}
+use Rattle.heap_trail.specs.Pins.{Kept as KeptState}
+use Rattle.heap_trail.specs.Trail.{state_ago}
+use Rattle.heap_trail.specs.Machine.{Machine}
+use Rattle.heap_trail.specs.OpenPins.{CanGive, state_of}
+use Rattle.heap_trail.specs.Records.{past_of, machine_of}
+use Rattle.heap_trail.specs.Past.{HoldsPast, past_state}
+use Rattle.heap_trail.specs.Views.{CanShow, IsViewBeside, IsViewOf, RefusesView, ShowsAgo, view_refusal}
+
+-- a pin that holds a state of the past shows its image
+pub shows_ago : (ids : IdSize) (w : HeapState) (ring : Buffer Undo) (place keep next : ℕ) (slots : List NumberedPin) (n : ℕ) (p : PinContents) → HoldsPast p w ring.items n → ShowsAgo (machine_of ids w ring place keep next slots).trail n p
+unfolding state_ago
+shows_ago ids w ring place keep next slots n p h =
+    let u = past_state w ring.items n in
+    let past = past_of w ring.items in
+    record {
+      shows = (u, h.pin, first_of (ShowsState p u) n w past h.shows);
+      image = held_image p u n w past h;
+    }
+
+pub can_show : (ids : IdSize) (w : HeapState) (h : Held) → CanGive ids w h → CanShow w h
+can_show ids w (Kept place pin cursor given) c = c.0
+can_show ids w (Lost cause) c = tt
+
+-- the view of a pin that is found shows its image
+pub view_of : (m : Machine) (pin : ℕ) (h : Held) (v : PinShown) → pin_at pin m.pins ≡ Some (state_of m.trail.current h) → IsViewBeside m.ids m.trail.current h v → IsViewOf m pin v
+unfolding state_of
+view_of m pin (Kept place p cursor given) v found is = record {
+  ids = ap (λ (v : PinShown). v.ids) is;
+  image = (place, given, found ∙ ap (λ (v : PinShown). Some (KeptState place (pin_image v.pin v.state) given)) (sym is));
+}
+view_of m pin (Lost cause) v found is = absurd is
+
+pub lost_view : (m : Machine) (pin : ℕ) (h : Held) (e : Refusal) → pin_at pin m.pins ≡ Some (state_of m.trail.current h) → RefusesView h e → view_refusal (pin_at pin m.pins) ≡ Some e
+unfolding state_of view_refusal
+lost_view m pin (Kept place p cursor given) e found is = absurd is
+lost_view m pin (Lost cause) e found is = ap view_refusal found ∙ ap Some (sym is)
+
+pub no_view : (m : Machine) (pin : ℕ) → pin_at pin m.pins ≡ None → view_refusal (pin_at pin m.pins) ≡ view_refusal None
+no_view m pin none = ap view_refusal none

@@ -1,0 +1,115 @@
+-- A heap is legal as it begins.
+use Rattle.std.proofs.Common.{◌≡◌, ℕ, zero, suc, ◌+◌, ◌*◌, ◌≤◌, ◌<◌, false, List, [], replicate, refl, sym, ap, subst, ◌∙◌, Option, Some, None, arith}
+use Rattle.std.specs.Prelude.{slice_get, slice_index_or, option_and_then, Contains, nat_eq}
+use Rattle.std.specs.List.{range_with_len, IsDistinct, AllByRecursion}
+use Rattle.heap_class.specs.declared.ObjRef.{ObjRef}
+use Rattle.heap_region.specs.Regions.{Object, UsedRegion, Empty, used_part, used_at, object_at}
+use Rattle.heap_class.specs.Classes.{Class}
+use Rattle.heap_region.specs.Pool.{RegionPool, opening_pool}
+use Rattle.heap_mark.specs.Marker.{MarkerState, idle_marker}
+use Rattle.heap_world.specs.State.{HeapState, opening_state}
+use Rattle.heap_world.specs.Limits.{AreHeapSettings}
+use Rattle.heap_world.specs.HeapParts.{heap_of_parts, IsSoundHeap}
+use Rattle.heap_region.specs.Regions.{object_of, ref_of}
+use Rattle.heap_region.specs.Legal.{NamesEach}
+use Rattle.heap_region.specs.Limits.{region_limit}
+use Rattle.heap_world.specs.Limits.{mutator_limit}
+use Rattle.heap_world.specs.Legal.{IsLegal}
+use Rattle.std.proofs.lemmas.List.FromFn.{length-range_with_len}
+use Rattle.std.proofs.lemmas.List.{length-replicate}
+
+none_used : (n r : ℕ) → option_and_then used_part (slice_get (replicate n Empty) r) ≡ None
+none_used zero r = refl
+none_used (suc n) zero = refl
+none_used (suc n) (suc r) = none_used n r
+
+-- no object is there
+no_object : (n : ℕ) (at : ObjRef) (o : Object) → object_at (replicate n Empty) at ≡ Some o → ⊥
+unfolding object_at used_at
+no_object n at o h = let e : option_and_then used_part (slice_get (replicate n Empty) at.region) ≡ None = none_used n at.region in cc
+
+no_region : (n r : ℕ) (u : UsedRegion) → used_at (replicate n Empty) r ≡ Some u → ⊥
+unfolding used_at
+no_region n r u h = let e : option_and_then used_part (slice_get (replicate n Empty) r) ≡ None = none_used n r in cc
+
+all_zero : (n k d : ℕ) → k < n → slice_index_or (replicate n 0) k d ≡ 0
+all_zero zero k d h = absurd (omega arith)
+all_zero (suc n) zero d h = refl
+all_zero (suc n) (suc k) d h = all_zero n k d (omega arith)
+
+in_nothing : {A : Type 0} (x : A) → Contains [] x → ⊥
+in_nothing x c = absurd (omega (arith, c.1))
+
+-- what a range has, and nothing twice
+pub range_index : (a n k d : ℕ) → k < n → slice_index_or (range_with_len a n) k d ≡ a + k
+range_index a zero k d h = absurd (omega arith)
+range_index a (suc n) zero d h = omega arith
+range_index a (suc n) (suc k) d h = range_index (a + 1) n k d (omega arith) ∙ omega arith
+
+empty_there : (n r : ℕ) → r < n → slice_get (replicate n Empty) r ≡ Some Empty
+empty_there zero r h = absurd (omega arith)
+empty_there (suc n) zero h = refl
+empty_there (suc n) (suc r) h = empty_there n r (omega arith)
+
+there_below : (n r : ℕ) → slice_get (replicate n Empty) r ≡ Some Empty → r < n
+there_below zero r h = cc
+there_below (suc n) zero h = omega arith
+there_below (suc n) (suc r) h = let e : r < n = there_below n r h in omega arith
+
+above : (a b n : ℕ) → a < b → AllByRecursion (λ y. nat_eq a y ≡ false) (range_with_len b n)
+above a b zero h = tt
+above a b (suc n) h = (grind arith, above a (b + 1) n (omega arith))
+
+pub range_distinct : (a n : ℕ) → IsDistinct nat_eq (range_with_len a n)
+unfolding IsDistinct
+range_distinct a zero = tt
+range_distinct a (suc n) = (above a (a + 1) n (omega arith), range_distinct (a + 1) n)
+
+pool_names : (n : ℕ) → NamesEach (range_with_len 0 n) (λ r. slice_get (replicate n Empty) r ≡ Some Empty)
+pool_names n = record {
+  distinct = range_distinct 0 n;
+  each = λ r. (
+    λ c. empty_there n r (omega (arith, c.1, length-range_with_len 0 n, range_index 0 n c.0 r (omega (arith, c.1, length-range_with_len 0 n)), c.2)),
+    λ e. let h : r < n = there_below n r e in (r, omega (arith, length-range_with_len 0 n), range_index 0 n r r h ∙ omega arith),
+  );
+}
+
+nobody : (n x : ℕ) (o : Object) → object_of (replicate n Empty) x ≡ Some o → ⊥
+unfolding object_of
+nobody n x o = go (ref_of (replicate n Empty) x)
+  where
+    go : (r : Option ObjRef) → option_and_then (object_at (replicate n Empty)) r ≡ Some o → ⊥
+    go None h = cc
+    go (Some at) h = no_object n at o h
+
+-- with as many regions and mutators as there may be
+pub begins_legal : (n m : ℕ) → 1 ≤ n → n ≤ region_limit → 1 ≤ m → m ≤ mutator_limit → IsLegal (opening_state n m)
+unfolding opening_state IsDistinct
+begins_legal n m n1 n_few m1 m_few = record {
+  sized = record { regions = (omega (arith, length-replicate n Empty), omega (arith, length-replicate n Empty)); mutators = (m, m1, m_few, length-replicate {A = ℕ} (8 * m) 0) };
+  classes = tt;
+  regions = record { tables = λ r u h. absurd (no_region n r u h); pool = pool_names n };
+  objects = λ at o h. absurd (no_object n at o h);
+  registers_live = λ x c other. absurd (other (sym c.2 ∙ all_zero (8 * m) c.0 x (omega (arith, c.1, length-replicate {A = ℕ} (8 * m) 0))));
+  slots_live = λ x y live names. absurd (nobody n x live.0 live.1);
+  gray_live = λ x c. absurd (in_nothing x c);
+  log_live = λ x c. absurd (in_nothing x c);
+  gray_distinct = tt;
+  gray_marked = λ x c. absurd (in_nothing x c);
+  marked_live = λ at o h. absurd (no_object n at o h);
+  drained_within = omega arith;
+  swept_live = λ at o h. absurd (no_object n at o h);
+  idle = λ e. record { gray = refl; log = refl; drained = refl; unmarked = λ at o h. absurd (no_object n at o h) };
+  tricolour = λ e. cc;
+}
+
+-- the fields of a heap as it begins
+pub opens : (n m k room : ℕ) (classes : List Class) (pool : RegionPool) (registers : List ℕ) (marker : MarkerState) → classes ≡ [] → pool ≡ opening_pool n → registers ≡ replicate k 0 → k ≡ 8 * m → marker ≡ idle_marker room
+    → heap_of_parts classes pool registers marker ≡ opening_state n m
+unfolding opening_state opening_pool
+opens n m k room classes pool registers marker a b c d e = λ i. heap_of_parts (a i) (b i) ((c ∙ ap (λ j. replicate j 0) d) i) (e i)
+
+pub opens_held : (n m keep room : ℕ) (w : HeapState) → w ≡ opening_state n m → AreHeapSettings n m keep → room ≡ 256 * n → IsSoundHeap w room
+unfolding opening_state
+opens_held n m keep room w e s r = subst (λ (v : HeapState). IsSoundHeap v room) (sym e)
+    (record { legal = begins_legal n m s.regions_within.0 s.regions_within.1 s.mutators_within.0 s.mutators_within.1; ids = omega (arith, r, length-replicate n Empty) })

@@ -1,0 +1,48 @@
+-- The outcomes of a session whose last state is dumped. Files and sockets tell nothing of their bytes.
+use Rattle.std.specs.Prelude.{◌≡◌, ℕ, ◌⊎◌, Bool, true, false, Option, Some, None, Result, Ok, Err, is_some}
+use Rattle.dump_pump.specs.declared.transfer.Pumped.{Pumped}
+use Rattle.dump_pump.specs.declared.transfer.Pumped.TheVariants.{Done, OutletFailed, Lost, Cancelled}
+use Rattle.dump_pump.specs.Outlets.{Outgoing}
+use Rattle.heap_trail.specs.Machine.{Machine, opening_machine}
+use Rattle.session_text.specs.declared.Ended.{Ended}
+use Rattle.session_text.specs.Inlets.{Incoming}
+use Rattle.heap_save.specs.Saves.{IsSaved}
+use Rattle.heapdbg.specs.declared.failure.Fault.{Fault}
+use Rattle.heapdbg.specs.declared.failure.Fault.TheVariants as fault
+use Rattle.heapdbg.specs.declared.settings.Settings.{Settings}
+use Rattle.heapdbg.specs.Endings.{outcome_of}
+
+-- the outcome of the end of a dump; `unmade` is the fault if no outlet was made
+abbrev pub dump_outcome : Fault → Bool → Option Pumped → Result (Unit {0}) Fault
+dump_outcome unmade made None = Ok tt
+dump_outcome unmade made (Some (Done n)) = Ok tt
+dump_outcome unmade true (Some (OutletFailed n)) = Err fault.Out
+dump_outcome unmade false (Some (OutletFailed n)) = Err unmade
+dump_outcome unmade made (Some (Lost cause n)) = Err fault.Lost
+dump_outcome unmade made (Some (Cancelled n)) = Err fault.Lost
+
+-- the first outcome if it is a failure, else the second
+abbrev pub unless_failed : Result (Unit {0}) Fault → Result (Unit {0}) Fault
+    → Result (Unit {0}) Fault
+unless_failed (Ok done) next = next
+unless_failed (Err f) next = Err f
+
+-- a session that failed comes before its dump, and a last line that couldn't be written makes it such a session
+abbrev pub save_outcome : Fault → Bool → Ended → Option Pumped → Result (Unit {0}) Fault
+save_outcome unmade made ended pumped =
+    unless_failed (outcome_of ended) (dump_outcome unmade made pumped)
+
+-- a place may make any outlet, or none
+abbrev pub any_outlet : Option Outgoing → Type 0
+any_outlet o = Unit {0}
+
+-- a session over a heap with these settings as it begins, which was saved; or the heap couldn't be allocated, and nothing is
+-- read or written
+abbrev pub IsSavedTo : Fault → Settings → Incoming → Incoming → Outgoing → Outgoing
+    → Result (Unit {0}) Fault → Type 0
+IsSavedTo unmade s a b w w' result =
+    ((left : Machine) × (outlet : Option Outgoing) × (ended : Ended) × (pumped : Option Pumped)
+    × IsSaved any_outlet 1 s.time (opening_machine s.ids s.regions s.mutators s.keep) left a b w w'
+    outlet ended pumped
+    × (result ≡ save_outcome unmade (is_some outlet) ended pumped))
+    ⊎ ((result ≡ Err fault.Memory) × (b ≡ a) × (w' ≡ w))

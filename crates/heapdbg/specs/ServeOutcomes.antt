@@ -1,0 +1,56 @@
+-- The outcomes of serving and asking. Sockets tell nothing of their bytes, so nothing is said of the bytes that go over them.
+use Rattle.std.specs.Prelude.{◌≡◌, ℕ, ◌⊎◌, Bool, true, false, Result, Ok, Err, length}
+use Rattle.dump_pump.specs.Outlets.{Outgoing}
+use Rattle.session_text.specs.Writes.{IsTextWritten}
+use Rattle.heap_server.specs.Reports.{report_of}
+use Rattle.heap_server.specs.SessionSeats.{IsFor}
+use Rattle.heap_server.specs.ClientEndings.{AsksServer}
+use Rattle.heap_server.specs.declared.client.Asked.{Asked}
+use Rattle.heap_server.specs.declared.client.Asked.TheVariants as asked
+use Rattle.heap_server.specs.declared.sessions.Served.{Served}
+use Rattle.heap_server.specs.declared.sessions.ServedHeap.{ServedHeap}
+use Rattle.heapdbg.specs.declared.failure.Fault.{Fault}
+use Rattle.heapdbg.specs.declared.failure.Fault.TheVariants.{Accept, Connect, Listen, Memory, Read, Write}
+use Rattle.heapdbg.specs.declared.settings.Settings.{Settings}
+
+-- an accept that failed is named before a write that did
+abbrev pub served_outcome : Bool → Bool → Result (Unit {0}) Fault
+served_outcome true written = Err Accept
+served_outcome false true = Ok tt
+served_outcome false false = Err Write
+
+-- a line for each session was put out, or a beginning of them if a write failed; or the lines couldn't be allocated, and
+-- nothing was put out
+abbrev pub IsReportTold : Served → Outgoing → Outgoing → Result (Unit {0}) Fault → Type 0
+IsReportTold served w w' result =
+    ((written : Bool) × IsTextWritten (report_of 1 served.ends.items) w w' written
+    × (result ≡ served_outcome served.refused written))
+    ⊎ ((result ≡ Err Memory) × (w' ≡ w))
+
+-- a heap was made of these settings with a seat for each of this number of sessions, which ended, or fewer if an accept
+-- failed
+abbrev pub IsHeapOf : Settings → ℕ → ServedHeap → Type 0
+IsHeapOf s sessions h =
+    (h.made.value.config
+    ≡ record { regions = s.regions; mutators = s.mutators; keep = s.keep; ids = s.ids })
+    × (length h.made.value.seats ≡ sessions) × (h.time ≡ s.time) × IsFor sessions h.served
+
+-- a heap of these settings was served, and its sessions' endings were put out; or an allocation failed or the port couldn't
+-- be listened on, and nothing was put out
+abbrev pub IsHeapServed : Settings → ℕ → Outgoing → Outgoing → Result (Unit {0}) Fault → Type 0
+IsHeapServed s sessions w w' result =
+    ((h : ServedHeap) × IsHeapOf s sessions h × IsReportTold h.served w w' result)
+    ⊎ (((result ≡ Err Memory) ⊎ (result ≡ Err Listen)) × (w' ≡ w))
+
+-- the outcome of a client that has ended
+abbrev pub asked_outcome : Asked → Result (Unit {0}) Fault
+asked_outcome asked.Done = Ok tt
+asked_outcome asked.ReadFault = Err Read
+asked_outcome asked.WriteFault = Err Write
+asked_outcome asked.NoMemory = Err Memory
+
+-- a client ended, and what came to it was put out; or no connection could be made, and nothing was put out
+abbrev pub IsServerAsked : Outgoing → Outgoing → Result (Unit {0}) Fault → Type 0
+IsServerAsked w w' result =
+    ((ended : Asked) × AsksServer w w' ended × (result ≡ asked_outcome ended))
+    ⊎ ((result ≡ Err Connect) × (w' ≡ w))

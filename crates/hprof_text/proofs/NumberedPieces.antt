@@ -1,0 +1,219 @@
+-- The pieces by number, and the cursors at them.
+use Rattle.std.proofs.Common.{◌≡◌, ◌≢◌, ◌≤◌, ◌<◌, ℕ, zero, suc, ◌+◌, Bool, true, false, List, [], ◌∷◌, ◌++◌, length, map, drop, refl, sym, ap, ap₂, ◌∙◌, subst, inl, inr, arith, add-one, append_assoc, length-append}
+use Rattle.std.specs.Prelude.{slice_get, slice_index_or, Some, unwrap_or, nat_le, All, filter, not, ◌==◌}
+use Rattle.std.specs.List.{enumerate_from}
+use Rattle.std.proofs.lemmas.Option.{slice_get_past}
+use Rattle.std.proofs.lemmas.List.Elements.{All-append, All-drop, All-map, All-nil, All-head}
+use Rattle.std.proofs.lemmas.Bool.Decides.{leb_tells}
+use Rattle.std.proofs.lemmas.List.{length-drop}
+use Rattle.heap_class.specs.declared.IdSize.{IdSize}
+use Rattle.heap_class.specs.Classes.{Class}
+use Rattle.heap_class.specs.declared.ObjRef.{ObjRef}
+use Rattle.heap_class.specs.declared.ObjKind.{ObjKind}
+use Rattle.heap_class.specs.declared.ObjKind.TheVariants.{Instance, Array, Prim}
+use Rattle.hprof_text.specs.declared.Cursor.{Cursor}
+use Rattle.hprof_text.specs.declared.Cursor.TheVariants.{Start, ClassDump, ClassRoot, Object, RegisterRoot, End, Past}
+use Rattle.hprof_text.specs.declared.Piece.{Piece}
+use Rattle.hprof_text.specs.Cursors.{IsAt, IsBefore, from_class, from_root, from_object, from_register}
+use Rattle.hprof_text.specs.SegmentFilling.{body_filled, IsRest, IsFilledTo}
+use Rattle.hprof_text.specs.Image.{Image, DumpedObject}
+use Rattle.hprof_text.specs.Segments.{segments_of, segment_records, end_record, records_from, pieces_of, nth_piece, piece_of}
+use Rattle.hprof_text.specs.Text.{record_of, class_dump, root_sticky_class, root_unknown, dump_of, object_dump, class_records, object_records, register_roots, sub_records, opening_records}
+use Rattle.hprof_text.proofs.FilledSegments.{record_more, body_more, filled_none, drop_item}
+
+-- ---- each sub-record has bytes
+
+abbrev HasBytes : List ℕ → Type 0
+HasBytes x = 0 < length x
+
+some_class : (ids : IdSize) (classes : List Class) (c : ℕ × Class) → HasBytes (class_dump ids classes c)
+unfolding class_dump
+some_class ids classes c = omega arith
+
+some_sticky : (ids : IdSize) (c : ℕ × Class) → HasBytes (root_sticky_class ids c)
+unfolding root_sticky_class
+some_sticky ids c = omega arith
+
+some_root : (ids : IdSize) (x : ℕ) → HasBytes (root_unknown ids x)
+unfolding root_unknown
+some_root ids x = omega arith
+
+some_dump : (ids : IdSize) (classes : List Class) (x : ℕ) (kind : ObjKind) (words : List ℕ) → HasBytes (dump_of ids classes x kind words)
+unfolding dump_of
+some_dump ids classes x (Instance k) words = omega arith
+some_dump ids classes x (Array k) words = omega arith
+some_dump ids classes x (Prim k) words = omega arith
+
+some_object : (ids : IdSize) (classes : List Class) (o : DumpedObject) → HasBytes (object_dump ids classes o)
+unfolding object_dump
+some_object ids classes o = some_dump ids classes o.id o.kind o.words
+
+some_of : {X : Type 0} (f : X → List ℕ) → ((x : X) → HasBytes (f x)) → (n : ℕ) (xs : List X) → All HasBytes (drop n (map f xs))
+some_of f h n xs = All-drop HasBytes n (map f xs) (All-map HasBytes f xs (λ k x l. h _))
+
+registers_some : (ids : IdSize) (image : Image) (n : ℕ) → All HasBytes (from_register ids image.registers n)
+registers_some ids image n = some_of (root_unknown ids) (some_root ids) 0 (filter (λ x. not (x == 0)) (drop n image.registers))
+
+objects_some : (ids : IdSize) (image : Image) (n : ℕ) → All HasBytes (from_object ids image n)
+unfolding object_records
+objects_some ids image n = All-append HasBytes (drop n (object_records ids image)) _ (some_of (object_dump ids image.classes) (some_object ids image.classes) n image.objects) (registers_some ids image 0)
+
+roots_some : (ids : IdSize) (image : Image) (n : ℕ) → All HasBytes (from_root ids image n)
+roots_some ids image n = All-append HasBytes (drop n (map (root_sticky_class ids) (enumerate_from 0 image.classes))) _ (some_of (root_sticky_class ids) (some_sticky ids) n (enumerate_from 0 image.classes)) (objects_some ids image 0)
+
+classes_some : (ids : IdSize) (image : Image) (n : ℕ) → All HasBytes (from_class ids image n)
+classes_some ids image n = All-append HasBytes (drop n (map (class_dump ids image.classes) (enumerate_from 0 image.classes))) _ (some_of (class_dump ids image.classes) (some_class ids image.classes) n (enumerate_from 0 image.classes)) (roots_some ids image 0)
+
+pub rest_some : (ids : IdSize) (image : Image) (places : List ObjRef) (cursor : Cursor) (rest : List (List ℕ)) → IsRest ids image places cursor rest → All HasBytes rest
+rest_some ids image places Start rest h = absurd h
+rest_some ids image places (ClassDump n) rest h = subst (All HasBytes) (sym h) (classes_some ids image n)
+rest_some ids image places (ClassRoot n) rest h = subst (All HasBytes) (sym h) (roots_some ids image n)
+rest_some ids image places (Object at) rest h = subst (All HasBytes) (sym h.2) (objects_some ids image h.0)
+rest_some ids image places (RegisterRoot n) rest h = subst (All HasBytes) (sym h) (registers_some ids image n)
+rest_some ids image places End rest h = subst (All HasBytes) (sym h) (All-nil HasBytes)
+rest_some ids image places Past rest h = absurd h
+
+-- ---- cursors
+
+-- a cursor that is neither before the first piece nor past the last stands where what is left of it begins
+pub rest_at : (ids : IdSize) (image : Image) (places : List ObjRef) (cursor : Cursor) (rest : List (List ℕ)) (i : ℕ) → IsRest ids image places cursor rest → IsBefore ids image rest i → IsAt ids image places cursor i
+rest_at ids image places Start rest i h b = absurd h
+rest_at ids image places (ClassDump n) rest i h b = subst (λ r. IsBefore ids image r i) h b
+rest_at ids image places (ClassRoot n) rest i h b = subst (λ r. IsBefore ids image r i) h b
+rest_at ids image places (Object at) rest i h b = (h.0, h.1, subst (λ r. IsBefore ids image r i) h.2 b)
+rest_at ids image places (RegisterRoot n) rest i h b = subst (λ r. IsBefore ids image r i) h b
+rest_at ids image places End rest i h b = subst (λ r. IsBefore ids image r i) h b
+rest_at ids image places Past rest i h b = absurd h
+
+-- and where it stands, something of the dump is left
+pub at_rest : (ids : IdSize) (image : Image) (places : List ObjRef) (cursor : Cursor) (i : ℕ) → cursor ≢ Start → cursor ≢ Past → IsAt ids image places cursor i → (rest : List (List ℕ)) × IsRest ids image places cursor rest × IsBefore ids image rest i
+at_rest ids image places Start i s p h = absurd (s refl)
+at_rest ids image places (ClassDump n) i s p h = (from_class ids image n, refl, h)
+at_rest ids image places (ClassRoot n) i s p h = (from_root ids image n, refl, h)
+at_rest ids image places (Object at) i s p h = (from_object ids image h.0, (h.0, h.1, refl), h.2)
+at_rest ids image places (RegisterRoot n) i s p h = (from_register ids image.registers n, refl, h)
+at_rest ids image places End i s p h = ([], refl, h)
+at_rest ids image places Past i s p h = absurd (p refl)
+
+-- past the last piece is past it at each later number
+pub still_past : (ids : IdSize) (image : Image) (places : List ObjRef) (cursor : Cursor) (i j : ℕ) → cursor ≡ Past → i ≤ j → IsAt ids image places cursor i → IsAt ids image places cursor j
+still_past ids image places cursor i j e l h =
+    let p : length (records_from (sub_records ids image)) + 1 ≤ i = subst (λ k. IsAt ids image places k i) e h in
+    let q : IsAt ids image places Past j = omega (arith, p, l) in
+    subst (λ k. IsAt ids image places k j) (sym e) q
+
+-- ---- what is left after a filling
+
+pub filled_to : (ids : IdSize) (image : Image) (places : List ObjRef) (rest : List (List ℕ)) (cursor : Cursor) (old new : List ℕ) (left : List (List ℕ)) → body_filled old rest ≡ (new, left) → IsRest ids image places cursor left → IsFilledTo ids image places rest cursor old new
+filled_to ids image places rest cursor old new left e r = (sym (ap (λ p. p.0) e), subst (IsRest ids image places cursor) (sym (ap (λ p. p.1) e)) r)
+
+pub filled_on : (ids : IdSize) (image : Image) (places : List ObjRef) (rest others : List (List ℕ)) (cursor : Cursor) (old now new : List ℕ) → body_filled old rest ≡ body_filled now others → IsFilledTo ids image places others cursor now new → IsFilledTo ids image places rest cursor old new
+filled_on ids image places rest others cursor old now new e f = (f.0 ∙ ap (λ p. p.0) (sym e), subst (IsRest ids image places cursor) (ap (λ p. p.1) (sym e)) f.1)
+
+-- ---- a piece by its number
+
+abbrev pub piece_with : List ℕ → Bool → Piece
+piece_with bytes last = record { bytes = bytes; last = last }
+
+not_last : (n i : ℕ) → i < n → nat_le n i ≡ false
+not_last n i h = elim (leb_tells n i) [ inl p ↦ absurd (omega (arith, p.1, h)) | inr p ↦ p.0 ]
+
+is_last : (n i : ℕ) → n ≤ i → nat_le n i ≡ true
+is_last n i h = elim (leb_tells n i) [ inl p ↦ p.0 | inr p ↦ absurd (omega (arith, p.1, h)) ]
+
+by_item : (i : ℕ) (pieces : List (List ℕ)) (bytes : List ℕ) (last : Bool) → slice_get pieces i ≡ Some bytes → nat_le (length pieces) (i + 1) ≡ last → nth_piece i pieces ≡ piece_with bytes last
+unfolding nth_piece
+by_item i pieces bytes last g l = ap₂ (λ o b. piece_with (unwrap_or o []) b) g l
+
+got_first : (xs : List (List ℕ)) (m : ℕ) (x : List ℕ) (more : List (List ℕ)) → drop m xs ≡ x ∷ more → slice_get xs m ≡ Some x
+got_first [] zero x more e = absurd (cc)
+got_first [] (suc m) x more e = absurd (cc)
+got_first (y ∷ ys) zero x more e = ap Some (ap (λ l. slice_index_or l 0 y) e)
+got_first (y ∷ ys) (suc m) x more e = got_first ys m x more e
+
+counted : (xs : List (List ℕ)) (m : ℕ) (x : List ℕ) (more : List (List ℕ)) → drop m xs ≡ x ∷ more → length xs ≡ m + 1 + length more
+counted xs m x more e = omega (arith, ap length e, length-drop m xs)
+
+dropped : (xs : List (List ℕ)) (m : ℕ) (x : List ℕ) (more : List (List ℕ)) → drop m xs ≡ x ∷ more → drop (m + 1) xs ≡ more
+dropped xs m x more e = ap (drop 1) (sym (drop_item xs m x (got_first xs m x more e)) ∙ e)
+
+pub piece_first : (ids : IdSize) (image : Image) (time : ℕ) (bytes : List ℕ) → bytes ≡ opening_records ids image time → piece_with bytes false ≡ piece_of ids image time 0
+unfolding piece_of pieces_of
+piece_first ids image time bytes e =
+    let rest = records_from (sub_records ids image) in
+    let n : length rest ≡ length (segment_records (sub_records ids image)) + 1 = length-append (segment_records (sub_records ids image)) (end_record ∷ []) in
+    ap (λ b. piece_with b false) e ∙ sym (by_item 0 (opening_records ids image time ∷ rest) (opening_records ids image time) false refl (not_last (length (opening_records ids image time ∷ rest)) (0 + 1) (omega (arith, n))))
+
+-- piece m + 1, where the records from number m on are these
+by_record : (ids : IdSize) (image : Image) (time m : ℕ) (x : List ℕ) (more : List (List ℕ)) (last : Bool) → drop m (records_from (sub_records ids image)) ≡ x ∷ more → nat_le (m + 2 + length more) (m + 2) ≡ last → piece_with x last ≡ piece_of ids image time (m + 1)
+unfolding piece_of pieces_of
+by_record ids image time m x more last e l =
+    let rest = records_from (sub_records ids image) in
+    let all = opening_records ids image time ∷ rest in
+    let n : length all ≡ m + 2 + length more = omega (arith, counted rest m x more e) in
+    let s : suc m + 1 ≡ m + 2 = omega arith in
+    sym (by_item (suc m) all x last (got_first rest m x more e) (ap₂ nat_le n s ∙ l)) ∙ ap (λ k. nth_piece k all) (sym (add-one m))
+
+-- ---- the next piece, where these sub-records are left
+
+nothing_left : records_from [] ≡ end_record ∷ []
+unfolding segment_records segments_of
+nothing_left = refl
+
+ended : (ids : IdSize) (image : Image) (time m : ℕ) → drop m (records_from (sub_records ids image)) ≡ end_record ∷ [] → piece_with (record_of 0x2c []) true ≡ piece_of ids image time (m + 1)
+unfolding end_record
+ended ids image time m d = by_record ids image time m (record_of 0x2c []) [] true d (is_last (m + 2 + 0) (m + 2) (omega arith))
+
+-- what the next piece is, and where the one after it stands, by the body that a segment got of them
+pub record IsNext (ids : IdSize) (image : Image) (rest : List (List ℕ)) (i : ℕ) (body : List ℕ) : Type 0 where
+  pub segment : 0 < length body → ((time : ℕ) → piece_with (record_of 0x1c body) false ≡ piece_of ids image time i) × IsBefore ids image (body_filled [] rest).1 (i + 1)
+  pub end : length body ≡ 0 → ((time : ℕ) → piece_with (record_of 0x2c body) true ≡ piece_of ids image time i) × (length (records_from (sub_records ids image)) + 1 ≤ i + 1)
+
+pub is_next : (ids : IdSize) (image : Image) (rest : List (List ℕ)) (i : ℕ) (body : List ℕ) → All HasBytes rest → body ≡ (body_filled [] rest).0 → IsBefore ids image rest i → IsNext ids image rest i body
+is_next ids image [] i body h e b =
+    let z : body ≡ [] = e ∙ ap (λ p. p.0) (filled_none []) in
+    let d : drop b.0 (records_from (sub_records ids image)) ≡ end_record ∷ [] = b.2 ∙ nothing_left in
+    record {
+      segment = λ s. absurd (omega (arith, s, ap length z));
+      end = λ n. (
+        λ time. ap (λ l. piece_with (record_of 0x2c l) true) z ∙ ended ids image time b.0 d ∙ ap (piece_of ids image time) (sym b.1),
+        omega (arith, b.1, counted (records_from (sub_records ids image)) b.0 end_record [] d),
+      );
+    }
+is_next ids image (x ∷ xs) i body h e b =
+    let some : 0 < length x = All-head HasBytes x xs h in
+    let f = body_filled [] (x ∷ xs) in
+    let d : drop b.0 (records_from (sub_records ids image)) ≡ record_of 0x1c f.0 ∷ records_from f.1 = b.2 ∙ ap (λ l. l ++ end_record ∷ []) (record_more x xs some) in
+    let n : length (records_from f.1) ≡ length (segment_records f.1) + 1 = length-append (segment_records f.1) (end_record ∷ []) in
+    record {
+      segment = λ s. (
+        λ time. ap (λ l. piece_with (record_of 0x1c l) false) e ∙ by_record ids image time b.0 (record_of 0x1c f.0) (records_from f.1) false d (not_last (b.0 + 2 + length (records_from f.1)) (b.0 + 2) (omega (arith, n))) ∙ ap (piece_of ids image time) (sym b.1),
+        (b.0 + 1, (let k : i + 1 ≡ b.0 + 1 + 1 = omega (arith, b.1) in k), dropped (records_from (sub_records ids image)) b.0 (record_of 0x1c f.0) (records_from f.1) d),
+      );
+      end = λ z. absurd (omega (arith, z, ap length e, body_more x xs some));
+    }
+
+-- ---- the ends
+
+-- the first sub-record is the first of a class, where there is one
+pub all_from_class : (ids : IdSize) (image : Image) → sub_records ids image ≡ from_class ids image 0
+unfolding sub_records class_records object_records register_roots
+all_from_class ids image =
+    grouped (map (class_dump ids image.classes) (enumerate_from 0 image.classes)) (map (root_sticky_class ids) (enumerate_from 0 image.classes)) (map (object_dump ids image.classes) image.objects) (map (root_unknown ids) (filter (λ x. not (x == 0)) image.registers))
+  where
+    grouped : (a b c d : List (List ℕ)) → (a ++ b) ++ c ++ d ≡ a ++ (b ++ (c ++ d))
+    grouped a b c d = simp append_assoc refl
+
+pub first_at : (ids : IdSize) (image : Image) (places : List ObjRef) → IsAt ids image places (ClassDump 0) 1
+first_at ids image places = (0, refl, ap records_from (all_from_class ids image))
+
+pub piece_past : (ids : IdSize) (image : Image) (time i : ℕ) (bytes : List ℕ) → bytes ≡ [] → length (records_from (sub_records ids image)) + 1 ≤ i → piece_with bytes true ≡ piece_of ids image time i
+unfolding piece_of pieces_of nth_piece
+piece_past ids image time i bytes e h =
+    let all = opening_records ids image time ∷ records_from (sub_records ids image) in
+    let n : length all ≤ i = omega (arith, h) in
+    ap (λ b. piece_with b true) e ∙ sym (ap₂ (λ o b. piece_with (unwrap_or o []) b) (slice_get_past all i n) (is_last (length all) (i + 1) (omega (arith, n))))
+
+-- nothing is left at the end
+pub filled_end : (ids : IdSize) (image : Image) (places : List ObjRef) (rest : List (List ℕ)) (body : List ℕ) → rest ≡ [] → IsFilledTo ids image places rest End body body
+filled_end ids image places rest body e = filled_to ids image places rest End body body [] (ap (body_filled body) e ∙ filled_none body) refl

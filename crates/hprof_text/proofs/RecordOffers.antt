@@ -1,0 +1,51 @@
+-- A sub-record offered to a segment, which is written where there is room.
+use Rattle.std.proofs.Common.{◌≡◌, ℕ, ◌+◌, ◌%◌, ◌≤◌, ◌<◌, Bool, true, false, List, [], ◌∷◌, ◌++◌, length, take, drop, refl, sym, ap, ap₂, ◌∙◌, subst, arith, length-append, inl, inr}
+use Rattle.std.proofs.lemmas.List.{length-drop, drop-append-le, drop_all, take_all, append-nil}
+use Rattle.std.proofs.lemmas.Bool.Decides.{leb_tells}
+use Rattle.hprof_text.specs.SegmentContents.{Buffered, HasRoom}
+use Rattle.hprof_text.specs.SegmentFilling.{takes, IsOffered}
+use Rattle.byteorder.specs.Endian.{big_bytes}
+use Rattle.hprof_text.specs.Records.{record_head}
+use Rattle.hprof_text.specs.Segments.{segment_limit}
+
+-- what a segment's buffer has
+abbrev pub IsOfSegment : Buffered → Type 0
+IsOfSegment b = (9 ≤ length b.written) × (length b.written ≤ 8226) × (b.limit ≡ 8226)
+
+taken_small : (body : List ℕ) (n : ℕ) → takes body n ≡ true → n ≤ 8217 → length body + n ≤ 8217
+taken_small [] n t h = omega (arith, h)
+taken_small (b ∷ bs) n t h = elim (leb_tells (length (b ∷ bs) + n) segment_limit) [ inl p ↦ omega (arith, p.1) | inr p ↦ absurd (differ (sym t ∙ p.0)) ]
+  where
+    differ : ◌≡◌ {A = Bool} true false → ⊥
+    differ e = cc
+
+pub room_taken : (b : Buffered) (body x : List ℕ) (n : ℕ) → drop 9 b.written ≡ body → IsOfSegment b → n ≡ length x → n ≤ 8217 → takes body n ≡ true → HasRoom b x
+room_taken b body x n v i e h t = omega (arith, taken_small body n t h, ap length v, length-drop 9 b.written, i.0, i.2, e)
+
+pub still_segment : (b c : Buffered) (x : List ℕ) → IsOfSegment b → HasRoom b x → c.written ≡ b.written ++ x → c.limit ≡ b.limit → IsOfSegment c
+still_segment b c x i r w l = (omega (arith, i.0, ap length w, length-append b.written x), omega (arith, i.2, r, ap length w, length-append b.written x), l ∙ i.2)
+
+pub offer_taken : (b c : Buffered) (body x : List ℕ) (n : ℕ) (taken : Bool) → drop 9 b.written ≡ body → IsOfSegment b → n ≡ length x → taken ≡ takes body n → taken ≡ true → c.written ≡ b.written ++ x → IsOffered x body (drop 9 c.written) taken
+offer_taken b c body x n taken v i e t y w =
+    let d : drop 9 c.written ≡ body ++ x = ap (drop 9) w ∙ drop-append-le 9 b.written x i.0 ∙ ap (λ l. l ++ x) v in
+    subst (IsOffered x body (drop 9 c.written)) (sym y) (record { by_room = sym y ∙ t ∙ ap (takes body) e; body = d })
+
+pub offer_left : (body x : List ℕ) (n : ℕ) (taken : Bool) → n ≡ length x → taken ≡ takes body n → taken ≡ false → IsOffered x body body taken
+offer_left body x n taken e t y = subst (IsOffered x body body) (sym y) (record { by_room = sym y ∙ t ∙ ap (takes body) e; body = refl })
+
+-- nine bytes written over the first of a vector
+pub over_nine : (size : ℕ) (head items written given : List ℕ) → given ≡ head ++ drop 9 items → size ≡ length items → items ≡ written → 9 ≤ length written → length head ≡ 9
+    → take size (given ++ drop (length given) items) ≡ head ++ drop 9 written
+over_nine size head items written given g s w h n =
+    let l : length given ≡ length items = omega (arith, ap length g, length-append head (drop 9 items), length-drop 9 items, n, h, ap length w) in
+    ap (λ d. take size (given ++ d)) (drop_all (length given) items (omega (arith, l)))
+    ∙ ap (take size) (append-nil given)
+    ∙ take_all size given (omega (arith, l, s))
+    ∙ g
+    ∙ ap (λ m. head ++ drop 9 m) w
+
+-- a head as its bytes are set one by one
+pub head_is : (tag size : ℕ) (four more : List ℕ) → tag < 256 → four ≡ big_bytes 4 size → tag ∷ 0 ∷ 0 ∷ 0 ∷ 0 ∷ (four ++ [] ++ more) ≡ record_head tag size ++ more
+head_is tag size four more h e =
+    let m : tag % 256 ≡ tag = omega (arith, h) in
+    ap₂ (λ t l. t ∷ 0 ∷ 0 ∷ 0 ∷ 0 ∷ (l ++ more)) (sym m) (append-nil four ∙ e)

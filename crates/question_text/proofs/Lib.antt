@@ -1,0 +1,5 @@
+pub mod Totals
+pub mod RankedRows
+pub mod PinImages
+pub mod NewWords
+pub mod NamedObjects

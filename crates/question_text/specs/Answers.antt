@@ -1,0 +1,31 @@
+-- The answers of questions.
+use Rattle.std.specs.Prelude.{◌≡◌, ℕ, List, codes, Option, Some, None}
+use Rattle.heap_trail.specs.Machine.{Machine}
+use Rattle.question_text.specs.declared.question.Question.{Question}
+use Rattle.question_text.specs.declared.question.Question.TheVariants.{Histogram, Garbage, Growth, Registers, Referrers, Path}
+use Rattle.question_text.specs.Histograms.{IsGarbageText, IsHistogramText}
+use Rattle.question_text.specs.Moments.{IsAnswerAbout, IsAnswerBetween, image_at}
+use Rattle.question_text.specs.Growths.{IsGrowthText}
+use Rattle.question_text.specs.Paths.{IsPathText}
+use Rattle.question_text.specs.Registers.{IsRegistersText}
+use Rattle.question_text.specs.Referrers.{IsReferrersText}
+use Rattle.question_text.specs.Questions.{question_of}
+
+-- the text of a question's answer
+abbrev pub IsAnswer : Question → Machine → List ℕ → Type 0
+IsAnswer (Histogram at) m text = IsAnswerAbout (IsHistogramText m.ids) (image_at at m) text
+IsAnswer (Garbage at) m text = IsAnswerAbout (IsGarbageText m.ids) (image_at at m) text
+IsAnswer (Growth older newer) m text =
+    IsAnswerBetween (IsGrowthText m.ids) (image_at older m) (image_at newer m) text
+IsAnswer (Registers at) m text = IsAnswerAbout IsRegistersText (image_at at m) text
+IsAnswer (Referrers at x) m text = IsAnswerAbout (IsReferrersText x) (image_at at m) text
+IsAnswer (Path at x) m text = IsAnswerAbout (IsPathText x) (image_at at m) text
+
+-- the answer of a line that asks this question, or none
+abbrev pub IsAnswerOf : Option Question → Machine → List ℕ → Type 0
+IsAnswerOf None m text = text ≡ codes "bad command\n"
+IsAnswerOf (Some q) m text = IsAnswer q m text
+
+-- the answer of a line that the grammar of sessions doesn't know
+abbrev pub IsAnswerOfLine : List ℕ → Machine → List ℕ → Type 0
+IsAnswerOfLine l m text = IsAnswerOf (question_of l) m text

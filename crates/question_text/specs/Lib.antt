@@ -1,0 +1,11 @@
+pub mod Ids
+pub mod Questions
+pub mod Moments
+pub mod Names
+pub mod Histograms
+pub mod Referrers
+pub mod Registers
+pub mod Growths
+pub mod Paths
+pub mod Answers
+pub mod Sessions

@@ -1,0 +1,35 @@
+-- The names of what a count's rows count, and of objects' classes.
+use Rattle.std.specs.Prelude.{ℕ, ◌-◌, ◌<◌, ◌==◌, length, nat_lt, List, [], ◌++◌, codes, find, if◌then◌else◌}
+use Rattle.std.specs.Option.{option_map_or}
+use Rattle.heap_class.specs.declared.Kind.{Kind}
+use Rattle.heap_class.specs.declared.ObjKind.{ObjKind}
+use Rattle.heap_class.specs.declared.ObjKind.TheVariants.{Instance, Array, Prim}
+use Rattle.heap_class.specs.Kinds.{kind_word, type_code}
+use Rattle.heap_class.specs.Classes.{Class, name_of}
+use Rattle.heap_questions.specs.Histogram.{class_rows}
+use Rattle.session_text.specs.Grammar.{all_kinds}
+
+-- the name of the arrays of values of a kind
+abbrev pub kind_array_name : Kind → List ℕ
+kind_array_name k = kind_word k ++ codes "[]"
+
+-- the name of the arrays of values whose kind has this type code
+unfoldable pub array_name : ℕ → List ℕ
+array_name code = option_map_or kind_array_name (find (λ k. type_code k == code) all_kinds) []
+
+-- the name of what row g counts
+unfoldable pub row_name : List Class → ℕ → List ℕ
+row_name classes g =
+    if nat_lt g class_rows then array_name g else name_of classes (g - class_rows)
+
+-- the name of the class of an object of this kind
+unfoldable pub class_name : List Class → ObjKind → List ℕ
+class_name classes (Instance k) = name_of classes k
+class_name classes (Array k) = name_of classes k
+class_name classes (Prim kind) = kind_array_name kind
+
+-- the class of an object of this kind is there
+abbrev pub IsClassThere : List Class → ObjKind → Type 0
+IsClassThere classes (Instance k) = k < length classes
+IsClassThere classes (Array k) = k < length classes
+IsClassThere classes (Prim kind) = Unit {0}

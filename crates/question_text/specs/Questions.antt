@@ -1,0 +1,94 @@
+-- The lines of questions.
+use Rattle.std.specs.Prelude.{ℕ, ◌==◌, List, [], ◌∷◌, take, drop, find, codes, Option, Some, None, option_map, option_and_then, if◌then◌else◌}
+use Rattle.std.specs.Str.{bytes_eq}
+use Rattle.session_text.specs.Grammar.{at_end, number_of_word, words_of_line}
+use Rattle.question_text.specs.declared.question.At.{At}
+use Rattle.question_text.specs.declared.question.At.TheVariants.{Current, Pin, Place}
+use Rattle.question_text.specs.declared.question.Question.{Question}
+use Rattle.question_text.specs.declared.question.Question.TheVariants.{Histogram, Garbage, Growth, Registers, Referrers, Path}
+use Rattle.question_text.specs.Ids.{id_of_word}
+
+-- the state that a word names: `-`, `@` and a place, or the number of a pin
+unfoldable pub at_of_word : List ℕ → Option At
+at_of_word w =
+    if bytes_eq w (codes "-") then Some Current
+    else (if bytes_eq (take 1 w) (codes "@")
+    then option_map (λ place. Place place) (number_of_word (drop 1 w))
+    else option_map (λ pin. Pin pin) (number_of_word w))
+
+-- ---- the words after the first
+
+-- the state that the first word names, and the other words
+abbrev pub next_at : List (List ℕ) → Option (At × List (List ℕ))
+next_at [] = None
+next_at (w ∷ ws) = option_map (λ at. (at, ws)) (at_of_word w)
+
+-- the one state that the words name
+abbrev pub one_at : List (List ℕ) → Option At
+one_at ws = option_and_then (λ a. at_end a.0 a.1) (next_at ws)
+
+-- the two states that the words name
+abbrev pub two_ats : List (List ℕ) → Option (At × At)
+two_ats ws =
+    option_and_then (λ a. option_and_then (λ b. at_end (a.0, b.0) b.1) (next_at a.1)) (next_at ws)
+
+-- the id that the first word is, and the other words
+abbrev pub next_id : List (List ℕ) → Option (ℕ × List (List ℕ))
+next_id [] = None
+next_id (w ∷ ws) = option_map (λ x. (x, ws)) (id_of_word w)
+
+-- the state and the id that the words name
+abbrev pub at_and_id : List (List ℕ) → Option (At × ℕ)
+at_and_id ws =
+    option_and_then (λ a. option_and_then (λ x. at_end (a.0, x.0) x.1) (next_id a.1)) (next_at ws)
+
+-- `histogram AT`
+abbrev pub histogram_line : List (List ℕ) → Option Question
+histogram_line ws = option_map (λ at. Histogram at) (one_at ws)
+
+-- `garbage AT`
+abbrev pub garbage_line : List (List ℕ) → Option Question
+garbage_line ws = option_map (λ at. Garbage at) (one_at ws)
+
+-- `growth AT AT`
+abbrev pub growth_line : List (List ℕ) → Option Question
+growth_line ws = option_map (λ a. Growth a.0 a.1) (two_ats ws)
+
+-- `registers AT`
+abbrev pub registers_line : List (List ℕ) → Option Question
+registers_line ws = option_map (λ at. Registers at) (one_at ws)
+
+-- `referrers AT ID`
+abbrev pub referrers_line : List (List ℕ) → Option Question
+referrers_line ws = option_map (λ a. Referrers a.0 a.1) (at_and_id ws)
+
+-- `path AT ID`
+abbrev pub path_line : List (List ℕ) → Option Question
+path_line ws = option_map (λ a. Path a.0 a.1) (at_and_id ws)
+
+-- ---- the table of questions
+
+-- a keyword, and what the words after it ask
+abbrev pub QuestionRule : Type 0
+QuestionRule = List ℕ × (List (List ℕ) → Option Question)
+
+-- all questions
+unfoldable pub question_rules : List QuestionRule
+question_rules =
+    (codes "histogram", histogram_line)
+    ∷ (codes "garbage", garbage_line)
+    ∷ (codes "growth", growth_line)
+    ∷ (codes "registers", registers_line)
+    ∷ (codes "referrers", referrers_line)
+    ∷ (codes "path", path_line)
+    ∷ []
+
+-- the question of these words, by the rule of the first
+unfoldable pub question_of_words : List (List ℕ) → Option Question
+question_of_words [] = None
+question_of_words (w ∷ ws) =
+    option_and_then (λ rule. rule.1 ws) (find (λ rule. bytes_eq w rule.0) question_rules)
+
+-- the question that a line asks
+abbrev pub question_of : List ℕ → Option Question
+question_of line = question_of_words (words_of_line line)

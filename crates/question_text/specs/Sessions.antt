@@ -1,0 +1,27 @@
+-- Sessions with questions.
+use Rattle.std.specs.Prelude.{◌≡◌, ℕ, List}
+use Rattle.dump_pump.specs.Outlets.{Outgoing}
+use Rattle.session_text.specs.declared.Ended.{Ended}
+use Rattle.session_text.specs.Answers.{AnswerRelation, AnswersCommand, Begins}
+use Rattle.session_text.specs.Dumps.{Acts}
+use Rattle.session_text.specs.Inlets.{Incoming}
+use Rattle.session_text.specs.Local.{LocalActs}
+use Rattle.session_text.specs.Talks.{Serves}
+use Rattle.question_text.specs.declared.asking.Asking.{Asking}
+use Rattle.question_text.specs.Answers.{IsAnswerOfLine}
+
+-- an action, as without questions
+abbrev pub AskingActs : Acts Asking
+AskingActs c a r d =
+    LocalActs c.local.machine a r d.local.machine × (d.local.first_pin ≡ c.local.first_pin)
+
+-- the answer of a line that the grammar of sessions doesn't know, which changes nothing
+abbrev pub AskingAnswers : AnswerRelation Asking
+AskingAnswers l c text d = IsAnswerOfLine l c.local.machine text × (d ≡ c)
+
+-- a session with questions
+abbrev pub ServesAsking : ℕ → Incoming → Incoming → Asking → Outgoing → Asking → Outgoing → Ended
+    → Type 0
+ServesAsking time a b c w c' w' ended =
+    Serves (AnswersCommand AskingActs AskingAnswers time) (Begins AskingActs AskingAnswers time) a b
+    c w c' w' ended

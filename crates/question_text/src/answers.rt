@@ -1,0 +1,107 @@
+//! The answers of questions.
+ghost use Rattle.std.specs.Prelude.{◌≡◌};
+ghost use Rattle.session_text.specs.Replies.{line_answer_text};
+ghost use Rattle.question_text.specs.Answers.{IsAnswer};
+ghost use Rattle.question_text.specs.Histograms.{IsGarbageText, IsHistogramText};
+ghost use Rattle.question_text.specs.Growths.{IsGrowthText};
+ghost use Rattle.question_text.specs.Paths.{IsPathText};
+ghost use Rattle.question_text.specs.Registers.{IsRegistersText};
+ghost use Rattle.question_text.specs.Referrers.{IsReferrersText};
+ghost use Rattle.question_text.specs.Moments.{IsAnswerAbout, IsAnswerBetween, image_at, told_text};
+
+use crate::at::{moment_at, view_of};
+use crate::growth::growth_answer;
+use crate::histogram::{garbage_text, histogram_text};
+use crate::path::path_answer;
+use crate::question::{At, Question};
+use crate::referrers::referrers_answer;
+use crate::registers::registers_answer;
+use crate::rows::Unanswered;
+use heap_trail::{Machine, Reply};
+use session_text::LineAnswer;
+use std::alloc::Global;
+
+// Returns what is printed of the lines of an answer, or if there is none.
+fn told(lines: Result<Vec<u8>, Unanswered>) -> LineAnswer
+    ensures { line_answer_text result ≡ told_text lines }
+{
+    match lines {
+        Ok(text) => LineAnswer::Text(text),
+        Err(Unanswered::Refused(refusal)) => LineAnswer::Known(Reply::Refused(refusal)),
+        Err(Unanswered::NoObject) => LineAnswer::Line(b"no 28 NoObject\n"),
+        Err(Unanswered::Unreachable) => LineAnswer::Line(b"no 27 Unreachable\n"),
+    }
+}
+
+// Returns the lines of `histogram AT`.
+fn histogram(alloc: Global, machine: &Machine, at: At) -> Result<Vec<u8>, Unanswered>
+    ensures { IsAnswerAbout (IsHistogramText machine.now.ids) (image_at at machine.now)
+        (told_text result) }
+{
+    let moment = moment_at(machine, at)?;
+    let view = view_of(machine, &moment)?;
+    Ok(histogram_text(alloc, &view)?)
+}
+
+// Returns the lines of `garbage AT`.
+fn garbage(alloc: Global, machine: &Machine, at: At) -> Result<Vec<u8>, Unanswered>
+    ensures { IsAnswerAbout (IsGarbageText machine.now.ids) (image_at at machine.now)
+        (told_text result) }
+{
+    let moment = moment_at(machine, at)?;
+    let view = view_of(machine, &moment)?;
+    Ok(garbage_text(alloc, &view)?)
+}
+
+// Returns the lines of `growth AT AT`. Both states are held before either is looked at.
+fn growth(alloc: Global, machine: &Machine, older: At, newer: At) -> Result<Vec<u8>, Unanswered>
+    ensures { IsAnswerBetween (IsGrowthText machine.now.ids) (image_at older machine.now)
+        (image_at newer machine.now) (told_text result) }
+{
+    let before = moment_at(machine, older)?;
+    let older_view = view_of(machine, &before)?;
+    let after = moment_at(machine, newer)?;
+    let newer_view = view_of(machine, &after)?;
+    Ok(growth_answer(alloc, &older_view, &newer_view)?)
+}
+
+// Returns the lines of `registers AT`.
+fn registers(alloc: Global, machine: &Machine, at: At) -> Result<Vec<u8>, Unanswered>
+    ensures { IsAnswerAbout IsRegistersText (image_at at machine.now) (told_text result) }
+{
+    let moment = moment_at(machine, at)?;
+    let view = view_of(machine, &moment)?;
+    Ok(registers_answer(alloc, &view)?)
+}
+
+// Returns the lines of `referrers AT ID`.
+fn referrers(alloc: Global, machine: &Machine, at: At, id: u64) -> Result<Vec<u8>, Unanswered>
+    ensures { IsAnswerAbout (IsReferrersText id) (image_at at machine.now) (told_text result) }
+{
+    let moment = moment_at(machine, at)?;
+    let view = view_of(machine, &moment)?;
+    referrers_answer(alloc, &view, id)
+}
+
+// Returns the lines of `path AT ID`.
+fn path(alloc: Global, machine: &Machine, at: At, id: u64) -> Result<Vec<u8>, Unanswered>
+    ensures { IsAnswerAbout (IsPathText id) (image_at at machine.now) (told_text result) }
+{
+    let moment = moment_at(machine, at)?;
+    let view = view_of(machine, &moment)?;
+    path_answer(alloc, &view, id)
+}
+
+/// Returns the answer of a question about a machine, or the refusal NoMemory if an allocation fails.
+pub fn answer(alloc: Global, machine: &Machine, question: Question) -> LineAnswer
+    ensures { IsAnswer question machine.now (line_answer_text result) }
+{
+    match question {
+        Question::Histogram(at) => told(histogram(alloc, machine, at)),
+        Question::Garbage(at) => told(garbage(alloc, machine, at)),
+        Question::Growth { older, newer } => told(growth(alloc, machine, older, newer)),
+        Question::Registers(at) => told(registers(alloc, machine, at)),
+        Question::Referrers { at, id } => told(referrers(alloc, machine, at, id)),
+        Question::Path { at, id } => told(path(alloc, machine, at, id)),
+    }
+}

@@ -1,0 +1,114 @@
+//! The answer of `growth`.
+ghost use Rattle.std.specs.Prelude.{◌≡◌, ◌++◌, ◌<◌, ◌+◌, ◌≤◌, IsTrue, All, length, count_by, IfErr, IfOk, OnOk};
+ghost use Rattle.heap_class.specs.declared.Refusal.TheVariants.{NoMemory};
+ghost use Rattle.heap_questions.specs.Histogram.{class_rows};
+ghost use Rattle.question_text.specs.Referrers.{count_text};
+ghost use Rattle.question_text.specs.Growths.{IsGrowthText, changed_text, changed_texts, differs, more_classes};
+
+use crate::histogram::push_counts;
+use crate::names::push_row_name;
+use crate::referrers::push_count;
+use crate::rows::push_words;
+use heap_class::{FirstClasses, Refusal};
+use heap_questions::{Change, compare, count_by_class};
+use hprof_text::View;
+use std::alloc::Global;
+
+// Tells whether a row has other numbers than before.
+fn differs(change: Change) -> bool
+    ensures { result ≡ differs change }
+{
+    change.older.objects != change.newer.objects || change.older.bytes != change.newer.bytes
+}
+
+// Appends the line of a row that changed. Fails with NoMemory.
+#[tactic(auto, unfolding(crate::specs::Growths::changed_text))]
+fn push_change(
+    text: &mut Vec<u8>,
+    classes: &FirstClasses<'_>,
+    index: usize,
+    change: Change,
+) -> Result<(), Refusal>
+    requires { index < class_rows + length classes.now }
+    ensures ok { OnOk result
+        (text.new.items ≡ text.old.items ++ changed_text classes.now index change) }
+    ensures refused { IfErr result (λ e. e ≡ NoMemory) }
+{
+    push_words(text, b"row ")?;
+    push_row_name(text, classes, index)?;
+    push_counts(text, change.older)?;
+    push_counts(text, change.newer)?;
+    push_words(text, b"\n")
+}
+
+// Returns how many rows changed.
+fn count_changes(changes: &[Change]) -> u64
+    ensures { result ≡ count_by differs changes.now }
+{
+    let mut count = 0;
+    for change in changes {
+        if differs(*change) {
+            count += 1;
+        }
+    }
+    count
+}
+
+// Appends the lines of the rows that changed. Fails with NoMemory.
+fn push_changes(
+    text: &mut Vec<u8>,
+    classes: &FirstClasses<'_>,
+    changes: &[Change],
+) -> Result<(), Refusal>
+    requires { length changes.now ≤ class_rows + length classes.now }
+    ensures ok { OnOk result
+        (text.new.items ≡ text.old.items ++ changed_texts classes.now 0 changes.now) }
+    ensures refused { IfErr result (λ e. e ≡ NoMemory) }
+{
+    for index in 0..changes.len() {
+        if differs(changes[index]) {
+            push_change(text, classes, index, changes[index])?;
+        }
+    }
+    Ok(())
+}
+
+// Returns the lines of the rows that changed, and their number. Fails with NoMemory.
+fn changes_text(
+    alloc: Global,
+    classes: &FirstClasses<'_>,
+    changes: &[Change],
+) -> Result<Vec<u8>, Refusal>
+    requires { length changes.now ≤ class_rows + length classes.now }
+    ensures text { IfOk result (λ text. text.items
+        ≡ changed_texts classes.now 0 changes.now ++ count_text (count_by differs changes.now)) }
+    ensures refused { IfErr result (λ e. e ≡ NoMemory) }
+{
+    let mut text = Vec::new(alloc);
+    push_changes(&mut text, classes, changes)?;
+    push_count(&mut text, count_changes(changes))?;
+    Ok(text)
+}
+
+/// Returns the answer of `growth` from an older view to a newer one. Fails with NoMemory if an allocation fails. Reads each
+/// object once.
+pub(crate) fn growth_answer<V: View>(
+    alloc: Global,
+    older: &V,
+    newer: &V,
+) -> Result<Vec<u8>, Refusal>
+    requires { V.ids older.now ≡ V.ids newer.now }
+    ensures text { IfOk result
+        (λ text. IsGrowthText (V.ids newer.now) (V.image older.now) (V.image newer.now) text.items) }
+    ensures refused { IfErr result (λ e. e ≡ NoMemory) }
+{
+    let before = count_by_class(alloc, older)?;
+    let after = count_by_class(alloc, newer)?;
+    let changes = compare(alloc, &before, &after)?;
+    let (old_classes, new_classes) = (older.classes(), newer.classes());
+    if new_classes.len() < old_classes.len() {
+        changes_text(alloc, &old_classes, changes.as_slice())
+    } else {
+        changes_text(alloc, &new_classes, changes.as_slice())
+    }
+}

@@ -1,0 +1,131 @@
+//! The answers of `histogram` and `garbage`.
+ghost use Rattle.std.specs.Prelude.{◌≡◌, ◌++◌, ◌<◌, ◌+◌, ◌^◌, All, length, flat_map, IfOk, IfErr, OnOk};
+ghost use Rattle.heap_class.specs.declared.Refusal.TheVariants.{NoMemory};
+ghost use Rattle.heap_questions.specs.Histogram.{class_rows};
+ghost use Rattle.question_text.specs.Histograms.{IsGarbageText, IsHistogramText, IsRowsText, and_counts, row_text, sum_of, total_text};
+
+use crate::names::push_row_name;
+use crate::rows::{push_number, push_words};
+use heap_class::{FirstClasses, Refusal};
+use heap_questions::{Histogram, Row, count_by_class, count_garbage, ranking};
+use hprof_text::View;
+use std::alloc::Global;
+
+/// Appends the numbers of a row, each after a space. Fails with NoMemory.
+pub(crate) fn push_counts(text: &mut Vec<u8>, row: Row) -> Result<(), Refusal>
+    ensures ok { OnOk result (text.new.items ≡ text.old.items ++ and_counts row) }
+    ensures refused { IfErr result (λ e. e ≡ NoMemory) }
+{
+    push_number(text, row.objects)?;
+    push_number(text, row.bytes)
+}
+
+// Appends the line of a row. Fails with NoMemory.
+#[tactic(auto, unfolding(crate::specs::Histograms::row_text))]
+fn push_row(
+    text: &mut Vec<u8>,
+    classes: &FirstClasses<'_>,
+    rows: &[Row],
+    index: usize,
+) -> Result<(), Refusal>
+    requires within { index < length rows.now }
+    requires classes { index < class_rows + length classes.now }
+    ensures ok { OnOk result
+        (text.new.items ≡ text.old.items ++ row_text classes.now rows.now index) }
+    ensures refused { IfErr result (λ e. e ≡ NoMemory) }
+{
+    push_words(text, b"row")?;
+    push_counts(text, rows[index])?;
+    push_words(text, b" ")?;
+    push_row_name(text, classes, index)?;
+    push_words(text, b"\n")
+}
+
+// Returns the objects of all rows together, and their bytes: both must be below 2^64.
+fn sum_of(rows: &[Row]) -> Row
+    requires objects { (sum_of rows.now).objects < 2 ^ 64 }
+    requires bytes { (sum_of rows.now).bytes < 2 ^ 64 }
+    ensures { result ≡ sum_of rows.now }
+{
+    let mut objects = 0;
+    let mut bytes = 0;
+    for row in rows {
+        objects += row.objects;
+        bytes += row.bytes;
+    }
+    Row { objects, bytes }
+}
+
+// Appends the last line of a count. Fails with NoMemory.
+fn push_total(text: &mut Vec<u8>, total: Row) -> Result<(), Refusal>
+    ensures ok { OnOk result (text.new.items ≡ text.old.items ++ total_text total) }
+    ensures refused { IfErr result (λ e. e ≡ NoMemory) }
+{
+    push_words(text, b"ok")?;
+    push_counts(text, total)?;
+    push_words(text, b"\n")
+}
+
+// Appends the lines of the rows with these numbers. Fails with NoMemory.
+fn push_rows(
+    text: &mut Vec<u8>,
+    classes: &FirstClasses<'_>,
+    rows: &[Row],
+    ranked: &[usize],
+) -> Result<(), Refusal>
+    requires within { All (λ g. g < length rows.now) ranked.now }
+    requires classes { length rows.now ≡ class_rows + length classes.now }
+    ensures ok { OnOk result
+        (text.new.items
+        ≡ text.old.items ++ flat_map (row_text classes.now rows.now) ranked.now) }
+    ensures refused { IfErr result (λ e. e ≡ NoMemory) }
+{
+    for index in ranked {
+        push_row(text, classes, rows, *index)?;
+    }
+    Ok(())
+}
+
+/// Returns the lines of a count's rows, in order, and of their total, which must be below 2^64. Fails with NoMemory if an
+/// allocation fails.
+pub(crate) fn rows_text(
+    alloc: Global,
+    classes: &FirstClasses<'_>,
+    histogram: &Histogram,
+) -> Result<Vec<u8>, Refusal>
+    requires classes { length histogram.now ≡ class_rows + length classes.now }
+    requires objects { (sum_of histogram.now).objects < 2 ^ 64 }
+    requires bytes { (sum_of histogram.now).bytes < 2 ^ 64 }
+    ensures text { IfOk result
+        (λ text. IsRowsText classes.now histogram.now (sum_of histogram.now) text.items) }
+    ensures refused { IfErr result (λ e. e ≡ NoMemory) }
+{
+    let ranked = ranking(alloc, histogram)?;
+    let rows = histogram.as_slice();
+    let mut text = Vec::new(alloc);
+    push_rows(&mut text, classes, rows, ranked.as_slice())?;
+    push_total(&mut text, sum_of(rows))?;
+    Ok(text)
+}
+
+/// Returns the answer of `histogram` about a view. Fails with NoMemory if an allocation fails. Reads each object once.
+pub(crate) fn histogram_text<V: View>(alloc: Global, view: &V) -> Result<Vec<u8>, Refusal>
+    ensures text { IfOk result
+        (λ text. IsHistogramText (V.ids view.now) (V.image view.now) text.items) }
+    ensures refused { IfErr result (λ e. e ≡ NoMemory) }
+{
+    let histogram = count_by_class(alloc, view)?;
+    let classes = view.classes();
+    rows_text(alloc, &classes, &histogram)
+}
+
+/// Returns the answer of `garbage` about a view. Fails with NoMemory if an allocation fails. Reads each object at most twice.
+pub(crate) fn garbage_text<V: View>(alloc: Global, view: &V) -> Result<Vec<u8>, Refusal>
+    ensures text { IfOk result
+        (λ text. IsGarbageText (V.ids view.now) (V.image view.now) text.items) }
+    ensures refused { IfErr result (λ e. e ≡ NoMemory) }
+{
+    let histogram = count_garbage(alloc, view)?;
+    let classes = view.classes();
+    rows_text(alloc, &classes, &histogram)
+}

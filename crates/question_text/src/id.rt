@@ -1,0 +1,83 @@
+//! Ids, as lines have them.
+ghost use Rattle.std.specs.Prelude.{◌≡◌, ◌++◌, ◌<◌, ◌^◌, length, drop, option_and_then, IfErr, IfSome, OnOk};
+ghost use Rattle.std.specs.Str.{bytes_eq};
+ghost use Rattle.byteorder.specs.Endian.{big_bytes};
+ghost use Rattle.heap_class.specs.declared.Refusal.TheVariants.{NoMemory};
+ghost use Rattle.hex.specs.Hex.{encode_lower};
+ghost use Rattle.question_text.specs.Ids.{and_id, hex_digit, hex_from, id_of_word, with_hex};
+
+use crate::rows::push_words;
+use heap_class::Refusal;
+
+// The number of bytes of an id in a line.
+const ID_SIZE: usize = 10;
+
+/// Tells whether a word is this one.
+pub(crate) fn is_word(word: &[u8], name: &[u8]) -> bool
+    ensures { result ≡ bytes_eq word.now name.now }
+{
+    word == name
+}
+
+// Returns the value of a lower-case hexadecimal digit.
+fn hex_digit(b: u8) -> Option<u64>
+    ensures { result ≡ hex_digit b }
+{
+    if b.is_ascii_digit() {
+        return Some(u64::from(b - b'0'));
+    }
+    if b'a' <= b && b <= b'f' {
+        return Some(u64::from(b - b'a') + 10);
+    }
+    None
+}
+
+// Returns a number with one more digit, or None if it comes to 2^64.
+fn with_hex(value: u64, digit: u64) -> Option<u64>
+    ensures { result ≡ with_hex value digit }
+{
+    value.checked_mul(16)?.checked_add(digit)
+}
+
+// Returns a number with one more digit, or None if `b` is none or the number comes to 2^64.
+fn with_digit(value: u64, b: u8) -> Option<u64>
+    ensures { result ≡ option_and_then (λ d. with_hex value d) (hex_digit b) }
+{
+    let digit = hex_digit(b)?;
+    with_hex(value, digit)
+}
+
+// Returns the value of lower-case hexadecimal digits, or None if it comes to 2^64 or a byte is no digit.
+fn hex_value(digits: &[u8]) -> Option<u64>
+    ensures { result ≡ hex_from 0 digits.now }
+{
+    let mut value = 0;
+    for b in digits {
+        value = with_digit(value, *b)?;
+    }
+    Some(value)
+}
+
+/// Returns the id that a word is.
+#[tactic(auto, unfolding(crate::specs::Ids::id_of_word))]
+pub(crate) fn id_of(word: &[u8]) -> Option<u64>
+    ensures { result ≡ id_of_word word.now }
+{
+    if word.len() != ID_SIZE || !is_word(&word[..2], b"0x") {
+        return None;
+    }
+    hex_value(&word[2..])
+}
+
+/// Appends a space and an id. Fails with NoMemory.
+pub(crate) fn push_id(text: &mut Vec<u8>, id: u64) -> Result<(), Refusal>
+    ensures ok { OnOk result (text.new.items ≡ text.old.items ++ and_id id) }
+    ensures refused { IfErr result (λ e. e ≡ NoMemory) }
+{
+    let mut digits = [0u8; 8];
+    push_words(text, b" 0x")?;
+    if hex::encode_to_slice(&id.to_be_bytes()[4..], &mut digits).is_err() {
+        unreachable!()
+    }
+    push_words(text, &digits)
+}

@@ -1,0 +1,32 @@
+//! Questions as lines, and their answers.
+#![tactic(auto)]
+
+ghost use Rattle.std.specs.Prelude.{◌≡◌, ℕ, List, Some};
+ghost use Rattle.session_text.specs.declared.command.Command.TheVariants.{Bad};
+ghost use Rattle.session_text.specs.Grammar.{command_of_text};
+ghost use Rattle.question_text.specs.declared.question.Question.{Question};
+ghost use Rattle.question_text.specs.Questions.{question_of};
+
+mod answers;
+mod asking;
+mod at;
+mod growth;
+mod histogram;
+mod id;
+mod names;
+mod path;
+mod question;
+mod referrers;
+mod registers;
+mod rows;
+mod session;
+
+pub use answers::answer;
+pub use asking::Asking;
+pub use question::{At, Question, question_of};
+pub use session::serve_asking;
+
+/// States that no line that asks a question is one of the grammar of sessions, so that each of these keeps its meaning.
+pub fn questions_are_new()
+    ensures { (l : List ℕ) (q : Question) → question_of l ≡ Some q → command_of_text l ≡ Bad }
+{}

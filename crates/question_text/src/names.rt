@@ -1,0 +1,96 @@
+//! The names of what a count's rows count, and of objects' kinds.
+ghost use Rattle.std.specs.Prelude.{◌≡◌, ◌++◌, ◌==◌, ◌<◌, ◌+◌, length, find, IfErr, OnOk};
+ghost use Rattle.heap_class.specs.declared.Refusal.TheVariants.{NoMemory};
+ghost use Rattle.heap_class.specs.Kinds.{type_code};
+ghost use Rattle.heap_questions.specs.Histogram.{class_rows};
+ghost use Rattle.session_text.specs.Grammar.{all_kinds};
+ghost use Rattle.question_text.specs.Names.{IsClassThere, array_name, class_name, kind_array_name, row_name};
+
+use crate::rows::push_words;
+use heap_class::{FirstClasses, Kind, ObjKind, Refusal};
+
+// Rows before those of the classes.
+const CLASS_ROWS: usize = 12;
+
+// All kinds of slots.
+const KINDS: [Kind; 9] = [
+    Kind::Object,
+    Kind::Boolean,
+    Kind::Char,
+    Kind::Float,
+    Kind::Double,
+    Kind::Byte,
+    Kind::Short,
+    Kind::Int,
+    Kind::Long,
+];
+
+// Returns the kind with a type code.
+fn kind_with(code: usize) -> Option<Kind>
+    ensures { result ≡ find (λ k. type_code k == code) all_kinds }
+{
+    for kind in KINDS {
+        if kind.type_code() as usize == code {
+            return Some(kind);
+        }
+    }
+    None
+}
+
+// Appends the name of the arrays of values of a kind. Fails with NoMemory.
+fn push_kind_name(text: &mut Vec<u8>, kind: Kind) -> Result<(), Refusal>
+    ensures ok { OnOk result (text.new.items ≡ text.old.items ++ kind_array_name kind) }
+    ensures refused { IfErr result (λ e. e ≡ NoMemory) }
+{
+    push_words(text, kind.word().as_bytes())?;
+    push_words(text, b"[]")
+}
+
+// Appends the name of the arrays of values whose kind has a type code. Fails with NoMemory.
+#[tactic(auto, unfolding(crate::specs::Names::array_name))]
+fn push_array_name(text: &mut Vec<u8>, code: usize) -> Result<(), Refusal>
+    ensures ok { OnOk result (text.new.items ≡ text.old.items ++ array_name code) }
+    ensures refused { IfErr result (λ e. e ≡ NoMemory) }
+{
+    match kind_with(code) {
+        Some(kind) => push_kind_name(text, kind),
+        None => Ok(()),
+    }
+}
+
+/// Appends the name of what a row counts. Fails with NoMemory.
+#[tactic(auto, unfolding(crate::specs::Names::row_name))]
+pub(crate) fn push_row_name(
+    text: &mut Vec<u8>,
+    classes: &FirstClasses<'_>,
+    index: usize,
+) -> Result<(), Refusal>
+    requires { index < class_rows + length classes.now }
+    ensures ok { OnOk result (text.new.items ≡ text.old.items ++ row_name classes.now index) }
+    ensures refused { IfErr result (λ e. e ≡ NoMemory) }
+{
+    if index < CLASS_ROWS {
+        push_array_name(text, index)
+    } else {
+        push_words(text, classes.name((index - CLASS_ROWS) as u64))
+    }
+}
+
+/// Appends the name of the class of an object of this kind, which must be there. Fails with NoMemory.
+#[tactic(auto, unfolding(crate::specs::Names::class_name))]
+pub(crate) fn push_class_name(
+    text: &mut Vec<u8>,
+    classes: &FirstClasses<'_>,
+    kind: ObjKind,
+) -> Result<(), Refusal>
+    requires { IsClassThere classes.now kind }
+    ensures ok { OnOk result (text.new.items ≡ text.old.items ++ class_name classes.now kind) }
+    ensures refused { IfErr result (λ e. e ≡ NoMemory) }
+{
+    match kind {
+        ObjKind::Instance(class) | ObjKind::Array(class) => {
+            push_words(text, classes.name(class))
+        }
+        ObjKind::Prim(kind) => push_kind_name(text, kind),
+    }
+}

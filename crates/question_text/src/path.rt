@@ -1,0 +1,101 @@
+//! The answer of `path`.
+ghost use Rattle.std.specs.Prelude.{◌≡◌, ◌++◌, ◌<◌, length, Some, IfErr, IfOk, IsSome, OnOk, slice_get};
+ghost use Rattle.heap_class.specs.declared.Refusal.TheVariants.{NoMemory};
+ghost use Rattle.heap_questions.specs.Graph.{IsPathTo, followed, named};
+ghost use Rattle.question_text.specs.Moments.{IsToldOf, told_text};
+ghost use Rattle.question_text.specs.Paths.{IsPathText, IsRouteText, root_text, step_text, step_texts};
+
+use crate::id::push_id;
+use crate::referrers::{push_count, push_register};
+use crate::rows::{Unanswered, push_number, push_words};
+use heap_class::Refusal;
+use heap_questions::{Path, object_with, shortest_path};
+use hprof_text::View;
+use std::alloc::Global;
+
+// Returns what a slot of the object with this id names. The slot must name an object.
+#[tactic(auto, unfolding(heap_questions::specs::Graph::named, heap_questions::specs::Graph::slot_names))]
+fn named_by<V: View>(view: &V, id: u64, slot: u64) -> u64
+    requires { IsSome (named (V.image view.now) id slot) }
+    ensures { named (V.image view.now) id slot ≡ Some result }
+{
+    match object_with(view, id) {
+        Some(object) => object.words()[slot as usize],
+        None => unreachable!(),
+    }
+}
+
+// Appends the line of a slot that is followed from one object to another. Fails with NoMemory.
+#[tactic(auto, unfolding(crate::specs::Paths::step_text))]
+fn push_step(text: &mut Vec<u8>, from: u64, slot: u64, to: u64) -> Result<(), Refusal>
+    ensures ok { OnOk result (text.new.items ≡ text.old.items ++ step_text from slot to) }
+    ensures refused { IfErr result (λ e. e ≡ NoMemory) }
+{
+    push_words(text, b"row")?;
+    push_id(text, from)?;
+    push_number(text, slot)?;
+    push_id(text, to)?;
+    push_words(text, b"\n")
+}
+
+// Appends the lines of the slots that are followed from an object. Fails with NoMemory.
+fn push_steps<V: View>(
+    text: &mut Vec<u8>,
+    view: &V,
+    start: u64,
+    slots: &[u64],
+) -> Result<(), Refusal>
+    requires { IsSome (followed (V.image view.now) start slots.now) }
+    ensures ok { OnOk result
+        (text.new.items ≡ text.old.items ++ step_texts (V.image view.now) start slots.now) }
+    ensures refused { IfErr result (λ e. e ≡ NoMemory) }
+{
+    let mut here = start;
+    for slot in slots {
+        let next = named_by(view, here, *slot);
+        push_step(text, here, *slot, next)?;
+        here = next;
+    }
+    Ok(())
+}
+
+// Appends the line of the register that a path begins with. Fails with NoMemory.
+#[tactic(auto, unfolding(crate::specs::Paths::root_text))]
+fn push_root(text: &mut Vec<u8>, register: u64, id: u64) -> Result<(), Refusal>
+    ensures ok { OnOk result (text.new.items ≡ text.old.items ++ root_text register id) }
+    ensures refused { IfErr result (λ e. e ≡ NoMemory) }
+{
+    push_words(text, b"row")?;
+    push_register(text, register)?;
+    push_id(text, id)?;
+    push_words(text, b"\n")
+}
+
+// Returns the lines of a path to an object. Fails with NoMemory.
+fn route_text<V: View>(alloc: Global, view: &V, path: &Path, id: u64) -> Result<Vec<u8>, Refusal>
+    requires { IsPathTo (V.image view.now) path.now.register path.now.slots.items id }
+    ensures text { IfOk result (λ text. IsRouteText (V.image view.now) path.now.register
+        path.now.slots.items text.items) }
+    ensures refused { IfErr result (λ e. e ≡ NoMemory) }
+{
+    let start = view.registers()[path.register as usize];
+    let mut text = Vec::new(alloc);
+    push_root(&mut text, path.register, start)?;
+    push_steps(&mut text, view, start, path.slots.as_slice())?;
+    push_count(&mut text, path.slots.len() as u64)?;
+    Ok(text)
+}
+
+/// Returns the answer of `path` about a view. Fails with NoObject if the id names no object, with Unreachable if no register
+/// reaches it, and with NoMemory if an allocation fails.
+pub(crate) fn path_answer<V: View>(alloc: Global, view: &V, id: u64) -> Result<Vec<u8>, Unanswered>
+    ensures { IsToldOf (IsPathText id) (V.image view.now) (told_text result) }
+{
+    if object_with(view, id).is_none() {
+        return Err(Unanswered::NoObject);
+    }
+    match shortest_path(alloc, view, id)? {
+        Some(path) => Ok(route_text(alloc, view, &path, id)?),
+        None => Err(Unanswered::Unreachable),
+    }
+}

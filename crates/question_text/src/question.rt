@@ -1,0 +1,179 @@
+//! The grammar of questions.
+ghost use Rattle.std.specs.Prelude.{◌≡◌};
+ghost use Rattle.session_text.specs.Grammar.{at_end, words_of_line};
+ghost use Rattle.session_text.specs.Reads.{IsNextWord};
+ghost use Rattle.question_text.specs.Questions.{at_and_id, at_of_word, garbage_line, growth_line, histogram_line, next_at, next_id, one_at, path_line, question_of, referrers_line, registers_line, two_ats};
+
+use crate::id::{id_of, is_word};
+use session_text::number::number_of;
+use session_text::words::Words;
+
+/// The state that a question is about.
+#[derive(Clone, Copy, PartialEq, Eq, Debug)]
+pub enum At {
+    /// The current state: `-`.
+    Current,
+    /// What an open pin shows: its number.
+    Pin(u64),
+    /// The retained state at a place: `@` and the place.
+    Place(u64),
+}
+
+/// A question that a line asks.
+#[derive(Clone, Copy, PartialEq, Eq, Debug)]
+pub enum Question {
+    /// How many objects there are of each class, and their bytes.
+    Histogram(At),
+    /// The same of the objects that no register reaches.
+    Garbage(At),
+    /// The rows of a histogram that differ between two states.
+    Growth { older: At, newer: At },
+    /// What each register names.
+    Registers(At),
+    /// What names an object.
+    Referrers { at: At, id: u64 },
+    /// Why an object is alive: a shortest path from a register.
+    Path { at: At, id: u64 },
+}
+
+// Returns the state that a word names.
+#[tactic(auto, unfolding(crate::specs::Questions::at_of_word))]
+fn at_of(word: &[u8]) -> Option<At>
+    ensures { result ≡ at_of_word word.now }
+{
+    if is_word(word, b"-") {
+        return Some(At::Current);
+    }
+    match word {
+        [b'@', place @ ..] => Some(At::Place(number_of(place)?)),
+        _ => Some(At::Pin(number_of(word)?)),
+    }
+}
+
+// Reads the state that the next word names. Returns None if it names none.
+fn next_at(words: &mut Words) -> Option<At>
+    ensures { IsNextWord (next_at (words_of_line words.old)) (words_of_line words.new) result }
+{
+    let word = words.next_word()?;
+    at_of(word)
+}
+
+// Returns a value if no word is left.
+fn at_end<T: Drop>(value: T, mut words: Words) -> Option<T>
+    ensures { result ≡ at_end value (words_of_line words.entry) }
+{
+    if words.front().is_some() {
+        return None;
+    }
+    Some(value)
+}
+
+// Returns the one state that the words name.
+fn one_at(mut words: Words) -> Option<At>
+    ensures { result ≡ one_at (words_of_line words.entry) }
+{
+    let at = next_at(&mut words)?;
+    at_end(at, words)
+}
+
+// Reads the id that the next word is. Returns None if it is none.
+fn next_id(words: &mut Words) -> Option<u64>
+    ensures { IsNextWord (next_id (words_of_line words.old)) (words_of_line words.new) result }
+{
+    let word = words.next_word()?;
+    id_of(word)
+}
+
+// Returns the state and the id that the words name.
+fn at_and_id(mut words: Words) -> Option<(At, u64)>
+    ensures { result ≡ at_and_id (words_of_line words.entry) }
+{
+    let at = next_at(&mut words)?;
+    let id = next_id(&mut words)?;
+    at_end((at, id), words)
+}
+
+// Reads the words of `histogram AT`.
+fn histogram_line(words: Words) -> Option<Question>
+    ensures { result ≡ histogram_line (words_of_line words.entry) }
+{
+    let at = one_at(words)?;
+    Some(Question::Histogram(at))
+}
+
+// Reads the words of `garbage AT`.
+fn garbage_line(words: Words) -> Option<Question>
+    ensures { result ≡ garbage_line (words_of_line words.entry) }
+{
+    let at = one_at(words)?;
+    Some(Question::Garbage(at))
+}
+
+// Returns the two states that the words name.
+fn two_ats(mut words: Words) -> Option<(At, At)>
+    ensures { result ≡ two_ats (words_of_line words.entry) }
+{
+    let older = next_at(&mut words)?;
+    let newer = next_at(&mut words)?;
+    at_end((older, newer), words)
+}
+
+// Reads the words of `growth AT AT`.
+fn growth_line(words: Words) -> Option<Question>
+    ensures { result ≡ growth_line (words_of_line words.entry) }
+{
+    let (older, newer) = two_ats(words)?;
+    Some(Question::Growth { older, newer })
+}
+
+// Reads the words of `registers AT`.
+fn registers_line(words: Words) -> Option<Question>
+    ensures { result ≡ registers_line (words_of_line words.entry) }
+{
+    let at = one_at(words)?;
+    Some(Question::Registers(at))
+}
+
+// Reads the words of `referrers AT ID`.
+fn referrers_line(words: Words) -> Option<Question>
+    ensures { result ≡ referrers_line (words_of_line words.entry) }
+{
+    let (at, id) = at_and_id(words)?;
+    Some(Question::Referrers { at, id })
+}
+
+// Reads the words of `path AT ID`.
+fn path_line(words: Words) -> Option<Question>
+    ensures { result ≡ path_line (words_of_line words.entry) }
+{
+    let (at, id) = at_and_id(words)?;
+    Some(Question::Path { at, id })
+}
+
+/// Returns the question that a line asks, or None if it asks none.
+#[tactic(auto, unfolding(crate::specs::Questions::question_of_words, crate::specs::Questions::question_rules))]
+pub fn question_of(line: &[u8]) -> Option<Question>
+    ensures { result ≡ question_of line.now }
+{
+    let mut words = Words::new(line);
+    let word = words.next_word()?;
+    if is_word(word, b"histogram") {
+        return histogram_line(words);
+    }
+    if is_word(word, b"garbage") {
+        return garbage_line(words);
+    }
+    if is_word(word, b"growth") {
+        return growth_line(words);
+    }
+    if is_word(word, b"registers") {
+        return registers_line(words);
+    }
+    if is_word(word, b"referrers") {
+        return referrers_line(words);
+    }
+    if is_word(word, b"path") {
+        return path_line(words);
+    }
+    None
+}

@@ -1,0 +1,98 @@
+//! The answer of `referrers`.
+ghost use Rattle.std.specs.Prelude.{◌≡◌, ◌++◌, flat_map, IfErr, IfOk, OnOk};
+ghost use Rattle.heap_class.specs.declared.Refusal.TheVariants.{NoMemory};
+ghost use Rattle.heap_questions.specs.Referrers.{referrers_of};
+ghost use Rattle.question_text.specs.Moments.{IsToldOf, told_text};
+ghost use Rattle.question_text.specs.Referrers.{IsReferrersText, and_register, count_text, referrer_text, referrer_words, referrers_text};
+
+use crate::id::push_id;
+use crate::rows::{Unanswered, push_number, push_words};
+use heap_class::Refusal;
+use heap_questions::{Referrer, object_with, referrers};
+use heap_world::REGISTERS_EACH;
+use hprof_text::View;
+use std::alloc::Global;
+
+/// Appends the numbers of a register's mutator and of the register. Fails with NoMemory.
+pub(crate) fn push_register(text: &mut Vec<u8>, register: u64) -> Result<(), Refusal>
+    ensures ok { OnOk result (text.new.items ≡ text.old.items ++ and_register register) }
+    ensures refused { IfErr result (λ e. e ≡ NoMemory) }
+{
+    push_number(text, register / REGISTERS_EACH)?;
+    push_number(text, register % REGISTERS_EACH)
+}
+
+/// Appends the last line of an answer that counts its rows. Fails with NoMemory.
+pub(crate) fn push_count(text: &mut Vec<u8>, count: u64) -> Result<(), Refusal>
+    ensures ok { OnOk result (text.new.items ≡ text.old.items ++ count_text count) }
+    ensures refused { IfErr result (λ e. e ≡ NoMemory) }
+{
+    push_words(text, b"ok")?;
+    push_number(text, count)?;
+    push_words(text, b"\n")
+}
+
+// Appends what names an object. Fails with NoMemory.
+fn push_names(text: &mut Vec<u8>, referrer: Referrer) -> Result<(), Refusal>
+    ensures ok { OnOk result (text.new.items ≡ text.old.items ++ referrer_words referrer) }
+    ensures refused { IfErr result (λ e. e ≡ NoMemory) }
+{
+    match referrer {
+        Referrer::Register(register) => push_register(text, register),
+        Referrer::Slot { object, slot } => {
+            push_id(text, object)?;
+            push_number(text, slot)
+        }
+    }
+}
+
+// Appends the line of what names an object. Fails with NoMemory.
+#[tactic(auto, unfolding(crate::specs::Referrers::referrer_text))]
+fn push_referrer(text: &mut Vec<u8>, referrer: Referrer) -> Result<(), Refusal>
+    ensures ok { OnOk result (text.new.items ≡ text.old.items ++ referrer_text referrer) }
+    ensures refused { IfErr result (λ e. e ≡ NoMemory) }
+{
+    push_words(text, b"row")?;
+    push_names(text, referrer)?;
+    push_words(text, b"\n")
+}
+
+// Appends the lines of all that names an object. Fails with NoMemory.
+fn push_referrers(text: &mut Vec<u8>, all: &[Referrer]) -> Result<(), Refusal>
+    ensures ok { OnOk result
+        (text.new.items ≡ text.old.items ++ flat_map referrer_text all.now) }
+    ensures refused { IfErr result (λ e. e ≡ NoMemory) }
+{
+    for referrer in all {
+        push_referrer(text, *referrer)?;
+    }
+    Ok(())
+}
+
+// Returns the lines of all that names an id, and their number. Fails with NoMemory.
+fn referrer_lines<V: View>(alloc: Global, view: &V, id: u64) -> Result<Vec<u8>, Refusal>
+    ensures text { IfOk result
+        (λ text. text.items ≡ referrers_text (referrers_of (V.image view.now) id)) }
+    ensures refused { IfErr result (λ e. e ≡ NoMemory) }
+{
+    let all = referrers(alloc, view, id)?;
+    let mut text = Vec::new(alloc);
+    push_referrers(&mut text, all.as_slice())?;
+    push_count(&mut text, all.len() as u64)?;
+    Ok(text)
+}
+
+/// Returns the answer of `referrers` about a view. Fails with NoObject if the id names no object, and with NoMemory if an
+/// allocation fails. Reads each object at most twice.
+pub(crate) fn referrers_answer<V: View>(
+    alloc: Global,
+    view: &V,
+    id: u64,
+) -> Result<Vec<u8>, Unanswered>
+    ensures { IsToldOf (IsReferrersText id) (V.image view.now) (told_text result) }
+{
+    match object_with(view, id) {
+        Some(_) => Ok(referrer_lines(alloc, view, id)?),
+        None => Err(Unanswered::NoObject),
+    }
+}

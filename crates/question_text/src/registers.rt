@@ -1,0 +1,83 @@
+//! The answer of `registers`.
+ghost use Rattle.std.specs.Prelude.{◌≡◌, ◌++◌, ◌<◌, length, All, map, IfErr, IfOk, OnOk};
+ghost use Rattle.heap_class.specs.declared.Refusal.TheVariants.{NoMemory};
+ghost use Rattle.heap_questions.specs.Registers.{object_named};
+ghost use Rattle.question_text.specs.Registers.{IsRegistersText, NamesKnown, named_words, register_text, register_texts};
+
+use crate::id::push_id;
+use crate::names::push_class_name;
+use crate::referrers::{push_count, push_register};
+use crate::rows::push_words;
+use heap_class::{FirstClasses, Refusal};
+use heap_questions::{NamedObject, named_by_registers};
+use hprof_text::View;
+use std::alloc::Global;
+
+// Appends what a register names. Fails with NoMemory.
+fn push_named(
+    text: &mut Vec<u8>,
+    classes: &FirstClasses<'_>,
+    named: &NamedObject,
+) -> Result<(), Refusal>
+    requires { NamesKnown classes.now named.now }
+    ensures ok { OnOk result (text.new.items ≡ text.old.items ++ named_words classes.now named.now) }
+    ensures refused { IfErr result (λ e. e ≡ NoMemory) }
+{
+    match named.kind {
+        Some(kind) => {
+            push_id(text, named.id)?;
+            push_words(text, b" ")?;
+            push_class_name(text, classes, kind)
+        }
+        None => push_words(text, b" null"),
+    }
+}
+
+// Appends the line of a register. Fails with NoMemory.
+#[tactic(auto, unfolding(crate::specs::Registers::register_text))]
+fn push_line(
+    text: &mut Vec<u8>,
+    classes: &FirstClasses<'_>,
+    register: u64,
+    named: &NamedObject,
+) -> Result<(), Refusal>
+    requires { NamesKnown classes.now named.now }
+    ensures ok { OnOk result
+        (text.new.items ≡ text.old.items ++ register_text classes.now register named.now) }
+    ensures refused { IfErr result (λ e. e ≡ NoMemory) }
+{
+    push_words(text, b"row")?;
+    push_register(text, register)?;
+    push_named(text, classes, named)?;
+    push_words(text, b"\n")
+}
+
+// Appends the lines of all registers. Fails with NoMemory.
+fn push_lines(
+    text: &mut Vec<u8>,
+    classes: &FirstClasses<'_>,
+    all: &[NamedObject],
+) -> Result<(), Refusal>
+    requires { All (NamesKnown classes.now) all.now }
+    ensures ok { OnOk result
+        (text.new.items ≡ text.old.items ++ register_texts classes.now 0 all.now) }
+    ensures refused { IfErr result (λ e. e ≡ NoMemory) }
+{
+    for register in 0..all.len() {
+        push_line(text, classes, register as u64, &all[register])?;
+    }
+    Ok(())
+}
+
+/// Returns the answer of `registers` about a view. Fails with NoMemory if an allocation fails. Reads each id once.
+pub(crate) fn registers_answer<V: View>(alloc: Global, view: &V) -> Result<Vec<u8>, Refusal>
+    ensures text { IfOk result (λ text. IsRegistersText (V.image view.now) text.items) }
+    ensures refused { IfErr result (λ e. e ≡ NoMemory) }
+{
+    let all = named_by_registers(alloc, view)?;
+    let classes = view.classes();
+    let mut text = Vec::new(alloc);
+    push_lines(&mut text, &classes, all.as_slice())?;
+    push_count(&mut text, all.len() as u64)?;
+    Ok(text)
+}

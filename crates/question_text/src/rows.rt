@@ -1,0 +1,46 @@
+//! The lines of an answer.
+ghost use Rattle.std.specs.Prelude.{◌≡◌, ◌++◌, IfErr, OnOk};
+ghost use Rattle.heap_class.specs.declared.Refusal.TheVariants.{NoMemory};
+ghost use Rattle.session_text.specs.Replies.{and_number};
+
+use heap_class::Refusal;
+
+/// The reason why a question has no answer.
+#[derive(Clone, Copy, PartialEq, Eq, Debug)]
+pub(crate) enum Unanswered {
+    /// A refusal that lines of sessions have too.
+    Refused(Refusal),
+    /// The id names no object.
+    NoObject,
+    /// No register reaches the object.
+    Unreachable,
+}
+
+impl From<Refusal> for Unanswered {
+    ghost use Rattle.std.specs.Prelude.{◌≡◌};
+    ghost use Rattle.question_text.specs.declared.rows.Unanswered.TheVariants.{Refused};
+
+    ghost from_gives = { λ r e. e ≡ Refused r };
+
+    fn from(refusal: Refusal) -> Unanswered {
+        Unanswered::Refused(refusal)
+    }
+}
+
+/// Appends words. Fails with NoMemory.
+pub(crate) fn push_words(text: &mut Vec<u8>, words: &[u8]) -> Result<(), Refusal>
+    ensures ok { OnOk result (text.new.items ≡ text.old.items ++ words.now) }
+    ensures refused { IfErr result (λ e. e ≡ NoMemory) }
+{
+    text.extend_from_slice(words)?;
+    Ok(())
+}
+
+/// Appends a space and a number. Fails with NoMemory.
+pub(crate) fn push_number(text: &mut Vec<u8>, n: u64) -> Result<(), Refusal>
+    ensures ok { OnOk result (text.new.items ≡ text.old.items ++ and_number n) }
+    ensures refused { IfErr result (λ e. e ≡ NoMemory) }
+{
+    push_words(text, b" ")?;
+    push_words(text, itoa::Buffer::new().format(n).as_bytes())
+}

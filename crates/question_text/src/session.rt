@@ -1,0 +1,25 @@
+//! Sessions with questions.
+ghost use Rattle.session_text.specs.Endings.{EndsSession};
+ghost use Rattle.question_text.specs.Sessions.{ServesAsking};
+
+use crate::asking::Asking;
+use dump_pump::Outlet;
+use session_text::{Ended, Inlet, serve};
+use std::alloc::Global;
+
+/// Serves a session of a private machine as `serve` does: each line of the grammar of sessions is answered as without
+/// questions, and each other line as a question if it is one. No question changes the machine.
+pub fn serve_asking<I: Inlet, O: Outlet>(
+    alloc: Global,
+    reader: &mut I,
+    writer: &mut O,
+    asking: &mut Asking,
+    time: u64,
+) -> Ended
+    ensures ends { EndsSession (I.seen reader.old) (I.seen reader.new) (O.seen writer.old)
+        (O.seen writer.new) result }
+    ensures session { ServesAsking time (I.seen reader.old) (I.seen reader.new) asking.old
+        (O.seen writer.old) asking.new (O.seen writer.new) result }
+{
+    serve(alloc, reader, writer, asking, time)
+}

@@ -1,0 +1,378 @@
+-- Lines that are answered, and a session so far.
+use Rattle.std.proofs.Common.{◌≡◌, ℕ, ◌+◌, ◌<◌, ◌≤◌, ◌⊎◌, inl, inr, Bool, true, false, List, [], ◌∷◌, ◌++◌, take, drop, length, length-append, Option, Some, None, refl, ap, sym, ◌∙◌, subst, arith, append_assoc}
+use Rattle.std.proofs.lemmas.List.{append-nil, length-take-le, take-take}
+use Rattle.std.proofs.lemmas.List.Elements.{All-nil, All-cons, All-append, All-take}
+use Rattle.std.specs.Bool.{◌==◌}
+use Rattle.std.proofs.lemmas.Grind.{flat_map-append}
+use Rattle.std.specs.Prelude.{All}
+use Rattle.std.specs.Io.KnownBytes.{Keeps}
+use Rattle.dump_pump.specs.Outlets.{Outgoing}
+use Rattle.heap_class.specs.declared.Refusal.TheVariants.{NoMemory as NoRoom}
+use Rattle.heap_trail.specs.declared.Reply.TheVariants.{Refused}
+use Rattle.session_text.specs.declared.Ended.{Ended}
+use Rattle.session_text.specs.declared.Ended.TheVariants.{Quit, Eof, CutLine, TooLong, ReadFault, TooManyReads, WriteFault, NoMemory}
+use Rattle.session_text.specs.declared.answer.Step.{Step}
+use Rattle.session_text.specs.declared.answer.Step.TheVariants.{Next}
+use Rattle.session_text.specs.declared.command.Command.{Command}
+use Rattle.session_text.specs.declared.command.Command.TheVariants.{Blank, Bad, Ask, Piece, Dump, DumpNow, End}
+use Rattle.session_text.specs.Answers.{Reaction, AnswerRelation, AnswersTo, BeginsTo}
+use Rattle.session_text.specs.Dumps.{Acts, DumpsPin, DumpsNow, WritesDump}
+use Rattle.session_text.specs.Endings.{EndsSession, ended_of, step_of}
+use Rattle.session_text.specs.Grammar.{command_of}
+use Rattle.session_text.specs.Inlets.{Incoming, whole}
+use Rattle.session_text.specs.Lines.{NoLf, IsLineAt}
+use Rattle.session_text.specs.Reads.{TakesMemory}
+use Rattle.session_text.specs.Replies.{reply_text}
+use Rattle.session_text.specs.Talks.{IsFirst, IsLine, IsLong, AnswersAll, stream, IsTalk, BeginsWith, IsQuit, IsBrokenOff, IsSessionStep, EndsCleanly, FailsWhileWriting, IsTruncatedRun, IsLastRead, IsSessionServed, Serves}
+use Rattle.session_text.specs.Writes.{IsCutShort, IsTextWritten, IsTextAdded}
+use Rattle.session_text.proofs.PageTexts.{added_here}
+
+-- ---- one text and then another
+
+pub written_none : (w : Outgoing) → IsTextWritten [] w w true
+written_none w = (sym (append-nil w.out), refl)
+
+pub written_more : (xs ys : List ℕ) (a b c : Outgoing) (r : Bool) → IsTextWritten xs a b true → IsTextWritten ys b c r → IsTextWritten (xs ++ ys) a c r
+written_more xs ys a b c true h k = (k.0 ∙ ap (λ l. l ++ ys) h.0 ∙ append_assoc a.out xs ys, k.1 ∙ h.1)
+written_more xs ys a b c false h k = (
+  record {
+    part = xs ++ k.0.part;
+    rest = k.0.rest;
+    has = k.0.has ∙ ap (λ l. l ++ k.0.part) h.0 ∙ append_assoc a.out xs k.0.part;
+    lacks = ap (λ l. xs ++ l) k.0.lacks ∙ sym (append_assoc xs k.0.part k.0.rest);
+    some = k.0.some;
+  },
+  k.1 ∙ ap (λ n. n + 1) h.1,
+)
+
+-- ---- one line
+
+-- the answer's text was added, or a write failed
+pub step_added : {S : Type 0} (says begins : Reaction S) (k : Command) (c : S) (page : List ℕ) (w : Outgoing) (c' : S) (page' : List ℕ) (w' : Outgoing) (text : List ℕ) (r : Bool)
+    → says c text c' → begins c text c' → IsTextAdded text page w page' w' r → IsSessionStep says begins k c page w c' page' w' (step_of r)
+step_added says begins k c page w c' page' w' text true s b h = (text, s, h)
+step_added says begins k c page w c' page' w' text false s b h = (text, b, h)
+
+pub step_blank : {S : Type 0} (acts : Acts S) (unknown : Reaction S) (time : ℕ) (k : Command) (c : S) (page : List ℕ) (w : Outgoing) → Blank ≡ k → IsSessionStep (AnswersTo acts unknown time k) (BeginsTo acts unknown time k) k c page w c page w Next
+step_blank acts unknown time k c page w e = subst (λ x. IsSessionStep (AnswersTo acts unknown time x) (BeginsTo acts unknown time x) x c page w c page w Next) e ([], (refl, refl), added_here [] page w page (sym (append-nil page)))
+
+pub step_dumped : {S : Type 0} (acts : Acts S) (unknown : Reaction S) (time pin : ℕ) (k : Command) (c : S) (page : List ℕ) (w : Outgoing) (c' : S) (page' : List ℕ) (w' : Outgoing) (r : Bool)
+    → Dump pin ≡ k → WritesDump (DumpsPin acts pin time) c c' page w page' w' r → IsSessionStep (AnswersTo acts unknown time k) (BeginsTo acts unknown time k) k c page w c' page' w' (step_of r)
+step_dumped acts unknown time pin k c page w c' page' w' true e h = subst (λ x. IsSessionStep (AnswersTo acts unknown time x) (BeginsTo acts unknown time x) x c page w c' page' w' (step_of true)) e (h.0, h.1, h.2)
+step_dumped acts unknown time pin k c page w c' page' w' false e h = subst (λ x. IsSessionStep (AnswersTo acts unknown time x) (BeginsTo acts unknown time x) x c page w c' page' w' (step_of false)) e (h.1, (h.0, h.2, h.3), h.4)
+
+pub step_dumped_now : {S : Type 0} (acts : Acts S) (unknown : Reaction S) (time : ℕ) (k : Command) (c : S) (page : List ℕ) (w : Outgoing) (c' : S) (page' : List ℕ) (w' : Outgoing) (r : Bool)
+    → DumpNow ≡ k → WritesDump (DumpsNow acts time) c c' page w page' w' r → IsSessionStep (AnswersTo acts unknown time k) (BeginsTo acts unknown time k) k c page w c' page' w' (step_of r)
+step_dumped_now acts unknown time k c page w c' page' w' true e h = subst (λ x. IsSessionStep (AnswersTo acts unknown time x) (BeginsTo acts unknown time x) x c page w c' page' w' (step_of true)) e (h.0, h.1, h.2)
+step_dumped_now acts unknown time k c page w c' page' w' false e h = subst (λ x. IsSessionStep (AnswersTo acts unknown time x) (BeginsTo acts unknown time x) x c page w c' page' w' (step_of false)) e (h.1, (h.0, h.2, h.3), h.4)
+
+-- a line found no memory for its reading
+unread : {S : Type 0} (acts : Acts S) (unknown : Reaction S) (time : ℕ) (k : Command) (c : S) → TakesMemory k → AnswersTo acts unknown time k c (reply_text (Refused NoRoom)) c × BeginsTo acts unknown time k c (reply_text (Refused NoRoom)) c
+unread acts unknown time Blank c h = absurd h
+unread acts unknown time Bad c h = absurd h
+unread acts unknown time (Ask a) c h = ((Refused NoRoom, inr (h, refl, refl), refl), (Refused NoRoom, inr (h, refl, refl), refl))
+unread acts unknown time (Piece pin) c h = absurd h
+unread acts unknown time (Dump pin) c h = absurd h
+unread acts unknown time DumpNow c h = absurd h
+unread acts unknown time End c h = absurd h
+
+pub step_unread : {S : Type 0} (acts : Acts S) (unknown : Reaction S) (time : ℕ) (k : Command) (c : S) (page : List ℕ) (w : Outgoing) (page' : List ℕ) (w' : Outgoing) (r : Bool)
+    → TakesMemory k → IsTextAdded (reply_text (Refused NoRoom)) page w page' w' r → IsSessionStep (AnswersTo acts unknown time k) (BeginsTo acts unknown time k) k c page w c page' w' (step_of r)
+step_unread acts unknown time k c page w page' w' r h added =
+    let u = unread acts unknown time k c h in
+    step_added (AnswersTo acts unknown time k) (BeginsTo acts unknown time k) k c page w c page' w' (reply_text (Refused NoRoom)) r u.0 u.1 added
+
+-- ---- lines
+
+talks_append : {S : Type 0} (says : AnswerRelation S) (ls ms : List (List ℕ)) (c : S) (xs : List ℕ) (between : S) (ys : List ℕ) (c' : S) → AnswersAll says ls c xs between → AnswersAll says ms between ys c' → AnswersAll says (ls ++ ms) c (xs ++ ys) c'
+talks_append says [] ms c xs between ys c' t u = subst (λ l. AnswersAll says ms c (l ++ ys) c') (sym t.0) (subst (λ x. AnswersAll says ms x ys c') t.1 u)
+talks_append says (l ∷ ls) ms c xs between ys c' t u =
+    (t.0, t.1, t.2 ++ ys, t.3, t.4, talks_append says ls ms t.1 t.2 between ys c' t.5 u, ap (λ x. x ++ ys) t.6 ∙ append_assoc t.0 t.2 ys)
+
+pub talk_none : {S : Type 0} (says : AnswerRelation S) (bytes : List ℕ) (c : S) → IsTalk says bytes c bytes [] c
+talk_none says bytes c = record { lines = []; are = refl; talks = (refl, refl) }
+
+pub talk_read : {S : Type 0} (says : AnswerRelation S) (bytes : List ℕ) (c : S) (rest text : List ℕ) (c' : S) (more : List ℕ) → IsTalk says bytes c rest text c' → IsTalk says (bytes ++ more) c (rest ++ more) text c'
+talk_read says bytes c rest text c' more t = record {
+  lines = t.lines;
+  are = ap (λ l. l ++ more) t.are ∙ append_assoc (stream t.lines) rest more;
+  talks = t.talks;
+}
+
+pub talk_then : {S : Type 0} (says : AnswerRelation S) (bytes : List ℕ) (c : S) (rest xs : List ℕ) (between : S) (rest' ys : List ℕ) (c' : S) → IsTalk says bytes c rest xs between → IsTalk says rest between rest' ys c' → IsTalk says bytes c rest' (xs ++ ys) c'
+talk_then says bytes c rest xs between rest' ys c' t u = record {
+  lines = t.lines ++ u.lines;
+  are = t.are ∙ ap (λ l. stream t.lines ++ l) u.are ∙ sym (append_assoc (stream t.lines) (stream u.lines) rest') ∙ ap (λ l. l ++ rest') (sym (flat_map-append (λ l. l ++ 10 ∷ []) t.lines u.lines));
+  talks = talks_append says t.lines u.lines c xs between ys c' t.talks u.talks;
+}
+
+one_line : {S : Type 0} (says : AnswerRelation S) (bytes l rest : List ℕ) (c : S) (text : List ℕ) (c' : S) → bytes ≡ l ++ 10 ∷ rest → IsLine l → says l c text c' → IsTalk says bytes c rest text c'
+one_line says bytes l rest c text c' is line h = record {
+  lines = l ∷ [];
+  are = is ∙ sym (append_assoc l (10 ∷ []) rest) ∙ ap (λ x. x ++ rest) (sym (append-nil (l ++ 10 ∷ [])));
+  talks = (text, c', [], line, h, (refl, refl), sym (append-nil text));
+}
+
+line_is : (bytes : List ℕ) (n : ℕ) → n ≤ 4096 → IsLineAt n bytes → IsLine (take n bytes)
+line_is bytes n most at = record { most = omega (arith, length-take-le n bytes (omega (arith, at.0)), most); no_lf = at.1 }
+
+-- the buffer's first line is answered; s is the buffer
+pub line_answered : {S : Type 0} (says : AnswerRelation S) (bytes s rest : List ℕ) (n : ℕ) (c : S) (text : List ℕ) (c' : S) → s ≡ bytes → rest ≡ drop (n + 1) bytes → n ≤ 4096 → IsLineAt n bytes → says (take n s) c text c' → IsTalk says bytes c rest text c'
+line_answered says bytes s rest n c text c' e f most at h =
+    subst (λ r. IsTalk says bytes c r text c') (sym f) (one_line says bytes (take n bytes) (drop (n + 1) bytes) c text c' at.2 (line_is bytes n most at) (subst (λ l. says (take n l) c text c') e h))
+
+begins_with : (bytes : List ℕ) (n : ℕ) → n ≤ 4096 → IsLineAt n bytes → BeginsWith (take n bytes) bytes
+begins_with bytes n most at = (line_is bytes n most at, drop (n + 1) bytes, at.2)
+
+pub line_quits : (bytes s : List ℕ) (n : ℕ) → s ≡ bytes → n ≤ 4096 → IsLineAt n bytes → command_of (take n s) ≡ End → IsQuit bytes
+line_quits bytes s n e most at is = (take n bytes, begins_with bytes n most at, subst (λ l. command_of (take n l) ≡ End) e is)
+
+pub line_broken : {S : Type 0} (begins : AnswerRelation S) (text bytes s : List ℕ) (n : ℕ) (c : S) (tail : List ℕ) (c' : S) (w w' : Outgoing) → s ≡ bytes → n ≤ 4096 → IsLineAt n bytes → begins (take n s) c tail c' → IsTextWritten (text ++ tail) w w' false → IsBrokenOff begins text bytes c w c' w'
+line_broken begins text bytes s n c tail c' w w' e most at h k = (take n bytes, tail, begins_with bytes n most at, subst (λ l. begins (take n l) c tail c') e h, k)
+
+-- ---- lines that are too long
+
+none_first : (n k : ℕ) (xs : List ℕ) → n ≤ k → NoLf (take k xs) → NoLf (take n xs)
+none_first n k xs le none = subst (λ l. NoLf l) (take-take n k xs le) (All-take (λ b. (b == 10) ≡ false) n (take k xs) none)
+
+pub long_line : (bytes : List ℕ) (n : ℕ) → 4096 < n → IsLineAt n bytes → IsLong bytes
+long_line bytes n more at = (omega (arith, more, at.0), none_first 4097 n bytes (omega (arith, more)) at.1)
+
+pub long_rest : (bytes : List ℕ) → 4096 < length bytes → NoLf bytes → IsLong bytes
+long_rest bytes more none = (more, All-take (λ b. (b == 10) ≡ false) 4097 bytes none)
+
+-- ---- the first line of a buffer
+
+-- what comes of it, after it was left once
+pub first_left : {S : Type 0} (says begins : AnswerRelation S) (bytes : List ℕ) (c : S) (page : List ℕ) (w : Outgoing) (c1 : S) (page1 : List ℕ) (w1 : Outgoing) (rest : List ℕ) (c' : S) (page' : List ℕ) (w' : Outgoing) (o : Option Step)
+    → (c1 ≡ c) × (page1 ≡ page) × (w1 ≡ w) → IsFirst says begins bytes c1 page1 w1 rest c' page' w' o → IsFirst says begins bytes c page w rest c' page' w' o
+first_left says begins bytes c page w c1 page1 w1 rest c' page' w' o same h =
+    let a = subst (λ x. IsFirst says begins bytes x page1 w1 rest c' page' w' o) same.0 h in
+    let b = subst (λ x. IsFirst says begins bytes c x w1 rest c' page' w' o) same.1 a in
+    subst (λ x. IsFirst says begins bytes c page x rest c' page' w' o) same.2 b
+
+-- ---- sessions
+
+pub keeps_same : (x : Option (List ℕ)) → Keeps x x
+keeps_same None = tt
+keeps_same (Some xs) = refl
+
+keeps_then : (x y z : Option (List ℕ)) → Keeps x y → Keeps y z → Keeps x z
+keeps_then None y z h k = tt
+keeps_then (Some a) None z h k = absurd h
+keeps_then (Some a) (Some b) None h k = absurd k
+keeps_then (Some a) (Some b) (Some d) h k = k ∙ h
+
+-- a session between two reads
+pub record IsOpen {S : Type 0} (says : AnswerRelation S) (a : Incoming) (c : S) (w : Outgoing) (b : Incoming) (rest : List ℕ) (c' : S) (w' : Outgoing) (reads : ℕ) : Type 0 where
+  pub bytes : List ℕ
+  pub text : List ℕ
+  pub earlier : List ℕ
+  pub taken : b.taken ≡ a.taken ++ bytes
+  pub talk : IsTalk says bytes c rest text c'
+  pub written : IsTextWritten text w w' true
+  pub keeps : Keeps (whole a) (whole b)
+  pub reads_are : b.reads ≡ a.reads ++ earlier
+  pub each : All (λ n. 0 < n) earlier
+  pub count : length earlier ≡ reads
+  pub most : reads ≤ 1000000
+  pub no_fault : b.failures ≡ a.failures
+
+pub open_none : {S : Type 0} (says : AnswerRelation S) (a : Incoming) (rest : List ℕ) (c : S) (w : Outgoing) → rest ≡ [] → IsOpen says a c w a rest c w 0
+open_none says a rest c w is = record {
+  bytes = [];
+  text = [];
+  earlier = [];
+  taken = sym (append-nil a.taken);
+  talk = subst (λ r. IsTalk says [] c r [] c) (sym is) (talk_none says [] c);
+  written = written_none w;
+  keeps = keeps_same (whole a);
+  reads_are = sym (append-nil a.reads);
+  each = All-nil (λ n. 0 < n);
+  count = refl;
+  most = omega arith;
+  no_fault = refl;
+}
+
+-- after the lines of the buffer
+pub open_answered : {S : Type 0} (says : AnswerRelation S) (a : Incoming) (c : S) (w : Outgoing) (b : Incoming) (rest : List ℕ) (c1 : S) (w1 : Outgoing) (reads : ℕ) (rest' text : List ℕ) (c2 : S) (w2 : Outgoing)
+    → IsOpen says a c w b rest c1 w1 reads → IsTalk says rest c1 rest' text c2 → IsTextWritten text w1 w2 true → IsOpen says a c w b rest' c2 w2 reads
+open_answered says a c w b rest c1 w1 reads rest' text c2 w2 o t h = record {
+  bytes = o.bytes;
+  text = o.text ++ text;
+  earlier = o.earlier;
+  taken = o.taken;
+  talk = talk_then says o.bytes c rest o.text c1 rest' text c2 o.talk t;
+  written = written_more o.text text w w1 w2 true o.written h;
+  keeps = o.keeps;
+  reads_are = o.reads_are;
+  each = o.each;
+  count = o.count;
+  most = o.most;
+  no_fault = o.no_fault;
+}
+
+-- after a read that gave something
+pub open_read : {S : Type 0} (says : AnswerRelation S) (a : Incoming) (c : S) (w : Outgoing) (b : Incoming) (rest : List ℕ) (c' : S) (w' : Outgoing) (reads : ℕ) (b' : Incoming) (rest' more : List ℕ)
+    → IsOpen says a c w b rest c' w' reads → reads < 1000000 → 0 < length more → rest' ≡ rest ++ more → b'.taken ≡ b.taken ++ more → b'.reads ≡ b.reads ++ length more ∷ [] → b'.failures ≡ b.failures → Keeps (whole b) (whole b') → IsOpen says a c w b' rest' c' w' (reads + 1)
+open_read says a c w b rest c' w' reads b' rest' more o less some is taken read kept same = record {
+  bytes = o.bytes ++ more;
+  text = o.text;
+  earlier = o.earlier ++ length more ∷ [];
+  taken = taken ∙ ap (λ l. l ++ more) o.taken ∙ append_assoc a.taken o.bytes more;
+  talk = subst (λ r. IsTalk says (o.bytes ++ more) c r o.text c') (sym is) (talk_read says o.bytes c rest o.text c' more o.talk);
+  written = o.written;
+  keeps = keeps_then (whole a) (whole b) (whole b') o.keeps same;
+  reads_are = read ∙ ap (λ l. l ++ length more ∷ []) o.reads_are ∙ append_assoc a.reads o.earlier (length more ∷ []);
+  each = All-append (λ n. 0 < n) o.earlier (length more ∷ []) o.each (All-cons (λ n. 0 < n) (length more) [] some (All-nil (λ n. 0 < n)));
+  count = length-append o.earlier (length more ∷ []) ∙ ap (λ n. n + 1) o.count;
+  most = omega (arith, less);
+  no_fault = kept ∙ o.no_fault;
+}
+
+-- the read by which these bytes came, or no bytes
+pub last_read : {S : Type 0} (says : AnswerRelation S) (a : Incoming) (c : S) (w : Outgoing) (b : Incoming) (rest : List ℕ) (c' : S) (w' : Outgoing) (reads : ℕ) (b' : Incoming) (last : List ℕ)
+    → (o : IsOpen says a c w b rest c' w' reads) → IsLine rest → b'.reads ≡ b.reads ++ length last ∷ [] → IsLastRead says o.bytes last a b' c w rest c' w'
+last_read says a c w b rest c' w' reads b' last o line read = record {
+  earlier = o.earlier;
+  text = o.text;
+  reads = read ∙ ap (λ l. l ++ length last ∷ []) o.reads_are ∙ append_assoc a.reads o.earlier (length last ∷ []);
+  each = o.each;
+  talk = o.talk;
+  line = line;
+  written = o.written;
+}
+
+-- how a buffer came to its bytes: nothing was read yet, or by the last read
+abbrev pub Came : {S : Type 0} → AnswerRelation S → Incoming → S → Outgoing → Incoming → List ℕ → S → Outgoing → ℕ → Type 0
+Came says a c w b buffer c' w' reads =
+    ((buffer ≡ []) × (reads ≡ 0))
+    ⊎ ((before : List ℕ) × (last : List ℕ) × (rest : List ℕ) × (b.taken ≡ a.taken ++ (before ++ last)) × (buffer ≡ rest ++ last) × IsLastRead says before last a b c w rest c' w')
+
+pub came_read : {S : Type 0} (says : AnswerRelation S) (a : Incoming) (c : S) (w : Outgoing) (b : Incoming) (rest : List ℕ) (c' : S) (w' : Outgoing) (reads : ℕ) (b' : Incoming) (rest' more : List ℕ) (reads' : ℕ)
+    → IsOpen says a c w b rest c' w' reads → IsLine rest → rest' ≡ rest ++ more → b'.taken ≡ b.taken ++ more → b'.reads ≡ b.reads ++ length more ∷ [] → Came says a c w b' rest' c' w' reads'
+came_read says a c w b rest c' w' reads b' rest' more reads' o line is taken read =
+    inr (o.bytes, more, rest, taken ∙ ap (λ l. l ++ more) o.taken ∙ append_assoc a.taken o.bytes more, is, last_read says a c w b rest c' w' reads b' more o line read)
+
+-- the lines of the buffer, and what an ending prints, unless a write fails
+pub ends_saying : {S : Type 0} (says begins : AnswerRelation S) (a : Incoming) (c : S) (w : Outgoing) (b : Incoming) (rest : List ℕ) (c1 : S) (w1 : Outgoing) (reads : ℕ) (rest' text : List ℕ) (c' : S) (b' : Incoming) (w2 : Outgoing) (ended : Ended) (tail : List ℕ) (r : Bool)
+    → (o : IsOpen says a c w b rest c1 w1 reads) → IsTalk says rest c1 rest' text c' → b'.taken ≡ b.taken → Keeps (whole b) (whole b') → EndsCleanly rest' a b' ended tail → IsTextWritten (text ++ tail) w1 w2 r
+    → ((rest : List ℕ) × (text : List ℕ) × (tail : List ℕ) × IsTalk says o.bytes c rest text c' × EndsCleanly rest a b' ended tail × IsTextWritten (text ++ tail) w w2 true → IsSessionServed says begins o.bytes a b' c w c' w2 ended)
+    → (IsTextWritten (text ++ tail) w1 w2 false → Serves says begins a b' c w c' w2 WriteFault) → Serves says begins a b' c w c' w2 (ended_of ended r)
+ends_saying says begins a c w b rest c1 w1 reads rest' text c' b' w2 ended tail true o t taken same closes h is fault =
+    let all = subst (λ l. IsTextWritten l w w2 true) (sym (append_assoc o.text text tail)) (written_more o.text (text ++ tail) w w1 w2 true o.written h) in
+    (o.bytes, taken ∙ o.taken, keeps_then (whole a) (whole b) (whole b') o.keeps same, is (rest', o.text ++ text, tail, talk_then says o.bytes c rest o.text c1 rest' text c' o.talk t, closes, all))
+ends_saying says begins a c w b rest c1 w1 reads rest' text c' b' w2 ended tail false o t taken same closes h is fault = fault h
+
+-- the session ends, and prints nothing more
+pub ends_plainly : {S : Type 0} (says begins : AnswerRelation S) (a : Incoming) (c : S) (w : Outgoing) (b : Incoming) (rest : List ℕ) (c' : S) (w1 : Outgoing) (reads : ℕ) (b' : Incoming) (ended : Ended)
+    → (o : IsOpen says a c w b rest c' w1 reads) → b'.taken ≡ b.taken → Keeps (whole b) (whole b') → EndsCleanly rest a b' ended []
+    → ((rest : List ℕ) × (text : List ℕ) × (tail : List ℕ) × IsTalk says o.bytes c rest text c' × EndsCleanly rest a b' ended tail × IsTextWritten (text ++ tail) w w1 true → IsSessionServed says begins o.bytes a b' c w c' w1 ended)
+    → Serves says begins a b' c w c' w1 ended
+ends_plainly says begins a c w b rest c' w1 reads b' ended o taken same closes is =
+    (o.bytes, taken ∙ o.taken, keeps_then (whole a) (whole b) (whole b') o.keeps same, is (rest, o.text, [], o.talk, closes, written_more o.text [] w w1 w1 true o.written (written_none w1)))
+
+-- ---- failed writes
+
+no_line : (rest l : List ℕ) → length rest ≡ 0 → BeginsWith l rest → ⊥
+no_line rest l none h = omega (arith, none, ap (λ x. length x) h.2, length-append l (10 ∷ h.1))
+
+no_cut : (text : List ℕ) (a b : List ℕ) → text ≡ [] → IsCutShort text a b → ⊥
+no_cut text a b none h = omega (arith, h.some, ap (λ x. length x) (sym none ∙ h.lacks), length-append h.part h.rest)
+
+-- if nothing was read, no line is answered
+no_talk : {S : Type 0} (says : AnswerRelation S) (lines : List (List ℕ)) (rest : List ℕ) (c : S) (text : List ℕ) (c' : S) → length (stream lines ++ rest) ≡ 0 → AnswersAll says lines c text c' → (text ≡ []) × (length rest ≡ 0)
+no_talk says [] rest c text c' none t = (t.0, none)
+no_talk says (l ∷ ls) rest c text c' none t = absurd (omega (arith, none, length-append (stream (l ∷ ls)) rest, length-append (l ++ 10 ∷ []) (stream ls), length-append l (10 ∷ [])))
+
+-- if nothing was read, no ending's line can fail
+closes_none : (rest text tail : List ℕ) (a b : Incoming) (w w' : Outgoing) (ended : Ended) → length rest ≡ 0 → text ≡ [] → length b.reads ≡ length a.reads → b.failures ≡ a.failures → EndsCleanly rest a b ended tail → IsTextWritten (text ++ tail) w w' false → ⊥
+closes_none rest text tail a b w w' Quit none empty same fine h k = no_line rest h.0.0 none h.0.1
+closes_none rest text tail a b w w' Eof none empty same fine h k = no_cut (text ++ tail) w.out w'.out (ap (λ l. l ++ tail) empty ∙ h.2) k.0
+closes_none rest text tail a b w w' CutLine none empty same fine h k = omega (arith, none, h.1)
+closes_none rest text tail a b w w' TooLong none empty same fine h k = omega (arith, none, h.0.0)
+closes_none rest text tail a b w w' ReadFault none empty same fine h k = omega (arith, fine, h.2)
+closes_none rest text tail a b w w' TooManyReads none empty same fine h k = omega (arith, same, h.1)
+closes_none rest text tail a b w w' WriteFault none empty same fine h k = h
+closes_none rest text tail a b w w' NoMemory none empty same fine h k = h
+
+breaks_none : {S : Type 0} (begins : AnswerRelation S) (text rest : List ℕ) (a b : Incoming) (c : S) (w : Outgoing) (c' : S) (w' : Outgoing) → length rest ≡ 0 → text ≡ [] → length b.reads ≡ length a.reads → b.failures ≡ a.failures → FailsWhileWriting begins text rest a b c w c' w' → ⊥
+breaks_none begins text rest a b c w c' w' none empty same fine (inl (h, k)) = no_line rest h.0 none h.2
+breaks_none begins text rest a b c w c' w' none empty same fine (inr (inl h)) = closes_none rest text h.1 a b w w' h.0 none empty same fine h.2 h.4
+breaks_none begins text rest a b c w c' w' none empty same fine (inr (inr h)) = no_cut text w.out w'.out empty h.3.0
+
+fails_none : {S : Type 0} (says begins : AnswerRelation S) (bytes : List ℕ) (a b : Incoming) (c : S) (w : Outgoing) (c' : S) (w' : Outgoing) → bytes ≡ [] → length b.reads ≡ length a.reads → b.failures ≡ a.failures → IsTruncatedRun says begins bytes a b c w c' w' → ⊥
+fails_none says begins bytes a b c w c' w' none same fine f =
+    let n = no_talk says f.3.lines f.0 c f.1 f.2 (ap (λ x. length x) (sym f.3.are ∙ none)) f.3.talks in
+    breaks_none begins f.1 f.0 a b f.2 w c' w' n.1 n.0 same fine f.4
+
+-- a write failed in the answers of the buffer's lines, or behind them
+pub ends_failing : {S : Type 0} (says begins : AnswerRelation S) (a : Incoming) (c : S) (w : Outgoing) (b : Incoming) (buffer : List ℕ) (c1 : S) (w1 : Outgoing) (reads : ℕ) (c2 : S) (w2 : Outgoing)
+    → IsOpen says a c w b buffer c1 w1 reads → Came says a c w b buffer c1 w1 reads → IsTruncatedRun says begins buffer a b c1 w1 c2 w2 → Serves says begins a b c w c2 w2 WriteFault
+ends_failing says begins a c w b buffer c1 w1 reads c2 w2 o (inl (none, zero)) f =
+    absurd (fails_none says begins buffer a b c1 w1 c2 w2 none (omega (arith, zero, o.count, ap (λ x. length x) o.reads_are, length-append a.reads o.earlier)) o.no_fault f)
+ends_failing says begins a c w b buffer c1 w1 reads c2 w2 o (inr (before, last, rest, taken, is, h)) f =
+    (before ++ last, taken, o.keeps, (before, last, rest, c1, w1, refl, h, subst (λ l. IsTruncatedRun says begins l a b c1 w1 c2 w2) is f))
+
+-- an ending's line failed after a read that took nothing
+pub ends_silent : {S : Type 0} (says begins : AnswerRelation S) (a : Incoming) (c : S) (w : Outgoing) (b : Incoming) (rest : List ℕ) (c' : S) (w1 : Outgoing) (reads : ℕ) (b' : Incoming) (w2 : Outgoing) (ended : Ended) (tail : List ℕ)
+    → IsOpen says a c w b rest c' w1 reads → IsLine rest → b'.taken ≡ b.taken → b'.reads ≡ b.reads ++ 0 ∷ [] → Keeps (whole b) (whole b') → EndsCleanly rest a b' ended tail → IsTextWritten tail w1 w2 false → Serves says begins a b' c w c' w2 WriteFault
+ends_silent says begins a c w b rest c' w1 reads b' w2 ended tail o line taken read same closes h = (
+  o.bytes ++ [],
+  taken ∙ o.taken ∙ ap (λ l. a.taken ++ l) (sym (append-nil o.bytes)),
+  keeps_then (whole a) (whole b) (whole b') o.keeps same,
+  (
+    o.bytes,
+    [],
+    rest,
+    c',
+    w1,
+    refl,
+    last_read says a c w b rest c' w1 reads b' [] o line read,
+    (rest, [], c', subst (λ l. IsTalk says l c' rest [] c') (sym (append-nil rest)) (talk_none says rest c'), inr (inl (ended, tail, closes, refl, h))),
+  ),
+)
+
+-- a text that is out, and then the write that failed
+breaks_more : {S : Type 0} (begins : AnswerRelation S) (out text rest : List ℕ) (a b : Incoming) (c : S) (w m : Outgoing) (c' : S) (w' : Outgoing) → IsTextWritten out w m true → FailsWhileWriting begins text rest a b c m c' w' → FailsWhileWriting begins (out ++ text) rest a b c w c' w'
+breaks_more begins out text rest a b c w m c' w' o (inl ((l, tail, starts, h, cut), same)) =
+    inl ((l, tail, starts, h, subst (λ x. IsTextWritten x w w' false) (sym (append_assoc out text tail)) (written_more out (text ++ tail) w m w' false o cut)), same)
+breaks_more begins out text rest a b c w m c' w' o (inr (inl (ended, tail, closes, same, cut))) =
+    inr (inl (ended, tail, closes, same, subst (λ x. IsTextWritten x w w' false) (sym (append_assoc out text tail)) (written_more out (text ++ tail) w m w' false o cut)))
+breaks_more begins out text rest a b c w m c' w' o (inr (inr (line, fine, same, cut))) = inr (inr (line, fine, same, written_more out text w m w' false o cut))
+
+-- all the lines from the beginning, and then the write that failed
+pub served_fails : {S : Type 0} (says begins : AnswerRelation S) (bytes : List ℕ) (a b : Incoming) (c : S) (w : Outgoing) (c' : S) (w' : Outgoing) → IsSessionServed says begins bytes a b c w c' w' WriteFault → IsTruncatedRun says begins bytes a b c w c' w'
+served_fails says begins bytes a b c w c' w' (before, last, rest, c1, w1, is, h, (left, text, between, talk, breaks)) =
+    let all = talk_then says (before ++ last) c (rest ++ last) h.text c1 left text between (talk_read says before c rest h.text c1 last h.talk) talk in
+    (left, h.text ++ text, between, subst (λ l. IsTalk says l c left (h.text ++ text) between) (sym is) all, breaks_more begins h.text text left a b between w w1 c' w' h.written breaks)
+
+-- ---- what a session says of its ends alone
+
+ends_either : (a b : Incoming) (rest tail : List ℕ) (ended : Ended) → EndsCleanly rest a b ended tail → (b.failures ≡ a.failures) ⊎ (b.failures ≡ a.failures + 1)
+ends_either a b rest tail Quit h = inl h.2
+ends_either a b rest tail Eof h = inl h.3
+ends_either a b rest tail CutLine h = inl h.4
+ends_either a b rest tail TooLong h = inl h.2
+ends_either a b rest tail ReadFault h = inr h.2
+ends_either a b rest tail TooManyReads h = inl h.3
+ends_either a b rest tail WriteFault h = absurd h
+ends_either a b rest tail NoMemory h = absurd h
+
+breaks_either : {S : Type 0} (begins : AnswerRelation S) (text rest : List ℕ) (a b : Incoming) (c : S) (w : Outgoing) (c' : S) (w' : Outgoing) → FailsWhileWriting begins text rest a b c w c' w' → (w'.failures ≡ w.failures + 1) × ((b.failures ≡ a.failures) ⊎ (b.failures ≡ a.failures + 1))
+breaks_either begins text rest a b c w c' w' (inl (h, k)) = (h.4.1, inl k)
+breaks_either begins text rest a b c w c' w' (inr (inl h)) = (h.4.1, ends_either a b rest h.1 h.0 h.2)
+breaks_either begins text rest a b c w c' w' (inr (inr h)) = (h.3.1, inl h.1)
+
+fails_ends : {S : Type 0} (says begins : AnswerRelation S) (bytes : List ℕ) (a b : Incoming) (c : S) (w : Outgoing) (c' : S) (w' : Outgoing) → IsTruncatedRun says begins bytes a b c w c' w' → EndsSession a b w w' WriteFault
+fails_ends says begins bytes a b c w c' w' f = breaks_either begins f.1 f.0 a b f.2 w c' w' f.4
+
+pub serves_ends : {S : Type 0} (says begins : AnswerRelation S) (a b : Incoming) (c : S) (w : Outgoing) (c' : S) (w' : Outgoing) (ended : Ended) → Serves says begins a b c w c' w' ended → EndsSession a b w w' ended
+serves_ends says begins a b c w c' w' Quit s = let h = s.3 in (h.5.1, h.4.2)
+serves_ends says begins a b c w c' w' Eof s = let h = s.3 in (h.5.1, (h.4.1, h.4.3))
+serves_ends says begins a b c w c' w' CutLine s = let h = s.3 in (h.5.1, (h.4.2, h.4.4))
+serves_ends says begins a b c w c' w' TooLong s = let h = s.3 in (h.5.1, h.4.2)
+serves_ends says begins a b c w c' w' ReadFault s = let h = s.3 in (h.5.1, h.4.2)
+serves_ends says begins a b c w c' w' TooManyReads s = let h = s.3 in (h.5.1, (h.4.1, h.4.3))
+serves_ends says begins a b c w c' w' WriteFault s = fails_ends says begins s.0 a b c w c' w' (served_fails says begins s.0 a b c w c' w' s.3)
+serves_ends says begins a b c w c' w' NoMemory s = let h = s.3 in (h.1, h.3)

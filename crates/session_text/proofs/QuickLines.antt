@@ -1,0 +1,416 @@
+-- Lines that are answered at once.
+use Rattle.std.proofs.Common.{◌≡◌, Bool, true, false, cond, inl, inr, subst, ◌-◌, take, ne_eqb, ◌≤◌, ◌<◌, ◌+◌, ℕ, List, [], ◌∷◌, Some, codes, drop, length, get_or, arith, refl, ap, sym, ◌∙◌}
+use Rattle.std.specs.Prelude.{◌==◌, suc, unwrap_or, option_map, option_and_then}
+use Rattle.std.proofs.lemmas.List.{drop_all, length-take-le, get_or-take}
+use Rattle.heap_step.specs.declared.Event.TheVariants.{Load, Store, Put, Move, Clear, New, Mark}
+use Rattle.heap_trail.specs.declared.Action.TheVariants.{Step}
+use Rattle.session_text.specs.declared.command.Command.{Command}
+use Rattle.session_text.specs.declared.command.Command.TheVariants.{Bad, Ask}
+use Rattle.session_text.specs.Grammar.{words_of_line, next_number, at_end, two_numbers, three_numbers, four_numbers, new_line, load_line, store_line, put_line, move_line, clear_line, step_line, making_rules, access_rules, marking_rules, session_rules, by_rule, without_cr, command_of_text, command_of}
+use Rattle.session_text.specs.Reads.{IsNumberFrom, IsNumberThen, plain_class_rules, plain_rules}
+use Rattle.session_text.specs.Lines.{NoLf}
+use Rattle.session_text.specs.Mutators.{Follows, FollowsIn, IsEventAsked, IsPassed, IsQuickIn, IsShortLine}
+use Rattle.session_text.specs.declared.mutator.Quick.{Quick}
+use Rattle.session_text.specs.declared.mutator.Quick.TheVariants.{No, Next, Fault}
+use Rattle.dump_pump.specs.Outlets.{Outgoing}
+use Rattle.session_text.specs.declared.answer.Step.{Step as Outcome}
+use Rattle.session_text.specs.declared.answer.Step.TheVariants.{Next as Goes, Fault as Fails}
+use Rattle.session_text.specs.Answers.{Reaction, AnswerRelation, AnswersCommand, Begins, AnswersTo, BeginsTo}
+use Rattle.session_text.specs.Dumps.{Acts}
+use Rattle.session_text.specs.Endings.{step_of}
+use Rattle.session_text.specs.Replies.{reply_text}
+use Rattle.session_text.specs.Talks.{IsSessionStep}
+use Rattle.session_text.proofs.AnsweredLines.{step_added}
+use Rattle.session_text.proofs.Plain.{text_read}
+use Rattle.session_text.proofs.Firsts.{cut}
+use Rattle.session_text.proofs.Lists.{split_at}
+use Rattle.session_text.proofs.NumberDigits.{none_yet, no_lf_more}
+
+-- a text whose first word is a keyword
+pub asks : (t key : List ℕ) (ws : List (List ℕ)) (k : Command) → words_of_line t ≡ key ∷ ws → by_rule plain_rules key ws ≡ Some k → command_of_text t ≡ k
+asks t key ws k e is = sym (text_read t key ws e) ∙ ap (λ o. unwrap_or o Bad) is
+
+pub load_rule : (ws : List (List ℕ)) → by_rule plain_rules (codes "load") ws ≡ load_line ws
+unfolding by_rule plain_class_rules making_rules access_rules marking_rules session_rules
+load_rule ws = refl
+
+pub store_rule : (ws : List (List ℕ)) → by_rule plain_rules (codes "store") ws ≡ store_line ws
+unfolding by_rule plain_class_rules making_rules access_rules marking_rules session_rules
+store_rule ws = refl
+
+pub put_rule : (ws : List (List ℕ)) → by_rule plain_rules (codes "put") ws ≡ put_line ws
+unfolding by_rule plain_class_rules making_rules access_rules marking_rules session_rules
+put_rule ws = refl
+
+pub move_rule : (ws : List (List ℕ)) → by_rule plain_rules (codes "move") ws ≡ move_line ws
+unfolding by_rule plain_class_rules making_rules access_rules marking_rules session_rules
+move_rule ws = refl
+
+pub clear_rule : (ws : List (List ℕ)) → by_rule plain_rules (codes "clear") ws ≡ clear_line ws
+unfolding by_rule plain_class_rules making_rules access_rules marking_rules session_rules
+clear_rule ws = refl
+
+pub new_rule : (ws : List (List ℕ)) → by_rule plain_rules (codes "new") ws ≡ new_line ws
+unfolding by_rule plain_class_rules making_rules access_rules marking_rules session_rules
+new_rule ws = refl
+
+pub mark_rule : (ws : List (List ℕ)) → by_rule plain_rules (codes "mark") ws ≡ step_line Mark ws
+unfolding by_rule plain_class_rules making_rules access_rules marking_rules session_rules
+mark_rule ws = refl
+
+-- ---- keywords
+
+byte_then : (t : List ℕ) (i b : ℕ) (l : List ℕ) → i < length t → get_or t i 0 ≡ b → drop (i + 1) t ≡ l → drop i t ≡ b ∷ l
+byte_then t i b l lt e rest = cut t i lt ∙ ap (λ x. x ∷ drop (i + 1) t) e ∙ ap (λ r. b ∷ r) rest
+
+load_word : (r : List ℕ) → words_of_line (108 ∷ 111 ∷ 97 ∷ 100 ∷ 32 ∷ r) ≡ codes "load" ∷ words_of_line r
+unfolding words_of_line
+load_word r = refl
+
+load_follows : (t : List ℕ) → 5 ≤ length t → get_or t 0 0 ≡ 108 → get_or t 1 0 ≡ 111 → get_or t 2 0 ≡ 97 → get_or t 3 0 ≡ 100 → get_or t 4 0 ≡ 32 → Follows (codes "load") t 5
+load_follows t le e0 e1 e2 e3 e4 =
+    let t4 : drop 4 t ≡ 32 ∷ drop 5 t = byte_then t 4 32 (drop 5 t) (omega (arith, le)) e4 refl in
+    let t3 : drop 3 t ≡ 100 ∷ 32 ∷ drop 5 t = byte_then t 3 100 (32 ∷ drop 5 t) (omega (arith, le)) e3 t4 in
+    let t2 : drop 2 t ≡ 97 ∷ 100 ∷ 32 ∷ drop 5 t = byte_then t 2 97 (100 ∷ 32 ∷ drop 5 t) (omega (arith, le)) e2 t3 in
+    let t1 : drop 1 t ≡ 111 ∷ 97 ∷ 100 ∷ 32 ∷ drop 5 t = byte_then t 1 111 (97 ∷ 100 ∷ 32 ∷ drop 5 t) (omega (arith, le)) e1 t2 in
+    let t0 : drop 0 t ≡ 108 ∷ 111 ∷ 97 ∷ 100 ∷ 32 ∷ drop 5 t = byte_then t 0 108 (111 ∷ 97 ∷ 100 ∷ 32 ∷ drop 5 t) (omega (arith, le)) e0 t1 in
+    ap words_of_line t0 ∙ load_word (drop 5 t)
+
+store_word : (r : List ℕ) → words_of_line (115 ∷ 116 ∷ 111 ∷ 114 ∷ 101 ∷ 32 ∷ r) ≡ codes "store" ∷ words_of_line r
+unfolding words_of_line
+store_word r = refl
+
+store_follows : (t : List ℕ) → 6 ≤ length t → get_or t 0 0 ≡ 115 → get_or t 1 0 ≡ 116 → get_or t 2 0 ≡ 111 → get_or t 3 0 ≡ 114 → get_or t 4 0 ≡ 101 → get_or t 5 0 ≡ 32 → Follows (codes "store") t 6
+store_follows t le e0 e1 e2 e3 e4 e5 =
+    let t5 : drop 5 t ≡ 32 ∷ drop 6 t = byte_then t 5 32 (drop 6 t) (omega (arith, le)) e5 refl in
+    let t4 : drop 4 t ≡ 101 ∷ 32 ∷ drop 6 t = byte_then t 4 101 (32 ∷ drop 6 t) (omega (arith, le)) e4 t5 in
+    let t3 : drop 3 t ≡ 114 ∷ 101 ∷ 32 ∷ drop 6 t = byte_then t 3 114 (101 ∷ 32 ∷ drop 6 t) (omega (arith, le)) e3 t4 in
+    let t2 : drop 2 t ≡ 111 ∷ 114 ∷ 101 ∷ 32 ∷ drop 6 t = byte_then t 2 111 (114 ∷ 101 ∷ 32 ∷ drop 6 t) (omega (arith, le)) e2 t3 in
+    let t1 : drop 1 t ≡ 116 ∷ 111 ∷ 114 ∷ 101 ∷ 32 ∷ drop 6 t = byte_then t 1 116 (111 ∷ 114 ∷ 101 ∷ 32 ∷ drop 6 t) (omega (arith, le)) e1 t2 in
+    let t0 : drop 0 t ≡ 115 ∷ 116 ∷ 111 ∷ 114 ∷ 101 ∷ 32 ∷ drop 6 t = byte_then t 0 115 (116 ∷ 111 ∷ 114 ∷ 101 ∷ 32 ∷ drop 6 t) (omega (arith, le)) e0 t1 in
+    ap words_of_line t0 ∙ store_word (drop 6 t)
+
+put_word : (r : List ℕ) → words_of_line (112 ∷ 117 ∷ 116 ∷ 32 ∷ r) ≡ codes "put" ∷ words_of_line r
+unfolding words_of_line
+put_word r = refl
+
+put_follows : (t : List ℕ) → 4 ≤ length t → get_or t 0 0 ≡ 112 → get_or t 1 0 ≡ 117 → get_or t 2 0 ≡ 116 → get_or t 3 0 ≡ 32 → Follows (codes "put") t 4
+put_follows t le e0 e1 e2 e3 =
+    let t3 : drop 3 t ≡ 32 ∷ drop 4 t = byte_then t 3 32 (drop 4 t) (omega (arith, le)) e3 refl in
+    let t2 : drop 2 t ≡ 116 ∷ 32 ∷ drop 4 t = byte_then t 2 116 (32 ∷ drop 4 t) (omega (arith, le)) e2 t3 in
+    let t1 : drop 1 t ≡ 117 ∷ 116 ∷ 32 ∷ drop 4 t = byte_then t 1 117 (116 ∷ 32 ∷ drop 4 t) (omega (arith, le)) e1 t2 in
+    let t0 : drop 0 t ≡ 112 ∷ 117 ∷ 116 ∷ 32 ∷ drop 4 t = byte_then t 0 112 (117 ∷ 116 ∷ 32 ∷ drop 4 t) (omega (arith, le)) e0 t1 in
+    ap words_of_line t0 ∙ put_word (drop 4 t)
+
+move_word : (r : List ℕ) → words_of_line (109 ∷ 111 ∷ 118 ∷ 101 ∷ 32 ∷ r) ≡ codes "move" ∷ words_of_line r
+unfolding words_of_line
+move_word r = refl
+
+move_follows : (t : List ℕ) → 5 ≤ length t → get_or t 0 0 ≡ 109 → get_or t 1 0 ≡ 111 → get_or t 2 0 ≡ 118 → get_or t 3 0 ≡ 101 → get_or t 4 0 ≡ 32 → Follows (codes "move") t 5
+move_follows t le e0 e1 e2 e3 e4 =
+    let t4 : drop 4 t ≡ 32 ∷ drop 5 t = byte_then t 4 32 (drop 5 t) (omega (arith, le)) e4 refl in
+    let t3 : drop 3 t ≡ 101 ∷ 32 ∷ drop 5 t = byte_then t 3 101 (32 ∷ drop 5 t) (omega (arith, le)) e3 t4 in
+    let t2 : drop 2 t ≡ 118 ∷ 101 ∷ 32 ∷ drop 5 t = byte_then t 2 118 (101 ∷ 32 ∷ drop 5 t) (omega (arith, le)) e2 t3 in
+    let t1 : drop 1 t ≡ 111 ∷ 118 ∷ 101 ∷ 32 ∷ drop 5 t = byte_then t 1 111 (118 ∷ 101 ∷ 32 ∷ drop 5 t) (omega (arith, le)) e1 t2 in
+    let t0 : drop 0 t ≡ 109 ∷ 111 ∷ 118 ∷ 101 ∷ 32 ∷ drop 5 t = byte_then t 0 109 (111 ∷ 118 ∷ 101 ∷ 32 ∷ drop 5 t) (omega (arith, le)) e0 t1 in
+    ap words_of_line t0 ∙ move_word (drop 5 t)
+
+clear_word : (r : List ℕ) → words_of_line (99 ∷ 108 ∷ 101 ∷ 97 ∷ 114 ∷ 32 ∷ r) ≡ codes "clear" ∷ words_of_line r
+unfolding words_of_line
+clear_word r = refl
+
+clear_follows : (t : List ℕ) → 6 ≤ length t → get_or t 0 0 ≡ 99 → get_or t 1 0 ≡ 108 → get_or t 2 0 ≡ 101 → get_or t 3 0 ≡ 97 → get_or t 4 0 ≡ 114 → get_or t 5 0 ≡ 32 → Follows (codes "clear") t 6
+clear_follows t le e0 e1 e2 e3 e4 e5 =
+    let t5 : drop 5 t ≡ 32 ∷ drop 6 t = byte_then t 5 32 (drop 6 t) (omega (arith, le)) e5 refl in
+    let t4 : drop 4 t ≡ 114 ∷ 32 ∷ drop 6 t = byte_then t 4 114 (32 ∷ drop 6 t) (omega (arith, le)) e4 t5 in
+    let t3 : drop 3 t ≡ 97 ∷ 114 ∷ 32 ∷ drop 6 t = byte_then t 3 97 (114 ∷ 32 ∷ drop 6 t) (omega (arith, le)) e3 t4 in
+    let t2 : drop 2 t ≡ 101 ∷ 97 ∷ 114 ∷ 32 ∷ drop 6 t = byte_then t 2 101 (97 ∷ 114 ∷ 32 ∷ drop 6 t) (omega (arith, le)) e2 t3 in
+    let t1 : drop 1 t ≡ 108 ∷ 101 ∷ 97 ∷ 114 ∷ 32 ∷ drop 6 t = byte_then t 1 108 (101 ∷ 97 ∷ 114 ∷ 32 ∷ drop 6 t) (omega (arith, le)) e1 t2 in
+    let t0 : drop 0 t ≡ 99 ∷ 108 ∷ 101 ∷ 97 ∷ 114 ∷ 32 ∷ drop 6 t = byte_then t 0 99 (108 ∷ 101 ∷ 97 ∷ 114 ∷ 32 ∷ drop 6 t) (omega (arith, le)) e0 t1 in
+    ap words_of_line t0 ∙ clear_word (drop 6 t)
+
+new_word : (r : List ℕ) → words_of_line (110 ∷ 101 ∷ 119 ∷ 32 ∷ r) ≡ codes "new" ∷ words_of_line r
+unfolding words_of_line
+new_word r = refl
+
+new_follows : (t : List ℕ) → 4 ≤ length t → get_or t 0 0 ≡ 110 → get_or t 1 0 ≡ 101 → get_or t 2 0 ≡ 119 → get_or t 3 0 ≡ 32 → Follows (codes "new") t 4
+new_follows t le e0 e1 e2 e3 =
+    let t3 : drop 3 t ≡ 32 ∷ drop 4 t = byte_then t 3 32 (drop 4 t) (omega (arith, le)) e3 refl in
+    let t2 : drop 2 t ≡ 119 ∷ 32 ∷ drop 4 t = byte_then t 2 119 (32 ∷ drop 4 t) (omega (arith, le)) e2 t3 in
+    let t1 : drop 1 t ≡ 101 ∷ 119 ∷ 32 ∷ drop 4 t = byte_then t 1 101 (119 ∷ 32 ∷ drop 4 t) (omega (arith, le)) e1 t2 in
+    let t0 : drop 0 t ≡ 110 ∷ 101 ∷ 119 ∷ 32 ∷ drop 4 t = byte_then t 0 110 (101 ∷ 119 ∷ 32 ∷ drop 4 t) (omega (arith, le)) e0 t1 in
+    ap words_of_line t0 ∙ new_word (drop 4 t)
+
+-- ---- keywords of a text's first line
+
+first : (t : List ℕ) (n i : ℕ) → i < n → get_or (take n t) i 0 ≡ get_or t i 0
+first t n i lt = get_or-take n t i 0 lt
+
+other_byte : (t : List ℕ) (i b : ℕ) → get_or t i 0 ≡ b → (b == 10) ≡ false → (get_or t i 0 == 10) ≡ false
+other_byte t i b e other = ap (λ x. x == 10) e ∙ other
+
+pub load_in : (t : List ℕ) → 5 ≤ length t → get_or t 0 0 ≡ 108 → get_or t 1 0 ≡ 111 → get_or t 2 0 ≡ 97 → get_or t 3 0 ≡ 100 → get_or t 4 0 ≡ 32 → FollowsIn (codes "load") t 5
+load_in t le e0 e1 e2 e3 e4 =
+    let n0 : NoLf (take 1 t) = no_lf_more t 0 (omega (arith, le)) (other_byte t 0 108 e0 refl) (none_yet t) in
+    let n1 : NoLf (take 2 t) = no_lf_more t 1 (omega (arith, le)) (other_byte t 1 111 e1 refl) n0 in
+    let n2 : NoLf (take 3 t) = no_lf_more t 2 (omega (arith, le)) (other_byte t 2 97 e2 refl) n1 in
+    let n3 : NoLf (take 4 t) = no_lf_more t 3 (omega (arith, le)) (other_byte t 3 100 e3 refl) n2 in
+    let n4 : NoLf (take 5 t) = no_lf_more t 4 (omega (arith, le)) (other_byte t 4 32 e4 refl) n3 in
+    (le, n4, λ n low most. load_follows (take n t) (omega (arith, length-take-le n t most, low)) (first t n 0 (omega (arith, low)) ∙ e0) (first t n 1 (omega (arith, low)) ∙ e1) (first t n 2 (omega (arith, low)) ∙ e2) (first t n 3 (omega (arith, low)) ∙ e3) (first t n 4 (omega (arith, low)) ∙ e4))
+
+pub store_in : (t : List ℕ) → 6 ≤ length t → get_or t 0 0 ≡ 115 → get_or t 1 0 ≡ 116 → get_or t 2 0 ≡ 111 → get_or t 3 0 ≡ 114 → get_or t 4 0 ≡ 101 → get_or t 5 0 ≡ 32 → FollowsIn (codes "store") t 6
+store_in t le e0 e1 e2 e3 e4 e5 =
+    let n0 : NoLf (take 1 t) = no_lf_more t 0 (omega (arith, le)) (other_byte t 0 115 e0 refl) (none_yet t) in
+    let n1 : NoLf (take 2 t) = no_lf_more t 1 (omega (arith, le)) (other_byte t 1 116 e1 refl) n0 in
+    let n2 : NoLf (take 3 t) = no_lf_more t 2 (omega (arith, le)) (other_byte t 2 111 e2 refl) n1 in
+    let n3 : NoLf (take 4 t) = no_lf_more t 3 (omega (arith, le)) (other_byte t 3 114 e3 refl) n2 in
+    let n4 : NoLf (take 5 t) = no_lf_more t 4 (omega (arith, le)) (other_byte t 4 101 e4 refl) n3 in
+    let n5 : NoLf (take 6 t) = no_lf_more t 5 (omega (arith, le)) (other_byte t 5 32 e5 refl) n4 in
+    (le, n5, λ n low most. store_follows (take n t) (omega (arith, length-take-le n t most, low)) (first t n 0 (omega (arith, low)) ∙ e0) (first t n 1 (omega (arith, low)) ∙ e1) (first t n 2 (omega (arith, low)) ∙ e2) (first t n 3 (omega (arith, low)) ∙ e3) (first t n 4 (omega (arith, low)) ∙ e4) (first t n 5 (omega (arith, low)) ∙ e5))
+
+pub put_in : (t : List ℕ) → 4 ≤ length t → get_or t 0 0 ≡ 112 → get_or t 1 0 ≡ 117 → get_or t 2 0 ≡ 116 → get_or t 3 0 ≡ 32 → FollowsIn (codes "put") t 4
+put_in t le e0 e1 e2 e3 =
+    let n0 : NoLf (take 1 t) = no_lf_more t 0 (omega (arith, le)) (other_byte t 0 112 e0 refl) (none_yet t) in
+    let n1 : NoLf (take 2 t) = no_lf_more t 1 (omega (arith, le)) (other_byte t 1 117 e1 refl) n0 in
+    let n2 : NoLf (take 3 t) = no_lf_more t 2 (omega (arith, le)) (other_byte t 2 116 e2 refl) n1 in
+    let n3 : NoLf (take 4 t) = no_lf_more t 3 (omega (arith, le)) (other_byte t 3 32 e3 refl) n2 in
+    (le, n3, λ n low most. put_follows (take n t) (omega (arith, length-take-le n t most, low)) (first t n 0 (omega (arith, low)) ∙ e0) (first t n 1 (omega (arith, low)) ∙ e1) (first t n 2 (omega (arith, low)) ∙ e2) (first t n 3 (omega (arith, low)) ∙ e3))
+
+pub move_in : (t : List ℕ) → 5 ≤ length t → get_or t 0 0 ≡ 109 → get_or t 1 0 ≡ 111 → get_or t 2 0 ≡ 118 → get_or t 3 0 ≡ 101 → get_or t 4 0 ≡ 32 → FollowsIn (codes "move") t 5
+move_in t le e0 e1 e2 e3 e4 =
+    let n0 : NoLf (take 1 t) = no_lf_more t 0 (omega (arith, le)) (other_byte t 0 109 e0 refl) (none_yet t) in
+    let n1 : NoLf (take 2 t) = no_lf_more t 1 (omega (arith, le)) (other_byte t 1 111 e1 refl) n0 in
+    let n2 : NoLf (take 3 t) = no_lf_more t 2 (omega (arith, le)) (other_byte t 2 118 e2 refl) n1 in
+    let n3 : NoLf (take 4 t) = no_lf_more t 3 (omega (arith, le)) (other_byte t 3 101 e3 refl) n2 in
+    let n4 : NoLf (take 5 t) = no_lf_more t 4 (omega (arith, le)) (other_byte t 4 32 e4 refl) n3 in
+    (le, n4, λ n low most. move_follows (take n t) (omega (arith, length-take-le n t most, low)) (first t n 0 (omega (arith, low)) ∙ e0) (first t n 1 (omega (arith, low)) ∙ e1) (first t n 2 (omega (arith, low)) ∙ e2) (first t n 3 (omega (arith, low)) ∙ e3) (first t n 4 (omega (arith, low)) ∙ e4))
+
+pub clear_in : (t : List ℕ) → 6 ≤ length t → get_or t 0 0 ≡ 99 → get_or t 1 0 ≡ 108 → get_or t 2 0 ≡ 101 → get_or t 3 0 ≡ 97 → get_or t 4 0 ≡ 114 → get_or t 5 0 ≡ 32 → FollowsIn (codes "clear") t 6
+clear_in t le e0 e1 e2 e3 e4 e5 =
+    let n0 : NoLf (take 1 t) = no_lf_more t 0 (omega (arith, le)) (other_byte t 0 99 e0 refl) (none_yet t) in
+    let n1 : NoLf (take 2 t) = no_lf_more t 1 (omega (arith, le)) (other_byte t 1 108 e1 refl) n0 in
+    let n2 : NoLf (take 3 t) = no_lf_more t 2 (omega (arith, le)) (other_byte t 2 101 e2 refl) n1 in
+    let n3 : NoLf (take 4 t) = no_lf_more t 3 (omega (arith, le)) (other_byte t 3 97 e3 refl) n2 in
+    let n4 : NoLf (take 5 t) = no_lf_more t 4 (omega (arith, le)) (other_byte t 4 114 e4 refl) n3 in
+    let n5 : NoLf (take 6 t) = no_lf_more t 5 (omega (arith, le)) (other_byte t 5 32 e5 refl) n4 in
+    (le, n5, λ n low most. clear_follows (take n t) (omega (arith, length-take-le n t most, low)) (first t n 0 (omega (arith, low)) ∙ e0) (first t n 1 (omega (arith, low)) ∙ e1) (first t n 2 (omega (arith, low)) ∙ e2) (first t n 3 (omega (arith, low)) ∙ e3) (first t n 4 (omega (arith, low)) ∙ e4) (first t n 5 (omega (arith, low)) ∙ e5))
+
+pub new_in : (t : List ℕ) → 4 ≤ length t → get_or t 0 0 ≡ 110 → get_or t 1 0 ≡ 101 → get_or t 2 0 ≡ 119 → get_or t 3 0 ≡ 32 → FollowsIn (codes "new") t 4
+new_in t le e0 e1 e2 e3 =
+    let n0 : NoLf (take 1 t) = no_lf_more t 0 (omega (arith, le)) (other_byte t 0 110 e0 refl) (none_yet t) in
+    let n1 : NoLf (take 2 t) = no_lf_more t 1 (omega (arith, le)) (other_byte t 1 101 e1 refl) n0 in
+    let n2 : NoLf (take 3 t) = no_lf_more t 2 (omega (arith, le)) (other_byte t 2 119 e2 refl) n1 in
+    let n3 : NoLf (take 4 t) = no_lf_more t 3 (omega (arith, le)) (other_byte t 3 32 e3 refl) n2 in
+    (le, n3, λ n low most. new_follows (take n t) (omega (arith, length-take-le n t most, low)) (first t n 0 (omega (arith, low)) ∙ e0) (first t n 1 (omega (arith, low)) ∙ e1) (first t n 2 (omega (arith, low)) ∙ e2) (first t n 3 (omega (arith, low)) ∙ e3))
+
+pub mark_word : words_of_line (codes "mark") ≡ codes "mark" ∷ []
+unfolding words_of_line
+mark_word = refl
+
+no_cr_in_mark : codes "mark" ≡ without_cr (codes "mark")
+no_cr_in_mark = refl
+
+pub mark_in : (t : List ℕ) → 5 ≤ length t → get_or t 0 0 ≡ 109 → get_or t 1 0 ≡ 97 → get_or t 2 0 ≡ 114 → get_or t 3 0 ≡ 107 → get_or t 4 0 ≡ 10 → IsShortLine 4 t × (take 4 t ≡ codes "mark")
+mark_in t le e0 e1 e2 e3 e4 =
+    let n0 : NoLf (take 1 t) = no_lf_more t 0 (omega (arith, le)) (other_byte t 0 109 e0 refl) (none_yet t) in
+    let n1 : NoLf (take 2 t) = no_lf_more t 1 (omega (arith, le)) (other_byte t 1 97 e1 refl) n0 in
+    let n2 : NoLf (take 3 t) = no_lf_more t 2 (omega (arith, le)) (other_byte t 2 114 e2 refl) n1 in
+    let n3 : NoLf (take 4 t) = no_lf_more t 3 (omega (arith, le)) (other_byte t 3 107 e3 refl) n2 in
+    let t3 : drop 3 t ≡ 107 ∷ drop 4 t = byte_then t 3 107 (drop 4 t) (omega (arith, le)) e3 refl in
+    let t2 : drop 2 t ≡ 114 ∷ 107 ∷ drop 4 t = byte_then t 2 114 (107 ∷ drop 4 t) (omega (arith, le)) e2 t3 in
+    let t1 : drop 1 t ≡ 97 ∷ 114 ∷ 107 ∷ drop 4 t = byte_then t 1 97 (114 ∷ 107 ∷ drop 4 t) (omega (arith, le)) e1 t2 in
+    let t0 : drop 0 t ≡ 109 ∷ 97 ∷ 114 ∷ 107 ∷ drop 4 t = byte_then t 0 109 (97 ∷ 114 ∷ 107 ∷ drop 4 t) (omega (arith, le)) e0 t1 in
+    let mark : take 4 t ≡ codes "mark" = ap (λ l. take 4 l) t0 in
+    let lt : 4 < length t = omega (arith, le) in
+    (((lt, n3, split_at t 4 lt e4), omega arith, subst (λ l. l ≡ without_cr l) (sym mark) no_cr_in_mark), mark)
+
+-- ---- numbers one after the other
+
+abbrev Words : Type 0
+Words = List (List ℕ)
+
+no_words : (t : List ℕ) (n : ℕ) → length t ≤ n → words_of_line (drop n t) ≡ []
+unfolding words_of_line
+no_words t n le = ap words_of_line (drop_all n t le)
+
+two_then : (ws : Words) (a b : ℕ) (xs ys : Words) → next_number ws ≡ Some (a, xs) → next_number xs ≡ Some (b, ys) → ys ≡ [] → two_numbers ws ≡ Some (a, b)
+two_then ws a b xs ys f g none =
+    ap (λ o. option_and_then (λ p. option_and_then (λ q. at_end (p.0, q.0) q.1) (next_number p.1)) o) f
+    ∙ ap (λ o. option_and_then (λ q. at_end (a, q.0) q.1) o) g
+    ∙ ap (λ l. at_end (a, b) l) none
+
+three_then : (ws : Words) (a b c : ℕ) (xs ys zs : Words) → next_number ws ≡ Some (a, xs) → next_number xs ≡ Some (b, ys) → next_number ys ≡ Some (c, zs) → zs ≡ [] → three_numbers ws ≡ Some (a, b, c)
+three_then ws a b c xs ys zs f g h none =
+    ap (λ o. option_and_then (λ p. option_and_then (λ q. option_and_then (λ r. at_end (p.0, q.0, r.0) r.1) (next_number q.1)) (next_number p.1)) o) f
+    ∙ ap (λ o. option_and_then (λ q. option_and_then (λ r. at_end (a, q.0, r.0) r.1) (next_number q.1)) o) g
+    ∙ ap (λ o. option_and_then (λ r. at_end (a, b, r.0) r.1) o) h
+    ∙ ap (λ l. at_end (a, b, c) l) none
+
+four_then : (ws : Words) (a b c d : ℕ) (xs ys zs us : Words) → next_number ws ≡ Some (a, xs) → next_number xs ≡ Some (b, ys) → next_number ys ≡ Some (c, zs) → next_number zs ≡ Some (d, us) → us ≡ [] → four_numbers ws ≡ Some (a, b, c, d)
+four_then ws a b c d xs ys zs us f g h i none =
+    ap (λ o. option_and_then (λ p. option_and_then (λ q. option_and_then (λ r. option_and_then (λ s. at_end (p.0, q.0, r.0, s.0) s.1) (next_number r.1)) (next_number q.1)) (next_number p.1)) o) f
+    ∙ ap (λ o. option_and_then (λ q. option_and_then (λ r. option_and_then (λ s. at_end (a, q.0, r.0, s.0) s.1) (next_number r.1)) (next_number q.1)) o) g
+    ∙ ap (λ o. option_and_then (λ r. option_and_then (λ s. at_end (a, b, r.0, s.0) s.1) (next_number r.1)) o) h
+    ∙ ap (λ o. option_and_then (λ s. at_end (a, b, c, s.0) s.1) o) i
+    ∙ ap (λ l. at_end (a, b, c, d) l) none
+
+two_read : (t : List ℕ) (at0 a at1 b at2 : ℕ) → IsNumberFrom t at0 a at1 → IsNumberFrom t at1 b at2 → at2 ≡ length t + 1 → two_numbers (words_of_line (drop at0 t)) ≡ Some (a, b)
+two_read t at0 a at1 b at2 f g end =
+    let y = g (omega (arith, end)) in
+    let x = f (omega (arith, y.0)) in
+    two_then (words_of_line (drop at0 t)) a b (words_of_line (drop at1 t)) (words_of_line (drop at2 t)) x.1 y.1 (no_words t at2 (omega (arith, end)))
+
+three_read : (t : List ℕ) (at0 a at1 b at2 c at3 : ℕ) → IsNumberFrom t at0 a at1 → IsNumberFrom t at1 b at2 → IsNumberFrom t at2 c at3 → at3 ≡ length t + 1 → three_numbers (words_of_line (drop at0 t)) ≡ Some (a, b, c)
+three_read t at0 a at1 b at2 c at3 f g h end =
+    let z = h (omega (arith, end)) in
+    let y = g (omega (arith, z.0)) in
+    let x = f (omega (arith, y.0)) in
+    three_then (words_of_line (drop at0 t)) a b c (words_of_line (drop at1 t)) (words_of_line (drop at2 t)) (words_of_line (drop at3 t)) x.1 y.1 z.1 (no_words t at3 (omega (arith, end)))
+
+four_read : (t : List ℕ) (at0 a at1 b at2 c at3 d at4 : ℕ) → IsNumberFrom t at0 a at1 → IsNumberFrom t at1 b at2 → IsNumberFrom t at2 c at3 → IsNumberFrom t at3 d at4 → at4 ≡ length t + 1 → four_numbers (words_of_line (drop at0 t)) ≡ Some (a, b, c, d)
+four_read t at0 a at1 b at2 c at3 d at4 f g h i end =
+    let u = i (omega (arith, end)) in
+    let z = h (omega (arith, u.0)) in
+    let y = g (omega (arith, z.0)) in
+    let x = f (omega (arith, y.0)) in
+    four_then (words_of_line (drop at0 t)) a b c d (words_of_line (drop at1 t)) (words_of_line (drop at2 t)) (words_of_line (drop at3 t)) (words_of_line (drop at4 t)) x.1 y.1 z.1 u.1 (no_words t at4 (omega (arith, end)))
+
+-- ---- the numbers of a text's first line
+
+-- behind a space
+space_more : (t : List ℕ) (i : ℕ) → i < length t → get_or t i 0 ≡ 32 → NoLf (take i t) → NoLf (take (i + 1) t)
+space_more t i lt e none = no_lf_more t i lt (other_byte t i 32 e refl) none
+
+-- the last number of a line
+ends_line : (t : List ℕ) (at value end : ℕ) → at ≤ 4000 → NoLf (take at t) → IsNumberThen t at 10 value end → end < length t → IsShortLine end t
+ends_line t at value end few none f lt =
+    let r = f lt in
+    let l = take end t in
+    let some : end ≡ suc (end - 1) = omega (arith, r.0) in
+    let low : 48 ≤ get_or t (end - 1) 0 = r.3 (end - 1) some in
+    let size : length l ≡ end = length-take-le end t (omega (arith, lt)) in
+    let last : get_or l (length l - 1) 0 ≡ get_or t (end - 1) 0 = ap (λ n. get_or l (n - 1) 0) size ∙ get_or-take end t (end - 1) 0 (omega (arith, r.0)) in
+    let other : (get_or l (length l - 1) 0 == 13) ≡ false = ne_eqb (get_or l (length l - 1) 0) 13 (λ e. omega (arith, low, last, e)) in
+    ((lt, r.4 none, split_at t end lt r.2), omega (arith, r.1, few), sym (ap (λ v. cond v (take (length l - 1) l) l) other))
+
+pub two_line : (t : List ℕ) (at a e0 b e1 : ℕ) → at ≤ 6 → NoLf (take at t) → IsNumberThen t at 32 a e0 → IsNumberThen t (e0 + 1) 10 b e1 → e1 < length t → IsShortLine e1 t × (at ≤ e1)
+two_line t at a e0 b e1 few none f g lt =
+    let y = g lt in
+    let l0 : e0 < length t = omega (arith, y.0, lt) in
+    let x = f l0 in
+    let n0 = space_more t e0 l0 x.2 (x.4 none) in
+    (ends_line t (e0 + 1) b e1 (omega (arith, x.1, few)) n0 g lt, omega (arith, x.0, y.0))
+
+pub two_words : (t : List ℕ) (at a e0 b e1 : ℕ) → IsNumberThen t at 32 a e0 → IsNumberThen t (e0 + 1) 10 b e1 → e1 < length t → two_numbers (words_of_line (drop at (take e1 t))) ≡ Some (a, b)
+two_words t at a e0 b e1 f g lt =
+    let y = g lt in
+    let x = f (omega (arith, y.0, lt)) in
+    let le : e1 ≤ length t = omega (arith, lt) in
+    two_read (take e1 t) at a (e0 + 1) b (e1 + 1) (x.5 e1 le (inr (omega (arith, y.0), refl))) (y.5 e1 le (inl refl)) (omega (arith, length-take-le e1 t le))
+
+pub three_line : (t : List ℕ) (at a e0 b e1 c e2 : ℕ) → at ≤ 6 → NoLf (take at t) → IsNumberThen t at 32 a e0 → IsNumberThen t (e0 + 1) 32 b e1 → IsNumberThen t (e1 + 1) 10 c e2 → e2 < length t → IsShortLine e2 t × (at ≤ e2)
+three_line t at a e0 b e1 c e2 few none f g h lt =
+    let z = h lt in
+    let l1 : e1 < length t = omega (arith, z.0, lt) in
+    let y = g l1 in
+    let l0 : e0 < length t = omega (arith, y.0, l1) in
+    let x = f l0 in
+    let n0 = space_more t e0 l0 x.2 (x.4 none) in
+    let n1 = space_more t e1 l1 y.2 (y.4 n0) in
+    (ends_line t (e1 + 1) c e2 (omega (arith, x.1, y.1, few)) n1 h lt, omega (arith, x.0, y.0, z.0))
+
+pub three_words : (t : List ℕ) (at a e0 b e1 c e2 : ℕ) → IsNumberThen t at 32 a e0 → IsNumberThen t (e0 + 1) 32 b e1 → IsNumberThen t (e1 + 1) 10 c e2 → e2 < length t → three_numbers (words_of_line (drop at (take e2 t))) ≡ Some (a, b, c)
+three_words t at a e0 b e1 c e2 f g h lt =
+    let z = h lt in
+    let y = g (omega (arith, z.0, lt)) in
+    let x = f (omega (arith, y.0, z.0, lt)) in
+    let le : e2 ≤ length t = omega (arith, lt) in
+    three_read (take e2 t) at a (e0 + 1) b (e1 + 1) c (e2 + 1) (x.5 e2 le (inr (omega (arith, y.0, z.0), refl))) (y.5 e2 le (inr (omega (arith, z.0), refl))) (z.5 e2 le (inl refl)) (omega (arith, length-take-le e2 t le))
+
+pub four_line : (t : List ℕ) (at a e0 b e1 c e2 d e3 : ℕ) → at ≤ 6 → NoLf (take at t) → IsNumberThen t at 32 a e0 → IsNumberThen t (e0 + 1) 32 b e1 → IsNumberThen t (e1 + 1) 32 c e2 → IsNumberThen t (e2 + 1) 10 d e3 → e3 < length t → IsShortLine e3 t × (at ≤ e3)
+four_line t at a e0 b e1 c e2 d e3 few none f g h i lt =
+    let u = i lt in
+    let l2 : e2 < length t = omega (arith, u.0, lt) in
+    let z = h l2 in
+    let l1 : e1 < length t = omega (arith, z.0, l2) in
+    let y = g l1 in
+    let l0 : e0 < length t = omega (arith, y.0, l1) in
+    let x = f l0 in
+    let n0 = space_more t e0 l0 x.2 (x.4 none) in
+    let n1 = space_more t e1 l1 y.2 (y.4 n0) in
+    let n2 = space_more t e2 l2 z.2 (z.4 n1) in
+    (ends_line t (e2 + 1) d e3 (omega (arith, x.1, y.1, z.1, few)) n2 i lt, omega (arith, x.0, y.0, z.0, u.0))
+
+pub four_words : (t : List ℕ) (at a e0 b e1 c e2 d e3 : ℕ) → IsNumberThen t at 32 a e0 → IsNumberThen t (e0 + 1) 32 b e1 → IsNumberThen t (e1 + 1) 32 c e2 → IsNumberThen t (e2 + 1) 10 d e3 → e3 < length t → four_numbers (words_of_line (drop at (take e3 t))) ≡ Some (a, b, c, d)
+four_words t at a e0 b e1 c e2 d e3 f g h i lt =
+    let u = i lt in
+    let z = h (omega (arith, u.0, lt)) in
+    let y = g (omega (arith, z.0, u.0, lt)) in
+    let x = f (omega (arith, y.0, z.0, u.0, lt)) in
+    let le : e3 ≤ length t = omega (arith, lt) in
+    four_read (take e3 t) at a (e0 + 1) b (e1 + 1) c (e2 + 1) d (e3 + 1) (x.5 e3 le (inr (omega (arith, y.0, z.0, u.0), refl))) (y.5 e3 le (inr (omega (arith, z.0, u.0), refl))) (z.5 e3 le (inr (omega (arith, u.0), refl))) (u.5 e3 le (inl refl)) (omega (arith, length-take-le e3 t le))
+
+-- ---- lines
+
+pub asks_load : (t : List ℕ) (a b c d : ℕ) → Follows (codes "load") t 5 → four_numbers (words_of_line (drop 5 t)) ≡ Some (a, b, c, d) → command_of_text t ≡ Ask (Step (Load a b c d))
+asks_load t a b c d key has = asks t (codes "load") (words_of_line (drop 5 t)) (Ask (Step (Load a b c d))) key (load_rule (words_of_line (drop 5 t)) ∙ ap (λ o. option_map (λ n. Ask (Step (Load n.0 n.1 n.2 n.3))) o) has)
+
+pub asks_store : (t : List ℕ) (a b c d : ℕ) → Follows (codes "store") t 6 → four_numbers (words_of_line (drop 6 t)) ≡ Some (a, b, c, d) → command_of_text t ≡ Ask (Step (Store a b c d))
+asks_store t a b c d key has = asks t (codes "store") (words_of_line (drop 6 t)) (Ask (Step (Store a b c d))) key (store_rule (words_of_line (drop 6 t)) ∙ ap (λ o. option_map (λ n. Ask (Step (Store n.0 n.1 n.2 n.3))) o) has)
+
+pub asks_put : (t : List ℕ) (a b c d : ℕ) → Follows (codes "put") t 4 → four_numbers (words_of_line (drop 4 t)) ≡ Some (a, b, c, d) → command_of_text t ≡ Ask (Step (Put a b c d))
+asks_put t a b c d key has = asks t (codes "put") (words_of_line (drop 4 t)) (Ask (Step (Put a b c d))) key (put_rule (words_of_line (drop 4 t)) ∙ ap (λ o. option_map (λ n. Ask (Step (Put n.0 n.1 n.2 n.3))) o) has)
+
+pub asks_move : (t : List ℕ) (a b c d : ℕ) → Follows (codes "move") t 5 → four_numbers (words_of_line (drop 5 t)) ≡ Some (a, b, c, d) → command_of_text t ≡ Ask (Step (Move a b c d))
+asks_move t a b c d key has = asks t (codes "move") (words_of_line (drop 5 t)) (Ask (Step (Move a b c d))) key (move_rule (words_of_line (drop 5 t)) ∙ ap (λ o. option_map (λ n. Ask (Step (Move n.0 n.1 n.2 n.3))) o) has)
+
+pub asks_clear : (t : List ℕ) (a b : ℕ) → Follows (codes "clear") t 6 → two_numbers (words_of_line (drop 6 t)) ≡ Some (a, b) → command_of_text t ≡ Ask (Step (Clear a b))
+asks_clear t a b key has = asks t (codes "clear") (words_of_line (drop 6 t)) (Ask (Step (Clear a b))) key (clear_rule (words_of_line (drop 6 t)) ∙ ap (λ o. option_map (λ n. Ask (Step (Clear n.0 n.1))) o) has)
+
+pub asks_new : (t : List ℕ) (a b c : ℕ) → Follows (codes "new") t 4 → three_numbers (words_of_line (drop 4 t)) ≡ Some (a, b, c) → command_of_text t ≡ Ask (Step (New a b c))
+asks_new t a b c key has = asks t (codes "new") (words_of_line (drop 4 t)) (Ask (Step (New a b c))) key (new_rule (words_of_line (drop 4 t)) ∙ ap (λ o. option_map (λ n. Ask (Step (New n.0 n.1 n.2))) o) has)
+
+-- ---- the answer of a line
+
+step_asked : {S : Type 0} (acts : Acts S) (unknown : Reaction S) (time : ℕ) (k : Command) (c : S) (page : List ℕ) (w : Outgoing) (c' : S) (page' : List ℕ) (w' : Outgoing) (r : Bool)
+    → IsEventAsked acts k c page w c' page' w' r → IsSessionStep (AnswersTo acts unknown time k) (BeginsTo acts unknown time k) k c page w c' page' w' (step_of r)
+step_asked acts unknown time k c page w c' page' w' r h =
+    let says : AnswersTo acts unknown time (Ask (Step h.0)) c (reply_text h.2.0) c' = (h.2.0, inl h.2.1, refl) in
+    subst (λ x. IsSessionStep (AnswersTo acts unknown time x) (BeginsTo acts unknown time x) x c page w c' page' w' (step_of r)) (sym h.1) (step_added (AnswersTo acts unknown time (Ask (Step h.0))) (BeginsTo acts unknown time (Ask (Step h.0))) (Ask (Step h.0)) c page w c' page' w' (reply_text h.2.0) r says says h.2.2)
+
+-- the first line of a text, which was answered at once
+pub step_quick : {S : Type 0} (acts : Acts S) (unknown : AnswerRelation S) (time : ℕ) (line : List ℕ) (c : S) (page : List ℕ) (w : Outgoing) (c' : S) (page' : List ℕ) (w' : Outgoing) (r : Bool)
+    → line ≡ without_cr line → IsEventAsked acts (command_of_text line) c page w c' page' w' r → IsSessionStep (AnswersCommand acts unknown time line) (Begins acts unknown time line) (command_of line) c page w c' page' w' (step_of r)
+unfolding command_of
+step_quick acts unknown time line c page w c' page' w' r is h =
+    subst (λ t. IsSessionStep (AnswersTo acts (unknown t) time (command_of_text t)) (BeginsTo acts (unknown t) time (command_of_text t)) (command_of_text t) c page w c' page' w' (step_of r)) is (step_asked acts (unknown line) time (command_of_text line) c page w c' page' w' r h)
+
+-- a line that is read without the CR at its end
+pub step_read : {S : Type 0} (acts : Acts S) (unknown : AnswerRelation S) (time : ℕ) (line text : List ℕ) (c : S) (page : List ℕ) (w : Outgoing) (c' : S) (page' : List ℕ) (w' : Outgoing) (step : Outcome)
+    → text ≡ without_cr line → IsSessionStep (AnswersTo acts (unknown text) time (command_of_text text)) (BeginsTo acts (unknown text) time (command_of_text text)) (command_of_text text) c page w c' page' w' step → IsSessionStep (AnswersCommand acts unknown time line) (Begins acts unknown time line) (command_of line) c page w c' page' w' step
+unfolding command_of
+step_read acts unknown time line text c page w c' page' w' step is h = subst (λ t. IsSessionStep (AnswersTo acts (unknown t) time (command_of_text t)) (BeginsTo acts (unknown t) time (command_of_text t)) (command_of_text t) c page w c' page' w' step) is h
+
+pub passed : (t : List ℕ) (q : Quick) (n : ℕ) → IsShortLine n t → IsPassed t q n
+passed t No n h = tt
+passed t Next n h = h
+passed t Fault n h = h
+
+-- the first line of a text, by what has come of it
+pub quick_next : {S : Type 0} (acts : Acts S) (unknown : AnswerRelation S) (time : ℕ) (text : List ℕ) (q : Quick) (n : ℕ) (c : S) (page : List ℕ) (w : Outgoing) (c' : S) (page' : List ℕ) (w' : Outgoing)
+    → q ≡ Next → IsQuickIn acts text c page w c' page' w' (q, n) → IsShortLine n text × IsSessionStep (AnswersCommand acts unknown time (take n text)) (Begins acts unknown time (take n text)) (command_of (take n text)) c page w c' page' w' Goes
+quick_next acts unknown time text No n c page w c' page' w' e h = cc
+quick_next acts unknown time text Next n c page w c' page' w' e h = (h.0, step_quick acts unknown time (take n text) c page w c' page' w' true h.0.2 h.1)
+quick_next acts unknown time text Fault n c page w c' page' w' e h = cc
+
+pub quick_fault : {S : Type 0} (acts : Acts S) (unknown : AnswerRelation S) (time : ℕ) (text : List ℕ) (q : Quick) (n : ℕ) (c : S) (page : List ℕ) (w : Outgoing) (c' : S) (page' : List ℕ) (w' : Outgoing)
+    → q ≡ Fault → IsQuickIn acts text c page w c' page' w' (q, n) → IsShortLine n text × IsSessionStep (AnswersCommand acts unknown time (take n text)) (Begins acts unknown time (take n text)) (command_of (take n text)) c page w c' page' w' Fails
+quick_fault acts unknown time text No n c page w c' page' w' e h = cc
+quick_fault acts unknown time text Next n c page w c' page' w' e h = cc
+quick_fault acts unknown time text Fault n c page w c' page' w' e h = (h.0, step_quick acts unknown time (take n text) c page w c' page' w' false h.0.2 h.1)
+
+pub quick_left : {S : Type 0} (acts : Acts S) (text : List ℕ) (q : Quick) (n : ℕ) (c : S) (page : List ℕ) (w : Outgoing) (c' : S) (page' : List ℕ) (w' : Outgoing)
+    → q ≡ No → IsQuickIn acts text c page w c' page' w' (q, n) → (c' ≡ c) × (page' ≡ page) × (w' ≡ w)
+quick_left acts text No n c page w c' page' w' e h = h.1
+quick_left acts text Next n c page w c' page' w' e h = cc
+quick_left acts text Fault n c page w c' page' w' e h = cc

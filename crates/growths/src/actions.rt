@@ -8,7 +8,7 @@ use heap_trail::{Action, Machine, Reply};
 /// What a list of actions was answered, pieces apart, with the state after it; the pieces of its dumps; and whether a pin was lost
 /// because memory for it was refused.
 #[derive(Clone, Copy, PartialEq, Eq, Debug)]
-pub struct Told {
+pub struct ActionReport {
     answers: Digest,
     pieces: Digest,
     is_lost: bool,
@@ -42,10 +42,10 @@ fn acted(machine: &mut Machine, action: &Action) -> Reply {
     }
 }
 
-impl Told {
+impl ActionReport {
     /// Returns what no action was answered.
-    fn new() -> Told {
-        Told {
+    fn new() -> ActionReport {
+        ActionReport {
             answers: Digest::new(),
             pieces: Digest::new(),
             is_lost: false,
@@ -70,15 +70,15 @@ impl Told {
     }
 
     /// Tells whether the same actions were answered this elsewhere: all alike, but for the pieces if a pin was lost.
-    pub fn is_as(&self, other: &Told) -> bool {
+    pub fn is_as(&self, other: &ActionReport) -> bool {
         let lost = self.is_lost || other.is_lost;
         self.answers == other.answers && (lost || self.pieces == other.pieces)
     }
 }
 
 /// Does the actions in turn. Returns what they were answered.
-pub fn all_acted(machine: &mut Machine, actions: &[Action]) -> Told {
-    let mut told = Told::new();
+pub fn all_acted(machine: &mut Machine, actions: &[Action]) -> ActionReport {
+    let mut told = ActionReport::new();
     for action in actions {
         told.add(&acted(machine, action));
     }

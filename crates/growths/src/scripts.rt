@@ -1,5 +1,5 @@
 //! Scripts of actions on a machine.
-use crate::actions::{Told, all_acted};
+use crate::actions::{ActionReport, all_acted};
 use heap_class::{Kind, Name, Refusal};
 use heap_scripts::{new, node, point, store};
 use heap_step::Event;
@@ -33,7 +33,7 @@ fn created(alloc: Global) -> Option<Machine> {
 }
 
 /// Does actions on a machine of two regions.
-fn done(alloc: Global, actions: &[Action]) -> Option<Told> {
+fn done(alloc: Global, actions: &[Action]) -> Option<ActionReport> {
     let mut machine = created(alloc)?;
     Some(all_acted(&mut machine, actions))
 }
@@ -73,7 +73,7 @@ fn piece(pin: u64) -> Action {
 }
 
 /// Sweeps a region empty, has its storage used again, and takes that back.
-pub fn sweep_and_reuse_rewound(alloc: Global) -> Option<Told> {
+pub fn sweep_and_reuse_rewound(alloc: Global) -> Option<ActionReport> {
     let actions = [
         asked(alloc, node)?,
         step(new(0)),
@@ -91,7 +91,7 @@ pub fn sweep_and_reuse_rewound(alloc: Global) -> Option<Told> {
 }
 
 /// Asks for the end of a cycle before the log is drained, and of another before a region is swept.
-pub fn finish_refused_until_ready(alloc: Global) -> Option<Told> {
+pub fn finish_refused_until_ready(alloc: Global) -> Option<ActionReport> {
     let actions = [
         asked(alloc, node)?,
         step(new(0)),
@@ -120,7 +120,7 @@ pub fn finish_refused_until_ready(alloc: Global) -> Option<Told> {
 }
 
 /// Pins a place whose object is overwritten, reclaimed and followed by another in its cell, and dumps it.
-pub fn dump_of_a_past_place(alloc: Global) -> Option<Told> {
+pub fn dump_of_a_past_place(alloc: Global) -> Option<ActionReport> {
     let actions = [
         asked(alloc, point)?,
         step(new(0)),
@@ -141,7 +141,7 @@ pub fn dump_of_a_past_place(alloc: Global) -> Option<Told> {
 }
 
 /// Dumps an array of references.
-pub fn dump_of_object_array(alloc: Global) -> Option<Told> {
+pub fn dump_of_object_array(alloc: Global) -> Option<ActionReport> {
     let array = Event::NewArray {
         m: 0,
         r: 0,
@@ -167,7 +167,7 @@ pub fn dump_of_object_array(alloc: Global) -> Option<Told> {
 }
 
 /// Sweeps a dead object out of a region that a pin shows and that stays in use, and opens a pin on a place before.
-pub fn pins_beside_a_sweep(alloc: Global) -> Option<Told> {
+pub fn pins_beside_a_sweep(alloc: Global) -> Option<ActionReport> {
     let actions = [
         asked(alloc, node)?,
         step(new(0)),
@@ -192,7 +192,7 @@ pub fn pins_beside_a_sweep(alloc: Global) -> Option<Told> {
 }
 
 /// Does a script twice. Tells whether both were answered alike.
-pub fn is_repeated<F: Fn(Global) -> Option<Told>>(alloc: Global, script: F) -> bool
+pub fn is_repeated<F: Fn(Global) -> Option<ActionReport>>(alloc: Global, script: F) -> bool
     requires { F.IsAlwaysCallable script }
 {
     match (script(alloc), script(alloc)) {

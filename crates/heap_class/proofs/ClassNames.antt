@@ -5,7 +5,7 @@ use Rattle.std.specs.Str.{bytes_eq}
 use Rattle.std.proofs.lemmas.Bool.{cases_eq, cases_lt, or_from, false_from_ne_true, eq-eqb, ne_eqb}
 use Rattle.std.proofs.lemmas.List.Folds.{list_any_at}
 use Rattle.std.proofs.lemmas.Map.Keys.{apart_from_distinct}
-use Rattle.heap_class.specs.declared.ClassEntry.{ClassEntry}
+use Rattle.heap_class.specs.declared.class_table.ClassEntry.{ClassEntry}
 use Rattle.heap_class.specs.Classes.{Class}
 use Rattle.heap_class.specs.Entries.{class_of_entry}
 use Rattle.heap_class.proofs.FirstUses.{bytes_self, bytes_flip}

@@ -7,7 +7,7 @@ use Rattle.indexmap.specs.IndexSet.{insert_all}
 use Rattle.heap_class.specs.Limits.{slot_limit}
 use Rattle.heap_class.specs.declared.Kind.{Kind}
 use Rattle.heap_class.specs.declared.Field.{Field}
-use Rattle.heap_class.specs.declared.ClassEntry.{ClassEntry}
+use Rattle.heap_class.specs.declared.class_table.ClassEntry.{ClassEntry}
 use Rattle.heap_class.specs.Classes.{Class, names_in, is_instance_class, slots_of, slots_under, slot_table_after, class_refusal}
 use Rattle.heap_class.specs.Entries.{class_of_entry, IsEntryWithin, AreNamed, AreSizes, IsEntryTable}
 use Rattle.heap_class.proofs.Refusals.{none_holds}

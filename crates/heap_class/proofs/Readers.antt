@@ -7,10 +7,10 @@ use Rattle.std.specs.Option.{option_map_or, option_map}
 use Rattle.std.proofs.lemmas.Bool.{not-false}
 use Rattle.std.proofs.lemmas.List.{length-map}
 use Rattle.std.proofs.lemmas.Option.{slice_get-map, slice_get_read, slice_get_past}
-use Rattle.heap_class.specs.declared.ClassEntry.{ClassEntry}
+use Rattle.heap_class.specs.declared.class_table.ClassEntry.{ClassEntry}
 use Rattle.heap_class.specs.declared.IdSize.{IdSize}
 use Rattle.heap_class.specs.Kinds.{width_of}
-use Rattle.heap_class.specs.declared.OwnField.{OwnField}
+use Rattle.heap_class.specs.declared.class_table.OwnField.{OwnField}
 use Rattle.heap_class.specs.Classes.{Class, name_table, name_id, name_of, fields_of, sup_of, slots_of, instance_size, slot_table_after, is_instance_class, is_array_class, class_refusal, IsClassTable}
 use Rattle.heap_class.specs.Entries.{field_of_entry, class_of_entry, IsEntryWithin, IsRoomy, AreSizes, IsEntryTable}
 use Rattle.heap_class.proofs.Refusals.{none_holds}

@@ -11,8 +11,8 @@ use Rattle.indexmap.specs.IndexSet.{insert_all}
 use Rattle.heap_class.specs.Limits.{class_limit, slot_limit, name_limit}
 use Rattle.heap_class.specs.declared.Kind.{Kind}
 use Rattle.heap_class.specs.declared.Field.{Field}
-use Rattle.heap_class.specs.declared.OwnField.{OwnField}
-use Rattle.heap_class.specs.declared.ClassEntry.{ClassEntry}
+use Rattle.heap_class.specs.declared.class_table.OwnField.{OwnField}
+use Rattle.heap_class.specs.declared.class_table.ClassEntry.{ClassEntry}
 use Rattle.heap_class.specs.declared.Refusal.TheVariants.{NoClass, ClassLimit, BadName, DuplicateName, FieldLimit}
 use Rattle.heap_class.specs.Refusals.{NoneHolds}
 use Rattle.heap_class.specs.Classes.{Class, first_uses, name_table, names_in, is_name, is_instance_class, all_distinct, slots_under, slot_table_after, class_refusal, IsClassTable}

@@ -5,11 +5,11 @@ use Rattle.std.specs.List.{All, sum_by}
 use Rattle.std.specs.Str.{bytes_eq}
 use Rattle.indexmap.specs.IndexSet.{insert_all}
 use Rattle.heap_class.specs.declared.Field.{Field}
-use Rattle.heap_class.specs.declared.OwnField.{OwnField}
-use Rattle.heap_class.specs.declared.ClassEntry.{ClassEntry}
+use Rattle.heap_class.specs.declared.class_table.OwnField.{OwnField}
+use Rattle.heap_class.specs.declared.class_table.ClassEntry.{ClassEntry}
 use Rattle.heap_class.specs.declared.IdSize.TheVariants.{Four, Eight}
 use Rattle.heap_class.specs.declared.Kind.{Kind}
-use Rattle.heap_class.specs.declared.Sizes.{Sizes}
+use Rattle.heap_class.specs.declared.class_table.Sizes.{Sizes}
 use Rattle.heap_class.specs.Kinds.{width_of}
 use Rattle.heap_class.specs.Classes.{Class, names_in, slot_table_after, IsClassTable}
 use Rattle.heap_class.specs.Limits.{class_limit, slot_limit, name_limit}

@@ -20,5 +20,6 @@ field_equiv =
     and_equiv (on_equiv (λ (f : Field). f.name) nat_list_eq_equiv)
     (on_equiv (λ (f : Field). type_code f.kind) nat_eq_equiv)
 
+-- lists of fields are equal by an equivalence
 pub fields_equiv : IsEquivalence fields_eq
 fields_equiv = lists_equiv field_equiv

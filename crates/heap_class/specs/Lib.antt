@@ -5,4 +5,4 @@ pub mod Refusals
 pub mod Table
 pub mod Equal
 pub mod Entries
-pub mod Opened
+pub mod Functions

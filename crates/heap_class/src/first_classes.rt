@@ -1,6 +1,6 @@
 //! The first classes of a heap, lent for reading.
 ghost use Rattle.std.specs.Prelude.{◌≡◌, ◌<◌, ◌≤◌, [], length, take, Some, IfSome, slice_get};
-ghost use Rattle.heap_class.specs.Limits.{class_limit, name_limit, slot_limit};
+ghost use Rattle.heap_class.specs.Limits.{class_limit, name_limit, slot_limit, name_count_limit};
 ghost use Rattle.heap_class.specs.Classes.{IsClassTable, slots_of, instance_size, name_of, fields_of, sup_of, name_id, name_table};
 
 use crate::{ClassNo, Classes, IdSize, Kind};
@@ -113,7 +113,7 @@ impl<'a> FirstClasses<'a> {
     /// Returns the number of distinct names of these classes and their fields.
     pub fn name_count(&self) -> u64
         ensures value { result ≡ length (name_table self.now) }
-        ensures limit { result ≤ 16640 }
+        ensures limit { result ≤ name_count_limit }
     {
         self.classes.name_count_of_first(self.count)
     }

@@ -23,7 +23,7 @@ use Rattle.heap_trail.proofs.OpenedPins.{opens_pin}
 use Rattle.dump_pump.specs.Pumps.{joined}
 use Rattle.heap_lock.specs.Calls.{Call}
 use Rattle.heap_lock.specs.History.{opening}
-use Rattle.heap_lock.specs.Laws.{piece_in, pieces_given, CallsAskAt, trail_by, GiveText}
+use Rattle.heap_lock.specs.Laws.{piece_replied, pieces_given, CallsAskAt, trail_by, GiveText}
 use Rattle.heap_lock.proofs.CallLists.{Leads, leads_split, leads_head}
 use Rattle.heap_lock.proofs.NumberedPins.{numbered_after, opening_numbered}
 use Rattle.heap_lock.proofs.CallTrails.{trail_is}
@@ -34,16 +34,16 @@ or_false : (b : Bool) → (b || false) ≡ b
 or_false true = refl
 or_false false = refl
 
-one_bytes : (pin n time : ℕ) (p : Piece) → piece_given pin (NextPiece n time) (Part p) ≡ joined (piece_in pin (NextPiece n time, Part p))
-unfolding piece_given piece_in
+one_bytes : (pin n time : ℕ) (p : Piece) → piece_given pin (NextPiece n time) (Part p) ≡ joined (piece_replied pin (NextPiece n time, Part p))
+unfolding piece_given piece_replied
 one_bytes pin n time p = go (n == pin)
   where
     go : (b : Bool) → (if b then p.bytes else []) ≡ joined (if b then p ∷ [] else [])
     go true = sym (append-nil p.bytes)
     go false = refl
 
-one_last : (pin n time : ℕ) (p : Piece) → last_given pin (NextPiece n time) (Part p) ≡ list_any (λ (q : Piece). q.last) (piece_in pin (NextPiece n time, Part p))
-unfolding last_given piece_in
+one_last : (pin n time : ℕ) (p : Piece) → last_given pin (NextPiece n time) (Part p) ≡ list_any (λ (q : Piece). q.last) (piece_replied pin (NextPiece n time, Part p))
+unfolding last_given piece_replied
 one_last pin n time p = go (n == pin)
   where
     go : (b : Bool) → (b && p.last) ≡ list_any (λ (q : Piece). q.last) (if b then p ∷ [] else [])
@@ -51,10 +51,10 @@ one_last pin n time p = go (n == pin)
     go false = refl
 
 abbrev GivesOne : ℕ → Action → Reply → Type 0
-GivesOne pin a r = (piece_given pin a r ≡ joined (piece_in pin (a, r))) × (last_given pin a r ≡ list_any (λ (q : Piece). q.last) (piece_in pin (a, r)))
+GivesOne pin a r = (piece_given pin a r ≡ joined (piece_replied pin (a, r))) × (last_given pin a r ≡ list_any (λ (q : Piece). q.last) (piece_replied pin (a, r)))
 
 asked_one : (pin n time : ℕ) (r : Reply) → GivesOne pin (NextPiece n time) r
-unfolding piece_given last_given piece_in
+unfolding piece_given last_given piece_replied
 asked_one pin n time (Part p) = (one_bytes pin n time p, one_last pin n time p)
 asked_one pin n time (Answered a) = (refl, refl)
 asked_one pin n time (Place p) = (refl, refl)
@@ -63,7 +63,7 @@ asked_one pin n time Closed = (refl, refl)
 asked_one pin n time (Refused e) = (refl, refl)
 
 gives_one : (pin : ℕ) (a : Action) (r : Reply) → GivesOne pin a r
-unfolding piece_given last_given piece_in
+unfolding piece_given last_given piece_replied
 gives_one pin (NextPiece n time) r = asked_one pin n time r
 gives_one pin (Step e) r = (refl, refl)
 gives_one pin (Rewind n) r = (refl, refl)
@@ -96,9 +96,9 @@ gives_all pin m (x ∷ marked) (c ∷ cs) actions replies =
     let reply : c.1 ≡ (acted_under m x).1 = cc replies in
     let later : map (λ (y : Call). y.1) cs ≡ replies_of (acted_under m x).0 marked = cc replies in
     let more = gives_all pin (acted_under m x).0 marked cs rest later in
-    let one = subst (λ (y : Action × Reply). (piece_given pin y.0 y.1 ≡ joined (piece_in pin c)) × (last_given pin y.0 y.1 ≡ list_any (λ (q : Piece). q.last) (piece_in pin c))) (λ i. (sym first i, reply i)) (gives_one pin c.0 c.1) in (
-      (λ i. one.0 i ++ more.0 i) ∙ sym (joined_both (piece_in pin c) (pieces_given pin cs)),
-      (λ i. one.1 i || more.1 i) ∙ sym (list_any-append (λ (q : Piece). q.last) (piece_in pin c) (pieces_given pin cs)),
+    let one = subst (λ (y : Action × Reply). (piece_given pin y.0 y.1 ≡ joined (piece_replied pin c)) × (last_given pin y.0 y.1 ≡ list_any (λ (q : Piece). q.last) (piece_replied pin c))) (λ i. (sym first i, reply i)) (gives_one pin c.0 c.1) in (
+      (λ i. one.0 i ++ more.0 i) ∙ sym (joined_both (piece_replied pin c) (pieces_given pin cs)),
+      (λ i. one.1 i || more.1 i) ∙ sym (list_any-append (λ (q : Piece). q.last) (piece_replied pin c) (pieces_given pin cs)),
     )
 
 asks_all : (pin time : ℕ) (marked : List (Action × Allocation)) (cs : List Call) → map (λ a. a.0) marked ≡ map (λ (c : Call). c.0) cs → CallsAskAt pin time cs → AskAt pin time marked

@@ -8,7 +8,7 @@ use Rattle.atomic_table.proofs.Lists.{at_set, at_snoc}
 use Rattle.heap_lock.specs.declared.sight.Sight.{Sight}
 use Rattle.heap_lock.specs.declared.sight.Sight.TheVariants.{Full, Seen, Both, Blind}
 use Rattle.heap_lock.specs.Calls.{Call}
-use Rattle.heap_lock.specs.Sights.{full_of, seen_of, both_of, Sits, IsOneLedger, Added, Compared}
+use Rattle.heap_lock.specs.Sights.{full_of, seen_of, both_sights, Sits, IsOneLedger, Added, Compared}
 
 abbrev Kept : State (Unit {0}) Sight → Type 0
 Kept s = IsOneLedger s.views
@@ -102,8 +102,8 @@ compares slots id xs ys s h len at small =
 pub splits_as : (id : ℕ) (v : Sight) (xs : List Call) → v ≡ Full xs → Splits Kept id v (full_of v) (seen_of v)
 splits_as id v xs is = subst (λ (u : Sight). Splits Kept id u (full_of u) (seen_of u)) (sym is) (splits id xs)
 
-pub joins_as : (id other : ℕ) (v w : Sight) (xs ys : List Call) → v ≡ Full xs → w ≡ Seen ys → Joins Kept id v other w (both_of v w) Blind
-joins_as id other v w xs ys is is' = subst (λ (u : Sight). Joins Kept id u other w (both_of u w) Blind) (sym is) (subst (λ (u : Sight). Joins Kept id (Full xs) other u (both_of (Full xs) u) Blind) (sym is') (joins id other xs ys))
+pub joins_as : (id other : ℕ) (v w : Sight) (xs ys : List Call) → v ≡ Full xs → w ≡ Seen ys → Joins Kept id v other w (both_sights v w) Blind
+joins_as id other v w xs ys is is' = subst (λ (u : Sight). Joins Kept id u other w (both_sights u w) Blind) (sym is) (subst (λ (u : Sight). Joins Kept id (Full xs) other u (both_sights (Full xs) u) Blind) (sym is') (joins id other xs ys))
 
 pub adds_as : (slots id : ℕ) (m : Sight × List (ℕ × Unit {0})) (xs : List Call) (call : Call) → m ≡ (Full xs, []) → Allows Kept slots id m 0 (λ n. n) (λ found n. Added call m n)
 adds_as slots id m xs call is = subst (λ (u : Sight × List (ℕ × Unit {0})). Allows Kept slots id u 0 (λ n. n) (λ found n. Added call u n)) (sym is) (adds slots id xs call)

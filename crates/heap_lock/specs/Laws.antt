@@ -15,13 +15,13 @@ use Rattle.heap_lock.specs.History.{opening, trail_after}
 use Rattle.heap_lock.specs.Calls.{Call, IsLegalLedger}
 
 -- the piece of the pin that a call was replied, if it was
-unfoldable pub piece_in : ℕ → Call → List Piece
-piece_in pin (NextPiece n time, Part p) = if n == pin then p ∷ [] else []
-piece_in pin c = []
+unfoldable pub piece_replied : ℕ → Call → List Piece
+piece_replied pin (NextPiece n time, Part p) = if n == pin then p ∷ [] else []
+piece_replied pin c = []
 
 -- the pieces of the pin that these calls were replied
 unfoldable pub pieces_given : ℕ → List Call → List Piece
-pieces_given pin calls = flat_map (piece_in pin) calls
+pieces_given pin calls = flat_map (piece_replied pin) calls
 
 -- each call for a piece of the pin asks for it with this time
 abbrev pub CallsAskAt : ℕ → ℕ → List Call → Type 0

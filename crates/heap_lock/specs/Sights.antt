@@ -24,8 +24,8 @@ abbrev pub seen_of : Sight → Sight
 seen_of v = Seen (calls_of v)
 
 -- the calls of two views, side by side
-abbrev pub both_of : Sight → Sight → Sight
-both_of v w = Both (calls_of v) (calls_of w)
+abbrev pub both_sights : Sight → Sight → Sight
+both_sights v w = Both (calls_of v) (calls_of w)
 
 -- what the rule says of the view of one seat
 abbrev pub Sits : ℕ → List Call → ℕ → Sight → Type 0

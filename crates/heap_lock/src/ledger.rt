@@ -47,19 +47,19 @@ impl Split<Sight> for Copies {
 
 impl Join<Sight> for Copies {
     ghost use Rattle.heap_lock.specs.declared.sight.Sight.TheVariants.{Blind};
-    ghost use Rattle.heap_lock.specs.Sights.{both_of};
+    ghost use Rattle.heap_lock.specs.Sights.{both_sights};
 
-    ghost both = { both_of };
+    ghost both = { both_sights };
 
     ghost spent = { Blind };
 }
 
 /// The step that adds a call.
-pub struct Adds<E: Called> {
+pub struct AddsCall<E: Called> {
     of: std::marker::PhantomData<E>,
 }
 
-impl<E: Called> Play<(), Sight> for Adds<E> {
+impl<E: Called> Play<(), Sight> for AddsCall<E> {
     ghost use Rattle.heap_lock.specs.Sights.{Added};
 
     ghost then = { λ step m found n. Added E.call m n };
@@ -98,7 +98,7 @@ impl Ledger {
         let _ = asked;
         let _ = told;
         let Ledger { table, full } = self;
-        table.shared.load::<Adds<E>>(full, 0);
+        table.shared.load::<AddsCall<E>>(full, 0);
     }
 
     /// Splits off a sight of all calls so far.

@@ -25,9 +25,9 @@ use Rattle.heap_world.proofs.Shelter.{reach_induction}
 use Rattle.hprof_text.specs.Image.{DumpedObject}
 use Rattle.heap_pins.specs.Images.{dumped_objects, image_of}
 use Rattle.heap_pins.proofs.LiveCounts.{Stands, live_stand}
-use Rattle.heap_questions.specs.Graph.{HasId, followed, is_reference_slot, named, object_with, slot_names}
+use Rattle.heap_questions.specs.Graph.{HasId, followed, slot_refers, named, object_with, slot_names}
 use Rattle.heap_questions.proofs.Reaching.{leads_more}
-use Rattle.heap_questions.proofs.Traced.{first_object}
+use Rattle.heap_questions.proofs.TracedPaths.{first_object}
 use Rattle.heap_past.specs.Losses.{HasPath, PathIsReach}
 use Rattle.heap_past.proofs.Sizes.{table_of, used_of}
 
@@ -188,8 +188,8 @@ IsReferenceAt classes kind n s = (k : Kind) × (slice_get (slot_kinds_of classes
 replicated : (n s : ℕ) (k : Kind) → s < n → slice_get (replicate n k) s ≡ Some k
 replicated n s k l = slice_get-get_or (replicate n k) s k (omega (arith, l, length-replicate n k)) ∙ ap Some (get_or-replicate n s k k l)
 
-reference_at : (classes : List Class) (kind : ObjKind) (n s : ℕ) → s < n → is_reference_slot classes kind s ≡ true → IsReferenceAt classes kind n s
-unfolding is_reference_slot slot_kinds_of
+reference_at : (classes : List Class) (kind : ObjKind) (n s : ℕ) → s < n → slot_refers classes kind s ≡ true → IsReferenceAt classes kind n s
+unfolding slot_refers slot_kinds_of
 reference_at classes (Instance c) n s l h = go (slice_get (slots_of classes c) s) refl h
   where
     go : (x : Option Kind) → slice_get (slots_of classes c) s ≡ x → option_map_or is_reference x false ≡ true → (k : Kind) × (slice_get (slots_of classes c) s ≡ Some k) × (is_reference k ≡ true)
@@ -198,8 +198,8 @@ reference_at classes (Instance c) n s l h = go (slice_get (slots_of classes c) s
 reference_at classes (Array c) n s l h = (Kind.Object, replicated n s Kind.Object l, refl)
 reference_at classes (Prim kind) n s l h = (kind, replicated n s kind l, h)
 
-at_reference : (classes : List Class) (kind : ObjKind) (n s : ℕ) (k : Kind) → s < n → slice_get (slot_kinds_of classes kind n) s ≡ Some k → is_reference k ≡ true → is_reference_slot classes kind s ≡ true
-unfolding is_reference_slot slot_kinds_of
+at_reference : (classes : List Class) (kind : ObjKind) (n s : ℕ) (k : Kind) → s < n → slice_get (slot_kinds_of classes kind n) s ≡ Some k → is_reference k ≡ true → slot_refers classes kind s ≡ true
+unfolding slot_refers slot_kinds_of
 at_reference classes (Instance c) n s k l e h = ap (λ (x : Option Kind). option_map_or is_reference x false) e ∙ h
 at_reference classes (Array c) n s k l e h = refl
 at_reference classes (Prim kind) n s k l e h = ap is_reference (same_Some kind k (sym (replicated n s kind l) ∙ e)) ∙ h
@@ -207,16 +207,16 @@ at_reference classes (Prim kind) n s k l e h = ap is_reference (same_Some kind k
 -- a slot of the image that names an object names it in the state
 names_there : (w : HeapState) (x s y : ℕ) (d : DumpedObject) → IsShownAs w x d → slot_names w.classes d s ≡ Some y → y ≢ 0 → Names w x y
 unfolding slot_names slot_kinds
-names_there w x s y d i h nz = go (is_reference_slot w.classes d.kind s) refl h
+names_there w x s y d i h nz = go (slot_refers w.classes d.kind s) refl h
   where
     o : Object
     o = i.object
 
-    go : (b : Bool) → is_reference_slot w.classes d.kind s ≡ b → cond b (slice_get d.words s) None ≡ Some y → Names w x y
+    go : (b : Bool) → slot_refers w.classes d.kind s ≡ b → cond b (slice_get d.words s) None ≡ Some y → Names w x y
     go false e f = absurd (none-some y f)
     go true e f =
         let g : slice_get o.words s ≡ Some y = ap (λ (ws : List ℕ). slice_get ws s) (sym i.words) ∙ f in
-        let r = reference_at w.classes o.kind (length o.words) s (slice_get_within o.words s y g) (ap (λ (k : ObjKind). is_reference_slot w.classes k s) (sym i.kind) ∙ e) in
+        let r = reference_at w.classes o.kind (length o.words) s (slice_get_within o.words s y g) (ap (λ (k : ObjKind). slot_refers w.classes k s) (sym i.kind) ∙ e) in
         names_of w x y o i.there (subst (λ (ys : List ℕ). Contains ys y) (sym (references_by_slots w.classes o)) (is_found_in (slot_kinds w.classes o) o.words y (s, r.0, r.1, r.2, g, nz)))
 
 -- and the other way round
@@ -229,7 +229,7 @@ slot_there w x y d i n =
     let o = i.object in
     let r = found_in (slot_kinds w.classes o) o.words y (subst (λ (ys : List ℕ). Contains ys y) (references_by_slots w.classes o) c) in
     let b = at_reference w.classes o.kind (length o.words) r.0 r.1 (slice_get_within o.words r.0 y r.4) r.2 r.3 in
-    (r.0, ap (λ (b : Bool). cond b (slice_get d.words r.0) None) (ap (λ (k : ObjKind). is_reference_slot w.classes k r.0) i.kind ∙ b) ∙ ap (λ (ws : List ℕ). slice_get ws r.0) i.words ∙ r.4)
+    (r.0, ap (λ (b : Bool). cond b (slice_get d.words r.0) None) (ap (λ (k : ObjKind). slot_refers w.classes k r.0) i.kind ∙ b) ∙ ap (λ (ws : List ℕ). slice_get ws r.0) i.words ∙ r.4)
 
 -- ---- paths
 

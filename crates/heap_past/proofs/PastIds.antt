@@ -26,7 +26,7 @@ use Rattle.heap_trail.proofs.RetainedStates.{steps_legal}
 use Rattle.heap_past.specs.Losses.{StoodFor, UnreachedFor, id_now}
 use Rattle.heap_past.proofs.ImagePaths.{id_back}
 use Rattle.heap_past.proofs.Sizes.{covered_size, dead_size, patched_size, used_of, word_size}
-use Rattle.heap_past.proofs.Told.{reclaimed_none, told}
+use Rattle.heap_past.proofs.ToldObjects.{reclaimed_none, told}
 use Rattle.heap_past.proofs.UnreachedObjects.{stays_unreached}
 use Rattle.heap_past.proofs.Walk.{now_is}
 

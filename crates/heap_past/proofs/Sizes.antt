@@ -29,8 +29,8 @@ use Rattle.heap_pins.specs.Walk.{TellsBefore, walked_copy}
 use Rattle.heap_pins.proofs.CoveringCopies.{covers_same}
 use Rattle.heap_pins.proofs.RoomForCopies.{object_within, reclaim_within, used_within}
 use Rattle.heap_pins.proofs.Others.{length_undone}
-use Rattle.heap_past.specs.Newest.{AreSizes, id_by, size_of, sizes_before, written_at}
-use Rattle.heap_past.proofs.Told.{told}
+use Rattle.heap_past.specs.Newest.{AreCellSizes, id_by, storage_cell_size, sizes_before, written_at}
+use Rattle.heap_past.proofs.ToldObjects.{told}
 
 -- ---- a whole region
 
@@ -52,7 +52,7 @@ size_is n c m e = elim (member_cases 4 (16 ∷ 64 ∷ 256 ∷ 1024 ∷ []) n m) 
   ]
 ]
 
-pub whole_size : (u : UsedRegion) → IsCellTable u → size_of u ≡ u.cell_size
+pub whole_size : (u : UsedRegion) → IsCellTable u → storage_cell_size u ≡ u.cell_size
 whole_size u t = size_is u.cell_size (length u.cells) t.size t.cells
 
 -- ---- one step back
@@ -96,36 +96,36 @@ reclaimed_size before storage u c e =
 abbrev Tells : Undo → List ℕ → ℕ → UsedRegion → Type 0
 Tells left sizes r u = get_or (sizes_before left sizes) r 0 ≡ u.cell_size
 
-others_tell : (left : Undo) (before after : HeapState) (sizes : List ℕ) (r : ℕ) (u : UsedRegion) → TellsBefore left before after → AreSizes after sizes → touched left ≢ Some r → used_at before.regions r ≡ Some u → get_or sizes r 0 ≡ u.cell_size
+others_tell : (left : Undo) (before after : HeapState) (sizes : List ℕ) (r : ℕ) (u : UsedRegion) → TellsBefore left before after → AreCellSizes after sizes → touched left ≢ Some r → used_at before.regions r ≡ Some u → get_or sizes r 0 ≡ u.cell_size
 unfolding region_frozen
 others_tell left before after sizes r u t s n e =
     let v = covered_size (used_at before.regions r) (used_at after.regions r) u (t.others r n) e in
     s.used r v.0 v.1 ∙ v.2
 
 patch_tells : (left : Undo) (f : Frozen → Frozen) → ((x : Frozen) → (f x).cell_size ≡ x.cell_size) → (before after : HeapState) (sizes : List ℕ) (r : ℕ) (u : UsedRegion)
-    → Covers (region_frozen before.regions r) (option_map f (region_frozen after.regions r)) → AreSizes after sizes → used_at before.regions r ≡ Some u → get_or sizes r 0 ≡ u.cell_size
+    → Covers (region_frozen before.regions r) (option_map f (region_frozen after.regions r)) → AreCellSizes after sizes → used_at before.regions r ≡ Some u → get_or sizes r 0 ≡ u.cell_size
 unfolding region_frozen
 patch_tells left f same before after sizes r u c s e =
     let v = patched_size f same (used_at before.regions r) (used_at after.regions r) u c e in
     s.used r v.0 v.1 ∙ v.2
 
-reclaim_tells : (region : ℕ) (storage : UsedRegion) (before after : HeapState) (sizes : List ℕ) (r : ℕ) (u : UsedRegion) → TellsBefore (Reclaim region storage) before after → AreSizes after sizes → region < length sizes → IsCellTable u → used_at before.regions r ≡ Some u → Tells (Reclaim region storage) sizes r u
+reclaim_tells : (region : ℕ) (storage : UsedRegion) (before after : HeapState) (sizes : List ℕ) (r : ℕ) (u : UsedRegion) → TellsBefore (Reclaim region storage) before after → AreCellSizes after sizes → region < length sizes → IsCellTable u → used_at before.regions r ≡ Some u → Tells (Reclaim region storage) sizes r u
 unfolding touched walked_copy region_frozen
 reclaim_tells region storage before after sizes r u t s l whole e = elim (cases_eq r region) [
   | inl q ↦
       let c = t.touched_region r (region_frozen after.regions r) (ap Some (sym q)) (covers_same _ _ refl) in
       let m = reclaimed_size (used_at before.regions r) storage u c e in
-      ap (λ k. get_or (set sizes region (size_of storage)) k 0) q
-      ∙ get_or-set_same sizes region (size_of storage) 0 l
+      ap (λ k. get_or (set sizes region (storage_cell_size storage)) k 0) q
+      ∙ get_or-set_same sizes region (storage_cell_size storage) 0 l
       ∙ ap (λ n. region_words / n) m
       ∙ whole_size u whole
-  | inr q ↦ get_or-set_other sizes region r (size_of storage) 0 q ∙ others_tell (Reclaim region storage) before after sizes r u t s (λ z. q (sym (same_Some region r z))) e
+  | inr q ↦ get_or-set_other sizes region r (storage_cell_size storage) 0 q ∙ others_tell (Reclaim region storage) before after sizes r u t s (λ z. q (sym (same_Some region r z))) e
 ]
 
-plain_tells : (left : Undo) (before after : HeapState) (sizes : List ℕ) (r : ℕ) (u : UsedRegion) → touched left ≡ None → TellsBefore left before after → AreSizes after sizes → used_at before.regions r ≡ Some u → get_or sizes r 0 ≡ u.cell_size
+plain_tells : (left : Undo) (before after : HeapState) (sizes : List ℕ) (r : ℕ) (u : UsedRegion) → touched left ≡ None → TellsBefore left before after → AreCellSizes after sizes → used_at before.regions r ≡ Some u → get_or sizes r 0 ≡ u.cell_size
 plain_tells left before after sizes r u n t s e = others_tell left before after sizes r u t s (λ z. none-some r (sym n ∙ z)) e
 
-tells : (left : Undo) (before after : HeapState) (sizes : List ℕ) (r : ℕ) (u : UsedRegion) → TellsBefore left before after → AreSizes after sizes → ((region : ℕ) (storage : UsedRegion) → left ≡ Reclaim region storage → region < length sizes) → IsCellTable u → used_at before.regions r ≡ Some u → Tells left sizes r u
+tells : (left : Undo) (before after : HeapState) (sizes : List ℕ) (r : ℕ) (u : UsedRegion) → TellsBefore left before after → AreCellSizes after sizes → ((region : ℕ) (storage : UsedRegion) → left ≡ Reclaim region storage → region < length sizes) → IsCellTable u → used_at before.regions r ≡ Some u → Tells left sizes r u
 unfolding touched walked_copy patched
 tells (Put at slot old) before after sizes r u t s l whole e = elim (cases_eq r at.region) [
   | inl q ↦ patch_tells (Put at slot old) (frozen_word_set at.cell slot old) (word_size at.cell slot old) before after sizes r u (t.touched_region r (region_frozen after.regions r) (ap Some (sym q)) (covers_same _ _ refl)) s e
@@ -152,7 +152,7 @@ same_many : (left : Undo) (sizes : List ℕ) → length (sizes_before left sizes
 same_many (Put at slot old) sizes = refl
 same_many (Store at slot old logged) sizes = refl
 same_many (Sweep region dead) sizes = refl
-same_many (Reclaim region storage) sizes = length-set sizes region (size_of storage)
+same_many (Reclaim region storage) sizes = length-set sizes region (storage_cell_size storage)
 same_many (Reg m k old) sizes = refl
 same_many (New at fresh m k old) sizes = refl
 same_many Class sizes = refl
@@ -161,11 +161,11 @@ same_many (Mark parent pushed) sizes = refl
 same_many (Drain pushed) sizes = refl
 same_many (Finish log) sizes = refl
 
-still_small : (left : Undo) (sizes : List ℕ) → All (λ s. s ≤ region_words) sizes → ((region : ℕ) (storage : UsedRegion) → left ≡ Reclaim region storage → size_of storage ≤ region_words) → All (λ s. s ≤ region_words) (sizes_before left sizes)
+still_small : (left : Undo) (sizes : List ℕ) → All (λ s. s ≤ region_words) sizes → ((region : ℕ) (storage : UsedRegion) → left ≡ Reclaim region storage → storage_cell_size storage ≤ region_words) → All (λ s. s ≤ region_words) (sizes_before left sizes)
 still_small (Put at slot old) sizes a b = a
 still_small (Store at slot old logged) sizes a b = a
 still_small (Sweep region dead) sizes a b = a
-still_small (Reclaim region storage) sizes a b = All-set (λ s. s ≤ region_words) sizes region (size_of storage) (b region storage refl) a
+still_small (Reclaim region storage) sizes a b = All-set (λ s. s ≤ region_words) sizes region (storage_cell_size storage) (b region storage refl) a
 still_small (Reg m k old) sizes a b = a
 still_small (New at fresh m k old) sizes a b = a
 still_small Class sizes a b = a
@@ -210,7 +210,7 @@ sizes_push w sizes new n s e a small told = record {
   ];
 }
 
-pub sizes_all : (w : HeapState) (sizes : List ℕ) (n : ℕ) → n ≡ length w.regions → AreSizesTo w sizes n → AreSizes w sizes
+pub sizes_all : (w : HeapState) (sizes : List ℕ) (n : ℕ) → n ≡ length w.regions → AreSizesTo w sizes n → AreCellSizes w sizes
 sizes_all w sizes n e a = record {
   many = a.many ∙ e;
   small = a.small;
@@ -233,7 +233,7 @@ there_is (Sweep region dead) e before after at s h = absurd (none-some at h)
 there_is (Reclaim region storage) e before after at s h = absurd (none-some at h)
 
 -- the region of the object is within the sizes
-pub written_within : (left : Undo) (e : Event) (before after : HeapState) (sizes : List ℕ) → IsStep e before after left → AreSizes after sizes → (at : ObjRef) → written_at left ≡ Some at → at.region < length sizes
+pub written_within : (left : Undo) (e : Event) (before after : HeapState) (sizes : List ℕ) → IsStep e before after left → AreCellSizes after sizes → (at : ObjRef) → written_at left ≡ Some at → at.region < length sizes
 written_within left e before after sizes s a at h = omega (arith, a.many, object_within after.regions at (there_is left e before after at s h))
 
 pub used_of : (regions : List Region) (at : ObjRef) → IsSome (object_at regions at) → (u : UsedRegion) × (used_at regions at.region ≡ Some u)
@@ -244,13 +244,13 @@ used_of regions at = go (used_at regions at.region) refl
     go None e h = absurd (false≢true h)
     go (Some u) e h = (u, e)
 
-id_is : (w : HeapState) (sizes : List ℕ) (at : ObjRef) → AreSizes w sizes → IsSome (object_at w.regions at) → id_by sizes at ≡ id_of w.regions at
+id_is : (w : HeapState) (sizes : List ℕ) (at : ObjRef) → AreCellSizes w sizes → IsSome (object_at w.regions at) → id_by sizes at ≡ id_of w.regions at
 unfolding id_of
 id_is w sizes at a h =
     let u = used_of w.regions at h in
     ap (λ s. object_base + 8 * (region_words * at.region + at.cell * s)) (a.used at.region u.0 u.1 ∙ sym (ap (λ (x : Option UsedRegion). option_map_or (λ u. u.cell_size) x 0) u.1))
 
-pub ids_are : (left : Undo) (e : Event) (before after : HeapState) (sizes : List ℕ) → IsStep e before after left → AreSizes after sizes → option_map (id_by sizes) (written_at left) ≡ option_map (id_of after.regions) (written_at left)
+pub ids_are : (left : Undo) (e : Event) (before after : HeapState) (sizes : List ℕ) → IsStep e before after left → AreCellSizes after sizes → option_map (id_by sizes) (written_at left) ≡ option_map (id_of after.regions) (written_at left)
 ids_are left e before after sizes s a = go (written_at left) (λ at h. id_is after sizes at a (there_is left e before after at s h))
   where
     go : (x : Option ObjRef) → ((at : ObjRef) → x ≡ Some at → id_by sizes at ≡ id_of after.regions at) → option_map (id_by sizes) x ≡ option_map (id_of after.regions) x
@@ -258,7 +258,7 @@ ids_are left e before after sizes s a = go (written_at left) (λ at h. id_is aft
     go (Some at) h = ap Some (h at refl)
 
 -- a record that took a whole region
-pub reclaimed_within : (left : Undo) (e : Event) (before after : HeapState) (sizes : List ℕ) → IsStep e before after left → AreSizes after sizes → (r : ℕ) (u : UsedRegion) → left ≡ Reclaim r u → (r < length sizes) × (0 < length u.cells)
+pub reclaimed_within : (left : Undo) (e : Event) (before after : HeapState) (sizes : List ℕ) → IsStep e before after left → AreCellSizes after sizes → (r : ℕ) (u : UsedRegion) → left ≡ Reclaim r u → (r < length sizes) × (0 < length u.cells)
 reclaimed_within left e before after sizes s a r u h = (
   omega (arith, a.many, reclaim_within e before after left s r u h),
   let i = reclaim_inhabited e before after left s r u h in cells_some u i.0 i.1 i.2,
@@ -273,7 +273,7 @@ same_regions left e before after s =
     ∙ sym (length_undone left after)
 
 -- the sizes before the step
-pub sizes_step : (left : Undo) (e : Event) (before after : HeapState) (sizes : List ℕ) → IsStep e before after left → AreSizes after sizes → AreSizes before (sizes_before left sizes)
+pub sizes_step : (left : Undo) (e : Event) (before after : HeapState) (sizes : List ℕ) → IsStep e before after left → AreCellSizes after sizes → AreCellSizes before (sizes_before left sizes)
 sizes_step left e before after sizes s a =
     let t = told e before after left s in
     record {

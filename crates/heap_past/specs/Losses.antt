@@ -59,10 +59,10 @@ IsNeverReached t at =
     (n : ℕ) → n ≤ retained t + 1 → StoodFor t at n → UnreachedFor t at n
 
 -- a register reaches it, or it was lost then
-abbrev pub IsLoss : Trail → ObjRef → Loss → Type 0
-IsLoss t at Reached = Reaches t.current (id_now t at)
-IsLoss t at (At place) = IsLostAt t at place
-IsLoss t at Older = IsNeverReached t at
+abbrev pub IsLossOf : Trail → ObjRef → Loss → Type 0
+IsLossOf t at Reached = Reaches t.current (id_now t at)
+IsLossOf t at (At place) = IsLostAt t at place
+IsLossOf t at Older = IsNeverReached t at
 
 -- ---- halving
 

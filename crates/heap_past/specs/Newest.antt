@@ -32,19 +32,19 @@ pub record AreNewest (t : Trail) (count : ℕ) (steps : List PastStep) : Type 0 
 -- ---- cell sizes
 
 -- the sizes of the cells of regions in use
-pub record AreSizes (w : HeapState) (sizes : List ℕ) : Type 0 where
+pub record AreCellSizes (w : HeapState) (sizes : List ℕ) : Type 0 where
   pub many : length sizes ≡ length w.regions
   pub small : All (λ s. s ≤ region_words) sizes
   pub used : (r : ℕ) (u : UsedRegion) → used_at w.regions r ≡ Some u
       → slice_index_or sizes r 0 ≡ u.cell_size
 
 -- the size of the cells of a region with so many, which fill it
-abbrev pub size_of : UsedRegion → ℕ
-size_of u = region_words / length u.cells
+abbrev pub storage_cell_size : UsedRegion → ℕ
+storage_cell_size u = region_words / length u.cells
 
 -- the sizes before a step with this record, from those after it
 abbrev pub sizes_before : Undo → List ℕ → List ℕ
-sizes_before (Reclaim region storage) sizes = slice_set sizes region (size_of storage)
+sizes_before (Reclaim region storage) sizes = slice_set sizes region (storage_cell_size storage)
 sizes_before left sizes = sizes
 
 -- the id of the object at a place, by the size of its region's cells

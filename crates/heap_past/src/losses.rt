@@ -6,7 +6,7 @@ ghost use Rattle.heap_step.specs.declared.Event.{Event};
 ghost use Rattle.heap_world.specs.Reach.{Reaches};
 ghost use Rattle.heap_world.specs.State.{HeapState};
 ghost use Rattle.heap_trail.specs.Trail.{retained, state_ago};
-ghost use Rattle.heap_past.specs.Losses.{HasStood, IsLoss, IsNewest, PathIsReach, StaysUnreached};
+ghost use Rattle.heap_past.specs.Losses.{HasStood, IsLossOf, IsNewest, PathIsReach, StaysUnreached};
 
 use crate::birth;
 use heap_class::{ObjRef, Refusal};
@@ -100,7 +100,7 @@ fn newest_reached(
 /// if an allocation fails. Searches the heap once for each halving of the retained states: 17 times for 65,536 steps.
 pub fn loss_of(alloc: Global, machine: &Machine, at: ObjRef) -> Result<Loss, Refusal>
     requires { IsSome (object_at machine.now.trail.current.regions at) }
-    ensures loss { IfOk result (λ loss. IsLoss machine.now.trail at loss) }
+    ensures loss { IfOk result (λ loss. IsLossOf machine.now.trail at loss) }
     ensures refused { IfErr result (λ e. e ≡ NoMemory) }
 {
     let oldest = oldest_state(machine, at);

@@ -6,20 +6,14 @@ ghost use Rattle.heap_region.specs.Limits.{region_words};
 ghost use Rattle.heap_region.specs.Regions.{UsedRegion, used_at};
 ghost use Rattle.heap_step.specs.declared.Undo.TheVariants.{Reclaim};
 ghost use Rattle.heap_world.specs.Legal.{IsLegal};
-ghost use Rattle.heap_past.specs.Newest.{AreNewest, AreSizes, id_by, size_of, sizes_before, written_at};
+ghost use Rattle.heap_past.specs.Newest.{AreNewest, AreCellSizes, id_by, storage_cell_size, sizes_before, written_at};
 
 use heap_class::{ObjRef, Refusal};
-use heap_region::Storage;
+use heap_region::{OBJECT_BASE, REGION_WORDS, Storage};
 use heap_step::Undo;
 use heap_trail::Machine;
 use heap_world::World;
 use std::alloc::Global;
-
-/// The address of the first word of region 0.
-const OBJECT_BASE: u64 = 0x1000_0000;
-
-/// The number of words of a region.
-const REGION_WORDS: u64 = 1024;
 
 /// A retained step: the place that it led to, and the id of the object that it wrote or created, if it did.
 #[derive(Clone, Copy, PartialEq, Eq, Debug)]
@@ -31,7 +25,7 @@ pub struct PastStep {
 // Returns the size of a region's cells.
 fn size_of(storage: &Storage) -> u64
     requires { 0 < length storage.now.cells }
-    ensures value { result ≡ size_of storage.now }
+    ensures value { result ≡ storage_cell_size storage.now }
     ensures limit { result ≤ region_words }
 {
     REGION_WORDS / storage.cells()
@@ -53,7 +47,7 @@ fn size_at(world: &World, region: u64) -> u64
 // Returns the sizes of the cells of all regions. Fails with NoMemory.
 fn sizes_now(alloc: Global, world: &World) -> Result<Vec<u64>, Refusal>
     requires { IsLegal world.now }
-    ensures sizes { IfOk result (λ sizes. AreSizes world.now sizes.items) }
+    ensures sizes { IfOk result (λ sizes. AreCellSizes world.now sizes.items) }
     ensures refused { IfErr result (λ e. e ≡ NoMemory) }
 {
     let count = world.regions().count();

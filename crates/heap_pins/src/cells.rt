@@ -1,7 +1,7 @@
 //! The bytes of the cells: each says whether its cell is empty, has a live object, or has one that is not live.
 ghost use Rattle.std.specs.Prelude.{◌≡◌, ℕ, ◌<◌, ◌*◌, List, length, if◌then◌else◌, All, IfOk, IfErr};
 ghost use Rattle.heap_class.specs.declared.Refusal.TheVariants.{NoMemory};
-ghost use Rattle.heap_region.specs.Limits.{region_limit};
+ghost use Rattle.heap_region.specs.Limits.{region_limit, cell_limit};
 ghost use Rattle.heap_region.specs.Regions.{cell_object};
 ghost use Rattle.heap_step.specs.declared.Undo.TheVariants.{Finish, Reclaim, Sweep};
 ghost use Rattle.heap_pins.specs.Walk.{cell_state};
@@ -36,7 +36,7 @@ fn cell_state(storage: &Storage, cell: u64) -> u8
 fn write_region(states: &mut [u8], storage: &Storage, region: u64)
     requires within { region < region_limit }
     requires bytes { HasRegion states.old region }
-    ensures { IsSetFrom (λ cell. cell_state (cell_object storage.now cell)) (256 * region)
+    ensures { IsSetFrom (λ cell. cell_state (cell_object storage.now cell)) (cell_limit * region)
         (length storage.now.cells) states.old states.new }
 {
     let first = 256 * region;
@@ -47,7 +47,7 @@ fn write_region(states: &mut [u8], storage: &Storage, region: u64)
 
 // Writes the bytes of all regions.
 fn write_regions(states: &mut [u8], regions: &Regions)
-    requires sized { length states.old ≡ 256 * length regions.now.regions }
+    requires sized { length states.old ≡ cell_limit * length regions.now.regions }
     requires empty { AreEmpty states.old }
     ensures { AreStates states.new regions.now.regions }
 {
@@ -103,7 +103,7 @@ fn object_state(object: &ObjectCopy) -> u8
 // Writes the bytes of dead objects that are back in a region.
 pub(crate) fn restore_dead(states: &mut [u8], region: u16, dead: &[(u64, ObjectCopy)])
     requires region { HasRegion states.old region }
-    requires within { All (λ d. d.0 < 256) dead.now }
+    requires within { All (λ d. d.0 < cell_limit) dead.now }
     ensures { AreBefore (Sweep region dead.now) states.old states.new }
 {
     let first = 256 * region as usize;

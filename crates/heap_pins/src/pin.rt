@@ -11,22 +11,17 @@ ghost use Rattle.heap_pins.specs.Pin.{IsPlaceAfter, object_seen, places_from};
 ghost use Rattle.heap_pins.specs.KeptCopies.{kept, kept_copy, kept_dead, kept_word, touched, with_dead};
 ghost use Rattle.heap_pins.specs.Shows.{AreFit, FitIn, IsSeen};
 ghost use Rattle.heap_pins.specs.WalkedPins.{IsOpened};
+ghost use Rattle.hprof_text.specs.Image.{object_limit};
 
 use crate::cells::cell_states;
 use heap_class::{ObjKind, ObjRef, Refusal};
-use heap_region::{FrozenRegion, ObjectCopy, Regions, Storage};
+use heap_region::{FrozenRegion, OBJECT_BASE, ObjectCopy, REGION_WORDS, Regions, Storage};
 use heap_step::Undo;
 use heap_sweep::DeadCells;
 use heap_world::World;
 use memchr::memchr;
 use std::alloc::Global;
 use std::marker::Model;
-
-// The address of the first word of region 0.
-const OBJECT_BASE: u64 = 0x1000_0000;
-
-// The number of words of a region.
-const REGION_WORDS: u64 = 1024;
 
 /// A past state as a dump shows it. It has the registers, the number of classes, a byte for each cell, 1 for that of a live
 /// object, and copies of the regions that were overwritten since. A region that isn't overwritten yet is read from the heap.
@@ -219,7 +214,7 @@ impl Pin {
     // Returns the place of the first live object from a byte on.
     fn from(&self, number: usize) -> Option<ObjRef>
         requires within { number ≤ length self.now.live }
-        requires few { length self.now.live ≤ 65536 }
+        requires few { length self.now.live ≤ object_limit }
         ensures { result ≡ slice_get (places_from number (drop number self.now.live)) 0 }
     {
         match first_live(&self.live[number..]) {
@@ -236,7 +231,7 @@ impl Pin {
 
     /// Returns the place of the first object. The pin must have at most 65,536 cells.
     pub fn first(&self) -> Option<ObjRef>
-        requires { length self.now.live ≤ 65536 }
+        requires { length self.now.live ≤ object_limit }
         ensures { result ≡ slice_get (places_from 0 self.now.live) 0 }
     {
         self.from(0)
@@ -244,7 +239,7 @@ impl Pin {
 
     /// Returns the place of the object after the one at this place. The pin must have at most 65,536 cells.
     pub fn next(&self, at: ObjRef) -> Option<ObjRef>
-        requires { length self.now.live ≤ 65536 }
+        requires { length self.now.live ≤ object_limit }
         ensures { IsPlaceAfter self.now.live at result }
     {
         let number = 256 * at.region as usize + at.cell as usize + 1;

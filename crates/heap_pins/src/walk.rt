@@ -7,6 +7,7 @@ ghost use Rattle.heap_pins.specs.Pin.{region_seen};
 ghost use Rattle.heap_pins.specs.States.{HasBytesBefore, HasNoLive, HasRegion};
 ghost use Rattle.heap_pins.specs.WalkedPins.{CanWalk, IsWalkedBack, IsUnreclaimed, IsUnswept};
 ghost use Rattle.heap_pins.specs.WalkedPins.{Sees, SeesRoom, SeesSlot, with_copy, with_old_register, with_old_word};
+ghost use Rattle.heap_region.specs.Limits.{cell_limit};
 
 use crate::cells::{clear_region, make_live, restore_dead, restore_region};
 use crate::pin::{Pin, put_dead};
@@ -95,7 +96,7 @@ impl Pin {
 
     // Removes a new object, or all objects of its region if the region was taken from the pool for it.
     fn remove_new(&mut self, at: ObjRef, fresh: bool)
-        requires within { at.cell < 256 }
+        requires within { at.cell < cell_limit }
         requires region { HasRegion self.old.live at.region }
         ensures { (m r old : ℕ) → HasBytesBefore (New at fresh m r old) self.old self.new }
     {
@@ -117,7 +118,7 @@ impl Pin {
     fn unsweep(&mut self, world: &World, region: u16, dead: &DeadCells) -> Result<(), Refusal>
         requires sized { region < length self.old.copies }
         requires there { SeesRoom self.old world.now.regions region dead.now }
-        requires within { All (λ d. d.0 < 256) dead.now }
+        requires within { All (λ d. d.0 < cell_limit) dead.now }
         requires bytes { HasRegion self.old.live region }
         ensures swept { OnOk result (IsUnswept world.now region dead.now self.old self.new) }
         ensures refused { IfErr result (λ e. e ≡ NoMemory) }

@@ -11,7 +11,7 @@ use Rattle.heap_class.specs.declared.IdSize.{IdSize}
 use Rattle.heap_class.specs.Classes.{Class}
 use Rattle.hprof_text.specs.Image.{DumpedObject}
 use Rattle.heap_questions.specs.declared.rows.Row.{Row}
-use Rattle.heap_questions.specs.Histogram.{AreRows, class_rows, counted_unless, members, no_objects, object_bytes, one_more, row_at, row_number, row_of, rows_of, unmarked, with_counted}
+use Rattle.heap_questions.specs.Histogram.{AreRows, class_rows, counted_unless, members, no_objects, object_bytes, one_more, row_at, row_number, row_of, rows_of, without_marked, with_counted}
 
 -- ---- one object more
 
@@ -80,11 +80,11 @@ one_counted ids classes counted rows o a w b =
 
 -- ---- objects that aren't marked
 
-none_unmarked : (marks : List Bool) → unmarked marks [] ≡ []
+none_unmarked : (marks : List Bool) → without_marked marks [] ≡ []
 none_unmarked [] = refl
 none_unmarked (b ∷ bs) = refl
 
-unmarked_more : (marks : List Bool) (objects : List DumpedObject) (i : ℕ) (o : DumpedObject) → slice_get objects i ≡ Some o → unmarked marks (take (suc i) objects) ≡ unmarked marks (take i objects) ++ cond (get_or marks i false) [] (o ∷ [])
+unmarked_more : (marks : List Bool) (objects : List DumpedObject) (i : ℕ) (o : DumpedObject) → slice_get objects i ≡ Some o → without_marked marks (take (suc i) objects) ≡ without_marked marks (take i objects) ++ cond (get_or marks i false) [] (o ∷ [])
 unmarked_more [] objects i o h =
     ap (λ n. take n objects) (sym (add-one i))
     ∙ take_more objects i o (slice_get_within objects i o h)
@@ -92,58 +92,58 @@ unmarked_more [] objects i o h =
 unmarked_more (b ∷ bs) [] i o h = absurd (none-some o h)
 unmarked_more (b ∷ bs) (x ∷ xs) zero o h = go b
   where
-    go : (b : Bool) → unmarked (b ∷ bs) (x ∷ []) ≡ cond b [] (o ∷ [])
+    go : (b : Bool) → without_marked (b ∷ bs) (x ∷ []) ≡ cond b [] (o ∷ [])
     go true = none_unmarked bs
     go false = ap₂ (λ (y : DumpedObject) (ys : List DumpedObject). y ∷ ys) (same_Some x o h) (none_unmarked bs)
 unmarked_more (b ∷ bs) (x ∷ xs) (suc i) o h = go b (unmarked_more bs xs i o h)
   where
-    go : (b : Bool) → unmarked bs (take (suc i) xs) ≡ unmarked bs (take i xs) ++ cond (get_or bs i false) [] (o ∷ []) → unmarked (b ∷ bs) (x ∷ take (suc i) xs) ≡ unmarked (b ∷ bs) (x ∷ take i xs) ++ cond (get_or bs i false) [] (o ∷ [])
+    go : (b : Bool) → without_marked bs (take (suc i) xs) ≡ without_marked bs (take i xs) ++ cond (get_or bs i false) [] (o ∷ []) → without_marked (b ∷ bs) (x ∷ take (suc i) xs) ≡ without_marked (b ∷ bs) (x ∷ take i xs) ++ cond (get_or bs i false) [] (o ∷ [])
     go true e = e
     go false e = ap (λ (ys : List DumpedObject). x ∷ ys) e
 
-unmarked_few : (marks : List Bool) (objects : List DumpedObject) → length (unmarked marks objects) ≤ length objects
+unmarked_few : (marks : List Bool) (objects : List DumpedObject) → length (without_marked marks objects) ≤ length objects
 unmarked_few [] objects = omega arith
 unmarked_few (b ∷ bs) [] = omega arith
 unmarked_few (b ∷ bs) (o ∷ os) = go b (unmarked_few bs os)
   where
-    go : (b : Bool) → length (unmarked bs os) ≤ length os → length (unmarked (b ∷ bs) (o ∷ os)) ≤ suc (length os)
+    go : (b : Bool) → length (without_marked bs os) ≤ length os → length (without_marked (b ∷ bs) (o ∷ os)) ≤ suc (length os)
     go true l = omega (arith, l)
     go false l = omega (arith, l)
 
 -- the objects left out by marks are those for which a test of their ids gives true
-pub unmarked_is_filter : (f : ℕ → Bool) (objects : List DumpedObject) → unmarked (map f (map (λ o. o.id) objects)) objects ≡ filter (λ o. not (f o.id)) objects
+pub unmarked_is_filter : (f : ℕ → Bool) (objects : List DumpedObject) → without_marked (map f (map (λ o. o.id) objects)) objects ≡ filter (λ o. not (f o.id)) objects
 unmarked_is_filter f [] = refl
 unmarked_is_filter f (o ∷ os) = go (f o.id) (unmarked_is_filter f os)
   where
-    go : (b : Bool) → unmarked (map f (map (λ o. o.id) os)) os ≡ filter (λ o. not (f o.id)) os → cond b (unmarked (map f (map (λ o. o.id) os)) os) (o ∷ unmarked (map f (map (λ o. o.id) os)) os) ≡ cond (not b) (o ∷ filter (λ o. not (f o.id)) os) (filter (λ o. not (f o.id)) os)
+    go : (b : Bool) → without_marked (map f (map (λ o. o.id) os)) os ≡ filter (λ o. not (f o.id)) os → cond b (without_marked (map f (map (λ o. o.id) os)) os) (o ∷ without_marked (map f (map (λ o. o.id) os)) os) ≡ cond (not b) (o ∷ filter (λ o. not (f o.id)) os) (filter (λ o. not (f o.id)) os)
     go true e = e
     go false e = ap (λ (ys : List DumpedObject). o ∷ ys) e
 
 -- ---- the first i objects
 
-pub rows_begin : (ids : IdSize) (classes : List Class) (marks : List Bool) (objects : List DumpedObject) (rows : List Row) → rows ≡ replicate (class_rows + length classes) no_objects → AreRows ids classes (unmarked marks (take 0 objects)) rows
+pub rows_begin : (ids : IdSize) (classes : List Class) (marks : List Bool) (objects : List DumpedObject) (rows : List Row) → rows ≡ replicate (class_rows + length classes) no_objects → AreRows ids classes (without_marked marks (take 0 objects)) rows
 rows_begin ids classes marks objects rows e = subst (λ (os : List DumpedObject). AreRows ids classes os rows) (sym (none_unmarked marks)) (none_counted ids classes rows e)
 
-pub rows_more : (ids : IdSize) (classes : List Class) (marks : List Bool) (objects : List DumpedObject) (i : ℕ) (rows : List Row) (o : DumpedObject) → AreRows ids classes (unmarked marks (take i objects)) rows → slice_get objects i ≡ Some o → row_number o.kind < length rows → object_bytes ids classes o ≤ 8192
-    → AreRows ids classes (unmarked marks (take (i + 1) objects)) (counted_unless (get_or marks i false) (row_number o.kind) (object_bytes ids classes o) rows)
+pub rows_more : (ids : IdSize) (classes : List Class) (marks : List Bool) (objects : List DumpedObject) (i : ℕ) (rows : List Row) (o : DumpedObject) → AreRows ids classes (without_marked marks (take i objects)) rows → slice_get objects i ≡ Some o → row_number o.kind < length rows → object_bytes ids classes o ≤ 8192
+    → AreRows ids classes (without_marked marks (take (i + 1) objects)) (counted_unless (get_or marks i false) (row_number o.kind) (object_bytes ids classes o) rows)
 rows_more ids classes marks objects i rows o a h w b =
-    let before = unmarked marks (take i objects) in
-    let e : unmarked marks (take (i + 1) objects) ≡ before ++ cond (get_or marks i false) [] (o ∷ []) = ap (λ n. unmarked marks (take n objects)) (add-one i) ∙ unmarked_more marks objects i o h in
+    let before = without_marked marks (take i objects) in
+    let e : without_marked marks (take (i + 1) objects) ≡ before ++ cond (get_or marks i false) [] (o ∷ []) = ap (λ n. without_marked marks (take n objects)) (add-one i) ∙ unmarked_more marks objects i o h in
     subst (λ (os : List DumpedObject). AreRows ids classes os (counted_unless (get_or marks i false) (row_number o.kind) (object_bytes ids classes o) rows)) (sym e) (go before (get_or marks i false) a)
   where
     go : (before : List DumpedObject) (marked : Bool) → AreRows ids classes before rows → AreRows ids classes (before ++ cond marked [] (o ∷ [])) (counted_unless marked (row_number o.kind) (object_bytes ids classes o) rows)
     go before true a = subst (λ (os : List DumpedObject). AreRows ids classes os rows) (sym (append-nil before)) a
     go before false a = one_counted ids classes before rows o a w b
 
-pub room : (ids : IdSize) (classes : List Class) (marks : List Bool) (objects : List DumpedObject) (i : ℕ) (rows : List Row) (k : ℕ) → AreRows ids classes (unmarked marks (take i objects)) rows → i ≤ length objects → k < length rows → ((row_at rows k).objects ≤ i) × ((row_at rows k).bytes ≤ i * 8192)
+pub room : (ids : IdSize) (classes : List Class) (marks : List Bool) (objects : List DumpedObject) (i : ℕ) (rows : List Row) (k : ℕ) → AreRows ids classes (without_marked marks (take i objects)) rows → i ≤ length objects → k < length rows → ((row_at rows k).objects ≤ i) × ((row_at rows k).bytes ≤ i * 8192)
 room ids classes marks objects i rows k a l w =
-    let n = length (unmarked marks (take i objects)) in
+    let n = length (without_marked marks (take i objects)) in
     let s = All-get_or (λ r. (r.objects ≤ n) × (r.bytes ≤ n * 8192)) rows k no_objects w a.small in
     let few = unmarked_few marks (take i objects) in
     let m = length-take-le i objects l in
     (omega (arith, s.0, few, m), omega (arith, s.1, few, m))
 
-pub rows_end : (ids : IdSize) (classes : List Class) (marks : List Bool) (objects : List DumpedObject) (i : ℕ) (rows : List Row) → AreRows ids classes (unmarked marks (take i objects)) rows → i ≡ length objects → rows ≡ rows_of ids classes (unmarked marks objects)
+pub rows_end : (ids : IdSize) (classes : List Class) (marks : List Bool) (objects : List DumpedObject) (i : ℕ) (rows : List Row) → AreRows ids classes (without_marked marks (take i objects)) rows → i ≡ length objects → rows ≡ rows_of ids classes (without_marked marks objects)
 rows_end ids classes marks objects i rows a e =
-    fill_by_all (row_of ids classes (unmarked marks objects)) rows (class_rows + length classes) no_objects a.count
-    (λ g h. a.each g (omega (arith, h, a.count)) ∙ ap (λ os. row_of ids classes (unmarked marks os) g) (take_all i objects (omega (arith, e))))
+    fill_by_all (row_of ids classes (without_marked marks objects)) rows (class_rows + length classes) no_objects a.count
+    (λ g h. a.each g (omega (arith, h, a.count)) ∙ ap (λ os. row_of ids classes (without_marked marks os) g) (take_all i objects (omega (arith, e))))

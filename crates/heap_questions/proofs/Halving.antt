@@ -5,10 +5,10 @@ use Rattle.std.specs.List.{position_or_len}
 use Rattle.std.proofs.lemmas.Option.{slice_get_within, slice_get-get_or, get_or_from_slice_get}
 use Rattle.std.proofs.lemmas.List.Sums.{position_or_len_is}
 use Rattle.std.proofs.lemmas.Bool.{cases_eq, eq-eqb, ne_eqb, le-ltb, cases_lt}
-use Rattle.heap_questions.specs.Search.{AreBelow, AreFrom, AreRising, node_with}
+use Rattle.heap_questions.specs.Search.{AreSmallerBefore, AreFrom, AreRising, node_with}
 use Rattle.heap_questions.specs.declared.nodes.Node.{Node}
-use Rattle.heap_questions.proofs.Got.{got_same}
-use Rattle.heap_questions.proofs.Placed.{place_found}
+use Rattle.heap_questions.proofs.LongerLists.{got_same}
+use Rattle.heap_questions.proofs.NodePlaces.{place_found}
 
 -- the first n nodes rise
 abbrev pub AreRisingTo : List Node → ℕ → Type 0
@@ -44,7 +44,7 @@ rising_all nodes n l h i j a b le p q = h i j a b le (omega (arith, l, slice_get
 
 -- ---- halves
 
-pub more_below : (nodes : List Node) (m x : ℕ) (d : Node) → AreRising nodes → m < length nodes → (get_or nodes m d).id < x → AreBelow nodes (m + 1) x
+pub more_below : (nodes : List Node) (m x : ℕ) (d : Node) → AreRising nodes → m < length nodes → (get_or nodes m d).id < x → AreSmallerBefore nodes (m + 1) x
 more_below nodes m x d r lt h k n l e =
     let w = r k m n (get_or nodes m d) (omega (arith, l)) e (slice_get-get_or nodes m d lt) in
     omega (arith, w, h)
@@ -54,17 +54,17 @@ more_from nodes m x d r lt h k n l e =
     let w = r m k (get_or nodes m d) n l (slice_get-get_or nodes m d lt) e in
     omega (arith, w, h)
 
-before : (nodes : List Node) (first x k : ℕ) (d : Node) → AreBelow nodes first x → first ≤ length nodes → k < first → ((get_or nodes k d).id == x) ≡ false
+before : (nodes : List Node) (first x k : ℕ) (d : Node) → AreSmallerBefore nodes first x → first ≤ length nodes → k < first → ((get_or nodes k d).id == x) ≡ false
 before nodes first x k d b l lt =
     let h = b k (get_or nodes k d) lt (slice_get-get_or nodes k d (omega (arith, l, lt))) in
     ne_eqb _ x (λ e. absurd (omega (arith, h, e)))
 
-pub found_by_halves : (nodes : List Node) (first x : ℕ) (d : Node) → AreBelow nodes first x → first < length nodes → (get_or nodes first d).id ≡ x → Some first ≡ node_with nodes x
+pub found_by_halves : (nodes : List Node) (first x : ℕ) (d : Node) → AreSmallerBefore nodes first x → first < length nodes → (get_or nodes first d).id ≡ x → Some first ≡ node_with nodes x
 found_by_halves nodes first x d b l e =
     let at : position_or_len (λ n. n.id == x) nodes ≡ first = position_or_len_is (λ n. n.id == x) nodes first d (omega (arith, l)) (λ k h. before nodes first x k d b (omega (arith, l)) h) (λ h. eq-eqb _ x e) in
     sym (place_found (λ n. n.id == x) nodes (omega (arith, at, l)) ∙ ap Some at)
 
-pub none_by_halves : (nodes : List Node) (first x : ℕ) (d : Node) → AreBelow nodes first x → AreFrom nodes first x → first ≤ length nodes → (first < length nodes → (get_or nodes first d).id ≢ x) → AreRising nodes → None ≡ node_with nodes x
+pub none_by_halves : (nodes : List Node) (first x : ℕ) (d : Node) → AreSmallerBefore nodes first x → AreFrom nodes first x → first ≤ length nodes → (first < length nodes → (get_or nodes first d).id ≢ x) → AreRising nodes → None ≡ node_with nodes x
 none_by_halves nodes first x d b f l ne r =
     let at : position_or_len (λ n. n.id == x) nodes ≡ length nodes = position_or_len_is (λ n. n.id == x) nodes (length nodes) d (omega arith) (λ k h. elim (cases_lt k first) [
       | inl lt ↦ before nodes first x k d b l lt
@@ -78,13 +78,13 @@ none_by_halves nodes first x d b f l ne r =
 
 -- ---- a guess
 
-pub none_below : (nodes : List Node) (p x : ℕ) → p ≡ 0 → AreBelow nodes p x
+pub none_below : (nodes : List Node) (p x : ℕ) → p ≡ 0 → AreSmallerBefore nodes p x
 none_below nodes p x z k n l e = absurd (omega (arith, z, l))
 
-pub all_below : (nodes : List Node) (p x : ℕ) (d : Node) → AreRising nodes → p ≢ 0 → p ≤ length nodes → (get_or nodes (p - 1) d).id < x → AreBelow nodes p x
+pub all_below : (nodes : List Node) (p x : ℕ) (d : Node) → AreRising nodes → p ≢ 0 → p ≤ length nodes → (get_or nodes (p - 1) d).id < x → AreSmallerBefore nodes p x
 all_below nodes p x d r nz l h =
     let one : p - 1 + 1 ≡ p = omega (arith, nz) in
-    subst (λ q. AreBelow nodes q x) one (more_below nodes (p - 1) x d r (omega (arith, nz, l)) h)
+    subst (λ q. AreSmallerBefore nodes q x) one (more_below nodes (p - 1) x d r (omega (arith, nz, l)) h)
 
 pub none_from : (nodes : List Node) (p x : ℕ) → p ≡ length nodes → AreFrom nodes p x
 none_from nodes p x z k n l e = absurd (omega (arith, z, l, slice_get_within nodes k n e))

@@ -7,12 +7,12 @@ use Rattle.heap_class.specs.declared.ObjRef.{ObjRef}
 use Rattle.heap_class.specs.Classes.{Class}
 use Rattle.hprof_text.specs.Image.{Image, DumpedObject}
 use Rattle.hprof_text.proofs.Loops.{some_item}
-use Rattle.heap_questions.specs.Graph.{HasId, is_reference_slot, named, object_with, slot_names}
-use Rattle.heap_questions.specs.Search.{AreNodes, HasAllRoots, HasRoots, HasChildren, IsFound, IsNear, IsOffered, IsOrdered, IsSearching, IsWithin, node_with}
+use Rattle.heap_questions.specs.Graph.{HasId, slot_refers, named, object_with, slot_names}
+use Rattle.heap_questions.specs.Search.{AreNodes, HasAllRoots, HasRoots, HasChildren, IsFound, IsNear, IsOfferedTo, IsOrdered, IsSearching, IsWithin, node_with}
 use Rattle.heap_questions.specs.declared.nodes.Node.{Node}
 use Rattle.heap_questions.specs.declared.search.Found.{Found}
 use Rattle.heap_questions.specs.declared.search.Via.TheVariants.{Register, Slot}
-use Rattle.heap_questions.proofs.Placed.{node_place, node_within, object_of_node}
+use Rattle.heap_questions.proofs.NodePlaces.{node_place, node_within, object_of_node}
 use Rattle.heap_questions.proofs.SearchOrder.{next_register, next_slot, ordered_more, ordered_next, registers_looked_at, slots_looked_at}
 use Rattle.heap_questions.proofs.Searching.{IsKept, kept, stepped}
 
@@ -22,18 +22,18 @@ pub named_is : (image : Image) (x s : ℕ) (o : DumpedObject) → object_with im
 unfolding named
 named_is image x s o e = ap (option_and_then (λ o. slot_names image.classes o s)) e
 
-pub slot_is : (classes : List Class) (o : DumpedObject) (s w : ℕ) → s < length o.words → w ≡ get_or o.words s w → is_reference_slot classes o.kind s ≡ true → slot_names classes o s ≡ Some w
+pub slot_is : (classes : List Class) (o : DumpedObject) (s w : ℕ) → s < length o.words → w ≡ get_or o.words s w → slot_refers classes o.kind s ≡ true → slot_names classes o s ≡ Some w
 unfolding slot_names
 slot_is classes o s w h e r = ap (λ b. cond b (slice_get o.words s) None) r ∙ slice_get-get_or o.words s w h ∙ ap Some (sym e)
 
-pub slot_is_none : (classes : List Class) (o : DumpedObject) (s : ℕ) → is_reference_slot classes o.kind s ≡ false → slot_names classes o s ≡ None
+pub slot_is_none : (classes : List Class) (o : DumpedObject) (s : ℕ) → slot_refers classes o.kind s ≡ false → slot_names classes o s ≡ None
 unfolding slot_names
 slot_is_none classes o s r = ap (λ b. cond b (slice_get o.words s) None) r
 
 pub slot_within : (classes : List Class) (o : DumpedObject) (s y : ℕ) → slot_names classes o s ≡ Some y → s < length o.words
 unfolding slot_names
 slot_within classes o s y h =
-    elim (cases_Bool (is_reference_slot classes o.kind s)) [
+    elim (cases_Bool (slot_refers classes o.kind s)) [
       | inl t ↦ slice_get_within o.words s y (sym (ap (λ b. cond b (slice_get o.words s) None) t) ∙ h)
       | inr f ↦ absurd (none-some y (sym (ap (λ b. cond b (slice_get o.words s) None) f) ∙ h))
     ]
@@ -88,7 +88,7 @@ looked_past image nodes first head f seen queue slot l n =
 
 -- a slot that names x, which was offered
 pub looked_at : (image : Image) (places : List ObjRef) (nodes : List Node) (first : List Found) (head : ℕ) (f : Found) (seen : List Bool) (queue : List Found) (slot x : ℕ) (seen_after : List Bool) (new : List Found)
-    → AreNodes image places nodes → IsLooking image nodes first head f seen queue slot → named image f.id slot ≡ Some x → IsOffered nodes x (f.depth + 1) (Slot head slot) seen queue seen_after new → IsLooking image nodes first head f seen_after new (slot + 1)
+    → AreNodes image places nodes → IsLooking image nodes first head f seen queue slot → named image f.id slot ≡ Some x → IsOfferedTo nodes x (f.depth + 1) (Slot head slot) seen queue seen_after new → IsLooking image nodes first head f seen_after new (slot + 1)
 looked_at image places nodes first head f seen queue slot x seen_after new n l e o =
     let w = slice_get_within queue head f l.here in
     let d = l.search.early head f l.here in
@@ -129,7 +129,7 @@ pub rooting_begins : (image : Image) (nodes : List Node) (seen : List Bool) (que
 rooting_begins image nodes seen queue s w o = record { search = s; within = w; roots = λ n y l. absurd (omega (arith, l)); ordered = o }
 
 pub rooted : (image : Image) (places : List ObjRef) (nodes : List Node) (seen : List Bool) (queue : List Found) (r x : ℕ) (seen_after : List Bool) (new : List Found) → AreNodes image places nodes → IsRooting image nodes seen queue r → slice_get image.registers r ≡ Some x
-    → IsOffered nodes x 0 (Register r) seen queue seen_after new → IsRooting image nodes seen_after new (r + 1)
+    → IsOfferedTo nodes x 0 (Register r) seen queue seen_after new → IsRooting image nodes seen_after new (r + 1)
 rooted image places nodes seen queue r x seen_after new n l e o =
     let k : IsKept image nodes seen_after queue new 0 x 0 = kept image places nodes seen queue 0 x 0 (Register r) seen_after new n l.search l.within (omega arith) (omega arith) (refl, e) o in
     record {

@@ -12,7 +12,7 @@ use Rattle.std.proofs.lemmas.Option.{slice_get-get_or, slice_get_within, get_or_
 use Rattle.heap_class.specs.declared.ObjKind.{ObjKind}
 use Rattle.heap_class.specs.Classes.{Class}
 use Rattle.hprof_text.specs.Image.{Image, DumpedObject}
-use Rattle.heap_questions.specs.Graph.{slot_names, is_reference_slot}
+use Rattle.heap_questions.specs.Graph.{slot_names, slot_refers}
 use Rattle.heap_questions.specs.Referrers.{names_at, naming_slots}
 use Rattle.heap_questions.specs.declared.references.Referrer.{Referrer}
 
@@ -39,7 +39,7 @@ fails p f n old now t h =
     h ∙ ap (λ l. old ++ l) (sym (passing_more p f n ∙ ap (λ b. passing p f n ++ map f (cond b (n ∷ []) [])) t ∙ append-nil (passing p f n)))
 
 -- slot s of an object, whose word is w, names x
-pub named_so : (classes : List Class) (x : ℕ) (o : DumpedObject) (s w : ℕ) → s < length o.words → w ≡ get_or o.words s w → is_reference_slot classes o.kind s ≡ true → w ≡ x → names_at classes x o s ≡ true
+pub named_so : (classes : List Class) (x : ℕ) (o : DumpedObject) (s w : ℕ) → s < length o.words → w ≡ get_or o.words s w → slot_refers classes o.kind s ≡ true → w ≡ x → names_at classes x o s ≡ true
 unfolding slot_names
 named_so classes x o s w h e r n =
     ap (λ b. option_map_or (λ y. y == x) (cond b (slice_get o.words s) None) false) r
@@ -49,13 +49,13 @@ named_so classes x o s w h e r n =
 pub other_word : (classes : List Class) (x : ℕ) (o : DumpedObject) (s w : ℕ) → s < length o.words → w ≡ get_or o.words s w → w ≢ x → names_at classes x o s ≡ false
 unfolding slot_names
 other_word classes x o s w h e n =
-    by_kind (is_reference_slot classes o.kind s)
+    by_kind (slot_refers classes o.kind s)
   where
     by_kind : (b : Bool) → option_map_or (λ y. y == x) (cond b (slice_get o.words s) None) false ≡ false
     by_kind false = refl
     by_kind true = ap (λ y. option_map_or (λ y. y == x) y false) (slice_get-get_or o.words s w h ∙ ap Some (sym e)) ∙ ne_eqb w x n
 
-pub no_reference : (classes : List Class) (x : ℕ) (o : DumpedObject) (s : ℕ) → is_reference_slot classes o.kind s ≡ false → names_at classes x o s ≡ false
+pub no_reference : (classes : List Class) (x : ℕ) (o : DumpedObject) (s : ℕ) → slot_refers classes o.kind s ≡ false → names_at classes x o s ≡ false
 unfolding slot_names
 no_reference classes x o s r = ap (λ b. option_map_or (λ y. y == x) (cond b (slice_get o.words s) None) false) r
 

@@ -6,12 +6,12 @@ use Rattle.std.proofs.lemmas.List.{length-reverse, reverse-append, reverse-rever
 use Rattle.std.proofs.lemmas.Option.{none-some, same_Some}
 use Rattle.hprof_text.specs.Image.{Image}
 use Rattle.heap_questions.specs.Graph.{AreAtMost, HasId, IsPathTo, followed, named}
-use Rattle.heap_questions.specs.Search.{Earlier, HasOrder, IsChain, IsFound, IsOrdered, IsReachedBy, IsSearched, LeadsBy}
+use Rattle.heap_questions.specs.Search.{Earlier, HasSearchOrder, IsWayBack, IsFound, IsOrdered, IsReachedBy, IsSearched, LeadsBy}
 use Rattle.heap_questions.specs.declared.search.Found.{Found}
 use Rattle.heap_questions.specs.declared.search.Via.{Via}
 use Rattle.heap_questions.specs.declared.search.Via.TheVariants.{Register, Slot}
-use Rattle.heap_questions.proofs.Got.{got_same}
-use Rattle.heap_questions.proofs.Traced.{named_object}
+use Rattle.heap_questions.proofs.LongerLists.{got_same}
+use Rattle.heap_questions.proofs.TracedPaths.{named_object}
 
 -- ---- paths by their length, then by register, then by slot
 
@@ -58,7 +58,7 @@ way_same : (queue : List Found) (k : ℕ) (f g : Found) (v w : Via) → slice_ge
 way_same queue k f g v w h i e m = sym e ∙ ap (λ (f : Found). f.via) (got_same queue k f g h i) ∙ m
 
 -- what stands at a place has one chain
-one_chain : (queue : List Found) (k r q : ℕ) (b c : List ℕ) → IsChain queue k r b → IsChain queue k q c → (r ≡ q) × (b ≡ c)
+one_chain : (queue : List Found) (k r q : ℕ) (b c : List ℕ) → IsWayBack queue k r b → IsWayBack queue k q c → (r ≡ q) × (b ≡ c)
 one_chain queue k r q [] [] h i = let e = way_same queue k h.0 i.0 (Register r) (Register q) h.1 i.1 h.2 i.2 in (cc, refl)
 one_chain queue k r q [] (t ∷ c) h i = let e = way_same queue k h.0 i.0 (Register r) (Slot i.1 t) h.1 i.2 h.2 i.3 in cc
 one_chain queue k r q (s ∷ b) [] h i = let e = way_same queue k h.0 i.0 (Slot h.1 s) (Register q) h.2 i.1 h.3 i.2 in cc
@@ -66,31 +66,31 @@ one_chain queue k r q (s ∷ b) (t ∷ c) h i =
     let e : Slot h.1 s ≡ Slot i.1 t = way_same queue k h.0 i.0 (Slot h.1 s) (Slot i.1 t) h.2 i.2 h.3 i.3 in
     let p : h.1 ≡ i.1 = cc in
     let same : s ≡ t = cc in
-    let o = one_chain queue h.1 r q b c h.4 (subst (λ n. IsChain queue n q c) (sym p) i.4) in
+    let o = one_chain queue h.1 r q b c h.4 (subst (λ n. IsWayBack queue n q c) (sym p) i.4) in
     (o.0, ap₂ (λ (n : ℕ) (l : List ℕ). n ∷ l) same o.1)
 
 -- what was found before has the chain that comes before
-chains_rise : (image : Image) (queue : List Found) (next : Via) → IsOrdered image queue next → (b c : List ℕ) (i j r q : ℕ) → i < j → IsChain queue i r b → IsChain queue j q c → Before r b q c
+chains_rise : (image : Image) (queue : List Found) (next : Via) → IsOrdered image queue next → (b c : List ℕ) (i j r q : ℕ) → i < j → IsWayBack queue i r b → IsWayBack queue j q c → Before r b q c
 chains_rise image queue next o [] [] i j r q l h k = subst (λ (v : Via). Earlier v (Register q)) h.2 (subst (λ (w : Via). Earlier h.0.via w) k.2 (o.sorted i j h.0 k.0 l h.1 k.1))
 chains_rise image queue next o [] (t ∷ c) i j r q l h k = tt
 chains_rise image queue next o (s ∷ b) [] i j r q l h k = subst (λ (v : Via). Earlier v (Register q)) h.3 (subst (λ (w : Via). Earlier h.0.via w) k.2 (o.sorted i j h.0 k.0 l h.2 k.1))
 chains_rise image queue next o (s ∷ b) (t ∷ c) i j r q l h k = elim (subst (λ (v : Via). Earlier v (Slot k.1 t)) h.3 (subst (λ (w : Via). Earlier h.0.via w) k.3 (o.sorted i j h.0 k.0 l h.2 k.2))) [
   | inl m ↦ inl (chains_rise image queue next o b c h.1 k.1 r q m h.4 k.4)
   | inr m ↦
-      let e = one_chain queue h.1 r q b c h.4 (subst (λ n. IsChain queue n q c) (sym m.0) k.4) in
+      let e = one_chain queue h.1 r q b c h.4 (subst (λ n. IsWayBack queue n q c) (sym m.0) k.4) in
       inr (e.0, e.1, m.1)
 ]
 
 -- each that was found has a chain
-chain_there : (image : Image) (queue : List Found) → IsSearched image queue → (d k : ℕ) (f : Found) → slice_get queue k ≡ Some f → f.depth ≤ d → (r : ℕ) × (b : List ℕ) × IsChain queue k r b
+chain_there : (image : Image) (queue : List Found) → IsSearched image queue → (d k : ℕ) (f : Found) → slice_get queue k ≡ Some f → f.depth ≤ d → (r : ℕ) × (b : List ℕ) × IsWayBack queue k r b
 chain_there image queue s zero k f h l = go f.via refl (s.reached k f h)
   where
-    go : (via : Via) → f.via ≡ via → IsReachedBy image queue f.id f.depth via → (r : ℕ) × (b : List ℕ) × IsChain queue k r b
+    go : (via : Via) → f.via ≡ via → IsReachedBy image queue f.id f.depth via → (r : ℕ) × (b : List ℕ) × IsWayBack queue k r b
     go (Register r) e m = (r, [], (f, h, e))
     go (Slot p t) e m = absurd (omega (arith, m.2, l))
 chain_there image queue s (suc d) k f h l = go f.via refl (s.reached k f h) (λ j g i m. chain_there image queue s d j g i m)
   where
-    go : (via : Via) → f.via ≡ via → IsReachedBy image queue f.id f.depth via → ((j : ℕ) (g : Found) → slice_get queue j ≡ Some g → g.depth ≤ d → (r : ℕ) × (b : List ℕ) × IsChain queue j r b) → (r : ℕ) × (b : List ℕ) × IsChain queue k r b
+    go : (via : Via) → f.via ≡ via → IsReachedBy image queue f.id f.depth via → ((j : ℕ) (g : Found) → slice_get queue j ≡ Some g → g.depth ≤ d → (r : ℕ) × (b : List ℕ) × IsWayBack queue j r b) → (r : ℕ) × (b : List ℕ) × IsWayBack queue k r b
     go (Register r) e m rest = (r, [], (f, h, e))
     go (Slot p t) e m rest = let c = rest p m.0 m.1 (omega (arith, m.2, l)) in (c.0, t ∷ c.1, (f, p, h, e, c.2))
 
@@ -110,7 +110,7 @@ leads_found image queue s q (t ∷ c) x h o =
 
 -- the chain of what was found comes before each path to it, or is that path
 chain_first : (image : Image) (queue : List Found) (next : Via) → IsSearched image queue → IsOrdered image queue next → (q : ℕ) (c : List ℕ) (x : ℕ) → LeadsTo image q c x → HasId image x
-    → (k : ℕ) (f : Found) (r : ℕ) (b : List ℕ) → slice_get queue k ≡ Some f → f.id ≡ x → IsChain queue k r b → AtMost r b q c
+    → (k : ℕ) (f : Found) (r : ℕ) (b : List ℕ) → slice_get queue k ≡ Some f → f.id ≡ x → IsWayBack queue k r b → AtMost r b q c
 chain_first image queue next s o q [] x h there k f r [] g e i =
     let no : ¬ Earlier (Register q) (Register r) = subst (λ (v : Via). ¬ Earlier (Register q) v) (i.2) (o.first k i.0 (Register q) i.1 (subst (λ y. slice_get image.registers q ≡ Some y) (sym (ap (λ (f : Found). f.id) (got_same queue k i.0 f i.1 g) ∙ e)) h)) in
     elim (cases_lt q r) [
@@ -136,7 +136,7 @@ chain_first image queue next s o q (t ∷ c) x h there k f r (u ∷ b) g e i =
         | inl m ↦ inl (inl (before_most r b chain.0 chain.1 q c (chains_rise image queue next o b chain.1 i.1 p r chain.0 m i.4 chain.2) most))
         | inr m ↦
             let same : i.1 ≡ p = omega (arith, l, m) in
-            let one = one_chain queue i.1 r chain.0 b chain.1 i.4 (subst (λ n. IsChain queue n chain.0 chain.1) (sym same) chain.2) in
+            let one = one_chain queue i.1 r chain.0 b chain.1 i.4 (subst (λ n. IsWayBack queue n chain.0 chain.1) (sym same) chain.2) in
             by_slot u one (λ v. no (inr (sym same, v))) most
       ]
     ]
@@ -225,7 +225,7 @@ leads_to image q slots x p = go (slice_get image.registers q) refl p.leads
     go (Some y) e h = subst (λ (l : List ℕ). LeadsTo image q l x) (no_more (reverse slots)) (walked image q slots [] y x e h)
 
 -- the way on which an object was found is the first of all with as many slots
-pub found_first : (image : Image) (queue : List Found) (k : ℕ) (f : Found) (r : ℕ) (slots : List ℕ) (x : ℕ) → IsSearched image queue → HasOrder image queue → slice_get queue k ≡ Some f → f.id ≡ x → IsChain queue k r (reverse slots)
+pub found_first : (image : Image) (queue : List Found) (k : ℕ) (f : Found) (r : ℕ) (slots : List ℕ) (x : ℕ) → IsSearched image queue → HasSearchOrder image queue → slice_get queue k ≡ Some f → f.id ≡ x → IsWayBack queue k r (reverse slots)
     → (q : ℕ) (others : List ℕ) → IsPathTo image q others x → length others ≡ length slots → AreAtMost (r ∷ slots) (q ∷ others)
 found_first image queue k f r slots x s o g e i q others p n =
     let m = chain_first image queue o.0 s o.1 q (reverse others) x (leads_to image q others x p) p.there k f r (reverse slots) g e i in

@@ -9,7 +9,7 @@ use Rattle.heap_class.specs.declared.IdSize.{IdSize}
 use Rattle.hprof_text.specs.Image.{Image, DumpedObject}
 use Rattle.heap_questions.specs.Graph.{IsPathTo, IsUnreached, named, followed}
 use Rattle.heap_questions.specs.Garbage.{IsGarbage, is_reached}
-use Rattle.heap_questions.specs.Histogram.{rows_of, unmarked}
+use Rattle.heap_questions.specs.Histogram.{rows_of, without_marked}
 use Rattle.heap_questions.specs.Search.{AreNodes, AreReached, AreSeen, IsFound, IsReachedBy, IsSearched, node_with}
 use Rattle.heap_questions.specs.declared.nodes.Node.{Node}
 use Rattle.heap_questions.specs.declared.rows.Row.{Row}
@@ -17,8 +17,8 @@ use Rattle.heap_questions.specs.declared.search.Found.{Found}
 use Rattle.heap_questions.specs.declared.search.Via.{Via}
 use Rattle.heap_questions.specs.declared.search.Via.TheVariants.{Register, Slot}
 use Rattle.heap_questions.proofs.Counting.{unmarked_is_filter}
-use Rattle.heap_questions.proofs.Placed.{one_id}
-use Rattle.heap_questions.proofs.Traced.{path_found}
+use Rattle.heap_questions.proofs.NodePlaces.{one_id}
+use Rattle.heap_questions.proofs.TracedPaths.{path_found}
 
 -- ---- a path to each that was found
 
@@ -101,12 +101,12 @@ of_ids f (n ∷ ns) = ap (λ (bs : List Bool). f n.id ∷ bs) (of_ids f ns)
 
 -- the rows of the objects that aren't marked are those of the garbage
 pub is_garbage : (ids : IdSize) (image : Image) (places : List ObjRef) (nodes : List Node) (seen : List Bool) (queue : List Found) (marks : List Bool) (rows : List Row) → AreNodes image places nodes → IsSearched image queue → AreSeen nodes seen queue
-    → marks ≡ map (λ n. is_reached nodes seen n.id) nodes → rows ≡ rows_of ids image.classes (unmarked marks image.objects) → IsGarbage ids image rows
+    → marks ≡ map (λ n. is_reached nodes seen n.id) nodes → rows ≡ rows_of ids image.classes (without_marked marks image.objects) → IsGarbage ids image rows
 is_garbage ids image places nodes seen queue marks rows n s a m e =
     let f : ℕ → Bool = is_reached nodes seen in
     let t : DumpedObject → Bool = λ o. not (f o.id) in
     let same : marks ≡ map f (map (λ o. o.id) image.objects) = m ∙ of_ids f nodes ∙ ap (map f) n.ids in (
       t,
       λ o c. unreached_is image nodes seen queue o.id s a,
-      e ∙ ap (λ bs. rows_of ids image.classes (unmarked bs image.objects)) same ∙ ap (rows_of ids image.classes) (unmarked_is_filter f image.objects),
+      e ∙ ap (λ bs. rows_of ids image.classes (without_marked bs image.objects)) same ∙ ap (rows_of ids image.classes) (unmarked_is_filter f image.objects),
     )

@@ -6,13 +6,13 @@ use Rattle.std.proofs.lemmas.Bool.{true≢false}
 use Rattle.heap_class.specs.declared.ObjRef.{ObjRef}
 use Rattle.hprof_text.specs.Image.{Image}
 use Rattle.heap_questions.specs.Graph.{HasId, named}
-use Rattle.heap_questions.specs.Search.{AreNodes, Earlier, HasAllRoots, HasChildren, HasRoots, IsFound, IsOffered, IsOrdered, IsReachedBy, IsSearching, LeadsBy, node_with}
+use Rattle.heap_questions.specs.Search.{AreNodes, Earlier, HasAllRoots, HasChildren, HasRoots, IsFound, IsOfferedTo, IsOrdered, IsReachedBy, IsSearching, LeadsBy, node_with}
 use Rattle.heap_questions.specs.declared.nodes.Node.{Node}
 use Rattle.heap_questions.specs.declared.search.Found.{Found}
 use Rattle.heap_questions.specs.declared.search.Via.{Via}
 use Rattle.heap_questions.specs.declared.search.Via.TheVariants.{Register, Slot}
-use Rattle.heap_questions.proofs.Got.{got_cases, got_same}
-use Rattle.heap_questions.proofs.Placed.{object_found}
+use Rattle.heap_questions.proofs.LongerLists.{got_cases, got_same}
+use Rattle.heap_questions.proofs.NodePlaces.{object_found}
 
 pub ordered_none : (image : Image) (next : Via) → IsOrdered image [] next
 ordered_none image next = record {
@@ -96,7 +96,7 @@ ordered_added image places nodes seen queue head g next n s o looked a e r there
 
 -- an offer keeps the order
 pub ordered_more : (image : Image) (places : List ObjRef) (nodes : List Node) (seen : List Bool) (queue : List Found) (head x d : ℕ) (via next : Via) (seen_after : List Bool) (new : List Found) → AreNodes image places nodes → IsSearching image nodes seen queue head
-    → IsOrdered image queue via → AreLookedAt image queue via → IsAfter via next → Earlier via next → IsReachedBy image queue x d via → IsOffered nodes x d via seen queue seen_after new → IsOrdered image new next
+    → IsOrdered image queue via → AreLookedAt image queue via → IsAfter via next → Earlier via next → IsReachedBy image queue x d via → IsOfferedTo nodes x d via seen queue seen_after new → IsOrdered image new next
 ordered_more image places nodes seen queue head x d via next seen_after new n s o looked a e r (inl f) = subst (λ (q : List Found). IsOrdered image q next) (sym f.1) (ordered_next image queue via next a o)
 ordered_more image places nodes seen queue head x d via next seen_after new n s o looked a e r (inr f) =
     let g : Found = record { node = f.0; id = x; depth = d; via = via } in

@@ -8,13 +8,13 @@ use Rattle.std.proofs.lemmas.Bool.{cases_eq, true≢false}
 use Rattle.heap_class.specs.declared.ObjRef.{ObjRef}
 use Rattle.hprof_text.specs.Image.{Image}
 use Rattle.heap_questions.specs.Graph.{HasId, named}
-use Rattle.heap_questions.specs.Search.{AreNodes, HasRoots, HasChildren, HasAllChildren, IsFound, IsNear, IsOffered, IsReached, IsReachedBy, IsRising, IsSearched, IsSearching, IsWithin, AreSeen, node_with}
+use Rattle.heap_questions.specs.Search.{AreNodes, HasRoots, HasChildren, HasAllChildren, IsFound, IsNear, IsOfferedTo, IsReached, IsReachedBy, IsRising, IsSearched, IsSearching, IsWithin, AreSeen, node_with}
 use Rattle.heap_questions.specs.declared.nodes.Node.{Node}
 use Rattle.heap_questions.specs.declared.search.Found.{Found}
 use Rattle.heap_questions.specs.declared.search.Via.{Via}
 use Rattle.heap_questions.specs.declared.search.Via.TheVariants.{Register, Slot}
-use Rattle.heap_questions.proofs.Got.{got_before, got_last, got_cases, got_same}
-use Rattle.heap_questions.proofs.Placed.{node_of_object, node_within, object_found, one_id}
+use Rattle.heap_questions.proofs.LongerLists.{got_before, got_last, got_cases, got_same}
+use Rattle.heap_questions.proofs.NodePlaces.{node_of_object, node_within, object_found, one_id}
 
 -- ---- one more is found
 
@@ -122,7 +122,7 @@ grown image nodes seen queue head g s w =
     }
 
 pub kept : (image : Image) (places : List ObjRef) (nodes : List Node) (seen : List Bool) (queue : List Found) (head x d : ℕ) (via : Via) (seen_after : List Bool) (new : List Found)
-    → AreNodes image places nodes → IsSearching image nodes seen queue head → IsWithin queue d → head ≤ length queue → d ≤ length queue → IsReachedBy image queue x d via → IsOffered nodes x d via seen queue seen_after new
+    → AreNodes image places nodes → IsSearching image nodes seen queue head → IsWithin queue d → head ≤ length queue → d ≤ length queue → IsReachedBy image queue x d via → IsOfferedTo nodes x d via seen queue seen_after new
     → IsKept image nodes seen_after queue new head x d
 kept image places nodes seen queue head x d via seen_after new n s w hd dl r (inl o) =
     let k = same image nodes seen queue head x d s w (skipped image places nodes seen queue head x d n s w o.2) in

@@ -9,11 +9,11 @@ use Rattle.heap_class.specs.Classes.{Class, slots_of}
 use Rattle.hprof_text.specs.Image.{Image, DumpedObject}
 
 -- slot s of an object of this kind holds a reference, if it is there
-unfoldable pub is_reference_slot : List Class → ObjKind → ℕ → Bool
-is_reference_slot classes (Instance k) s =
+unfoldable pub slot_refers : List Class → ObjKind → ℕ → Bool
+slot_refers classes (Instance k) s =
     option_map_or is_reference (slice_get (slots_of classes k) s) false
-is_reference_slot classes (Array k) s = true
-is_reference_slot classes (Prim kind) s = is_reference kind
+slot_refers classes (Array k) s = true
+slot_refers classes (Prim kind) s = is_reference kind
 
 -- the object with this id, the first if there are several
 unfoldable pub object_with : Image → ℕ → Option DumpedObject
@@ -25,7 +25,7 @@ HasId image x = IsSome (object_with image x)
 
 -- what slot s of an object names; none if it isn't there or holds a value
 unfoldable pub slot_names : List Class → DumpedObject → ℕ → Option ℕ
-slot_names classes o s = if is_reference_slot classes o.kind s then slice_get o.words s else None
+slot_names classes o s = if slot_refers classes o.kind s then slice_get o.words s else None
 
 -- what slot s of the object x names
 unfoldable pub named : Image → ℕ → ℕ → Option ℕ
@@ -53,8 +53,8 @@ AreAtMost (x ∷ xs) [] = ⊥
 AreAtMost (x ∷ xs) (y ∷ ys) = (x < y) ⊎ ((x ≡ y) × AreAtMost xs ys)
 
 -- of all paths to x with as many slots, it is the first by register, then by slot
-abbrev pub IsFirst : Image → ℕ → List ℕ → ℕ → Type 0
-IsFirst image r slots x =
+abbrev pub IsFirstPath : Image → ℕ → List ℕ → ℕ → Type 0
+IsFirstPath image r slots x =
     (q : ℕ) (others : List ℕ) → IsPathTo image q others x → length others ≡ length slots
     → AreAtMost (r ∷ slots) (q ∷ others)
 

@@ -25,6 +25,7 @@ value_size ids classes (Instance k) n = instance_size ids classes k
 value_size ids classes (Array k) n = id_bytes ids * n
 value_size ids classes (Prim kind) n = width_of ids kind * n
 
+-- the size of an object's values in bytes
 abbrev pub object_bytes : IdSize → List Class → DumpedObject → ℕ
 object_bytes ids classes o = value_size ids classes o.kind (length o.words)
 
@@ -51,9 +52,11 @@ histogram_of ids image = rows_of ids image.classes image.objects
 
 -- ---- counting
 
+-- a row that counts no object
 abbrev pub no_objects : Row
 no_objects = record { objects = 0; bytes = 0 }
 
+-- row g, or one without objects
 abbrev pub row_at : List Row → ℕ → Row
 row_at rows g = slice_index_or rows g no_objects
 
@@ -70,10 +73,10 @@ abbrev pub counted_unless : Bool → ℕ → ℕ → List Row → List Row
 counted_unless marked g n rows = if marked then rows else with_counted rows g n
 
 -- the objects without those that are marked; past the last mark none is
-abbrev pub unmarked : List Bool → List DumpedObject → List DumpedObject
-unmarked [] objects = objects
-unmarked (b ∷ bs) [] = []
-unmarked (b ∷ bs) (o ∷ os) = if b then unmarked bs os else o ∷ unmarked bs os
+abbrev pub without_marked : List Bool → List DumpedObject → List DumpedObject
+without_marked [] objects = objects
+without_marked (b ∷ bs) [] = []
+without_marked (b ∷ bs) (o ∷ os) = if b then without_marked bs os else o ∷ without_marked bs os
 
 -- these objects were counted
 pub record AreRows (ids : IdSize) (classes : List Class) (counted : List DumpedObject)

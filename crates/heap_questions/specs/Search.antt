@@ -20,11 +20,11 @@ AreRising nodes =
     (i j : ℕ) (a b : Node) → i ≤ j → slice_get nodes i ≡ Some a → slice_get nodes j ≡ Some b
     → a.id ≤ b.id
 
--- the nodes before place p have smaller ids
-abbrev pub AreBelow : List Node → ℕ → ℕ → Type 0
-AreBelow nodes p x = (k : ℕ) (n : Node) → k < p → slice_get nodes k ≡ Some n → n.id < x
+-- the nodes before place p have ids smaller than x
+abbrev pub AreSmallerBefore : List Node → ℕ → ℕ → Type 0
+AreSmallerBefore nodes p x = (k : ℕ) (n : Node) → k < p → slice_get nodes k ≡ Some n → n.id < x
 
--- the nodes from place p on have none
+-- the nodes from place p on have ids of at least x
 abbrev pub AreFrom : List Node → ℕ → ℕ → Type 0
 AreFrom nodes p x = (k : ℕ) (n : Node) → p ≤ k → slice_get nodes k ≡ Some n → x ≤ n.id
 
@@ -44,6 +44,7 @@ IsReachedBy image queue x d (Slot parent s) =
     (p : Found) × (slice_get queue parent ≡ Some p) × (d ≡ p.depth + 1)
     × (named image p.id s ≡ Some x)
 
+-- so was what stands in the queue
 abbrev pub IsReached : Image → List Found → Found → Type 0
 IsReached image queue f = IsReachedBy image queue f.id f.depth f.via
 
@@ -96,24 +97,26 @@ pub record IsSearching (image : Image) (nodes : List Node) (seen : List Bool) (q
   pub closed : (k : ℕ) (f : Found) → k < head → slice_get queue k ≡ Some f
       → HasAllChildren image queue f.id (f.depth + 1)
 
--- x was offered to a search: it was skipped, or added behind what was found before
-abbrev pub IsSkipped : List Node → ℕ → List Bool → List Found → List Bool → List Found → Type 0
-IsSkipped nodes x seen queue seen_after queue_after =
+-- x was offered to a search and skipped: it is no object, or was found before
+abbrev pub IsPassedOver : List Node → ℕ → List Bool → List Found → List Bool → List Found → Type 0
+IsPassedOver nodes x seen queue seen_after queue_after =
     (seen_after ≡ seen) × (queue_after ≡ queue)
     × ((j : ℕ) → node_with nodes x ≡ Some j → slice_index_or seen j false ≡ true)
 
-abbrev pub IsAdded : List Node → ℕ → ℕ → Via → List Bool → List Found → List Bool → List Found
+-- x was offered to a search and added behind what was found before
+abbrev pub IsFoundNow : List Node → ℕ → ℕ → Via → List Bool → List Found → List Bool → List Found
     → Type 0
-IsAdded nodes x d via seen queue seen_after queue_after =
+IsFoundNow nodes x d via seen queue seen_after queue_after =
     (j : ℕ) × (node_with nodes x ≡ Some j) × (slice_index_or seen j false ≡ false)
     × (seen_after ≡ slice_set seen j true)
     × (queue_after ≡ queue ++ record { node = j; id = x; depth = d; via = via } ∷ [])
 
-abbrev pub IsOffered : List Node → ℕ → ℕ → Via → List Bool → List Found → List Bool → List Found
+-- x was offered to a search: it was skipped or added
+abbrev pub IsOfferedTo : List Node → ℕ → ℕ → Via → List Bool → List Found → List Bool → List Found
     → Type 0
-IsOffered nodes x d via seen queue seen_after queue_after =
-    IsSkipped nodes x seen queue seen_after queue_after
-    ⊎ IsAdded nodes x d via seen queue seen_after queue_after
+IsOfferedTo nodes x d via seen queue seen_after queue_after =
+    IsPassedOver nodes x seen queue seen_after queue_after
+    ⊎ IsFoundNow nodes x d via seen queue seen_after queue_after
 
 -- all that registers reach has been found, each object at its least depth
 pub record IsSearched (image : Image) (queue : List Found) : Type 0 where
@@ -177,12 +180,12 @@ pub record IsOrdered (image : Image) (queue : List Found) (next : Via) : Type 0 
   pub behind : (k : ℕ) (f : Found) → slice_get queue k ≡ Some f → Earlier f.via next
 
 -- so is a queue whose search has ended
-abbrev pub HasOrder : Image → List Found → Type 0
-HasOrder image queue = (next : Via) × IsOrdered image queue next
+abbrev pub HasSearchOrder : Image → List Found → Type 0
+HasSearchOrder image queue = (next : Via) × IsOrdered image queue next
 
 -- register r and these slots, the last first, are the way on which what stands at place k of the queue was found
-abbrev pub IsChain : List Found → ℕ → ℕ → List ℕ → Type 0
-IsChain queue k r [] = (f : Found) × (slice_get queue k ≡ Some f) × (f.via ≡ Register r)
-IsChain queue k r (s ∷ back) =
+abbrev pub IsWayBack : List Found → ℕ → ℕ → List ℕ → Type 0
+IsWayBack queue k r [] = (f : Found) × (slice_get queue k ≡ Some f) × (f.via ≡ Register r)
+IsWayBack queue k r (s ∷ back) =
     (f : Found) × (p : ℕ) × (slice_get queue k ≡ Some f) × (f.via ≡ Slot p s)
-    × IsChain queue p r back
+    × IsWayBack queue p r back

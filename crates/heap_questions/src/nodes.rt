@@ -3,7 +3,7 @@ ghost use Rattle.std.specs.Prelude.{◌≡◌, ◌<◌, ◌≤◌, ◌^◌, ℕ,
 ghost use Rattle.heap_class.specs.declared.Refusal.TheVariants.{NoMemory};
 ghost use Rattle.hprof_text.specs.Image.{object_limit};
 ghost use Rattle.heap_questions.specs.declared.nodes.Node.{Node};
-ghost use Rattle.heap_questions.specs.Search.{AreBelow, AreFrom, AreNodes, AreRising, node_with};
+ghost use Rattle.heap_questions.specs.Search.{AreSmallerBefore, AreFrom, AreNodes, AreRising, node_with};
 
 use heap_class::{ObjRef, Refusal};
 use hprof_text::View;
@@ -80,7 +80,7 @@ fn are_rising(nodes: &[Node]) -> bool
 fn ends_below(nodes: &[Node], place: usize, id: u64) -> bool
     requires rising { AreRising nodes.now }
     requires within { place ≤ length nodes.now }
-    ensures { IsTrue result → AreBelow nodes.now place id }
+    ensures { IsTrue result → AreSmallerBefore nodes.now place id }
 {
     if place == 0 {
         return true;
@@ -104,7 +104,7 @@ fn begins_from(nodes: &[Node], place: usize, id: u64) -> bool
 fn first_by_halves(nodes: &[Node], id: u64) -> usize
     requires { AreRising nodes.now }
     ensures within { result ≤ length nodes.now }
-    ensures below { AreBelow nodes.now result id }
+    ensures below { AreSmallerBefore nodes.now result id }
     ensures above { AreFrom nodes.now result id }
 {
     let mut low = 0;
@@ -124,7 +124,7 @@ fn first_by_halves(nodes: &[Node], id: u64) -> usize
 fn first_from(nodes: &[Node], guess: usize, id: u64) -> usize
     requires { AreRising nodes.now }
     ensures within { result ≤ length nodes.now }
-    ensures below { AreBelow nodes.now result id }
+    ensures below { AreSmallerBefore nodes.now result id }
     ensures above { AreFrom nodes.now result id }
 {
     if guess > nodes.len() {

@@ -3,8 +3,8 @@ ghost use Rattle.std.specs.Prelude.{◌≡◌, ◌==◌, ◌<◌, length, revers
 ghost use Rattle.std.specs.List.{position};
 ghost use Rattle.heap_class.specs.declared.Refusal.TheVariants.{NoMemory};
 ghost use Rattle.hprof_text.specs.Image.{Image};
-ghost use Rattle.heap_questions.specs.Graph.{IsFirst, IsPathTo, IsShortest, IsUnreached};
-ghost use Rattle.heap_questions.specs.Search.{AreReached, IsChain, IsTraceOf};
+ghost use Rattle.heap_questions.specs.Graph.{IsFirstPath, IsPathTo, IsShortest, IsUnreached};
+ghost use Rattle.heap_questions.specs.Search.{AreReached, IsWayBack, IsTraceOf};
 
 use crate::nodes::NodeList;
 use crate::search::{Found, Via, found_at, search};
@@ -24,7 +24,7 @@ fn trace(alloc: Global, queue: &[Found], index: usize) -> Result<Path, Refusal>
     requires reached { (image : Image) × AreReached image queue.now }
     requires there { index < length queue.now }
     ensures path { IfOk result (λ p. IsTraceOf queue.now index p.register p.slots.items) }
-    ensures chain { IfOk result (λ p. IsChain queue.now index p.register (reverse p.slots.items)) }
+    ensures chain { IfOk result (λ p. IsWayBack queue.now index p.register (reverse p.slots.items)) }
     ensures refused { IfErr result (λ e. e ≡ NoMemory) }
 {
     let mut slots = Vec::new(alloc);
@@ -59,7 +59,7 @@ pub fn shortest_path<V: View>(alloc: Global, view: &V, id: u64) -> Result<Option
     ensures shortest { IfOk result (λ found. IfSome found (λ p.
         IsShortest (V.image view.now) p.slots.items id)) }
     ensures first { IfOk result (λ found. IfSome found (λ p.
-        IsFirst (V.image view.now) p.register p.slots.items id)) }
+        IsFirstPath (V.image view.now) p.register p.slots.items id)) }
     ensures none { IfOk result (λ found. IfNone found (IsUnreached (V.image view.now) id)) }
     ensures refused { IfErr result (λ e. e ≡ NoMemory) }
 {

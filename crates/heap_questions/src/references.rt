@@ -2,7 +2,7 @@
 ghost use Rattle.std.specs.Prelude.{◌≡◌, ◌++◌, ◌<◌, length, IfOk, IfErr, OnOk};
 ghost use Rattle.heap_class.specs.declared.Refusal.TheVariants.{NoMemory};
 ghost use Rattle.hprof_text.specs.Image.{IsKnown};
-ghost use Rattle.heap_questions.specs.Graph.{is_reference_slot};
+ghost use Rattle.heap_questions.specs.Graph.{slot_refers};
 ghost use Rattle.heap_questions.specs.Referrers.{dumped, naming_registers, naming_slots, referrers_of};
 
 use heap_class::{FirstClasses, ObjKind, Refusal};
@@ -19,7 +19,7 @@ pub enum Referrer {
 }
 
 // Tells whether a slot of an object of this kind, which has so many words, holds a reference.
-#[tactic(auto, unfolding(crate::specs::Graph::is_reference_slot))]
+#[tactic(auto, unfolding(crate::specs::Graph::slot_refers))]
 pub(crate) fn is_reference_slot(
     classes: &FirstClasses<'_>,
     kind: ObjKind,
@@ -28,7 +28,7 @@ pub(crate) fn is_reference_slot(
 ) -> bool
     requires known { IsKnown classes.now kind words }
     requires within { slot < words }
-    ensures { result ≡ is_reference_slot classes.now kind slot }
+    ensures { result ≡ slot_refers classes.now kind slot }
 {
     match kind {
         ObjKind::Instance(class) => classes.slots(class)[slot as usize].is_reference(),

@@ -3,7 +3,7 @@ ghost use Rattle.std.specs.Prelude.{◌≡◌, ◌+◌, ◌<◌, ◌≤◌, ◌^
 ghost use Rattle.heap_class.specs.Limits.{array_limit, class_limit};
 ghost use Rattle.heap_class.specs.declared.Refusal.TheVariants.{NoMemory};
 ghost use Rattle.hprof_text.specs.Image.{IsKnown};
-ghost use Rattle.heap_questions.specs.Histogram.{class_rows, counted_unless, histogram_of, row_at, row_number, rows_of, unmarked, value_size};
+ghost use Rattle.heap_questions.specs.Histogram.{class_rows, counted_unless, histogram_of, row_at, row_number, rows_of, without_marked, value_size};
 
 use heap_class::{FirstClasses, IdSize, ObjKind, Refusal};
 use hprof_text::View;
@@ -11,7 +11,7 @@ use std::alloc::Global;
 use std::marker::Model;
 
 /// Rows before those of the classes.
-pub(crate) const CLASS_ROWS: usize = 12;
+pub const CLASS_ROWS: usize = 12;
 
 /// Some objects: how many there are, and the bytes of their values.
 #[derive(Clone, Copy, PartialEq, Eq, Debug)]
@@ -105,7 +105,7 @@ pub(crate) fn count_unmarked<V: View>(
     marks: &[bool],
 ) -> Result<Histogram, Refusal>
     ensures rows { IfOk result (λ h. h ≡ rows_of (V.ids view.now) (V.image view.now).classes
-        (unmarked marks.now (V.image view.now).objects)) }
+        (without_marked marks.now (V.image view.now).objects)) }
     ensures refused { IfErr result (λ e. e ≡ NoMemory) }
 {
     let classes = view.classes();

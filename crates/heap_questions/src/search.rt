@@ -1,7 +1,7 @@
 //! A search for all that the registers reach, breadth first.
 ghost use Rattle.std.specs.Prelude.{◌≡◌, ◌+◌, ◌<◌, ◌≤◌, ℕ, length, Some, IfOk, IfErr, OnOk, slice_get};
 ghost use Rattle.heap_class.specs.declared.Refusal.TheVariants.{NoMemory};
-ghost use Rattle.heap_questions.specs.Search.{AreNodes, AreSeen, HasAllRoots, HasOrder, IsNear, IsOffered, IsOrdered, IsSearched, IsSearching, IsWithin, KeepsRoots};
+ghost use Rattle.heap_questions.specs.Search.{AreNodes, AreSeen, HasAllRoots, HasSearchOrder, IsNear, IsOfferedTo, IsOrdered, IsSearched, IsSearching, IsWithin, KeepsRoots};
 ghost use Rattle.heap_questions.specs.declared.search.Via.TheVariants.{Register, Slot};
 
 use crate::nodes::NodeList;
@@ -51,7 +51,7 @@ fn offer(
     via: Via,
 ) -> Result<(), Refusal>
     requires many { length seen.old.items ≡ length nodes.now }
-    ensures done { OnOk result (IsOffered nodes.now id depth via
+    ensures done { OnOk result (IsOfferedTo nodes.now id depth via
         seen.old.items queue.old.items seen.new.items queue.new.items) }
     ensures refused { IfErr result (λ e. e ≡ NoMemory) }
 {
@@ -140,7 +140,7 @@ pub(crate) fn search<V: View>(alloc: Global, view: &V, nodes: &NodeList) -> Resu
     requires { AreNodes (V.image view.now) (V.places view.now) nodes.now }
     ensures searched { IfOk result (λ r. IsSearched (V.image view.now) r.queue.items) }
     ensures seen { IfOk result (λ r. AreSeen nodes.now r.seen.items r.queue.items) }
-    ensures order { IfOk result (λ r. HasOrder (V.image view.now) r.queue.items) }
+    ensures order { IfOk result (λ r. HasSearchOrder (V.image view.now) r.queue.items) }
     ensures refused { IfErr result (λ e. e ≡ NoMemory) }
 {
     let mut seen = vec![in alloc; false; nodes.len()]?;

@@ -1,6 +1,7 @@
 //! Headers of cells, in sixteen bytes each.
 ghost use Rattle.std.specs.Prelude.{◌≡◌, ◌≤◌, Some, None};
 ghost use Rattle.heap_region.specs.Layout.{header_live};
+ghost use Rattle.heap_region.specs.Limits.{region_words};
 
 use heap_class::{ClassNo, Kind, ObjKind};
 use std::marker::Model;
@@ -77,7 +78,7 @@ impl Cell {
     // Returns a cell with an object of this header.
     #[inline(always)]
     pub(crate) fn with_header(header: Header) -> Cell
-        requires { header.len ≤ 1024 }
+        requires { header.len ≤ region_words }
         ensures { result ≡ Some header }
     {
         let (sort, class, kind) = match header.kind {

@@ -3,6 +3,7 @@ ghost use Rattle.std.specs.Prelude.{◌≡◌, ◌*◌, ◌+◌, ◌<◌, ◌≤
 ghost use Rattle.heap_region.specs.Regions.{FitsWords};
 ghost use Rattle.heap_region.specs.Layout.{IsCellSize};
 ghost use Rattle.heap_region.specs.RegionCopies.{frozen, frozen_object, frozen_with, frozen_word_set, frozen_words};
+ghost use Rattle.heap_region.specs.Limits.{region_words};
 
 use crate::cell::Header;
 use crate::storage::{Block, ObjectCopy, Storage, header_at, overwrite, part, set_header};
@@ -71,7 +72,7 @@ impl FrozenRegion {
     /// Returns the size of each cell in words: at most 1,024.
     pub fn cell_size(&self) -> u64
         ensures value { result ≡ self.now.cell_size }
-        ensures limit { result ≤ 1024 }
+        ensures limit { result ≤ region_words }
     {
         self.cell_size as u64
     }

@@ -7,9 +7,9 @@ ghost use Rattle.std.specs.Option.{option_map_or};
 ghost use Rattle.heap_class.specs.Refusals.{IsAnswered};
 ghost use Rattle.heap_class.specs.declared.ObjRef.{ObjRef};
 ghost use Rattle.heap_class.specs.declared.Refusal.TheVariants.{NoMemory};
-ghost use Rattle.heap_region.specs.Limits.{region_limit};
+ghost use Rattle.heap_region.specs.Limits.{region_limit, region_words, cell_limit};
 ghost use Rattle.heap_region.specs.RegionCopies.{region_frozen};
-ghost use Rattle.heap_region.specs.Regions.{FitsWords, Object, UsedRegion, Region, cell_size_for, object_at, object_of, used_at, id_of, ref_of, with_mark, with_word, live_places};
+ghost use Rattle.heap_region.specs.Regions.{FitsWords, Object, UsedRegion, Region, object_at, object_of, used_at, id_of, ref_of, with_mark, with_word, live_places};
 ghost use Rattle.heap_region.specs.Pool.{RegionPool, opening_pool, alloc_refusal, is_fresh, free_place, new_place, taken, freed, released, restored, allocated, unallocated, blank_object};
 ghost use Rattle.heap_region.specs.Legal.{IsCellTable, IsRegionPool};
 ghost use Rattle.heap_region.specs.Layout.{IsCellSize};
@@ -19,12 +19,14 @@ ghost use Rattle.heap_region.specs.Live.{cells_of, live_in, live_from};
 mod cell;
 mod frozen_region;
 mod lists;
+mod sizes;
 mod slots;
 mod storage;
 
 pub use frozen_region::FrozenRegion;
 use heap_class::{ObjKind, ObjRef, Refusal};
 pub use lists::{FreeCells, PoolRegions};
+pub use sizes::{OBJECT_BASE, REGION_WORDS, cell_size_for};
 use slots::{
     find_free_class, first_free_in, free_class, free_in, pool_head, set_live_in, set_mark_in,
     set_pending_in, set_word_in, size_class, slot_at, take_in, unfree_in,
@@ -32,10 +34,6 @@ use slots::{
 use std::alloc::{AllocError, Global};
 use std::marker::Model;
 pub use storage::{ObjectCopy, Storage};
-
-const REGION_WORDS: u64 = 1024;
-
-const OBJECT_BASE: u64 = 0x1000_0000;
 
 /// All regions of a heap, and the pool of the empty ones.
 #[derive(Drop)]
@@ -61,25 +59,6 @@ impl Model for Regions {
 
     ghost invariant = { λ h. IsRegionTable h.slots.items h.free_classes.items (reverse h.pool.items)
         (vec_capacity h.pool) };
-}
-
-/// Returns the cell size for an object of `slots` slots: the least of 4, 16, 64, 256 and 1,024 words that holds them. It is
-/// 1,024 too for more than 1,024 slots, of which `alloc` makes no object.
-#[tactic(auto, unfolding(crate::specs::Regions::cell_size_for))]
-pub fn cell_size_for(slots: u64) -> u64
-    ensures { result ≡ cell_size_for slots }
-{
-    if slots <= 4 {
-        4
-    } else if slots <= 16 {
-        16
-    } else if slots <= 64 {
-        64
-    } else if slots <= 256 {
-        256
-    } else {
-        1024
-    }
 }
 
 impl Regions {
@@ -188,7 +167,7 @@ impl Regions {
     pub fn len(&self, at: ObjRef) -> u64
         requires { IsSome (object_at self.now.regions at) }
         ensures value { IfSome (object_at self.now.regions at) (λ o. result ≡ length o.words) }
-        ensures limit { result ≤ 1024 }
+        ensures limit { result ≤ region_words }
     {
         self.storage(at.region as usize).len(at.cell as usize) as u64
     }
@@ -258,7 +237,7 @@ impl Regions {
     pub fn cell_count(&self, region: u64) -> u16
         requires { IsSome (used_at self.now.regions region) }
         ensures value { result ≡ length (cells_of (used_at self.now.regions region)) }
-        ensures limit { result ≤ 256 }
+        ensures limit { result ≤ cell_limit }
     {
         self.storage(region as usize).cells() as u16
     }
@@ -543,7 +522,7 @@ impl Regions {
     fn size_of(&self, region: usize) -> u64
         ensures value { result
             ≡ option_map_or (λ u. u.cell_size) (used_at self.now.regions region) 0 }
-        ensures limit { result ≤ 1024 }
+        ensures limit { result ≤ region_words }
     {
         match self.used(region) {
             Some(storage) => storage.cell_size() as u64,

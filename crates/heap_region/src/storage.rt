@@ -4,6 +4,7 @@ ghost use Rattle.heap_region.specs.Regions.{FitsWords, cell_object};
 ghost use Rattle.heap_region.specs.Pool.{blank_object, cell_freed, fresh_region};
 ghost use Rattle.heap_region.specs.Layout.{next_link, IsCellSize, IsWholeRegion, words_at, changed_at, word_set, mark_set, live_set, cell_filled, Heads, overwritten, header_live};
 ghost use Rattle.heap_region.specs.Live.{IsNextLive};
+ghost use Rattle.heap_region.specs.Limits.{region_words, cell_limit};
 
 use crate::cell::{Cell, Header};
 use crate::lists::FreeCells;
@@ -184,7 +185,7 @@ fn link_cells(words: &mut [u64], cell_size: usize, count: usize)
 // Writes the header of the object in a cell.
 pub(crate) fn set_header(headers: &mut ArrayVec<Cell, 256>, cell: usize, header: Header)
     requires within { cell < length headers.old.items }
-    requires fits { header.len ≤ 1024 }
+    requires fits { header.len ≤ region_words }
     ensures { headers.new.items ≡ slice_set headers.old.items cell (Some header) }
 {
     headers[cell] = Cell::with_header(header);
@@ -201,7 +202,7 @@ fn set_free(headers: &mut ArrayVec<Cell, 256>, cell: usize)
 // Adds `count` cells to none, all of them free.
 fn add_vacant(headers: &mut ArrayVec<Cell, 256>, count: usize)
     requires none { headers.old.items ≡ [] }
-    requires few { count ≤ 256 }
+    requires few { count ≤ cell_limit }
     ensures { headers.new.items ≡ replicate count None }
 {
     for _ in 0..count {
@@ -214,7 +215,7 @@ impl Block {
     #[inline(never)]
     fn blank(alloc: Global) -> Result<Box<Block>, AllocError>
         ensures { IfOk result
-            (λ b. (b.value.words ≡ replicate 1024 0) × (b.value.headers.items ≡ [])) }
+            (λ b. (b.value.words ≡ replicate region_words 0) × (b.value.headers.items ≡ [])) }
     {
         let blank = Block {
             words: [0; 1024],
@@ -245,7 +246,7 @@ impl Storage {
     /// Returns the number of cells of the region: at most 256.
     pub fn cells(&self) -> u64
         ensures value { result ≡ length self.now.cells }
-        ensures limit { result ≤ 256 }
+        ensures limit { result ≤ cell_limit }
     {
         self.block.headers.len() as u64
     }
@@ -276,7 +277,7 @@ impl Storage {
     // Returns the cell that heads the free list.
     pub(crate) fn first_free(&self) -> Option<usize>
         ensures value { result ≡ slice_get self.now.free 0 }
-        ensures limit { IfSome result (λ cell. cell < 256) }
+        ensures limit { IfSome result (λ cell. cell < cell_limit) }
     {
         if self.head == 0 {
             None
@@ -303,7 +304,7 @@ impl Storage {
     pub(crate) fn len(&self, cell: usize) -> usize
         requires { IsSome (cell_object self.now cell) }
         ensures value { result ≡ length (words_at self.now cell) }
-        ensures limit { result ≤ 1024 }
+        ensures limit { result ≤ region_words }
     {
         header_at(&self.block.headers, cell).len
     }
@@ -345,7 +346,7 @@ impl Storage {
     // Returns the first cell from this one on that has a live object.
     pub(crate) fn next_live(&self, from: usize) -> Option<usize>
         ensures value { IsNextLive self.now from result }
-        ensures limit { IfSome result (λ cell. cell < 256) }
+        ensures limit { IfSome result (λ cell. cell < cell_limit) }
     {
         let headers: &[Cell] = &self.block.headers;
         for cell in from..headers.len() {

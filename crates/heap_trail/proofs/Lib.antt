@@ -32,5 +32,5 @@ pub mod KeptPins
 pub mod Together
 pub mod RewindsOver
 pub mod OpenedPins
-pub mod Lent
-pub mod Shown
+pub mod RetainedRecords
+pub mod ShownPins

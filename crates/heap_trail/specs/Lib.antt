@@ -7,6 +7,6 @@ pub mod Laws
 pub mod Records
 pub mod Past
 pub mod Examples
-pub mod Opened
+pub mod Functions
 pub mod Headline
 pub mod Views

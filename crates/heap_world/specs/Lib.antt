@@ -3,5 +3,5 @@ pub mod State
 pub mod Legal
 pub mod Reach
 pub mod Events
-pub mod Opened
+pub mod Functions
 pub mod HeapParts

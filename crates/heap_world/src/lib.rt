@@ -9,10 +9,11 @@ ghost use Rattle.heap_class.specs.declared.ObjKind.TheVariants.{Instance};
 ghost use Rattle.heap_class.specs.declared.Refusal.TheVariants.{NoMemory, NullRegister, BadSlot, HeapFull};
 ghost use Rattle.heap_region.specs.Regions.{object_at, ref_of, slot_kinds, with_word};
 ghost use Rattle.heap_region.specs.Pool.{new_place, is_fresh, unallocated};
-ghost use Rattle.heap_world.specs.Limits.{AreHeapSettings, HeapSettings};
+ghost use Rattle.heap_world.specs.Limits.{AreHeapSettings, HeapSettings, mutator_limit, registers_each};
 ghost use Rattle.heap_world.specs.State.{HeapState, opening_state, is_register, register, with_register, pool_of, with_pool, place_of, slot_kind, word_of};
 ghost use Rattle.heap_world.specs.Legal.{IsLegal, HasKind};
 ghost use Rattle.heap_world.specs.Events.{after_class, is_full, new_refusal, after_new, put_refusal, after_put};
+ghost use Rattle.heap_region.specs.Limits.{region_words};
 
 mod arrays;
 mod marking;
@@ -185,7 +186,7 @@ fn nulls(alloc: Global, count: usize) -> Result<Vec<u64>, Refusal>
 // Tells whether mutator `m` has a register `r`.
 #[inline(always)]
 fn is_register(registers: &[u64], m: u64, r: u64) -> bool
-    requires { length registers.now ≤ 128 }
+    requires { length registers.now ≤ mutator_limit * registers_each }
     ensures { result ≡ (nat_lt r 8 && nat_lt (8 * m + r) (length registers.now)) }
 {
     r < REGISTERS_EACH && m < MUTATOR_LIMIT && REGISTERS_EACH * m + r < registers.len() as u64
@@ -284,7 +285,7 @@ impl World {
     /// Returns the registers, mutator by mutator, 8 each.
     pub fn registers(&self) -> &[u64]
         ensures value { result.now ≡ self.now.registers }
-        ensures limit { length self.now.registers ≤ 128 }
+        ensures limit { length self.now.registers ≤ mutator_limit * registers_each }
         ensures legal { IsLegal self.now }
     {
         &self.registers
@@ -407,7 +408,7 @@ impl World {
         ensures placed { IfOk result (λ p. p.at ≡ place_of self.old (register self.old m target)) }
         ensures old { IfOk result
             (λ p. p.old ≡ word_of self.old (register self.old m target) slot) }
-        ensures slot { OnOk result (slot < 1024) }
+        ensures slot { OnOk result (slot < region_words) }
         ensures unchanged { OnErr result (self.new ≡ self.old) }
     {
         let at = self.put_place(m, target, slot, value)?;

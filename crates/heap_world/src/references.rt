@@ -5,6 +5,7 @@ ghost use Rattle.heap_region.specs.Regions.{object_at, ref_of, with_word};
 ghost use Rattle.heap_world.specs.State.{is_register, register, with_register, place_of, word_of};
 ghost use Rattle.heap_world.specs.Legal.{IsLegal};
 ghost use Rattle.heap_world.specs.Events.{is_reference_slot, load_refusal, after_load, is_logged, without_last, store_refusal, after_store, move_refusal, after_move, clear_refusal};
+ghost use Rattle.heap_region.specs.Limits.{region_words};
 
 use super::{Loaded, Replaced, World, write_register};
 use heap_class::{ObjRef, Refusal};
@@ -60,7 +61,7 @@ impl World {
             (λ p. p.old ≡ word_of self.old (register self.old m target) slot) }
         ensures logged { IfOk result
             (λ p. p.logged ≡ is_logged self.old (register self.old m target) slot) }
-        ensures slot { OnOk result (slot < 1024) }
+        ensures slot { OnOk result (slot < region_words) }
         ensures unchanged { OnErr result (self.new ≡ self.old) }
     {
         let at = self.store_place(m, target, slot, source)?;

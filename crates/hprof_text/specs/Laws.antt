@@ -19,10 +19,14 @@ IsCut limit subs = AreSegments limit subs (segments_of limit subs)
 abbrev pub NumbersFit : IdSize → Image → ℕ → Type 0
 NumbersFit ids image time = IsDumpable image → time < 2 ^ 64 → HoldsWhole ids image time
 
--- a dump has few pieces: one for each of at most 65,536 objects, 256 classes, their roots and 128 registers, the opening
--- records and the end
+-- the largest number of pieces of a dump: one for each of 65,536 objects, 256 classes, their roots and 128 registers, the
+-- opening records and the end
+abbrev pub piece_limit : ℕ
+piece_limit = 66178
+
+-- a dump has few pieces
 abbrev pub PiecesFew : IdSize → Image → ℕ → Type 0
-PiecesFew ids image time = IsDumpable image → length (pieces_of ids image time) ≤ 66178
+PiecesFew ids image time = IsDumpable image → length (pieces_of ids image time) ≤ piece_limit
 
 -- identifiers that fit are equal if their bytes are
 abbrev pub EqualIds : IdSize → ℕ → ℕ → Type 0

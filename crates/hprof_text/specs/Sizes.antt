@@ -8,6 +8,22 @@ use Rattle.heap_class.specs.Classes.{Class, name_table, instance_size}
 use Rattle.hprof_text.specs.Image.{Image, DumpedObject}
 use Rattle.hprof_text.specs.Segments.{segment_limit, sizes_at, segment_sizes}
 
+-- the largest size of the sub-record of a class
+abbrev pub class_size_limit : ℕ
+class_size_limit = 647
+
+-- the largest size of a sub-record: that of an array of 1,024 identifiers of 8 bytes
+abbrev pub sub_record_limit : ℕ
+sub_record_limit = 8217
+
+-- the largest size of the UTF8 records of a dump: 16,640 names of 64 bytes
+abbrev pub names_size_limit : ℕ
+names_size_limit = 1347840
+
+-- the largest size of the records before the segments
+abbrev pub opening_size_limit : ℕ
+opening_size_limit = 1356340
+
 -- the size of the UTF8 record of a name
 abbrev pub utf8_size : IdSize → List ℕ → ℕ
 utf8_size ids n = 9 + id_bytes ids + length n

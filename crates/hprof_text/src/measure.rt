@@ -1,7 +1,9 @@
 //! The length of a dump, added up from the sizes of its sub-records.
 ghost use Rattle.std.specs.Prelude.{◌≡◌, ◌+◌, ◌*◌, ◌<◌, ◌≤◌, ◌^◌, ℕ, List, [], ◌∷◌, ◌++◌, length, map, replicate};
+ghost use Rattle.heap_class.specs.Limits.{class_limit};
+ghost use Rattle.hprof_text.specs.Image.{object_limit};
 ghost use Rattle.hprof_text.specs.SizeSums.{IsMeasured, total};
-ghost use Rattle.hprof_text.specs.Sizes.{class_size, object_size};
+ghost use Rattle.hprof_text.specs.Sizes.{class_size, class_size_limit, object_size, sub_record_limit};
 
 use crate::sizes::{class_size, dump_size};
 use crate::{SEGMENT_LIMIT, View};
@@ -43,7 +45,7 @@ impl Measure {
     pub fn add_classes(&mut self, ids: IdSize, classes: &FirstClasses<'_>)
         requires { (self.old.closed ≡ 0) × (self.old.body ≡ 0) }
         ensures added { IsMeasured (map (class_size ids) classes.now) self.old self.new }
-        ensures limit { self.new.closed + self.new.body ≤ 256 * 656 }
+        ensures limit { self.new.closed + self.new.body ≤ class_limit * (9 + class_size_limit) }
     {
         for class in 0..classes.len() {
             self.add(class_size(ids, classes, class));
@@ -52,11 +54,11 @@ impl Measure {
 
     /// Adds `count` sub-records of `size` bytes.
     pub fn add_each(&mut self, count: u64, size: u64)
-        requires some { (0 < size) × (size ≤ 9) × (count ≤ 256) }
+        requires some { (0 < size) × (size ≤ 9) × (count ≤ class_limit) }
         requires limit { self.old.closed + self.old.body < 2 ^ 32 }
         ensures added { IsMeasured (replicate count size) self.old self.new }
         ensures limit { self.new.closed + self.new.body
-            ≤ self.old.closed + self.old.body + 256 * 18 }
+            ≤ self.old.closed + self.old.body + class_limit * 18 }
     {
         for _added in 0..count {
             self.add(size);
@@ -69,7 +71,8 @@ impl Measure {
         ensures added { IsMeasured
             (map (object_size (V.ids view.now) (V.image view.now).classes)
             (V.image view.now).objects) self.old self.new }
-        ensures limit { self.new.closed + self.new.body < 2 ^ 24 + 65536 * 8226 }
+        ensures limit { self.new.closed + self.new.body < 2 ^ 24
+            + object_limit * (9 + sub_record_limit) }
     {
         let classes = view.classes();
         let ids = view.id_size();

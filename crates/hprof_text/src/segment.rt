@@ -6,6 +6,7 @@ ghost use Rattle.heap_class.specs.declared.Refusal.TheVariants.{NoMemory};
 ghost use Rattle.hprof_text.specs.SegmentFilling.{takes, IsOffered};
 ghost use Rattle.hprof_text.specs.Image.{IsKnown};
 ghost use Rattle.hprof_text.specs.Records.{class_at};
+ghost use Rattle.hprof_text.specs.Sizes.{sub_record_limit};
 ghost use Rattle.hprof_text.specs.Text.{record_of, class_dump, root_sticky_class, root_unknown, dump_of};
 
 use crate::segment_bytes::SegmentBytes;
@@ -29,13 +30,15 @@ pub struct Segment {
 
 impl Model for Segment {
     ghost use Rattle.std.specs.Prelude.{◌≡◌, ◌≤◌, ◌+◌, ℕ, List, length, drop};
+    ghost use Rattle.hprof_text.specs.Sizes.{sub_record_limit};
 
     ghost Value = { List ℕ };
 
     ghost view = { λ s. drop 9 s.buffer.written };
 
-    ghost invariant = { λ s. (9 ≤ length s.buffer.written) × (length s.buffer.written ≤ 9 + 8217)
-        × (s.buffer.limit ≡ 9 + 8217) };
+    ghost invariant = { λ s. (9 ≤ length s.buffer.written)
+        × (length s.buffer.written ≤ 9 + sub_record_limit)
+        × (s.buffer.limit ≡ 9 + sub_record_limit) };
 }
 
 impl Segment {
@@ -56,14 +59,14 @@ impl Segment {
     /// Returns the size of the body in bytes.
     pub fn len(&self) -> u64
         ensures value { result ≡ length self.now }
-        ensures limit { result ≤ 8217 }
+        ensures limit { result ≤ sub_record_limit }
     {
         (self.buffer.len() - HEAD) as u64
     }
 
     // Tells whether the body takes a sub-record of `size` bytes.
     fn takes(&self, size: u64) -> bool
-        requires { size ≤ 8217 }
+        requires { size ≤ sub_record_limit }
         ensures { result ≡ takes self.now size }
     {
         let length = self.len();
@@ -184,7 +187,7 @@ impl Segment {
     /// Returns the record with this tag and the body. Takes no memory.
     pub fn into_record(self, tag: u8) -> Bytes
         ensures value { result ≡ record_of tag self }
-        ensures limit { length result ≤ 8226 }
+        ensures limit { length result ≤ 9 + sub_record_limit }
     {
         let length = self.len() as u32;
         let Segment { mut buffer } = self;

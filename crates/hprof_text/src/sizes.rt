@@ -1,10 +1,10 @@
 //! The sizes of the parts of a dump in bytes. Each is known from the classes and the number of words, before a byte is written.
 ghost use Rattle.std.specs.Prelude.{◌≡◌, ◌<◌, ◌≤◌, ◌==◌, not, count_by, length};
 ghost use Rattle.heap_class.specs.Classes.{instance_size, name_table};
-ghost use Rattle.heap_class.specs.Limits.{array_limit};
+ghost use Rattle.heap_class.specs.Limits.{array_limit, instance_size_limit};
 ghost use Rattle.hprof_text.specs.Image.{IsKnown, register_limit};
 ghost use Rattle.hprof_text.specs.Records.{class_at};
-ghost use Rattle.hprof_text.specs.Sizes.{names_size, opening_size, class_size, dump_size, root_size};
+ghost use Rattle.hprof_text.specs.Sizes.{names_size, opening_size, class_size, dump_size, root_size, class_size_limit, names_size_limit, opening_size_limit, sub_record_limit};
 
 use heap_class::{ClassNo, FirstClasses, IdSize, ObjKind};
 
@@ -13,7 +13,7 @@ use heap_class::{ClassNo, FirstClasses, IdSize, ObjKind};
 pub fn instance_size(ids: IdSize, classes: &FirstClasses<'_>, class: ClassNo) -> u32
     requires { class < length classes.now }
     ensures value { result ≡ instance_size ids classes.now class }
-    ensures limit { result ≤ 512 }
+    ensures limit { result ≤ instance_size_limit }
 {
     let _slots = classes.slots(class);
     classes.instance_size(ids, class) as u32
@@ -22,7 +22,7 @@ pub fn instance_size(ids: IdSize, classes: &FirstClasses<'_>, class: ClassNo) ->
 /// Returns the size of the UTF8 records.
 pub fn names_size(ids: IdSize, classes: &FirstClasses<'_>) -> u64
     ensures value { result ≡ names_size ids (name_table classes.now) }
-    ensures limit { result ≤ 1347840 }
+    ensures limit { result ≤ names_size_limit }
 {
     let mut size = 0;
     for index in 0..classes.name_count() {
@@ -35,7 +35,7 @@ pub fn names_size(ids: IdSize, classes: &FirstClasses<'_>) -> u64
 #[tactic(auto, unfolding(crate::specs::Sizes::opening_size))]
 pub fn opening_size(ids: IdSize, classes: &FirstClasses<'_>) -> u64
     ensures value { result ≡ opening_size ids classes.now }
-    ensures limit { result ≤ 1356340 }
+    ensures limit { result ≤ opening_size_limit }
 {
     52 + names_size(ids, classes) + (17 + 2 * ids.bytes()) * classes.len()
 }
@@ -44,7 +44,7 @@ pub fn opening_size(ids: IdSize, classes: &FirstClasses<'_>) -> u64
 pub fn class_size(ids: IdSize, classes: &FirstClasses<'_>, class: ClassNo) -> u64
     requires { class < length classes.now }
     ensures value { result ≡ class_size ids (class_at classes.now class) }
-    ensures limit { result ≤ 647 }
+    ensures limit { result ≤ class_size_limit }
     ensures some { 0 < result }
 {
     15 + 7 * ids.bytes() + (1 + ids.bytes()) * classes.field_count(class)
@@ -65,7 +65,7 @@ pub fn dump_size(ids: IdSize, classes: &FirstClasses<'_>, kind: ObjKind, words: 
     requires small { words ≤ array_limit }
     ensures value { result ≡ dump_size ids classes.now kind words }
     ensures some { 0 < result }
-    ensures limit { result ≤ 8217 }
+    ensures limit { result ≤ sub_record_limit }
 {
     match kind {
         ObjKind::Instance(class) => 9

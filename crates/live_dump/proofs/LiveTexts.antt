@@ -18,7 +18,7 @@ use Rattle.heap_lock.specs.Calls.{Call, IsLegalLedger}
 use Rattle.heap_lock.specs.Laws.{pieces_given, state_at}
 use Rattle.heap_lock.proofs.PinTexts.{give_text}
 use Rattle.live_dump.specs.Streams.{TellsStream, PutsLive}
-use Rattle.live_dump.specs.StreamTexts.{IsAlone, PutsText, StreamsText}
+use Rattle.live_dump.specs.StreamTexts.{IsAlone, PutsBeginning, StreamsText}
 
 or_true : (b : Bool) → (b || true) ≡ true
 or_true true = refl

@@ -22,8 +22,8 @@ pub record IsAlone (pin place time : ℕ) (before after seen : List Call)
   pub pieces : pieces_given pin after ≡ given
 
 -- these bytes are put out: a beginning of this text, and all of it if the stream is done
-abbrev pub PutsText : List ℕ → Outgoing → Outgoing → Pumped → Type 0
-PutsText text w w' r =
+abbrev pub PutsBeginning : List ℕ → Outgoing → Outgoing → Pumped → Type 0
+PutsBeginning text w w' r =
     (out rest : List ℕ) × (w'.out ≡ w.out ++ out) × (out ++ rest ≡ text)
     × ((n : ℕ) → r ≡ Done n → rest ≡ [])
 
@@ -34,4 +34,4 @@ abbrev pub StreamsText : HeapSettings → ℕ → ℕ → List Call → List Cal
 StreamsText config pin time start seen found w w' r =
     (s : PutsLive config pin time start seen found w w' r) → IsLegalLedger config seen
     → (place : ℕ) (before after : List Call) → IsAlone pin place time before after seen s.given
-    → PutsText (dump_text config.ids (image_of (state_at config before place)) time) w w' r
+    → PutsBeginning (dump_text config.ids (image_of (state_at config before place)) time) w w' r

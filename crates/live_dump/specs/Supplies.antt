@@ -49,9 +49,9 @@ told_supply given count ended =
     record { told = Some given; ended = ended; left = part_limit - count }
 
 -- the calls that a log has first
-abbrev pub first_in : List (List Call × Unit {0}) → List Call
-first_in [] = []
-first_in (e ∷ es) = e.0
+abbrev pub first_calls : List (List Call × Unit {0}) → List Call
+first_calls [] = []
+first_calls (e ∷ es) = e.0
 
 -- the pieces of a log
 abbrev pub pieces_in : List (Piece × Unit {0}) → List Piece

@@ -22,7 +22,7 @@ pub struct ToldSource<'a, L: Heap, R: Wait> {
 }
 
 impl<'a, L: Heap, R: Wait> Model for ToldSource<'a, L, R> {
-    ghost use Rattle.live_dump.specs.Supplies.{ToldSupply, IsSupplied, first_in, pieces_in};
+    ghost use Rattle.live_dump.specs.Supplies.{ToldSupply, IsSupplied, first_calls, pieces_in};
 
     ghost Value = { ToldSupply };
 
@@ -30,7 +30,7 @@ impl<'a, L: Heap, R: Wait> Model for ToldSource<'a, L, R> {
         record {
           pin = s.source.pin;
           time = s.source.time;
-          start = first_in s.start.items;
+          start = first_calls s.start.items;
           seen = s.source.witness;
           given = pieces_in s.given.items;
           count = s.source.count;
@@ -41,7 +41,7 @@ impl<'a, L: Heap, R: Wait> Model for ToldSource<'a, L, R> {
         (record {
           pin = s.source.pin;
           time = s.source.time;
-          start = first_in s.start.items;
+          start = first_calls s.start.items;
           seen = s.source.witness;
           given = pieces_in s.given.items;
           count = s.source.count;

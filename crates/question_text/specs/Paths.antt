@@ -2,7 +2,7 @@
 use Rattle.std.specs.Prelude.{◌≡◌, ◌⊎◌, ℕ, List, [], ◌∷◌, ◌++◌, codes, length, slice_get, Option, Some, None}
 use Rattle.std.specs.Option.{option_map_or}
 use Rattle.hprof_text.specs.Image.{DumpedObject, Image}
-use Rattle.heap_questions.specs.Graph.{IsFirst, IsPathTo, IsShortest, IsUnreached, named, object_with}
+use Rattle.heap_questions.specs.Graph.{IsFirstPath, IsPathTo, IsShortest, IsUnreached, named, object_with}
 use Rattle.session_text.specs.Replies.{and_number, line}
 use Rattle.question_text.specs.Ids.{and_id}
 use Rattle.question_text.specs.Moments.{no_object_text, unreachable_text}
@@ -32,7 +32,7 @@ IsRouteText image r slots text =
 abbrev pub IsFoundText : ℕ → Image → List ℕ → Type 0
 IsFoundText x image text =
     ((r : ℕ) × (slots : List ℕ) × IsPathTo image r slots x × IsShortest image slots x
-    × IsFirst image r slots x × IsRouteText image r slots text)
+    × IsFirstPath image r slots x × IsRouteText image r slots text)
     ⊎ (IsUnreached image x × (text ≡ unreachable_text))
 
 -- the same about the object with this id, if there is one

@@ -7,23 +7,8 @@ ghost use Rattle.session_text.specs.Grammar.{all_kinds};
 ghost use Rattle.question_text.specs.Names.{IsClassThere, array_name, class_name, kind_array_name, row_name};
 
 use crate::rows::push_words;
-use heap_class::{FirstClasses, Kind, ObjKind, Refusal};
-
-// Rows before those of the classes.
-const CLASS_ROWS: usize = 12;
-
-// All kinds of slots.
-const KINDS: [Kind; 9] = [
-    Kind::Object,
-    Kind::Boolean,
-    Kind::Char,
-    Kind::Float,
-    Kind::Double,
-    Kind::Byte,
-    Kind::Short,
-    Kind::Int,
-    Kind::Long,
-];
+use heap_class::{FirstClasses, KINDS, Kind, ObjKind, Refusal};
+use heap_questions::CLASS_ROWS;
 
 // Returns the kind with a type code.
 fn kind_with(code: usize) -> Option<Kind>

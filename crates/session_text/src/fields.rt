@@ -8,24 +8,11 @@ ghost use Rattle.session_text.specs.declared.TheConstants.{LINE_LIMIT};
 
 use crate::spans::{FieldSpan, FieldSpans};
 use crate::words::{SPACE, Words, word_size};
-use heap_class::{Field, Fields, Kind, Name};
+use heap_class::{Field, Fields, KINDS, Kind, Name};
 use std::alloc::{AllocError, Global};
 
 // The byte between the name and the kind of a field.
 const COLON: u8 = b':';
-
-// All kinds of slots.
-const KINDS: [Kind; 9] = [
-    Kind::Object,
-    Kind::Boolean,
-    Kind::Char,
-    Kind::Float,
-    Kind::Double,
-    Kind::Byte,
-    Kind::Short,
-    Kind::Int,
-    Kind::Long,
-];
 
 /// The size of a field's name, the field's kind, and the size of the whole word.
 #[derive(Clone, Copy)]

@@ -5,8 +5,8 @@ use Rattle.std.proofs.lemmas.Option.{none-some}
 use Rattle.heap_world.specs.State.{HeapState}
 use Rattle.heap_trail.specs.Trail.{state_ago}
 use Rattle.heap_past.specs.declared.steps.PastStep.{PastStep}
-use Rattle.heap_past.specs.Newest.{AreSizes, IsPastStep, id_by, written_at}
-use Rattle.heap_past.proofs.Pushed.{pushed_cases}
+use Rattle.heap_past.specs.Newest.{AreCellSizes, IsPastStep, id_by, written_at}
+use Rattle.heap_past.proofs.PushedItems.{pushed_cases}
 use Rattle.heap_past.proofs.Sizes.{ids_are, reclaimed_within, sizes_step, written_within}
 use Rattle.heap_past.proofs.Walk.{now_is}
 use Rattle.heap_past.proofs.steps.history.Goals as goal
@@ -16,7 +16,7 @@ loop-n-init c =
     let t = c.args.machine.now.trail in
     let sizes = c.in_ok-sizes.sizes.items in
     record {
-      sizes = subst (λ (w : HeapState). AreSizes w sizes) (sym (now_is t)) (subst (λ (w : HeapState). AreSizes w sizes) c.world-world.ensures.value c.in_ok-sizes.ensures.sizes);
+      sizes = subst (λ (w : HeapState). AreCellSizes w sizes) (sym (now_is t)) (subst (λ (w : HeapState). AreCellSizes w sizes) c.world-world.ensures.value c.in_ok-sizes.ensures.sizes);
       many = ap length c.in_ok-steps.ensures.items;
       each = λ k s h. absurd (none-some s (ap (λ (xs : List PastStep). slice_get xs k) (sym c.in_ok-steps.ensures.items) ∙ h));
     }
@@ -55,7 +55,7 @@ loop-n-preserved c =
           ∙ ids_are left r.0 (state_ago (n + 1) t) (state_ago n t) sizes r.1 i.sizes;
     } in
     record {
-      sizes = subst (AreSizes (state_ago (n + 1) t)) (sym c.undo_size.ensures) (sizes_step left r.0 (state_ago (n + 1) t) (state_ago n t) sizes r.1 i.sizes);
+      sizes = subst (AreCellSizes (state_ago (n + 1) t)) (sym c.undo_size.ensures) (sizes_step left r.0 (state_ago (n + 1) t) (state_ago n t) sizes r.1 i.sizes);
       many = ap length c.in_ok-push.ensures.items ∙ length_push steps x ∙ ap (λ k. k + 1) i.many;
       each = λ k s h. elim (pushed_cases steps x k s (ap (λ (xs : List PastStep). slice_get xs k) (sym c.in_ok-push.ensures.items) ∙ h)) [
         | inl e ↦ i.each k s e

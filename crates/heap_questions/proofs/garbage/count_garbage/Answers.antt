@@ -1,7 +1,7 @@
 use Rattle.std.proofs.Common.{◌≡◌, List, Bool, map, ap, ◌∙◌}
 use Rattle.std.proofs.lemmas.Result.{IfOk-weaker}
 use Rattle.heap_questions.specs.Garbage.{IsGarbage, is_reached}
-use Rattle.heap_questions.specs.Histogram.{rows_of, unmarked}
+use Rattle.heap_questions.specs.Histogram.{rows_of, without_marked}
 use Rattle.heap_questions.proofs.Reaching.{is_garbage}
 use Rattle.heap_questions.proofs.garbage.count_garbage.Goals as goal
 
@@ -13,6 +13,6 @@ returns-clause-rows g c =
     let nodes = c.in_ok-nodes.nodes in
     let marks = c.as_slice-2.result.now in
     let marked = c.as_slice-2.ensures.value ∙ c.in_ok-marks.ensures.marks ∙ ap (λ (bs : List Bool). map (λ n. is_reached nodes bs n.id) nodes) c.as_slice.ensures.value in
-    IfOk-weaker c.count_unmarked.result (λ h. h ≡ rows_of ids image.classes (unmarked marks image.objects)) (λ h. IsGarbage ids image h)
+    IfOk-weaker c.count_unmarked.result (λ h. h ≡ rows_of ids image.classes (without_marked marks image.objects)) (λ h. IsGarbage ids image h)
     (λ h e. is_garbage ids image (g.V.View.places v) nodes c.in_ok-reach.reach.seen.items c.in_ok-reach.reach.queue.items marks h c.in_ok-nodes.ensures.nodes c.in_ok-reach.ensures.searched c.in_ok-reach.ensures.seen marked e)
     c.count_unmarked.ensures.rows

@@ -2,7 +2,7 @@ use Rattle.std.proofs.Common.{length, sym, ap, ◌∙◌, arith}
 use Rattle.std.specs.Prelude.{slice_get}
 use Rattle.std.proofs.lemmas.List.{length_push}
 use Rattle.hprof_text.proofs.ViewedObjects.{within, none_left}
-use Rattle.heap_questions.proofs.Placed.{all_nodes, ids_more, places_more}
+use Rattle.heap_questions.proofs.NodePlaces.{all_nodes, ids_more, places_more}
 use Rattle.heap_questions.proofs.nodes.nodes_of.Goals as goal
 
 pub loop-here-preserved : goal.loop-here-preserved

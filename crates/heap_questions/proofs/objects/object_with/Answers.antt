@@ -3,7 +3,7 @@ use Rattle.std.specs.Prelude.{slice_get}
 use Rattle.hprof_text.specs.Image.{DumpedObject}
 use Rattle.hprof_text.proofs.Loops.{some_item}
 use Rattle.hprof_text.proofs.ViewedObjects.{here, none_left, within}
-use Rattle.heap_questions.proofs.Named.{object_none, others_more, said_of, shown_is}
+use Rattle.heap_questions.proofs.NamedObjects.{object_none, others_more, said_of, shown_is}
 use Rattle.heap_questions.proofs.objects.object_with.Goals as goal
 
 pub returns-then-id : goal.returns-then-id

@@ -1,6 +1,6 @@
 use Rattle.std.proofs.Common.{◌≡◌, ◌≤◌, ◌-◌, length}
 use Rattle.std.specs.Prelude.{slice_get}
-use Rattle.heap_questions.proofs.Named.{AreOthers}
+use Rattle.heap_questions.proofs.NamedObjects.{AreOthers}
 use Rattle.heap_questions.proofs.objects.object_with.Given as goal
 
 abbrev pub invariant-loop-here : goal.invariant-loop-here

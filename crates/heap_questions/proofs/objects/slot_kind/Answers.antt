@@ -5,7 +5,7 @@ use Rattle.heap_class.specs.declared.Kind.{Kind}
 use Rattle.heap_class.specs.declared.ObjKind.{ObjKind}
 use Rattle.heap_class.specs.Classes.{slot_kinds_of}
 use Rattle.hprof_text.specs.Image.{IsKnown}
-use Rattle.heap_questions.proofs.Named.{element_kind}
+use Rattle.heap_questions.proofs.NamedObjects.{element_kind}
 use Rattle.heap_questions.proofs.objects.slot_kind.Goals as goal
 
 pub returns-in-Instance : goal.returns-in-Instance

@@ -3,7 +3,7 @@ use Rattle.std.specs.Prelude.{◌==◌}
 use Rattle.std.specs.List.{position}
 use Rattle.heap_questions.specs.declared.search.Found.{Found}
 use Rattle.heap_questions.proofs.PathOrder.{found_first}
-use Rattle.heap_questions.proofs.Traced.{none_found, path_is_first, path_is_shortest, path_of, reached_as}
+use Rattle.heap_questions.proofs.TracedPaths.{none_found, path_is_first, path_is_shortest, path_of, reached_as}
 use Rattle.heap_questions.proofs.paths.shortest_path.Goals as goal
 
 pub trace-requires-clause-reached : goal.trace-requires-clause-reached

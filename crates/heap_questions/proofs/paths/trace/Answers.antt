@@ -2,8 +2,8 @@ use Rattle.std.proofs.Common.{◌≡◌, ◌+◌, sym, ap, subst, arith}
 use Rattle.std.proofs.lemmas.Option.{slice_get_within}
 use Rattle.hprof_text.proofs.Loops.{some_item}
 use Rattle.heap_questions.specs.declared.search.Found.{Found}
-use Rattle.heap_questions.proofs.Got.{got_same}
-use Rattle.heap_questions.proofs.Traced.{GoesOn, IsTracing, goes_on_ends, goes_on_more, parent_there, trace_more}
+use Rattle.heap_questions.proofs.LongerLists.{got_same}
+use Rattle.heap_questions.proofs.TracedPaths.{GoesOn, IsTracing, goes_on_ends, goes_on_more, parent_there, trace_more}
 use Rattle.heap_questions.proofs.paths.trace.Goals as goal
 
 pub found_at-next-requires : goal.found_at-next-requires

@@ -1,6 +1,6 @@
 use Rattle.std.specs.Prelude.{slice_get, ◌≡◌, Some}
 use Rattle.heap_questions.specs.declared.search.Found.{Found}
-use Rattle.heap_questions.proofs.Traced.{GoesOn, IsTracing}
+use Rattle.heap_questions.proofs.TracedPaths.{GoesOn, IsTracing}
 use Rattle.heap_questions.proofs.paths.trace.Given as goal
 
 abbrev pub invariant-loop-here : goal.invariant-loop-here

@@ -1,6 +1,6 @@
 use Rattle.std.proofs.Common.{sym, ◌∙◌}
 use Rattle.hprof_text.proofs.ViewedObjects.{is_there}
-use Rattle.heap_questions.proofs.Named.{no_node, node_kind, node_placed}
+use Rattle.heap_questions.proofs.NamedObjects.{no_node, node_kind, node_placed}
 use Rattle.heap_questions.proofs.registers.kind_with.Goals as goal
 
 pub kind-requires : goal.kind-requires

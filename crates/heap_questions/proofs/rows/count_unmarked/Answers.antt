@@ -2,7 +2,7 @@ use Rattle.std.proofs.Common.{◌≡◌, ◌<◌, ◌≤◌, take, false, length
 use Rattle.std.specs.Prelude.{slice_index_or}
 use Rattle.hprof_text.specs.Image.{IsKnown}
 use Rattle.hprof_text.proofs.ViewedObjects.{here, is_there, within, none_left}
-use Rattle.heap_questions.specs.Histogram.{AreRows, class_rows, counted_unless, no_objects, object_bytes, row_number, unmarked, value_size}
+use Rattle.heap_questions.specs.Histogram.{AreRows, class_rows, counted_unless, no_objects, object_bytes, row_number, without_marked, value_size}
 use Rattle.heap_questions.proofs.Counting.{rows_begin, rows_more, rows_end, room}
 use Rattle.heap_questions.proofs.rows.count_unmarked.Goals as goal
 
@@ -75,7 +75,7 @@ loop-here-preserved g c =
     let same = c.count.ensures ∙ ap (λ b. counted_unless b c.row_number-index.result c.value_size-bytes.result rows) c.mark_at.ensures ∙ ap₂ (λ k n. counted_unless (slice_index_or c.args.marks.now i false) k n rows) k n in
     record {
       here = c.next-here.ensures i e;
-      rows = subst (AreRows ids image.classes (unmarked c.args.marks.now (take (i + 1) image.objects))) (sym same) m;
+      rows = subst (AreRows ids image.classes (without_marked c.args.marks.now (take (i + 1) image.objects))) (sym same) m;
       passed = within (g.V.View.places v) i at e;
     }
 

@@ -3,11 +3,11 @@ use Rattle.std.specs.Prelude.{slice_get}
 use Rattle.std.proofs.lemmas.List.{get_or_default}
 use Rattle.hprof_text.specs.Image.{IsKnown}
 use Rattle.hprof_text.proofs.ViewedObjects.{here, is_there}
-use Rattle.heap_questions.specs.Graph.{is_reference_slot}
+use Rattle.heap_questions.specs.Graph.{slot_refers}
 use Rattle.heap_questions.specs.declared.search.Found.{Found}
 use Rattle.heap_questions.specs.declared.search.Via.TheVariants.{Slot}
 use Rattle.heap_questions.proofs.Looking.{looking_as, looking_begins, looked_at, looked_past, looked_through, named_is, slot_is, slot_is_none, stands}
-use Rattle.heap_questions.proofs.Placed.{node_within}
+use Rattle.heap_questions.proofs.NodePlaces.{node_within}
 use Rattle.heap_questions.proofs.SearchOrder.{next_head, ordered_next}
 use Rattle.heap_questions.proofs.search.expand.Goals.{then-is_reference_slot+in_ok-offer, else-is_reference_slot}
 use Rattle.heap_questions.proofs.search.expand.Goals as goal
@@ -104,7 +104,7 @@ loop-slot-preserved g c =
     let lt : s < length words = omega arith in
     let x = get_or words s 0 in
     let xe = get_or_default words s 0 x lt ∙ ap (λ (l : List ℕ). get_or l s x) h.same_words in
-    let re : c.is_reference_slot.result ≡ is_reference_slot image.classes o.kind s = c.is_reference_slot.ensures ∙ ap₂ (λ cs k. is_reference_slot cs k s) c.classes-classes.ensures.value h.same_kind in
+    let re : c.is_reference_slot.result ≡ slot_refers image.classes o.kind s = c.is_reference_slot.ensures ∙ ap₂ (λ cs k. slot_refers cs k s) c.classes-classes.ensures.value h.same_kind in
     elim c.if-is_reference_slot.branch [
       | then-is_reference_slot+in_ok-offer w ↦
           looking_as image nodes queue head f w.offer.new.seen.items c.if-is_reference_slot.seen.items w.offer.new.queue.items c.if-is_reference_slot.queue.items (s + 1)

@@ -6,7 +6,7 @@ use Rattle.heap_trail.specs.Records.{machine_of}
 use Rattle.heap_trail.specs.Trail.{retained}
 use Rattle.heap_trail.specs.Views.{ShowsAgo}
 use Rattle.heap_trail.proofs.RecordedPast.{length-past_of}
-use Rattle.heap_trail.proofs.Shown.{shows_ago}
+use Rattle.heap_trail.proofs.ShownPins.{shows_ago}
 use Rattle.heap_trail.proofs.Machine.pin_ago.Goals as goal
 
 pub past_pin-requires-clause-retained : goal.past_pin-requires-clause-retained

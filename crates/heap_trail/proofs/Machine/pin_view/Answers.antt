@@ -7,7 +7,7 @@ use Rattle.heap_trail.specs.Records.{past_of, machine_of}
 use Rattle.heap_trail.specs.Views.{IsViewBeside, IsViewOf, RefusesView, view_refusal}
 use Rattle.heap_trail.proofs.PinSearch.{slot_found, pin_found, pin_missing, held_there}
 use Rattle.heap_trail.proofs.GivenPieces.{can_give}
-use Rattle.heap_trail.proofs.Shown.{can_show, view_of, lost_view, no_view}
+use Rattle.heap_trail.proofs.ShownPins.{can_show, view_of, lost_view, no_view}
 use Rattle.heap_trail.proofs.Machine.pin_view.Goals as goal
 
 pub view-requires : goal.view-requires

@@ -3,7 +3,7 @@ use Rattle.std.specs.Option.{option_copied}
 use Rattle.heap_trail.specs.Machine.{Machine}
 use Rattle.heap_trail.specs.Trail.{retained}
 use Rattle.heap_trail.specs.Views.{HasRecord}
-use Rattle.heap_trail.proofs.Lent.{lent}
+use Rattle.heap_trail.proofs.RetainedRecords.{lent}
 use Rattle.heap_trail.proofs.RecordedPast.{length-past_of}
 use Rattle.heap_trail.proofs.PastWalks.{record_there}
 use Rattle.heap_trail.proofs.Machine.record_ago.Goals as goal

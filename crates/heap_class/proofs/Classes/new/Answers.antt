@@ -1,5 +1,0 @@
-use Rattle.heap_class.proofs.Tables.{empty_table}
-use Rattle.heap_class.proofs.Classes.new.Goals as goal
-
-pub invariant_of-result : goal.invariant_of-result
-invariant_of-result c = empty_table _ _ c.new.ensures.empty c.new-2.ensures.items

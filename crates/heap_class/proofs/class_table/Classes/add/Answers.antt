@@ -1,0 +1,54 @@
+use Rattle.std.proofs.Common.{◌≡◌, ◌+◌, ◌≤◌, arith, length, length-append, map, ◌∙◌, ◌∷◌, ◌++◌, [], None, ap, sym, subst, refl}
+use Rattle.std.proofs.lemmas.List.{length-map}
+use Rattle.heap_class.specs.declared.Field.{Field}
+use Rattle.heap_class.specs.declared.class_table.ClassEntry.{ClassEntry}
+use Rattle.heap_class.specs.Entries.{AreSizes}
+use Rattle.heap_class.specs.Classes.{Class, class_refusal, names_in}
+use Rattle.heap_class.proofs.Definitions.{super_stands, slots_fit, defined_table, defined_view}
+use Rattle.heap_class.proofs.class_table.Classes.add.Goals as goal
+
+pub slots_above-requires : goal.slots_above-requires
+slots_above-requires c =
+    let class : Class = record { name = c.args.name.now; sup = c.args.sup; fields = c.args.fields.now; is_array = c.args.is_array } in
+    let accepted : class_refusal c.args.self.now class ≡ None = sym (c.in_default.ensures c.args.is_array) in
+    super_stands c.args.self.now class accepted
+
+pub slots_over-requires : goal.slots_over-requires
+slots_over-requires c =
+    let class : Class = record { name = c.args.name.now; sup = c.args.sup; fields = c.args.fields.now; is_array = c.args.is_array } in
+    let accepted : class_refusal c.args.self.now class ≡ None = sym (c.in_default.ensures c.args.is_array) in
+    slots_fit c.args.self.now class c.slots_above.result.now accepted c.slots_above.ensures.value
+
+pub of-sizes-requires : goal.of-sizes-requires
+of-sizes-requires c =
+    let class : Class = record { name = c.args.name.now; sup = c.args.sup; fields = c.args.fields.now; is_array = c.args.is_array } in
+    let accepted : class_refusal c.args.self.now class ≡ None = sym (c.in_default.ensures c.args.is_array) in
+    omega (
+      arith,
+      slots_fit c.args.self.now class c.slots_above.result.now accepted c.slots_above.ensures.value,
+      ap length (c.as_slice.ensures.value ∙ c.in_ok-slots.ensures),
+      length-append (map (λ (f : Field). f.kind) c.args.fields.now) c.slots_above.result.now,
+      length-map c.args.fields.now (λ (f : Field). f.kind),
+    )
+
+pub invariant_of-self-2 : goal.invariant_of-self-2
+unfolding names_in
+invariant_of-self-2 c =
+    let class : Class = record { name = c.args.name.now; sup = c.args.sup; fields = c.args.fields.now; is_array = c.args.is_array } in
+    let entry : ClassEntry = record { name = c.in_ok-name.name; sup = c.args.sup; fields = c.in_ok-name.fields; is_array = c.args.is_array; slots = c.in_ok-slots.slots; sizes = c.of-sizes.result; names_before = c.len-names_before.result } in
+    let accepted : class_refusal c.args.self.now class ≡ None = sym (c.in_default.ensures c.args.is_array) in
+    defined_table c.self.inside.names.keys c.self.inside.entries.items c.self.invariant c.args.self.now c.self.view_is class entry
+    c.place_names.new.names.keys c.push_reserved.new.self.items c.slots_above.result.now
+    c.in_ok-name.ensures.keys (c.push_reserved.ensures.items ∙ ap (λ l. l ++ entry ∷ []) c.reserve.ensures.items) accepted c.requires
+    c.in_ok-name.ensures.placed refl refl c.len-names_before.ensures.len c.in_ok-slots.ensures c.slots_above.ensures.value (subst (λ l. AreSizes l c.of-sizes.result) c.as_slice.ensures.value c.of-sizes.ensures)
+
+pub returns-clause-defined : goal.returns-clause-defined
+unfolding names_in
+returns-clause-defined c =
+    let class : Class = record { name = c.args.name.now; sup = c.args.sup; fields = c.args.fields.now; is_array = c.args.is_array } in
+    let entry : ClassEntry = record { name = c.in_ok-name.name; sup = c.args.sup; fields = c.in_ok-name.fields; is_array = c.args.is_array; slots = c.in_ok-slots.slots; sizes = c.of-sizes.result; names_before = c.len-names_before.result } in
+    let accepted : class_refusal c.args.self.now class ≡ None = sym (c.in_default.ensures c.args.is_array) in
+    defined_view c.self.inside.names.keys c.self.inside.entries.items c.self.invariant c.args.self.now c.self.view_is class entry
+    c.place_names.new.names.keys c.push_reserved.new.self.items c.slots_above.result.now
+    c.in_ok-name.ensures.keys (c.push_reserved.ensures.items ∙ ap (λ l. l ++ entry ∷ []) c.reserve.ensures.items) accepted c.requires
+    c.in_ok-name.ensures.placed refl refl c.len-names_before.ensures.len c.in_ok-slots.ensures c.slots_above.ensures.value (subst (λ l. AreSizes l c.of-sizes.result) c.as_slice.ensures.value c.of-sizes.ensures)

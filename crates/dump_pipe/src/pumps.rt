@@ -41,10 +41,8 @@ pub fn pump_counted<S: Source, O: Outlet>(
                 }
             }
             Next::Lost(cause) => {
-                return Pumped::Lost {
-                    cause,
-                    bytes: total,
-                };
+                let bytes = total;
+                return Pumped::Lost { cause, bytes };
             }
             Next::Cancelled => return Pumped::Cancelled { bytes: total },
         }

@@ -2,3 +2,4 @@ pub mod CopySteps
 pub mod ReportLines
 pub mod UserSeats
 pub mod Acts
+pub mod DumpTexts

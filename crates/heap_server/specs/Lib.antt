@@ -3,3 +3,4 @@ pub mod Copies
 pub mod ClientEndings
 pub mod SessionSeats
 pub mod Reports
+pub mod DumpAnswers

@@ -4,11 +4,13 @@
 pub mod client;
 pub mod copy;
 pub mod joined;
+pub mod laws;
 pub mod report;
 pub mod sessions;
 
 pub use client::{Asked, ask};
 pub use copy::{Copied, copy_all};
 pub use joined::Joined;
+pub use laws::served_dumps_are_text;
 pub use report::{tell_sessions, word};
 pub use sessions::{Served, ServedHeap, serve_clients, serve_heap, users};

@@ -212,17 +212,18 @@ struct Waiting<'a> {
 }
 
 impl<'a> Gate for Waiting<'a> {
-    fn pass(&mut self, turn: u64) {
+    fn pass(&mut self, turn: u64) -> bool {
         if turn == 3 {
             self.here.store(1, Ordering::SeqCst);
             for _ in 0..10_000_000u64 {
                 if self.answered.load(Ordering::SeqCst) == 1 {
                     self.here.store(2, Ordering::SeqCst);
-                    return;
+                    return true;
                 }
                 thread::yield_now();
             }
         }
+        true
     }
 }
 

@@ -3,3 +3,4 @@ pub mod ReportLines
 pub mod UserSeats
 pub mod Acts
 pub mod DumpTexts
+pub mod WorkerRuns

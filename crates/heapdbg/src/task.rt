@@ -108,12 +108,17 @@ where
             writer,
             is_terminal,
         ),
-        Task::Serve { port, sessions } => serve_port(
+        Task::Serve {
+            port,
+            sessions,
+            workers,
+        } => serve_port(
             rt,
             alloc,
             asked,
             port,
             sessions,
+            workers,
             writer,
             is_terminal,
         ),

@@ -3,6 +3,7 @@ use Rattle.std.proofs.Common.{◌≡◌, ◌⊎◌, ℕ, List, [], ◌∷◌, �
 use Rattle.heap_world.specs.Limits.{HeapSettings}
 use Rattle.heap_lock.specs.declared.entry.Entry.{Entry}
 use Rattle.heap_lock.specs.declared.entry.Role.{Role}
+use Rattle.heap_lock.specs.declared.entry.Role.TheVariants.{Marker, Sweeper}
 use Rattle.heap_lock.specs.LockStates.{Chair}
 use Rattle.heap_work.specs.declared.MarkEnd.{MarkEnd}
 use Rattle.heap_work.specs.declared.MarkEnd.TheVariants.{Finished, NotMarking, Pending, Refused, Stopped, TurnsOver}
@@ -34,8 +35,8 @@ end_keeps config s s' turns gained next (Refused f) e = ap (λ (c : Chair). c.ro
 end_keeps config s s' turns gained next Stopped e = ap (λ (c : Chair). c.role) e.1
 end_keeps config s s' turns gained next TurnsOver e = ap (λ (c : Chair). c.role) e.1
 
-pub marker_stays : (config : HeapSettings) (s s' : Chair) (turns : ℕ) (end : MarkEnd) → IsMarkWork config s s' turns end → s'.role ≡ s.role
-marker_stays config s s' turns end w = end_keeps config s s' turns w.gained w.next end w.ends
+pub marker_stays : (config : HeapSettings) (s s' : Chair) (turns : ℕ) (end : MarkEnd) → IsMarkWork config s s' turns end → s.role ≡ Marker → s'.role ≡ Marker
+marker_stays config s s' turns end w is = end_keeps config s s' turns w.gained w.next end w.ends ∙ is
 
 -- ---- the sweeper
 
@@ -48,5 +49,5 @@ sweeps_once config s s' end work = ((s', end) ∷ [], work, refl)
 pub sweeps_more : (config : HeapSettings) (s m s' : Chair) → Sweeps config s m → Sweeps config m s' → Sweeps config s s'
 sweeps_more config s m s' a b = (a.0 ++ b.0, joined (SweepsOnce config) a.0 b.0 s m s' a.1 b.1)
 
-pub sweeper_stays : (config : HeapSettings) (s s' : Chair) (turns : ℕ) (end : SweepEnd) → IsSweepWork config s s' turns end → s'.role ≡ s.role
-sweeper_stays config s s' turns end w = ap (λ (c : Chair). c.role) w.seat
+pub sweeper_stays : (config : HeapSettings) (s s' : Chair) (turns : ℕ) (end : SweepEnd) → IsSweepWork config s s' turns end → s.role ≡ Sweeper → s'.role ≡ Sweeper
+sweeper_stays config s s' turns end w is = ap (λ (c : Chair). c.role) w.seat ∙ is

@@ -35,6 +35,7 @@ fn pause<R: Clock>(rt: &R) {
 
 /// Marks each cycle that others begin, by runs of a mark worker, until the stop word is set or an act is refused, NoMemory or
 /// ChronicleFull. Returns the seat within one act of the stop, or within a millisecond if it sleeps. May wait.
+#[tactic(auto, using(crate::proofs::WorkerRuns::marks_none, crate::proofs::WorkerRuns::marks_more))]
 pub fn tend_marker<L: Heap, R: Clock + Wait>(
     rt: &R,
     shared: &Shared<L>,
@@ -46,7 +47,10 @@ pub fn tend_marker<L: Heap, R: Clock + Wait>(
 {
     let mut seat = seat;
     for _ in rt.forever() {
-        if stop.load(Ordering::SeqCst) || !marks_on(rt, shared, &mut seat, stop) {
+        if stop.load(Ordering::SeqCst) {
+            return seat;
+        }
+        if !marks_on(rt, shared, &mut seat, stop) {
             return seat;
         }
     }
@@ -54,6 +58,7 @@ pub fn tend_marker<L: Heap, R: Clock + Wait>(
 }
 
 // Runs the mark worker if a cycle runs, and sleeps if none does or a region has to be swept first. Returns whether to go on.
+#[tactic(auto, using(crate::proofs::WorkerRuns::marks_none, crate::proofs::WorkerRuns::marks_once, crate::proofs::WorkerRuns::marker_stays))]
 fn marks_on<L: Heap, R: Clock + Wait>(
     rt: &R,
     shared: &Shared<L>,
@@ -80,6 +85,7 @@ fn marks_on<L: Heap, R: Clock + Wait>(
 
 /// Sweeps the regions that wait for it, by runs of a sweep worker, until the stop word is set or an act is refused, NoMemory
 /// or ChronicleFull. Returns the seat within one act of the stop, or within a millisecond if it sleeps. May wait.
+#[tactic(auto, using(crate::proofs::WorkerRuns::sweeps_none, crate::proofs::WorkerRuns::sweeps_more))]
 pub fn tend_sweeper<L: Heap, R: Clock + Wait>(
     rt: &R,
     shared: &Shared<L>,
@@ -91,7 +97,10 @@ pub fn tend_sweeper<L: Heap, R: Clock + Wait>(
 {
     let mut seat = seat;
     for _ in rt.forever() {
-        if stop.load(Ordering::SeqCst) || !sweeps_on(rt, shared, &mut seat, stop) {
+        if stop.load(Ordering::SeqCst) {
+            return seat;
+        }
+        if !sweeps_on(rt, shared, &mut seat, stop) {
             return seat;
         }
     }
@@ -99,6 +108,7 @@ pub fn tend_sweeper<L: Heap, R: Clock + Wait>(
 }
 
 // Runs the sweep worker if a region waits to be swept, and sleeps if none does. Returns whether to go on.
+#[tactic(auto, using(crate::proofs::WorkerRuns::sweeps_none, crate::proofs::WorkerRuns::sweeps_once, crate::proofs::WorkerRuns::sweeper_stays))]
 fn sweeps_on<L: Heap, R: Clock + Wait>(
     rt: &R,
     shared: &Shared<L>,

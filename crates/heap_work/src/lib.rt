@@ -104,6 +104,7 @@ fn end_of_receipt(receipt: Receipt) -> Option<MarkEnd>
 /// Marks until the cycle is finished, in at most `turns` acts: Snap, then Mark; Drain if nothing is left to mark, Finish if
 /// nothing is left to drain, and Mark again after any other answer. Passes the gate before each act, without the lock, and ends
 /// if it lets none begin. May wait.
+#[tactic(auto, using(crate::proofs::WorkerTurns::marking_stopped))]
 pub fn mark_worker<L: Heap, R: Wait, G: Gate>(
     shared: &Shared<L>,
     rt: &R,
@@ -134,6 +135,7 @@ pub fn mark_worker<L: Heap, R: Wait, G: Gate>(
 
 /// Asks for a sweep of each region once, from 0 on, in at most `turns` acts. Passes the gate before each act, without the
 /// lock, and ends if it lets none begin. May wait.
+#[tactic(auto, using(crate::proofs::WorkerTurns::sweeping_stopped))]
 pub fn sweep_worker<L: Heap, R: Wait, G: Gate>(
     shared: &Shared<L>,
     rt: &R,

@@ -16,5 +16,5 @@ pub use joined::Joined;
 pub use laws::served_dumps_are_text;
 pub use report::{tell_sessions, word};
 pub use sessions::{Served, ServedHeap, serve_clients, serve_heap, users};
-pub use tended::{Tended, TendedHeap, serve_tended, serve_tended_heap, staff};
+pub use tended::{Staff, Tended, TendedHeap, serve_tended, serve_tended_heap, workers_and_users};
 pub use tending::{tend_marker, tend_sweeper};

@@ -2,7 +2,7 @@
 ghost use Rattle.std.specs.Prelude.{◌≡◌, ◌∷◌, ◌≤◌, IfOk, IfErr, length, replicate};
 ghost use Rattle.heap_class.specs.declared.Refusal.TheVariants.{NoMemory};
 ghost use Rattle.heap_lock.specs.declared.entry.Role.TheVariants as role;
-ghost use Rattle.heap_server.specs.SessionSeats.{AreUsers, IsFor, session_limit};
+ghost use Rattle.heap_server.specs.SessionSeats.{IsFor, session_limit};
 ghost use Rattle.heap_server.specs.Tending.{AreStaff, IsTendedOver, Marks, Sweeps};
 
 use crate::sessions::{Served, ServedHeap, serve_clients};
@@ -17,7 +17,7 @@ use std::snapshot::Snapshot;
 use std::sync::Wait;
 use std::sync::atomic::{AtomicBool, Ordering};
 use std::thread;
-use std::thread::{Promise, Threads};
+use std::thread::{Promise, PromisedHandle, Scope, Threads};
 use std::time::Clock;
 
 /// How the sessions over a heap ended, and the two seats of its workers as their runs left them.
@@ -28,7 +28,15 @@ pub struct TendedHeap {
     pub sweeper: Stub,
 }
 
-/// The same over a heap that a type names.
+/// The seats of a heap whose collector is tended.
+#[derive(Drop)]
+pub struct Staff<L: Heap> {
+    pub marker: Seat<L>,
+    pub sweeper: Seat<L>,
+    pub users: Seats<L>,
+}
+
+/// How the sessions over a heap that a type names ended, and the seats of its workers.
 #[derive(Drop)]
 pub struct Tended<L: Heap> {
     pub served: Served,
@@ -72,7 +80,7 @@ fn roles(alloc: Global, sessions: u64) -> Result<Vec<Role>, AllocError>
 
 /// Creates a heap of these settings with the marker's seat, the sweeper's, and a user's for each of 1 to 1,000 sessions, in
 /// this order. Fails with NoMemory.
-pub fn staff(alloc: Global, config: Config, sessions: u64) -> Result<Blank, Refusal>
+pub fn workers_and_users(alloc: Global, config: Config, sessions: u64) -> Result<Blank, Refusal>
     requires { (1 ≤ sessions) × (sessions ≤ session_limit) }
     ensures settings { IfOk result (λ b. b.config ≡ config) }
     ensures seats { IfOk result (λ b. AreStaff sessions b.seats) }
@@ -84,6 +92,38 @@ pub fn staff(alloc: Global, config: Config, sessions: u64) -> Result<Blank, Refu
     Blank::new(alloc, config, roles.as_slice())
 }
 
+// Begins the thread that tends the marker's seat. Fails if none can be had.
+fn begin_marker<'s, E, L: Heap + Send + Sync, R: Clock + Wait + Sync>(
+    scope: &Scope<'s, E>,
+    rt: &'s R,
+    shared: &'s Shared<L>,
+    seat: Seat<L>,
+    stop: &'s AtomicBool,
+) -> Result<PromisedHandle<Seat<L>, MarksFrom<L>>, AllocError>
+    requires { seat.role ≡ role.Marker }
+    ensures { IfOk result (λ h. h.promise.0.value ≡ seat) }
+{
+    let marks = MarksFrom(Snapshot::of(&seat));
+    let thread = scope.spawn_with(marks, move || tend_marker(rt, shared, seat, stop))?;
+    Ok(thread)
+}
+
+// Begins the thread that tends the sweeper's seat. Fails if none can be had.
+fn begin_sweeper<'s, E, L: Heap + Send + Sync, R: Clock + Wait + Sync>(
+    scope: &Scope<'s, E>,
+    rt: &'s R,
+    shared: &'s Shared<L>,
+    seat: Seat<L>,
+    stop: &'s AtomicBool,
+) -> Result<PromisedHandle<Seat<L>, SweepsFrom<L>>, AllocError>
+    requires { seat.role ≡ role.Sweeper }
+    ensures { IfOk result (λ h. h.promise.0.value ≡ seat) }
+{
+    let sweeps = SweepsFrom(Snapshot::of(&seat));
+    let thread = scope.spawn_with(sweeps, move || tend_sweeper(rt, shared, seat, stop))?;
+    Ok(thread)
+}
+
 /// Serves clients as `serve_clients` does, while two threads tend the collector. They begin before the first accept, and are
 /// told to stop and joined after the last session. Fails if a thread for them can't be had, or there is no memory for `most`
 /// endings, and accepts nothing. May wait.
@@ -91,18 +131,15 @@ pub fn serve_tended<L: Heap + Send + Sync, R: Clock + Threads + Wait + Sync>(
     rt: &R,
     alloc: Global,
     shared: &Shared<L>,
-    marker: Seat<L>,
-    sweeper: Seat<L>,
-    seats: Seats<L>,
+    staff: Staff<L>,
     most: usize,
     listener: TcpListener,
     time: u64,
 ) -> Result<Tended<L>, AllocError>
-    requires workers { (marker.role ≡ role.Marker) × (sweeper.role ≡ role.Sweeper) }
-    requires users { AreUsers seats × (length seats ≡ most) }
+    requires { AreStaff most (staff.marker ∷ staff.sweeper ∷ staff.users) }
     ensures served { IfOk result (λ t. IsFor most t.served) }
-    ensures workers { IfOk result
-        (λ t. Marks L.config marker t.marker × Sweeps L.config sweeper t.sweeper) }
+    ensures marks { IfOk result (λ t. Marks L.config staff.marker t.marker) }
+    ensures sweeps { IfOk result (λ t. Sweeps L.config staff.sweeper t.sweeper) }
 {
     let word = AtomicBool::new(false);
     let stop = &word;
@@ -110,28 +147,23 @@ pub fn serve_tended<L: Heap + Send + Sync, R: Clock + Threads + Wait + Sync>(
         thread::scope_env(),
         rt,
         move |scope| -> Result<Tended<L>, AllocError>
-            requires workers { (marker.role ≡ role.Marker) × (sweeper.role ≡ role.Sweeper) }
-            requires users { AreUsers seats × (length seats ≡ most) }
+            requires { AreStaff most (staff.marker ∷ staff.sweeper ∷ staff.users) }
             ensures served { IfOk result (λ t. IsFor most t.served) }
-            ensures workers { IfOk result
-                (λ t. Marks L.config marker t.marker × Sweeps L.config sweeper t.sweeper) }
+            ensures marks { IfOk result (λ t. Marks L.config staff.marker t.marker) }
+            ensures sweeps { IfOk result (λ t. Sweeps L.config staff.sweeper t.sweeper) }
         {
-            let marks = MarksFrom(Snapshot::of(&marker));
-            let sweeps = SweepsFrom(Snapshot::of(&sweeper));
-            let marking =
-                scope.spawn_with(marks, move || tend_marker(rt, shared, marker, stop))?;
-            let Ok(sweeping) =
-                scope.spawn_with(sweeps, move || tend_sweeper(rt, shared, sweeper, stop))
-            else {
-                stop.store(true, Ordering::SeqCst);
-                return Err(AllocError);
+            let marking = begin_marker(scope, rt, shared, staff.marker, stop)?;
+            let sweeping = begin_sweeper(scope, rt, shared, staff.sweeper, stop);
+            let served = match &sweeping {
+                Ok(_) => serve_clients(rt, alloc, shared, staff.users, most, listener, time),
+                Err(_) => Err(AllocError),
             };
-            let served = serve_clients(rt, alloc, shared, seats, most, listener, time);
             stop.store(true, Ordering::SeqCst);
             let marker = marking.join(rt);
-            let sweeper = sweeping.join(rt);
+            let sweeper = sweeping?.join(rt);
+            let served = served?;
             Ok(Tended {
-                served: served?,
+                served,
                 marker,
                 sweeper,
             })
@@ -177,14 +209,16 @@ fn serve_staffed<L: Heap + Send + Sync, R: Clock + Threads + Wait + Sync>(
     let Some(sweeper) = seats.take() else {
         unreachable!()
     };
-    let tended = serve_tended(
-        rt, alloc, &shared, marker, sweeper, seats, most, listener, time,
-    )?;
+    let staff = Staff {
+        marker,
+        sweeper,
+        users: seats,
+    };
     let Tended {
         served,
         marker,
         sweeper,
-    } = tended;
+    } = serve_tended(rt, alloc, &shared, staff, most, listener, time)?;
     Ok(TendedHeap {
         heap: ServedHeap { served, made, time },
         marker: marker.into_stub(),

@@ -8,7 +8,9 @@ ghost use Rattle.heapdbg.specs.ServeOutcomes.{IsHeapServed, IsReportTold, IsServ
 use crate::failure::Fault;
 use crate::settings::{Settings, config};
 use dump_pump::Outlet;
-use heap_server::{Served, serve_heap, serve_tended_heap, staff, tell_sessions, users};
+use heap_server::{
+    Served, serve_heap, serve_tended_heap, tell_sessions, users, workers_and_users,
+};
 use session_text::write_all;
 use std::alloc::Global;
 use std::net::{Ipv4Addr, Net, TcpListener, TcpStream};
@@ -92,7 +94,7 @@ where
     requires sessions { (1 ≤ sessions) × (sessions ≤ session_limit) }
     ensures { IsTendedServed settings.now sessions (O.seen writer.old) (O.seen writer.new) result }
 {
-    let Ok(blank) = staff(alloc, config(settings), sessions) else {
+    let Ok(blank) = workers_and_users(alloc, config(settings), sessions) else {
         return Err(Fault::Memory);
     };
     let most = sessions as usize;

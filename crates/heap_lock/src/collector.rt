@@ -35,8 +35,8 @@ impl<L: Heap> Shared<L> {
         self.lock(rt).phase()
     }
 
-    /// Returns the lowest region that waits to be swept, or None, under the lock, without an entry: that of the state which some
-    /// legal history leaves. Takes no memory. May wait.
+    /// Returns the lowest region that waits to be swept, or None, under the lock, without an entry: that of the state which
+    /// some legal history leaves. Takes no memory. May wait.
     pub fn pending<R: Wait>(&self, rt: &R) -> Option<u64>
         ensures { IsPendingSeen L.config result }
     {

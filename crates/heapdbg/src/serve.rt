@@ -8,9 +8,7 @@ ghost use Rattle.heapdbg.specs.ServeOutcomes.{IsHeapServed, IsReportTold, IsServ
 use crate::failure::Fault;
 use crate::settings::{Settings, config};
 use dump_pump::Outlet;
-use heap_server::{
-    Served, serve_heap, serve_tended_heap, tell_sessions, users, workers_and_users,
-};
+use heap_server::{Served, serve_heap, serve_tended_heap, tell_sessions, users, workers_and_users};
 use session_text::write_all;
 use std::alloc::Global;
 use std::net::{Ipv4Addr, Net, TcpListener, TcpStream};

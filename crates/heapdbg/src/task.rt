@@ -99,24 +99,12 @@ where
         Task::Run => session(alloc, asked, reader, writer),
         Task::Explore => explore(alloc, asked, reader, writer),
         Task::Save(Target::Out) => save_named(rt, alloc, words, asked, reader, writer, is_terminal),
-        Task::Save(Target::To(port)) => save_to(
-            rt,
-            alloc,
-            asked,
-            port,
-            reader,
-            writer,
-            is_terminal,
-        ),
-        Task::Serve { port, sessions } => serve_port(
-            rt,
-            alloc,
-            asked,
-            port,
-            sessions,
-            writer,
-            is_terminal,
-        ),
+        Task::Save(Target::To(port)) => {
+            save_to(rt, alloc, asked, port, reader, writer, is_terminal)
+        }
+        Task::Serve { port, sessions } => {
+            serve_port(rt, alloc, asked, port, sessions, writer, is_terminal)
+        }
         Task::Ask { port } => ask_port(rt, alloc, port, input, writer),
     }
 }

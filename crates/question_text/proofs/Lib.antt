@@ -2,4 +2,5 @@ pub mod Totals
 pub mod RankedRows
 pub mod PinImages
 pub mod NewWords
+pub mod Slots
 pub mod NamedObjects

@@ -10,13 +10,17 @@ ghost use Rattle.question_text.specs.Referrers.{IsReferrersText};
 ghost use Rattle.question_text.specs.Moments.{IsAnswerAbout, IsAnswerBetween, image_at, told_text};
 
 use crate::at::{moment_at, view_of};
+use crate::birth::born_answer;
 use crate::growth::growth_answer;
 use crate::histogram::{garbage_text, histogram_text};
+use crate::history::history_answer;
+use crate::loss::dropped_answer;
 use crate::path::path_answer;
 use crate::question::{At, Question};
 use crate::referrers::referrers_answer;
 use crate::registers::registers_answer;
 use crate::rows::Unanswered;
+use crate::write::wrote_answer;
 use heap_trail::{Machine, Reply};
 use session_text::LineAnswer;
 use std::alloc::Global;
@@ -103,5 +107,9 @@ pub fn answer(alloc: Global, machine: &Machine, question: Question) -> LineAnswe
         Question::Registers(at) => told(registers(alloc, machine, at)),
         Question::Referrers { at, id } => told(referrers(alloc, machine, at, id)),
         Question::Path { at, id } => told(path(alloc, machine, at, id)),
+        Question::Born(id) => told(born_answer(alloc, machine, id)),
+        Question::Wrote { id, slot } => told(wrote_answer(alloc, machine, id, slot)),
+        Question::Dropped(id) => told(dropped_answer(alloc, machine, id)),
+        Question::History(count) => told(history_answer(alloc, machine, count)),
     }
 }

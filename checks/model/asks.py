@@ -3,7 +3,7 @@ from draws import Draw
 from heap import FIRST_OBJECT, REGION_WORDS
 from questions import QUESTIONS, Asking
 
-# What questions have to be answered, and how often at least: refusals by number.
+# What questions have to be answered, and how often at least: refusals by number, others by the words after `ok`.
 ABOUT_A_MOMENT = ("ok", "no 22", "no 23", "no 24")
 WANTED = {
     "histogram": ABOUT_A_MOMENT,
@@ -12,6 +12,10 @@ WANTED = {
     "path": (*ABOUT_A_MOMENT, "no 27", "no 28"),
     "referrers": (*ABOUT_A_MOMENT, "no 28"),
     "registers": ABOUT_A_MOMENT,
+    "born": ("ok place", "ok older", "no 28"),
+    "wrote": ("ok place", "ok older", "no 9", "no 28"),
+    "dropped": ("ok place", "ok older", "ok reached", "no 28"),
+    "history": ("ok",),
 }
 LEAST = 3
 
@@ -51,10 +55,10 @@ class AskingDraw(Draw):
     def ask(self):
         """Asks a question."""
         word = self.lots.pick(list(QUESTIONS))
-        draws = {"a": self.moment, "i": self.identifier}
+        draws = {"a": self.moment, "i": self.identifier, "n": lambda: self.lots.near(self.lots.below(8), 70)}
         accepted = self.say(word.decode(), *(draws[form]() for form in QUESTIONS[word]))
         last = self.lines[-1][1].split(b"\n")[-2].decode().split()
-        sort = " ".join(last[:2]) if last[0] == "no" else last[0]
+        sort = " ".join(last[:2]) if last[0] == "no" or last[1:2] in (["place"], ["older"], ["reached"]) else last[0]
         self.machine.sights.met[f"{word.decode()}: {sort}"] += 1
         return accepted
 

@@ -1,6 +1,7 @@
 -- The slots of the object at a place.
-use Rattle.std.proofs.Common.{◌≡◌, ◌∙◌, ◌<◌, ℕ, List, length, Option, Some, None, true, false, refl, sym, ap, inl, inr, arith}
+use Rattle.std.proofs.Common.{◌≡◌, ◌∙◌, ℕ, List, length, Option, Some, None, true, false, sym, ap, inl, inr, arith}
 use Rattle.std.specs.Prelude.{IfSome, IsSome, is_some, nat_lt, option_and_then, slice_get}
+use Rattle.std.proofs.lemmas.Bool.{false≢true}
 use Rattle.std.proofs.lemmas.Option.{slice_get_cases}
 use Rattle.heap_class.specs.declared.ObjRef.{ObjRef}
 use Rattle.heap_region.specs.Regions.{Object, object_at}
@@ -9,7 +10,7 @@ use Rattle.heap_past.specs.Changes.{slot_word}
 
 inside : (xs : List ℕ) (s : ℕ) → nat_lt s (length xs) ≡ is_some (slice_get xs s)
 inside xs s = elim (slice_get_cases xs s).1 [
-  | inl e ↦ let a : nat_lt s (length xs) ≡ true = grind (arith, e.1) in a ∙ sym (ap is_some e.2.0)
+  | inl e ↦ let a : nat_lt s (length xs) ≡ true = grind (arith, e.1) in a ∙ sym (ap is_some e.2)
   | inr e ↦ let a : nat_lt s (length xs) ≡ false = grind (arith, e.0) in a ∙ sym (ap is_some e.1)
 ]
 
@@ -18,5 +19,5 @@ unfolding slot_word
 slot_there w at s n = go (object_at w.regions at)
   where
     go : (x : Option Object) → IsSome x → IfSome x (λ o. n ≡ length o.words) → nat_lt s n ≡ is_some (option_and_then (λ (o : Object). slice_get o.words s) x)
-    go None h l = absurd h
+    go None h l = absurd (false≢true h)
     go (Some o) h l = ap (nat_lt s) l ∙ inside o.words s

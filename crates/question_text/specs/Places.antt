@@ -10,11 +10,11 @@ use Rattle.question_text.specs.Moments.{no_object_text, refused_text}
 
 -- the line that names a place
 abbrev pub place_text : ℕ → List ℕ
-place_text place = line (codes "ok place" ++ and_number place)
+place_text place = codes "ok place" ++ line (and_number place)
 
 -- the line of what is older than all retained steps: it names the oldest retained place
 abbrev pub older_text : Trail → List ℕ
-older_text t = line (codes "ok older" ++ and_number (t.place - retained t))
+older_text t = codes "ok older" ++ line (and_number (t.place - retained t))
 
 -- the text names a place that `holds` tells of, or there is none
 abbrev pub IsPlaceText : (ℕ → Type 0) → Type 0 → Trail → List ℕ → Type 0

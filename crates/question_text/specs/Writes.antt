@@ -5,7 +5,7 @@ use Rattle.heap_class.specs.declared.Refusal.TheVariants.{BadSlot}
 use Rattle.heap_trail.specs.Trail.{Trail}
 use Rattle.heap_past.specs.Changes.{IsLastWrite, IsUnwritten, slot_word}
 use Rattle.question_text.specs.Moments.{refused_text}
-use Rattle.question_text.specs.Places.{IsAboutObject, IsAnswered, IsPlaceText}
+use Rattle.question_text.specs.Places.{IsAboutObject, IsPlaceText}
 
 -- the place of the newest step that changed a slot of the object at a place, or made the object
 abbrev pub IsWriteText : Trail → ObjRef → ℕ → List ℕ → Type 0
@@ -14,7 +14,7 @@ IsWriteText t at s text = IsPlaceText (IsLastWrite t at s) (IsUnwritten t at s) 
 -- the same, if the object has the slot
 abbrev pub IsSlotText : Trail → ℕ → ObjRef → List ℕ → Type 0
 IsSlotText t s at text =
-    (IsSome (slot_word t.current at s) × IsAnswered (IsWriteText t at s) text)
+    (IsSome (slot_word t.current at s) × IsWriteText t at s text)
     ⊎ ((slot_word t.current at s ≡ None) × (text ≡ refused_text BadSlot))
 
 -- the answer of `wrote`

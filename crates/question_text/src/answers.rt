@@ -19,9 +19,9 @@ use crate::path::path_answer;
 use crate::question::{At, Question};
 use crate::referrers::referrers_answer;
 use crate::registers::registers_answer;
-use crate::rows::Unanswered;
+use crate::rows::{Unanswered, reason_line};
 use crate::write::wrote_answer;
-use heap_trail::{Machine, Reply};
+use heap_trail::Machine;
 use session_text::LineAnswer;
 use std::alloc::Global;
 
@@ -31,9 +31,7 @@ fn told(lines: Result<Vec<u8>, Unanswered>) -> LineAnswer
 {
     match lines {
         Ok(text) => LineAnswer::Text(text),
-        Err(Unanswered::Refused(refusal)) => LineAnswer::Known(Reply::Refused(refusal)),
-        Err(Unanswered::NoObject) => LineAnswer::Line(b"no 28 NoObject\n"),
-        Err(Unanswered::Unreachable) => LineAnswer::Line(b"no 27 Unreachable\n"),
+        Err(reason) => reason_line(reason),
     }
 }
 
@@ -107,9 +105,9 @@ pub fn answer(alloc: Global, machine: &Machine, question: Question) -> LineAnswe
         Question::Registers(at) => told(registers(alloc, machine, at)),
         Question::Referrers { at, id } => told(referrers(alloc, machine, at, id)),
         Question::Path { at, id } => told(path(alloc, machine, at, id)),
-        Question::Born(id) => told(born_answer(alloc, machine, id)),
-        Question::Wrote { id, slot } => told(wrote_answer(alloc, machine, id, slot)),
-        Question::Dropped(id) => told(dropped_answer(alloc, machine, id)),
+        Question::Born(id) => born_answer(machine, id),
+        Question::Wrote { id, slot } => wrote_answer(machine, id, slot),
+        Question::Dropped(id) => dropped_answer(alloc, machine, id),
         Question::History(count) => told(history_answer(alloc, machine, count)),
     }
 }

@@ -1,60 +1,47 @@
 //! The answer of `dropped`.
-ghost use Rattle.std.specs.Prelude.{◌≡◌, IsSome, IfErr, IfOk, codes};
-ghost use Rattle.heap_class.specs.declared.Refusal.TheVariants.{NoMemory};
+ghost use Rattle.std.specs.Prelude.{◌≡◌, IsSome};
 ghost use Rattle.heap_region.specs.Regions.{object_at};
+ghost use Rattle.session_text.specs.Replies.{line_answer_text};
 ghost use Rattle.question_text.specs.Losses.{IsDroppedText, IsLossText, loss_text};
-ghost use Rattle.question_text.specs.Moments.{told_text};
+ghost use Rattle.question_text.specs.Places.{IsAnswered};
 
-use crate::place::{older_text, place_of_object, place_text};
-use crate::rows::{Unanswered, push_words};
-use heap_class::{ObjRef, Refusal};
+use crate::place::{older_line, place_line, place_of_object};
+use crate::rows::{Unanswered, reason_line};
+use heap_class::ObjRef;
 use heap_past::{Loss, loss_of};
 use heap_trail::Machine;
+use session_text::LineAnswer;
 use std::alloc::Global;
 
-// Returns the line of an object that a register reaches. Fails with NoMemory.
-fn reached_text(alloc: Global) -> Result<Vec<u8>, Refusal>
-    ensures text { IfOk result (λ text. text.items ≡ codes "ok reached\n") }
-    ensures refused { IfErr result (λ e. e ≡ NoMemory) }
-{
-    let mut text = Vec::new(alloc);
-    push_words(&mut text, b"ok reached\n")?;
-    Ok(text)
-}
-
-// Returns the line of a loss. Fails with NoMemory.
-fn loss_line(alloc: Global, machine: &Machine, loss: Loss) -> Result<Vec<u8>, Refusal>
-    ensures text { IfOk result (λ text. text.items ≡ loss_text machine.now.trail loss) }
-    ensures refused { IfErr result (λ e. e ≡ NoMemory) }
+// Returns the line of a loss.
+fn loss_line(machine: &Machine, loss: Loss) -> LineAnswer
+    ensures { line_answer_text result ≡ loss_text machine.now.trail loss }
 {
     match loss {
-        Loss::Reached => reached_text(alloc),
-        Loss::At(place) => place_text(alloc, place),
-        Loss::Older => older_text(alloc, machine),
+        Loss::Reached => LineAnswer::Line(b"ok reached\n"),
+        Loss::At(place) => place_line(place),
+        Loss::Older => older_line(machine),
     }
 }
 
-// Returns the line of when registers lost the object at a place. Fails with NoMemory.
-fn loss_text_at(alloc: Global, machine: &Machine, at: ObjRef) -> Result<Vec<u8>, Refusal>
+// Returns the line of when registers lost the object at a place, or the refusal NoMemory if an allocation fails.
+fn loss_line_at(alloc: Global, machine: &Machine, at: ObjRef) -> LineAnswer
     requires { IsSome (object_at machine.now.trail.current.regions at) }
-    ensures text { IfOk result (λ text. IsLossText machine.now.trail at text.items) }
-    ensures refused { IfErr result (λ e. e ≡ NoMemory) }
+    ensures { IsAnswered (IsLossText machine.now.trail at) (line_answer_text result) }
 {
-    let loss = loss_of(alloc, machine, at)?;
-    loss_line(alloc, machine, loss)
+    match loss_of(alloc, machine, at) {
+        Ok(loss) => loss_line(machine, loss),
+        Err(refusal) => reason_line(Unanswered::Refused(refusal)),
+    }
 }
 
-/// Returns the answer of `dropped`. Fails with NoObject if the id names no object, and with NoMemory if an allocation fails.
-/// Searches the heap once for each halving of the retained states.
-pub(crate) fn dropped_answer(
-    alloc: Global,
-    machine: &Machine,
-    id: u64,
-) -> Result<Vec<u8>, Unanswered>
-    ensures { IsDroppedText id machine.now.trail (told_text result) }
+/// Returns the answer of `dropped`, or the refusal NoMemory if an allocation fails. Searches the heap once for each halving of
+/// the retained states.
+pub(crate) fn dropped_answer(alloc: Global, machine: &Machine, id: u64) -> LineAnswer
+    ensures { IsDroppedText id machine.now.trail (line_answer_text result) }
 {
-    let Some(at) = place_of_object(machine, id) else {
-        return Err(Unanswered::NoObject);
-    };
-    Ok(loss_text_at(alloc, machine, at)?)
+    match place_of_object(machine, id) {
+        Some(at) => loss_line_at(alloc, machine, at),
+        None => reason_line(Unanswered::NoObject),
+    }
 }

@@ -1,5 +1,5 @@
 //! A segment as it is filled: each sub-record is offered to it, and is written if there is room.
-ghost use Rattle.std.specs.Prelude.{◌≡◌, ◌<◌, ◌≤◌, [], length, IfOk, IfErr};
+ghost use Rattle.std.specs.Prelude.{◌+◌, ◌≡◌, ◌<◌, ◌≤◌, [], length, IfOk, IfErr};
 ghost use Rattle.heap_class.specs.Limits.{class_limit, array_limit};
 ghost use Rattle.heap_class.specs.declared.ObjKind.TheVariants.{Instance};
 ghost use Rattle.heap_class.specs.declared.Refusal.TheVariants.{NoMemory};

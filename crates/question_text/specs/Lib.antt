@@ -12,5 +12,6 @@ pub mod Births
 pub mod Writes
 pub mod Losses
 pub mod Histories
+pub mod Help
 pub mod Answers
 pub mod Sessions

@@ -3,4 +3,6 @@ pub mod RankedRows
 pub mod PinImages
 pub mod NewWords
 pub mod Slots
+pub mod FieldNames
+pub mod FieldRows
 pub mod NamedObjects

@@ -2,7 +2,7 @@
 use Rattle.std.specs.Prelude.{◌≡◌, ℕ, List, Option, Some, None}
 use Rattle.heap_trail.specs.Machine.{Machine}
 use Rattle.question_text.specs.declared.question.Question.{Question}
-use Rattle.question_text.specs.declared.question.Question.TheVariants.{Histogram, Garbage, Growth, Registers, Referrers, Path, Born, Wrote, Dropped, History}
+use Rattle.question_text.specs.declared.question.Question.TheVariants.{Histogram, Garbage, Growth, Registers, Referrers, Path, Show, Born, Wrote, Dropped, History}
 use Rattle.question_text.specs.Births.{IsBornText}
 use Rattle.question_text.specs.Histograms.{IsGarbageText, IsHistogramText}
 use Rattle.question_text.specs.Moments.{IsAnswerAbout, IsAnswerBetween, image_at}
@@ -10,6 +10,7 @@ use Rattle.question_text.specs.Growths.{IsGrowthText}
 use Rattle.question_text.specs.Help.{help_or_bad}
 use Rattle.question_text.specs.Histories.{IsHistoryText}
 use Rattle.question_text.specs.Losses.{IsDroppedText}
+use Rattle.question_text.specs.Objects.{IsShowText}
 use Rattle.question_text.specs.Paths.{IsPathText}
 use Rattle.question_text.specs.Registers.{IsRegistersText}
 use Rattle.question_text.specs.Referrers.{IsReferrersText}
@@ -25,6 +26,7 @@ IsAnswer (Growth older newer) m text =
 IsAnswer (Registers at) m text = IsAnswerAbout IsRegistersText (image_at at m) text
 IsAnswer (Referrers at x) m text = IsAnswerAbout (IsReferrersText x) (image_at at m) text
 IsAnswer (Path at x) m text = IsAnswerAbout (IsPathText x) (image_at at m) text
+IsAnswer (Show at x) m text = IsAnswerAbout (IsShowText x) (image_at at m) text
 IsAnswer (Born x) m text = IsBornText x m.trail text
 IsAnswer (Wrote x s) m text = IsWroteText x s m.trail text
 IsAnswer (Dropped x) m text = IsDroppedText x m.trail text

@@ -1,18 +1,14 @@
 -- The text of `history`.
-use Rattle.std.specs.Prelude.{◌≡◌, ℕ, ◌==◌, List, ◌++◌, codes, flat_map, length, if◌then◌else◌}
+use Rattle.std.specs.Prelude.{◌≡◌, ℕ, List, ◌++◌, codes, flat_map, length}
 use Rattle.heap_trail.specs.Trail.{Trail}
 use Rattle.heap_past.specs.declared.events.PastEvent.{PastEvent}
 use Rattle.heap_past.specs.declared.events.PastEvent.TheVariants.{Put, Store, Register, New, Class, Snap, Mark, Drain, Finish, Sweep, Reclaim}
 use Rattle.heap_past.specs.declared.steps.PastStep.{PastStep}
 use Rattle.heap_past.specs.Newest.{AreNewest}
 use Rattle.session_text.specs.Replies.{and_number, line}
-use Rattle.question_text.specs.Ids.{and_id}
+use Rattle.question_text.specs.Ids.{and_id, and_reference}
 use Rattle.question_text.specs.Places.{IsAnswered}
 use Rattle.question_text.specs.Referrers.{count_text}
-
--- a space, and an id or `null`
-abbrev pub and_reference : ℕ → List ℕ
-and_reference x = if x == 0 then codes " null" else and_id x
 
 -- a space, a word, an id and the number of a slot
 abbrev pub and_slot : List ℕ → ℕ → ℕ → List ℕ

@@ -7,6 +7,7 @@ pub mod Referrers
 pub mod Registers
 pub mod Growths
 pub mod Paths
+pub mod Objects
 pub mod Places
 pub mod Births
 pub mod Writes

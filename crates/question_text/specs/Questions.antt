@@ -5,7 +5,7 @@ use Rattle.session_text.specs.Grammar.{at_end, number_of_word, words_of_line}
 use Rattle.question_text.specs.declared.question.At.{At}
 use Rattle.question_text.specs.declared.question.At.TheVariants.{Current, Pin, Place}
 use Rattle.question_text.specs.declared.question.Question.{Question}
-use Rattle.question_text.specs.declared.question.Question.TheVariants.{Histogram, Garbage, Growth, Registers, Referrers, Path, Born, Wrote, Dropped, History}
+use Rattle.question_text.specs.declared.question.Question.TheVariants.{Histogram, Garbage, Growth, Registers, Referrers, Path, Show, Born, Wrote, Dropped, History}
 use Rattle.question_text.specs.Ids.{id_of_word}
 
 -- the state that a word names: `-`, `@` and a place, or the number of a pin
@@ -66,6 +66,10 @@ referrers_line ws = option_map (λ a. Referrers a.0 a.1) (at_and_id ws)
 abbrev pub path_line : List (List ℕ) → Option Question
 path_line ws = option_map (λ a. Path a.0 a.1) (at_and_id ws)
 
+-- `show AT ID`
+abbrev pub show_line : List (List ℕ) → Option Question
+show_line ws = option_map (λ a. Show a.0 a.1) (at_and_id ws)
+
 -- the one id that the words name
 abbrev pub one_id : List (List ℕ) → Option ℕ
 one_id ws = option_and_then (λ x. at_end x.0 x.1) (next_id ws)
@@ -116,6 +120,7 @@ question_rules =
     ∷ (codes "registers", registers_line)
     ∷ (codes "referrers", referrers_line)
     ∷ (codes "path", path_line)
+    ∷ (codes "show", show_line)
     ∷ (codes "born", born_line)
     ∷ (codes "wrote", wrote_line)
     ∷ (codes "dropped", dropped_line)

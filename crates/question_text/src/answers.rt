@@ -4,6 +4,7 @@ ghost use Rattle.session_text.specs.Replies.{line_answer_text};
 ghost use Rattle.question_text.specs.Answers.{IsAnswer};
 ghost use Rattle.question_text.specs.Histograms.{IsGarbageText, IsHistogramText};
 ghost use Rattle.question_text.specs.Growths.{IsGrowthText};
+ghost use Rattle.question_text.specs.Objects.{IsShowText};
 ghost use Rattle.question_text.specs.Paths.{IsPathText};
 ghost use Rattle.question_text.specs.Registers.{IsRegistersText};
 ghost use Rattle.question_text.specs.Referrers.{IsReferrersText};
@@ -20,6 +21,7 @@ use crate::question::{At, Question};
 use crate::referrers::referrers_answer;
 use crate::registers::registers_answer;
 use crate::rows::{Unanswered, reason_line};
+use crate::show::show_answer;
 use crate::write::wrote_answer;
 use heap_trail::Machine;
 use session_text::LineAnswer;
@@ -94,6 +96,15 @@ fn path(alloc: Global, machine: &Machine, at: At, id: u64) -> Result<Vec<u8>, Un
     path_answer(alloc, &view, id)
 }
 
+// Returns the lines of `show AT ID`.
+fn show(alloc: Global, machine: &Machine, at: At, id: u64) -> Result<Vec<u8>, Unanswered>
+    ensures { IsAnswerAbout (IsShowText id) (image_at at machine.now) (told_text result) }
+{
+    let moment = moment_at(machine, at)?;
+    let view = view_of(machine, &moment)?;
+    show_answer(alloc, &view, id)
+}
+
 /// Returns the answer of a question about a machine, or the refusal NoMemory if an allocation fails.
 pub fn answer(alloc: Global, machine: &Machine, question: Question) -> LineAnswer
     ensures { IsAnswer question machine.now (line_answer_text result) }
@@ -105,6 +116,7 @@ pub fn answer(alloc: Global, machine: &Machine, question: Question) -> LineAnswe
         Question::Registers(at) => told(registers(alloc, machine, at)),
         Question::Referrers { at, id } => told(referrers(alloc, machine, at, id)),
         Question::Path { at, id } => told(path(alloc, machine, at, id)),
+        Question::Show { at, id } => told(show(alloc, machine, at, id)),
         Question::Born(id) => born_answer(machine, id),
         Question::Wrote { id, slot } => wrote_answer(machine, id, slot),
         Question::Dropped(id) => dropped_answer(alloc, machine, id),

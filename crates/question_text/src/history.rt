@@ -1,29 +1,17 @@
 //! The answer of `history`.
 ghost use Rattle.std.specs.Prelude.{◌≡◌, ◌++◌, flat_map, IfErr, IfOk, OnOk};
 ghost use Rattle.heap_class.specs.declared.Refusal.TheVariants.{NoMemory};
-ghost use Rattle.question_text.specs.Histories.{IsHistoryText, IsNewestText, and_overwritten, and_reference, and_slot, event_words, step_line};
+ghost use Rattle.question_text.specs.Histories.{IsHistoryText, IsNewestText, and_overwritten, and_slot, event_words, step_line};
 ghost use Rattle.question_text.specs.Moments.{told_text};
 ghost use Rattle.session_text.specs.Replies.{and_number};
 
-use crate::id::push_id;
+use crate::id::{push_id, push_reference};
 use crate::referrers::push_count;
 use crate::rows::{Unanswered, push_number, push_words};
 use heap_class::Refusal;
 use heap_past::{PastEvent, PastStep, history};
 use heap_trail::Machine;
 use std::alloc::Global;
-
-// Appends a space, and an id or `null`. Fails with NoMemory.
-fn push_reference(text: &mut Vec<u8>, id: u64) -> Result<(), Refusal>
-    ensures ok { OnOk result (text.new.items ≡ text.old.items ++ and_reference id) }
-    ensures refused { IfErr result (λ e. e ≡ NoMemory) }
-{
-    if id == 0 {
-        push_words(text, b" null")
-    } else {
-        push_id(text, id)
-    }
-}
 
 // Appends a word, an id and the number of a slot. Fails with NoMemory.
 fn push_slot(text: &mut Vec<u8>, word: &[u8], id: u64, slot: u64) -> Result<(), Refusal>

@@ -26,6 +26,7 @@ mod referrers;
 mod registers;
 mod rows;
 mod session;
+mod show;
 mod write;
 
 pub use answers::answer;

@@ -2,7 +2,7 @@
 ghost use Rattle.std.specs.Prelude.{◌≡◌};
 ghost use Rattle.session_text.specs.Grammar.{at_end, words_of_line};
 ghost use Rattle.session_text.specs.Reads.{IsNextWord};
-ghost use Rattle.question_text.specs.Questions.{at_and_id, at_of_word, born_line, dropped_line, garbage_line, growth_line, histogram_line, history_line, id_and_number, next_at, next_id, next_number, one_at, one_id, one_number, path_line, question_of, referrers_line, registers_line, two_ats, wrote_line};
+ghost use Rattle.question_text.specs.Questions.{at_and_id, at_of_word, born_line, dropped_line, garbage_line, growth_line, histogram_line, history_line, id_and_number, next_at, next_id, next_number, one_at, one_id, one_number, path_line, question_of, referrers_line, registers_line, show_line, two_ats, wrote_line};
 
 use crate::id::{id_of, is_word};
 use session_text::number::number_of;
@@ -34,6 +34,8 @@ pub enum Question {
     Referrers { at: At, id: u64 },
     /// Why an object is alive: a shortest path from a register.
     Path { at: At, id: u64 },
+    /// The slots of an object.
+    Show { at: At, id: u64 },
     /// When an object was made.
     Born(u64),
     /// When a slot of an object last changed.
@@ -158,6 +160,14 @@ fn path_line(words: Words) -> Option<Question>
     Some(Question::Path { at, id })
 }
 
+// Reads the words of `show AT ID`.
+fn show_line(words: Words) -> Option<Question>
+    ensures { result ≡ show_line (words_of_line words.entry) }
+{
+    let (at, id) = at_and_id(words)?;
+    Some(Question::Show { at, id })
+}
+
 // Returns the one id that the words name.
 fn one_id(mut words: Words) -> Option<u64>
     ensures { result ≡ one_id (words_of_line words.entry) }
@@ -247,6 +257,9 @@ pub fn question_of(line: &[u8]) -> Option<Question>
     }
     if is_word(word, b"path") {
         return path_line(words);
+    }
+    if is_word(word, b"show") {
+        return show_line(words);
     }
     if is_word(word, b"born") {
         return born_line(words);

@@ -10,7 +10,7 @@ use Rattle.question_text.specs.Growths.{IsGrowthText}
 use Rattle.question_text.specs.Help.{help_or_bad}
 use Rattle.question_text.specs.Histories.{IsHistoryText}
 use Rattle.question_text.specs.Losses.{IsDroppedText}
-use Rattle.question_text.specs.Objects.{IsShowText}
+use Rattle.question_text.specs.Objects.{IsShowText, shows_mark}
 use Rattle.question_text.specs.Paths.{IsPathText}
 use Rattle.question_text.specs.Registers.{IsRegistersText}
 use Rattle.question_text.specs.Referrers.{IsReferrersText}
@@ -26,7 +26,8 @@ IsAnswer (Growth older newer) m text =
 IsAnswer (Registers at) m text = IsAnswerAbout IsRegistersText (image_at at m) text
 IsAnswer (Referrers at x) m text = IsAnswerAbout (IsReferrersText x) (image_at at m) text
 IsAnswer (Path at x) m text = IsAnswerAbout (IsPathText x) (image_at at m) text
-IsAnswer (Show at x) m text = IsAnswerAbout (IsShowText x) (image_at at m) text
+IsAnswer (Show at x) m text =
+    IsAnswerAbout (IsShowText x (shows_mark at m x)) (image_at at m) text
 IsAnswer (Born x) m text = IsBornText x m.trail text
 IsAnswer (Wrote x s) m text = IsWroteText x s m.trail text
 IsAnswer (Dropped x) m text = IsDroppedText x m.trail text

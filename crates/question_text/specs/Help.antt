@@ -33,6 +33,7 @@ image_forms =
     ∷ form_of (codes "registers") (codes "registers AT") (codes "registers -")
     ∷ form_of (codes "referrers") (codes "referrers AT ID") (codes "referrers - 0x10000020")
     ∷ form_of (codes "path") (codes "path AT ID") (codes "path @120 0x10000020")
+    ∷ form_of (codes "show") (codes "show AT ID") (codes "show - 0x10000020")
     ∷ past_forms
 
 -- lines of rewinds, pins and the session, and those above

@@ -4,7 +4,7 @@ ghost use Rattle.session_text.specs.Replies.{line_answer_text};
 ghost use Rattle.question_text.specs.Answers.{IsAnswer};
 ghost use Rattle.question_text.specs.Histograms.{IsGarbageText, IsHistogramText};
 ghost use Rattle.question_text.specs.Growths.{IsGrowthText};
-ghost use Rattle.question_text.specs.Objects.{IsShowText};
+ghost use Rattle.question_text.specs.Objects.{IsShowText, shows_mark};
 ghost use Rattle.question_text.specs.Paths.{IsPathText};
 ghost use Rattle.question_text.specs.Registers.{IsRegistersText};
 ghost use Rattle.question_text.specs.Referrers.{IsReferrersText};
@@ -21,7 +21,7 @@ use crate::question::{At, Question};
 use crate::referrers::referrers_answer;
 use crate::registers::registers_answer;
 use crate::rows::{Unanswered, reason_line};
-use crate::show::show_answer;
+use crate::show::{show_answer, shows_mark};
 use crate::write::wrote_answer;
 use heap_trail::Machine;
 use session_text::LineAnswer;
@@ -98,11 +98,12 @@ fn path(alloc: Global, machine: &Machine, at: At, id: u64) -> Result<Vec<u8>, Un
 
 // Returns the lines of `show AT ID`.
 fn show(alloc: Global, machine: &Machine, at: At, id: u64) -> Result<Vec<u8>, Unanswered>
-    ensures { IsAnswerAbout (IsShowText id) (image_at at machine.now) (told_text result) }
+    ensures { IsAnswerAbout (IsShowText id (shows_mark at machine.now id))
+        (image_at at machine.now) (told_text result) }
 {
     let moment = moment_at(machine, at)?;
     let view = view_of(machine, &moment)?;
-    show_answer(alloc, &view, id)
+    show_answer(alloc, &view, id, shows_mark(machine, at, id))
 }
 
 /// Returns the answer of a question about a machine, or the refusal NoMemory if an allocation fails.

@@ -5,13 +5,16 @@ ghost use Rattle.heap_class.specs.declared.Refusal.TheVariants.{NoMemory};
 ghost use Rattle.hprof_text.specs.Image.{IsKnown};
 ghost use Rattle.question_text.specs.Moments.{IsToldOf, told_text};
 ghost use Rattle.question_text.specs.Names.{IsClassThere};
-ghost use Rattle.question_text.specs.Objects.{IsShowText, and_value, element_row, element_rows, field_row, field_rows, fields_up, object_line, object_text, slot_rows, value_text};
+ghost use Rattle.question_text.specs.Objects.{IsShowText, and_value, element_row, element_rows, field_row, field_rows, fields_up, is_marked, mark_text, object_line, object_text, shows_mark, slot_rows, value_text};
 
 use crate::id::push_reference;
 use crate::names::push_class_name;
+use crate::place::place_of_object;
+use crate::question::At;
 use crate::rows::{Unanswered, push_number, push_words};
 use heap_class::{ClassNo, FirstClasses, Kind, ObjKind, Refusal};
 use heap_questions::{ShownObject, object_with};
+use heap_trail::Machine;
 use hprof_text::View;
 use std::alloc::Global;
 
@@ -169,21 +172,36 @@ fn push_slots(
     }
 }
 
-// Appends the last line: the class and the number of the slots. The class must be there. Fails with NoMemory.
+// Appends what the last line says of an object that is marked. Fails with NoMemory.
+fn push_mark(text: &mut Vec<u8>, marked: bool) -> Result<(), Refusal>
+    ensures ok { OnOk result (text.new.items ≡ text.old.items ++ mark_text marked) }
+    ensures refused { IfErr result (λ e. e ≡ NoMemory) }
+{
+    if marked {
+        push_words(text, b" marked")
+    } else {
+        Ok(())
+    }
+}
+
+// Appends the last line: the class, the number of the slots and a mark. The class must be there. Fails with NoMemory.
 #[tactic(auto, unfolding(crate::specs::Objects::object_line))]
 fn push_object(
     text: &mut Vec<u8>,
     classes: &FirstClasses<'_>,
     kind: ObjKind,
     slots: u64,
+    marked: bool,
 ) -> Result<(), Refusal>
     requires { IsClassThere classes.now kind }
-    ensures ok { OnOk result (text.new.items ≡ text.old.items ++ object_line classes.now kind slots) }
+    ensures ok { OnOk result
+        (text.new.items ≡ text.old.items ++ object_line classes.now kind slots marked) }
     ensures refused { IfErr result (λ e. e ≡ NoMemory) }
 {
     push_words(text, b"ok object ")?;
     push_class_name(text, classes, kind)?;
     push_number(text, slots)?;
+    push_mark(text, marked)?;
     push_words(text, b"\n")
 }
 
@@ -192,26 +210,58 @@ fn object_lines(
     alloc: Global,
     classes: &FirstClasses<'_>,
     object: &ShownObject<'_>,
+    marked: bool,
 ) -> Result<Vec<u8>, Refusal>
     requires { IsClassThere classes.now object.now.kind }
-    ensures text { IfOk result (λ text. text.items ≡ object_text classes.now object.now) }
+    ensures text { IfOk result (λ text. text.items ≡ object_text classes.now object.now marked) }
     ensures refused { IfErr result (λ e. e ≡ NoMemory) }
 {
     let words = object.words();
     let mut text = Vec::new(alloc);
     push_slots(&mut text, classes, object.kind(), words)?;
-    push_object(&mut text, classes, object.kind(), words.len() as u64)?;
+    push_object(
+        &mut text,
+        classes,
+        object.kind(),
+        words.len() as u64,
+        marked,
+    )?;
     Ok(text)
 }
 
 /// Returns the answer of `show` about a view. Fails with NoObject if the id names no object, and with NoMemory if an allocation
 /// fails. Reads each object before it at most once.
-pub(crate) fn show_answer<V: View>(alloc: Global, view: &V, id: u64) -> Result<Vec<u8>, Unanswered>
-    ensures { IsToldOf (IsShowText id) (V.image view.now) (told_text result) }
+pub(crate) fn show_answer<V: View>(
+    alloc: Global,
+    view: &V,
+    id: u64,
+    marked: bool,
+) -> Result<Vec<u8>, Unanswered>
+    ensures { IsToldOf (IsShowText id marked) (V.image view.now) (told_text result) }
 {
     let classes = view.classes();
     match object_with(view, id) {
-        Some(object) => Ok(object_lines(alloc, &classes, &object)?),
+        Some(object) => Ok(object_lines(alloc, &classes, &object, marked)?),
         None => Err(Unanswered::NoObject),
+    }
+}
+
+// Tells whether the object with this id is there in the current state and marked.
+fn is_marked(machine: &Machine, id: u64) -> bool
+    ensures { result ≡ is_marked machine.now.trail.current id }
+{
+    match place_of_object(machine, id) {
+        Some(at) => machine.world().regions().bits(at).1,
+        None => false,
+    }
+}
+
+/// Tells whether an answer about a moment says that the object is marked: only if the moment is the current state.
+pub(crate) fn shows_mark(machine: &Machine, at: At, id: u64) -> bool
+    ensures { result ≡ shows_mark at machine.now id }
+{
+    match at {
+        At::Current => is_marked(machine, id),
+        _ => false,
     }
 }

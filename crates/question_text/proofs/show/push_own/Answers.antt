@@ -17,7 +17,7 @@ loop-field-preserved c =
     let row = field_row j name kind (get_or words j 0) in
     let rest = field_rows q (drop (i + 1) fields) (drop q words) in
     let more : field_rows j (drop i fields) (drop j words) ≡ row ++ rest =
-        rows_more i j q fields words name kind (omega arith) (omega arith) c.field_name-name.ensures c.field_kind-kind.ensures (omega arith) in
+    rows_more i j q fields words name kind (omega arith) (omega arith) c.field_name-name.ensures c.field_kind-kind.ensures (omega arith) in
     ap (λ (t : List ℕ). t ++ rest) c.in_ok-push_field.ensures.ok
     ∙ append_assoc c.loop-field.text.items row rest
     ∙ ap (λ (t : List ℕ). c.loop-field.text.items ++ t) (sym more)

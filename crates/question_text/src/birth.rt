@@ -1,5 +1,5 @@
 //! The answer of `born`.
-ghost use Rattle.std.specs.Prelude.{◌≡◌, IsSome};
+ghost use Rattle.std.specs.Prelude.{IsSome};
 ghost use Rattle.heap_region.specs.Regions.{object_at};
 ghost use Rattle.session_text.specs.Replies.{line_answer_text};
 ghost use Rattle.question_text.specs.Births.{IsBirthText, IsBornText};

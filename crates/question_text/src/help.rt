@@ -1,9 +1,9 @@
 //! The answers of `help`.
-ghost use Rattle.std.specs.Prelude.{◌≡◌, ◌++◌};
+ghost use Rattle.std.specs.Prelude.{◌≡◌};
 ghost use Rattle.std.specs.Option.{option_map};
 ghost use Rattle.session_text.specs.Grammar.{words_of_line};
 ghost use Rattle.session_text.specs.Replies.{line_answer_text};
-ghost use Rattle.question_text.specs.Help.{access_forms, all_forms, cycle_forms, form_with, help_about, help_of, help_or_bad, help_text, image_forms, making_forms, past_forms, pin_forms};
+ghost use Rattle.question_text.specs.Help.{access_forms, cycle_forms, form_with, help_about, help_of, help_or_bad, help_text, image_forms, making_forms, past_forms, pin_forms};
 
 use crate::id::is_word;
 use session_text::LineAnswer;

@@ -1,5 +1,5 @@
 //! The answer of `path`.
-ghost use Rattle.std.specs.Prelude.{◌≡◌, ◌++◌, ◌<◌, length, Some, IfErr, IfOk, IsSome, OnOk, slice_get};
+ghost use Rattle.std.specs.Prelude.{◌≡◌, ◌++◌, Some, IfErr, IfOk, IsSome, OnOk};
 ghost use Rattle.heap_class.specs.declared.Refusal.TheVariants.{NoMemory};
 ghost use Rattle.heap_questions.specs.Graph.{IsPathTo, followed, named};
 ghost use Rattle.question_text.specs.Moments.{IsToldOf, told_text};

@@ -2,7 +2,6 @@
 ghost use Rattle.std.specs.Prelude.{◌≡◌, ◌++◌, ◌<◌, ◌≤◌, Some, drop, length, min, IfErr, IfOk, IfSome, OnOk, slice_get};
 ghost use Rattle.heap_class.specs.Classes.{fields_of};
 ghost use Rattle.heap_class.specs.declared.Refusal.TheVariants.{NoMemory};
-ghost use Rattle.hprof_text.specs.Image.{IsKnown};
 ghost use Rattle.question_text.specs.Moments.{IsToldOf, told_text};
 ghost use Rattle.question_text.specs.Names.{IsClassThere};
 ghost use Rattle.question_text.specs.Objects.{IsShowText, and_value, element_row, element_rows, field_row, field_rows, fields_up, is_marked, mark_text, object_line, object_text, shows_mark, slot_rows, value_text};

@@ -41,3 +41,9 @@ each_there image (x ∷ xs) d = (named_there image x d, each_there image xs d)
 
 pub all_there : (image : Image) → IsDumpable image → All (NamesKnown image.classes) (map (object_named image) image.registers)
 all_there image d = All-from_recursion (NamesKnown image.classes) (map (object_named image) image.registers) (each_there image image.registers d)
+
+pub class_there : (image : Image) (x : ℕ) (o : DumpedObject) → IsDumpable image → object_with image x ≡ Some o → IsClassThere image.classes o.kind
+unfolding object_with
+class_there image x o d e =
+    subst (λ (p : Option DumpedObject). IsKindKnown image.classes (option_map (λ (o : DumpedObject). o.kind) p)) e
+    (found_there image.classes (λ o. o.id == x) image.objects (recursion_from_All (IsThere image.classes) image.objects d.known))

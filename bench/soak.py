@@ -24,6 +24,7 @@ import segments
 
 TOP = pathlib.Path(__file__).resolve().parent.parent
 sys.path.append(str(TOP / "clients/python"))
+
 from heapdbg import Ended, Refused, Session  # noqa: E402
 
 CLIENTS = int(os.environ.get("CLIENTS") or 8)
@@ -91,7 +92,7 @@ class Client(Session):
         well_formed = PATTERNS[word].fullmatch(got) and all(map(DATA.fullmatch, data))
         if not well_formed or (data and word not in ("dump", "piece")):
             self.wrong.append(f"{line!r} was answered {got!r} after {len(data)} data lines")
-        text = bytes.fromhex("".join(line[5:] for line in data))
+        text = bytes.fromhex("".join(each[5:] for each in data))
         if got.startswith("ok dump "):
             self.look_at(line, got, text)
         self.lines += 1
@@ -147,7 +148,7 @@ class Client(Session):
             self.write("end\n")
             if self.reader.read():
                 self.wrong.append("something came after the line end")
-        except (Ended, OSError) as error:
+        except (Ended, OSError, ValueError, IndexError) as error:
             self.wrong.append(f"the session broke off: {error!r}")
         self.stop()
 

@@ -3,11 +3,11 @@ ghost use Rattle.std.specs.Prelude.{◌≡◌};
 ghost use denote.Param.Send.{IsSync};
 ghost use Rattle.dump_meter.specs.Seats.{sum};
 
-use crate::runtime::Runtime;
 use dump_meter::{FeedSeat, Meter, NewMeter, OutSeat, ReadSeat};
 use dump_pump::{Pumped, WriteOutlet};
-use heap_lock::Heap;
+use heap_lock::{Heap, Shared};
 use live_dump::stream;
+use std::alloc::Global;
 use std::io::Write;
 use std::sync::Wait;
 use std::sync::atomic::{AtomicU64, Ordering};
@@ -29,9 +29,11 @@ fn follow(meter: &Meter, mut seat: ReadSeat, has_ended: &AtomicU64) -> u64
     0
 }
 
-/// Writes the dump of the current state. Returns how that ended, or None if no pin can be opened.
+/// Writes the dump of the current state. Returns how that ended, or None if no pin can be opened or closed.
 fn write<L: Heap + Send + Sync, W: Write + Drop, R: Threads + Wait + Sync>(
-    runtime: &Runtime<'_, L, R>,
+    rt: &R,
+    alloc: Global,
+    shared: &Shared<L>,
     file: W,
     meter: &Meter,
     mut out: OutSeat,
@@ -40,18 +42,12 @@ fn write<L: Heap + Send + Sync, W: Write + Drop, R: Threads + Wait + Sync>(
     requires out { out ≡ sum meter.now 0 }
     requires feed { feed.meter ≡ meter.now }
 {
-    let Runtime {
-        rt,
-        alloc,
-        shared,
-        ..
-    } = runtime;
-    let mut witness = shared.witness(*rt);
-    let pin = shared.open_pin(*rt, &mut witness, None).ok()?.pin;
+    let mut witness = shared.witness(rt);
+    let pin = shared.open_pin(rt, &mut witness, None).ok()?.pin;
     let mut outlet = WriteOutlet::new(file);
     let (pumped, _, mut witness) = stream(
-        *rt,
-        *alloc,
+        rt,
+        alloc,
         shared,
         witness,
         pin,
@@ -61,13 +57,47 @@ fn write<L: Heap + Send + Sync, W: Write + Drop, R: Threads + Wait + Sync>(
         &mut out,
         feed,
     );
-    shared.close_pin(*rt, &mut witness, pin).ok()?;
+    shared.close_pin(rt, &mut witness, pin).ok()?;
     Some(pumped)
 }
 
-/// Writes a dump, while a thread of its own reads the meter. Returns how it ended, and the bytes read last.
+/// Writes a dump while another thread reads its meter. Returns how the dump ended, and the bytes that were read last.
+fn write_beside<L: Heap + Send + Sync, W: Write + Drop, R: Threads + Wait + Sync>(
+    rt: &R,
+    alloc: Global,
+    shared: &Shared<L>,
+    file: W,
+    meter: &Meter,
+    reader: ReadSeat,
+    out: OutSeat,
+    feed: FeedSeat,
+) -> (u64, Option<Pumped>)
+    requires reader { reader.meter ≡ meter.now }
+    requires out { out ≡ sum meter.now 0 }
+    requires feed { feed.meter ≡ meter.now }
+{
+    let has_ended = AtomicU64::new(0);
+    let ended = &has_ended;
+    join(
+        rt,
+        move || -> u64
+            requires { reader.meter ≡ meter.now }
+        { follow(meter, reader, ended) },
+        move || -> Option<Pumped>
+            requires { IsSync R.row × (out ≡ sum meter.now 0) × (feed.meter ≡ meter.now) }
+        {
+            let pumped = write(rt, alloc, shared, file, meter, out, feed);
+            ended.store(1, Ordering::SeqCst);
+            pumped
+        },
+    )
+}
+
+/// Dumps the heap. Returns how that ended, and the bytes that another thread read last of its meter.
 pub fn dump<L: Heap + Send + Sync, W: Write + Drop, R: Threads + Wait + Sync>(
-    runtime: &Runtime<'_, L, R>,
+    rt: &R,
+    alloc: Global,
+    shared: &Shared<L>,
     file: W,
 ) -> Option<(Pumped, u64)> {
     let NewMeter {
@@ -76,22 +106,8 @@ pub fn dump<L: Heap + Send + Sync, W: Write + Drop, R: Threads + Wait + Sync>(
         mut readers,
         askers: _,
         feed,
-    } = Meter::new(runtime.alloc, 1, 0).ok()?;
+    } = Meter::new(alloc, 1, 0).ok()?;
     let reader = readers.pop()?;
-    let has_ended = AtomicU64::new(0);
-    let (meter_now, ended_now) = (&meter, &has_ended);
-    let (read, pumped) = join(
-        runtime.rt,
-        move || -> u64
-            requires { reader.meter ≡ meter_now.now }
-        { follow(meter_now, reader, ended_now) },
-        move || -> Option<Pumped>
-            requires { IsSync R.row × (out ≡ sum meter_now.now 0) × (feed.meter ≡ meter_now.now) }
-        {
-            let pumped = write(runtime, file, meter_now, out, feed);
-            ended_now.store(1, Ordering::SeqCst);
-            pumped
-        },
-    );
-    Some((pumped?, read))
+    let (bytes, pumped) = write_beside(rt, alloc, shared, file, &meter, reader, out, feed);
+    Some((pumped?, bytes))
 }

@@ -7,19 +7,20 @@ ghost use Rattle.std.specs.Prelude.{◌≡◌};
 mod collector;
 mod dumper;
 mod mutator;
+mod pace;
 mod past;
-mod runtime;
 
 use collector::{mark, sweep};
 use dump_pump::Pumped;
 use dumper::dump;
 use heap_class::{Field, Fields, Kind, Name};
-use heap_lock::{Blank, Heap, Role, Seats};
+use heap_lock::{Blank, Heap, Receipt, Role, Seat, Shared, audit};
 use heap_step::Event;
+use heap_trail::Action;
 use heap_world::Config;
 use mutator::run;
+use pace::Pace;
 use past::rewound;
-use runtime::Runtime;
 use std::alloc::{AllocError, Global};
 use std::io::Write;
 use std::marker::Brand;
@@ -41,6 +42,9 @@ const NODE: u64 = 0;
 
 const MAP: u64 = 1;
 
+/// What a thread did, each action with its receipt.
+type Claims = Vec<(Action, Receipt)>;
+
 /// Creates the definition of the class of nodes.
 fn node_class(alloc: Global) -> Result<Event, AllocError> {
     let mut fields = Vec::new(alloc);
@@ -55,80 +59,131 @@ fn node_class(alloc: Global) -> Result<Event, AllocError> {
     })
 }
 
-/// Tells whether a dump ended whole, and as many bytes were read of its meter.
-fn is_whole(dumped: (Pumped, u64)) -> bool {
-    let (pumped, read) = dumped;
-    pumped == Pumped::Done { bytes: read }
-}
-
-/// Has all threads work, and prints what came of them. Returns None if anything was refused.
-fn work<L: Heap + Send + Sync, W: Write + Drop, R: Threads + Wait + Print + Sync>(
-    runtime: &Runtime<'_, L, R>,
-    seats: &mut Seats<L>,
-    file: W,
+/// Defines a class. Returns None if that is refused.
+fn define<L: Heap, R: Wait>(
+    rt: &R,
+    shared: &Shared<L>,
+    user: &mut Seat<L>,
+    class: Event,
 ) -> Option<()> {
-    let (one, two) = (seats.take()?, seats.take()?);
-    let (marker, sweeper) = (seats.take()?, seats.take()?);
-    let rt = runtime.rt;
-    let ((one, two), (ends, (swept, dumped))) = join(
-        rt,
-        move || join(
-            rt,
-            move || run(runtime, 0, one),
-            move || run(runtime, 1, two),
-        ),
-        move || {
-            join(
-                rt,
-                move || mark(runtime, marker),
-                move || join(
-                    rt,
-                    move || sweep(runtime, sweeper),
-                    move || dump(runtime, file),
-                ),
-            )
-        },
-    );
-    swept?;
-    let (one, two) = (runtime.audited(&one?)?, runtime.audited(&two?)?);
-    let ends = runtime.audited(&ends?)?;
-    println!(rt; "2 mutators did {} acts", one.saturating_add(two)).ok()?;
-    println!(rt; "{ends} cycles were marked and swept beside them").ok()?;
-    println!(rt; "a dump was written beside them: {}", is_whole(dumped?)).ok()
+    if !user.may(&class) {
+        return None;
+    }
+    match shared.act(rt, user, class) {
+        Ok(_) => Some(()),
+        Err(_) => None,
+    }
 }
 
-/// Opens the heap, defines the classes, and has all threads work. Returns None if anything was refused.
-fn open<L: Heap + Send + Sync, W: Write + Drop, R: Threads + Wait + Print + Sync>(
+/// Returns the number of claims if an audit agrees with all of them.
+fn audited<L: Heap, R: Wait>(rt: &R, shared: &Shared<L>, claims: &Claims) -> Option<u64> {
+    let kept = shared.lock(rt);
+    if audit(&*kept, claims.as_slice()) {
+        return Some(claims.len() as u64);
+    }
+    None
+}
+
+/// What the threads did: the claims of the mutators and of the marker, and the dump with the bytes read of its meter.
+type Done = (
+    Option<Claims>,
+    Option<Claims>,
+    Option<Claims>,
+    Option<(Pumped, u64)>,
+);
+
+/// Has all threads work.
+fn work<L: Heap + Send + Sync, W: Write + Drop, R: Threads + Wait + Sync>(
     rt: &R,
     alloc: Global,
-    blank: Blank,
+    shared: &Shared<L>,
+    mutators: (Seat<L>, Seat<L>),
+    workers: (Seat<L>, Seat<L>),
     file: W,
-) -> Option<()>
-    requires { (blank.config ≡ L.config) × (blank.tables ≡ L.tables) × (blank.ledger ≡ L.ledger) }
-{
-    let (shared, mut seats) = blank.open::<L>();
-    let runtime = Runtime {
-        rt,
-        alloc,
-        shared,
+) -> Done {
+    let pace = Pace {
         ended: AtomicU64::new(0),
         marked: AtomicU64::new(0),
         swept: AtomicU64::new(0),
     };
-    let mut user = seats.take()?;
-    let name = Name::new(alloc, b"[Node;").ok()?;
-    runtime.act(&mut user, node_class(alloc).ok()?)?;
-    runtime.act(&mut user, Event::ArrayClass { name })?;
-    work(&runtime, &mut seats, file)
+    let at = &pace;
+    let (one, two) = mutators;
+    let (marker, sweeper) = workers;
+    let ((one, two), (ends, (swept, dumped))) = join(
+        rt,
+        move || {
+            join(
+                rt,
+                move || run(rt, alloc, shared, at, 0, one),
+                move || run(rt, alloc, shared, at, 1, two),
+            )
+        },
+        move || {
+            join(
+                rt,
+                move || mark(rt, alloc, shared, at, marker),
+                move || {
+                    join(
+                        rt,
+                        move || sweep(rt, shared, at, sweeper),
+                        move || dump(rt, alloc, shared, file),
+                    )
+                },
+            )
+        },
+    );
+    let ends = if swept.is_some() { ends } else { None };
+    (one, two, ends, dumped)
 }
 
-/// Does all. Returns None if anything was refused.
-fn perform<W: Write + Drop, R: Threads + Wait + Print + Sync>(
+/// What came of it: the acts of the mutators and the ends of cycles that an audit agrees with, and whether the dump is whole.
+#[derive(Clone, Copy)]
+struct Report {
+    acts: u64,
+    cycles: u64,
+    is_whole: bool,
+}
+
+/// Audits what the threads did. Returns None if an audit doesn't agree, or something was refused.
+fn audit_all<L: Heap, R: Wait>(rt: &R, shared: &Shared<L>, done: &Done) -> Option<Report> {
+    let (Some(one), Some(two), Some(ends), Some(dumped)) = done else {
+        return None;
+    };
+    let (one, two) = (audited(rt, shared, one)?, audited(rt, shared, two)?);
+    Some(Report {
+        acts: one.saturating_add(two),
+        cycles: audited(rt, shared, ends)?,
+        is_whole: dumped.0 == Pumped::Done { bytes: dumped.1 },
+    })
+}
+
+/// Opens the heap, defines the classes, and has all threads work. Returns None if anything was refused.
+fn open<L: Heap + Send + Sync, W: Write + Drop, R: Threads + Wait + Sync>(
     rt: &R,
     alloc: Global,
+    blank: Blank,
+    classes: (Event, Event),
     file: W,
-) -> Option<()> {
-    let config = Config::new(REGIONS, 2, 1024)?;
+) -> Option<Report>
+    requires { (blank.config ≡ L.config) × (blank.tables ≡ L.tables) × (blank.ledger ≡ L.ledger) }
+{
+    let (shared, mut seats) = blank.open::<L>();
+    let mut user = seats.take()?;
+    let mutators = (seats.take()?, seats.take()?);
+    let workers = (seats.take()?, seats.take()?);
+    define(rt, &shared, &mut user, classes.0)?;
+    define(rt, &shared, &mut user, classes.1)?;
+    let done = work(rt, alloc, &shared, mutators, workers, file);
+    audit_all(rt, &shared, &done)
+}
+
+/// Creates the heap, and has the threads work on it. Returns None if anything was refused.
+fn shared_heap<W: Write + Drop, R: Threads + Wait + Sync>(
+    rt: &R,
+    alloc: Global,
+    config: Config,
+    file: W,
+) -> Option<Report> {
     let roles = [
         Role::User,
         Role::Mutator(0),
@@ -136,16 +191,30 @@ fn perform<W: Write + Drop, R: Threads + Wait + Print + Sync>(
         Role::Marker,
         Role::Sweeper,
     ];
+    let name = Name::new(alloc, b"[Node;").ok()?;
+    let classes = (node_class(alloc).ok()?, Event::ArrayClass { name });
     let blank = Blank::new(alloc, config, roles.as_slice()).ok()?;
-    open::<Brand, W, R>(rt, alloc, blank, file)?;
-    let place = rewound(alloc, config).ok()?;
-    println!(rt; "a machine of its own is back at place {place}").ok()
+    open::<Brand, W, R>(rt, alloc, blank, classes, file)
 }
 
 fn main(rt: HostRuntime) -> io::Result<()> {
     let file = fs::create(&rt, FILE)?;
-    if perform(&rt, rt.alloc(), file).is_none() {
-        println!(rt; "something was refused")?;
+    let Some(config) = Config::new(REGIONS, 2, 1024) else {
+        return Ok(());
+    };
+    let Some(report) = shared_heap(&rt, rt.alloc(), config, file) else {
+        return println!(rt; "something was refused");
+    };
+    println!(rt; "{} acts of 2 mutators stand in the audit", report.acts)?;
+    println!(rt;
+        "{} cycles were marked and swept beside them",
+        report.cycles
+    )?;
+    println!(rt; "the dump beside them is whole: {}", report.is_whole)?;
+    let size = fs::metadata(&rt, FILE)?.len();
+    println!(rt; "the file begins as a dump: {}", size > 100)?;
+    match rewound(rt.alloc(), config) {
+        Ok(place) => println!(rt; "a machine of its own is back at place {place}"),
+        Err(refusal) => println!(rt; "refused: {}", refusal.name()),
     }
-    Ok(())
 }

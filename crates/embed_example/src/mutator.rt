@@ -1,9 +1,10 @@
 //! A mutator: it builds a list and a map of nodes and drops both, round after round.
-use crate::runtime::{Claims, Runtime, wait_for};
-use crate::{MAP, NODE, ROUNDS};
-use heap_lock::{Heap, Seat};
+use crate::pace::{Pace, wait_for};
+use crate::{Claims, MAP, NODE, ROUNDS};
+use heap_lock::{Heap, Outcome, Seat, Shared};
 use heap_step::Event;
 use heap_trail::Action;
+use std::alloc::Global;
 use std::sync::Wait;
 use std::sync::atomic::Ordering;
 
@@ -15,91 +16,124 @@ const KEYS: u64 = 49;
 /// The number of rounds that a mutator may be ahead of the sweeper.
 const AHEAD: u64 = 2;
 
-/// A mutator of number `m`, with its seat and what it did.
+/// What a mutator does to its registers.
+#[derive(Clone, Copy)]
+enum Deed {
+    /// Makes a node in a register.
+    Node(u64),
+    /// Makes a map, an array of nodes by key, in a register.
+    Map(u64),
+    /// Links a slot of the object in a register to the object in another.
+    Link(u64, u64, u64),
+    /// Makes a register null.
+    Forget(u64),
+}
+
+/// Creates the event of a mutator's deed.
+fn event_of(m: u64, deed: Deed) -> Event {
+    match deed {
+        Deed::Node(r) => Event::New { m, r, class: NODE },
+        Deed::Map(r) => Event::NewArray {
+            m,
+            r,
+            class: MAP,
+            len: KEYS,
+        },
+        Deed::Link(target, slot, source) => Event::Store {
+            m,
+            target,
+            slot,
+            source,
+        },
+        Deed::Forget(r) => Event::Clear { m, r },
+    }
+}
+
+/// A mutator with its number, its seat, and what it did.
 #[derive(Drop)]
-struct Mutator<'a, L: Heap, R> {
-    runtime: &'a Runtime<'a, L, R>,
+struct Mutator<L: Heap> {
     m: u64,
     seat: Seat<L>,
     claims: Claims,
 }
 
-impl<L: Heap, R: Wait> Mutator<'_, L, R> {
-    /// Does the event that `make` creates, and keeps its receipt. Returns None if it is refused.
-    fn act<F: Fn() -> Event>(&mut self, make: F) -> Option<()>
-        requires { F.IsAlwaysCallable make }
-    {
-        let receipt = self.runtime.act(&mut self.seat, make())?;
-        self.claims.push((Action::Step(make()), receipt)).ok()
+/// Does a deed, and keeps its receipt. Returns None if it is refused.
+fn does<L: Heap, R: Wait>(
+    rt: &R,
+    shared: &Shared<L>,
+    mutator: &mut Mutator<L>,
+    deed: Deed,
+) -> Option<()> {
+    let event = event_of(mutator.m, deed);
+    if !mutator.seat.may(&event) {
+        return None;
     }
-
-    /// Makes a node in a register.
-    fn node(&mut self, r: u64) -> Option<()> {
-        let m = self.m;
-        self.act(move || Event::New { m, r, class: NODE })
-    }
-
-    /// Links a slot of the object in a register to the object in another.
-    fn link(&mut self, target: u64, slot: u64, source: u64) -> Option<()> {
-        let m = self.m;
-        self.act(move || Event::Store {
-            m,
-            target,
-            slot,
-            source,
-        })
-    }
-
-    /// Builds a list in registers 0 and 1, each node linked to the one before it.
-    fn build_list(&mut self) -> Option<()> {
-        for i in 0..NODES {
-            self.node(i % 2)?;
-            self.link(i % 2, 0, 1 - i % 2)?;
-        }
-        Some(())
-    }
-
-    /// Builds a map in register 2: an array of nodes, with the key as index.
-    fn build_map(&mut self) -> Option<()> {
-        let m = self.m;
-        self.act(move || Event::NewArray {
-            m,
-            r: 2,
-            class: MAP,
-            len: KEYS,
-        })?;
-        for key in 0..KEYS {
-            self.node(3)?;
-            self.link(2, key, 3)?;
-        }
-        Some(())
-    }
-
-    /// Drops list and map.
-    fn drop_both(&mut self) -> Option<()> {
-        let m = self.m;
-        for r in 0..4u64 {
-            self.act(move || Event::Clear { m, r })?;
-        }
-        Some(())
+    let receipt = shared.act(rt, &mut mutator.seat, event).ok()?;
+    let action = Action::Step(event_of(mutator.m, deed));
+    mutator.claims.push((action, receipt)).ok()?;
+    match receipt.answer {
+        Outcome::Answered(_) => Some(()),
+        _ => None,
     }
 }
 
-/// Builds and drops, at most some rounds ahead of the sweeper, so that the heap has room. Returns what the mutator did.
-pub fn run<L: Heap, R: Wait>(runtime: &Runtime<'_, L, R>, m: u64, seat: Seat<L>) -> Option<Claims> {
-    let claims = Vec::new(runtime.alloc);
-    let mut mutator = Mutator {
-        runtime,
-        m,
-        seat,
-        claims,
-    };
-    for round in 0..ROUNDS {
-        wait_for(&runtime.swept, round.saturating_sub(AHEAD))?;
-        mutator.build_list()?;
-        mutator.build_map()?;
-        mutator.drop_both()?;
-        runtime.ended.fetch_add(1, Ordering::SeqCst);
+/// Builds a list in registers 0 and 1, each node linked to the one before it.
+fn build_list<L: Heap, R: Wait>(
+    rt: &R,
+    shared: &Shared<L>,
+    mutator: &mut Mutator<L>,
+) -> Option<()> {
+    for i in 0..NODES {
+        does(rt, shared, mutator, Deed::Node(i % 2))?;
+        does(rt, shared, mutator, Deed::Link(i % 2, 0, 1 - i % 2))?;
     }
-    Some(mutator.claims)
+    Some(())
+}
+
+/// Builds a map in register 2, and its nodes in register 3.
+fn build_map<L: Heap, R: Wait>(rt: &R, shared: &Shared<L>, mutator: &mut Mutator<L>) -> Option<()> {
+    does(rt, shared, mutator, Deed::Map(2))?;
+    for key in 0..KEYS {
+        does(rt, shared, mutator, Deed::Node(3))?;
+        does(rt, shared, mutator, Deed::Link(2, key, 3))?;
+    }
+    Some(())
+}
+
+/// Builds list and map, and drops both.
+fn build_and_drop<L: Heap, R: Wait>(
+    rt: &R,
+    shared: &Shared<L>,
+    mutator: &mut Mutator<L>,
+) -> Option<()> {
+    build_list(rt, shared, mutator)?;
+    build_map(rt, shared, mutator)?;
+    for r in 0..4u64 {
+        does(rt, shared, mutator, Deed::Forget(r))?;
+    }
+    Some(())
+}
+
+/// Builds and drops in rounds, at most some ahead of the sweeper, so that the heap has room. Returns what mutator `m` did.
+pub fn run<L: Heap, R: Wait>(
+    rt: &R,
+    alloc: Global,
+    shared: &Shared<L>,
+    pace: &Pace,
+    m: u64,
+    seat: Seat<L>,
+) -> Option<Claims> {
+    let claims = Vec::new(alloc);
+    let mut mutator = Mutator { m, seat, claims };
+    for round in 0..ROUNDS {
+        wait_for(&pace.swept, round.saturating_sub(AHEAD))?;
+        build_and_drop(rt, shared, &mut mutator)?;
+        pace.ended.fetch_add(1, Ordering::SeqCst);
+    }
+    let Mutator {
+        m: _,
+        seat: _,
+        claims,
+    } = mutator;
+    Some(claims)
 }

@@ -14,14 +14,15 @@ use collector::{mark, sweep};
 use dump_pump::Pumped;
 use dumper::dump;
 use heap_class::{Field, Fields, Kind, Name};
-use heap_lock::{Blank, Heap, Receipt, Role, Seat, Shared, audit};
-use heap_step::Event;
+use heap_lock::{Blank, Heap, Outcome, Receipt, Role, Seat, Shared, audit};
+use heap_step::{Answer, Event};
 use heap_trail::Action;
 use heap_world::Config;
 use mutator::run;
 use pace::Pace;
 use past::rewound;
 use std::alloc::{AllocError, Global};
+use std::fs::Files;
 use std::io::Write;
 use std::marker::Brand;
 use std::sync::Wait;
@@ -84,6 +85,17 @@ fn audited<L: Heap, R: Wait>(rt: &R, shared: &Shared<L>, claims: &Claims) -> Opt
     None
 }
 
+/// Returns the number of objects that were made.
+fn made_by(claims: &Claims) -> u64 {
+    let mut made: u64 = 0;
+    for (_, receipt) in claims {
+        if let Outcome::Answered(Answer::Object(_)) = receipt.answer {
+            made = made.saturating_add(1);
+        }
+    }
+    made
+}
+
 /// What the threads did: the claims of the mutators and of the marker, and the dump with the bytes read of its meter.
 type Done = (
     Option<Claims>,
@@ -136,24 +148,30 @@ fn work<L: Heap + Send + Sync, W: Write + Drop, R: Threads + Wait + Sync>(
     (one, two, ends, dumped)
 }
 
-/// What came of it: the acts of the mutators and the ends of cycles that an audit agrees with, and whether the dump is whole.
+/// What came of it: the objects that mutators made, the cycles that were swept, the receipts that stand, how the dump ended, and
+/// the bytes that were read of its meter.
 #[derive(Clone, Copy)]
 struct Report {
-    acts: u64,
+    made: u64,
     cycles: u64,
-    is_whole: bool,
+    receipts: u64,
+    pumped: Pumped,
+    read: u64,
 }
 
-/// Audits what the threads did. Returns None if an audit doesn't agree, or something was refused.
+/// Audits what the threads did. Returns None if a receipt doesn't stand, or something was refused.
 fn audit_all<L: Heap, R: Wait>(rt: &R, shared: &Shared<L>, done: &Done) -> Option<Report> {
-    let (Some(one), Some(two), Some(ends), Some(dumped)) = done else {
+    let (Some(one), Some(two), Some(ends), Some((pumped, read))) = done else {
         return None;
     };
-    let (one, two) = (audited(rt, shared, one)?, audited(rt, shared, two)?);
+    let acts = audited(rt, shared, one)?.saturating_add(audited(rt, shared, two)?);
+    let cycles = audited(rt, shared, ends)?;
     Some(Report {
-        acts: one.saturating_add(two),
-        cycles: audited(rt, shared, ends)?,
-        is_whole: dumped.0 == Pumped::Done { bytes: dumped.1 },
+        made: made_by(one).saturating_add(made_by(two)),
+        cycles,
+        receipts: acts.saturating_add(cycles),
+        pumped: *pumped,
+        read: *read,
     })
 }
 
@@ -197,24 +215,33 @@ fn shared_heap<W: Write + Drop, R: Threads + Wait + Sync>(
     open::<Brand, W, R>(rt, alloc, blank, classes, file)
 }
 
-fn main(rt: HostRuntime) -> io::Result<()> {
-    let file = fs::create(&rt, FILE)?;
-    let Some(config) = Config::new(REGIONS, 2, 1024) else {
-        return Ok(());
-    };
-    let Some(report) = shared_heap(&rt, rt.alloc(), config, file) else {
-        return println!(rt; "something was refused");
-    };
-    println!(rt; "{} acts of 2 mutators stand in the audit", report.acts)?;
+/// Prints what came of the threads.
+fn print_report<R: Print + Files>(rt: &R, report: &Report) -> io::Result<()> {
+    let size = fs::metadata(rt, FILE)?.len();
+    let is_whole = report.pumped == Pumped::Done { bytes: size } && report.read == size;
+    println!(rt;
+        "2 mutators made {} objects, in a heap that holds 4096 nodes",
+        report.made
+    )?;
     println!(rt;
         "{} cycles were marked and swept beside them",
         report.cycles
     )?;
-    println!(rt; "the dump beside them is whole: {}", report.is_whole)?;
-    let size = fs::metadata(&rt, FILE)?.len();
-    println!(rt; "the file begins as a dump: {}", size > 100)?;
+    println!(rt; "a dump was written beside them, whole by file and meter: {is_whole}")?;
+    println!(rt; "{} receipts stand in the audit", report.receipts)
+}
+
+fn main(rt: HostRuntime) -> io::Result<()> {
+    let file = fs::create(&rt, FILE)?;
+    let Some(config) = Config::new(REGIONS, 2, 1024) else {
+        return println!(rt; "the settings are out of range");
+    };
+    match shared_heap(&rt, rt.alloc(), config, file) {
+        Some(report) => print_report(&rt, &report)?,
+        None => println!(rt; "something was refused")?,
+    }
     match rewound(rt.alloc(), config) {
-        Ok(place) => println!(rt; "a machine of its own is back at place {place}"),
-        Err(refusal) => println!(rt; "refused: {}", refusal.name()),
+        Ok(place) => println!(rt; "a machine of its own is back at place {place} of 4"),
+        Err(refusal) => println!(rt; "it was refused: {}", refusal.name()),
     }
 }

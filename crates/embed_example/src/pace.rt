@@ -13,6 +13,17 @@ pub struct Pace {
     pub swept: AtomicU64,
 }
 
+impl Pace {
+    /// Creates the numbers, all 0.
+    pub fn new() -> Pace {
+        Pace {
+            ended: AtomicU64::new(0),
+            marked: AtomicU64::new(0),
+            swept: AtomicU64::new(0),
+        }
+    }
+}
+
 /// Waits until a number is at least `least`. Returns None if that takes too long.
 pub fn wait_for(number: &AtomicU64, least: u64) -> Option<()> {
     for _ in 0..LOOKS {

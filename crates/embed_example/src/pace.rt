@@ -3,7 +3,7 @@ use std::sync::atomic::{AtomicU64, Ordering};
 use std::thread::yield_now;
 
 /// The number of times that a thread looks before it gives up waiting.
-const LOOKS: u64 = 10_000_000;
+const LOOKS: u64 = 100_000_000;
 
 /// The number of rounds that mutators ended, of cycles that were marked, and of cycles that were swept.
 #[derive(Drop)]

@@ -1,5 +1,5 @@
 -- The classes of what registers name are there.
-use Rattle.std.proofs.Common.{◌≡◌, ℕ, Bool, true, false, cond, List, [], ◌∷◌, Option, Some, None, length, map, refl, subst}
+use Rattle.std.proofs.Common.{◌≡◌, ℕ, Bool, true, false, cond, List, [], ◌∷◌, Option, Some, length, map, subst}
 use Rattle.std.specs.Prelude.{All, find, option_map, ◌==◌}
 use Rattle.std.specs.List.{AllByRecursion}
 use Rattle.std.proofs.lemmas.List.Elements.{All-from_recursion, recursion_from_All}
@@ -7,7 +7,6 @@ use Rattle.heap_class.specs.declared.ObjKind.{ObjKind}
 use Rattle.heap_class.specs.declared.ObjKind.TheVariants.{Instance, Array, Prim}
 use Rattle.heap_class.specs.Classes.{Class}
 use Rattle.hprof_text.specs.Image.{DumpedObject, Image, IsDumpable, IsKnown}
-use Rattle.heap_questions.specs.declared.registers.NamedObject.{NamedObject}
 use Rattle.heap_questions.specs.Graph.{object_with}
 use Rattle.heap_questions.specs.Registers.{object_named}
 use Rattle.question_text.specs.Names.{IsClassThere}

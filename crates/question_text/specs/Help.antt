@@ -1,5 +1,5 @@
 -- The answers of `help`.
-use Rattle.std.specs.Prelude.{ℕ, List, [], ◌∷◌, ◌++◌, codes, find, flat_map, Option, Some, None, option_map, unwrap_or, if◌then◌else◌}
+use Rattle.std.specs.Prelude.{ℕ, List, [], ◌∷◌, ◌++◌, codes, find, flat_map, IsSome, Option, Some, None, option_map, unwrap_or, if◌then◌else◌}
 use Rattle.std.specs.Str.{bytes_eq}
 use Rattle.session_text.specs.Grammar.{words_of_line}
 use Rattle.session_text.specs.Replies.{line}
@@ -97,6 +97,10 @@ form_text f = help_row f.form ++ (help_row f.example ++ codes "ok\n")
 -- the same of the line with this keyword, if these have it
 unfoldable pub form_with : List LineForm → List ℕ → Option (List ℕ)
 form_with forms w = option_map form_text (find (λ f. bytes_eq w f.key) forms)
+
+-- a line with this keyword has a form
+abbrev pub HasForm : List ℕ → Type 0
+HasForm key = IsSome (form_with all_forms key)
 
 -- the answer of `help` and these words
 abbrev pub help_about : List (List ℕ) → Option (List ℕ)

@@ -3,10 +3,11 @@
 
 ghost use Rattle.std.specs.Prelude.{◌≡◌, ℕ, List, Some};
 ghost use Rattle.session_text.specs.declared.command.Command.TheVariants.{Bad};
-ghost use Rattle.session_text.specs.Grammar.{command_of_text};
+ghost use Rattle.std.specs.List.{AllByRecursion};
+ghost use Rattle.session_text.specs.Grammar.{Rule, all_rules, command_of_text};
 ghost use Rattle.question_text.specs.declared.question.Question.{Question};
-ghost use Rattle.question_text.specs.Help.{help_of};
-ghost use Rattle.question_text.specs.Questions.{question_of};
+ghost use Rattle.question_text.specs.Help.{HasForm, help_of};
+ghost use Rattle.question_text.specs.Questions.{QuestionRule, question_of, question_rules};
 
 mod answers;
 mod asking;
@@ -42,4 +43,10 @@ pub fn questions_are_new()
 /// States the same of a line that asks for help.
 pub fn help_is_new()
     ensures { (l text : List ℕ) → help_of l ≡ Some text → command_of_text l ≡ Bad }
+{}
+
+/// States that `help` knows the keyword of each line of the grammar of sessions, and of each question.
+pub fn help_is_whole()
+    ensures sessions { AllByRecursion (λ (r : Rule). HasForm r.0) all_rules }
+    ensures questions { AllByRecursion (λ (r : QuestionRule). HasForm r.0) question_rules }
 {}

@@ -1,4 +1,3 @@
-use Rattle.std.proofs.Common.{arith}
 use Rattle.question_text.proofs.FieldNames.{id_stands, named_by_id}
 use Rattle.question_text.proofs.show.field_name.Goals as goal
 

@@ -1,10 +1,8 @@
-use Rattle.std.proofs.Common.{◌≡◌, ◌∙◌, Bool, false, List, Option, Some, None, ap, subst, sym}
-use Rattle.std.specs.Prelude.{IfSome, IsSome, MatchOption}
+use Rattle.std.proofs.Common.{◌≡◌, ◌∙◌, List, ap, subst, sym}
+use Rattle.std.specs.Prelude.{IfSome, IsSome}
 use Rattle.heap_region.specs.Pool.{RegionPool}
-use Rattle.heap_region.specs.Regions.{Object, Region, object_at, object_of}
+use Rattle.heap_region.specs.Regions.{Region, object_at}
 use Rattle.heap_world.specs.State.{HeapState}
-use Rattle.question_text.specs.Objects.{is_marked}
-use Rattle.question_text.specs.Places.{StandsAt}
 use Rattle.question_text.proofs.Slots.{mark_there, mark_none}
 use Rattle.question_text.proofs.show.is_marked.Goals as goal
 

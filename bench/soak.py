@@ -9,6 +9,7 @@ the memory of the program after the first minute and at the end, with the acts d
 
 A heap that is served takes 1,000,000 acts in all, so the clients pause between pages as long as that they don't run out of them.
 No reply says at which turn it was given, so whether they fit one history can't be seen here: `audit.py` looks at that."""
+import contextlib
 import os
 import pathlib
 import random
@@ -22,6 +23,10 @@ import time
 import segments
 
 TOP = pathlib.Path(__file__).resolve().parent.parent
+sys.path.append(str(TOP / "clients/python"))
+
+from heapdbg import Ended, Refused, Session  # noqa: E402
+
 CLIENTS = int(os.environ.get("CLIENTS") or 8)
 MUTATORS = 4
 # How many seconds a reply, or the program's end, may take.
@@ -72,38 +77,28 @@ def line_by_lot(lot):
     return lot.choices([text for _, text in lines], [weight for weight, _ in lines])[0]
 
 
-class Client:
-    """A client of a session, with what it saw."""
+class Client(Session):
+    """A session that works by lot, with what it saw. It looks at each reply as it came."""
 
-    def __init__(self, port, number):
-        self.lot = random.Random(number)
-        self.socket = socket.create_connection(("127.0.0.1", port), timeout=LIMIT)
-        self.replies = self.socket.makefile("rb")
+    def __init__(self, *streams):
+        super().__init__(*streams)
         self.lines = self.acts = self.dumps = self.pairs = self.lost = self.bytes = 0
         self.wrong = []
 
-    def reply(self, line):
-        """Returns the last line of the reply to a line, and the bytes of its data lines."""
-        data = []
-        while True:
-            got = self.replies.readline().decode("ascii", "replace")
-            if not got.endswith("\n"):
-                self.wrong.append(f"{line!r} was not answered: {got!r}")
-                raise ConnectionError(line)
-            got = got[:-1]
-            if not DATA.fullmatch(got):
-                break
-            data.append(got[5:])
+    def lines_of(self, line):
+        """Yields the lines of a reply, once it has looked at them."""
+        *data, got = super().lines_of(line)
         word = line.split()[0]
-        if not PATTERNS[word].fullmatch(got) or (data and word not in ("dump", "piece")):
+        well_formed = PATTERNS[word].fullmatch(got) and all(map(DATA.fullmatch, data))
+        if not well_formed or (data and word not in ("dump", "piece")):
             self.wrong.append(f"{line!r} was answered {got!r} after {len(data)} data lines")
-        text = bytes.fromhex("".join(data))
+        text = bytes.fromhex("".join(each[5:] for each in data))
         if got.startswith("ok dump "):
             self.look_at(line, got, text)
         self.lines += 1
         self.acts += word not in NO_ACTS
         self.bytes += len(text)
-        return got, text
+        yield from (*data, got)
 
     def look_at(self, line, got, text):
         """Looks at a whole dump."""
@@ -112,57 +107,50 @@ class Client:
         if fault or got != f"ok dump {len(text)}":
             self.wrong.append(f"{line!r} was answered {got!r} after {len(text)} bytes: {fault}")
 
-    def asks(self, line):
-        """Sends a line, and returns its reply."""
-        self.socket.sendall(line.encode() + b"\n")
-        return self.reply(line)
-
-    def page(self):
+    def page(self, lot):
         """Sends a page of lines at once, and reads their replies."""
-        lines = [line_by_lot(self.lot) for _ in range(PAGE)]
-        self.socket.sendall("\n".join(lines).encode() + b"\n")
-        for line in lines:
-            self.reply(line)
+        with self.batch() as batch:
+            for _ in range(PAGE):
+                batch.send(line_by_lot(lot), lambda words, lines: None)
 
-    def pair(self):
+    def pair(self, lot):
         """Dumps the present place under two pins. The first dump comes last, so that its place was there when the second was opened."""
-        opened = self.asks("open -")[0].split()
-        if opened[0] != "ok":
-            return
-        again = self.asks(f"open {opened[4]}")[0].split()
-        if again[0] == "ok":
-            self.page()
-            second = self.asks(f"dump {again[2]}")
-            first = self.asks(f"dump {opened[2]}")
-            if first[0].startswith("ok") and second[0].startswith("ok"):
+        first, place = self.open()
+        with contextlib.suppress(Refused):
+            second, _ = self.open(place)
+            self.page(lot)
+            try:
+                is_same = self.dump(second) == self.dump(first)
                 self.pairs += 1
-                if first[1] != second[1]:
-                    self.wrong.append(f"two dumps of place {opened[4]} differ")
-            else:
+                if not is_same:
+                    self.wrong.append(f"two dumps of place {place} differ")
+            except Refused:
                 self.lost += 1
-            self.asks(f"close {again[2]}")
-        self.asks(f"close {opened[2]}")
+            self.close(second)
+        self.close(first)
 
-    def works(self, seconds):
+    def works(self, number, seconds):
         """Works for so many seconds, and ends its session."""
+        lot = random.Random(number)
         start = time.monotonic()
         try:
             while (now := time.monotonic() - start) < seconds:
-                if self.lot.randrange(10) == 0:
-                    self.pair()
-                elif self.lot.randrange(20) == 0:
-                    self.asks("dump -")
-                else:
-                    self.page()
+                with contextlib.suppress(Refused):
+                    if lot.randrange(10) == 0:
+                        self.pair(lot)
+                    elif lot.randrange(20) == 0:
+                        self.dump()
+                    else:
+                        self.page(lot)
                 ahead = self.lines * CLIENTS / ACTS * seconds - now
                 if ahead > 0:
                     time.sleep(min(ahead, 3))
-            self.socket.sendall(b"end\n")
-            if self.replies.read():
+            self.write("end\n")
+            if self.reader.read():
                 self.wrong.append("something came after the line end")
-        except OSError as error:
+        except (Ended, OSError, ValueError, IndexError) as error:
             self.wrong.append(f"the session broke off: {error!r}")
-        self.socket.close()
+        self.stop()
 
 
 def memory(child):
@@ -183,7 +171,7 @@ def connected(port):
     end = time.monotonic() + LIMIT
     while len(clients) < CLIENTS:
         try:
-            clients.append(Client(port, len(clients)))
+            clients.append(Client.connect(port, timeout=LIMIT))
         except ConnectionRefusedError:
             if time.monotonic() > end:
                 raise
@@ -198,7 +186,7 @@ def total(clients, name):
 
 def worked(child, clients, seconds):
     """Has all clients work. Returns when the memory of the program was looked at, how much it was and after how many acts."""
-    threads = [threading.Thread(target=client.works, args=(seconds,)) for client in clients]
+    threads = [threading.Thread(target=client.works, args=(number, seconds)) for number, client in enumerate(clients)]
     for thread in threads:
         thread.start()
     first = min(60, seconds / 2)

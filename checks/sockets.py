@@ -17,6 +17,10 @@ import threading
 import time
 
 TOP = pathlib.Path(__file__).resolve().parent.parent
+sys.path.append(str(TOP / "clients/python"))
+
+from heapdbg import Session  # noqa: E402
+
 EXAMPLE = (TOP / "examples/point.session").read_bytes()
 LIMIT = 20
 STEP = 1
@@ -42,6 +46,11 @@ class Server:
                 self.run.wait(0.01)
                 break
         raise TimeoutError("the server doesn't listen")
+
+    def session(self):
+        """Returns a session of a client."""
+        client = self.client()
+        return Session(client.makefile("rb"), client.makefile("wb"), client.close)
 
     def ended(self):
         """Returns status, the words of the sessions in order, and standard error, once all sessions have ended."""
@@ -236,18 +245,15 @@ def closing_servers(program):
 def answers_one_by_one(program):
     """Yields whether a hundred dumps of several pages come whole, each asked for once the one before has come, and in less than a
     second."""
-    made, dumped = b"newprim 0 0 long 1024\n", b"dump -\n"
-    answer = replies(program, made + dumped)[len(replies(program, made)) :]
-    with Server(program, 1) as server, server.client() as client, client.makefile("rb") as come:
-        client.sendall(made)
-        come.readline()
+    with Session.run(program, "run") as own:
+        own.new_values(0, 0, "long", 1024)
+        wanted = [own.dump()] * 100
+    with Server(program, 1) as server, server.session() as session:
+        session.new_values(0, 0, "long", 1024)
         begin = time.monotonic()
-        found = []
-        for _ in range(100):
-            client.sendall(dumped)
-            found.append(come.read(len(answer)))
+        found = [session.dump() for _ in range(100)]
         seconds = time.monotonic() - begin
-    yield "a hundred dumps, one by one", (found == [answer] * 100, seconds < 1), (True, True)
+    yield "a hundred dumps, one by one", (found == wanted, seconds < 1), (True, True)
 
 
 def lines_in_parts(program):

@@ -1,9 +1,9 @@
 """Sessions at random with questions among their lines."""
 from draws import Draw
 from heap import FIRST_OBJECT, REGION_WORDS
-from questions import QUESTIONS, Asking
+from questions import FORMS, QUESTIONS, Asking
 
-# What questions have to be answered, and how often at least: refusals by number.
+# What questions have to be answered, and how often at least: refusals by number, others by the words after `ok`.
 ABOUT_A_MOMENT = ("ok", "no 22", "no 23", "no 24")
 WANTED = {
     "histogram": ABOUT_A_MOMENT,
@@ -12,6 +12,12 @@ WANTED = {
     "path": (*ABOUT_A_MOMENT, "no 27", "no 28"),
     "referrers": (*ABOUT_A_MOMENT, "no 28"),
     "registers": ABOUT_A_MOMENT,
+    "show": (*ABOUT_A_MOMENT, "no 28"),
+    "born": ("ok place", "ok older", "no 28"),
+    "wrote": ("ok place", "ok older", "no 9", "no 28"),
+    "dropped": ("ok place", "ok older", "ok reached", "no 28"),
+    "history": ("ok",),
+    "help": ("ok", "bad"),
 }
 LEAST = 3
 
@@ -48,13 +54,18 @@ class AskingDraw(Draw):
             word = lots.pick([0, 8, word + 8, FIRST_OBJECT + 8 * REGION_WORDS * len(self.state.regions), (1 << 32) - 8])
         return f"0x{word:08x}" if lots.below(24) else lots.pick([word, f"0x{word:x}0", f"0x{word:08X}", f"{word:08x}"])
 
+    def help_words(self):
+        """Returns the words after `help`: none, the word of a line, or words that name no line."""
+        return self.lots.pick([[], [self.lots.pick(list(FORMS))], ["helping"], ["path", "-"]])
+
     def ask(self):
-        """Asks a question."""
-        word = self.lots.pick(list(QUESTIONS))
-        draws = {"a": self.moment, "i": self.identifier}
-        accepted = self.say(word.decode(), *(draws[form]() for form in QUESTIONS[word]))
+        """Asks a question, or for help."""
+        word = self.lots.pick([*QUESTIONS, b"help"])
+        draws = {"a": self.moment, "i": self.identifier, "n": lambda: self.lots.near(self.lots.below(8), 70)}
+        words = self.help_words() if word == b"help" else [draws[form]() for form in QUESTIONS[word]]
+        accepted = self.say(word.decode(), *words)
         last = self.lines[-1][1].split(b"\n")[-2].decode().split()
-        sort = " ".join(last[:2]) if last[0] == "no" else last[0]
+        sort = " ".join(last[:2]) if last[0] == "no" or last[1:2] in (["place"], ["older"], ["reached"]) else last[0]
         self.machine.sights.met[f"{word.decode()}: {sort}"] += 1
         return accepted
 

@@ -25,6 +25,8 @@ class Machine:
         self.ids = ids
         self.place = 0
         self.states = [State(regions, mutators)]
+        # The events that led to all states but the oldest.
+        self.events = []
         self.pins = {}
         self.next_pin = 1
 
@@ -42,6 +44,7 @@ class Machine:
         """Takes a step, and returns its answer."""
         after, answer = applied(self.state, event)
         self.states = [*self.states, after][-(self.keep + 1) :]
+        self.events = [*self.events, event][-self.keep :]
         self.place += 1
         return answer
 
@@ -49,6 +52,7 @@ class Machine:
         """Undoes so many steps, and returns the place."""
         refuse_if(count > self.retained, 21, count, self.retained)
         self.states = self.states[: len(self.states) - count]
+        self.events = self.events[: len(self.events) - count]
         self.place -= count
         for pin in self.pins.values():
             if pin.place > self.place:

@@ -1,6 +1,6 @@
 //! Actions on a machine, and what a list of them is answered.
 use crate::digest::Digest;
-use crate::states::seen;
+use crate::states::digest_of;
 use heap_class::{LostCause, Refusal};
 use heap_step::Answer;
 use heap_trail::{Action, Machine, Reply};
@@ -28,11 +28,11 @@ fn add_answer(digest: &mut Digest, answer: &Answer) {
 }
 
 /// Does an action. If it is refused memory and has changed nothing, does it again.
-fn acted(machine: &mut Machine, action: &Action) -> Reply {
-    let before = seen(machine);
+fn act(machine: &mut Machine, action: &Action) -> Reply {
+    let before = digest_of(machine);
     match machine.act(action) {
         Reply::Refused(Refusal::NoMemory) => {
-            if seen(machine) == before {
+            if digest_of(machine) == before {
                 machine.act(action)
             } else {
                 Reply::Refused(Refusal::NoMemory)
@@ -77,11 +77,11 @@ impl ActionReport {
 }
 
 /// Does the actions in turn. Returns what they were answered.
-pub fn all_acted(machine: &mut Machine, actions: &[Action]) -> ActionReport {
+pub fn act_all(machine: &mut Machine, actions: &[Action]) -> ActionReport {
     let mut told = ActionReport::new();
     for action in actions {
-        told.add(&acted(machine, action));
+        told.add(&act(machine, action));
     }
-    told.answers.add_digest(seen(machine));
+    told.answers.add_digest(digest_of(machine));
     told
 }

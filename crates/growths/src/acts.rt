@@ -1,7 +1,7 @@
 //! Acts under the lock of a heap, each refused one of which is done once more.
 ghost use Rattle.std.specs.Prelude.{◌≡◌};
 
-use crate::states::seen;
+use crate::states::digest_of;
 use heap_class::{Kind, Refusal};
 use heap_lock::{Blank, Heap, Kept, Outcome, Receipt, Role, Seat};
 use heap_step::{Answer, Event};
@@ -14,7 +14,7 @@ use std::sync::Wait;
 const ACTS: u64 = 6;
 
 /// Creates a heap with the seat of a user.
-fn created(alloc: Global, config: Config) -> Option<Blank> {
+fn create_heap(alloc: Global, config: Config) -> Option<Blank> {
     let roles = [Role::User];
     match Blank::new(alloc, config, roles.as_slice()) {
         Err(Refusal::NoMemory) => Blank::new(alloc, config, roles.as_slice()).ok(),
@@ -23,7 +23,7 @@ fn created(alloc: Global, config: Config) -> Option<Blank> {
 }
 
 /// Creates the event of an act: an array that fills a region, or nothing new.
-fn asked(number: u64) -> Event {
+fn event_of_act(number: u64) -> Event {
     if number % 2 == 0 {
         Event::NewPrim {
             m: 0,
@@ -47,15 +47,15 @@ fn answer(number: u64) -> Outcome {
 }
 
 /// Does an act. If it is refused memory and has left no entry and no step, does it again.
-fn acted<L: Heap>(kept: &mut Kept<L>, seat: &mut Seat<L>, number: u64) -> Option<Receipt> {
-    let (event, again) = (asked(number), asked(number));
+fn act<L: Heap>(kept: &mut Kept<L>, seat: &mut Seat<L>, number: u64) -> Option<Receipt> {
+    let (event, again) = (event_of_act(number), event_of_act(number));
     if !seat.may(&event) || !seat.may(&again) {
         return None;
     }
-    let before = seen(kept.machine());
+    let before = digest_of(kept.machine());
     match kept.act_held(seat, event) {
         Err(Refusal::NoMemory) => {
-            if kept.chronicle().len() as u64 != number || seen(kept.machine()) != before {
+            if kept.chronicle().len() as u64 != number || digest_of(kept.machine()) != before {
                 return None;
             }
             kept.act_held(seat, again).ok()
@@ -65,9 +65,9 @@ fn acted<L: Heap>(kept: &mut Kept<L>, seat: &mut Seat<L>, number: u64) -> Option
 }
 
 /// Does the acts. Returns how many entries there are if each has the receipt that it has without a refusal.
-fn all_acted<L: Heap>(kept: &mut Kept<L>, seat: &mut Seat<L>) -> Option<usize> {
+fn act_all<L: Heap>(kept: &mut Kept<L>, seat: &mut Seat<L>) -> Option<usize> {
     for number in 0..ACTS {
-        let receipt = acted(kept, seat, number)?;
+        let receipt = act(kept, seat, number)?;
         if receipt.turn != number + 1 || receipt.answer != answer(number) {
             return None;
         }
@@ -75,18 +75,18 @@ fn all_acted<L: Heap>(kept: &mut Kept<L>, seat: &mut Seat<L>) -> Option<usize> {
     Some(kept.chronicle().len())
 }
 
-fn done_in<L: Heap, R: Wait>(rt: &R, blank: Blank) -> Option<usize>
+fn run_in<L: Heap, R: Wait>(rt: &R, blank: Blank) -> Option<usize>
     requires { (blank.config ≡ L.config) × (blank.tables ≡ L.tables) × (blank.ledger ≡ L.ledger) }
 {
     let (shared, mut seats) = blank.open::<L>();
     let mut user = seats.take()?;
     let mut kept = shared.lock(rt);
-    all_acted(&mut *kept, &mut user)
+    act_all(&mut *kept, &mut user)
 }
 
 /// Creates a heap and does the acts. Returns how many entries there are if each has the receipt that it has without a refusal.
-pub fn done<R: Wait>(rt: &R, alloc: Global) -> Option<usize> {
+pub fn run<R: Wait>(rt: &R, alloc: Global) -> Option<usize> {
     let config = Config::new(16, 1, 1024)?;
-    let blank = created(alloc, config)?;
-    done_in::<Brand, R>(rt, blank)
+    let blank = create_heap(alloc, config)?;
+    run_in::<Brand, R>(rt, blank)
 }

@@ -1,7 +1,7 @@
 //! A program that does scripts of calls, in which a call that is refused memory is made once more.
 //!
-//! A line a script says whether all was answered as in a run in which no memory is refused. So it has to print the same lines with each
-//! of its allocations refused in turn.
+//! A line for each script says whether its replies were those of a run in which no allocation fails. So the program prints the same
+//! lines with each of its allocations refused in turn.
 #![tactic(auto)]
 
 mod actions;
@@ -14,7 +14,7 @@ mod streams;
 use std::alloc::Global;
 use std::io::Write;
 
-/// Appends a line that says whether what a script was told twice is the same.
+/// Appends a line that says whether two runs of a script went alike.
 fn say<W: Write>(out: &mut W, name: &[u8], same: bool) {
     let word: &[u8] = if same { b" same\n" } else { b" differs\n" };
     let _ = out.write_all(name);
@@ -39,7 +39,7 @@ fn main(rt: HostRuntime) {
     let alloc = rt.alloc();
     let mut out = rt.stdout();
     compare_actions(alloc, &mut out);
-    say(&mut out, b"acts", acts::done(&rt, alloc) == Some(6));
-    let went = streams::done(&rt, alloc) == Some(true);
+    say(&mut out, b"acts", acts::run(&rt, alloc) == Some(6));
+    let went = streams::run(&rt, alloc) == Some(true);
     say(&mut out, b"streams", went);
 }

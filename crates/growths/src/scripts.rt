@@ -1,5 +1,5 @@
 //! Scripts of actions on a machine.
-use crate::actions::{ActionReport, all_acted};
+use crate::actions::{ActionReport, act_all};
 use heap_class::{Kind, Name, Refusal};
 use heap_scripts::{new, node, point, store};
 use heap_step::Event;
@@ -8,7 +8,7 @@ use heap_world::Config;
 use std::alloc::{AllocError, Global};
 
 /// Returns what defines a class. If memory is refused, asks once more.
-fn asked<F: Fn(Global) -> Result<Event, AllocError>>(alloc: Global, class: F) -> Option<Action>
+fn ask_twice<F: Fn(Global) -> Result<Event, AllocError>>(alloc: Global, class: F) -> Option<Action>
     requires { F.IsAlwaysCallable class }
 {
     match class(alloc) {
@@ -24,7 +24,7 @@ fn arrays(alloc: Global) -> Result<Event, AllocError> {
 }
 
 /// Returns a machine of two regions. If memory is refused, asks once more.
-fn created(alloc: Global) -> Option<Machine> {
+fn create_machine(alloc: Global) -> Option<Machine> {
     let config = Config::new(2, 1, 64)?;
     match Machine::new(alloc, config) {
         Err(Refusal::NoMemory) => Machine::new(alloc, config).ok(),
@@ -33,9 +33,9 @@ fn created(alloc: Global) -> Option<Machine> {
 }
 
 /// Does actions on a machine of two regions.
-fn done(alloc: Global, actions: &[Action]) -> Option<ActionReport> {
-    let mut machine = created(alloc)?;
-    Some(all_acted(&mut machine, actions))
+fn run_script(alloc: Global, actions: &[Action]) -> Option<ActionReport> {
+    let mut machine = create_machine(alloc)?;
+    Some(act_all(&mut machine, actions))
 }
 
 fn step(event: Event) -> Action {
@@ -75,7 +75,7 @@ fn piece(pin: u64) -> Action {
 /// Sweeps a region empty, has its storage used again, and takes that back.
 pub fn sweep_and_reuse_rewound(alloc: Global) -> Option<ActionReport> {
     let actions = [
-        asked(alloc, node)?,
+        ask_twice(alloc, node)?,
         step(new(0)),
         longs(1, 5),
         clear(0),
@@ -87,13 +87,13 @@ pub fn sweep_and_reuse_rewound(alloc: Global) -> Option<ActionReport> {
         longs(0, 17),
         Action::Rewind(3),
     ];
-    done(alloc, actions.as_slice())
+    run_script(alloc, actions.as_slice())
 }
 
 /// Asks for the end of a cycle before the log is drained, and of another before a region is swept.
 pub fn finish_refused_until_ready(alloc: Global) -> Option<ActionReport> {
     let actions = [
-        asked(alloc, node)?,
+        ask_twice(alloc, node)?,
         step(new(0)),
         step(new(1)),
         longs(2, 5),
@@ -116,13 +116,13 @@ pub fn finish_refused_until_ready(alloc: Global) -> Option<ActionReport> {
         step(Event::Finish),
         Action::Rewind(20),
     ];
-    done(alloc, actions.as_slice())
+    run_script(alloc, actions.as_slice())
 }
 
 /// Pins a place whose object is overwritten, reclaimed and followed by another in its cell, and dumps it.
 pub fn dump_of_a_past_place(alloc: Global) -> Option<ActionReport> {
     let actions = [
-        asked(alloc, point)?,
+        ask_twice(alloc, point)?,
         step(new(0)),
         put(0, 7),
         Action::OpenPin(None),
@@ -137,7 +137,7 @@ pub fn dump_of_a_past_place(alloc: Global) -> Option<ActionReport> {
         piece(1),
         Action::ClosePin(1),
     ];
-    done(alloc, actions.as_slice())
+    run_script(alloc, actions.as_slice())
 }
 
 /// Dumps an array of references.
@@ -149,7 +149,7 @@ pub fn dump_of_object_array(alloc: Global) -> Option<ActionReport> {
         len: 2,
     };
     let actions = [
-        asked(alloc, arrays)?,
+        ask_twice(alloc, arrays)?,
         step(array),
         step(Event::Store {
             m: 0,
@@ -163,13 +163,13 @@ pub fn dump_of_object_array(alloc: Global) -> Option<ActionReport> {
         piece(1),
         Action::ClosePin(1),
     ];
-    done(alloc, actions.as_slice())
+    run_script(alloc, actions.as_slice())
 }
 
 /// Sweeps a dead object out of a region that a pin shows and that stays in use, and opens a pin on a place before.
 pub fn pins_beside_a_sweep(alloc: Global) -> Option<ActionReport> {
     let actions = [
-        asked(alloc, node)?,
+        ask_twice(alloc, node)?,
         step(new(0)),
         step(new(1)),
         clear(1),
@@ -188,7 +188,7 @@ pub fn pins_beside_a_sweep(alloc: Global) -> Option<ActionReport> {
         piece(2),
         Action::Rewind(2),
     ];
-    done(alloc, actions.as_slice())
+    run_script(alloc, actions.as_slice())
 }
 
 /// Does a script twice. Tells whether both were answered alike.

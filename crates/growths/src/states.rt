@@ -81,7 +81,7 @@ fn add_world(digest: &mut Digest, world: &World) {
 }
 
 /// Returns the digest of a machine's state.
-pub fn seen(machine: &Machine) -> Digest {
+pub fn digest_of(machine: &Machine) -> Digest {
     let mut digest = Digest::new();
     digest.add(machine.place());
     digest.add(machine.retained());

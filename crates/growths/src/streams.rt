@@ -3,7 +3,7 @@ ghost use Rattle.std.specs.Prelude.{◌≡◌, IfSome, false};
 ghost use Rattle.dump_meter.specs.Seats.{sum, cancel_found};
 
 use crate::digest::Digest;
-use crate::states::seen;
+use crate::states::digest_of;
 use dump_meter::{Meter, NewMeter};
 use dump_pump::{Pumped, WriteOutlet};
 use heap_class::{Kind, LostCause, Refusal};
@@ -41,7 +41,7 @@ fn longs() -> Event {
 }
 
 /// Makes an array. If memory is refused, asks once more.
-fn is_made<L: Heap, R: Wait>(rt: &R, shared: &Shared<L>, user: &mut Seat<L>) -> bool {
+fn make<L: Heap, R: Wait>(rt: &R, shared: &Shared<L>, user: &mut Seat<L>) -> bool {
     let (event, again) = (longs(), longs());
     if !user.may(&event) || !user.may(&again) {
         return false;
@@ -53,9 +53,9 @@ fn is_made<L: Heap, R: Wait>(rt: &R, shared: &Shared<L>, user: &mut Seat<L>) -> 
 }
 
 /// Makes the arrays.
-fn are_made<L: Heap, R: Wait>(rt: &R, shared: &Shared<L>, user: &mut Seat<L>) -> bool {
+fn make_all<L: Heap, R: Wait>(rt: &R, shared: &Shared<L>, user: &mut Seat<L>) -> bool {
     for _ in 0..ARRAYS {
-        if !is_made(rt, shared, user) {
+        if !make(rt, shared, user) {
             return false;
         }
     }
@@ -63,7 +63,7 @@ fn are_made<L: Heap, R: Wait>(rt: &R, shared: &Shared<L>, user: &mut Seat<L>) ->
 }
 
 /// Opens a pin. If memory is refused, asks once more.
-fn opened<L: Heap, R: Wait>(rt: &R, shared: &Shared<L>, witness: &mut Witness<L>) -> Option<u64> {
+fn open<L: Heap, R: Wait>(rt: &R, shared: &Shared<L>, witness: &mut Witness<L>) -> Option<u64> {
     match shared.open_pin(rt, witness, None) {
         Ok(pinned) => Some(pinned.pin),
         Err(Refusal::NoMemory) => Some(shared.open_pin(rt, witness, None).ok()?.pin),
@@ -72,7 +72,7 @@ fn opened<L: Heap, R: Wait>(rt: &R, shared: &Shared<L>, witness: &mut Witness<L>
 }
 
 /// Creates a meter. If memory is refused, asks once more.
-fn metered(alloc: Global) -> Option<NewMeter>
+fn create_meter(alloc: Global) -> Option<NewMeter>
     ensures out { IfSome result (λ m. m.out ≡ sum m.meter 0) }
     ensures feed { IfSome result (λ m. m.feed ≡ cancel_found m.meter false) }
 {
@@ -83,7 +83,7 @@ fn metered(alloc: Global) -> Option<NewMeter>
 }
 
 /// Creates an empty text with room for the dump. If memory is refused, asks once more.
-fn reserved(alloc: Global) -> Option<Vec<u8>> {
+fn reserve(alloc: Global) -> Option<Vec<u8>> {
     match Vec::with_capacity(alloc, TEXT_SIZE) {
         Ok(text) => Some(text),
         Err(_) => Vec::with_capacity(alloc, TEXT_SIZE).ok(),
@@ -91,15 +91,15 @@ fn reserved(alloc: Global) -> Option<Vec<u8>> {
 }
 
 /// Returns what the readers of a heap tell.
-fn told<L: Heap, R: Wait>(rt: &R, shared: &Shared<L>) -> Digest {
+fn digest_of_readers<L: Heap, R: Wait>(rt: &R, shared: &Shared<L>) -> Digest {
     let kept = shared.lock(rt);
-    let mut digest = seen(kept.machine());
+    let mut digest = digest_of(kept.machine());
     digest.add(kept.chronicle().len() as u64);
     digest
 }
 
 /// Streams the dump of a pin behind a text. Returns how it went, and the text.
-fn put_out<L: Heap + Send + Sync, R: Threads + Wait + Sync>(
+fn stream_behind<L: Heap + Send + Sync, R: Threads + Wait + Sync>(
     rt: &R,
     alloc: Global,
     shared: &Shared<L>,
@@ -141,12 +141,12 @@ fn stream_once<L: Heap + Send + Sync, R: Threads + Wait + Sync>(
     shared: &Shared<L>,
 ) -> Option<Streamed> {
     let mut witness = shared.witness(rt);
-    let pin = opened(rt, shared, &mut witness)?;
-    let made = metered(alloc)?;
-    let text = reserved(alloc)?;
-    let before = told(rt, shared);
-    let (pumped, text, mut witness) = put_out(rt, alloc, shared, witness, pin, made, text);
-    let is_as_before = told(rt, shared) == before;
+    let pin = open(rt, shared, &mut witness)?;
+    let made = create_meter(alloc)?;
+    let text = reserve(alloc)?;
+    let before = digest_of_readers(rt, shared);
+    let (pumped, text, mut witness) = stream_behind(rt, alloc, shared, witness, pin, made, text);
+    let is_as_before = digest_of_readers(rt, shared) == before;
     shared.close_pin(rt, &mut witness, pin).ok()?;
     Some(Streamed {
         pumped,
@@ -179,7 +179,7 @@ fn are_right(first: &Streamed, second: &Streamed) -> bool {
     text.len() == TEXT_SIZE && is_of(first, text) && is_of(second, text)
 }
 
-fn done_in<L: Heap + Send + Sync, R: Threads + Wait + Sync>(
+fn run_in<L: Heap + Send + Sync, R: Threads + Wait + Sync>(
     rt: &R,
     alloc: Global,
     blank: Blank,
@@ -188,7 +188,7 @@ fn done_in<L: Heap + Send + Sync, R: Threads + Wait + Sync>(
 {
     let (shared, mut seats) = blank.open::<L>();
     let mut user = seats.take()?;
-    if !are_made(rt, &shared, &mut user) {
+    if !make_all(rt, &shared, &mut user) {
         return None;
     }
     let first = stream_once(rt, alloc, &shared)?;
@@ -197,7 +197,7 @@ fn done_in<L: Heap + Send + Sync, R: Threads + Wait + Sync>(
 }
 
 /// Creates a heap with a user's seat. If memory is refused, asks once more.
-fn created(alloc: Global) -> Option<Blank> {
+fn create_heap(alloc: Global) -> Option<Blank> {
     let config = Config::new(16, 1, 1024)?;
     let roles = [Role::User];
     match Blank::new(alloc, config, roles.as_slice()) {
@@ -207,7 +207,7 @@ fn created(alloc: Global) -> Option<Blank> {
 }
 
 /// Creates a heap, and streams its dump twice. Tells whether both streams went as they must.
-pub fn done<R: Threads + Wait + Sync>(rt: &R, alloc: Global) -> Option<bool> {
-    let blank = created(alloc)?;
-    done_in::<Brand, R>(rt, alloc, blank)
+pub fn run<R: Threads + Wait + Sync>(rt: &R, alloc: Global) -> Option<bool> {
+    let blank = create_heap(alloc)?;
+    run_in::<Brand, R>(rt, alloc, blank)
 }

@@ -1,13 +1,15 @@
 -- The newest retained steps, and the objects that they wrote or created.
-use Rattle.std.specs.Prelude.{◌≡◌, ℕ, ◌+◌, ◌-◌, ◌*◌, ◌/◌, ◌≤◌, min, List, length, Option, Some, None, option_map, slice_get, slice_set, slice_index_or, All}
+use Rattle.std.specs.Prelude.{◌≡◌, ℕ, ◌+◌, ◌-◌, ◌*◌, ◌/◌, ◌≤◌, min, List, length, Option, Some, None, option_map, slice_get, slice_set, slice_index_or, unwrap_or, All}
 use Rattle.heap_class.specs.declared.ObjRef.{ObjRef}
 use Rattle.heap_region.specs.Limits.{region_words}
-use Rattle.heap_region.specs.Regions.{UsedRegion, id_of, object_base, used_at}
+use Rattle.heap_region.specs.Regions.{Region, UsedRegion, id_of, object_base, used_at}
 use Rattle.heap_world.specs.State.{HeapState}
 use Rattle.heap_step.specs.declared.Undo.{Undo}
-use Rattle.heap_step.specs.declared.Undo.TheVariants.{Put, Store, New, Reclaim}
+use Rattle.heap_step.specs.declared.Undo.TheVariants.{Put, Store, Reg, New, Class, Snap, Mark, Drain, Finish, Sweep, Reclaim}
 use Rattle.heap_trail.specs.Trail.{Trail, retained, state_ago}
 use Rattle.heap_trail.specs.Views.{HasRecord}
+use Rattle.heap_past.specs.declared.events.PastEvent.{PastEvent}
+use Rattle.heap_past.specs.declared.events.PastEvent.TheVariants.{Register}
 use Rattle.heap_past.specs.declared.steps.PastStep.{PastStep}
 
 -- the place of the object that a step with this record wrote or created, if it did
@@ -17,12 +19,30 @@ written_at (Store at slot old logged) = Some at
 written_at (New at fresh m r old) = Some at
 written_at left = None
 
--- the step to the state of n steps ago: the place that it led to, and the id of the object that it wrote or created
+-- what a step with this record did, of which x is the id of the object that it wrote or created
+abbrev pub event_with : Undo → ℕ → PastEvent
+event_with (Put at slot old) x = PastEvent.Put x slot old
+event_with (Store at slot old logged) x = PastEvent.Store x slot old
+event_with (Reg m r old) x = Register m r old
+event_with (New at fresh m r old) x = PastEvent.New x m r old
+event_with Class x = PastEvent.Class
+event_with Snap x = PastEvent.Snap
+event_with (Mark parent pushed) x = PastEvent.Mark parent pushed
+event_with (Drain pushed) x = PastEvent.Drain pushed
+event_with (Finish log) x = PastEvent.Finish (length log)
+event_with (Sweep region dead) x = PastEvent.Sweep region (length dead)
+event_with (Reclaim region storage) x = PastEvent.Reclaim region
+
+-- the id of the object that a step with this record wrote or created; 0 if there is none
+abbrev pub id_written : List Region → Undo → ℕ
+id_written regions left = unwrap_or (option_map (id_of regions) (written_at left)) 0
+
+-- the step to the state of n steps ago: the place that it led to, and what it did
 pub record IsPastStep (t : Trail) (n : ℕ) (s : PastStep) : Type 0 where
   pub place : s.place ≡ t.place - n
   pub left : Undo
   pub recorded : HasRecord t n left
-  pub object : s.object ≡ option_map (id_of (state_ago n t).regions) (written_at left)
+  pub event : s.event ≡ event_with left (id_written (state_ago n t).regions left)
 
 -- the newest `count` retained steps, or all if fewer are retained, the newest first
 pub record AreNewest (t : Trail) (count : ℕ) (steps : List PastStep) : Type 0 where

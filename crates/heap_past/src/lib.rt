@@ -5,9 +5,11 @@ ghost use Rattle.std.specs.Prelude.{◌≡◌, IsSome, IfSome, IfNone};
 ghost use Rattle.heap_region.specs.Regions.{object_at};
 ghost use Rattle.heap_past.specs.Changes.{IsBirth, IsLastWrite, IsOld, IsUnwritten, changed_by, made_by, slot_word};
 
+mod events;
 mod losses;
 mod steps;
 
+pub use events::PastEvent;
 use heap_class::ObjRef;
 use heap_step::Undo;
 use heap_trail::Machine;

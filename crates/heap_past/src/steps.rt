@@ -1,13 +1,14 @@
 //! The newest retained steps.
-ghost use Rattle.std.specs.Prelude.{◌≡◌, ◌<◌, ◌≤◌, ℕ, length, option_map, Some, All, IfOk, IfErr, slice_index_or};
+ghost use Rattle.std.specs.Prelude.{◌≡◌, ◌<◌, ◌≤◌, ℕ, length, option_map, Some, All, IfOk, IfErr, slice_index_or, unwrap_or};
 ghost use Rattle.heap_class.specs.declared.ObjRef.{ObjRef};
 ghost use Rattle.heap_class.specs.declared.Refusal.TheVariants.{NoMemory};
 ghost use Rattle.heap_region.specs.Limits.{region_words};
 ghost use Rattle.heap_region.specs.Regions.{UsedRegion, used_at};
 ghost use Rattle.heap_step.specs.declared.Undo.TheVariants.{Reclaim};
 ghost use Rattle.heap_world.specs.Legal.{IsLegal};
-ghost use Rattle.heap_past.specs.Newest.{AreNewest, AreCellSizes, id_by, storage_cell_size, sizes_before, written_at};
+ghost use Rattle.heap_past.specs.Newest.{AreNewest, AreCellSizes, event_with, id_by, storage_cell_size, sizes_before, written_at};
 
+use crate::events::{PastEvent, event_with};
 use heap_class::{ObjRef, Refusal};
 use heap_region::{OBJECT_BASE, REGION_WORDS, Storage};
 use heap_step::Undo;
@@ -15,11 +16,11 @@ use heap_trail::Machine;
 use heap_world::World;
 use std::alloc::Global;
 
-/// A retained step: the place that it led to, and the id of the object that it wrote or created, if it did.
+/// A retained step: the place that it led to, and what it did.
 #[derive(Clone, Copy, PartialEq, Eq, Debug)]
 pub struct PastStep {
     pub place: u64,
-    pub object: Option<u64>,
+    pub event: PastEvent,
 }
 
 // Returns the size of a region's cells.
@@ -90,6 +91,16 @@ fn object_of(left: &Undo, sizes: &[u64]) -> Option<u64>
     }
 }
 
+// Returns what the step with this record did.
+fn event_by(left: &Undo, sizes: &[u64]) -> PastEvent
+    requires within { (at : ObjRef) → written_at left.now ≡ Some at → at.region < length sizes.now }
+    requires small { All (λ s. s ≤ region_words) sizes.now }
+    ensures { result
+        ≡ event_with left.now (unwrap_or (option_map (id_by sizes.now) (written_at left.now)) 0) }
+{
+    event_with(left, object_of(left, sizes).unwrap_or(0))
+}
+
 // Makes the sizes those before the step with this record.
 fn undo_size(left: &Undo, sizes: &mut Vec<u64>)
     requires { (r : ℕ) (u : UsedRegion) → left.now ≡ Reclaim r u
@@ -115,7 +126,7 @@ pub fn history(alloc: Global, machine: &Machine, count: u64) -> Result<Vec<PastS
         let left = machine.record_ago(n);
         steps.push(PastStep {
             place: machine.place() - n,
-            object: object_of(left, sizes.as_slice()),
+            event: event_by(left, sizes.as_slice()),
         })?;
         undo_size(left, &mut sizes);
     }

@@ -3,7 +3,7 @@ use Rattle.std.proofs.Common.{◌≡◌, ◌≢◌, ℕ, ◌+◌, ◌<◌, ◌�
 use Rattle.std.specs.Prelude.{slice_get, Option, Some, None, IfSome, IsSome, option_map, ◌==◌}
 use Rattle.std.specs.List.{position_or_len}
 use Rattle.std.proofs.lemmas.Bool.{cases_eq, eq-eqb, ne_eqb}
-use Rattle.std.proofs.lemmas.Option.{none-some, same_Some, slice_get_within, slice_get_past, slice_get-get_or, get_or_from_slice_get}
+use Rattle.std.proofs.lemmas.Option.{none-some, same_Some, slice_get_within, slice_get_past, slice_get-get_or, get_or_from_slice_get, slice_get-map}
 use Rattle.std.proofs.lemmas.List.{get_or-replicate, length-replicate}
 use Rattle.std.proofs.lemmas.List.Folds.{find_at}
 use Rattle.std.proofs.lemmas.List.Sums.{position_or_len_is}
@@ -17,7 +17,7 @@ use Rattle.heap_questions.specs.Graph.{object_with}
 use Rattle.heap_questions.specs.Referrers.{dumped}
 use Rattle.heap_questions.specs.Search.{AreNodes, node_with}
 use Rattle.heap_questions.specs.declared.nodes.Node.{Node}
-use Rattle.heap_questions.proofs.NodePlaces.{as_many, node_of_object, node_place, node_within, object_of_node}
+use Rattle.heap_questions.proofs.NodePlaces.{as_many, node_at, node_of_object, node_place, node_within, object_of_node}
 
 -- none of the first i objects has this id
 abbrev pub AreOthers : Image → ℕ → ℕ → Type 0
@@ -80,14 +80,31 @@ node_kind image places nodes x j kind n e k =
     ap Some (said_of (λ o. kind ≡ o.kind) (slice_get image.objects j) o.0 o.1 k)
     ∙ sym (ap (option_map (λ (o : DumpedObject). o.kind)) (object_of_node image places nodes x j n e ∙ o.1))
 
-pub no_node : (image : Image) (places : List ObjRef) (nodes : List Node) (x : ℕ) → AreNodes image places nodes → node_with nodes x ≡ None → None ≡ option_map (λ o. o.kind) (object_with image x)
-no_node image places nodes x n e = go (object_with image x) refl
+-- the object of a node that was found has the id
+id_of_node : (image : Image) (places : List ObjRef) (nodes : List Node) (x j : ℕ) (o : DumpedObject) → AreNodes image places nodes → node_with nodes x ≡ Some j → slice_get image.objects j ≡ Some o → x ≡ o.id
+id_of_node image places nodes x j o h e g =
+    let m = some_item nodes j (node_within nodes x j e) in
+    sym (node_at nodes x j m.0 e m.1)
+    ∙ same_Some m.0.id o.id (sym (ap (option_map (λ (n : Node). n.id)) m.1) ∙ sym (slice_get-map (λ (n : Node). n.id) nodes j) ∙ ap (λ l. slice_get l j) h.ids ∙ slice_get-map (λ (o : DumpedObject). o.id) image.objects j ∙ ap (option_map (λ (o : DumpedObject). o.id)) g)
+
+pub node_object : (image : Image) (places : List ObjRef) (nodes : List Node) (x j : ℕ) (kind : ObjKind) (words : List ℕ) → AreNodes image places nodes → node_with nodes x ≡ Some j → IfSome (slice_get image.objects j) (λ o. kind ≡ o.kind) → IfSome (slice_get image.objects j) (λ o. words ≡ o.words) → Some (dumped x kind words) ≡ object_with image x
+node_object image places nodes x j kind words n e k w =
+    let o = some_item image.objects j (omega (arith, node_within nodes x j e, as_many image places nodes n)) in
+    ap (λ z. Some (dumped z kind words)) (id_of_node image places nodes x j o.0 n e o.1)
+    ∙ ap₂ (λ m ws. Some (dumped o.0.id m ws)) (said_of (λ (o : DumpedObject). kind ≡ o.kind) (slice_get image.objects j) o.0 o.1 k) (said_of (λ (o : DumpedObject). words ≡ o.words) (slice_get image.objects j) o.0 o.1 w)
+    ∙ sym (object_of_node image places nodes x j n e ∙ o.1)
+
+pub no_object : (image : Image) (places : List ObjRef) (nodes : List Node) (x : ℕ) → AreNodes image places nodes → node_with nodes x ≡ None → None ≡ object_with image x
+no_object image places nodes x n e = go (object_with image x) refl
   where
-    go : (p : Option DumpedObject) → object_with image x ≡ p → None ≡ option_map (λ (o : DumpedObject). o.kind) p
+    go : (p : Option DumpedObject) → object_with image x ≡ p → None ≡ p
     go None h = refl
     go (Some o) h =
         let j = node_of_object image places nodes x n (subst IsSome (sym h) refl) in
         absurd (none-some j.0 (sym e ∙ j.1))
+
+pub no_node : (image : Image) (places : List ObjRef) (nodes : List Node) (x : ℕ) → AreNodes image places nodes → node_with nodes x ≡ None → None ≡ option_map (λ o. o.kind) (object_with image x)
+no_node image places nodes x n e = ap (option_map (λ (o : DumpedObject). o.kind)) (no_object image places nodes x n e)
 
 -- ---- kinds of slots
 

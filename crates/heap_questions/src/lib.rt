@@ -3,6 +3,7 @@
 
 mod garbage;
 mod growth;
+mod index;
 mod nodes;
 mod objects;
 mod order;
@@ -14,6 +15,7 @@ mod search;
 
 pub use garbage::count_garbage;
 pub use growth::{Change, compare};
+pub use index::ObjectIndex;
 pub use objects::{ShownObject, object_with, slot_kind};
 pub use order::ranking;
 pub use paths::{Path, shortest_path};

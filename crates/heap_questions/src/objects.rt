@@ -3,7 +3,9 @@ ghost use Rattle.std.specs.Prelude.{◌≡◌, ◌<◌, Some, slice_get};
 ghost use Rattle.heap_class.specs.Classes.{slot_kinds_of};
 ghost use Rattle.hprof_text.specs.Image.{IsKnown};
 ghost use Rattle.heap_questions.specs.Graph.{object_with};
+ghost use Rattle.heap_questions.specs.Search.{AreNodes};
 
+use crate::nodes::NodeList;
 use heap_class::{FirstClasses, Kind, ObjKind};
 use hprof_text::View;
 use std::marker::Model;
@@ -58,6 +60,26 @@ pub fn object_with<V: View>(view: &V, id: u64) -> Option<ShownObject<'_>>
         here = view.next(at);
     }
     None
+}
+
+/// Returns the object with this id, or None if there is none. The nodes must be the view's.
+pub(crate) fn shown_with<'a, V: View>(
+    view: &'a V,
+    nodes: &NodeList,
+    id: u64,
+) -> Option<ShownObject<'a>>
+    requires { AreNodes (V.image view.now) (V.places view.now) nodes.now }
+    ensures { result ≡ object_with (V.image view.now) id }
+{
+    match nodes.find(id) {
+        Some(node) => {
+            let at = nodes.place(node);
+            let kind = view.kind(at);
+            let words = view.words(at);
+            Some(ShownObject { id, kind, words })
+        }
+        None => None,
+    }
 }
 
 /// Returns the kind of a slot of an object of this kind with so many words. The class must exist, and the object must have the

@@ -1,5 +1,5 @@
 -- The classes of what registers name are there.
-use Rattle.std.proofs.Common.{◌≡◌, ℕ, Bool, true, false, cond, List, [], ◌∷◌, Option, Some, None, length, map, refl, subst}
+use Rattle.std.proofs.Common.{◌≡◌, ℕ, Bool, true, false, cond, List, [], ◌∷◌, Option, Some, length, map, subst}
 use Rattle.std.specs.Prelude.{All, find, option_map, ◌==◌}
 use Rattle.std.specs.List.{AllByRecursion}
 use Rattle.std.proofs.lemmas.List.Elements.{All-from_recursion, recursion_from_All}
@@ -7,7 +7,6 @@ use Rattle.heap_class.specs.declared.ObjKind.{ObjKind}
 use Rattle.heap_class.specs.declared.ObjKind.TheVariants.{Instance, Array, Prim}
 use Rattle.heap_class.specs.Classes.{Class}
 use Rattle.hprof_text.specs.Image.{DumpedObject, Image, IsDumpable, IsKnown}
-use Rattle.heap_questions.specs.declared.registers.NamedObject.{NamedObject}
 use Rattle.heap_questions.specs.Graph.{object_with}
 use Rattle.heap_questions.specs.Registers.{object_named}
 use Rattle.question_text.specs.Names.{IsClassThere}
@@ -41,3 +40,9 @@ each_there image (x ∷ xs) d = (named_there image x d, each_there image xs d)
 
 pub all_there : (image : Image) → IsDumpable image → All (NamesKnown image.classes) (map (object_named image) image.registers)
 all_there image d = All-from_recursion (NamesKnown image.classes) (map (object_named image) image.registers) (each_there image image.registers d)
+
+pub class_there : (image : Image) (x : ℕ) (o : DumpedObject) → IsDumpable image → object_with image x ≡ Some o → IsClassThere image.classes o.kind
+unfolding object_with
+class_there image x o d e =
+    subst (λ (p : Option DumpedObject). IsKindKnown image.classes (option_map (λ (o : DumpedObject). o.kind) p)) e
+    (found_there image.classes (λ o. o.id == x) image.objects (recursion_from_All (IsThere image.classes) image.objects d.known))

@@ -1,5 +1,5 @@
 -- The image of an open pin, or why it has none.
-use Rattle.std.proofs.Common.{◌≡◌, ◌∙◌, ◌-◌, ℕ, Option, Some, None, true, false, refl, ap}
+use Rattle.std.proofs.Common.{◌≡◌, ◌-◌, ℕ, Option, Some, None, true, false, refl, ap}
 use Rattle.std.specs.Prelude.{Result, Ok, Err}
 use Rattle.heap_class.specs.declared.Refusal.{Refusal}
 use Rattle.heap_pins.specs.Pin.{pin_image}
@@ -9,7 +9,6 @@ use Rattle.heap_trail.specs.Machine.{Machine}
 use Rattle.heap_trail.specs.Pins.{PinState, Kept, Gone, pin_at}
 use Rattle.heap_trail.specs.Views.{IsViewOf, view_refusal}
 use Rattle.heap_class.specs.declared.Refusal.TheVariants.{NoMemory, NotRetained}
-use Rattle.heap_pins.specs.Images.{image_of}
 use Rattle.heap_pins.specs.Pin.{PinContents}
 use Rattle.heap_trail.specs.Pins.{is_retained}
 use Rattle.heap_trail.specs.Trail.{state_ago}

@@ -1,15 +1,21 @@
 -- The answers of questions.
-use Rattle.std.specs.Prelude.{◌≡◌, ℕ, List, codes, Option, Some, None}
+use Rattle.std.specs.Prelude.{◌≡◌, ℕ, List, Option, Some, None}
 use Rattle.heap_trail.specs.Machine.{Machine}
 use Rattle.question_text.specs.declared.question.Question.{Question}
-use Rattle.question_text.specs.declared.question.Question.TheVariants.{Histogram, Garbage, Growth, Registers, Referrers, Path}
+use Rattle.question_text.specs.declared.question.Question.TheVariants.{Histogram, Garbage, Growth, Registers, Referrers, Path, Show, Born, Wrote, Dropped, History}
+use Rattle.question_text.specs.Births.{IsBornText}
 use Rattle.question_text.specs.Histograms.{IsGarbageText, IsHistogramText}
 use Rattle.question_text.specs.Moments.{IsAnswerAbout, IsAnswerBetween, image_at}
 use Rattle.question_text.specs.Growths.{IsGrowthText}
+use Rattle.question_text.specs.Help.{help_or_bad}
+use Rattle.question_text.specs.Histories.{IsHistoryText}
+use Rattle.question_text.specs.Losses.{IsDroppedText}
+use Rattle.question_text.specs.Objects.{IsShowText, shows_mark}
 use Rattle.question_text.specs.Paths.{IsPathText}
 use Rattle.question_text.specs.Registers.{IsRegistersText}
 use Rattle.question_text.specs.Referrers.{IsReferrersText}
 use Rattle.question_text.specs.Questions.{question_of}
+use Rattle.question_text.specs.Writes.{IsWroteText}
 
 -- the text of a question's answer
 abbrev pub IsAnswer : Question → Machine → List ℕ → Type 0
@@ -20,12 +26,18 @@ IsAnswer (Growth older newer) m text =
 IsAnswer (Registers at) m text = IsAnswerAbout IsRegistersText (image_at at m) text
 IsAnswer (Referrers at x) m text = IsAnswerAbout (IsReferrersText x) (image_at at m) text
 IsAnswer (Path at x) m text = IsAnswerAbout (IsPathText x) (image_at at m) text
+IsAnswer (Show at x) m text =
+    IsAnswerAbout (IsShowText x (shows_mark at m x)) (image_at at m) text
+IsAnswer (Born x) m text = IsBornText x m.trail text
+IsAnswer (Wrote x s) m text = IsWroteText x s m.trail text
+IsAnswer (Dropped x) m text = IsDroppedText x m.trail text
+IsAnswer (History count) m text = IsHistoryText count m.trail text
 
--- the answer of a line that asks this question, or none
-abbrev pub IsAnswerOf : Option Question → Machine → List ℕ → Type 0
-IsAnswerOf None m text = text ≡ codes "bad command\n"
-IsAnswerOf (Some q) m text = IsAnswer q m text
+-- the answer of a line that asks this question; or none, and it may ask for help
+abbrev pub IsAnswerOf : Option Question → List ℕ → Machine → List ℕ → Type 0
+IsAnswerOf None l m text = text ≡ help_or_bad l
+IsAnswerOf (Some q) l m text = IsAnswer q m text
 
 -- the answer of a line that the grammar of sessions doesn't know
 abbrev pub IsAnswerOfLine : List ℕ → Machine → List ℕ → Type 0
-IsAnswerOfLine l m text = IsAnswerOf (question_of l) m text
+IsAnswerOfLine l m text = IsAnswerOf (question_of l) l m text

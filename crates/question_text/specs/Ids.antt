@@ -13,6 +13,10 @@ id_text x = codes "0x" ++ encode_lower (big_bytes 4 x)
 abbrev pub and_id : ℕ → List ℕ
 and_id x = 32 ∷ id_text x
 
+-- a space, and an id or `null`
+abbrev pub and_reference : ℕ → List ℕ
+and_reference x = if x == 0 then codes " null" else and_id x
+
 -- the value of a lower-case hexadecimal digit
 abbrev pub hex_digit : ℕ → Option ℕ
 hex_digit b =

@@ -7,5 +7,12 @@ pub mod Referrers
 pub mod Registers
 pub mod Growths
 pub mod Paths
+pub mod Objects
+pub mod Places
+pub mod Births
+pub mod Writes
+pub mod Losses
+pub mod Histories
+pub mod Help
 pub mod Answers
 pub mod Sessions

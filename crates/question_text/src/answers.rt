@@ -4,20 +4,26 @@ ghost use Rattle.session_text.specs.Replies.{line_answer_text};
 ghost use Rattle.question_text.specs.Answers.{IsAnswer};
 ghost use Rattle.question_text.specs.Histograms.{IsGarbageText, IsHistogramText};
 ghost use Rattle.question_text.specs.Growths.{IsGrowthText};
+ghost use Rattle.question_text.specs.Objects.{IsShowText, shows_mark};
 ghost use Rattle.question_text.specs.Paths.{IsPathText};
 ghost use Rattle.question_text.specs.Registers.{IsRegistersText};
 ghost use Rattle.question_text.specs.Referrers.{IsReferrersText};
 ghost use Rattle.question_text.specs.Moments.{IsAnswerAbout, IsAnswerBetween, image_at, told_text};
 
 use crate::at::{moment_at, view_of};
+use crate::birth::born_answer;
 use crate::growth::growth_answer;
 use crate::histogram::{garbage_text, histogram_text};
+use crate::history::history_answer;
+use crate::loss::dropped_answer;
 use crate::path::path_answer;
 use crate::question::{At, Question};
 use crate::referrers::referrers_answer;
 use crate::registers::registers_answer;
-use crate::rows::Unanswered;
-use heap_trail::{Machine, Reply};
+use crate::rows::{Unanswered, reason_line};
+use crate::show::{show_answer, shows_mark};
+use crate::write::wrote_answer;
+use heap_trail::Machine;
 use session_text::LineAnswer;
 use std::alloc::Global;
 
@@ -27,9 +33,7 @@ fn told(lines: Result<Vec<u8>, Unanswered>) -> LineAnswer
 {
     match lines {
         Ok(text) => LineAnswer::Text(text),
-        Err(Unanswered::Refused(refusal)) => LineAnswer::Known(Reply::Refused(refusal)),
-        Err(Unanswered::NoObject) => LineAnswer::Line(b"no 28 NoObject\n"),
-        Err(Unanswered::Unreachable) => LineAnswer::Line(b"no 27 Unreachable\n"),
+        Err(reason) => reason_line(reason),
     }
 }
 
@@ -92,6 +96,16 @@ fn path(alloc: Global, machine: &Machine, at: At, id: u64) -> Result<Vec<u8>, Un
     path_answer(alloc, &view, id)
 }
 
+// Returns the lines of `show AT ID`.
+fn show(alloc: Global, machine: &Machine, at: At, id: u64) -> Result<Vec<u8>, Unanswered>
+    ensures { IsAnswerAbout (IsShowText id (shows_mark at machine.now id))
+        (image_at at machine.now) (told_text result) }
+{
+    let moment = moment_at(machine, at)?;
+    let view = view_of(machine, &moment)?;
+    show_answer(alloc, &view, id, shows_mark(machine, at, id))
+}
+
 /// Returns the answer of a question about a machine, or the refusal NoMemory if an allocation fails.
 pub fn answer(alloc: Global, machine: &Machine, question: Question) -> LineAnswer
     ensures { IsAnswer question machine.now (line_answer_text result) }
@@ -103,5 +117,10 @@ pub fn answer(alloc: Global, machine: &Machine, question: Question) -> LineAnswe
         Question::Registers(at) => told(registers(alloc, machine, at)),
         Question::Referrers { at, id } => told(referrers(alloc, machine, at, id)),
         Question::Path { at, id } => told(path(alloc, machine, at, id)),
+        Question::Show { at, id } => told(show(alloc, machine, at, id)),
+        Question::Born(id) => born_answer(machine, id),
+        Question::Wrote { id, slot } => wrote_answer(machine, id, slot),
+        Question::Dropped(id) => dropped_answer(alloc, machine, id),
+        Question::History(count) => told(history_answer(alloc, machine, count)),
     }
 }

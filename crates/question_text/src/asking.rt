@@ -1,11 +1,12 @@
 //! Commands with questions.
 use crate::answers::answer;
+use crate::help::help_answer;
 use crate::question::question_of;
 use heap_trail::{Action, Reply};
 use session_text::{Commands, LineAnswer, Local};
 use std::alloc::Global;
 
-/// A private machine that acts on the lines of a session, and answers questions about itself.
+/// A private machine that acts on the lines of a session, and answers questions about itself and `help`.
 #[derive(Drop)]
 pub struct Asking {
     /// The machine.
@@ -27,7 +28,7 @@ impl Commands for Asking {
     fn answer_unknown(&mut self, alloc: Global, line: &[u8]) -> LineAnswer {
         match question_of(line) {
             Some(question) => answer(alloc, &self.local.machine, question),
-            None => LineAnswer::BadCommand,
+            None => help_answer(line),
         }
     }
 }

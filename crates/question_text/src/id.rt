@@ -4,7 +4,7 @@ ghost use Rattle.std.specs.Str.{bytes_eq};
 ghost use Rattle.byteorder.specs.Endian.{big_bytes};
 ghost use Rattle.heap_class.specs.declared.Refusal.TheVariants.{NoMemory};
 ghost use Rattle.hex.specs.Hex.{encode_lower};
-ghost use Rattle.question_text.specs.Ids.{and_id, hex_digit, hex_from, id_of_word, with_hex};
+ghost use Rattle.question_text.specs.Ids.{and_id, and_reference, hex_digit, hex_from, id_of_word, with_hex};
 
 use crate::rows::push_words;
 use heap_class::Refusal;
@@ -80,4 +80,16 @@ pub(crate) fn push_id(text: &mut Vec<u8>, id: u64) -> Result<(), Refusal>
         unreachable!()
     }
     push_words(text, &digits)
+}
+
+/// Appends a space, and an id or `null`. Fails with NoMemory.
+pub(crate) fn push_reference(text: &mut Vec<u8>, id: u64) -> Result<(), Refusal>
+    ensures ok { OnOk result (text.new.items ≡ text.old.items ++ and_reference id) }
+    ensures refused { IfErr result (λ e. e ≡ NoMemory) }
+{
+    if id == 0 {
+        push_words(text, b" null")
+    } else {
+        push_id(text, id)
+    }
 }

@@ -3,23 +3,32 @@
 
 ghost use Rattle.std.specs.Prelude.{◌≡◌, ℕ, List, Some};
 ghost use Rattle.session_text.specs.declared.command.Command.TheVariants.{Bad};
-ghost use Rattle.session_text.specs.Grammar.{command_of_text};
+ghost use Rattle.std.specs.List.{AllByRecursion};
+ghost use Rattle.session_text.specs.Grammar.{Rule, all_rules, command_of_text};
 ghost use Rattle.question_text.specs.declared.question.Question.{Question};
-ghost use Rattle.question_text.specs.Questions.{question_of};
+ghost use Rattle.question_text.specs.Help.{HasForm, help_of};
+ghost use Rattle.question_text.specs.Questions.{QuestionRule, question_of, question_rules};
 
 mod answers;
 mod asking;
 mod at;
+mod birth;
 mod growth;
+mod help;
 mod histogram;
+mod history;
 mod id;
+mod loss;
 mod names;
 mod path;
+mod place;
 mod question;
 mod referrers;
 mod registers;
 mod rows;
 mod session;
+mod show;
+mod write;
 
 pub use answers::answer;
 pub use asking::Asking;
@@ -29,4 +38,15 @@ pub use session::serve_asking;
 /// States that no line that asks a question is one of the grammar of sessions, so that each of these keeps its meaning.
 pub fn questions_are_new()
     ensures { (l : List ℕ) (q : Question) → question_of l ≡ Some q → command_of_text l ≡ Bad }
+{}
+
+/// States the same of a line that asks for help.
+pub fn help_is_new()
+    ensures { (l text : List ℕ) → help_of l ≡ Some text → command_of_text l ≡ Bad }
+{}
+
+/// States that `help` knows the keyword of each line of the grammar of sessions, and of each question.
+pub fn help_is_whole()
+    ensures sessions { AllByRecursion (λ (r : Rule). HasForm r.0) all_rules }
+    ensures questions { AllByRecursion (λ (r : QuestionRule). HasForm r.0) question_rules }
 {}

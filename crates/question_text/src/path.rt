@@ -1,5 +1,5 @@
 //! The answer of `path`.
-ghost use Rattle.std.specs.Prelude.{◌≡◌, ◌++◌, ◌<◌, length, Some, IfErr, IfOk, IsSome, OnOk, slice_get};
+ghost use Rattle.std.specs.Prelude.{◌≡◌, ◌++◌, Some, IfErr, IfOk, IsSome, OnOk};
 ghost use Rattle.heap_class.specs.declared.Refusal.TheVariants.{NoMemory};
 ghost use Rattle.heap_questions.specs.Graph.{IsPathTo, followed, named};
 ghost use Rattle.question_text.specs.Moments.{IsToldOf, told_text};
@@ -9,17 +9,17 @@ use crate::id::push_id;
 use crate::referrers::{push_count, push_register};
 use crate::rows::{Unanswered, push_number, push_words};
 use heap_class::Refusal;
-use heap_questions::{Path, object_with, shortest_path};
+use heap_questions::{ObjectIndex, Path, object_with, shortest_path};
 use hprof_text::View;
 use std::alloc::Global;
 
 // Returns what a slot of the object with this id names. The slot must name an object.
 #[tactic(auto, unfolding(heap_questions::specs::Graph::named, heap_questions::specs::Graph::slot_names))]
-fn named_by<V: View>(view: &V, id: u64, slot: u64) -> u64
-    requires { IsSome (named (V.image view.now) id slot) }
-    ensures { named (V.image view.now) id slot ≡ Some result }
+fn named_by<V: View>(index: &ObjectIndex<'_, V>, id: u64, slot: u64) -> u64
+    requires { IsSome (named index.now id slot) }
+    ensures { named index.now id slot ≡ Some result }
 {
-    match object_with(view, id) {
+    match index.object_with(id) {
         Some(object) => object.words()[slot as usize],
         None => unreachable!(),
     }
@@ -41,18 +41,18 @@ fn push_step(text: &mut Vec<u8>, from: u64, slot: u64, to: u64) -> Result<(), Re
 // Appends the lines of the slots that are followed from an object. Fails with NoMemory.
 fn push_steps<V: View>(
     text: &mut Vec<u8>,
-    view: &V,
+    index: &ObjectIndex<'_, V>,
     start: u64,
     slots: &[u64],
 ) -> Result<(), Refusal>
-    requires { IsSome (followed (V.image view.now) start slots.now) }
+    requires { IsSome (followed index.now start slots.now) }
     ensures ok { OnOk result
-        (text.new.items ≡ text.old.items ++ step_texts (V.image view.now) start slots.now) }
+        (text.new.items ≡ text.old.items ++ step_texts index.now start slots.now) }
     ensures refused { IfErr result (λ e. e ≡ NoMemory) }
 {
     let mut here = start;
     for slot in slots {
-        let next = named_by(view, here, *slot);
+        let next = named_by(index, here, *slot);
         push_step(text, here, *slot, next)?;
         here = next;
     }
@@ -79,15 +79,16 @@ fn route_text<V: View>(alloc: Global, view: &V, path: &Path, id: u64) -> Result<
     ensures refused { IfErr result (λ e. e ≡ NoMemory) }
 {
     let start = view.registers()[path.register as usize];
+    let index = ObjectIndex::new(alloc, view)?;
     let mut text = Vec::new(alloc);
     push_root(&mut text, path.register, start)?;
-    push_steps(&mut text, view, start, path.slots.as_slice())?;
+    push_steps(&mut text, &index, start, path.slots.as_slice())?;
     push_count(&mut text, path.slots.len() as u64)?;
     Ok(text)
 }
 
 /// Returns the answer of `path` about a view. Fails with NoObject if the id names no object, with Unreachable if no register
-/// reaches it, and with NoMemory if an allocation fails.
+/// reaches it, and with NoMemory if an allocation fails. Reads each object a few times, however long the path is.
 pub(crate) fn path_answer<V: View>(alloc: Global, view: &V, id: u64) -> Result<Vec<u8>, Unanswered>
     ensures { IsToldOf (IsPathText id) (V.image view.now) (told_text result) }
 {

@@ -2,7 +2,7 @@
 ghost use Rattle.std.specs.Prelude.{◌≡◌};
 ghost use Rattle.session_text.specs.Grammar.{at_end, words_of_line};
 ghost use Rattle.session_text.specs.Reads.{IsNextWord};
-ghost use Rattle.question_text.specs.Questions.{at_and_id, at_of_word, garbage_line, growth_line, histogram_line, next_at, next_id, one_at, path_line, question_of, referrers_line, registers_line, two_ats};
+ghost use Rattle.question_text.specs.Questions.{at_and_id, at_of_word, born_line, dropped_line, garbage_line, growth_line, histogram_line, history_line, id_and_number, next_at, next_id, next_number, one_at, one_id, one_number, path_line, question_of, referrers_line, registers_line, show_line, two_ats, wrote_line};
 
 use crate::id::{id_of, is_word};
 use session_text::number::number_of;
@@ -34,6 +34,16 @@ pub enum Question {
     Referrers { at: At, id: u64 },
     /// Why an object is alive: a shortest path from a register.
     Path { at: At, id: u64 },
+    /// The slots of an object.
+    Show { at: At, id: u64 },
+    /// When an object was made.
+    Born(u64),
+    /// When a slot of an object last changed.
+    Wrote { id: u64, slot: u64 },
+    /// When registers lost an object.
+    Dropped(u64),
+    /// What the newest retained steps did: how many of them.
+    History(u64),
 }
 
 // Returns the state that a word names.
@@ -150,6 +160,79 @@ fn path_line(words: Words) -> Option<Question>
     Some(Question::Path { at, id })
 }
 
+// Reads the words of `show AT ID`.
+fn show_line(words: Words) -> Option<Question>
+    ensures { result ≡ show_line (words_of_line words.entry) }
+{
+    let (at, id) = at_and_id(words)?;
+    Some(Question::Show { at, id })
+}
+
+// Returns the one id that the words name.
+fn one_id(mut words: Words) -> Option<u64>
+    ensures { result ≡ one_id (words_of_line words.entry) }
+{
+    let id = next_id(&mut words)?;
+    at_end(id, words)
+}
+
+// Reads the words of `born ID`.
+fn born_line(words: Words) -> Option<Question>
+    ensures { result ≡ born_line (words_of_line words.entry) }
+{
+    let id = one_id(words)?;
+    Some(Question::Born(id))
+}
+
+// Reads the number that the next word is. Returns None if it is none.
+fn next_number(words: &mut Words) -> Option<u64>
+    ensures { IsNextWord (next_number (words_of_line words.old)) (words_of_line words.new) result }
+{
+    let word = words.next_word()?;
+    number_of(word)
+}
+
+// Returns the id and the number that the words name.
+fn id_and_number(mut words: Words) -> Option<(u64, u64)>
+    ensures { result ≡ id_and_number (words_of_line words.entry) }
+{
+    let id = next_id(&mut words)?;
+    let number = next_number(&mut words)?;
+    at_end((id, number), words)
+}
+
+// Reads the words of `wrote ID SLOT`.
+fn wrote_line(words: Words) -> Option<Question>
+    ensures { result ≡ wrote_line (words_of_line words.entry) }
+{
+    let (id, slot) = id_and_number(words)?;
+    Some(Question::Wrote { id, slot })
+}
+
+// Reads the words of `dropped ID`.
+fn dropped_line(words: Words) -> Option<Question>
+    ensures { result ≡ dropped_line (words_of_line words.entry) }
+{
+    let id = one_id(words)?;
+    Some(Question::Dropped(id))
+}
+
+// Returns the one number that the words name.
+fn one_number(mut words: Words) -> Option<u64>
+    ensures { result ≡ one_number (words_of_line words.entry) }
+{
+    let number = next_number(&mut words)?;
+    at_end(number, words)
+}
+
+// Reads the words of `history N`.
+fn history_line(words: Words) -> Option<Question>
+    ensures { result ≡ history_line (words_of_line words.entry) }
+{
+    let count = one_number(words)?;
+    Some(Question::History(count))
+}
+
 /// Returns the question that a line asks, or None if it asks none.
 #[tactic(auto, unfolding(crate::specs::Questions::question_of_words, crate::specs::Questions::question_rules))]
 pub fn question_of(line: &[u8]) -> Option<Question>
@@ -174,6 +257,21 @@ pub fn question_of(line: &[u8]) -> Option<Question>
     }
     if is_word(word, b"path") {
         return path_line(words);
+    }
+    if is_word(word, b"show") {
+        return show_line(words);
+    }
+    if is_word(word, b"born") {
+        return born_line(words);
+    }
+    if is_word(word, b"wrote") {
+        return wrote_line(words);
+    }
+    if is_word(word, b"dropped") {
+        return dropped_line(words);
+    }
+    if is_word(word, b"history") {
+        return history_line(words);
     }
     None
 }

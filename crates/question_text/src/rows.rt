@@ -1,9 +1,12 @@
 //! The lines of an answer.
 ghost use Rattle.std.specs.Prelude.{◌≡◌, ◌++◌, IfErr, OnOk};
 ghost use Rattle.heap_class.specs.declared.Refusal.TheVariants.{NoMemory};
-ghost use Rattle.session_text.specs.Replies.{and_number};
+ghost use Rattle.session_text.specs.Replies.{and_number, line_answer_text};
+ghost use Rattle.question_text.specs.Moments.{unanswered_text};
 
 use heap_class::Refusal;
+use heap_trail::Reply;
+use session_text::LineAnswer;
 
 /// The reason why a question has no answer.
 #[derive(Clone, Copy, PartialEq, Eq, Debug)]
@@ -24,6 +27,17 @@ impl From<Refusal> for Unanswered {
 
     fn from(refusal: Refusal) -> Unanswered {
         Unanswered::Refused(refusal)
+    }
+}
+
+/// Returns what is printed if a question has no answer.
+pub(crate) fn reason_line(reason: Unanswered) -> LineAnswer
+    ensures { line_answer_text result ≡ unanswered_text reason }
+{
+    match reason {
+        Unanswered::Refused(refusal) => LineAnswer::Known(Reply::Refused(refusal)),
+        Unanswered::NoObject => LineAnswer::Line(b"no 28 NoObject\n"),
+        Unanswered::Unreachable => LineAnswer::Line(b"no 27 Unreachable\n"),
     }
 }
 

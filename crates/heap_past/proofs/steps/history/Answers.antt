@@ -1,11 +1,11 @@
 use Rattle.std.proofs.Common.{ℕ, ◌+◌, ◌-◌, ◌<◌, List, length, sym, ap, ◌∙◌, subst, inl, inr}
-use Rattle.std.specs.Prelude.{option_map, slice_get}
+use Rattle.std.specs.Prelude.{Option, option_map, slice_get, unwrap_or}
 use Rattle.std.proofs.lemmas.List.{length_push}
 use Rattle.std.proofs.lemmas.Option.{none-some}
 use Rattle.heap_world.specs.State.{HeapState}
 use Rattle.heap_trail.specs.Trail.{state_ago}
 use Rattle.heap_past.specs.declared.steps.PastStep.{PastStep}
-use Rattle.heap_past.specs.Newest.{AreCellSizes, IsPastStep, id_by, written_at}
+use Rattle.heap_past.specs.Newest.{AreCellSizes, IsPastStep, event_with, id_by, written_at}
 use Rattle.heap_past.proofs.PushedItems.{pushed_cases}
 use Rattle.heap_past.proofs.Sizes.{ids_are, reclaimed_within, sizes_step, written_within}
 use Rattle.heap_past.proofs.Walk.{now_is}
@@ -21,8 +21,8 @@ loop-n-init c =
       each = λ k s h. absurd (none-some s (ap (λ (xs : List PastStep). slice_get xs k) (sym c.in_ok-steps.ensures.items) ∙ h));
     }
 
-pub object_of-requires-clause-within : goal.object_of-requires-clause-within
-object_of-requires-clause-within c =
+pub event_by-requires-clause-within : goal.event_by-requires-clause-within
+event_by-requires-clause-within c =
     let t = c.args.machine.now.trail in
     let n = c.loop-n.n in
     let r = c.record_ago-left.ensures in
@@ -45,14 +45,15 @@ loop-n-preserved c =
     let sizes = c.loop-n.sizes.items in
     let steps = c.loop-n.steps.items in
     let i = c.loop-n.invariant in
-    let x : PastStep = record { place = c.place.result - n; object = c.object_of.result } in
+    let x : PastStep = record { place = c.place.result - n; event = c.event_by.result } in
     let one : IsPastStep t n x = record {
       place = ap (λ p. p - n) c.place.ensures.value;
       left = left;
       recorded = r;
-      object = c.object_of.ensures
-          ∙ ap (λ (xs : List ℕ). option_map (id_by xs) (written_at left)) c.as_slice.ensures.value
-          ∙ ids_are left r.0 (state_ago (n + 1) t) (state_ago n t) sizes r.1 i.sizes;
+      event = c.event_by.ensures
+          ∙ ap (λ (o : Option ℕ). event_with left (unwrap_or o 0))
+          (ap (λ (xs : List ℕ). option_map (id_by xs) (written_at left)) c.as_slice.ensures.value
+          ∙ ids_are left r.0 (state_ago (n + 1) t) (state_ago n t) sizes r.1 i.sizes);
     } in
     record {
       sizes = subst (AreCellSizes (state_ago (n + 1) t)) (sym c.undo_size.ensures) (sizes_step left r.0 (state_ago (n + 1) t) (state_ago n t) sizes r.1 i.sizes);

@@ -1,6 +1,5 @@
-use Rattle.std.proofs.Common.{◌≡◌, ◌∙◌, ◌-◌, ◌≤◌, true, false, arith, ap, subst, sym}
+use Rattle.std.proofs.Common.{◌≡◌, ◌∙◌, ◌-◌, true, arith, subst, sym}
 use Rattle.std.proofs.lemmas.Result.{err_from_is_err_and}
-use Rattle.heap_pins.specs.Pin.{PinContents}
 use Rattle.heap_trail.specs.Pins.{is_retained}
 use Rattle.heap_trail.specs.Views.{ShowsAgo}
 use Rattle.heap_trail.proofs.PinsAtPlaces.{retained_parts}

@@ -1,4 +1,4 @@
-use Rattle.std.proofs.Common.{◌≡◌, ◌∙◌, Ok, Err, IfOk, IfErr, Some, ap}
+use Rattle.std.proofs.Common.{◌≡◌, ◌∙◌, Ok, Err, Some, ap}
 use Rattle.std.proofs.lemmas.Result.{IfOk-weaker, IfErr-weaker}
 use Rattle.heap_pins.specs.Pin.{pin_image}
 use Rattle.heap_trail.specs.Pins.{pin_at}

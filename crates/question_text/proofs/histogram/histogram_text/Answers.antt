@@ -1,4 +1,4 @@
-use Rattle.std.proofs.Common.{◌∙◌, ◌+◌, IfOk, List, ap, length, subst, sym}
+use Rattle.std.proofs.Common.{◌∙◌, ◌+◌, List, ap, length, subst, sym}
 use Rattle.std.proofs.lemmas.Result.{IfOk-weaker}
 use Rattle.heap_class.specs.Classes.{Class}
 use Rattle.heap_questions.specs.Histogram.{class_rows}

@@ -6,7 +6,7 @@ use Rattle.question_text.proofs.path.push_steps.Given as goal
 
 abbrev pub invariant-loop-slot : goal.invariant-loop-slot
 invariant-loop-slot g l =
-    let image = g.V.View.image l.view in
+    let image = l.index in
     record {
       lines : l.text.items ++ step_texts image l.here (drop l.slot-index l.slots) ≡ l.fn.text.items ++ step_texts image l.start l.slots;
       leads : IsSome (followed image l.here (drop l.slot-index l.slots));

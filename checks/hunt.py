@@ -1,0 +1,89 @@
+#!/usr/bin/env python3
+"""Runs the leak hunt of docs/HUNT.md on the built program and on the model, and compares what comes with what the page says.
+
+Usage: checks/hunt.py [PROGRAM ..]
+In the page's blocks a line behind `> ` is given to `heapdbg explore`; the lines after it are what it must be answered, where
+`..` stands for any lines. Prints a line for each difference and ends with status 1 if there is one."""
+import os
+import pathlib
+import subprocess
+import sys
+
+TOP = pathlib.Path(__file__).resolve().parent.parent
+sys.path.insert(0, str(TOP / "checks/model"))
+
+from machine import Machine  # noqa: E402
+from questions import Asking  # noqa: E402
+
+SECONDS = 20
+KEEP = 4096
+
+
+def page():
+    """Returns the page's lines to give, each with the lines that it must be answered."""
+    asked = []
+    for line in (TOP / "docs/HUNT.md").read_text().split("\n"):
+        if line.startswith("    > "):
+            asked.append((line[6:].encode(), []))
+        elif line.startswith("    ") and asked:
+            asked[-1][1].append(line[4:].encode())
+    return asked
+
+
+def fits(came, wanted):
+    """Returns whether lines are those of the page."""
+    if b".." not in wanted:
+        return came == wanted
+    at = wanted.index(b"..")
+    rest = wanted[at + 1 :]
+    return came[:at] == wanted[:at] and came[len(came) - len(rest) :] == rest and len(came) >= len(wanted) - 1
+
+
+def of_model(lines):
+    """Returns what the model answers to each line."""
+    session = Asking(Machine(keep=KEEP))
+    return [session.answer(line) for line in lines]
+
+
+def of_program(program, lines, answers):
+    """Returns what a program answers to each line, cut as the model's answers are long."""
+    text = b"".join(line + b"\n" for line in lines)
+    ran = subprocess.run([program, "explore", "--keep", str(KEEP)], input=text, capture_output=True, timeout=SECONDS)
+    came, at = [], 0
+    for answer in answers:
+        count = answer.count(b"\n")
+        end = at
+        for _ in range(count):
+            end = ran.stdout.find(b"\n", end) + 1 or len(ran.stdout)
+        came.append(ran.stdout[at:end])
+        at = end
+    return came
+
+
+def differences(programs):
+    """Yields a line for each answer that isn't what it must be."""
+    story = [line for line in (TOP / "examples/leak.session").read_bytes().split(b"\n") if line]
+    asked = page()
+    lines = [*story, *(line for line, _ in asked)]
+    answers = of_model(lines)
+    for who, came in [("the model", answers), *((each, of_program(each, lines, answers)) for each in programs)]:
+        for line, answer in zip(story, came):
+            if not answer.startswith(b"ok"):
+                yield f"{who}: {line!r} is answered {answer!r:.100}"
+        for (line, wanted), answer in zip(asked, came[len(story) :]):
+            if not fits(answer.split(b"\n")[:-1], wanted):
+                yield f"{who}: {line!r} is answered {answer!r:.300}"
+
+
+def main(programs):
+    """Returns the exit status: 0 if every answer is that of the page."""
+    found = list(differences([os.path.abspath(program) for program in programs]))
+    ran = subprocess.run([sys.executable, TOP / "examples/leak.py"], capture_output=True, timeout=SECONDS)
+    if ran.stdout != (TOP / "examples/leak.session").read_bytes():
+        found.append("examples/leak.py prints another session than examples/leak.session")
+    print("\n".join(found), end="\n" if found else "")
+    return 1 if found else 0
+
+
+if __name__ == "__main__":
+    sys.exit(main(sys.argv[1:]))

@@ -1,4 +1,0 @@
-use Rattle.growths.proofs.acts.done.Given as goal
-
-abbrev pub ghosts-done_in : goal.ghosts-done_in
-ghosts-done_in g a = record { config = a.blank.config; tables = a.blank.tables; ledger = a.blank.ledger }

@@ -1,0 +1,120 @@
+//! What retained steps did, and what they overwrote.
+ghost use Rattle.std.specs.Prelude.{◌≡◌};
+ghost use Rattle.heap_past.specs.declared.events.PastEvent.TheVariants.{New, Register};
+ghost use Rattle.heap_past.specs.Newest.{event_with};
+
+use heap_step::Undo;
+
+/// What a step did, and what it overwrote. Objects are told by their ids.
+#[derive(Clone, Copy, PartialEq, Eq, Debug)]
+pub enum PastEvent {
+    /// A value was written to a slot: its old word.
+    Put {
+        object: u64,
+        slot: u64,
+        old: u64,
+    },
+    /// A reference was written to a slot: its old word.
+    Store {
+        object: u64,
+        slot: u64,
+        old: u64,
+    },
+    /// Register `r` of mutator `m` was written: its old word.
+    Register {
+        m: u64,
+        r: u64,
+        old: u64,
+    },
+    /// An object was made, and register `r` of mutator `m` was written: its old word.
+    New {
+        object: u64,
+        m: u64,
+        r: u64,
+        old: u64,
+    },
+    /// A class was defined.
+    Class,
+    /// A cycle was begun.
+    Snap,
+    /// An object was marked: its id, and the number of its children that were pushed.
+    Mark {
+        parent: u64,
+        pushed: u64,
+    },
+    /// An entry of the log was drained: the number of objects that were pushed.
+    Drain {
+        pushed: u64,
+    },
+    /// A cycle was ended: the number of entries of its log.
+    Finish {
+        log: u64,
+    },
+    /// A region was swept that keeps objects: the number of objects that were removed.
+    Sweep {
+        region: u64,
+        dead: u64,
+    },
+    /// A region was swept that is empty now.
+    Reclaim {
+        region: u64,
+    },
+}
+
+// Returns the writing of a register.
+fn register_event(m: u8, r: u8, old: u64) -> PastEvent
+    ensures { result ≡ Register m r old }
+{
+    PastEvent::Register {
+        m: m as u64,
+        r: r as u64,
+        old,
+    }
+}
+
+// Returns the making of an object.
+fn new_event(object: u64, m: u8, r: u8, old: u64) -> PastEvent
+    ensures { result ≡ New object m r old }
+{
+    PastEvent::New {
+        object,
+        m: m as u64,
+        r: r as u64,
+        old,
+    }
+}
+
+/// Returns what the step with this record did, given the id of the object that it wrote or created.
+pub(crate) fn event_with(left: &Undo, object: u64) -> PastEvent
+    ensures { result ≡ event_with left.now object }
+{
+    match left {
+        Undo::Put { slot, old, .. } => PastEvent::Put {
+            object,
+            slot: *slot as u64,
+            old: *old,
+        },
+        Undo::Store { slot, old, .. } => PastEvent::Store {
+            object,
+            slot: *slot as u64,
+            old: *old,
+        },
+        Undo::Reg { m, r, old } => register_event(*m, *r, *old),
+        Undo::New { m, r, old, .. } => new_event(object, *m, *r, *old),
+        Undo::Class => PastEvent::Class,
+        Undo::Snap => PastEvent::Snap,
+        Undo::Mark { parent, pushed } => PastEvent::Mark {
+            parent: *parent,
+            pushed: *pushed,
+        },
+        Undo::Drain { pushed } => PastEvent::Drain { pushed: *pushed },
+        Undo::Finish { log } => PastEvent::Finish { log: log.len() },
+        Undo::Sweep { region, dead } => PastEvent::Sweep {
+            region: *region as u64,
+            dead: dead.len(),
+        },
+        Undo::Reclaim { region, .. } => PastEvent::Reclaim {
+            region: *region as u64,
+        },
+    }
+}

@@ -1,0 +1,47 @@
+//! The objects of a view by their ids.
+ghost use Rattle.std.specs.Prelude.{◌≡◌, IfOk, IfErr};
+ghost use Rattle.heap_class.specs.declared.Refusal.TheVariants.{NoMemory};
+ghost use Rattle.heap_questions.specs.Graph.{object_with};
+
+use crate::nodes::NodeList;
+use crate::objects::{ShownObject, shown_with};
+use heap_class::Refusal;
+use hprof_text::View;
+use std::alloc::Global;
+use std::marker::Model;
+
+/// The objects that a view shows, found by their ids: in constant time if ids rise. Contracts see the image.
+#[derive(Drop)]
+pub struct ObjectIndex<'a, V: View> {
+    view: &'a V,
+    nodes: NodeList,
+}
+
+impl<'a, V: View> Model for ObjectIndex<'a, V> {
+    ghost use Rattle.hprof_text.specs.Image.{Image};
+    ghost use Rattle.heap_questions.specs.Search.{AreNodes};
+
+    ghost Value = { Image };
+
+    ghost view = { λ x. V.image x.view.now };
+
+    ghost invariant = { λ x. AreNodes (V.image x.view.now) (V.places x.view.now) x.nodes };
+}
+
+impl<'a, V: View> ObjectIndex<'a, V> {
+    /// Lists the objects of a view. Fails with NoMemory. Reads each object's id once.
+    pub fn new(alloc: Global, view: &'a V) -> Result<ObjectIndex<'a, V>, Refusal>
+        ensures index { IfOk result (λ x. x ≡ V.image view.now) }
+        ensures refused { IfErr result (λ e. e ≡ NoMemory) }
+    {
+        let nodes = NodeList::new(alloc, view)?;
+        Ok(ObjectIndex { view, nodes })
+    }
+
+    /// Returns the object with this id, or None if there is none.
+    pub fn object_with(&self, id: u64) -> Option<ShownObject<'_>>
+        ensures { result ≡ object_with self.now id }
+    {
+        shown_with(self.view, &self.nodes, id)
+    }
+}

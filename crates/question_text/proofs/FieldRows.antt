@@ -1,0 +1,83 @@
+-- Rows of fields, one after another.
+use Rattle.std.proofs.Common.{◌≡◌, ◌∙◌, ◌+◌, ◌-◌, ◌<◌, ◌≤◌, ℕ, zero, suc, List, [], ◌∷◌, ◌++◌, Option, Some, None, length, get_or, drop, min, refl, sym, ap, ap₂, subst, append_assoc, inl, inr, arith}
+use Rattle.std.specs.Prelude.{IfSome, slice_get, ◌⊎◌}
+use Rattle.std.proofs.lemmas.Bool.{cases_lt}
+use Rattle.std.proofs.lemmas.List.{at_drop_more, drop_all, drop-drop, length-drop}
+use Rattle.std.proofs.lemmas.Option.{get_or_from_slice_get}
+use Rattle.heap_class.specs.declared.Field.{Field}
+use Rattle.heap_class.specs.declared.Kind.{Kind}
+use Rattle.heap_class.specs.Classes.{Class, fields_of, sup_of}
+use Rattle.hprof_text.proofs.Loops.{some_item}
+use Rattle.question_text.specs.Objects.{field_row, field_rows, fields_up}
+
+rows_none : (n : ℕ) (fs : List Field) → field_rows n fs [] ≡ []
+rows_none n [] = refl
+rows_none n (f ∷ fs) = refl
+
+said : (P : Field → Type 0) (o : Option Field) (f : Field) → o ≡ Some f → IfSome o P → P f
+said P o f e h = subst (λ (p : Option Field). IfSome p P) e h
+
+-- the next row
+pub rows_more : (i j q : ℕ) (fs : List Field) (ws : List ℕ) (name : List ℕ) (kind : Kind) → q ≡ j + 1 → i < length fs → IfSome (slice_get fs i) (λ f. name ≡ f.name) → IfSome (slice_get fs i) (λ f. kind ≡ f.kind) → j < length ws
+    → field_rows j (drop i fs) (drop j ws) ≡ field_row j name kind (get_or ws j 0) ++ field_rows q (drop (i + 1) fs) (drop q ws)
+rows_more i j q fs ws name kind e li a k lj =
+    let f = some_item fs i li in
+    at_drop_more (λ gs. field_rows j gs (drop j ws)) fs i f.0 li
+    ∙ ap (λ g. field_rows j (g ∷ drop (i + 1) fs) (drop j ws)) (get_or_from_slice_get fs i f.0 f.0 f.1)
+    ∙ at_drop_more (λ vs. field_rows j (f.0 ∷ drop (i + 1) fs) vs) ws j 0 lj
+    ∙ ap₂ (λ b m. field_row j b m (get_or ws j 0) ++ field_rows (j + 1) (drop (i + 1) fs) (drop (j + 1) ws)) (sym (said (λ f. name ≡ f.name) (slice_get fs i) f.0 f.1 a)) (sym (said (λ f. kind ≡ f.kind) (slice_get fs i) f.0 f.1 k))
+    ∙ ap (λ p. field_row j name kind (get_or ws j 0) ++ field_rows p (drop (i + 1) fs) (drop p ws)) (sym e)
+
+-- the fields or the words are used up
+pub used_up : (a b f c i : ℕ) → c ≡ min a (b - f) → c ≤ i → f ≤ b → (a ≤ i) ⊎ (b ≤ f + i)
+used_up a b f c i e h w = elim (cases_lt i a) [
+  | inl lt ↦ inr (omega (arith, e, h, lt, w))
+  | inr ge ↦ inl ge
+]
+
+-- no row is left
+pub rows_end : (n i j : ℕ) (fs : List Field) (ws : List ℕ) → (length fs ≤ i) ⊎ (length ws ≤ j) → field_rows n (drop i fs) (drop j ws) ≡ []
+rows_end n i j fs ws h = elim h [
+  | inl a ↦ ap (λ gs. field_rows n gs (drop j ws)) (drop_all i fs a)
+  | inr b ↦ ap (λ vs. field_rows n (drop i fs) vs) (drop_all j ws b) ∙ rows_none n (drop i fs)
+]
+
+-- the rows of some fields and of those behind them
+pub rows_append : (n : ℕ) (fs gs : List Field) (ws : List ℕ) (m k : ℕ) → m ≡ min (length fs) (length ws) → k ≡ n + m → field_rows n (fs ++ gs) ws ≡ field_rows n fs ws ++ field_rows k gs (drop m ws)
+rows_append n [] gs ws m k e q =
+    let z : m ≡ 0 = omega (arith, e) in
+    let y : k ≡ n = omega (arith, z, q) in
+    ap₂ (λ a b. field_rows a gs (drop b ws)) (sym y) (sym z)
+rows_append n (f ∷ fs) gs [] m k e q =
+    let z : m ≡ 0 = omega (arith, e) in
+    sym (ap (λ b. field_rows k gs (drop b [])) z ∙ rows_none k gs)
+rows_append n (f ∷ fs) gs (w ∷ ws) m k e q =
+    let p = min (length fs) (length ws) in
+    let s : m ≡ suc p = omega (arith, e) in
+    let row = field_row n f.name f.kind w in
+    ap (λ t. row ++ t) (rows_append (n + 1) fs gs ws p k refl (omega (arith, q, s)))
+    ∙ sym (append_assoc row (field_rows (n + 1) fs ws) (field_rows k gs (drop p ws)))
+    ∙ ap (λ b. (row ++ field_rows (n + 1) fs ws) ++ field_rows k gs (drop b (w ∷ ws))) (sym s)
+
+-- ---- a class and those above it
+
+pub fields_none : (cs : List Class) (n : ℕ) → fields_up cs n None ≡ []
+fields_none cs zero = refl
+fields_none cs (suc n) = refl
+
+pub fields_more : (cs : List Class) (n m k : ℕ) → n ≡ m + 1 → fields_up cs n (Some k) ≡ fields_of cs k ++ fields_up cs m (sup_of cs k)
+fields_more cs n m k e =
+    let s : n ≡ suc m = omega (arith, e) in
+    ap (λ x. fields_up cs x (Some k)) s
+
+-- the rows of a class and those above it
+pub rows_of_class : (cs : List Class) (n m a f own : ℕ) (ws : List ℕ) → n ≡ m + 1 → own ≡ min (length (fields_of cs a)) (length ws - f)
+    → field_rows f (fields_up cs n (Some a)) (drop f ws) ≡ field_rows f (fields_of cs a) (drop f ws) ++ field_rows (f + own) (fields_up cs m (sup_of cs a)) (drop (f + own) ws)
+rows_of_class cs n m a f own ws e q =
+    ap (λ fs. field_rows f fs (drop f ws)) (fields_more cs n m a e)
+    ∙ rows_append f (fields_of cs a) (fields_up cs m (sup_of cs a)) (drop f ws) own (f + own) (q ∙ ap (min (length (fields_of cs a))) (sym (length-drop f ws))) refl
+    ∙ ap (λ vs. field_rows f (fields_of cs a) (drop f ws) ++ field_rows (f + own) (fields_up cs m (sup_of cs a)) vs) (drop-drop own f ws)
+
+pub lower : (o : Option ℕ) (a n : ℕ) → IfSome o (λ s. s < a) → a < n → IfSome o (λ s. s < n)
+lower None a n h l = tt
+lower (Some s) a n h l = omega (arith, h, l)

@@ -1,0 +1,131 @@
+//! The answer of `history`.
+ghost use Rattle.std.specs.Prelude.{◌≡◌, ◌++◌, flat_map, IfErr, IfOk, OnOk};
+ghost use Rattle.heap_class.specs.declared.Refusal.TheVariants.{NoMemory};
+ghost use Rattle.question_text.specs.Histories.{IsHistoryText, IsNewestText, and_overwritten, and_slot, event_words, step_line};
+ghost use Rattle.question_text.specs.Moments.{told_text};
+ghost use Rattle.session_text.specs.Replies.{and_number};
+
+use crate::id::{push_id, push_reference};
+use crate::referrers::push_count;
+use crate::rows::{Unanswered, push_number, push_words};
+use heap_class::Refusal;
+use heap_past::{PastEvent, PastStep, history};
+use heap_trail::Machine;
+use std::alloc::Global;
+
+// Appends a word, an id and the number of a slot. Fails with NoMemory.
+fn push_slot(text: &mut Vec<u8>, word: &[u8], id: u64, slot: u64) -> Result<(), Refusal>
+    ensures ok { OnOk result (text.new.items ≡ text.old.items ++ and_slot word.now id slot) }
+    ensures refused { IfErr result (λ e. e ≡ NoMemory) }
+{
+    push_words(text, word)?;
+    push_id(text, id)?;
+    push_number(text, slot)
+}
+
+// Appends the numbers of a mutator and its register, and what it named before. Fails with NoMemory.
+fn push_overwritten(text: &mut Vec<u8>, m: u64, r: u64, old: u64) -> Result<(), Refusal>
+    ensures ok { OnOk result (text.new.items ≡ text.old.items ++ and_overwritten m r old) }
+    ensures refused { IfErr result (λ e. e ≡ NoMemory) }
+{
+    push_number(text, m)?;
+    push_number(text, r)?;
+    push_reference(text, old)
+}
+
+// Appends a word and a number. Fails with NoMemory.
+fn push_counted(text: &mut Vec<u8>, word: &[u8], n: u64) -> Result<(), Refusal>
+    ensures ok { OnOk result (text.new.items ≡ text.old.items ++ word.now ++ and_number n) }
+    ensures refused { IfErr result (λ e. e ≡ NoMemory) }
+{
+    push_words(text, word)?;
+    push_number(text, n)
+}
+
+// Appends what a step did and what it overwrote. Fails with NoMemory.
+#[tactic(auto, unfolding(crate::specs::Histories::event_words))]
+fn push_event(text: &mut Vec<u8>, event: PastEvent) -> Result<(), Refusal>
+    ensures ok { OnOk result (text.new.items ≡ text.old.items ++ event_words event) }
+    ensures refused { IfErr result (λ e. e ≡ NoMemory) }
+{
+    match event {
+        PastEvent::Put { object, slot, old } => {
+            push_slot(text, b" put", object, slot)?;
+            push_number(text, old)
+        }
+        PastEvent::Store { object, slot, old } => {
+            push_slot(text, b" store", object, slot)?;
+            push_reference(text, old)
+        }
+        PastEvent::Register { m, r, old } => {
+            push_words(text, b" reg")?;
+            push_overwritten(text, m, r, old)
+        }
+        PastEvent::New { object, m, r, old } => {
+            push_words(text, b" new")?;
+            push_id(text, object)?;
+            push_overwritten(text, m, r, old)
+        }
+        PastEvent::Class => push_words(text, b" class"),
+        PastEvent::Snap => push_words(text, b" snap"),
+        PastEvent::Mark { parent, pushed } => {
+            push_words(text, b" mark")?;
+            push_id(text, parent)?;
+            push_number(text, pushed)
+        }
+        PastEvent::Drain { pushed } => push_counted(text, b" drain", pushed),
+        PastEvent::Finish { log } => push_counted(text, b" finish", log),
+        PastEvent::Sweep { region, dead } => {
+            push_counted(text, b" sweep", region)?;
+            push_number(text, dead)
+        }
+        PastEvent::Reclaim { region } => push_counted(text, b" reclaim", region),
+    }
+}
+
+// Appends the line of a step. Fails with NoMemory.
+#[tactic(auto, unfolding(crate::specs::Histories::step_line))]
+fn push_step(text: &mut Vec<u8>, step: PastStep) -> Result<(), Refusal>
+    ensures ok { OnOk result (text.new.items ≡ text.old.items ++ step_line step) }
+    ensures refused { IfErr result (λ e. e ≡ NoMemory) }
+{
+    push_words(text, b"row")?;
+    push_number(text, step.place)?;
+    push_event(text, step.event)?;
+    push_words(text, b"\n")
+}
+
+// Appends the lines of some steps. Fails with NoMemory.
+fn push_steps(text: &mut Vec<u8>, steps: &[PastStep]) -> Result<(), Refusal>
+    ensures ok { OnOk result
+        (text.new.items ≡ text.old.items ++ flat_map step_line steps.now) }
+    ensures refused { IfErr result (λ e. e ≡ NoMemory) }
+{
+    for step in steps {
+        push_step(text, *step)?;
+    }
+    Ok(())
+}
+
+// Returns the lines of the newest steps, and their number. Fails with NoMemory.
+fn newest_text(alloc: Global, machine: &Machine, count: u64) -> Result<Vec<u8>, Refusal>
+    ensures text { IfOk result (λ text. IsNewestText count machine.now.trail text.items) }
+    ensures refused { IfErr result (λ e. e ≡ NoMemory) }
+{
+    let steps = history(alloc, machine, count)?;
+    let mut text = Vec::new(alloc);
+    push_steps(&mut text, steps.as_slice())?;
+    push_count(&mut text, steps.len() as u64)?;
+    Ok(text)
+}
+
+/// Returns the answer of `history`. Fails with NoMemory if an allocation fails. Reads each record once.
+pub(crate) fn history_answer(
+    alloc: Global,
+    machine: &Machine,
+    count: u64,
+) -> Result<Vec<u8>, Unanswered>
+    ensures { IsHistoryText count machine.now.trail (told_text result) }
+{
+    Ok(newest_text(alloc, machine, count)?)
+}

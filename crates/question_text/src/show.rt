@@ -1,0 +1,266 @@
+//! The answer of `show`.
+ghost use Rattle.std.specs.Prelude.{◌≡◌, ◌++◌, ◌<◌, ◌≤◌, Some, drop, length, min, IfErr, IfOk, IfSome, OnOk, slice_get};
+ghost use Rattle.heap_class.specs.Classes.{fields_of};
+ghost use Rattle.heap_class.specs.declared.Refusal.TheVariants.{NoMemory};
+ghost use Rattle.question_text.specs.Moments.{IsToldOf, told_text};
+ghost use Rattle.question_text.specs.Names.{IsClassThere};
+ghost use Rattle.question_text.specs.Objects.{IsShowText, and_value, element_row, element_rows, field_row, field_rows, fields_up, is_marked, mark_text, object_line, object_text, shows_mark, slot_rows, value_text};
+
+use crate::id::push_reference;
+use crate::names::push_class_name;
+use crate::place::place_of_object;
+use crate::question::At;
+use crate::rows::{Unanswered, push_number, push_words};
+use heap_class::{ClassNo, FirstClasses, Kind, ObjKind, Refusal};
+use heap_questions::{ShownObject, object_with};
+use heap_trail::Machine;
+use hprof_text::View;
+use std::alloc::Global;
+
+// Appends a word of a kind: an id or `null`, or a number. Fails with NoMemory.
+fn push_value(text: &mut Vec<u8>, kind: Kind, word: u64) -> Result<(), Refusal>
+    ensures ok { OnOk result (text.new.items ≡ text.old.items ++ and_value kind word) }
+    ensures refused { IfErr result (λ e. e ≡ NoMemory) }
+{
+    if kind.is_reference() {
+        push_reference(text, word)
+    } else {
+        push_number(text, word)
+    }
+}
+
+// Appends the end of a slot's row: its kind and its word. Fails with NoMemory.
+#[tactic(auto, unfolding(crate::specs::Objects::value_text))]
+fn push_end(text: &mut Vec<u8>, kind: Kind, word: u64) -> Result<(), Refusal>
+    ensures ok { OnOk result (text.new.items ≡ text.old.items ++ value_text kind word) }
+    ensures refused { IfErr result (λ e. e ≡ NoMemory) }
+{
+    push_words(text, b" ")?;
+    push_words(text, kind.word().as_bytes())?;
+    push_value(text, kind, word)?;
+    push_words(text, b"\n")
+}
+
+// Appends the row of a slot that is a field with this name. Fails with NoMemory.
+#[tactic(auto, unfolding(crate::specs::Objects::field_row))]
+fn push_field(
+    text: &mut Vec<u8>,
+    slot: u64,
+    name: &[u8],
+    kind: Kind,
+    word: u64,
+) -> Result<(), Refusal>
+    ensures ok { OnOk result (text.new.items ≡ text.old.items ++ field_row slot name.now kind word) }
+    ensures refused { IfErr result (λ e. e ≡ NoMemory) }
+{
+    push_words(text, b"row")?;
+    push_number(text, slot)?;
+    push_words(text, b" ")?;
+    push_words(text, name)?;
+    push_end(text, kind, word)
+}
+
+// Appends the row of an element. Fails with NoMemory.
+#[tactic(auto, unfolding(crate::specs::Objects::element_row))]
+fn push_element(text: &mut Vec<u8>, kind: Kind, index: u64, word: u64) -> Result<(), Refusal>
+    ensures ok { OnOk result (text.new.items ≡ text.old.items ++ element_row kind index word) }
+    ensures refused { IfErr result (λ e. e ≡ NoMemory) }
+{
+    push_words(text, b"row")?;
+    push_number(text, index)?;
+    push_number(text, index)?;
+    push_end(text, kind, word)
+}
+
+// Appends the rows of all elements. Fails with NoMemory.
+fn push_elements(text: &mut Vec<u8>, kind: Kind, words: &[u64]) -> Result<(), Refusal>
+    ensures ok { OnOk result
+        (text.new.items ≡ text.old.items ++ element_rows kind 0 words.now) }
+    ensures refused { IfErr result (λ e. e ≡ NoMemory) }
+{
+    for index in 0..words.len() {
+        push_element(text, kind, index as u64, words[index])?;
+    }
+    Ok(())
+}
+
+// Returns the name of an own field of a class.
+fn field_name<'a>(classes: &'a FirstClasses<'_>, class: ClassNo, field: u64) -> &'a [u8]
+    requires { field < length (fields_of classes.now class) }
+    ensures { IfSome (slice_get (fields_of classes.now class) field)
+        (λ f. result.now ≡ f.name) }
+{
+    let id = classes.field_name_id(class, field);
+    classes.name_at(id - 1)
+}
+
+// Returns how many of so many slots are own fields of a class.
+fn own_count(classes: &FirstClasses<'_>, class: ClassNo, slots: u64) -> u64
+    requires { class < length classes.now }
+    ensures { result ≡ min (length (fields_of classes.now class)) slots }
+{
+    classes.field_count(class).min(slots)
+}
+
+// Appends the rows of the slots from this one on that are own fields of a class. Fails with NoMemory.
+fn push_own(
+    text: &mut Vec<u8>,
+    classes: &FirstClasses<'_>,
+    class: ClassNo,
+    words: &[u64],
+    first: usize,
+) -> Result<(), Refusal>
+    requires there { class < length classes.now }
+    requires within { first ≤ length words.now }
+    ensures ok { OnOk result (text.new.items ≡ text.old.items
+        ++ field_rows first (fields_of classes.now class) (drop first words.now)) }
+    ensures refused { IfErr result (λ e. e ≡ NoMemory) }
+{
+    let count = own_count(classes, class, (words.len() - first) as u64);
+    for field in 0..count {
+        let name = field_name(classes, class, field);
+        let kind = classes.field_kind(class, field);
+        let slot = first + field as usize;
+        push_field(text, slot as u64, name, kind, words[slot])?;
+    }
+    Ok(())
+}
+
+// Appends the rows of an instance's slots: a class's own fields, then its super's, and so on. Fails with NoMemory.
+fn push_fields(
+    text: &mut Vec<u8>,
+    classes: &FirstClasses<'_>,
+    class: ClassNo,
+    words: &[u64],
+) -> Result<(), Refusal>
+    requires { class < length classes.now }
+    ensures ok { OnOk result (text.new.items ≡ text.old.items ++ field_rows 0
+        (fields_up classes.now (length classes.now) (Some class)) words.now) }
+    ensures refused { IfErr result (λ e. e ≡ NoMemory) }
+{
+    let mut here = Some(class);
+    let mut first = 0;
+    for depth in 0..classes.len() {
+        let Some(above) = here else {
+            return Ok(());
+        };
+        push_own(text, classes, above, words, first)?;
+        first += own_count(classes, above, (words.len() - first) as u64) as usize;
+        here = classes.sup(above);
+    }
+    Ok(())
+}
+
+// Appends the rows of an object's slots. Its class must be there. Fails with NoMemory.
+#[tactic(auto, unfolding(crate::specs::Objects::slot_rows))]
+fn push_slots(
+    text: &mut Vec<u8>,
+    classes: &FirstClasses<'_>,
+    kind: ObjKind,
+    words: &[u64],
+) -> Result<(), Refusal>
+    requires { IsClassThere classes.now kind }
+    ensures ok { OnOk result
+        (text.new.items ≡ text.old.items ++ slot_rows classes.now kind words.now) }
+    ensures refused { IfErr result (λ e. e ≡ NoMemory) }
+{
+    match kind {
+        ObjKind::Instance(class) => push_fields(text, classes, class, words),
+        ObjKind::Array(_) => push_elements(text, Kind::Object, words),
+        ObjKind::Prim(kind) => push_elements(text, kind, words),
+    }
+}
+
+// Appends what the last line says of an object that is marked. Fails with NoMemory.
+fn push_mark(text: &mut Vec<u8>, marked: bool) -> Result<(), Refusal>
+    ensures ok { OnOk result (text.new.items ≡ text.old.items ++ mark_text marked) }
+    ensures refused { IfErr result (λ e. e ≡ NoMemory) }
+{
+    if marked {
+        push_words(text, b" marked")
+    } else {
+        Ok(())
+    }
+}
+
+// Appends the last line: the class, the number of the slots and a mark. The class must be there. Fails with NoMemory.
+#[tactic(auto, unfolding(crate::specs::Objects::object_line))]
+fn push_object(
+    text: &mut Vec<u8>,
+    classes: &FirstClasses<'_>,
+    kind: ObjKind,
+    slots: u64,
+    marked: bool,
+) -> Result<(), Refusal>
+    requires { IsClassThere classes.now kind }
+    ensures ok { OnOk result
+        (text.new.items ≡ text.old.items ++ object_line classes.now kind slots marked) }
+    ensures refused { IfErr result (λ e. e ≡ NoMemory) }
+{
+    push_words(text, b"ok object ")?;
+    push_class_name(text, classes, kind)?;
+    push_number(text, slots)?;
+    push_mark(text, marked)?;
+    push_words(text, b"\n")
+}
+
+// Returns the lines of an object. Its class must be there. Fails with NoMemory.
+fn object_lines(
+    alloc: Global,
+    classes: &FirstClasses<'_>,
+    object: &ShownObject<'_>,
+    marked: bool,
+) -> Result<Vec<u8>, Refusal>
+    requires { IsClassThere classes.now object.now.kind }
+    ensures text { IfOk result (λ text. text.items ≡ object_text classes.now object.now marked) }
+    ensures refused { IfErr result (λ e. e ≡ NoMemory) }
+{
+    let words = object.words();
+    let mut text = Vec::new(alloc);
+    push_slots(&mut text, classes, object.kind(), words)?;
+    push_object(
+        &mut text,
+        classes,
+        object.kind(),
+        words.len() as u64,
+        marked,
+    )?;
+    Ok(text)
+}
+
+/// Returns the answer of `show` about a view. Fails with NoObject if the id names no object, and with NoMemory if an allocation
+/// fails. Reads each object before it at most once.
+pub(crate) fn show_answer<V: View>(
+    alloc: Global,
+    view: &V,
+    id: u64,
+    marked: bool,
+) -> Result<Vec<u8>, Unanswered>
+    ensures { IsToldOf (IsShowText id marked) (V.image view.now) (told_text result) }
+{
+    let classes = view.classes();
+    match object_with(view, id) {
+        Some(object) => Ok(object_lines(alloc, &classes, &object, marked)?),
+        None => Err(Unanswered::NoObject),
+    }
+}
+
+// Tells whether the object with this id is there in the current state and marked.
+fn is_marked(machine: &Machine, id: u64) -> bool
+    ensures { result ≡ is_marked machine.now.trail.current id }
+{
+    match place_of_object(machine, id) {
+        Some(at) => machine.world().regions().bits(at).1,
+        None => false,
+    }
+}
+
+/// Tells whether an answer about a moment says that the object is marked: only if the moment is the current state.
+pub(crate) fn shows_mark(machine: &Machine, at: At, id: u64) -> bool
+    ensures { result ≡ shows_mark at machine.now id }
+{
+    match at {
+        At::Current => is_marked(machine, id),
+        _ => false,
+    }
+}

@@ -22,7 +22,7 @@ pub marks_none : (config : HeapSettings) (s : Chair) → Marks config s s
 marks_none config s = ([], refl)
 
 pub marks_once : (config : HeapSettings) (s s' : Chair) (end : MarkEnd) → MarksOnce config s s' end → Marks config s s'
-marks_once config s s' end work = ((s', end) ∷ [], work, refl)
+marks_once config s s' end work = ((s', end) ∷ [], (work, refl))
 
 pub marks_more : (config : HeapSettings) (s m s' : Chair) → Marks config s m → Marks config m s' → Marks config s s'
 marks_more config s m s' a b = (a.0 ++ b.0, joined (MarksOnce config) a.0 b.0 s m s' a.1 b.1)
@@ -44,7 +44,7 @@ pub sweeps_none : (config : HeapSettings) (s : Chair) → Sweeps config s s
 sweeps_none config s = ([], refl)
 
 pub sweeps_once : (config : HeapSettings) (s s' : Chair) (end : SweepEnd) → SweepsOnce config s s' end → Sweeps config s s'
-sweeps_once config s s' end work = ((s', end) ∷ [], work, refl)
+sweeps_once config s s' end work = ((s', end) ∷ [], (work, refl))
 
 pub sweeps_more : (config : HeapSettings) (s m s' : Chair) → Sweeps config s m → Sweeps config m s' → Sweeps config s s'
 sweeps_more config s m s' a b = (a.0 ++ b.0, joined (SweepsOnce config) a.0 b.0 s m s' a.1 b.1)

@@ -35,7 +35,7 @@ fn pause<R: Clock>(rt: &R) {
 
 /// Marks each cycle that others begin, by runs of a mark worker, until the stop word is set or an act is refused, NoMemory or
 /// ChronicleFull. Returns the seat within one act of the stop, or within a millisecond if it sleeps. May wait.
-#[tactic(auto, using(crate::proofs::WorkerRuns::marks_none, crate::proofs::WorkerRuns::marks_more))]
+#[tactic(auto, using(crate::proofs::WorkerRuns::marks_none))]
 pub fn tend_marker<L: Heap, R: Clock + Wait>(
     rt: &R,
     shared: &Shared<L>,
@@ -85,7 +85,7 @@ fn marks_on<L: Heap, R: Clock + Wait>(
 
 /// Sweeps the regions that wait for it, by runs of a sweep worker, until the stop word is set or an act is refused, NoMemory
 /// or ChronicleFull. Returns the seat within one act of the stop, or within a millisecond if it sleeps. May wait.
-#[tactic(auto, using(crate::proofs::WorkerRuns::sweeps_none, crate::proofs::WorkerRuns::sweeps_more))]
+#[tactic(auto, using(crate::proofs::WorkerRuns::sweeps_none))]
 pub fn tend_sweeper<L: Heap, R: Clock + Wait>(
     rt: &R,
     shared: &Shared<L>,

@@ -20,9 +20,9 @@ use std::time::Clock;
 const LINE: usize = 20;
 
 /// Serves `sessions` sessions to clients of a port, while two threads tend the collector if `workers` isn't 0, and puts out how
-/// each ended. Fails with Memory if the heap can't be
-/// allocated, with Listen if the port can't be listened on, with Accept if a client could not be accepted, and else with
-/// Write if a write failed. Says on standard error that it listens, if that is a terminal. May wait.
+/// each ended. Fails with Memory if the heap can't be allocated or no thread for the workers can be had, with Listen if the port
+/// can't be listened on, with Accept if a client could not be accepted, and else with Write if a write failed. Says on standard
+/// error that it listens, if that is a terminal. May wait.
 pub fn serve_port<R, O: Outlet>(
     rt: &R,
     alloc: Global,

@@ -153,14 +153,15 @@ pub fn serve_tended<L: Heap + Send + Sync, R: Clock + Threads + Wait + Sync>(
             ensures sweeps { IfOk result (λ t. Sweeps L.config staff.sweeper t.sweeper) }
         {
             let marking = begin_marker(scope, rt, shared, staff.marker, stop)?;
-            let sweeping = begin_sweeper(scope, rt, shared, staff.sweeper, stop);
-            let served = match &sweeping {
-                Ok(_) => serve_clients(rt, alloc, shared, staff.users, most, listener, time),
-                Err(_) => Err(AllocError),
+            let Ok(sweeping) = begin_sweeper(scope, rt, shared, staff.sweeper, stop) else {
+                stop.store(true, Ordering::SeqCst);
+                let _ = marking.join(rt);
+                return Err(AllocError);
             };
+            let served = serve_clients(rt, alloc, shared, staff.users, most, listener, time);
             stop.store(true, Ordering::SeqCst);
             let marker = marking.join(rt);
-            let sweeper = sweeping?.join(rt);
+            let sweeper = sweeping.join(rt);
             let served = served?;
             Ok(Tended {
                 served,

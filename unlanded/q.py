@@ -1,6 +1,6 @@
 import sys, os, subprocess, time
 sys.path.insert(0, '/opt/rattle/bin')
-os.chdir('/work/h1/crates/'+sys.argv[1])
+os.chdir('/work/h2/crates/'+sys.argv[1])
 import rtlib
 here=os.getcwd()
 crate = rtlib.Crate(here, rtlib.root_above(here) or here, {}, name=None)
@@ -8,8 +8,8 @@ flags=[]
 for w in sys.argv[2:]:
     if w.startswith('--'): flags.append(w)
     else: flags += ["--only", w]
-os.makedirs('/tmp/h1/incr/'+sys.argv[1], exist_ok=True)
-words = crate.words(["--jobs", "1"] + flags + ["--incremental", '/tmp/h1/incr/'+sys.argv[1]], as_source=True)
+os.makedirs('/tmp/h2b/incr/'+sys.argv[1], exist_ok=True)
+words = crate.words(["--jobs", "1"] + flags + ["--incremental", '/tmp/h2b/incr/'+sys.argv[1]], as_source=True)
 t=time.time()
 ran = subprocess.run([*rtlib.guarded(), rtlib.RATTLE, "check", *words], stderr=subprocess.STDOUT, cwd=here)
 print("rc",ran.returncode, time.time()-t, flush=True)

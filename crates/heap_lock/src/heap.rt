@@ -258,9 +258,7 @@ impl<L: Heap> Kept<L> {
         if chronicle.len() >= CHRONICLE_LIMIT {
             return Err(Refusal::ChronicleFull);
         }
-        if chronicle.reserve().is_err() {
-            return Err(Refusal::NoMemory);
-        }
+        chronicle.reserve()?;
         let Some(answer) = take_step(machine, &action) else {
             return Err(Refusal::NoMemory);
         };

@@ -1,5 +1,6 @@
 //! Sessions that are saved.
 ghost use Rattle.std.specs.Prelude.{◌≡◌, Some, true, option_map};
+ghost use Rattle.session_text.specs.Endings.{ended_of};
 ghost use Rattle.session_text.specs.Local.{own_closed};
 ghost use Rattle.heap_save.specs.Saves.{IsUncancelled, IsSaved, Lands, LandsLate, is_unasked};
 
@@ -66,6 +67,13 @@ fn dump_last<P: Outlets, G: Gauge, R: Threads + Wait + Sync>(
     dump_late::<P, Brand, G, R>(rt, alloc, &mut local.machine, place, gauge, time)
 }
 
+// Returns how a save ended whose session ended so, and whose last line was written or not.
+fn end_of_save(ended: Ended, written: bool) -> Ended
+    ensures { result ≡ ended_of ended written }
+{
+    if written { ended } else { Ended::WriteFault }
+}
+
 /// Serves a session of a private machine as `serve_local` does. If it ended by `end` or at the end of input, closes each pin
 /// that was opened through these commands, dumps the current state into the outlet of a place, and writes a last line:
 /// `saved`, `failed` or `lost` with its cause, and the number of bytes that the outlet took. If the session ended otherwise,
@@ -102,16 +110,9 @@ pub fn save_into<I: Inlet, O: Outlet, P: Outlets, G: Gauge, R: Threads + Wait + 
         };
     }
     let (pumped, place, outlet) = dump_last(rt, alloc, local, place, gauge, time);
-    if !write_last(writer, pumped) {
-        return Saved {
-            ended: Ended::WriteFault,
-            pumped: Some(pumped),
-            place,
-            outlet,
-        };
-    }
+    let written = write_last(writer, pumped);
     Saved {
-        ended,
+        ended: end_of_save(ended, written),
         pumped: Some(pumped),
         place,
         outlet,

@@ -64,12 +64,8 @@ fn talk<I: Inlet, O: Outlet, C: Commands>(
         reads += 1;
         match buffer.read(reader) {
             Take::Got(_) => {}
-            Take::End => {
-                if buffer.as_slice().is_empty() {
-                    return Ended::Eof;
-                }
-                return end_with(page, writer, Ended::CutLine, b"bad cut\n");
-            }
+            Take::End if buffer.as_slice().is_empty() => return Ended::Eof,
+            Take::End => return end_with(page, writer, Ended::CutLine, b"bad cut\n"),
             Take::Failed => return end_with(page, writer, Ended::ReadFault, b"bad read\n"),
         }
     }

@@ -110,8 +110,8 @@ loop-page-preserved g c =
       came_read says _ _ _ _ _ _ _ _ b c.read.new.self r.0 (c.loop-page.reads + 1) o e.2 r.2 r.3 r.4,
     )
 
-pub returns-then-is_empty : goal.returns-then-is_empty
-returns-then-is_empty g c =
+pub returns-in-End : goal.returns-in-End
+returns-in-End g c =
     let e = c.in-Next.ensures in
     let i = c.loop-page.invariant in
     let r = c.in-End.ensures in
@@ -125,8 +125,8 @@ returns-then-is_empty g c =
     let none = is_empty_of c.as_slice.result.now c.read.new.self c.answer_lines.new.buffer c.as_slice.ensures r.0 c.if-is_empty.ensures in
     ends_plainly says begins _ _ _ _ _ _ _ _ (g.I.Inlet.seen c.read.new.inlet) Eof o r.2 r.5 (none, r.1, refl, r.4 ∙ o.no_fault) (λ x. x)
 
-pub returns-in-End : goal.returns-in-End
-returns-in-End g c =
+pub returns-in-End-2 : goal.returns-in-End-2
+returns-in-End-2 g c =
     let e = c.in-Next.ensures in
     let i = c.loop-page.invariant in
     let r = c.in-End.ensures in
@@ -137,7 +137,7 @@ returns-in-End g c =
     let w1 = g.O.Outlet.seen c.flush.new.outlet in
     let out = paged_flushed e.0 c.answer_lines.new.page w0 (g.O.Outlet.seen c.answer_lines.new.writer) c.flush.new.page w1 true e.3 f.added f.empty in
     let o = open_answered says _ _ _ _ _ _ _ _ c.answer_lines.new.buffer e.0 c.answer_lines.new.commands w1 i.1 e.1 out in
-    let w = c.end_with-in-End in
+    let w = c.end_with-in-End-2 in
     let line = codes "bad cut\n" in
     let w2 = g.O.Outlet.seen w.new.outlet in
     let said = subst (λ l. IsTextWritten (l ++ line) w1 w2 w.ensures.0) f.empty w.ensures.1 in

@@ -31,10 +31,10 @@ ENDINGS = {"quit", "eof", "cut", "read", "write"}
 class Server:
     """A `serve` of the program, with so many sessions, on a port that was free."""
 
-    def __init__(self, program, sessions):
+    def __init__(self, program, sessions, *options):
         with socket.create_server(("127.0.0.1", 0)) as found:
             self.port = found.getsockname()[1]
-        words = ["heapdbg", "serve", "--port", str(self.port), "--sessions", str(sessions)]
+        words = ["heapdbg", "serve", "--port", str(self.port), "--sessions", str(sessions), *options]
         self.run = subprocess.Popen(words, executable=program, stdout=subprocess.PIPE, stderr=subprocess.PIPE)
 
     def client(self):
@@ -314,8 +314,45 @@ def one_client_more(program):
     yield "one client more", found, [b"ok\n", True, None, b"", (0, ["quit"], b"")]
 
 
+def repeated(client, come, line, wanted):
+    """Sends a line every few milliseconds until its reply is `wanted` or it is too late. Returns the last reply."""
+    for _ in range(LIMIT * 200):
+        client.sendall(line)
+        reply = come.readline()
+        if reply == wanted:
+            break
+        time.sleep(0.005)
+    return reply
+
+
+def workers(program):
+    """Yields what a client has that says `snap` and waits for the workers' cycles, beside one that writes without a pause and one
+    that resets its connection in a cycle."""
+    with Server(program, 3, "--workers", "1") as server, server.client() as client, client.makefile("rb") as come:
+        writer = threading.Thread(target=exchanged, args=(server, b"clear 0 0\n" * 20_000 + b"end\n"))
+        writer.start()
+        client.sendall(b"class Point - x:int y:int\n" + b"new 1 1 0\n" * 10)
+        made = [come.readline() for _ in range(11)][-1]
+        found = []
+        for _ in range(20):
+            client.sendall(b"snap\n")
+            told = come.readline()
+            finished = repeated(client, come, b"finish\n", b"no 15 NotMarking\n")
+            found.append((told, finished, repeated(client, come, b"sweep 0\n", b"no 20 NothingToSweep 0\n")))
+        writer.join(LIMIT)
+        with server.client() as last:
+            last.sendall(b"snap\n")
+            last.setsockopt(socket.SOL_SOCKET, socket.SO_LINGER, RESET)
+        client.sendall(b"end\n")
+        rest = all_of(client)
+        status, words, error = server.ended()
+    cycle = b"ok pushed 1\n", b"no 15 NotMarking\n", b"no 20 NothingToSweep 0\n"
+    found = made[:3], found, rest, status, words[:2], error
+    yield "cycles by workers", found, (b"ok ", [cycle] * 20, b"", 0, ["quit", "quit"], b"")
+
+
 HOSTILE = closing_clients, resetting_clients, silent_reader, endless_line, many_sessions, taken_port, closing_servers
-CASES = (*HOSTILE, other_addresses, answers_one_by_one, lines_in_parts, open_input, full_output, one_client_more)
+CASES = (*HOSTILE, other_addresses, answers_one_by_one, lines_in_parts, open_input, full_output, one_client_more, workers)
 
 
 def differences(program):

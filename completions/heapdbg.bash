@@ -14,7 +14,7 @@ _heapdbg() {
             mapfile -t COMPREPLY < <(compgen -f -- "$word")
             return
             ;;
-        --regions | --mutators | --keep | --time | --port | --to | --sessions)
+        --regions | --mutators | --keep | --time | --port | --to | --sessions | --workers)
             return
             ;;
     esac
@@ -25,7 +25,7 @@ _heapdbg() {
     case ${COMP_WORDS[1]} in
         run | explore) options=$heap ;;
         save) options="$heap --out --to" ;;
-        serve) options="$heap --port --sessions" ;;
+        serve) options="$heap --port --sessions --workers" ;;
         ask) options="--port" ;;
         *) return ;;
     esac

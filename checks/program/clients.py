@@ -70,6 +70,26 @@ def answered(client, lines, size):
     return got
 
 
+def reply_of(client, line):
+    """Sends a line, and returns its reply of one line, without the LF, or what comes of it before the end."""
+    client.sendall(line + b"\n")
+    got = b""
+    while not got.endswith(b"\n"):
+        part = client.recv(1)
+        if not part:
+            break
+        got += part
+    return got.removesuffix(b"\n")
+
+
+def repeated(client, line, wanted):
+    """Sends a line every few milliseconds until its reply is `wanted` or it is too late. Returns the last reply."""
+    end = time.monotonic() + SECONDS
+    while (reply := reply_of(client, line)) != wanted and time.monotonic() < end:
+        time.sleep(0.005)
+    return reply
+
+
 def rest_of(client, lines):
     """Sends lines, and returns all that comes until the session has ended."""
     return answered(client, lines, 1 << 30)

@@ -27,6 +27,8 @@ MISTAKES = {
         serve --port 7000 --ids 5, save --out x --ids 16""",
     b"--port takes 1 to 65535": """serve --port 0, serve --port 65536, serve --port +80, serve --port=, serve --port 4k,
         serve --sessions 2 --port 0, ask --port 0, ask --port 65536, ask --port=-1x""",
+    b"--workers takes 0 or 1": """serve --port 7000 --workers 2, serve --port 7000 --workers x,
+        serve --port 7000 --workers=""",
     b"--sessions takes 1 to 1000": """serve --port 7000 --sessions 0, serve --port 7000 --sessions 1001,
         serve --port 7000 --sessions x""",
     b"--to takes 1 to 65535": """save --to 0, save --to 65536, save --to +80, save --to=, save --to 4k,
@@ -59,6 +61,7 @@ REFUSED = {
     "serve --port": b"a value is required for '--port <N>' but none was supplied",
     "serve --port 7000 --port 7000": b"the argument '--port <N>' cannot be used multiple times",
     "ask": b"the following required arguments were not provided:",
+    "ask --port 7000 --workers 1": b"unexpected argument '--workers' found",
     "ask --port 7000 --sessions 2": b"unexpected argument '--sessions' found",
     "ask --port 7000 --keep 2": b"unexpected argument '--keep' found",
 }

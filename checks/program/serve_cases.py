@@ -4,7 +4,7 @@ import socket
 import subprocess
 import threading
 
-from clients import answered, asked, connected, ended, ended_by, free_port, rest_of, served
+from clients import answered, asked, connected, ended, ended_by, free_port, repeated, reply_of, rest_of, served
 from runs import EXAMPLE, EXAMPLE_REPLIES, MEBIBYTE, POINT, POINT_MADE, SECONDS, dump_of_longs, files, limited, run
 
 
@@ -144,6 +144,46 @@ def worked(program):
     """Yields worked examples over a shared heap as (name, what happened, what must happen)."""
     for name, (words, lines, answers) in WORKED.items():
         yield name, served(program, ended(lines + b"end\n"), words), (0, b"session 1 quit\n", b"", answers)
+
+
+# A class, and points of which a register names the last; the lines of a cycle; and lines that show what it left.
+POINTS = b"class Point - x:int y:int\n" + b"new 0 0 0\n" * 100
+CYCLE = b"snap\nmark\nfinish\nsweep 0\n"
+AFTER = b"new 0 1 0\ndump -\n"
+
+
+def cycle_by_workers(port):
+    """A client makes points, says `snap` and waits until workers have done the cycle; another goes on from there. Returns what
+    was answered last to the one, and to the other."""
+    with connected(port) as first, connected(port) as second:
+        for line in POINTS.splitlines():
+            reply_of(first, line)
+        replies = reply_of(first, b"snap"), repeated(first, b"finish", b"no 15 NotMarking")
+        replies += (repeated(first, b"sweep 0", b"no 20 NothingToSweep 0"),)
+        return replies, rest_of(second, AFTER + b"end\n"), rest_of(first, b"end\n")
+
+
+def ending_in_a_cycle(port):
+    """A client begins a cycle and undoes it, begins another, and ends."""
+    with connected(port) as client:
+        lines = b"new 0 0 0\n" + b"snap\nrewind 1\n" * 50
+        return (rest_of(client, POINTS + lines + b"snap\nend\n")[-3:],)
+
+
+def tended(program):
+    """Yields sessions over a heap with workers as (name, what happened, what must happen)."""
+    alone = run(program, ["run"], POINTS + CYCLE + AFTER)[1]
+    after = alone[len(run(program, ["run"], POINTS + CYCLE)[1]) :]
+    two = ["--sessions", "2", "--workers", "1"]
+    told = (b"ok pushed 1", b"no 15 NotMarking", b"no 20 NothingToSweep 0")
+    quits = b"session 1 quit\nsession 2 quit\n"
+    yield "a cycle done by workers", served(program, cycle_by_workers, two), (0, quits, b"", told, after, b"")
+    happened = served(program, ending_in_a_cycle, ["--workers", "1"])
+    yield "an end within a cycle", happened[:3], (0, b"session 1 quit\n", b"")
+    idle = served(program, ended(EXAMPLE + b"end\n"), ["--workers=1"])
+    yield "workers with nothing to do", idle, (0, b"session 1 quit\n", b"", EXAMPLE_REPLIES)
+    none = served(program, ended(b"snap\nfinish\nend\n"), ["--workers", "0"])
+    yield "no workers", none, (0, b"session 1 quit\n", b"", b"ok pushed 0\nok condemned 0\n")
 
 
 def asking(program):

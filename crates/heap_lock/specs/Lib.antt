@@ -8,6 +8,7 @@ pub mod Packs
 pub mod Chronicles
 pub mod Desks
 pub mod Roles
+pub mod Collector
 pub mod LockStates
 pub mod Blanks
 pub mod Audits

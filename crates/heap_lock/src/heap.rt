@@ -7,6 +7,7 @@ ghost use Rattle.heap_trail.specs.Machine.{is_dump_action};
 ghost use Rattle.heap_lock.specs.declared.entry.Role.TheVariants.{User};
 ghost use Rattle.heap_lock.specs.Tally.{tally_in};
 ghost use Rattle.heap_lock.specs.History.{opening, Enters, IsLegalHistory};
+ghost use Rattle.heap_lock.specs.Blanks.{chair_of};
 ghost use Rattle.heap_lock.specs.Roles.{is_of_mutator, is_of_marker, is_of_sweeper, may};
 ghost use Rattle.heap_lock.specs.Ledgers.{all_in, HasLedger};
 ghost use Rattle.heap_lock.specs.LockStates.{AllSeated, Folds, Stands, IsMoved, IsAct, IsReceived, IsRefused, IsNoEntry, IsChair, IsUnderLock};
@@ -15,6 +16,7 @@ use crate::chronicle::Chronicle;
 use crate::desk::Desk;
 use crate::entry::{Entry, Outcome, Receipt, Role};
 use crate::ledger::Ledger;
+use crate::stub::Stub;
 use crate::view::SeatView;
 use atomic_table::Badge;
 use heap_class::Refusal;
@@ -198,6 +200,17 @@ impl<L: Heap> Seat<L> {
         ensures { result ≡ self.now.role }
     {
         self.role
+    }
+
+    /// Gives this seat up, and returns what it is made of, of a type that names no heap.
+    pub fn into_stub(self) -> Stub
+        ensures { chair_of result ≡ self }
+    {
+        Stub {
+            number: self.number,
+            role: self.role,
+            share: self.share,
+        }
     }
 }
 

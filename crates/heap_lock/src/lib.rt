@@ -4,6 +4,7 @@
 pub mod audits;
 pub mod blank;
 pub mod chronicle;
+pub mod collector;
 pub mod desk;
 pub mod dumps;
 pub mod entry;
@@ -27,4 +28,5 @@ pub use entry::{Entry, Outcome, Receipt, Role};
 pub use heap::{Heap, Kept, Seat, Shared};
 pub use laws::pins_give_text;
 pub use source::LockedSource;
+pub use stub::Stub;
 pub use witness::Witness;

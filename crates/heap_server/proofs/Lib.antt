@@ -3,3 +3,5 @@ pub mod ReportLines
 pub mod UserSeats
 pub mod Acts
 pub mod DumpTexts
+pub mod WorkerRuns
+pub mod StaffSeats

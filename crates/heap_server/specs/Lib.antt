@@ -4,3 +4,4 @@ pub mod ClientEndings
 pub mod SessionSeats
 pub mod Reports
 pub mod DumpAnswers
+pub mod Tending

@@ -7,6 +7,8 @@ pub mod joined;
 pub mod laws;
 pub mod report;
 pub mod sessions;
+pub mod tended;
+pub mod tending;
 
 pub use client::{Asked, ask};
 pub use copy::{Copied, copy_all};
@@ -14,3 +16,5 @@ pub use joined::Joined;
 pub use laws::served_dumps_are_text;
 pub use report::{tell_sessions, word};
 pub use sessions::{Served, ServedHeap, serve_clients, serve_heap, users};
+pub use tended::{Staff, Tended, TendedHeap, serve_tended, serve_tended_heap, workers_and_users};
+pub use tending::{tend_marker, tend_sweeper};

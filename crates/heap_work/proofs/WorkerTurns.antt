@@ -110,6 +110,9 @@ marking_ends config s s' s'' stage i turns r end h lt seat is stands ends =
 pub marking_refused : (config : HeapSettings) (s s' s'' : Chair) (stage : Stage) (i turns : ℕ) (e : Refusal) → IsMarking s s' stage i → i < turns → s'' ≡ s' → (e ≡ Refusal.NoMemory) ⊎ (e ≡ Refusal.ChronicleFull) → IsMarkWork config s s'' turns (MarkEnd.Refused e)
 marking_refused config s s' s'' stage i turns e h lt same why = record { gained = h.gained; next = stage; goes_on = h.goes_on; ends = (omega (arith, h.count, lt), same ∙ h.seat, why) }
 
+pub marking_stopped : (config : HeapSettings) (s s' : Chair) (stage : Stage) (i turns : ℕ) → IsMarking s s' stage i → i < turns → IsMarkWork config s s' turns MarkEnd.Stopped
+marking_stopped config s s' stage i turns h lt = record { gained = h.gained; next = stage; goes_on = h.goes_on; ends = (omega (arith, h.count, lt), h.seat) }
+
 pub marking_over : (config : HeapSettings) (s s' : Chair) (stage : Stage) (turns : ℕ) → IsMarking s s' stage turns → IsMarkWork config s s' turns MarkEnd.TurnsOver
 marking_over config s s' stage turns h = record { gained = h.gained; next = stage; goes_on = h.goes_on; ends = (h.count, h.seat) }
 
@@ -147,3 +150,6 @@ sweeping_done config s s' turns i h whole = record { gained = h.gained; sweeps =
 
 pub sweeping_refused : (config : HeapSettings) (s s' s'' : Chair) (turns i : ℕ) (e : Refusal) → IsSweeping s s' turns i → i < turns → s'' ≡ s' → (e ≡ Refusal.NoMemory) ⊎ (e ≡ Refusal.ChronicleFull) → IsSweepWork config s s'' turns (SweepEnd.Refused e)
 sweeping_refused config s s' s'' turns i e h lt same why = record { gained = h.gained; sweeps = h.sweeps; seat = same ∙ h.seat; ends = (omega (arith, h.count, lt), why) }
+
+pub sweeping_stopped : (config : HeapSettings) (s s' : Chair) (turns i : ℕ) → IsSweeping s s' turns i → i < turns → i < config.regions → IsSweepWork config s s' turns SweepEnd.Stopped
+sweeping_stopped config s s' turns i h lt left = record { gained = h.gained; sweeps = h.sweeps; seat = h.seat; ends = (omega (arith, h.count, lt), omega (arith, h.count, left)) }

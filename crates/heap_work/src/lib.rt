@@ -12,8 +12,8 @@ use std::sync::Wait;
 
 /// What a worker passes before each act, without the lock.
 pub trait Gate {
-    /// Returns once the act of this number, counted from 1, may begin.
-    fn pass(&mut self, turn: u64);
+    /// Returns once the act of this number, counted from 1, may begin, or the worker is to end. Tells whether the act may begin.
+    fn pass(&mut self, turn: u64) -> bool;
 }
 
 /// A gate that is always open.
@@ -21,8 +21,9 @@ pub trait Gate {
 pub struct Open;
 
 impl Gate for Open {
-    fn pass(&mut self, turn: u64) {
+    fn pass(&mut self, turn: u64) -> bool {
         let _ = turn;
+        true
     }
 }
 
@@ -37,6 +38,8 @@ pub enum MarkEnd {
     Pending(Receipt),
     /// An act was refused, NoMemory or ChronicleFull.
     Refused(Refusal),
+    /// The gate let no act more begin.
+    Stopped,
     /// It has done as many acts as it may.
     TurnsOver,
 }
@@ -48,6 +51,8 @@ pub enum SweepEnd {
     Swept,
     /// An act was refused, NoMemory or ChronicleFull.
     Refused(Refusal),
+    /// The gate let no act more begin.
+    Stopped,
     /// It has done as many acts as it may.
     TurnsOver,
 }
@@ -97,8 +102,9 @@ fn end_of_receipt(receipt: Receipt) -> Option<MarkEnd>
 }
 
 /// Marks until the cycle is finished, in at most `turns` acts: Snap, then Mark; Drain if nothing is left to mark, Finish if
-/// nothing is left to drain, and Mark again after any other answer. Passes the gate before each act, without the lock. May
-/// wait.
+/// nothing is left to drain, and Mark again after any other answer. Passes the gate before each act, without the lock, and ends
+/// if it lets none begin. May wait.
+#[tactic(auto, using(crate::proofs::WorkerTurns::marking_stopped))]
 pub fn mark_worker<L: Heap, R: Wait, G: Gate>(
     shared: &Shared<L>,
     rt: &R,
@@ -111,7 +117,9 @@ pub fn mark_worker<L: Heap, R: Wait, G: Gate>(
 {
     let mut stage = Stage::Snap;
     for turn in 0..turns {
-        gate.pass(turn + 1);
+        if !gate.pass(turn + 1) {
+            return MarkEnd::Stopped;
+        }
         match shared.act(rt, seat, event_of_stage(stage)) {
             Ok(receipt) => {
                 if let Some(end) = end_of_receipt(receipt) {
@@ -126,7 +134,8 @@ pub fn mark_worker<L: Heap, R: Wait, G: Gate>(
 }
 
 /// Asks for a sweep of each region once, from 0 on, in at most `turns` acts. Passes the gate before each act, without the
-/// lock. May wait.
+/// lock, and ends if it lets none begin. May wait.
+#[tactic(auto, using(crate::proofs::WorkerTurns::sweeping_stopped))]
 pub fn sweep_worker<L: Heap, R: Wait, G: Gate>(
     shared: &Shared<L>,
     rt: &R,
@@ -142,7 +151,9 @@ pub fn sweep_worker<L: Heap, R: Wait, G: Gate>(
         if region >= turns {
             return SweepEnd::TurnsOver;
         }
-        gate.pass(region + 1);
+        if !gate.pass(region + 1) {
+            return SweepEnd::Stopped;
+        }
         if let Err(refusal) = shared.act(rt, seat, Event::Sweep { region }) {
             return SweepEnd::Refused(refusal);
         }

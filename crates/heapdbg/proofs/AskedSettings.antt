@@ -15,7 +15,7 @@ use Rattle.heap_class.specs.declared.IdSize.TheVariants.{Eight}
 use Rattle.heap_region.specs.Limits.{region_limit}
 use Rattle.heap_world.specs.Limits.{AreHeapSettings, keep_limit, mutator_limit}
 use Rattle.heap_server.specs.SessionSeats.{session_limit}
-use Rattle.heapdbg.specs.CommandLine.{AreSettingsWithin, HasDefaults, IsTask, ask_in, heapdbg_line, id_size_in, id_size_of, is_given, is_task, keep_default, number_in, number_or, port_in, port_limit, save_in, serve_in, sessions_in, sessions_of, settings_in, settings_under, settings_with, target_in, task_in, time_limit, option_value}
+use Rattle.heapdbg.specs.CommandLine.{AreSettingsWithin, HasDefaults, IsTask, ask_in, heapdbg_line, id_size_in, id_size_of, is_given, is_task, keep_default, number_in, number_or, port_in, port_limit, save_in, serve_in, serve_with, sessions_in, sessions_of, settings_in, settings_under, settings_with, target_in, task_in, time_limit, option_value, workers_in, workers_of}
 use Rattle.heapdbg.specs.declared.settings.Settings.{Settings}
 use Rattle.heapdbg.specs.declared.settings.Task.{Task}
 use Rattle.heapdbg.specs.declared.settings.Task.TheVariants.{Run, Explore, Save, Serve, Ask}
@@ -129,15 +129,17 @@ port_within : (given : Option Text) (port : ℕ) → option_and_then (number_in 
 port_within None port e = cc
 port_within (Some text) port e = number_within 1 port_limit text port e
 
-serve_within : (rows : List Row) (p n : Option ℕ) (task : Task) → port_in rows ≡ p → sessions_in rows ≡ n
-    → option_and_then (λ port. option_map (λ sessions. Serve port sessions) n) p ≡ Some task → IsTask task
-serve_within rows None n task at many e = cc
-serve_within rows (Some port) None task at many e = cc
-serve_within rows (Some port) (Some sessions) task at many e =
-    let same : Serve port sessions ≡ task = cc in
+serve_within : (rows : List Row) (p n k : Option ℕ) (task : Task) → port_in rows ≡ p → sessions_in rows ≡ n → workers_in rows ≡ k
+    → serve_with p n k ≡ Some task → IsTask task
+serve_within rows None n k task at many tending e = cc
+serve_within rows (Some port) None k task at many tending e = cc
+serve_within rows (Some port) (Some sessions) None task at many tending e = cc
+serve_within rows (Some port) (Some sessions) (Some workers) task at many tending e =
+    let same : Serve port sessions workers ≡ task = cc in
     let ports = port_within (first_of (codes "port") rows) port at in
     let counts = value_within 1 1 session_limit (first_of (codes "sessions") rows) sessions (omega arith) (omega arith) many in
-    subst IsTask same (ports.0, ports.1, counts.0, counts.1)
+    let tended = value_within 0 0 1 (first_of (codes "workers") rows) workers (omega arith) (omega arith) tending in
+    subst IsTask same (ports.0, ports.1, counts.0, counts.1, tended.1)
 
 ask_within : (rows : List Row) (p : Option ℕ) (task : Task) → port_in rows ≡ p → option_map (λ port. Ask port) p ≡ Some task → IsTask task
 ask_within rows None task at e = cc
@@ -163,7 +165,7 @@ task_within : (runs explores saves serves asks : Bool) (rows : List Row) (task :
 task_within true explores saves serves asks rows task e = let same : Run ≡ task = cc in subst IsTask same tt
 task_within false true saves serves asks rows task e = let same : Explore ≡ task = cc in subst IsTask same tt
 task_within false false true serves asks rows task e = save_within (first_of (codes "out") rows) (first_of (codes "to") rows) task e
-task_within false false false true asks rows task e = serve_within rows (port_in rows) (sessions_in rows) task refl refl e
+task_within false false false true asks rows task e = serve_within rows (port_in rows) (sessions_in rows) (workers_in rows) task refl refl refl e
 task_within false false false false true rows task e = ask_within rows (port_in rows) task refl e
 task_within false false false false false rows task e = cc
 
@@ -233,14 +235,28 @@ ids_free = refl
 sessions_free : list_all (is_free_command (codes "sessions")) (built heapdbg_line).subs ≡ true
 sessions_free = refl
 
-served_sessions : (p n : Option ℕ) (task : Task) (words : List Text) → (is_given (codes "sessions") words ≡ false → (k : ℕ) → n ≡ Some k → k ≡ 1)
-    → option_and_then (λ port. option_map (λ sessions. Serve port sessions) n) p ≡ Some task → is_given (codes "sessions") words ≡ false
+workers_free : list_all (is_free_command (codes "workers")) (built heapdbg_line).subs ≡ true
+workers_free = refl
+
+served_sessions : (p n w : Option ℕ) (task : Task) (words : List Text) → (is_given (codes "sessions") words ≡ false → (k : ℕ) → n ≡ Some k → k ≡ 1)
+    → serve_with p n w ≡ Some task → is_given (codes "sessions") words ≡ false
     → sessions_of task ≡ 1
-served_sessions None n task words is e other = cc
-served_sessions (Some port) None task words is e other = cc
-served_sessions (Some port) (Some sessions) task words is e other =
-    let same : Serve port sessions ≡ task = cc in
+served_sessions None n w task words is e other = cc
+served_sessions (Some port) None w task words is e other = cc
+served_sessions (Some port) (Some sessions) None task words is e other = cc
+served_sessions (Some port) (Some sessions) (Some workers) task words is e other =
+    let same : Serve port sessions workers ≡ task = cc in
     subst (λ t. sessions_of t ≡ 1) same (is other sessions refl)
+
+served_workers : (p n w : Option ℕ) (task : Task) (words : List Text) → (is_given (codes "workers") words ≡ false → (k : ℕ) → w ≡ Some k → k ≡ 0)
+    → serve_with p n w ≡ Some task → is_given (codes "workers") words ≡ false
+    → workers_of task ≡ 0
+served_workers None n w task words is e other = cc
+served_workers (Some port) None w task words is e other = cc
+served_workers (Some port) (Some sessions) None task words is e other = cc
+served_workers (Some port) (Some sessions) (Some workers) task words is e other =
+    let same : Serve port sessions workers ≡ task = cc in
+    subst (λ t. workers_of t ≡ 0) same (is other workers refl)
 
 one_asked : (p : Option ℕ) (task : Task) → option_map (λ port. Ask port) p ≡ Some task → sessions_of task ≡ 1
 one_asked None task e = cc
@@ -256,9 +272,27 @@ default_sessions : (runs explores saves serves asks : Bool) (rows : List Row) (t
 default_sessions true explores saves serves asks rows task words is e other = let same : Run ≡ task = cc in subst (λ t. sessions_of t ≡ 1) same refl
 default_sessions false true saves serves asks rows task words is e other = let same : Explore ≡ task = cc in subst (λ t. sessions_of t ≡ 1) same refl
 default_sessions false false true serves asks rows task words is e other = one_saved (target_in (first_of (codes "out") rows) (first_of (codes "to") rows)) task e
-default_sessions false false false true asks rows task words is e other = served_sessions (port_in rows) (sessions_in rows) task words is e other
+default_sessions false false false true asks rows task words is e other = served_sessions (port_in rows) (sessions_in rows) (workers_in rows) task words is e other
 default_sessions false false false false true rows task words is e other = one_asked (port_in rows) task e
 default_sessions false false false false false rows task words is e other = cc
+
+none_asked : (p : Option ℕ) (task : Task) → option_map (λ port. Ask port) p ≡ Some task → workers_of task ≡ 0
+none_asked None task e = cc
+none_asked (Some port) task e = let same : Ask port ≡ task = cc in subst (λ t. workers_of t ≡ 0) same refl
+
+none_saved : (target : Option Target) (task : Task) → option_map (λ target. Save target) target ≡ Some task → workers_of task ≡ 0
+none_saved None task e = cc
+none_saved (Some target) task e = let same : Save target ≡ task = cc in subst (λ t. workers_of t ≡ 0) same refl
+
+default_workers : (runs explores saves serves asks : Bool) (rows : List Row) (task : Task) (words : List Text)
+    → (is_given (codes "workers") words ≡ false → (k : ℕ) → workers_in rows ≡ Some k → k ≡ 0)
+    → task_by runs explores saves serves asks rows ≡ Some task → is_given (codes "workers") words ≡ false → workers_of task ≡ 0
+default_workers true explores saves serves asks rows task words is e other = let same : Run ≡ task = cc in subst (λ t. workers_of t ≡ 0) same refl
+default_workers false true saves serves asks rows task words is e other = let same : Explore ≡ task = cc in subst (λ t. workers_of t ≡ 0) same refl
+default_workers false false true serves asks rows task words is e other = none_saved (target_in (first_of (codes "out") rows) (first_of (codes "to") rows)) task e
+default_workers false false false true asks rows task words is e other = served_workers (port_in rows) (sessions_in rows) (workers_in rows) task words is e other
+default_workers false false false false true rows task words is e other = none_asked (port_in rows) task e
+default_workers false false false false false rows task words is e other = cc
 
 -- identifiers of which no word tells the size have 8 bytes
 default_size : (words : List Text) (f : Text × List Row) (x : IdSize) → subcommand_of heapdbg_line words ≡ Some f → is_task f.0 ≡ true
@@ -277,6 +311,7 @@ defaults_of words s e =
     let asked = are_asked (subcommand_of heapdbg_line words) s e in
     let name = asked.found.0 in
     let one : is_given (codes "sessions") words ≡ false → (k : ℕ) → sessions_in asked.found.1 ≡ Some k → k ≡ 1 = λ other k is. default_of (codes "sessions") 1 1 session_limit words asked.found k sessions_free asked.is asked.named is other in
+    let none : is_given (codes "workers") words ≡ false → (k : ℕ) → workers_in asked.found.1 ≡ Some k → k ≡ 0 = λ other k is. default_of (codes "workers") 0 0 1 words asked.found k workers_free asked.is asked.named is other in
     record {
       regions = default_of (codes "regions") 16 1 region_limit words asked.found s.regions regions_free asked.is asked.named asked.read.regions;
       mutators = default_of (codes "mutators") 2 1 mutator_limit words asked.found s.mutators mutators_free asked.is asked.named asked.read.mutators;
@@ -285,4 +320,6 @@ defaults_of words s e =
       ids = default_size words asked.found s.ids asked.is asked.named asked.read.ids;
       sessions = default_sessions (bytes_eq name (codes "run")) (bytes_eq name (codes "explore")) (bytes_eq name (codes "save")) (bytes_eq name (codes "serve")) (bytes_eq name (codes "ask")) asked.found.1 s.task words
           one asked.task;
+      workers = default_workers (bytes_eq name (codes "run")) (bytes_eq name (codes "explore")) (bytes_eq name (codes "save")) (bytes_eq name (codes "serve")) (bytes_eq name (codes "ask")) asked.found.1 s.task words
+          none asked.task;
     }

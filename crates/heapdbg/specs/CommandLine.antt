@@ -66,8 +66,10 @@ save_line =
 -- the command `serve`
 abbrev pub serve_line : App
 serve_line =
-    with_rule (with_rule (session_line (codes "serve")) port_option)
-    (value_option (codes "sessions"))
+    with_rule
+    (with_rule (with_rule (session_line (codes "serve")) port_option)
+    (value_option (codes "sessions")))
+    (value_option (codes "workers"))
 
 -- the command `ask`
 abbrev pub ask_line : App
@@ -155,6 +157,10 @@ port_in rows = option_and_then (number_in 1 port_limit) (first_of (codes "port")
 abbrev pub sessions_in : List Row → Option ℕ
 sessions_in rows = option_value (codes "sessions") 1 1 session_limit rows
 
+-- the number of markers and of sweepers asked for, and none if the option is not given
+abbrev pub workers_in : List Row → Option ℕ
+workers_in rows = option_value (codes "workers") 0 0 1 rows
+
 -- the target of a dump: one of the two options is given, and a port has to be one
 abbrev pub target_in : Option Text → Option Text → Option Target
 target_in (Some path) None = Some Out
@@ -168,11 +174,14 @@ save_in rows =
     option_map (λ target. Save target)
     (target_in (first_of (codes "out") rows) (first_of (codes "to") rows))
 
+-- a served heap, if each option has a value in its range
+abbrev pub serve_with : Option ℕ → Option ℕ → Option ℕ → Option Task
+serve_with (Some port) (Some sessions) (Some workers) = Some (Serve port sessions workers)
+serve_with _ _ _ = None
+
 -- the task of the options of `serve`
 abbrev pub serve_in : List Row → Option Task
-serve_in rows =
-    option_and_then (λ port. option_map (λ sessions. Serve port sessions) (sessions_in rows))
-    (port_in rows)
+serve_in rows = serve_with (port_in rows) (sessions_in rows) (workers_in rows)
 
 -- the task of the options of `ask`
 abbrev pub ask_in : List Row → Option Task
@@ -218,14 +227,14 @@ abbrev pub path_of : List Text → Option Text
 path_of words =
     option_and_then (λ found. first_of (codes "out") found.1) (subcommand_of heapdbg_line words)
 
--- the port and the number of sessions are within their limits
+-- the port and the numbers of sessions and workers are within their limits
 abbrev pub IsTask : Task → Type 0
 IsTask Run = ⊤
 IsTask Explore = ⊤
 IsTask (Save Out) = ⊤
 IsTask (Save (To port)) = (1 ≤ port) × (port ≤ port_limit)
-IsTask (Serve port sessions) =
-    (1 ≤ port) × (port ≤ port_limit) × (1 ≤ sessions) × (sessions ≤ session_limit)
+IsTask (Serve port sessions workers) =
+    (1 ≤ port) × (port ≤ port_limit) × (1 ≤ sessions) × (sessions ≤ session_limit) × (workers ≤ 1)
 IsTask (Ask port) = (1 ≤ port) × (port ≤ port_limit)
 
 -- the settings are within their limits
@@ -237,8 +246,16 @@ abbrev pub sessions_of : Task → ℕ
 sessions_of Run = 1
 sessions_of Explore = 1
 sessions_of (Save target) = 1
-sessions_of (Serve port sessions) = sessions
+sessions_of (Serve port sessions workers) = sessions
 sessions_of (Ask port) = 1
+
+-- the number of markers, and of sweepers
+abbrev pub workers_of : Task → ℕ
+workers_of Run = 0
+workers_of Explore = 0
+workers_of (Save target) = 0
+workers_of (Serve port sessions workers) = workers
+workers_of (Ask port) = 0
 
 -- an option that no word names has its default
 pub record HasDefaults (words : List Text) (s : Settings) : Type 0 where
@@ -248,6 +265,7 @@ pub record HasDefaults (words : List Text) (s : Settings) : Type 0 where
   pub time : is_given (codes "time") words ≡ false → s.time ≡ 0
   pub ids : is_given (codes "ids") words ≡ false → s.ids ≡ Eight
   pub sessions : is_given (codes "sessions") words ≡ false → sessions_of s.task ≡ 1
+  pub workers : is_given (codes "workers") words ≡ false → workers_of s.task ≡ 0
 
 -- the fault has this text, or memory ran out
 abbrev pub IsBadWith : Text → LineFault → Type 0

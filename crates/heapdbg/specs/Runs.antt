@@ -20,7 +20,7 @@ use Rattle.heapdbg.specs.Endings.{failure_of, outcome_of, work_of}
 use Rattle.heapdbg.specs.Explorations.{IsExplored}
 use Rattle.heapdbg.specs.Refusals.{IsRefusalOf}
 use Rattle.heapdbg.specs.SaveOutcomes.{IsSavedTo}
-use Rattle.heapdbg.specs.ServeOutcomes.{IsServerAsked, IsHeapServed}
+use Rattle.heapdbg.specs.ServeOutcomes.{IsServerAsked, IsServed}
 
 -- a session over a heap with these settings as it begins, and how it ended; or the heap couldn't be allocated, and nothing is
 -- read or written
@@ -45,7 +45,8 @@ IsTaskDone Run s a b w w' result = IsRun s a b w w' result
 IsTaskDone Explore s a b w w' result = IsExplored s a b w w' result
 IsTaskDone (Save Out) s a b w w' result = IsSavedOut s a b w w' result
 IsTaskDone (Save (To port)) s a b w w' result = IsSavedTo fault.Connect s a b w w' result
-IsTaskDone (Serve port sessions) s a b w w' result = (b ≡ a) × IsHeapServed s sessions w w' result
+IsTaskDone (Serve port sessions workers) s a b w w' result =
+    (b ≡ a) × IsServed workers s sessions w w' result
 IsTaskDone (Ask port) s a b w w' result = (b ≡ a) × IsServerAsked w w' result
 
 -- the settings that the words ask for, and their task done; or a refusal of the words, and then nothing is read or written

@@ -1,5 +1,5 @@
 -- The outcomes of serving and asking. Sockets tell nothing of their bytes, so nothing is said of the bytes that go over them.
-use Rattle.std.specs.Prelude.{◌≡◌, ℕ, ◌⊎◌, Bool, true, false, Result, Ok, Err, length}
+use Rattle.std.specs.Prelude.{◌≡◌, ◌≤◌, ℕ, ◌⊎◌, Bool, true, false, Result, Ok, Err, length}
 use Rattle.dump_pump.specs.Outlets.{Outgoing}
 use Rattle.session_text.specs.Writes.{IsTextWritten}
 use Rattle.heap_server.specs.Reports.{report_of}
@@ -9,6 +9,8 @@ use Rattle.heap_server.specs.declared.client.Asked.{Asked}
 use Rattle.heap_server.specs.declared.client.Asked.TheVariants as asked
 use Rattle.heap_server.specs.declared.sessions.Served.{Served}
 use Rattle.heap_server.specs.declared.sessions.ServedHeap.{ServedHeap}
+use Rattle.heap_server.specs.declared.tended.TendedHeap.{TendedHeap}
+use Rattle.heap_server.specs.Tending.{AreStaff, AreTended}
 use Rattle.heapdbg.specs.declared.failure.Fault.{Fault}
 use Rattle.heapdbg.specs.declared.failure.Fault.TheVariants.{Accept, Connect, Listen, Memory, Read, Write}
 use Rattle.heapdbg.specs.declared.settings.Settings.{Settings}
@@ -41,6 +43,28 @@ abbrev pub IsHeapServed : Settings → ℕ → Outgoing → Outgoing → Result 
 IsHeapServed s sessions w w' result =
     ((h : ServedHeap) × IsHeapOf s sessions h × IsReportTold h.served w w' result)
     ⊎ (((result ≡ Err Memory) ⊎ (result ≡ Err Listen)) × (w' ≡ w))
+
+-- a heap was made of these settings with the marker's seat, the sweeper's, and one for each of this number of sessions, which
+-- ended, or fewer if an accept failed; and the two seats gained what runs of their workers did
+abbrev pub IsTendedHeapOf : Settings → ℕ → TendedHeap → Type 0
+IsTendedHeapOf s sessions t =
+    (t.heap.made.value.config
+    ≡ record { regions = s.regions; mutators = s.mutators; keep = s.keep; ids = s.ids })
+    × AreStaff sessions t.heap.made.value.seats × (t.heap.time ≡ s.time)
+    × IsFor sessions t.heap.served
+    × AreTended t.heap.made.value.config t.heap.made.value.seats t.marker t.sweeper
+
+-- the same of a heap whose collector two threads tended; an allocation that failed may be that of a thread
+abbrev pub IsTendedServed : Settings → ℕ → Outgoing → Outgoing → Result (Unit {0}) Fault → Type 0
+IsTendedServed s sessions w w' result =
+    ((t : TendedHeap) × IsTendedHeapOf s sessions t × IsReportTold t.heap.served w w' result)
+    ⊎ (((result ≡ Err Memory) ⊎ (result ≡ Err Listen)) × (w' ≡ w))
+
+-- a heap was served, with its collector tended or not
+abbrev pub IsServed : ℕ → Settings → ℕ → Outgoing → Outgoing → Result (Unit {0}) Fault → Type 0
+IsServed workers s sessions w w' result =
+    (workers ≡ 0 → IsHeapServed s sessions w w' result)
+    × (1 ≤ workers → IsTendedServed s sessions w w' result)
 
 -- the outcome of a client that has ended
 abbrev pub asked_outcome : Asked → Result (Unit {0}) Fault

@@ -31,6 +31,8 @@ pub(crate) enum Mistake {
     Port,
     // `--sessions` is out of its range.
     Sessions,
+    // `--workers` is out of its range.
+    Workers,
     // `--to` is out of its range.
     To,
     // Both of `--out` and `--to` are given, or neither.
@@ -51,6 +53,7 @@ impl Mistake {
             Mistake::Ids => "--ids takes 4 or 8",
             Mistake::Port => "--port takes 1 to 65535",
             Mistake::Sessions => "--sessions takes 1 to 1000",
+            Mistake::Workers => "--workers takes 0 or 1",
             Mistake::To => "--to takes 1 to 65535",
             Mistake::Place => "save takes one of --out and --to",
         }

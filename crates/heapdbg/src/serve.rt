@@ -1,26 +1,55 @@
 //! Sessions over one shared heap, for clients of this computer.
-ghost use Rattle.std.specs.Prelude.{◌≡◌, ◌≤◌, []};
+ghost use Rattle.std.specs.Prelude.{◌≡◌, ◌⊎◌, ◌≤◌, [], IfErr, IfOk};
 ghost use Rattle.heap_server.specs.SessionSeats.{session_limit};
 ghost use Rattle.heap_world.specs.Limits.{AreHeapSettings};
-ghost use Rattle.heapdbg.specs.ServeOutcomes.{IsHeapServed, IsReportTold, served_outcome};
+ghost use Rattle.heapdbg.specs.declared.failure.Fault.TheVariants.{Listen, Memory};
+ghost use Rattle.heapdbg.specs.ServeOutcomes.{IsHeapServed, IsReportTold, IsServed, IsTendedServed, served_outcome};
 
 use crate::failure::Fault;
 use crate::settings::{Settings, config};
 use dump_pump::Outlet;
-use heap_server::{Served, serve_heap, tell_sessions, users};
+use heap_server::{Served, serve_heap, serve_tended_heap, tell_sessions, users, workers_and_users};
 use session_text::write_all;
 use std::alloc::Global;
 use std::net::{Ipv4Addr, Net, TcpListener, TcpStream};
 use std::sync::Wait;
 use std::thread::Threads;
+use std::time::Clock;
 
 // The size in bytes of the longest line of the report: `session 1000 memory` and its end.
 const LINE: usize = 20;
 
-/// Serves `sessions` sessions to clients of a port, and puts out how each ended. Fails with Memory if the heap can't be
-/// allocated, with Listen if the port can't be listened on, with Accept if a client could not be accepted, and else with
-/// Write if a write failed. Says on standard error that it listens, if that is a terminal. May wait.
+/// Serves `sessions` sessions to clients of a port, while two threads tend the collector if `workers` isn't 0, and puts out how
+/// each ended. Fails with Memory if the heap can't be allocated or no thread for the workers can be had, with Listen if the port
+/// can't be listened on, with Accept if a client could not be accepted, and else with Write if a write failed. Says on standard
+/// error that it listens, if that is a terminal. May wait.
 pub fn serve_port<R, O: Outlet>(
+    rt: &R,
+    alloc: Global,
+    settings: &Settings,
+    port: u16,
+    sessions: u64,
+    workers: u64,
+    writer: &mut O,
+    is_terminal: bool,
+) -> Result<(), Fault>
+where
+    R: Net<Listener = TcpListener, Stream = TcpStream> + Threads + Wait + Sync,
+    R: Clock + Eprint,
+    requires heap { AreHeapSettings settings.now.regions settings.now.mutators settings.now.keep }
+    requires sessions { (1 ≤ sessions) × (sessions ≤ session_limit) }
+    ensures { IsServed workers settings.now sessions (O.seen writer.old) (O.seen writer.new)
+        result }
+{
+    if workers == 0 {
+        serve_users(rt, alloc, settings, port, sessions, writer, is_terminal)
+    } else {
+        serve_staff(rt, alloc, settings, port, sessions, writer, is_terminal)
+    }
+}
+
+// Serves sessions without workers.
+fn serve_users<R, O: Outlet>(
     rt: &R,
     alloc: Global,
     settings: &Settings,
@@ -39,6 +68,55 @@ where
         return Err(Fault::Memory);
     };
     let most = sessions as usize;
+    let (listener, report) = listen(rt, alloc, port, most, is_terminal)?;
+    match serve_heap(rt, alloc, blank, most, listener, settings.time) {
+        Ok(heap) => tell(&heap.served, report, writer),
+        Err(_) => Err(Fault::Memory),
+    }
+}
+
+// Serves sessions while two threads tend the collector.
+fn serve_staff<R, O: Outlet>(
+    rt: &R,
+    alloc: Global,
+    settings: &Settings,
+    port: u16,
+    sessions: u64,
+    writer: &mut O,
+    is_terminal: bool,
+) -> Result<(), Fault>
+where
+    R: Net<Listener = TcpListener, Stream = TcpStream> + Threads + Wait + Sync,
+    R: Clock + Eprint,
+    requires heap { AreHeapSettings settings.now.regions settings.now.mutators settings.now.keep }
+    requires sessions { (1 ≤ sessions) × (sessions ≤ session_limit) }
+    ensures { IsTendedServed settings.now sessions (O.seen writer.old) (O.seen writer.new) result }
+{
+    let Ok(blank) = workers_and_users(alloc, config(settings), sessions) else {
+        return Err(Fault::Memory);
+    };
+    let most = sessions as usize;
+    let (listener, report) = listen(rt, alloc, port, most, is_terminal)?;
+    match serve_tended_heap(rt, alloc, blank, most, listener, settings.time) {
+        Ok(tended) => tell(&tended.heap.served, report, writer),
+        Err(_) => Err(Fault::Memory),
+    }
+}
+
+// Listens on a port, and returns an empty report with room for the lines of `most` sessions. Fails with Memory or Listen.
+fn listen<R>(
+    rt: &R,
+    alloc: Global,
+    port: u16,
+    most: usize,
+    is_terminal: bool,
+) -> Result<(TcpListener, Vec<u8>), Fault>
+where
+    R: Net<Listener = TcpListener, Stream = TcpStream> + Eprint,
+    requires { most ≤ session_limit }
+    ensures report { IfOk result (λ p. p.1.items ≡ []) }
+    ensures fault { IfErr result (λ f. (f ≡ Memory) ⊎ (f ≡ Listen)) }
+{
     let Ok(report) = Vec::with_capacity(alloc, LINE * most) else {
         return Err(Fault::Memory);
     };
@@ -48,10 +126,7 @@ where
     if is_terminal {
         let _ = eprintln!(rt; "heapdbg: listening on 127.0.0.1:{port}");
     }
-    match serve_heap(rt, alloc, blank, most, listener, settings.time) {
-        Ok(heap) => tell(&heap.served, report, writer),
-        Err(_) => Err(Fault::Memory),
-    }
+    Ok((listener, report))
 }
 
 // Puts out how sessions ended, by way of a report that is still empty.

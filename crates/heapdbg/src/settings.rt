@@ -31,6 +31,8 @@ pub enum Task {
         port: u16,
         /// The number of sessions, 1 to 1,000.
         sessions: u64,
+        /// Whether two threads tend the collector, 0 or 1.
+        workers: u64,
     },
     /// Asks a session that is served: sends standard input, and copies what comes back to standard output.
     Ask {

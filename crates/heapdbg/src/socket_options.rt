@@ -17,6 +17,9 @@ const PORT_LIMIT: u64 = 65535;
 // The largest number of sessions.
 const SESSION_LIMIT: u64 = 1000;
 
+// The largest number of markers, and of sweepers.
+const WORKER_LIMIT: u64 = 1;
+
 // Creates the parser of the command `serve`.
 pub(crate) fn serve_parser<'a>(alloc: Global) -> Result<Command<'a>, AllocError>
     ensures app { IfOk result (λ c. app_of c ≡ serve_line) }
@@ -27,10 +30,16 @@ pub(crate) fn serve_parser<'a>(alloc: Global) -> Result<Command<'a>, AllocError>
         "sessions",
         "Sessions over the one heap, 1 to 1000 [default: 1]",
     );
+    let workers = value_arg(
+        alloc,
+        "workers",
+        "Threads that mark, and threads that sweep, 0 or 1 of each [default: 0]",
+    );
     let about = "Serves sessions over one heap to clients on 127.0.0.1, and tells how each ended";
     session_parser(alloc, "serve", about)?
         .arg(port_arg(alloc))?
-        .arg(sessions)
+        .arg(sessions)?
+        .arg(workers)
 }
 
 // Creates the parser of the command `ask`.
@@ -65,7 +74,14 @@ pub(crate) fn serve_task(options: &ArgMatches<'_>) -> Result<Task, Mistake>
     let Some(sessions) = option_value(options, "sessions", 1, 1, SESSION_LIMIT) else {
         return Err(Mistake::Sessions);
     };
-    Ok(Task::Serve { port, sessions })
+    let Some(workers) = option_value(options, "workers", 0, 0, WORKER_LIMIT) else {
+        return Err(Mistake::Workers);
+    };
+    Ok(Task::Serve {
+        port,
+        sessions,
+        workers,
+    })
 }
 
 // Returns the task of the options of `ask`, or the mistake in them.

@@ -102,9 +102,20 @@ where
         Task::Save(Target::To(port)) => {
             save_to(rt, alloc, asked, port, reader, writer, is_terminal)
         }
-        Task::Serve { port, sessions } => {
-            serve_port(rt, alloc, asked, port, sessions, writer, is_terminal)
-        }
+        Task::Serve {
+            port,
+            sessions,
+            workers,
+        } => serve_port(
+            rt,
+            alloc,
+            asked,
+            port,
+            sessions,
+            workers,
+            writer,
+            is_terminal,
+        ),
         Task::Ask { port } => ask_port(rt, alloc, port, input, writer),
     }
 }

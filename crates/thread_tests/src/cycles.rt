@@ -256,9 +256,10 @@ struct Counting {
 }
 
 impl Gate for Counting {
-    fn pass(&mut self, turn: u64) {
+    fn pass(&mut self, turn: u64) -> bool {
         let _ = turn;
         self.passes = self.passes.saturating_add(1);
+        true
     }
 }
 

@@ -27,13 +27,14 @@ struct Looked<'a> {
 }
 
 impl<'a> Gate for Looked<'a> {
-    fn pass(&mut self, turn: u64) {
+    fn pass(&mut self, turn: u64) -> bool {
         self.passes = self.passes.saturating_add(1);
         self.turn.store(turn, Ordering::SeqCst);
         self.here.store(self.passes, Ordering::SeqCst);
         if !reaches(self.seen, self.passes) {
             self.in_vain = true;
         }
+        true
     }
 }
 

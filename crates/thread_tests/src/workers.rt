@@ -17,26 +17,28 @@ use std::test::*;
 use std::thread;
 use std::thread::Threads;
 
-fn marks<L: Heap, R: Wait>(
+fn marks<L: Heap, R: Wait, G: Gate>(
     rt: &R,
     shared: &Shared<L>,
     seat: &mut Seat<L>,
+    gate: &mut G,
     turns: u64,
 ) -> Option<MarkEnd> {
     if seat.role() == Role::Marker {
-        return Some(mark_worker(shared, rt, seat, &mut Open, turns));
+        return Some(mark_worker(shared, rt, seat, gate, turns));
     }
     None
 }
 
-fn sweeps<L: Heap, R: Wait>(
+fn sweeps<L: Heap, R: Wait, G: Gate>(
     rt: &R,
     shared: &Shared<L>,
     seat: &mut Seat<L>,
+    gate: &mut G,
     turns: u64,
 ) -> Option<SweepEnd> {
     if seat.role() == Role::Sweeper {
-        return Some(sweep_worker(shared, rt, seat, &mut Open, turns));
+        return Some(sweep_worker(shared, rt, seat, gate, turns));
     }
     None
 }
@@ -135,9 +137,9 @@ fn worked_in<L: Heap, R: Wait>(
     sweeper: &mut Seat<L>,
     turns: (u64, u64),
 ) -> Ends {
-    let marked = marks(rt, shared, marker, turns.0);
+    let marked = marks(rt, shared, marker, &mut Open, turns.0);
     let after = entries(rt, shared);
-    let swept = sweeps(rt, shared, sweeper, turns.1);
+    let swept = sweeps(rt, shared, sweeper, &mut Open, turns.1);
     Ends {
         marked,
         after,
@@ -204,6 +206,53 @@ fn workers_finish_a_cycle(rt: HostRuntime) -> Result<(), Fail> {
     Ok(())
 }
 
+/// A gate that lets no act begin from this turn on.
+#[derive(Clone, Copy)]
+struct Closing {
+    turn: u64,
+}
+
+impl Gate for Closing {
+    fn pass(&mut self, turn: u64) -> bool {
+        turn < self.turn
+    }
+}
+
+/// Runs the marker at a gate that closes before its third act, and the sweeper at one that closes before its second, after three
+/// entries. Returns whether both ended there.
+fn stopped<L: Heap, R: Wait>(rt: &R, class: Event, blank: Blank) -> Option<bool>
+    requires { (blank.config ≡ L.config) × (blank.tables ≡ L.tables) × (blank.ledger ≡ L.ledger) }
+{
+    let (shared, mut seats) = blank.open::<L>();
+    let mut user = seats.take()?;
+    let mut marker = seats.take()?;
+    let mut sweeper = seats.take()?;
+    if !began(rt, &shared, &mut user, class) {
+        return None;
+    }
+    let marked = marks(rt, &shared, &mut marker, &mut Closing { turn: 3 }, 6);
+    let after = entries(rt, &shared);
+    let swept = sweeps(rt, &shared, &mut sweeper, &mut Closing { turn: 2 }, 16);
+    Some(
+        marked == Some(MarkEnd::Stopped)
+            && after == 5
+            && swept == Some(SweepEnd::Stopped)
+            && entries(rt, &shared) == 6,
+    )
+}
+
+fn stopped_once<R: Wait>(rt: &R, alloc: Global) -> Option<bool> {
+    let blank = three(alloc)?;
+    let class = node(alloc).ok()?;
+    stopped::<Brand, R>(rt, class, blank)
+}
+
+#[test]
+fn closed_gates_end_workers(rt: HostRuntime) -> Result<(), Fail> {
+    assert!(rt; stopped_once(&rt, rt.alloc()) == Some(true));
+    Ok(())
+}
+
 /// A gate that is passed before the third act only once a mutator was answered there.
 #[derive(Drop)]
 struct Waiting<'a> {
@@ -212,17 +261,18 @@ struct Waiting<'a> {
 }
 
 impl<'a> Gate for Waiting<'a> {
-    fn pass(&mut self, turn: u64) {
+    fn pass(&mut self, turn: u64) -> bool {
         if turn == 3 {
             self.here.store(1, Ordering::SeqCst);
             for _ in 0..10_000_000u64 {
                 if self.answered.load(Ordering::SeqCst) == 1 {
                     self.here.store(2, Ordering::SeqCst);
-                    return;
+                    return true;
                 }
                 thread::yield_now();
             }
         }
+        true
     }
 }
 

@@ -1,0 +1,56 @@
+-- What the threads did that tend the collector of a served heap.
+use Rattle.std.specs.Prelude.{◌≡◌, ◌+◌, ℕ, List, [], ◌∷◌, length}
+use Rattle.heap_world.specs.Limits.{HeapSettings}
+use Rattle.heap_lock.specs.declared.entry.Role.TheVariants.{Marker, Sweeper}
+use Rattle.heap_lock.specs.declared.stub.Stub.{Stub}
+use Rattle.heap_lock.specs.Limits.{chronicle_limit}
+use Rattle.heap_lock.specs.Blanks.{Maker, chair_of}
+use Rattle.heap_lock.specs.LockStates.{Chair}
+use Rattle.heap_work.specs.declared.MarkEnd.{MarkEnd}
+use Rattle.heap_work.specs.declared.SweepEnd.{SweepEnd}
+use Rattle.heap_work.specs.Rule.{IsMarkWork, IsSweepWork}
+use Rattle.heap_server.specs.SessionSeats.{AreUsers, IsOver}
+use Rattle.heap_server.specs.declared.tended.TendedHeap.{TendedHeap}
+
+-- the acts of a run at most: as many as a chronicle has entries
+abbrev pub turn_limit : ℕ
+turn_limit = chronicle_limit
+
+-- runs of a worker, one after another, each from the seat that the one before it left, with how it ended
+abbrev pub AreRuns : {E : Type 0} → (Chair → Chair → E → Type 0) → Chair → List (Chair × E) → Chair
+    → Type 0
+AreRuns Works s [] s' = s' ≡ s
+AreRuns Works s (run ∷ runs) s' = Works s run.0 run.1 × AreRuns Works run.0 runs s'
+
+-- a run of a mark worker
+abbrev pub MarksOnce : HeapSettings → Chair → Chair → MarkEnd → Type 0
+MarksOnce config s s' end = IsMarkWork config s s' turn_limit end
+
+-- a run of a sweep worker
+abbrev pub SweepsOnce : HeapSettings → Chair → Chair → SweepEnd → Type 0
+SweepsOnce config s s' end = IsSweepWork config s s' turn_limit end
+
+-- the seat's share is what it was and what runs of a mark worker gained
+abbrev pub Marks : HeapSettings → Chair → Chair → Type 0
+Marks config s s' = (runs : List (Chair × MarkEnd)) × AreRuns (MarksOnce config) s runs s'
+
+-- the seat's share is what it was and what runs of a sweep worker gained
+abbrev pub Sweeps : HeapSettings → Chair → Chair → Type 0
+Sweeps config s s' = (runs : List (Chair × SweepEnd)) × AreRuns (SweepsOnce config) s runs s'
+
+-- the marker's seat, the sweeper's, and those of so many users
+abbrev pub AreStaff : ℕ → List Chair → Type 0
+AreStaff most (marker ∷ sweeper ∷ users) =
+    (marker.role ≡ Marker) × (sweeper.role ≡ Sweeper) × AreUsers users × (length users ≡ most)
+AreStaff most seats = ⊥
+
+-- the first two seats of a heap, as the runs of their workers left them
+abbrev pub AreTended : HeapSettings → List Chair → Stub → Stub → Type 0
+AreTended config (marker ∷ sweeper ∷ users) marked swept =
+    Marks config marker (chair_of marked) × Sweeps config sweeper (chair_of swept)
+AreTended config seats marked swept = ⊥
+
+-- these sessions were over this heap, and this is what its workers did
+abbrev pub IsTendedOver : Maker → ℕ → ℕ → TendedHeap → Type 0
+IsTendedOver blank time most h =
+    IsOver blank time most h.heap × AreTended blank.config blank.seats h.marker h.sweeper

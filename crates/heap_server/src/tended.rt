@@ -1,0 +1,228 @@
+//! Sessions over one shared heap whose collector is tended in two threads.
+ghost use Rattle.std.specs.Prelude.{◌≡◌, ◌∷◌, ◌≤◌, IfOk, IfErr, length, replicate};
+ghost use Rattle.heap_class.specs.declared.Refusal.TheVariants.{NoMemory};
+ghost use Rattle.heap_lock.specs.declared.entry.Role.TheVariants as role;
+ghost use Rattle.heap_server.specs.SessionSeats.{IsFor, session_limit};
+ghost use Rattle.heap_server.specs.Tending.{AreStaff, IsTendedOver, Marks, Sweeps};
+
+use crate::sessions::{Served, ServedHeap, serve_clients};
+use crate::tending::{tend_marker, tend_sweeper};
+use heap_class::Refusal;
+use heap_lock::{Blank, Heap, Role, Seat, Seats, Shared, Stub};
+use heap_world::Config;
+use std::alloc::{AllocError, Global};
+use std::marker::Brand;
+use std::net::TcpListener;
+use std::snapshot::Snapshot;
+use std::sync::Wait;
+use std::sync::atomic::{AtomicBool, Ordering};
+use std::thread;
+use std::thread::{Promise, PromisedHandle, Scope, Threads};
+use std::time::Clock;
+
+/// How the sessions over a heap ended, and the two seats of its workers as their runs left them.
+#[derive(Drop)]
+pub struct TendedHeap {
+    pub heap: ServedHeap,
+    pub marker: Stub,
+    pub sweeper: Stub,
+}
+
+/// The seats of a heap whose collector is tended.
+#[derive(Drop)]
+pub struct Staff<L: Heap> {
+    pub marker: Seat<L>,
+    pub sweeper: Seat<L>,
+    pub users: Seats<L>,
+}
+
+/// How the sessions over a heap that a type names ended, and the seats of its workers.
+#[derive(Drop)]
+pub struct Tended<L: Heap> {
+    pub served: Served,
+    pub marker: Seat<L>,
+    pub sweeper: Seat<L>,
+}
+
+// The promise that a marker's seat comes back as runs of its worker leave it.
+#[derive(Drop)]
+struct MarksFrom<L: Heap>(Snapshot<Seat<L>>);
+
+impl<L: Heap> Promise<Seat<L>> for MarksFrom<L> {
+    ghost use Rattle.heap_server.specs.Tending.{Marks};
+
+    ghost kept_by = { λ p seat. Marks L.config p.0.value seat };
+}
+
+// The promise that a sweeper's seat comes back as runs of its worker leave it.
+#[derive(Drop)]
+struct SweepsFrom<L: Heap>(Snapshot<Seat<L>>);
+
+impl<L: Heap> Promise<Seat<L>> for SweepsFrom<L> {
+    ghost use Rattle.heap_server.specs.Tending.{Sweeps};
+
+    ghost kept_by = { λ p seat. Sweeps L.config p.0.value seat };
+}
+
+// Returns the roles of the marker, the sweeper and so many users, in this order. Fails if they can't be allocated.
+fn roles(alloc: Global, sessions: u64) -> Result<Vec<Role>, AllocError>
+    requires { sessions ≤ session_limit }
+    ensures { IfOk result
+        (λ v. v.items ≡ role.Marker ∷ role.Sweeper ∷ replicate sessions role.User) }
+{
+    let mut users = vec![in alloc; Role::User; sessions as usize]?;
+    let mut roles = Vec::new(alloc);
+    roles.push(Role::Marker)?;
+    roles.push(Role::Sweeper)?;
+    roles.append(&mut users)?;
+    Ok(roles)
+}
+
+/// Creates a heap of these settings with the marker's seat, the sweeper's, and a user's for each of 1 to 1,000 sessions, in
+/// this order. Fails with NoMemory.
+pub fn workers_and_users(alloc: Global, config: Config, sessions: u64) -> Result<Blank, Refusal>
+    requires { (1 ≤ sessions) × (sessions ≤ session_limit) }
+    ensures settings { IfOk result (λ b. b.config ≡ config) }
+    ensures seats { IfOk result (λ b. AreStaff sessions b.seats) }
+    ensures refused { IfErr result (λ e. e ≡ NoMemory) }
+{
+    let Ok(roles) = roles(alloc, sessions) else {
+        return Err(Refusal::NoMemory);
+    };
+    Blank::new(alloc, config, roles.as_slice())
+}
+
+// Begins the thread that tends the marker's seat. Fails if none can be had.
+fn begin_marker<'s, E, L: Heap + Send + Sync, R: Clock + Wait + Sync>(
+    scope: &Scope<'s, E>,
+    rt: &'s R,
+    shared: &'s Shared<L>,
+    seat: Seat<L>,
+    stop: &'s AtomicBool,
+) -> Result<PromisedHandle<Seat<L>, MarksFrom<L>>, AllocError>
+    requires { seat.role ≡ role.Marker }
+    ensures { IfOk result (λ h. h.promise.0.value ≡ seat) }
+{
+    let marks = MarksFrom(Snapshot::of(&seat));
+    let thread = scope.spawn_with(marks, move || tend_marker(rt, shared, seat, stop))?;
+    Ok(thread)
+}
+
+// Begins the thread that tends the sweeper's seat. Fails if none can be had.
+fn begin_sweeper<'s, E, L: Heap + Send + Sync, R: Clock + Wait + Sync>(
+    scope: &Scope<'s, E>,
+    rt: &'s R,
+    shared: &'s Shared<L>,
+    seat: Seat<L>,
+    stop: &'s AtomicBool,
+) -> Result<PromisedHandle<Seat<L>, SweepsFrom<L>>, AllocError>
+    requires { seat.role ≡ role.Sweeper }
+    ensures { IfOk result (λ h. h.promise.0.value ≡ seat) }
+{
+    let sweeps = SweepsFrom(Snapshot::of(&seat));
+    let thread = scope.spawn_with(sweeps, move || tend_sweeper(rt, shared, seat, stop))?;
+    Ok(thread)
+}
+
+/// Serves clients as `serve_clients` does, while two threads tend the collector. They begin before the first accept, and are
+/// told to stop and joined after the last session. Fails if a thread for them can't be had, or there is no memory for `most`
+/// endings, and accepts nothing. May wait.
+pub fn serve_tended<L: Heap + Send + Sync, R: Clock + Threads + Wait + Sync>(
+    rt: &R,
+    alloc: Global,
+    shared: &Shared<L>,
+    staff: Staff<L>,
+    most: usize,
+    listener: TcpListener,
+    time: u64,
+) -> Result<Tended<L>, AllocError>
+    requires { AreStaff most (staff.marker ∷ staff.sweeper ∷ staff.users) }
+    ensures served { IfOk result (λ t. IsFor most t.served) }
+    ensures marks { IfOk result (λ t. Marks L.config staff.marker t.marker) }
+    ensures sweeps { IfOk result (λ t. Sweeps L.config staff.sweeper t.sweeper) }
+{
+    let word = AtomicBool::new(false);
+    let stop = &word;
+    thread::scope(
+        thread::scope_env(),
+        rt,
+        move |scope| -> Result<Tended<L>, AllocError>
+            requires { AreStaff most (staff.marker ∷ staff.sweeper ∷ staff.users) }
+            ensures served { IfOk result (λ t. IsFor most t.served) }
+            ensures marks { IfOk result (λ t. Marks L.config staff.marker t.marker) }
+            ensures sweeps { IfOk result (λ t. Sweeps L.config staff.sweeper t.sweeper) }
+        {
+            let marking = begin_marker(scope, rt, shared, staff.marker, stop)?;
+            let Ok(sweeping) = begin_sweeper(scope, rt, shared, staff.sweeper, stop) else {
+                stop.store(true, Ordering::SeqCst);
+                let _ = marking.join(rt);
+                return Err(AllocError);
+            };
+            let served = serve_clients(rt, alloc, shared, staff.users, most, listener, time);
+            stop.store(true, Ordering::SeqCst);
+            let marker = marking.join(rt);
+            let sweeper = sweeping.join(rt);
+            let served = served?;
+            Ok(Tended {
+                served,
+                marker,
+                sweeper,
+            })
+        },
+    )
+}
+
+/// Opens a heap, and serves as many clients as it has users' seats, as `serve_tended` does, with this time in the headers of
+/// its dumps. May wait.
+pub fn serve_tended_heap<R: Clock + Threads + Wait + Sync>(
+    rt: &R,
+    alloc: Global,
+    blank: Blank,
+    most: usize,
+    listener: TcpListener,
+    time: u64,
+) -> Result<TendedHeap, AllocError>
+    requires { AreStaff most blank.seats }
+    ensures { IfOk result (IsTendedOver blank time most) }
+{
+    serve_staffed::<Brand, R>(rt, alloc, blank, most, listener, time)
+}
+
+// Does so for a heap that a type names.
+fn serve_staffed<L: Heap + Send + Sync, R: Clock + Threads + Wait + Sync>(
+    rt: &R,
+    alloc: Global,
+    blank: Blank,
+    most: usize,
+    listener: TcpListener,
+    time: u64,
+) -> Result<TendedHeap, AllocError>
+    requires named { (blank.config ≡ L.config) × (blank.tables ≡ L.tables)
+        × (blank.ledger ≡ L.ledger) }
+    requires staff { AreStaff most blank.seats }
+    ensures { IfOk result (IsTendedOver blank time most) }
+{
+    let made = Snapshot::of(&blank);
+    let (shared, mut seats) = blank.open::<L>();
+    let Some(marker) = seats.take() else {
+        unreachable!()
+    };
+    let Some(sweeper) = seats.take() else {
+        unreachable!()
+    };
+    let staff = Staff {
+        marker,
+        sweeper,
+        users: seats,
+    };
+    let Tended {
+        served,
+        marker,
+        sweeper,
+    } = serve_tended(rt, alloc, &shared, staff, most, listener, time)?;
+    Ok(TendedHeap {
+        heap: ServedHeap { served, made, time },
+        marker: marker.into_stub(),
+        sweeper: sweeper.into_stub(),
+    })
+}

@@ -10,7 +10,7 @@ use Rattle.std.proofs.lemmas.Option.{slice_get-get_or}
 use Rattle.heap_class.specs.declared.Field.{Field}
 use Rattle.heap_class.specs.declared.IdSize.{IdSize}
 use Rattle.heap_class.specs.Kinds.{width_of}
-use Rattle.heap_class.specs.Classes.{Class, first_uses, name_table, names_in, name_of, fields_of, sup_of, slots_of, instance_size, name_id, IsClassTable}
+use Rattle.heap_class.specs.Classes.{Class, first_uses, name_table, names_in, name_of, fields_of, sup_of, slots_of, instance_size, is_array_class, name_id, IsClassTable}
 use Rattle.heap_class.proofs.Slots.{get_append, slots_more}
 use Rattle.heap_class.proofs.FirstUses.{bytes_same, bytes_self, names_append, inserted_prefix, inserted_longer, table_distinct, position_is}
 
@@ -20,10 +20,10 @@ or_true : (a : Bool) → (a || true) ≡ true
 or_true true = refl
 or_true false = refl
 
-has_left : {A : Type 0} (p : A → Bool) (xs ys : List A) → list_any p xs ≡ true → list_any p (xs ++ ys) ≡ true
+pub has_left : {A : Type 0} (p : A → Bool) (xs ys : List A) → list_any p xs ≡ true → list_any p (xs ++ ys) ≡ true
 has_left p xs ys h = list_any-append p xs ys ∙ ap (λ b. b || list_any p ys) h
 
-has_right : {A : Type 0} (p : A → Bool) (xs ys : List A) → list_any p ys ≡ true → list_any p (xs ++ ys) ≡ true
+pub has_right : {A : Type 0} (p : A → Bool) (xs ys : List A) → list_any p ys ≡ true → list_any p (xs ++ ys) ≡ true
 has_right p xs ys h = list_any-append p xs ys ∙ ap (λ b. list_any p xs || b) h ∙ or_true (list_any p xs)
 
 -- where it stands
@@ -38,7 +38,7 @@ found x (k ∷ ks) h = go (bytes_eq x k) refl (found x ks)
         (suc r.0, omega (arith, r.1), r.2)
 
 -- a name other than x stays where x is left out
-kept_other : (x z : List ℕ) (ys : List (List ℕ)) → bytes_eq z x ≡ false → list_any (bytes_eq z) (filter (λ y. not (bytes_eq x y)) ys) ≡ list_any (bytes_eq z) ys
+pub kept_other : (x z : List ℕ) (ys : List (List ℕ)) → bytes_eq z x ≡ false → list_any (bytes_eq z) (filter (λ y. not (bytes_eq x y)) ys) ≡ list_any (bytes_eq z) ys
 kept_other x z [] h = refl
 kept_other x z (y ∷ ys) h = go (bytes_eq z y) refl (bytes_eq x y) refl (kept_other x z ys h)
   where
@@ -50,7 +50,7 @@ kept_other x z (y ∷ ys) h = go (bytes_eq z y) refl (bytes_eq x y) refl (kept_o
     go true e true f again = absurd (true≢false (sym (ap₂ bytes_eq (bytes_same z y e) (bytes_same x y f) ∙ bytes_self y) ∙ h))
 
 -- each name is among the distinct names
-uses_have : (z : List ℕ) (xs : List (List ℕ)) → list_any (bytes_eq z) xs ≡ true → list_any (bytes_eq z) (first_uses xs) ≡ true
+pub uses_have : (z : List ℕ) (xs : List (List ℕ)) → list_any (bytes_eq z) xs ≡ true → list_any (bytes_eq z) (first_uses xs) ≡ true
 unfolding first_uses
 uses_have z [] h = h
 uses_have z (x ∷ xs) h = go (bytes_eq z x) refl (uses_have z xs)
@@ -74,7 +74,7 @@ name_there (c ∷ cs) zero h =
 name_there (c ∷ cs) (suc k) h =
     has_right (bytes_eq (name_of cs k)) (names_in c) (flat_map names_in cs) (name_there cs k (omega (arith, h)))
 
-field_named : (fs : List Field) (i : ℕ) (f : Field) → slice_get fs i ≡ Some f → list_any (bytes_eq f.name) (map (λ (g : Field). g.name) fs) ≡ true
+pub field_named : (fs : List Field) (i : ℕ) (f : Field) → slice_get fs i ≡ Some f → list_any (bytes_eq f.name) (map (λ (g : Field). g.name) fs) ≡ true
 field_named [] i f h = cc
 field_named (g ∷ fs) zero f h =
     let same : g ≡ f = cc in
@@ -82,7 +82,7 @@ field_named (g ∷ fs) zero f h =
     (ap (λ b. b || list_any (bytes_eq g.name) (map (λ (g : Field). g.name) fs)) (bytes_self g.name))
 field_named (g ∷ fs) (suc i) f h = ap (λ b. bytes_eq f.name g.name || b) (field_named fs i f h) ∙ or_true (bytes_eq f.name g.name)
 
-field_name_there : (cs : List Class) (k i : ℕ) (f : Field) → slice_get (fields_of cs k) i ≡ Some f → list_any (bytes_eq f.name) (flat_map names_in cs) ≡ true
+pub field_name_there : (cs : List Class) (k i : ℕ) (f : Field) → slice_get (fields_of cs k) i ≡ Some f → list_any (bytes_eq f.name) (flat_map names_in cs) ≡ true
 unfolding fields_of names_in
 field_name_there [] k i f h = cc
 field_name_there (c ∷ cs) zero i f h =
@@ -162,6 +162,10 @@ module _ (cs v ds : List Class) (whole : v ++ ds ≡ cs) where
     pub same_sup : sup_of v k ≡ sup_of cs k
     unfolding sup_of
     same_sup = ap (λ (o : Option Class). option_map_or (λ (c : Class). c.sup) o None) same_class
+
+    pub same_array : is_array_class v k ≡ is_array_class cs k
+    unfolding is_array_class
+    same_array = ap (λ (o : Option Class). option_map_or (λ (c : Class). c.is_array) o false) same_class
 
     pub same_slots : slots_of v k ≡ slots_of cs k
     same_slots = sym (slots_append v ds k lt) ∙ ap (λ l. slots_of l k) whole

@@ -1,7 +1,7 @@
 //! The first classes of a heap, lent for reading.
 ghost use Rattle.std.specs.Prelude.{◌≡◌, ◌<◌, ◌≤◌, [], length, take, Some, IfSome, slice_get};
 ghost use Rattle.heap_class.specs.Limits.{class_limit, name_limit, slot_limit, name_count_limit};
-ghost use Rattle.heap_class.specs.Classes.{IsClassTable, slots_of, instance_size, name_of, fields_of, sup_of, name_id, name_table};
+ghost use Rattle.heap_class.specs.Classes.{IsClassTable, slots_of, instance_size, is_array_class, name_of, fields_of, sup_of, name_id, name_table};
 
 use crate::{ClassNo, Classes, IdSize, Kind};
 use std::marker::Model;
@@ -91,6 +91,14 @@ impl<'a> FirstClasses<'a> {
         ensures before { IfSome result (λ s. s < class) }
     {
         self.classes.sup(class)
+    }
+
+    /// Tells whether a class is an array class. The class must be below `len`.
+    pub fn is_array(&self, class: ClassNo) -> bool
+        requires { class < length self.now }
+        ensures { result ≡ is_array_class self.now class }
+    {
+        self.classes.is_array(class)
     }
 
     /// Returns the number of a class's own fields: at most 64. The class must be below `len`.

@@ -37,7 +37,7 @@ impl<'a> Cancel<'a> {
     }
 
     /// Tells whether anybody asked, by a seat of this meter. Once it is true it stays so. Waits for nothing.
-    pub fn asked(&self, seat: &mut FeedSeat) -> bool
+    pub fn is_asked(&self, seat: &mut FeedSeat) -> bool
         requires { seat.old.meter ≡ self.now }
         ensures found { seat.new ≡ cancel_found self.now result }
         ensures lasting { seat.old.found ≡ true → result ≡ true }

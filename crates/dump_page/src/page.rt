@@ -64,7 +64,7 @@ fn fill<S: Source>(source: &mut S, page: &mut Vec<u8>, surplus: &mut Option<Surp
     ensures kept { S.kept source.new ≡ S.kept source.old }
 {
     loop {
-        let left = source.left();
+        let left = source.parts_left();
         let next = source.next();
         match append(page, &next) {
             Some(true) => return true,

@@ -120,10 +120,10 @@ impl<S: Source, B: PartsBefore> Source for PagedSource<S, B> {
         next
     }
 
-    fn left(&self) -> u64 {
+    fn parts_left(&self) -> u64 {
         match &self.surplus {
             Some(surplus) => surplus.left,
-            None => self.source.left(),
+            None => self.source.parts_left(),
         }
     }
 }

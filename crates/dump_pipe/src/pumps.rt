@@ -24,7 +24,7 @@ pub fn pump_counted<S: Source, O: Outlet>(
     ensures meter { seat.new.meter ≡ progress.now }
     ensures counted { seat.new.sum ≡ seat.old.sum + bytes_of result }
 {
-    let _most = source.left();
+    let _most = source.parts_left();
     let mut total: u64 = 0;
     loop {
         match source.next() {

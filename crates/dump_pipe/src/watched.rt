@@ -25,13 +25,13 @@ impl<'a, S: Source> Source for Watched<'a, S> {
     ghost seen = { λ w. watched (S.seen w.source) w.seat.found };
 
     fn next(&mut self) -> Next {
-        if self.cancel.asked(&mut self.seat) {
+        if self.cancel.is_asked(&mut self.seat) {
             return Next::Cancelled;
         }
         self.source.next()
     }
 
-    fn left(&self) -> u64 {
-        self.source.left()
+    fn parts_left(&self) -> u64 {
+        self.source.parts_left()
     }
 }

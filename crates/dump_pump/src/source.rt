@@ -48,7 +48,7 @@ pub trait Source {
         ensures kept { Self.kept self.new ≡ Self.kept self.old };
 
     /// Returns the largest number of parts that may be left, at most PART_LIMIT.
-    fn left(&self) -> u64
+    fn parts_left(&self) -> u64
         ensures left { result ≡ (Self.seen self.now).left }
         ensures most { result ≤ part_limit };
 }

@@ -41,7 +41,7 @@ pub fn pump<S: Source, O: Outlet>(source: &mut S, outlet: &mut O) -> Pumped
         (O.seen outlet.new) result }
     ensures kept { S.kept source.new ≡ S.kept source.old }
 {
-    let _most = source.left();
+    let _most = source.parts_left();
     let mut total: u64 = 0;
     loop {
         match source.next() {

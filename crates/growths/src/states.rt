@@ -74,7 +74,7 @@ fn add_world(digest: &mut Digest, world: &World) {
     digest.add_all(world.registers());
     digest.add_all(world.gray());
     digest.add_all(world.log());
-    digest.add(world.drained());
+    digest.add(world.drain_count());
     digest.add(world.phase().is_marking() as u64);
     add_regions(digest, world.regions());
     add_pool(digest, world.regions());
@@ -84,7 +84,7 @@ fn add_world(digest: &mut Digest, world: &World) {
 pub fn digest_of(machine: &Machine) -> Digest {
     let mut digest = Digest::new();
     digest.add(machine.place());
-    digest.add(machine.retained());
+    digest.add(machine.retained_count());
     digest.add(machine.next_pin());
     add_world(&mut digest, machine.world());
     digest

@@ -126,7 +126,7 @@ impl<'a> Source for PinSource<'a> {
         )
     }
 
-    fn left(&self) -> u64 {
+    fn parts_left(&self) -> u64 {
         parts_left(&self.ended, self.count)
     }
 }

@@ -126,7 +126,7 @@ impl<'a, L: Heap, R: Wait> Source for LockedSource<'a, L, R> {
         self.next_part()
     }
 
-    fn left(&self) -> u64 {
+    fn parts_left(&self) -> u64 {
         PART_LIMIT.saturating_sub(self.count)
     }
 }

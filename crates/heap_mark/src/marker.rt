@@ -127,7 +127,7 @@ impl Marker {
     }
 
     /// Returns the number of entries of the log that were drained.
-    pub fn drained(&self) -> u64
+    pub fn drain_count(&self) -> u64
         ensures value { result ≡ self.now.drained }
         ensures limit { result ≤ length self.now.log }
     {

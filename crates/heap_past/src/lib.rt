@@ -67,7 +67,7 @@ pub fn last_write(machine: &Machine, at: ObjRef, slot: u64) -> Option<u64>
     ensures none { IfNone result (IsUnwritten machine.now.trail at slot) }
 {
     let now = machine.world().regions().word(at, slot);
-    for n in 0..machine.retained() {
+    for n in 0..machine.retained_count() {
         if changes(machine.record_ago(n), at, slot, now) {
             return Some(machine.place() - n);
         }
@@ -82,7 +82,7 @@ pub fn birth(machine: &Machine, at: ObjRef) -> Option<u64>
     ensures born { IfSome result (λ place. IsBirth machine.now.trail at place) }
     ensures none { IfNone result (IsOld machine.now.trail at) }
 {
-    for n in 0..machine.retained() {
+    for n in 0..machine.retained_count() {
         if makes(machine.record_ago(n), at) {
             return Some(machine.place() - n);
         }

@@ -56,7 +56,7 @@ fn oldest_state(machine: &Machine, at: ObjRef) -> u64
     let now = machine.place();
     match birth(machine, at) {
         Some(place) => now - place,
-        None => machine.retained(),
+        None => machine.retained_count(),
     }
 }
 

@@ -120,7 +120,7 @@ pub fn history(alloc: Global, machine: &Machine, count: u64) -> Result<Vec<PastS
 {
     let world = machine.world();
     let mut sizes = sizes_now(alloc, world)?;
-    let count = count.min(machine.retained());
+    let count = count.min(machine.retained_count());
     let mut steps = Vec::with_capacity(alloc, count as usize)?;
     for n in 0..count {
         let left = machine.record_ago(n);

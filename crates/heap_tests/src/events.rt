@@ -79,7 +79,7 @@ fn has_marker(world: &World, sight: &Sight) -> bool {
     world.phase() == sight.phase
         && world.gray() == sight.gray
         && world.log() == sight.log
-        && world.drained() == sight.drained
+        && world.drain_count() == sight.drained
 }
 
 // Returns whether a heap shows a sight.

@@ -25,7 +25,7 @@ fn answered(machine: &mut Machine, event: Event) -> Result<Answer, Refusal> {
 // Asserts that a third step is taken, and two are retained.
 fn a_step_is_kept_in(rt: &impl Abort, machine: &mut Machine) -> Result<(), Fail> {
     assert_eq!(rt; answered(machine, new(0))?, Answer::Object(SECOND));
-    assert_eq!(rt; (machine.place(), machine.retained()), (3, 2));
+    assert_eq!(rt; (machine.place(), machine.retained_count()), (3, 2));
     Ok(())
 }
 
@@ -163,6 +163,6 @@ fn lists_are_driven(rt: HostRuntime) -> Result<(), Fail> {
     let actions = listed(rt.alloc())?;
     let replies = machine.drive(&actions)?;
     assert!(rt; are_replies(&replies));
-    assert_eq!(rt; (machine.place(), machine.retained()), (3, 2));
+    assert_eq!(rt; (machine.place(), machine.retained_count()), (3, 2));
     Ok(())
 }

@@ -41,7 +41,7 @@ fn is_idle(world: &World) -> bool {
     world.phase() == Phase::Idle
         && world.gray().is_empty()
         && world.log().is_empty()
-        && world.drained() == 0
+        && world.drain_count() == 0
 }
 
 // Asserts that both classes are defined.

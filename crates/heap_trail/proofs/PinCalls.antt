@@ -1,6 +1,6 @@
 -- What the calls on one pin give.
-use Rattle.std.proofs.Common.{◌≡◌, ℕ, ◌<◌, ◌≤◌, Bool, true, false, sym, ap, subst, ◌∙◌, IsSome, arith, refl, inl, inr, Some, None, Result, Ok, Err}
-use Rattle.std.specs.Prelude.{nat_lt, slice_index_or, is_some, if◌then◌else◌, OnOk, OnErr}
+use Rattle.std.proofs.Common.{◌≡◌, ℕ, ◌<◌, ◌≤◌, Bool, true, false, sym, ap, subst, ◌∙◌, arith, refl, inl, inr, Some, None, Result, Ok, Err}
+use Rattle.std.specs.Prelude.{nat_lt, slice_index_or, is_some, if◌then◌else◌, OnOk}
 use Rattle.std.specs.Result.{is_err}
 use Rattle.heap_class.specs.declared.LostCause.{LostCause}
 use Rattle.heap_class.specs.declared.LostCause.TheVariants.{Rewound, Memory}
@@ -12,11 +12,7 @@ use Rattle.heap_pins.specs.KeptCopies.{copy_for, kept, kept_at, kept_if, touched
 use Rattle.heap_trail.specs.declared.held.Held.{Held}
 use Rattle.heap_trail.specs.declared.held.Held.TheVariants.{Kept, Lost}
 use Rattle.heap_trail.specs.declared.held.NumberedPin.{NumberedPin}
-use Rattle.heap_trail.specs.OpenPins.{IsSizedHeld, IsRegionWithin, held_kept, is_kept, is_settled, MayKeep, held_after_rewind, slot_after_rewind}
-
-pub at_err : {A E P : Type 0} (r : Result A E) → is_err r ≡ true → OnErr r P → P
-at_err (Ok a) e p = cc
-at_err (Err e') e p = p
+use Rattle.heap_trail.specs.OpenPins.{IsSizedHeld, IsRegionWithin, held_kept, is_kept, is_settled, MayKeep, NeedsCopy, held_after_rewind, slot_after_rewind}
 
 pub at_ok : {A E P : Type 0} (r : Result A E) → is_err r ≡ false → OnOk r P → P
 at_ok (Ok a) e p = p
@@ -28,10 +24,10 @@ is_clash b f t = absurd (clash (sym f ∙ t))
     clash : false ≡ true → ⊥
     clash e = cc
 
--- a kept pin is lost for want of memory
-pub loses : (left : Undo) (v : HeapState) (s : NumberedPin) (n place : ℕ) (pin : PinContents) (cursor : Cursor) (given : ℕ) → n ≡ s.number → s.held ≡ Kept place pin cursor given → IsSome (touched left) → MayKeep left v s (record { number = n; held = Lost Memory })
+-- a kept pin without a copy of the region is lost if memory for one can't be allocated
+pub loses : (left : Undo) (v : HeapState) (s : NumberedPin) (n place : ℕ) (pin : PinContents) (cursor : Cursor) (given : ℕ) → n ≡ s.number → s.held ≡ Kept place pin cursor given → NeedsCopy left s.held → MayKeep left v s (record { number = n; held = Lost Memory })
 unfolding is_kept
-loses left v s n place pin cursor given same is some = inr (λ i. record { number = same i; held = Lost Memory }, ap is_kept is, some)
+loses left v s n place pin cursor given same is needed = inr (λ i. record { number = same i; held = Lost Memory }, ap is_kept is, needed)
 
 -- a kept pin keeps what it has to
 pub keeps : (left : Undo) (v : HeapState) (s t : NumberedPin) (place : ℕ) (pin q : PinContents) (cursor : Cursor) (given : ℕ) → t ≡ record { number = s.number; held = Kept place q cursor given } → s.held ≡ Kept place pin cursor given → q ≡ kept left v pin → MayKeep left v s t

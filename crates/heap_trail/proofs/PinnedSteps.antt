@@ -94,7 +94,7 @@ lost_touches left v [] [] e n ns h = cc
 lost_touches left v [] (t ∷ ts) e n ns h = absurd e
 lost_touches left v (s ∷ ss) [] e n ns h = absurd e
 lost_touches left v (s ∷ ss) (t ∷ ts) (inl e, es) n ns h = lost_touches left v ss ts es n ns h
-lost_touches left v (s ∷ ss) (t ∷ ts) (inr e, es) n ns h = e.2
+lost_touches left v (s ∷ ss) (t ∷ ts) (inr e, es) n ns h = subst IsSome (sym e.2.1) tt
 
 -- ---- the step
 

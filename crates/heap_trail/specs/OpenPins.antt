@@ -72,12 +72,6 @@ slot_kept left v s = record s { held = held_kept left v s.held }
 abbrev pub slot_lost : LostCause → NumberedPin → NumberedPin
 slot_lost cause s = record s { held = Lost cause }
 
--- the pin keeps what it has to, or it is lost, by a step that touched a region
-abbrev pub MayKeep : Undo → HeapState → NumberedPin → NumberedPin → Type 0
-MayKeep left v s t =
-    (t ≡ slot_kept left v s)
-    ⊎ ((t ≡ slot_lost Memory s) × (is_kept s.held ≡ true) × IsSome (touched left))
-
 -- the region is one of the heap's, unless the pin is lost
 abbrev pub IsRegionWithin : ℕ → Held → Type 0
 IsRegionWithin region (Kept place pin cursor given) = region < length pin.copies
@@ -87,6 +81,17 @@ IsRegionWithin region (Lost cause) = Unit {0}
 unfoldable pub is_settled : ℕ → Held → Bool
 is_settled region (Kept place pin cursor given) = is_some (slice_index_or pin.copies region None)
 is_settled region (Lost cause) = true
+
+-- the step that left this record touched a region that the pin has no copy of
+abbrev pub NeedsCopy : Undo → Held → Type 0
+NeedsCopy left h =
+    (region : ℕ) × (touched left ≡ Some region) × (is_settled region h ≡ false)
+
+-- the pin keeps what it has to, or it is lost, by a step that touched a region which it has no copy of
+abbrev pub MayKeep : Undo → HeapState → NumberedPin → NumberedPin → Type 0
+MayKeep left v s t =
+    (t ≡ slot_kept left v s)
+    ⊎ ((t ≡ slot_lost Memory s) × (is_kept s.held ≡ true) × NeedsCopy left s.held)
 
 -- ---- a rewind
 

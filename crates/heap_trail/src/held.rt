@@ -5,7 +5,7 @@ ghost use Rattle.heap_world.specs.State.{HeapState};
 ghost use Rattle.heap_step.specs.declared.Event.{Event};
 ghost use Rattle.heap_step.specs.Laws.{IsStep};
 ghost use Rattle.heap_pins.specs.KeptCopies.{touched};
-ghost use Rattle.heap_trail.specs.OpenPins.{CanGive, HasGiven, IsNextPiece, IsSizedPin, IsRegionWithin, MayCount, MayKeep, RefusesPiece, held_advanced, is_settled, slot_after_rewind};
+ghost use Rattle.heap_trail.specs.OpenPins.{CanGive, HasGiven, IsNextPiece, IsSizedPin, IsRegionWithin, MayCount, MayKeep, NeedsCopy, RefusesPiece, held_advanced, is_settled, slot_after_rewind};
 ghost use Rattle.heap_trail.specs.Views.{CanShow, IsViewBeside, RefusesView};
 
 use heap_class::{IdSize, LostCause, Refusal};
@@ -71,11 +71,12 @@ impl NumberedPin {
         }
     }
 
-    // Copies the region that the step touched, as it was before. The pin is lost if memory for the copy can't be allocated.
+    // Copies the region that the step touched, as it was before. The pin must have no copy of it, and is lost if memory for the copy can't be allocated.
     #[inline(never)]
     fn copy_region(&mut self, world: &World, left: &Undo)
         requires step { (e : Event) × (before : HeapState) × IsStep e before world.now left.now }
         requires sized { IsSizedPin (length world.now.regions) self.old }
+        requires needed { NeedsCopy left.now self.old.held }
         ensures { MayKeep left.now world.now self.old self.new }
     {
         let lost = match &mut self.held {

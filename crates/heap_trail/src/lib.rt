@@ -255,7 +255,7 @@ impl Machine {
         ensures refused { IfErr result (λ e. acted self.old (Rewind n) ≡ (self.new, Refused e)) }
         ensures unchanged { OnErr result (self.new ≡ self.old) }
     {
-        let retained = self.retained();
+        let retained = self.retained_count();
         if n > retained {
             return Err(Refusal::TooFar { asked: n, retained });
         }
@@ -328,7 +328,7 @@ impl Machine {
     }
 
     /// Returns the number of steps that can be undone: at most `keep`.
-    pub fn retained(&self) -> u64
+    pub fn retained_count(&self) -> u64
         ensures { result ≡ retained self.now.trail }
     {
         self.records.len() as u64

@@ -20,7 +20,7 @@ impl Machine {
     fn has_retained(&self, at: u64) -> bool
         ensures { result ≡ is_retained at self.now.trail }
     {
-        at <= self.place && self.place - at <= self.retained()
+        at <= self.place && self.place - at <= self.retained_count()
     }
 
     /// Opens a pin on the retained state at the place `at`, or on the current state. Fails with NotRetained if that state

@@ -323,11 +323,11 @@ impl World {
     }
 
     /// Returns the number of entries of the log that were drained.
-    pub fn drained(&self) -> u64
+    pub fn drain_count(&self) -> u64
         ensures value { result ≡ self.now.drained }
         ensures limit { result ≤ length self.now.log }
     {
-        self.marker.drained()
+        self.marker.drain_count()
     }
 
     /// Defines an instance class, and returns its number. Fails with NoClass, ClassLimit, BadName, DuplicateName or FieldLimit,

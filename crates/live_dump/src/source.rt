@@ -129,7 +129,7 @@ impl<'a, L: Heap, R: Wait> Source for ToldSource<'a, L, R> {
         next
     }
 
-    fn left(&self) -> u64 {
+    fn parts_left(&self) -> u64 {
         PART_LIMIT.saturating_sub(self.source.count)
     }
 }

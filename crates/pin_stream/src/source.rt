@@ -69,7 +69,7 @@ impl<'a> Source for FreshSource<'a> {
         )
     }
 
-    fn left(&self) -> u64 {
+    fn parts_left(&self) -> u64 {
         parts_left(&self.ended, self.count)
     }
 }

@@ -24,7 +24,7 @@ fn has_retained(machine: &Machine, place: u64) -> bool
     ensures { result ≡ is_retained place machine.now.trail }
 {
     let current = machine.place();
-    place <= current && current - place <= machine.retained()
+    place <= current && current - place <= machine.retained_count()
 }
 
 // Returns the moment of a place. Fails with NotRetained if its state isn't retained, and with NoMemory.

@@ -27,5 +27,5 @@ pub(crate) fn place_line(place: u64) -> LineAnswer
 pub(crate) fn older_line(machine: &Machine) -> LineAnswer
     ensures { line_answer_text result ≡ older_text machine.now.trail }
 {
-    LineAnswer::Number(b"ok older", machine.place() - machine.retained())
+    LineAnswer::Number(b"ok older", machine.place() - machine.retained_count())
 }

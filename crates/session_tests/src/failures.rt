@@ -17,11 +17,11 @@ fn told(alloc: Global, machine: &Machine) -> Result<String, Fail> {
     let text = format!(in alloc;
         "{} {} {:?} {:?} {:?} {} {}",
         machine.place(),
-        machine.retained(),
+        machine.retained_count(),
         world.registers().first(),
         world.gray(),
         world.log(),
-        world.drained(),
+        world.drain_count(),
         world.phase().is_marking()
     )?;
     Ok(text)

@@ -181,7 +181,7 @@ fn told<L: Heap, R: Wait>(rt: &R, alloc: Global, shared: &Shared<L>) -> Result<S
         "{} {} {} {:?} {:?} {:?} {}",
         kept.chronicle().len(),
         machine.place(),
-        machine.retained(),
+        machine.retained_count(),
         world.registers().first(),
         world.gray(),
         world.log(),

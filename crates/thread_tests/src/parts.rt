@@ -100,7 +100,7 @@ impl Source for PinParts {
         Next::Lost(LostCause::Memory)
     }
 
-    fn left(&self) -> u64 {
+    fn parts_left(&self) -> u64 {
         self.left
     }
 }
@@ -132,8 +132,8 @@ impl<'a, S: Source> Source for Counted<'a, S> {
         self.source.next()
     }
 
-    fn left(&self) -> u64 {
-        self.source.left()
+    fn parts_left(&self) -> u64 {
+        self.source.parts_left()
     }
 }
 
@@ -162,7 +162,7 @@ impl<'a, S: Source> Source for Asking<'a, S> {
         self.source.next()
     }
 
-    fn left(&self) -> u64 {
-        self.source.left()
+    fn parts_left(&self) -> u64 {
+        self.source.parts_left()
     }
 }

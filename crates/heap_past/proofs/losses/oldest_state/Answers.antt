@@ -12,4 +12,4 @@ returns-in-Some c =
 pub returns-in-None : goal.returns-in-None
 returns-in-None c =
     let t = c.args.machine.now.trail in
-    subst (HasStood t c.args.at) (sym c.retained.ensures) (stood_always t c.args.at c.in-None.ensures.none)
+    subst (HasStood t c.args.at) (sym c.retained_count.ensures) (stood_always t c.args.at c.in-None.ensures.none)

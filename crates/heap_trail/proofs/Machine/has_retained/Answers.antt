@@ -8,7 +8,7 @@ pub returns-then-at-self : goal.returns-then-at-self
 returns-then-at-self c =
     let t = c.args.self.now.trail in
     let place : c.self.inside.place ≡ t.place = ap (λ (m : Machine). m.trail.place) c.self.view_is in
-    (λ j. nat_le (place j - c.args.at) (c.retained.ensures j))
+    (λ j. nat_le (place j - c.args.at) (c.retained_count.ensures j))
     ∙ retained_below t c.args.at (subst (λ n. c.args.at ≤ n) place c.if-at-self.true)
 
 pub returns-else-at-self : goal.returns-else-at-self

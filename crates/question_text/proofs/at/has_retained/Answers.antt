@@ -7,7 +7,7 @@ pub returns-then-place-current : goal.returns-then-place-current
 returns-then-place-current c =
     let t = c.args.machine.now.trail in
     let place : c.place-current.result ≡ t.place = c.place-current.ensures.value in
-    (λ j. nat_le (place j - c.args.place) (c.retained.ensures j))
+    (λ j. nat_le (place j - c.args.place) (c.retained_count.ensures j))
     ∙ retained_below t c.args.place (subst (λ n. c.args.place ≤ n) place c.if-place-current.true)
 
 pub returns-else-place-current : goal.returns-else-place-current

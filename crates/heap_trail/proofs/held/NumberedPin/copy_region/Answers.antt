@@ -1,13 +1,13 @@
 use Rattle.std.proofs.Common.{sym, ap, ◌∙◌}
 use Rattle.heap_trail.specs.declared.held.NumberedPin.{NumberedPin}
-use Rattle.heap_trail.proofs.PinCalls.{at_err, at_ok, is_clash, loses, keeps, stays_lost}
+use Rattle.heap_trail.proofs.PinCalls.{at_ok, is_clash, loses, keeps, stays_lost}
 use Rattle.heap_trail.proofs.held.NumberedPin.copy_region.Goals.{in-Kept, in-Lost}
 use Rattle.heap_trail.proofs.held.NumberedPin.copy_region.Goals as goal
 
 pub returns-then-lost : goal.returns-then-lost
 returns-then-lost c = elim c.match-self.branch [
   | in-Kept w ↦ loses c.args.left.now c.args.world.now c.args.self.now c.match-self.self.number w.in-Kept.place w.in-Kept.pin w.in-Kept.cursor w.in-Kept.given (ap (λ (s : NumberedPin). s.number) w.self-is) w.in-Kept.is
-      (at_err w.keep.result (sym w.is_err-lost.ensures.value ∙ sym w.lost-is ∙ c.if-lost.true) w.keep.ensures.touched)
+      c.requires.needed
   | in-Lost w ↦ is_clash c.match-self.lost w.lost-is c.if-lost.true
 ]
 

@@ -22,6 +22,7 @@ pub mod ComputedExamples
 pub mod Whole
 pub mod PinPieces
 pub mod PinSearch
+pub mod Listings
 pub mod GivenPieces
 pub mod ByTrail
 pub mod GivenText

@@ -10,3 +10,4 @@ pub mod Examples
 pub mod Functions
 pub mod Headline
 pub mod Views
+pub mod Listings

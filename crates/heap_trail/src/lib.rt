@@ -23,6 +23,7 @@ ghost use Rattle.heap_trail.specs.Pins.{after_rewind};
 mod drive;
 mod examples;
 mod held;
+mod listing;
 mod numbers;
 mod opening;
 mod pins;
@@ -38,6 +39,7 @@ use heap_step::{Answer, Event, Undo, apply, undo_takes_back};
 use heap_world::{Config, World};
 use held::NumberedPin;
 use hprof_text::{Cursor, Piece, piece_from};
+pub use listing::{ListedPin, PinStatus};
 use std::alloc::Global;
 use std::marker::Model;
 

@@ -1,0 +1,55 @@
+//! The open pins, for a list of them.
+ghost use Rattle.std.specs.Prelude.{◌≡◌, option_map, slice_get};
+ghost use Rattle.heap_trail.specs.Listings.{listed_pin, listed_slot};
+
+use crate::Machine;
+use crate::held::{Held, NumberedPin};
+use heap_class::LostCause;
+
+/// Whether a pin is kept.
+#[derive(Clone, Copy, PartialEq, Eq, Debug)]
+pub enum PinStatus {
+    /// The pin shows the state at `place`, and `given` pieces of its dump were given.
+    Kept { place: u64, given: u64 },
+    /// The pin is lost, for this cause.
+    Lost(LostCause),
+}
+
+/// An open pin: its number and whether it is kept.
+#[derive(Clone, Copy, PartialEq, Eq, Debug)]
+pub struct ListedPin {
+    pub number: u64,
+    pub status: PinStatus,
+}
+
+impl NumberedPin {
+    // Tells the pin's number and whether it is kept.
+    fn listed(&self) -> ListedPin
+        ensures { result ≡ listed_slot self.now }
+    {
+        let status = match &self.held {
+            Held::Kept { place, given, .. } => PinStatus::Kept {
+                place: *place,
+                given: *given,
+            },
+            Held::Lost(cause) => PinStatus::Lost(*cause),
+        };
+        ListedPin {
+            number: self.number,
+            status,
+        }
+    }
+}
+
+impl Machine {
+    /// Tells of the open pin at this index, lost ones included. Pins are listed in order of their numbers; past the last
+    /// there is none. Takes no memory.
+    pub fn nth_pin(&self, index: u64) -> Option<ListedPin>
+        ensures { result ≡ option_map listed_pin (slice_get self.now.pins.open_pins index) }
+    {
+        match self.pins.get(index as usize) {
+            Some(pin) => Some(pin.listed()),
+            None => None,
+        }
+    }
+}

@@ -6,6 +6,7 @@ pub mod Histories
 pub mod SeatedHeaps
 pub mod Fields
 pub mod Refusals
+pub mod EventPacks
 pub mod DumperCalls
 pub mod PieceReplies
 pub mod SightSteps

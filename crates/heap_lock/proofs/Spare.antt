@@ -7,9 +7,8 @@ use Rattle.heap_lock.specs.declared.pack.Deed.{Deed}
 use Rattle.heap_lock.specs.declared.pack.Deed.TheVariants.{New, NewArray, NewPrim, Load, Store, Put, Move, Clear, Snap, Mark, Drain, Finish, Sweep, Rewind}
 use Rattle.heap_lock.specs.declared.pack.DeedPack.{DeedPack}
 use Rattle.heap_lock.specs.declared.pack.Pack.{Pack}
-use Rattle.heap_lock.specs.declared.pack.Reason.{Reason}
 use Rattle.heap_lock.specs.declared.pack.Told.{Told}
-use Rattle.heap_lock.specs.declared.pack.Told.TheVariants.{Class, Object, Null, Value, Done, Pushed, Condemned, Swept, Emptied, Place, NotDone, TooFar, Refused}
+use Rattle.heap_lock.specs.declared.pack.Told.TheVariants.{Class, Object, Null, Value, Done, Pushed, Condemned, Swept, Emptied, Place, Refused, RefusedInFull}
 use Rattle.heap_lock.specs.History.{entry}
 use Rattle.heap_lock.specs.Packs.{action_in, action_by, action_with, outcome_in, outcome_by, outcome_with, has_fourth, has_second, TellsEntry}
 
@@ -30,7 +29,7 @@ spare_fourth Finish kind a b c u v h = refl
 spare_fourth Sweep kind a b c u v h = refl
 spare_fourth Rewind kind a b c u v h = refl
 
-spare_second : (t : Told) (why : Reason) (n u v : ℕ) → has_second t ≡ false → outcome_in t why n u ≡ outcome_in t why n v
+spare_second : (t : Told) (why n u v : ℕ) → has_second t ≡ false → outcome_in t why n u ≡ outcome_in t why n v
 unfolding outcome_in
 spare_second Class why n u v h = refl
 spare_second Object why n u v h = refl
@@ -42,9 +41,8 @@ spare_second Condemned why n u v h = refl
 spare_second Swept why n u v h = refl
 spare_second Emptied why n u v h = refl
 spare_second Place why n u v h = refl
-spare_second NotDone why n u v h = absurd (cc)
-spare_second TooFar why n u v h = absurd (cc)
 spare_second Refused why n u v h = refl
+spare_second RefusedInFull why n u v h = absurd (cc)
 
 -- the shared place has the deed's fourth number
 pub tells_deed : (p : Pack) (seat : ℕ) (d : DeedPack) (a : AnswerPack) → has_second a.told ≡ false → TellsEntry p (entry seat (action_with d d.fourth) (outcome_with a d.fourth)) → TellsEntry p (entry seat (action_by d) (outcome_by a))

@@ -1,10 +1,9 @@
 -- Entries in five numbers.
-use Rattle.std.specs.Prelude.{◌≡◌, ℕ, Bool, true, false, List, slice_index_or, if◌then◌else◌}
+use Rattle.std.specs.Prelude.{◌≡◌, ℕ, Bool, true, false, List, Option, None, Some, slice_index_or, if◌then◌else◌}
 use Rattle.heap_class.specs.declared.Kind.{Kind}
-use Rattle.heap_class.specs.declared.LostCause.TheVariants.{Rewound, Memory, Closed}
-use Rattle.heap_class.specs.declared.Refusal.{Refusal}
-use Rattle.heap_class.specs.declared.Refusal.TheVariants as No
+use Rattle.heap_class.specs.declared.Kind.TheVariants.{Object as NoKind}
 use Rattle.heap_step.specs.declared.Answer.TheVariants as Answers
+use Rattle.heap_step.specs.declared.Event.{Event}
 use Rattle.heap_step.specs.declared.Event.TheVariants as Events
 use Rattle.heap_trail.specs.declared.Action.{Action}
 use Rattle.heap_trail.specs.declared.Action.TheVariants.{Step, Rewind as Undo}
@@ -16,10 +15,9 @@ use Rattle.heap_lock.specs.declared.pack.Deed.{Deed}
 use Rattle.heap_lock.specs.declared.pack.Deed.TheVariants.{New, NewArray, NewPrim, Load, Store, Put, Move, Clear, Snap, Mark, Drain, Finish, Sweep, Rewind}
 use Rattle.heap_lock.specs.declared.pack.DeedPack.{DeedPack}
 use Rattle.heap_lock.specs.declared.pack.Pack.{Pack}
-use Rattle.heap_lock.specs.declared.pack.Reason.{Reason}
-use Rattle.heap_lock.specs.declared.pack.Reason.TheVariants.{NoMemory, NoClass, ClassLimit, BadName, DuplicateName, FieldLimit, BadRegister, NullRegister, BadSlot, WrongKind, OutOfRange, TooLarge, HeapFull, AlreadyMarking, NotMarking, NothingToMark, NothingToDrain, SweepPending, NothingToSweep, NoPin, LostRewound, LostMemory, LostClosed, NotRetained, PinLimit, ChronicleFull}
 use Rattle.heap_lock.specs.declared.pack.Told.{Told}
-use Rattle.heap_lock.specs.declared.pack.Told.TheVariants.{Class, Object, Null, Value, Done, Pushed, Condemned, Swept, Emptied, Place, NotDone, TooFar, Refused}
+use Rattle.heap_lock.specs.declared.pack.Told.TheVariants.{Class, Object, Null, Value, Done, Pushed, Condemned, Swept, Emptied, Place, Refused, RefusedInFull}
+use Rattle.heap_lock.specs.Details.{refusal_from}
 use Rattle.heap_lock.specs.History.{entry}
 
 -- the deed of this sort with these numbers
@@ -39,37 +37,8 @@ action_in Finish kind a b c d = Step Events.Finish
 action_in Sweep kind a b c d = Step (Events.Sweep a)
 action_in Rewind kind a b c d = Undo a
 
--- the refusal of this sort with this number
-unfoldable pub refusal_in : Reason → ℕ → Refusal
-refusal_in NoMemory n = No.NoMemory
-refusal_in NoClass n = No.NoClass
-refusal_in ClassLimit n = No.ClassLimit
-refusal_in BadName n = No.BadName
-refusal_in DuplicateName n = No.DuplicateName
-refusal_in FieldLimit n = No.FieldLimit
-refusal_in BadRegister n = No.BadRegister
-refusal_in NullRegister n = No.NullRegister
-refusal_in BadSlot n = No.BadSlot
-refusal_in WrongKind n = No.WrongKind
-refusal_in OutOfRange n = No.OutOfRange
-refusal_in TooLarge n = No.TooLarge
-refusal_in HeapFull n = No.HeapFull
-refusal_in AlreadyMarking n = No.AlreadyMarking
-refusal_in NotMarking n = No.NotMarking
-refusal_in NothingToMark n = No.NothingToMark
-refusal_in NothingToDrain n = No.NothingToDrain
-refusal_in SweepPending n = No.SweepPending n
-refusal_in NothingToSweep n = No.NothingToSweep n
-refusal_in NoPin n = No.NoPin
-refusal_in LostRewound n = No.Lost Rewound
-refusal_in LostMemory n = No.Lost Memory
-refusal_in LostClosed n = No.Lost Closed
-refusal_in NotRetained n = No.NotRetained
-refusal_in PinLimit n = No.PinLimit
-refusal_in ChronicleFull n = No.ChronicleFull
-
 -- the answer of this sort with these numbers
-unfoldable pub outcome_in : Told → Reason → ℕ → ℕ → Outcome
+unfoldable pub outcome_in : Told → ℕ → ℕ → ℕ → Outcome
 outcome_in Class why n m = Answered (Answers.Class n)
 outcome_in Object why n m = Answered (Answers.Object n)
 outcome_in Null why n m = Answered Answers.Null
@@ -80,9 +49,8 @@ outcome_in Condemned why n m = Answered (Answers.Condemned n)
 outcome_in Swept why n m = Answered (Answers.Swept n false)
 outcome_in Emptied why n m = Answered (Answers.Swept n true)
 outcome_in Place why n m = At n
-outcome_in NotDone why n m = Denied (No.NotDone n m)
-outcome_in TooFar why n m = Denied (No.TooFar n m)
-outcome_in Refused why n m = Denied (refusal_in why n)
+outcome_in Refused why n m = Denied (refusal_from why n 0)
+outcome_in RefusedInFull why n m = Denied (refusal_from why n m)
 
 -- the deeds with a fourth number
 abbrev pub has_fourth : Deed → Bool
@@ -95,8 +63,7 @@ has_fourth d = false
 
 -- the answers with a second number
 abbrev pub has_second : Told → Bool
-has_second NotDone = true
-has_second TooFar = true
+has_second RefusedInFull = true
 has_second t = false
 
 -- the deed with this fourth number
@@ -106,6 +73,30 @@ action_with d fourth = action_in d.deed d.kind d.first d.second d.third fourth
 -- the action of a deed, with its own last number
 abbrev pub action_by : DeedPack → Action
 action_by d = action_with d d.fourth
+
+-- the deed of this sort with these numbers and no kind
+abbrev pub numbered : Deed → ℕ → ℕ → ℕ → ℕ → DeedPack
+numbered deed a b c d =
+    record { deed = deed; kind = NoKind; first = a; second = b; third = c; fourth = d }
+
+-- the numbers of an event, unless it has lists
+unfoldable pub event_pack : Event → Option DeedPack
+event_pack (Events.Class name sup fields) = None
+event_pack (Events.ArrayClass name) = None
+event_pack (Events.New m r class) = Some (numbered New m r class 0)
+event_pack (Events.NewArray m r class len) = Some (numbered NewArray m r class len)
+event_pack (Events.NewPrim m r kind len) =
+    Some (record { deed = NewPrim; kind = kind; first = m; second = r; third = len; fourth = 0 })
+event_pack (Events.Load m to from slot) = Some (numbered Load m to from slot)
+event_pack (Events.Store m target slot source) = Some (numbered Store m target slot source)
+event_pack (Events.Put m target slot value) = Some (numbered Put m target slot value)
+event_pack (Events.Move m to from_m from) = Some (numbered Move m to from_m from)
+event_pack (Events.Clear m r) = Some (numbered Clear m r 0 0)
+event_pack Events.Snap = Some (numbered Snap 0 0 0 0)
+event_pack Events.Mark = Some (numbered Mark 0 0 0 0)
+event_pack Events.Drain = Some (numbered Drain 0 0 0 0)
+event_pack Events.Finish = Some (numbered Finish 0 0 0 0)
+event_pack (Events.Sweep region) = Some (numbered Sweep region 0 0 0)
 
 -- the answer with this second number
 abbrev pub outcome_with : AnswerPack → ℕ → Outcome

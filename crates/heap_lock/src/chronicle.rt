@@ -5,7 +5,7 @@ ghost use Rattle.heap_lock.specs.History.{entry};
 ghost use Rattle.heap_lock.specs.Packs.{entry_by, entry_in, TellsEntry};
 
 use crate::entry::{Entry, Outcome};
-use crate::pack::{Deed, Pack, Reason, Told};
+use crate::pack::{Deed, Pack, Told};
 use crate::packing::pack_of;
 use crate::same::{is_same_action, is_same_answer};
 use crate::unpacking::{action_in, outcome_in};
@@ -52,7 +52,7 @@ fn pack_at(place: u64) -> Pack
         deed: Deed::Snap,
         kind: Kind::Object,
         told: Told::Done,
-        reason: Reason::NoClass,
+        reason: 0,
     }
 }
 

@@ -3,7 +3,7 @@ use heap_class::Kind;
 use std::mem::size_of;
 
 /// The sort of a deed that is told by at most four numbers and a kind.
-#[derive(Clone, Copy)]
+#[derive(Clone, Copy, PartialEq, Eq)]
 pub enum Deed {
     New,
     NewArray,
@@ -21,7 +21,7 @@ pub enum Deed {
     Rewind,
 }
 
-/// The sort of an answer. All refusals but two, which have two numbers, share one.
+/// The sort of an answer.
 #[derive(Clone, Copy)]
 pub enum Told {
     Class,
@@ -36,43 +36,13 @@ pub enum Told {
     /// A sweep that left its region empty.
     Emptied,
     Place,
-    NotDone,
-    TooFar,
+    /// A refusal with at most one number.
     Refused,
+    /// A refusal with two numbers.
+    RefusedInFull,
 }
 
-/// The sort of a refusal that has at most one number.
-#[derive(Clone, Copy)]
-pub enum Reason {
-    NoMemory,
-    NoClass,
-    ClassLimit,
-    BadName,
-    DuplicateName,
-    FieldLimit,
-    BadRegister,
-    NullRegister,
-    BadSlot,
-    WrongKind,
-    OutOfRange,
-    TooLarge,
-    HeapFull,
-    AlreadyMarking,
-    NotMarking,
-    NothingToMark,
-    NothingToDrain,
-    SweepPending,
-    NothingToSweep,
-    NoPin,
-    LostRewound,
-    LostMemory,
-    LostClosed,
-    NotRetained,
-    PinLimit,
-    ChronicleFull,
-}
-
-/// A deed by its sort, its kind if it has one, and its numbers; the others may be any.
+/// A deed by its sort, its kind if it has one, and its numbers; the others are 0.
 #[derive(Clone, Copy)]
 pub struct DeedPack {
     pub deed: Deed,
@@ -83,11 +53,11 @@ pub struct DeedPack {
     pub fourth: u64,
 }
 
-/// An answer by its sort and its numbers; the others may be any.
+/// An answer by its sort, the number of its refusal if it is one, and its numbers; the others may be any.
 #[derive(Clone, Copy)]
 pub struct AnswerPack {
     pub told: Told,
-    pub reason: Reason,
+    pub reason: u8,
     pub first: u64,
     pub second: u64,
 }
@@ -108,7 +78,8 @@ pub struct Pack {
     pub deed: Deed,
     pub kind: Kind,
     pub told: Told,
-    pub reason: Reason,
+    /// The number of the refusal, if the answer is one.
+    pub reason: u8,
 }
 
 // The chronicle has one for each act.

@@ -1,28 +1,24 @@
 //! The numbers of an entry.
-#![tactic(auto, unfolding(crate::specs::Packs::action_in, crate::specs::Packs::refusal_in, crate::specs::Packs::outcome_in, crate::specs::Packs::entry_by))]
+#![tactic(auto, unfolding(crate::specs::Packs::action_in, crate::specs::Packs::outcome_in, crate::specs::Packs::entry_by, crate::specs::Packs::event_pack))]
 
-ghost use Rattle.std.specs.Prelude.{◌≡◌, IfSome};
-ghost use Rattle.heap_class.specs.declared.Kind.TheVariants.{Object as NoKind};
-ghost use Rattle.heap_class.specs.declared.Refusal.TheVariants.{Lost};
+ghost use Rattle.std.specs.Prelude.{◌≡◌, IfSome, Some};
 ghost use Rattle.heap_step.specs.declared.Answer.TheVariants.{Swept};
 ghost use Rattle.heap_step.specs.declared.Event.TheVariants.{NewPrim};
-ghost use Rattle.heap_trail.specs.declared.Action.TheVariants.{Step};
 ghost use Rattle.heap_lock.specs.declared.entry.Outcome.TheVariants.{Answered as Said, Refused as Denied};
-ghost use Rattle.heap_lock.specs.declared.pack.Reason.TheVariants.{NoClass as AnyReason};
-ghost use Rattle.heap_lock.specs.declared.pack.Told.TheVariants.{Refused as Other};
 ghost use Rattle.heap_lock.specs.History.{entry};
-ghost use Rattle.heap_lock.specs.Packs.{action_in, action_by, action_with, outcome_by, outcome_with, TellsEntry, has_fourth, has_second};
+ghost use Rattle.heap_lock.specs.Packs.{action_by, action_with, event_pack, numbered, outcome_by, outcome_with, TellsEntry, has_fourth, has_second};
 
 use crate::entry::{Entry, Outcome};
-use crate::pack::{AnswerPack, Deed, DeedPack, Pack, Reason, Told};
-use heap_class::{Kind, LostCause, Refusal};
+use crate::pack::{AnswerPack, Deed, DeedPack, Pack, Told};
+use crate::same::details;
+use heap_class::{Kind, Refusal};
 use heap_step::{Answer, Event};
 use heap_trail::Action;
 
 // Returns a deed of these numbers without a kind.
 #[inline(always)]
 fn deed_pack(deed: Deed, first: u64, second: u64, third: u64, fourth: u64) -> DeedPack
-    ensures { action_by result ≡ action_in deed NoKind first second third fourth }
+    ensures { result ≡ numbered deed first second third fourth }
 {
     DeedPack {
         deed,
@@ -37,7 +33,7 @@ fn deed_pack(deed: Deed, first: u64, second: u64, third: u64, fourth: u64) -> De
 // Returns a new array of values by its numbers.
 #[inline(always)]
 fn new_prim(m: u64, r: u64, kind: Kind, len: u64) -> DeedPack
-    ensures { action_by result ≡ Step (NewPrim m r kind len) }
+    ensures { Some result ≡ event_pack (NewPrim m r kind len) }
 {
     DeedPack {
         deed: Deed::NewPrim,
@@ -49,10 +45,10 @@ fn new_prim(m: u64, r: u64, kind: Kind, len: u64) -> DeedPack
     }
 }
 
-// Returns the numbers of an event, or None if it has lists.
+/// Returns the numbers of an event, or None if it has lists. Takes no memory.
 #[inline(always)]
-fn pack_event(event: &Event) -> Option<DeedPack>
-    ensures { IfSome result (λ d. action_by d ≡ Step event.now) }
+pub fn pack_event(event: &Event) -> Option<DeedPack>
+    ensures { result ≡ event_pack event.now }
 {
     match event {
         Event::New { m, r, class } => Some(deed_pack(Deed::New, *m, *r, *class, 0)),
@@ -91,6 +87,7 @@ fn pack_event(event: &Event) -> Option<DeedPack>
 
 // Returns the numbers of a deed, or None if it has lists or is a dumper's.
 #[inline(always)]
+#[tactic(auto, using(crate::proofs::EventPacks::pack_tells))]
 fn pack_action(action: &Action) -> Option<DeedPack>
     ensures { IfSome result (λ d. action_by d ≡ action.now) }
 {
@@ -104,11 +101,11 @@ fn pack_action(action: &Action) -> Option<DeedPack>
 // Returns an answer of this sort.
 #[inline(always)]
 fn answer_pack(told: Told, first: u64, second: u64) -> AnswerPack
-    ensures { result ≡ record { told = told; reason = AnyReason; first = first; second = second } }
+    ensures { result ≡ record { told = told; reason = 0; first = first; second = second } }
 {
     AnswerPack {
         told,
-        reason: Reason::NoClass,
+        reason: 0,
         first,
         second,
     }
@@ -142,60 +139,20 @@ fn pack_swept(dead: u64, emptied: bool) -> AnswerPack
     }
 }
 
-// Returns a refusal of this sort.
-fn refusal_pack(reason: Reason, first: u64) -> AnswerPack
-    ensures { result ≡ record { told = Other; reason = reason; first = first; second = 0 } }
-{
-    AnswerPack {
-        told: Told::Refused,
-        reason,
-        first,
-        second: 0,
-    }
-}
-
-// Returns the numbers of a lost pin's refusal.
-fn pack_lost(cause: LostCause) -> AnswerPack
-    ensures { outcome_by result ≡ Denied (Lost cause) }
-{
-    match cause {
-        LostCause::Rewound => refusal_pack(Reason::LostRewound, 0),
-        LostCause::Memory => refusal_pack(Reason::LostMemory, 0),
-        LostCause::Closed => refusal_pack(Reason::LostClosed, 0),
-    }
-}
-
 // Returns the numbers of a refusal.
 fn pack_refusal(refusal: Refusal) -> AnswerPack
     ensures { outcome_by result ≡ Denied refusal }
 {
-    match refusal {
-        Refusal::NoMemory => refusal_pack(Reason::NoMemory, 0),
-        Refusal::NoClass => refusal_pack(Reason::NoClass, 0),
-        Refusal::ClassLimit => refusal_pack(Reason::ClassLimit, 0),
-        Refusal::BadName => refusal_pack(Reason::BadName, 0),
-        Refusal::DuplicateName => refusal_pack(Reason::DuplicateName, 0),
-        Refusal::FieldLimit => refusal_pack(Reason::FieldLimit, 0),
-        Refusal::BadRegister => refusal_pack(Reason::BadRegister, 0),
-        Refusal::NullRegister => refusal_pack(Reason::NullRegister, 0),
-        Refusal::BadSlot => refusal_pack(Reason::BadSlot, 0),
-        Refusal::WrongKind => refusal_pack(Reason::WrongKind, 0),
-        Refusal::OutOfRange => refusal_pack(Reason::OutOfRange, 0),
-        Refusal::TooLarge => refusal_pack(Reason::TooLarge, 0),
-        Refusal::HeapFull => refusal_pack(Reason::HeapFull, 0),
-        Refusal::AlreadyMarking => refusal_pack(Reason::AlreadyMarking, 0),
-        Refusal::NotMarking => refusal_pack(Reason::NotMarking, 0),
-        Refusal::NothingToMark => refusal_pack(Reason::NothingToMark, 0),
-        Refusal::NothingToDrain => refusal_pack(Reason::NothingToDrain, 0),
-        Refusal::NotDone { gray, undrained } => answer_pack(Told::NotDone, gray, undrained),
-        Refusal::SweepPending { region } => refusal_pack(Reason::SweepPending, region),
-        Refusal::NothingToSweep { region } => refusal_pack(Reason::NothingToSweep, region),
-        Refusal::TooFar { asked, retained } => answer_pack(Told::TooFar, asked, retained),
-        Refusal::NoPin => refusal_pack(Reason::NoPin, 0),
-        Refusal::Lost { cause } => pack_lost(cause),
-        Refusal::NotRetained => refusal_pack(Reason::NotRetained, 0),
-        Refusal::PinLimit => refusal_pack(Reason::PinLimit, 0),
-        Refusal::ChronicleFull => refusal_pack(Reason::ChronicleFull, 0),
+    let (first, second) = details(refusal);
+    AnswerPack {
+        told: if second == 0 {
+            Told::Refused
+        } else {
+            Told::RefusedInFull
+        },
+        reason: refusal.number() as u8,
+        first,
+        second,
     }
 }
 
@@ -228,7 +185,7 @@ fn has_second(told: Told) -> bool
     ensures { result ≡ has_second told }
 {
     match told {
-        Told::NotDone | Told::TooFar => true,
+        Told::RefusedInFull => true,
         _ => false,
     }
 }

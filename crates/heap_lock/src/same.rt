@@ -1,9 +1,12 @@
 //! Equality of events, actions and answers.
-ghost use Rattle.std.specs.Prelude.{◌≡◌, ◌↔◌, IsTrue};
+ghost use Rattle.std.specs.Prelude.{◌≡◌, ◌↔◌, IsTrue, None};
 ghost use Rattle.heap_step.specs.declared.Event.{Event};
 ghost use Rattle.heap_lock.specs.Details.{details_of};
+ghost use Rattle.heap_lock.specs.Packs.{event_pack};
 
 use crate::entry::Outcome;
+use crate::pack::{Deed, DeedPack};
+use crate::packing::pack_event;
 use heap_class::{ClassNo, Fields, Kind, LostCause, Name, Refusal};
 use heap_step::{Answer, Event};
 use heap_trail::Action;
@@ -48,167 +51,41 @@ fn is_array_class(other: &Event, name: &Name) -> bool
     }
 }
 
-// Returns whether the event is this new object.
-fn is_new(other: &Event, m: u64, r: u64, class: ClassNo) -> bool
-    ensures { IsTrue result ↔ (other.now ≡ Event.New m r class) }
+// Returns whether two sorts of deeds are equal.
+fn is_same_sort(a: Deed, b: Deed) -> bool
+    ensures { IsTrue result ↔ (a ≡ b) }
 {
-    match other {
-        Event::New {
-            m: its_m,
-            r: its_r,
-            class: its_class,
-        } => *its_m == m && *its_r == r && *its_class == class,
-        _ => false,
-    }
+    a == b
 }
 
-// Returns whether the event is this new array of references.
-fn is_new_array(other: &Event, m: u64, r: u64, class: ClassNo, len: u64) -> bool
-    ensures { IsTrue result ↔ (other.now ≡ Event.NewArray m r class len) }
+// Returns whether two kinds are equal.
+fn is_same_kind(a: Kind, b: Kind) -> bool
+    ensures { IsTrue result ↔ (a ≡ b) }
 {
-    match other {
-        Event::NewArray {
-            m: its_m,
-            r: its_r,
-            class: its_class,
-            len: its_len,
-        } => *its_m == m && *its_r == r && *its_class == class && *its_len == len,
-        _ => false,
-    }
+    a == b
 }
 
-// Returns whether the event is this new array of values.
-fn is_new_prim(other: &Event, m: u64, r: u64, kind: Kind, len: u64) -> bool
-    ensures { IsTrue result ↔ (other.now ≡ Event.NewPrim m r kind len) }
+// Returns whether two deeds have the same sort, kind and numbers.
+fn is_same_deed(a: DeedPack, b: DeedPack) -> bool
+    ensures { IsTrue result ↔ (a ≡ b) }
 {
-    match other {
-        Event::NewPrim {
-            m: its_m,
-            r: its_r,
-            kind: its_kind,
-            len: its_len,
-        } => *its_m == m && *its_r == r && *its_kind == kind && *its_len == len,
-        _ => false,
-    }
+    is_same_sort(a.deed, b.deed)
+        && is_same_kind(a.kind, b.kind)
+        && a.first == b.first
+        && a.second == b.second
+        && a.third == b.third
+        && a.fourth == b.fourth
 }
 
-// Returns whether the event is this load.
-fn is_load(other: &Event, m: u64, to: u64, from: u64, slot: u64) -> bool
-    ensures { IsTrue result ↔ (other.now ≡ Event.Load m to from slot) }
+// Returns whether two events that have lists are equal.
+fn is_same_definition(a: &Event, b: &Event) -> bool
+    requires { event_pack a.now ≡ None }
+    ensures { IsTrue result ↔ (a.now ≡ b.now) }
 {
-    match other {
-        Event::Load {
-            m: its_m,
-            to: its_to,
-            from: its_from,
-            slot: its_slot,
-        } => *its_m == m && *its_to == to && *its_from == from && *its_slot == slot,
-        _ => false,
-    }
-}
-
-// Returns whether the event is this store.
-fn is_store(other: &Event, m: u64, target: u64, slot: u64, source: u64) -> bool
-    ensures { IsTrue result ↔ (other.now ≡ Event.Store m target slot source) }
-{
-    match other {
-        Event::Store {
-            m: its_m,
-            target: its_target,
-            slot: its_slot,
-            source: its_source,
-        } => *its_m == m && *its_target == target && *its_slot == slot && *its_source == source,
-        _ => false,
-    }
-}
-
-// Returns whether the event is this put.
-fn is_put(other: &Event, m: u64, target: u64, slot: u64, value: u64) -> bool
-    ensures { IsTrue result ↔ (other.now ≡ Event.Put m target slot value) }
-{
-    match other {
-        Event::Put {
-            m: its_m,
-            target: its_target,
-            slot: its_slot,
-            value: its_value,
-        } => *its_m == m && *its_target == target && *its_slot == slot && *its_value == value,
-        _ => false,
-    }
-}
-
-// Returns whether the event is this move.
-fn is_move(other: &Event, m: u64, to: u64, from_m: u64, from: u64) -> bool
-    ensures { IsTrue result ↔ (other.now ≡ Event.Move m to from_m from) }
-{
-    match other {
-        Event::Move {
-            m: its_m,
-            to: its_to,
-            from_m: its_from_m,
-            from: its_from,
-        } => *its_m == m && *its_to == to && *its_from_m == from_m && *its_from == from,
-        _ => false,
-    }
-}
-
-// Returns whether the event is this clear.
-fn is_clear(other: &Event, m: u64, r: u64) -> bool
-    ensures { IsTrue result ↔ (other.now ≡ Event.Clear m r) }
-{
-    match other {
-        Event::Clear { m: its_m, r: its_r } => *its_m == m && *its_r == r,
-        _ => false,
-    }
-}
-
-// Returns whether the event is a snap.
-fn is_snap(other: &Event) -> bool
-    ensures { IsTrue result ↔ (other.now ≡ Event.Snap) }
-{
-    match other {
-        Event::Snap => true,
-        _ => false,
-    }
-}
-
-// Returns whether the event is a mark.
-fn is_mark(other: &Event) -> bool
-    ensures { IsTrue result ↔ (other.now ≡ Event.Mark) }
-{
-    match other {
-        Event::Mark => true,
-        _ => false,
-    }
-}
-
-// Returns whether the event is a drain.
-fn is_drain(other: &Event) -> bool
-    ensures { IsTrue result ↔ (other.now ≡ Event.Drain) }
-{
-    match other {
-        Event::Drain => true,
-        _ => false,
-    }
-}
-
-// Returns whether the event is a finish.
-fn is_finish(other: &Event) -> bool
-    ensures { IsTrue result ↔ (other.now ≡ Event.Finish) }
-{
-    match other {
-        Event::Finish => true,
-        _ => false,
-    }
-}
-
-// Returns whether the event is this sweep.
-fn is_sweep(other: &Event, region: u64) -> bool
-    ensures { IsTrue result ↔ (other.now ≡ Event.Sweep region) }
-{
-    match other {
-        Event::Sweep { region: its_region } => *its_region == region,
-        _ => false,
+    match a {
+        Event::Class { name, sup, fields } => is_class(b, name, *sup, fields),
+        Event::ArrayClass { name } => is_array_class(b, name),
+        _ => unreachable!(),
     }
 }
 
@@ -216,37 +93,12 @@ fn is_sweep(other: &Event, region: u64) -> bool
 pub fn is_same_event(a: &Event, b: &Event) -> bool
     ensures { IsTrue result ↔ (a.now ≡ b.now) }
 {
-    match a {
-        Event::Class { name, sup, fields } => is_class(b, name, *sup, fields),
-        Event::ArrayClass { name } => is_array_class(b, name),
-        Event::New { m, r, class } => is_new(b, *m, *r, *class),
-        Event::NewArray { m, r, class, len } => is_new_array(b, *m, *r, *class, *len),
-        Event::NewPrim { m, r, kind, len } => is_new_prim(b, *m, *r, *kind, *len),
-        Event::Load { m, to, from, slot } => is_load(b, *m, *to, *from, *slot),
-        Event::Store {
-            m,
-            target,
-            slot,
-            source,
-        } => is_store(b, *m, *target, *slot, *source),
-        Event::Put {
-            m,
-            target,
-            slot,
-            value,
-        } => is_put(b, *m, *target, *slot, *value),
-        Event::Move {
-            m,
-            to,
-            from_m,
-            from,
-        } => is_move(b, *m, *to, *from_m, *from),
-        Event::Clear { m, r } => is_clear(b, *m, *r),
-        Event::Snap => is_snap(b),
-        Event::Mark => is_mark(b),
-        Event::Drain => is_drain(b),
-        Event::Finish => is_finish(b),
-        Event::Sweep { region } => is_sweep(b, *region),
+    match pack_event(a) {
+        Some(one) => match pack_event(b) {
+            Some(other) => is_same_deed(one, other),
+            None => false,
+        },
+        None => is_same_definition(a, b),
     }
 }
 
@@ -281,8 +133,8 @@ pub fn is_same_action(a: &Action, b: &Action) -> bool
     }
 }
 
-// Returns what a refusal says besides its name.
-fn details(refusal: Refusal) -> (u64, u64)
+/// Returns what a refusal says besides its name, or zeros.
+pub fn details(refusal: Refusal) -> (u64, u64)
     ensures { result ≡ details_of refusal }
 {
     match refusal {

@@ -1,16 +1,16 @@
 //! The deed and the answer that numbers tell.
-#![tactic(auto, unfolding(crate::specs::Packs::action_in, crate::specs::Packs::refusal_in, crate::specs::Packs::outcome_in))]
+#![tactic(auto, unfolding(crate::specs::Packs::action_in, crate::specs::Packs::outcome_in, crate::specs::Details::cause_from, crate::specs::Details::refusal_from))]
 
 ghost use Rattle.std.specs.Prelude.{◌≡◌};
-ghost use Rattle.heap_class.specs.declared.Refusal.TheVariants.{Lost, NotDone, TooFar};
 ghost use Rattle.heap_step.specs.declared.Answer.TheVariants.{Swept};
 ghost use Rattle.heap_step.specs.declared.Event.TheVariants.{NewArray, NewPrim, Load, Store, Put, Move};
 ghost use Rattle.heap_trail.specs.declared.Action.TheVariants.{Step};
-ghost use Rattle.heap_lock.specs.declared.entry.Outcome.TheVariants.{Answered as Said, Refused as Denied};
-ghost use Rattle.heap_lock.specs.Packs.{action_in, refusal_in, outcome_in};
+ghost use Rattle.heap_lock.specs.declared.entry.Outcome.TheVariants.{Answered as Said};
+ghost use Rattle.heap_lock.specs.Details.{cause_from, refusal_from};
+ghost use Rattle.heap_lock.specs.Packs.{action_in, outcome_in};
 
 use crate::entry::Outcome;
-use crate::pack::{Deed, Reason, Told};
+use crate::pack::{Deed, Told};
 use heap_class::{ClassNo, Kind, LostCause, Refusal};
 use heap_step::{Answer, Event};
 use heap_trail::Action;
@@ -95,44 +95,57 @@ pub fn action_in(deed: Deed, kind: Kind, first: u64, second: u64, third: u64, fo
     }
 }
 
-// Returns the refusal of this sort with this number.
-fn refusal_in(reason: Reason, number: u64) -> Refusal
-    ensures { result ≡ refusal_in reason number }
+// Returns the cause of this number.
+fn cause_from(number: u64) -> LostCause
+    ensures { result ≡ cause_from number }
 {
-    match reason {
-        Reason::NoMemory => Refusal::NoMemory,
-        Reason::NoClass => Refusal::NoClass,
-        Reason::ClassLimit => Refusal::ClassLimit,
-        Reason::BadName => Refusal::BadName,
-        Reason::DuplicateName => Refusal::DuplicateName,
-        Reason::FieldLimit => Refusal::FieldLimit,
-        Reason::BadRegister => Refusal::BadRegister,
-        Reason::NullRegister => Refusal::NullRegister,
-        Reason::BadSlot => Refusal::BadSlot,
-        Reason::WrongKind => Refusal::WrongKind,
-        Reason::OutOfRange => Refusal::OutOfRange,
-        Reason::TooLarge => Refusal::TooLarge,
-        Reason::HeapFull => Refusal::HeapFull,
-        Reason::AlreadyMarking => Refusal::AlreadyMarking,
-        Reason::NotMarking => Refusal::NotMarking,
-        Reason::NothingToMark => Refusal::NothingToMark,
-        Reason::NothingToDrain => Refusal::NothingToDrain,
-        Reason::SweepPending => Refusal::SweepPending { region: number },
-        Reason::NothingToSweep => Refusal::NothingToSweep { region: number },
-        Reason::NoPin => Refusal::NoPin,
-        Reason::LostRewound => lost_refusal(LostCause::Rewound),
-        Reason::LostMemory => lost_refusal(LostCause::Memory),
-        Reason::LostClosed => lost_refusal(LostCause::Closed),
-        Reason::NotRetained => Refusal::NotRetained,
-        Reason::PinLimit => Refusal::PinLimit,
-        Reason::ChronicleFull => Refusal::ChronicleFull,
+    match number {
+        0 => LostCause::Rewound,
+        1 => LostCause::Memory,
+        _ => LostCause::Closed,
     }
 }
 
-fn lost_refusal(cause: LostCause) -> Refusal
-    ensures { result ≡ Lost cause }
+// Returns the refusal of this number with these details.
+fn refusal_from(number: u8, first: u64, second: u64) -> Refusal
+    ensures { result ≡ refusal_from number first second }
 {
-    Refusal::Lost { cause }
+    match number {
+        1 => Refusal::NoMemory,
+        2 => Refusal::NoClass,
+        3 => Refusal::ClassLimit,
+        4 => Refusal::BadName,
+        5 => Refusal::DuplicateName,
+        6 => Refusal::FieldLimit,
+        7 => Refusal::BadRegister,
+        8 => Refusal::NullRegister,
+        9 => Refusal::BadSlot,
+        10 => Refusal::WrongKind,
+        11 => Refusal::OutOfRange,
+        12 => Refusal::TooLarge,
+        13 => Refusal::HeapFull,
+        14 => Refusal::AlreadyMarking,
+        15 => Refusal::NotMarking,
+        16 => Refusal::NothingToMark,
+        17 => Refusal::NothingToDrain,
+        18 => Refusal::NotDone {
+            gray: first,
+            undrained: second,
+        },
+        19 => Refusal::SweepPending { region: first },
+        20 => Refusal::NothingToSweep { region: first },
+        21 => Refusal::TooFar {
+            asked: first,
+            retained: second,
+        },
+        22 => Refusal::NoPin,
+        23 => Refusal::Lost {
+            cause: cause_from(first),
+        },
+        24 => Refusal::NotRetained,
+        25 => Refusal::PinLimit,
+        _ => Refusal::ChronicleFull,
+    }
 }
 
 fn swept(dead: u64, emptied: bool) -> Outcome
@@ -141,20 +154,8 @@ fn swept(dead: u64, emptied: bool) -> Outcome
     Outcome::Answered(Answer::Swept { dead, emptied })
 }
 
-fn not_done(gray: u64, undrained: u64) -> Outcome
-    ensures { result ≡ Denied (NotDone gray undrained) }
-{
-    Outcome::Refused(Refusal::NotDone { gray, undrained })
-}
-
-fn too_far(asked: u64, retained: u64) -> Outcome
-    ensures { result ≡ Denied (TooFar asked retained) }
-{
-    Outcome::Refused(Refusal::TooFar { asked, retained })
-}
-
 /// Returns the answer of this sort with these numbers.
-pub fn outcome_in(told: Told, reason: Reason, first: u64, second: u64) -> Outcome
+pub fn outcome_in(told: Told, reason: u8, first: u64, second: u64) -> Outcome
     ensures { result ≡ outcome_in told reason first second }
 {
     match told {
@@ -168,8 +169,7 @@ pub fn outcome_in(told: Told, reason: Reason, first: u64, second: u64) -> Outcom
         Told::Swept => swept(first, false),
         Told::Emptied => swept(first, true),
         Told::Place => Outcome::Place(first),
-        Told::NotDone => not_done(first, second),
-        Told::TooFar => too_far(first, second),
-        Told::Refused => Outcome::Refused(refusal_in(reason, first)),
+        Told::Refused => Outcome::Refused(refusal_from(reason, first, 0)),
+        Told::RefusedInFull => Outcome::Refused(refusal_from(reason, first, second)),
     }
 }

@@ -11,7 +11,7 @@ pub record ChronicleState : Type 0 where
   pub entries : List Entry
   pub room : ℕ
 
--- the place that the pack has is one of so many
+-- the place that the pack has is below n
 abbrev pub HasPlace : ℕ → Pack → Type 0
 HasPlace n p = p.is_whole ≡ true → p.first < n
 
@@ -24,7 +24,7 @@ AllPlaced n (p ∷ ps) = HasPlace n p × AllPlaced n ps
 unfoldable pub entries_in : List Entry → List Pack → List Entry
 entries_in whole packs = map (entry_in whole) packs
 
--- both lists have room for so many
+-- both lists have room for this number of entries more
 abbrev pub room_in : Vec Entry → Vec Pack → ℕ
 room_in whole packs = min (vec_capacity packs - vec_len packs) (vec_capacity whole - vec_len whole)
 

@@ -34,7 +34,7 @@ pub record LockState : Type 0 where
   pub chronicle : List Entry
   pub ledger : List Call
 
--- each entry names one of so many seats
+-- each entry names one of n seats
 abbrev pub AllSeated : ℕ → List Entry → Type 0
 AllSeated n [] = Unit {0}
 AllSeated n (e ∷ es) = (e.seat < n) × AllSeated n es
@@ -119,7 +119,7 @@ IsRefused k e =
     ((e ≡ NoMemory) × (length k.chronicle < chronicle_limit))
     ⊎ ((e ≡ ChronicleFull) × (chronicle_limit ≤ length k.chronicle))
 
--- some legal history of so many turns ends with this entry, and has of the seat just the share
+-- some legal history of `turn` turns ends with this entry, and has of the seat just the share
 abbrev pub Stands : HeapSettings → Chair → ℕ → Action → Outcome → Type 0
 Stands config s turn action answer =
     (before : List Entry)

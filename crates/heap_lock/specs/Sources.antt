@@ -15,7 +15,7 @@ use Rattle.dump_pump.specs.declared.source.Next.TheVariants.{Part, Lost, Cancell
 use Rattle.dump_pump.specs.Sources.{Supply, part_limit}
 use Rattle.heap_lock.specs.Calls.{Call, Witnesses}
 
--- after so many pieces, of which none is told
+-- after `count` pieces, of which none is told
 abbrev pub locked_supply : ℕ → Option Ending → Supply
 locked_supply count ending = record { told = None; ended = ending; left = part_limit - count }
 
@@ -33,7 +33,7 @@ IsLoss No.NoPin cause = cause ≡ Closed
 IsLoss (No.Lost why) cause = cause ≡ why
 IsLoss e cause = ⊥
 
--- a piece got after so many is given, or is one too many
+-- a piece got after `count` others is given, or is one too many
 abbrev pub GivesPart : ℕ → Piece → Next → Type 0
 GivesPart count p (Part q) = q ≡ p
 GivesPart count p (Lost cause) = (p.last ≡ false) × (count + 1 ≡ part_limit) × (cause ≡ Closed)

@@ -58,7 +58,7 @@ pub record AreCellSizes (w : HeapState) (sizes : List ℕ) : Type 0 where
   pub used : (r : ℕ) (u : UsedRegion) → used_at w.regions r ≡ Some u
       → slice_index_or sizes r 0 ≡ u.cell_size
 
--- the size of the cells of a region with so many, which fill it
+-- the size of the cells of a region, which fill it
 abbrev pub storage_cell_size : UsedRegion → ℕ
 storage_cell_size u = region_words / length u.cells
 

@@ -60,7 +60,7 @@ no_objects = record { objects = 0; bytes = 0 }
 abbrev pub row_at : List Row → ℕ → Row
 row_at rows g = slice_index_or rows g no_objects
 
--- one object more, of so many bytes
+-- one object more, of n bytes
 abbrev pub one_more : Row → ℕ → Row
 one_more r n = record { objects = r.objects + 1; bytes = r.bytes + n }
 

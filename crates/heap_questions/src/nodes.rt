@@ -178,7 +178,7 @@ fn first_id(nodes: &[Node]) -> u64 {
     }
 }
 
-// Returns the hint for an id so many steps from the first.
+// Returns the hint for an id that is `steps` steps from the first.
 fn hint_at(hints: &[u32], steps: u64) -> usize {
     if steps < hints.len() as u64 {
         hints[steps as usize] as usize

@@ -82,7 +82,7 @@ pub(crate) fn shown_with<'a, V: View>(
     }
 }
 
-/// Returns the kind of a slot of an object of this kind with so many words. The class must exist, and the object must have the
+/// Returns the kind of a slot of an object of this kind with `words` words. The class must exist, and the object must have the
 /// slot.
 pub fn slot_kind(classes: &FirstClasses<'_>, kind: ObjKind, words: u64, slot: u64) -> Kind
     requires known { IsKnown classes.now kind words }

@@ -24,7 +24,8 @@ fn trace(alloc: Global, queue: &[Found], index: usize) -> Result<Path, Refusal>
     requires reached { (image : Image) × AreReached image queue.now }
     requires there { index < length queue.now }
     ensures path { IfOk result (λ p. IsTraceOf queue.now index p.register p.slots.items) }
-    ensures chain { IfOk result (λ p. IsWayBack queue.now index p.register (reverse p.slots.items)) }
+    ensures chain { IfOk result
+        (λ p. IsWayBack queue.now index p.register (reverse p.slots.items)) }
     ensures refused { IfErr result (λ e. e ≡ NoMemory) }
 {
     let mut slots = Vec::new(alloc);

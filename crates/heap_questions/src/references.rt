@@ -18,7 +18,7 @@ pub enum Referrer {
     Register(u64),
 }
 
-// Tells whether a slot of an object of this kind, which has so many words, holds a reference.
+// Tells whether a slot of an object of this kind, which has `words` words, holds a reference.
 #[tactic(auto, unfolding(crate::specs::Graph::slot_refers))]
 pub(crate) fn is_reference_slot(
     classes: &FirstClasses<'_>,

@@ -76,7 +76,7 @@ fn value_size(ids: IdSize, classes: &FirstClasses<'_>, kind: ObjKind, words: u64
     }
 }
 
-// Counts an object with so many bytes in its row, unless it is marked.
+// Counts an object of `bytes` bytes in its row, unless it is marked.
 fn count(rows: &mut Vec<Row>, index: usize, bytes: u64, marked: bool)
     requires within { index < length rows.old.items }
     requires objects { (row_at rows.old.items index).objects < 2 ^ 32 }

@@ -15,7 +15,7 @@ abbrev pub AreUsers : List Chair → Type 0
 AreUsers [] = ⊤
 AreUsers (s ∷ seats) = (s.role ≡ User) × AreUsers seats
 
--- at most so many sessions, and as many unless an accept failed
+-- at most `most` sessions, and as many unless an accept failed
 abbrev pub IsFor : ℕ → Served → Type 0
 IsFor most s = (length s.ends.items ≤ most) × (s.refused ≡ false → length s.ends.items ≡ most)
 

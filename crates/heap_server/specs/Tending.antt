@@ -38,7 +38,7 @@ Marks config s s' = (runs : List (Chair × MarkEnd)) × AreRuns (MarksOnce confi
 abbrev pub Sweeps : HeapSettings → Chair → Chair → Type 0
 Sweeps config s s' = (runs : List (Chair × SweepEnd)) × AreRuns (SweepsOnce config) s runs s'
 
--- the marker's seat, the sweeper's, and those of so many users
+-- the marker's seat, the sweeper's, and those of `most` users
 abbrev pub AreStaff : ℕ → List Chair → Type 0
 AreStaff most (marker ∷ sweeper ∷ users) =
     (marker.role ≡ Marker) × (sweeper.role ≡ Sweeper) × AreUsers users × (length users ≡ most)

@@ -64,7 +64,7 @@ impl<L: Heap> Promise<Seat<L>> for SweepsFrom<L> {
     ghost kept_by = { λ p seat. Sweeps L.config p.0.value seat };
 }
 
-// Returns the roles of the marker, the sweeper and so many users, in this order. Fails if they can't be allocated.
+// Returns the roles of the marker, the sweeper and `sessions` users, in this order. Fails if they can't be allocated.
 fn roles(alloc: Global, sessions: u64) -> Result<Vec<Role>, AllocError>
     requires { sessions ≤ session_limit }
     ensures { IfOk result

@@ -118,7 +118,7 @@ pins_parts : (low high : ℕ) → low ≤ high → (p : Pins) → after_rewind l
 unfolding after_rewind each_kept
 pins_parts low high le p = ap (λ l. record { next = p.next; open_pins = l }) (list_parts low high le p.open_pins)
 
--- what a rewind of n leaves and replies, if so many are retained
+-- what a rewind of n steps leaves and replies, if n are retained
 abbrev rewound_by : ℕ → Machine → Machine × Reply
 rewound_by n m = (record m { trail = rewound n m.trail; pins = after_rewind (rewound n m.trail).place m.pins }, Place (rewound n m.trail).place)
 

@@ -116,7 +116,7 @@ marking_stopped config s s' stage i turns h lt = record { gained = h.gained; nex
 pub marking_over : (config : HeapSettings) (s s' : Chair) (stage : Stage) (turns : ℕ) → IsMarking s s' stage turns → IsMarkWork config s s' turns MarkEnd.TurnsOver
 marking_over config s s' stage turns h = record { gained = h.gained; next = stage; goes_on = h.goes_on; ends = (h.count, h.seat) }
 
--- ---- the sweeper, after i acts of so many
+-- ---- the sweeper, after i of its acts
 
 pub record IsSweeping (s s' : Chair) (turns i : ℕ) : Type 0 where
   pub gained : List (ℕ × Entry)

@@ -39,7 +39,7 @@ fn with_roles(alloc: Global, roles: &[Role]) -> Option<Blank>
 
 // ---- refusals
 
-/// Creates an event that defines a class with so many fields `x`.
+/// Creates an event that defines a class with `count` fields `x`.
 fn class(alloc: Global, name: &[u8], sup: Option<u64>, count: u64) -> Result<Event, AllocError> {
     let mut fields = Vec::new(alloc);
     for _ in 0..count {

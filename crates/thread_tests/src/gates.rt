@@ -38,7 +38,7 @@ impl<'a> Gate for Looked<'a> {
     }
 }
 
-/// Looks at the heap at each of so many passes. Returns whether the gate was told the number of the act, counted from 1, and
+/// Looks at the heap at each of `passes` passes. Returns whether the gate was told the number of the act, counted from 1, and
 /// there was an entry for each act before that and no other since there were `first`.
 fn looks<L: Heap, R: Wait>(
     rt: &R,
@@ -63,7 +63,7 @@ fn looks<L: Heap, R: Wait>(
     is_right
 }
 
-/// Runs the worker of a seat for so many turns. Returns whether it has used them up, and passed the gate as often, and never in
+/// Runs the worker of a seat for `turns` turns. Returns whether it has used them up, and passed the gate as often, and never in
 /// vain.
 fn works<L: Heap, R: Wait>(
     rt: &R,

@@ -190,7 +190,7 @@ fn told<L: Heap, R: Wait>(rt: &R, alloc: Global, shared: &Shared<L>) -> Result<S
     Ok(text)
 }
 
-/// Returns whether a stream into a sink of so many bytes a write, which fails once it has `most`, ends as it must, and the heap is
+/// Returns whether a stream into a sink of `size` bytes a write, which fails once it has `most`, ends as it must, and the heap is
 /// then as before.
 fn fails_as_told<L: Heap + Send + Sync, R: Threads + Wait + Sync>(
     rt: &R,
@@ -253,7 +253,7 @@ fn goes<L: Heap + Send + Sync, R: Threads + Wait + Sync>(
     }
 }
 
-/// Opens a heap with so many points, and does what a case asks.
+/// Opens a heap with `count` points, and does what a case asks.
 fn opened<L: Heap + Send + Sync, R: Threads + Wait + Sync>(
     rt: &R,
     alloc: Global,
@@ -273,7 +273,7 @@ fn opened<L: Heap + Send + Sync, R: Threads + Wait + Sync>(
     goes(rt, alloc, &shared, mutator, case)
 }
 
-/// Creates a heap with so many points, and does what a case asks.
+/// Creates a heap with `count` points, and does what a case asks.
 fn done<R: Threads + Wait + Sync>(
     rt: &R,
     alloc: Global,

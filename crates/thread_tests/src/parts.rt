@@ -13,7 +13,7 @@ use std::alloc::Global;
 use std::sync::atomic::{AtomicU64, Ordering};
 use std::test::Fail;
 
-/// Creates a machine with the class of points and so many points, each in the first register.
+/// Creates a machine with the class of points and `count` points, each in the first register.
 pub fn points(alloc: Global, count: u64) -> Result<Machine, Fail> {
     let mut machine = Machine::new(alloc, settings(16, 2, 1024)?)?;
     machine.step(&point(alloc)?)?;

@@ -36,7 +36,7 @@ fn pumped(alloc: Global, size: usize, most: usize) -> Result<(Pumped, u64, Strin
     Ok((pumped, source.given(), digits))
 }
 
-/// Returns whether a pump goes so, into a sink of so many bytes a write, and the first bytes of the dump are out, and no
+/// Returns whether a pump goes so, into a sink of `size` bytes a write, and the first bytes of the dump are out, and no
 /// others.
 fn goes(alloc: Global, size: usize, most: usize, wanted: Pumped, parts: u64) -> Result<bool, Fail> {
     let (went, given, digits) = pumped(alloc, size, most)?;

@@ -34,7 +34,7 @@ pub fn put_x(value: u64) -> Event {
     }
 }
 
-/// Defines the class of points and makes so many, each in the first register, and writes 7 to x of the last.
+/// Defines the class of points and makes `count` points, each in the first register, and writes 7 to x of the last.
 pub fn has_points<L: Heap, R: Wait>(
     rt: &R,
     alloc: Global,

@@ -129,7 +129,7 @@ fn sweeps_answered<L: Heap, R: Wait>(rt: &R, shared: &Shared<L>) -> u64 {
     answered
 }
 
-/// Runs the workers for so many turns.
+/// Runs the marker for the first number of turns, and then the sweeper for the second.
 fn worked_in<L: Heap, R: Wait>(
     rt: &R,
     shared: &Shared<L>,

@@ -51,8 +51,8 @@ pub fn audit_all<L: Heap, R: Wait>(rt: &R, shared: &Shared<L>, done: &Done) -> O
     let (Some(one), Some(two), Some(ends), Some((pumped, read))) = done else {
         return None;
     };
-    let acts = audited(rt, shared, one)?.saturating_add(audited(rt, shared, two)?);
-    let cycles = audited(rt, shared, ends)?;
+    let acts = count_claims(rt, shared, one)?.saturating_add(count_claims(rt, shared, two)?);
+    let cycles = count_claims(rt, shared, ends)?;
     Some(Report {
         made: made_by(one).saturating_add(made_by(two)),
         cycles,

@@ -10,10 +10,10 @@ use hprof_text::View;
 use std::alloc::Global;
 use std::marker::Model;
 
-/// The ids of two objects of a heap differ by a multiple of 8.
+// The ids of two objects of a heap differ by a multiple of 8.
 const ID_STEP: u64 = 8;
 
-/// The number of words of a heap: 1,024 for each of 256 regions.
+// The number of words of a heap: 1,024 for each of 256 regions.
 const HEAP_WORDS: u64 = 262_144;
 
 /// An object of a view: its place and its id.

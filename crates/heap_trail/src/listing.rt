@@ -25,7 +25,7 @@ pub struct ListedPin {
 
 impl NumberedPin {
     // Tells the pin's number and whether it is kept.
-    fn listed(&self) -> ListedPin
+    fn describe(&self) -> ListedPin
         ensures { result ≡ listed_slot self.now }
     {
         let status = match &self.held {
@@ -50,7 +50,7 @@ impl Machine {
         ensures limit { IfSome result (λ p. index < pin_limit) }
     {
         match self.pins.get(index as usize) {
-            Some(pin) => Some(pin.listed()),
+            Some(pin) => Some(pin.describe()),
             None => None,
         }
     }

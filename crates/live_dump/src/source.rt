@@ -49,7 +49,7 @@ impl<'a, L: Heap, R: Wait> Model for ToldSource<'a, L, R> {
         }) };
 }
 
-/// Notes what was given next, and how the source ended.
+// Notes what was given next, and how the source ended.
 fn note(given: &mut Log<Piece, ()>, ended: &mut Option<Ending>, next: &Next)
     ensures given { pieces_in given.new.items ≡ pieces_with (pieces_in given.old.items) next.now }
     ensures ended { ended.new ≡ ended_with ended.old next.now }

@@ -14,7 +14,7 @@ returns-in-Some-clause-value c =
     let at : c.in-Some.pin.now ≡ get_or i.pins.items c.args.index c.in-Some.pin.now
     = h.1 ∙ ap (λ l. get_or l c.args.index c.in-Some.pin.now) same in
     let within : c.args.index < length i.pins.items = omega (arith, ap length same, ltb-true _ _ (sym h.0)) in
-    ap Some c.listed.ensures
+    ap Some c.describe.ensures
     ∙ slot_listed i.world i.next c.args.index i.pins.items c.in-Some.pin.now within at
     ∙ ap (λ (m : Machine). option_map listed_pin (slice_get m.pins.open_pins c.args.index)) c.self.view_is
 

@@ -2,8 +2,8 @@ use Rattle.std.proofs.Common.{sym, ap, ◌∙◌}
 use Rattle.heap_trail.specs.declared.listing.ListedPin.{ListedPin}
 use Rattle.heap_trail.specs.declared.listing.PinStatus.{PinStatus}
 use Rattle.heap_trail.specs.Listings.{held_status, listed_slot}
-use Rattle.heap_trail.proofs.held.NumberedPin.listed.Goals.{in-Kept, in-Lost}
-use Rattle.heap_trail.proofs.held.NumberedPin.listed.Goals as goal
+use Rattle.heap_trail.proofs.held.NumberedPin.describe.Goals.{in-Kept, in-Lost}
+use Rattle.heap_trail.proofs.held.NumberedPin.describe.Goals as goal
 
 pub returns : goal.returns
 unfolding listed_slot held_status

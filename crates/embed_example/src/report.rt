@@ -27,7 +27,7 @@ pub struct Report {
 }
 
 /// Returns the number of claims if an audit agrees with all of them.
-fn audited<L: Heap, R: Wait>(rt: &R, shared: &Shared<L>, claims: &Claims) -> Option<u64> {
+fn count_claims<L: Heap, R: Wait>(rt: &R, shared: &Shared<L>, claims: &Claims) -> Option<u64> {
     let kept = shared.lock(rt);
     if audit(&*kept, claims.as_slice()) {
         return Some(claims.len() as u64);

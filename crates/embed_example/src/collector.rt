@@ -10,14 +10,14 @@ use std::sync::Wait;
 use std::sync::atomic::Ordering;
 
 /// The largest number of the marker's acts in a cycle.
-const ACTS: u64 = 20_000;
+const CYCLE_ACTS: u64 = 20_000;
 
 /// Marks a cycle. Returns the receipt of its end, or None if something is refused.
 fn finish<L: Heap, R: Wait>(rt: &R, shared: &Shared<L>, seat: &mut Seat<L>) -> Option<Receipt> {
     if seat.role() != Role::Marker {
         return None;
     }
-    match mark_worker(shared, rt, seat, &mut Open, ACTS) {
+    match mark_worker(shared, rt, seat, &mut Open, CYCLE_ACTS) {
         MarkEnd::Finished(receipt) => Some(receipt),
         _ => None,
     }

@@ -18,7 +18,7 @@ const AHEAD: u64 = 2;
 
 /// What a mutator does to its registers.
 #[derive(Clone, Copy)]
-enum Deed {
+enum Change {
     /// Makes a node in a register.
     Node(u64),
     /// Makes a map, an array of nodes by key, in a register.
@@ -29,23 +29,23 @@ enum Deed {
     Forget(u64),
 }
 
-/// Creates the event of a mutator's deed.
-fn event_of(m: u64, deed: Deed) -> Event {
-    match deed {
-        Deed::Node(r) => Event::New { m, r, class: NODE },
-        Deed::Map(r) => Event::NewArray {
+/// Creates the event of a mutator's change.
+fn event_of(m: u64, change: Change) -> Event {
+    match change {
+        Change::Node(r) => Event::New { m, r, class: NODE },
+        Change::Map(r) => Event::NewArray {
             m,
             r,
             class: MAP,
             len: KEYS,
         },
-        Deed::Link(target, slot, source) => Event::Store {
+        Change::Link(target, slot, source) => Event::Store {
             m,
             target,
             slot,
             source,
         },
-        Deed::Forget(r) => Event::Clear { m, r },
+        Change::Forget(r) => Event::Clear { m, r },
     }
 }
 
@@ -57,19 +57,19 @@ struct Mutator<L: Heap> {
     claims: Claims,
 }
 
-/// Does a deed, and keeps its receipt. Returns None if it is refused.
+/// Makes a change, and keeps its receipt. Returns None if it is refused.
 fn does<L: Heap, R: Wait>(
     rt: &R,
     shared: &Shared<L>,
     mutator: &mut Mutator<L>,
-    deed: Deed,
+    change: Change,
 ) -> Option<()> {
-    let event = event_of(mutator.m, deed);
+    let event = event_of(mutator.m, change);
     if !mutator.seat.may(&event) {
         return None;
     }
     let receipt = shared.act(rt, &mut mutator.seat, event).ok()?;
-    let action = Action::Step(event_of(mutator.m, deed));
+    let action = Action::Step(event_of(mutator.m, change));
     mutator.claims.push((action, receipt)).ok()?;
     match receipt.answer {
         Outcome::Answered(_) => Some(()),
@@ -84,18 +84,18 @@ fn build_list<L: Heap, R: Wait>(
     mutator: &mut Mutator<L>,
 ) -> Option<()> {
     for i in 0..NODES {
-        does(rt, shared, mutator, Deed::Node(i % 2))?;
-        does(rt, shared, mutator, Deed::Link(i % 2, 0, 1 - i % 2))?;
+        does(rt, shared, mutator, Change::Node(i % 2))?;
+        does(rt, shared, mutator, Change::Link(i % 2, 0, 1 - i % 2))?;
     }
     Some(())
 }
 
 /// Builds a map in register 2, and its nodes in register 3.
 fn build_map<L: Heap, R: Wait>(rt: &R, shared: &Shared<L>, mutator: &mut Mutator<L>) -> Option<()> {
-    does(rt, shared, mutator, Deed::Map(2))?;
+    does(rt, shared, mutator, Change::Map(2))?;
     for key in 0..KEYS {
-        does(rt, shared, mutator, Deed::Node(3))?;
-        does(rt, shared, mutator, Deed::Link(2, key, 3))?;
+        does(rt, shared, mutator, Change::Node(3))?;
+        does(rt, shared, mutator, Change::Link(2, key, 3))?;
     }
     Some(())
 }
@@ -109,7 +109,7 @@ fn build_and_drop<L: Heap, R: Wait>(
     build_list(rt, shared, mutator)?;
     build_map(rt, shared, mutator)?;
     for r in 0..4u64 {
-        does(rt, shared, mutator, Deed::Forget(r))?;
+        does(rt, shared, mutator, Change::Forget(r))?;
     }
     Some(())
 }

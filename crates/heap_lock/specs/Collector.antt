@@ -8,8 +8,8 @@ use Rattle.heap_lock.specs.declared.entry.Entry.{Entry}
 use Rattle.heap_lock.specs.History.{opening, IsLegalHistory, history_trail}
 
 -- the state that a history leaves
-abbrev pub state_after : HeapSettings → List Entry → HeapState
-state_after config history = (history_trail config.keep (opening config) history).current
+abbrev pub history_state : HeapSettings → List Entry → HeapState
+history_state config history = (history_trail config.keep (opening config) history).current
 
 -- the lowest region that waits to be swept, if one does
 abbrev pub pending_in : HeapState → Option ℕ
@@ -19,10 +19,10 @@ pending_in w = slice_get (pending_regions w.regions) 0
 abbrev pub IsPhaseSeen : HeapSettings → Phase → Type 0
 IsPhaseSeen config phase =
     (history : List Entry) × IsLegalHistory config.keep (opening config) history
-    × (phase ≡ (state_after config history).phase)
+    × (phase ≡ (history_state config history).phase)
 
 -- some legal history leaves a state in which this is the lowest region that waits to be swept, or none does
 abbrev pub IsPendingSeen : HeapSettings → Option ℕ → Type 0
 IsPendingSeen config region =
     (history : List Entry) × IsLegalHistory config.keep (opening config) history
-    × (region ≡ pending_in (state_after config history))
+    × (region ≡ pending_in (history_state config history))

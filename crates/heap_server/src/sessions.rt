@@ -98,22 +98,17 @@ pub fn serve_clients<L: Heap + Send + Sync, R: Threads + Wait + Sync>(
     requires most { length seats ≡ most }
     ensures { IfOk result (IsFor most) }
 {
-    let ends = Vec::with_capacity(alloc, most)?;
-    let running = Vec::with_capacity(alloc, most)?;
-    Ok(thread::scope(
+    thread::scope(
         thread::scope_env(),
         rt,
-        move |scope| -> Served
-            requires users { AreUsers seats }
-            requires most { length seats ≡ most }
-            requires empty { (vec_len ends ≡ 0) × (vec_len running ≡ 0) }
-            requires room { (most ≤ vec_capacity ends) × (most ≤ vec_capacity running) }
-            ensures { IsFor most result }
+        move |scope| -> Result<Served, AllocError>
+            requires { AreUsers seats × (length seats ≡ most) }
+            ensures { IfOk result (IsFor most) }
         {
             let _most = most;
             let mut seats = seats;
-            let mut running = running;
-            let mut ends = ends;
+            let mut running = Vec::with_capacity(alloc, most)?;
+            let mut ends = Vec::with_capacity(alloc, most)?;
             let listener = listener;
             let mut refused = false;
             while let Some(seat) = seats.take() {
@@ -126,9 +121,9 @@ pub fn serve_clients<L: Heap + Send + Sync, R: Threads + Wait + Sync>(
             }
             drop(listener);
             await_all(rt, &mut running, &mut ends);
-            Served { ends, refused }
+            Ok(Served { ends, refused })
         },
-    ))
+    )
 }
 
 /// Opens a heap, and serves as many clients as it has seats, as `serve_clients` does, with this time in the headers of its

@@ -124,6 +124,34 @@ fn begin_sweeper<'s, E, L: Heap + Send + Sync, R: Clock + Wait + Sync>(
     Ok(thread)
 }
 
+// The threads of both workers.
+struct Workers<L: Heap> {
+    marking: PromisedHandle<Seat<L>, MarksFrom<L>>,
+    sweeping: PromisedHandle<Seat<L>, SweepsFrom<L>>,
+}
+
+// Begins the threads of both workers. Fails if one can't be had; the other is then told to stop, and joined.
+fn begin_workers<'s, E, L: Heap + Send + Sync, R: Clock + Threads + Wait + Sync>(
+    scope: &Scope<'s, E>,
+    rt: &'s R,
+    shared: &'s Shared<L>,
+    marker: Seat<L>,
+    sweeper: Seat<L>,
+    stop: &'s AtomicBool,
+) -> Result<Workers<L>, AllocError>
+    requires { (marker.role ≡ role.Marker) × (sweeper.role ≡ role.Sweeper) }
+    ensures { IfOk result
+        (λ w. (w.marking.promise.0.value ≡ marker) × (w.sweeping.promise.0.value ≡ sweeper)) }
+{
+    let marking = begin_marker(scope, rt, shared, marker, stop)?;
+    let Ok(sweeping) = begin_sweeper(scope, rt, shared, sweeper, stop) else {
+        stop.store(true, Ordering::SeqCst);
+        let _ = marking.join(rt);
+        return Err(AllocError);
+    };
+    Ok(Workers { marking, sweeping })
+}
+
 /// Serves clients as `serve_clients` does, while two threads tend the collector. They begin before the first accept, and are
 /// told to stop and joined after the last session. Fails if a thread for them can't be had, or there is no memory for `most`
 /// endings, and accepts nothing. May wait.
@@ -152,16 +180,11 @@ pub fn serve_tended<L: Heap + Send + Sync, R: Clock + Threads + Wait + Sync>(
             ensures marks { IfOk result (λ t. Marks L.config staff.marker t.marker) }
             ensures sweeps { IfOk result (λ t. Sweeps L.config staff.sweeper t.sweeper) }
         {
-            let marking = begin_marker(scope, rt, shared, staff.marker, stop)?;
-            let Ok(sweeping) = begin_sweeper(scope, rt, shared, staff.sweeper, stop) else {
-                stop.store(true, Ordering::SeqCst);
-                let _ = marking.join(rt);
-                return Err(AllocError);
-            };
+            let workers = begin_workers(scope, rt, shared, staff.marker, staff.sweeper, stop)?;
             let served = serve_clients(rt, alloc, shared, staff.users, most, listener, time);
             stop.store(true, Ordering::SeqCst);
-            let marker = marking.join(rt);
-            let sweeper = sweeping.join(rt);
+            let marker = workers.marking.join(rt);
+            let sweeper = workers.sweeping.join(rt);
             let served = served?;
             Ok(Tended {
                 served,

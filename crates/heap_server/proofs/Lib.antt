@@ -4,4 +4,3 @@ pub mod UserSeats
 pub mod Acts
 pub mod DumpTexts
 pub mod WorkerRuns
-pub mod StaffSeats

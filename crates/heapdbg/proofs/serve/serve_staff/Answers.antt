@@ -1,7 +1,5 @@
-use Rattle.std.proofs.Common.{◌≡◌, ◌×◌, List, sym, ◌∙◌, ap, inl, subst}
+use Rattle.std.proofs.Common.{sym, ◌∙◌, ap, inl, subst}
 use Rattle.heap_lock.specs.Blanks.{Maker}
-use Rattle.heap_lock.specs.LockStates.{Chair}
-use Rattle.heap_world.specs.Limits.{HeapSettings}
 use Rattle.heap_server.specs.Tending.{AreStaff, AreTended}
 use Rattle.heapdbg.proofs.serve.serve_staff.Goals as goal
 

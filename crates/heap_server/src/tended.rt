@@ -125,6 +125,7 @@ fn begin_sweeper<'s, E, L: Heap + Send + Sync, R: Clock + Wait + Sync>(
 }
 
 // The threads of both workers.
+#[derive(Drop)]
 struct Workers<L: Heap> {
     marking: PromisedHandle<Seat<L>, MarksFrom<L>>,
     sweeping: PromisedHandle<Seat<L>, SweepsFrom<L>>,

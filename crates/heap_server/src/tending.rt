@@ -12,7 +12,7 @@ use std::thread;
 use std::time::{Clock, Duration};
 
 // The acts of a run at most: as many as a chronicle has entries.
-const TURN_LIMIT: u64 = 1_000_000;
+const RUN_TURNS: u64 = 1_000_000;
 
 // A gate that is open until the stop word is set. It yields at each pass, so that the lock is free between two acts.
 #[derive(Clone, Copy)]
@@ -73,7 +73,7 @@ fn marks_on<L: Heap, R: Clock + Wait>(
         pause(rt);
         return true;
     }
-    match mark_worker(shared, rt, seat, &mut Unstopped { stop }, TURN_LIMIT) {
+    match mark_worker(shared, rt, seat, &mut Unstopped { stop }, RUN_TURNS) {
         MarkEnd::Refused(_) => false,
         MarkEnd::Pending(_) => {
             pause(rt);
@@ -123,7 +123,7 @@ fn sweeps_on<L: Heap, R: Clock + Wait>(
         pause(rt);
         return true;
     }
-    match sweep_worker(shared, rt, seat, &mut Unstopped { stop }, TURN_LIMIT) {
+    match sweep_worker(shared, rt, seat, &mut Unstopped { stop }, RUN_TURNS) {
         SweepEnd::Refused(_) => false,
         _ => true,
     }

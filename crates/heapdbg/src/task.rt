@@ -99,9 +99,7 @@ where
         Task::Run => session(alloc, asked, reader, writer),
         Task::Explore => explore(alloc, asked, reader, writer),
         Task::Save(Target::Out) => save_named(rt, alloc, words, asked, reader, writer, is_terminal),
-        Task::Save(Target::To(port)) => {
-            save_to(rt, alloc, asked, port, reader, writer, is_terminal)
-        }
+        Task::Save(Target::To(to)) => save_to(rt, alloc, asked, to, reader, writer, is_terminal),
         Task::Serve {
             port,
             sessions,

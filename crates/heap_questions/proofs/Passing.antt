@@ -20,7 +20,7 @@ use Rattle.heap_questions.specs.declared.references.Referrer.{Referrer}
 abbrev pub passing : (ℕ → Bool) → (ℕ → Referrer) → ℕ → List Referrer
 passing p f n = map f (filter p (range_with_len 0 n))
 
-one_more_number : (n : ℕ) → range_with_len 0 (n + 1) ≡ range_with_len 0 n ++ n ∷ []
+pub one_more_number : (n : ℕ) → range_with_len 0 (n + 1) ≡ range_with_len 0 n ++ n ∷ []
 one_more_number n = sym (map-id (range_with_len 0 (n + 1))) ∙ map-range_with_len_more (λ k. k) 0 n n (omega arith) ∙ ap (λ l. l ++ n ∷ []) (map-id (range_with_len 0 n))
 
 passing_more : (p : ℕ → Bool) (f : ℕ → Referrer) (n : ℕ) → passing p f (n + 1) ≡ passing p f n ++ map f (cond (p n) (n ∷ []) [])

@@ -2,8 +2,9 @@
 use Rattle.std.specs.Prelude.{◌≡◌, ℕ, List, Option, Some, None}
 use Rattle.heap_trail.specs.Machine.{Machine}
 use Rattle.question_text.specs.declared.question.Question.{Question}
-use Rattle.question_text.specs.declared.question.Question.TheVariants.{Histogram, Garbage, Growth, Registers, Referrers, Path, Show, Born, Wrote, Dropped, History}
+use Rattle.question_text.specs.declared.question.Question.TheVariants.{Histogram, Garbage, Growth, Registers, Classes, Referrers, Path, Show, Born, Wrote, Dropped, History}
 use Rattle.question_text.specs.Births.{IsBornText}
+use Rattle.question_text.specs.ClassLists.{IsClassesText}
 use Rattle.question_text.specs.Histograms.{IsGarbageText, IsHistogramText}
 use Rattle.question_text.specs.Moments.{IsAnswerAbout, IsAnswerBetween, image_at}
 use Rattle.question_text.specs.Growths.{IsGrowthText}
@@ -24,6 +25,7 @@ IsAnswer (Garbage at) m text = IsAnswerAbout (IsGarbageText m.ids) (image_at at 
 IsAnswer (Growth older newer) m text =
     IsAnswerBetween (IsGrowthText m.ids) (image_at older m) (image_at newer m) text
 IsAnswer (Registers at) m text = IsAnswerAbout IsRegistersText (image_at at m) text
+IsAnswer (Classes at) m text = IsAnswerAbout IsClassesText (image_at at m) text
 IsAnswer (Referrers at x) m text = IsAnswerAbout (IsReferrersText x) (image_at at m) text
 IsAnswer (Path at x) m text = IsAnswerAbout (IsPathText x) (image_at at m) text
 IsAnswer (Show at x) m text =

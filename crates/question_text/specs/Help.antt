@@ -31,6 +31,7 @@ image_forms =
     ∷ form_of (codes "garbage") (codes "garbage AT") (codes "garbage 1")
     ∷ form_of (codes "growth") (codes "growth AT AT") (codes "growth @120 -")
     ∷ form_of (codes "registers") (codes "registers AT") (codes "registers -")
+    ∷ form_of (codes "classes") (codes "classes AT") (codes "classes -")
     ∷ form_of (codes "referrers") (codes "referrers AT ID") (codes "referrers - 0x10000020")
     ∷ form_of (codes "path") (codes "path AT ID") (codes "path @120 0x10000020")
     ∷ form_of (codes "show") (codes "show AT ID") (codes "show - 0x10000020")

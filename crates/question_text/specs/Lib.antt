@@ -5,6 +5,7 @@ pub mod Names
 pub mod Histograms
 pub mod Referrers
 pub mod Registers
+pub mod ClassLists
 pub mod Growths
 pub mod Paths
 pub mod Objects

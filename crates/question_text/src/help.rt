@@ -49,6 +49,9 @@ fn image_help(word: &[u8]) -> Option<&'static [u8]>
     if is_word(word, b"registers") {
         return Some(b"row registers AT\nrow registers -\nok\n");
     }
+    if is_word(word, b"classes") {
+        return Some(b"row classes AT\nrow classes -\nok\n");
+    }
     if is_word(word, b"referrers") {
         return Some(b"row referrers AT ID\nrow referrers - 0x10000020\nok\n");
     }
@@ -165,7 +168,7 @@ fn all_help() -> &'static [u8]
         row load M TO FROM SLOT\nrow store M TARGET SLOT SOURCE\nrow put M TARGET SLOT VALUE\nrow move M TO FROM_M FROM\nrow clear M R\n\
         row snap\nrow mark\nrow drain\nrow finish\nrow sweep REGION\n\
         row rewind N\nrow open AT\nrow piece PIN\nrow dump PIN\nrow close PIN\nrow end\n\
-        row histogram AT\nrow garbage AT\nrow growth AT AT\nrow registers AT\nrow referrers AT ID\nrow path AT ID\nrow show AT ID\n\
+        row histogram AT\nrow garbage AT\nrow growth AT AT\nrow registers AT\nrow classes AT\nrow referrers AT ID\nrow path AT ID\nrow show AT ID\n\
         row born ID\nrow wrote ID SLOT\nrow dropped ID\nrow history N\nrow help WORD\nok\n"
 }
 

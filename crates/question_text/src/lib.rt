@@ -13,6 +13,7 @@ mod answers;
 mod asking;
 mod at;
 mod birth;
+mod class_list;
 mod growth;
 mod help;
 mod histogram;

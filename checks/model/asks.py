@@ -18,6 +18,7 @@ WANTED = {
     "wrote": ("ok place", "ok older", "no 9", "no 28"),
     "dropped": ("ok place", "ok older", "ok reached", "no 28"),
     "history": ("ok",),
+    "pins": ("ok",),
     "help": ("ok", "bad"),
 }
 LEAST = 3

@@ -249,7 +249,7 @@ class Calls:
         return self.send(f"registers {at_of(moment)}", rows)
 
     def classes(self, moment: Moment = None) -> Any:
-        """Returns rows (number, name, super, field..)."""
+        """Returns rows (number, name, super, "field:kind"..): super is a number, "-", or "array" for an array class."""
         return self.send(f"classes {at_of(moment)}", rows)
 
     def histogram(self, moment: Moment = None) -> Any:
@@ -289,7 +289,7 @@ class Calls:
         return self.send(f"history {count}", rows)
 
     def pins(self) -> Any:
-        """Returns rows (pin, place, "held", bytes) or (pin, place, "lost", cause, bytes)."""
+        """Returns rows (pin, place, "held", pieces) or (pin, "lost", cause) of the open pins."""
         return self.send("pins", rows)
 
 

@@ -92,6 +92,12 @@ class Replies(unittest.TestCase):
         self.assertEqual(heap.born(0x10000000), ("older", 4))
         self.assertEqual(heap.writer.getvalue(), b"show - 0x10000000\ndropped 0x10000000\nborn 0x10000000\n")
 
+    def test_rows_of_classes_and_pins(self):
+        heap = canned("row 0 Node - next:object v:long", "row 1 Nodes array", "ok 2", "row 1 3 held 2", "row 4 lost Rewound", "ok 2")
+        self.assertEqual(heap.classes("@3"), [(0, "Node", "-", "next:object", "v:long"), (1, "Nodes", "array")])
+        self.assertEqual(heap.pins(), [(1, 3, "held", 2), (4, "lost", "Rewound")])
+        self.assertEqual(heap.writer.getvalue(), b"classes @3\npins\n")
+
 
 class Refusals(unittest.TestCase):
     """Each refusal, with its number, its name and its facts."""

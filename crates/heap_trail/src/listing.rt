@@ -1,5 +1,6 @@
 //! The open pins, for a list of them.
-ghost use Rattle.std.specs.Prelude.{◌≡◌, option_map, slice_get};
+ghost use Rattle.std.specs.Prelude.{◌≡◌, ◌<◌, IfSome, option_map, slice_get};
+ghost use Rattle.heap_trail.specs.Limits.{pin_limit};
 ghost use Rattle.heap_trail.specs.Listings.{listed_pin, listed_slot};
 
 use crate::Machine;
@@ -42,10 +43,11 @@ impl NumberedPin {
 }
 
 impl Machine {
-    /// Tells of the open pin at this index, lost ones included. Pins are listed in order of their numbers; past the last
-    /// there is none. Takes no memory.
+    /// Tells of the open pin at this index, lost ones included. Pins are listed in order of their numbers; past the last,
+    /// and from 4 on, there is none. Takes no memory.
     pub fn nth_pin(&self, index: u64) -> Option<ListedPin>
-        ensures { result ≡ option_map listed_pin (slice_get self.now.pins.open_pins index) }
+        ensures value { result ≡ option_map listed_pin (slice_get self.now.pins.open_pins index) }
+        ensures limit { IfSome result (λ p. index < pin_limit) }
     {
         match self.pins.get(index as usize) {
             Some(pin) => Some(pin.listed()),

@@ -6,8 +6,8 @@ use Rattle.heap_trail.specs.Machine.{Machine}
 use Rattle.heap_trail.proofs.Listings.{none_listed, slot_listed}
 use Rattle.heap_trail.proofs.Machine.nth_pin.Goals as goal
 
-pub returns-in-Some : goal.returns-in-Some
-returns-in-Some c =
+pub returns-in-Some-clause-value : goal.returns-in-Some-clause-value
+returns-in-Some-clause-value c =
     let i = c.self.inside in
     let same = c.deref.ensures.value in
     let h = c.in-Some.ensures.lookup in
@@ -18,9 +18,15 @@ returns-in-Some c =
     ∙ slot_listed i.world i.next c.args.index i.pins.items c.in-Some.pin.now within at
     ∙ ap (λ (m : Machine). option_map listed_pin (slice_get m.pins.open_pins c.args.index)) c.self.view_is
 
-pub returns-in-None : goal.returns-in-None
-returns-in-None c =
+pub returns-in-None-clause-value : goal.returns-in-None-clause-value
+returns-in-None-clause-value c =
     let i = c.self.inside in
     let past : length i.pins.items ≤ c.args.index = omega (arith, ap length c.deref.ensures.value, c.in-None.ensures.lookup.3) in
     none_listed i.world i.next c.args.index i.pins.items past
     ∙ ap (λ (m : Machine). option_map listed_pin (slice_get m.pins.open_pins c.args.index)) c.self.view_is
+
+pub returns-in-Some-clause-limit : goal.returns-in-Some-clause-limit
+returns-in-Some-clause-limit c =
+    let i = c.self.inside in
+    let within : c.args.index < length i.pins.items = omega (arith, ap length c.deref.ensures.value, ltb-true _ _ (sym c.in-Some.ensures.lookup.0)) in
+    omega (arith, within, c.self.invariant.1.few)

@@ -11,4 +11,4 @@ each_session_line = (refl, (refl, (refl, (refl, (refl, (refl, (refl, (refl, (ref
 
 pub each_question : AllByRecursion (λ (r : QuestionRule). HasForm r.0) question_rules
 unfolding question_rules form_with making_forms access_forms cycle_forms pin_forms image_forms past_forms
-each_question = (refl, (refl, (refl, (refl, (refl, (refl, (refl, (refl, (refl, (refl, (refl, (refl, tt))))))))))))
+each_question = (refl, (refl, (refl, (refl, (refl, (refl, (refl, (refl, (refl, (refl, (refl, (refl, (refl, tt)))))))))))))

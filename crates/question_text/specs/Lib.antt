@@ -10,6 +10,7 @@ pub mod Growths
 pub mod Paths
 pub mod Objects
 pub mod Places
+pub mod PinLists
 pub mod Births
 pub mod Writes
 pub mod Losses

@@ -5,7 +5,7 @@ use Rattle.session_text.specs.Grammar.{at_end, next_number, number_of_word, one_
 use Rattle.question_text.specs.declared.question.At.{At}
 use Rattle.question_text.specs.declared.question.At.TheVariants.{Current, Pin, Place}
 use Rattle.question_text.specs.declared.question.Question.{Question}
-use Rattle.question_text.specs.declared.question.Question.TheVariants.{Histogram, Garbage, Growth, Registers, Classes, Referrers, Path, Show, Born, Wrote, Dropped, History}
+use Rattle.question_text.specs.declared.question.Question.TheVariants.{Histogram, Garbage, Growth, Registers, Classes, Referrers, Path, Show, Born, Wrote, Dropped, History, Pins}
 use Rattle.question_text.specs.Ids.{id_of_word}
 
 -- the state that a word names: `-`, `@` and a place, or the number of a pin
@@ -100,6 +100,10 @@ dropped_line ws = option_map (λ x. Dropped x) (one_id ws)
 abbrev pub history_line : List (List ℕ) → Option Question
 history_line ws = option_map (λ n. History n) (one_number ws)
 
+-- `pins`
+abbrev pub pins_line : List (List ℕ) → Option Question
+pins_line ws = at_end Pins ws
+
 -- ---- the table of questions
 
 -- a keyword, and what the words after it ask
@@ -121,6 +125,7 @@ question_rules =
     ∷ (codes "wrote", wrote_line)
     ∷ (codes "dropped", dropped_line)
     ∷ (codes "history", history_line)
+    ∷ (codes "pins", pins_line)
     ∷ []
 
 -- the question of these words, by the rule of the first

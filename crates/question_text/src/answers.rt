@@ -19,6 +19,7 @@ use crate::histogram::{garbage_text, histogram_text};
 use crate::history::history_answer;
 use crate::loss::dropped_answer;
 use crate::path::path_answer;
+use crate::pin_list::pins_answer;
 use crate::question::{At, Question};
 use crate::referrers::referrers_answer;
 use crate::registers::registers_answer;
@@ -134,5 +135,6 @@ pub fn answer(alloc: Global, machine: &Machine, question: Question) -> LineAnswe
         Question::Wrote { id, slot } => wrote_answer(machine, id, slot),
         Question::Dropped(id) => dropped_answer(alloc, machine, id),
         Question::History(count) => line_answer(history_answer(alloc, machine, count)),
+        Question::Pins => line_answer(pins_answer(alloc, machine)),
     }
 }

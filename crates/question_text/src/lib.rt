@@ -22,6 +22,7 @@ mod id;
 mod loss;
 mod names;
 mod path;
+mod pin_list;
 mod place;
 mod question;
 mod referrers;

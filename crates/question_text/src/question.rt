@@ -2,7 +2,7 @@
 ghost use Rattle.std.specs.Prelude.{◌≡◌};
 ghost use Rattle.session_text.specs.Grammar.{at_end, next_number, one_number, words_of_line};
 ghost use Rattle.session_text.specs.Reads.{IsNextWord};
-ghost use Rattle.question_text.specs.Questions.{at_and_id, at_of_word, born_line, classes_line, dropped_line, garbage_line, growth_line, histogram_line, history_line, id_and_number, next_at, next_id, one_at, one_id, path_line, question_of, referrers_line, registers_line, show_line, two_ats, wrote_line};
+ghost use Rattle.question_text.specs.Questions.{at_and_id, at_of_word, born_line, classes_line, dropped_line, garbage_line, growth_line, histogram_line, history_line, id_and_number, next_at, next_id, one_at, one_id, path_line, pins_line, question_of, referrers_line, registers_line, show_line, two_ats, wrote_line};
 
 use crate::id::{id_of, is_word};
 use session_text::number::number_of;
@@ -46,6 +46,8 @@ pub enum Question {
     Dropped(u64),
     /// What the newest retained steps did: how many of them.
     History(u64),
+    /// The open pins.
+    Pins,
 }
 
 // Returns the state that a word names.
@@ -243,6 +245,13 @@ fn history_line(words: Words) -> Option<Question>
     Some(Question::History(count))
 }
 
+// Reads the words of `pins`.
+fn pins_line(words: Words) -> Option<Question>
+    ensures { result ≡ pins_line (words_of_line words.entry) }
+{
+    at_end(Question::Pins, words)
+}
+
 /// Returns the question that a line asks, or None if it asks none.
 #[tactic(auto, unfolding(crate::specs::Questions::question_of_words, crate::specs::Questions::question_rules))]
 pub fn question_of(line: &[u8]) -> Option<Question>
@@ -285,6 +294,9 @@ pub fn question_of(line: &[u8]) -> Option<Question>
     }
     if is_word(word, b"history") {
         return history_line(words);
+    }
+    if is_word(word, b"pins") {
+        return pins_line(words);
     }
     None
 }

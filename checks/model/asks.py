@@ -19,6 +19,7 @@ WANTED = {
     "dropped": ("ok place", "ok older", "ok reached", "no 28"),
     "history": ("ok",),
     "pins": ("ok",),
+    "collect": ("ok",),
     "help": ("ok", "bad"),
 }
 LEAST = 3

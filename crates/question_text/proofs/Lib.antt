@@ -8,3 +8,4 @@ pub mod FieldNames
 pub mod FieldRows
 pub mod NamedObjects
 pub mod PinRows
+pub mod CycleSteps

@@ -14,7 +14,7 @@ pub record LineForm : Type 0 where
 abbrev form_of : List ℕ → List ℕ → List ℕ → LineForm
 form_of key form example = record { key = key; form = form; example = example }
 
--- questions about the past, and about pins
+-- questions about the past and about pins, `collect` and `help`
 unfoldable pub past_forms : List LineForm
 past_forms =
     form_of (codes "born") (codes "born ID") (codes "born 0x10000020")
@@ -22,6 +22,7 @@ past_forms =
     ∷ form_of (codes "dropped") (codes "dropped ID") (codes "dropped 0x10000020")
     ∷ form_of (codes "history") (codes "history N") (codes "history 10")
     ∷ form_of (codes "pins") (codes "pins") (codes "pins")
+    ∷ form_of (codes "collect") (codes "collect") (codes "collect")
     ∷ form_of (codes "help") (codes "help WORD") (codes "help path")
     ∷ []
 

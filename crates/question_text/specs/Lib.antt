@@ -16,5 +16,6 @@ pub mod Writes
 pub mod Losses
 pub mod Histories
 pub mod Help
+pub mod Collections
 pub mod Answers
 pub mod Sessions

@@ -9,7 +9,7 @@ use crate::id::is_word;
 use session_text::LineAnswer;
 use session_text::words::Words;
 
-// Returns what `help` answers about a keyword of a question about the past, or about pins.
+// Returns what `help` answers about a keyword of a question about the past or about pins, `collect` or `help`.
 #[tactic(auto, unfolding(crate::specs::Help::form_text, crate::specs::Help::form_with, crate::specs::Help::past_forms))]
 fn past_help(word: &[u8]) -> Option<&'static [u8]>
     ensures { option_map (λ t. t.now) result ≡ form_with past_forms word.now }
@@ -28,6 +28,9 @@ fn past_help(word: &[u8]) -> Option<&'static [u8]>
     }
     if is_word(word, b"pins") {
         return Some(b"row pins\nrow pins\nok\n");
+    }
+    if is_word(word, b"collect") {
+        return Some(b"row collect\nrow collect\nok\n");
     }
     if is_word(word, b"help") {
         return Some(b"row help WORD\nrow help path\nok\n");
@@ -172,7 +175,7 @@ fn all_help() -> &'static [u8]
         row snap\nrow mark\nrow drain\nrow finish\nrow sweep REGION\n\
         row rewind N\nrow open AT\nrow piece PIN\nrow dump PIN\nrow close PIN\nrow end\n\
         row histogram AT\nrow garbage AT\nrow growth AT AT\nrow registers AT\nrow classes AT\nrow referrers AT ID\nrow path AT ID\nrow show AT ID\n\
-        row born ID\nrow wrote ID SLOT\nrow dropped ID\nrow history N\nrow pins\nrow help WORD\nok\n"
+        row born ID\nrow wrote ID SLOT\nrow dropped ID\nrow history N\nrow pins\nrow collect\nrow help WORD\nok\n"
 }
 
 // Returns what the words after `help` are answered, or None if they name no line.

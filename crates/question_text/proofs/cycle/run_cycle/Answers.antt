@@ -1,0 +1,21 @@
+use Rattle.std.proofs.Common.{rules, ◌≡◌, ◌≤◌, ◌++◌, IfErr, IfOk, OnErr, OnOk, ℕ, ◌+◌, ◌-◌, ◌*◌, ◌<◌, length, ◌/◌, ◌%◌, Bool, true, false, nat_eq, nat_lt, List, [], ◌∷◌, slice_index_or, slice_set, bit_and, bit_or, Fits, w8, w32, w64, Bor, MutBor}
+use Rattle.heap_class.specs.declared.Refusal.TheVariants.{NoMemory}
+use Rattle.session_text.specs.Replies.{line_answer_text}
+use Rattle.question_text.specs.Collections.{Collects, Finishes, IsCycleStep, IsMarkStep, IsSweep, IsWholeCycle, Marks, MayRefuse, MovesOn, StopsAt, Sweeps, collected_text, condemned_of, is_collect, swept_of}
+use Rattle.question_text.proofs.cycle.run_cycle.Goals as goal
+
+-- src/cycle.rt:163:5
+pub returns-in_err-mark_cycle-clause-refused : goal.returns-in_err-mark_cycle-clause-refused
+returns-in_err-mark_cycle-clause-refused c = ?
+
+-- src/cycle.rt:164:21
+pub returns-in_err-condemned-clause-refused : goal.returns-in_err-condemned-clause-refused
+returns-in_err-condemned-clause-refused c = ?
+
+-- src/cycle.rt:165:17
+pub returns-in_err-after-clause-refused : goal.returns-in_err-after-clause-refused
+returns-in_err-after-clause-refused c = ?
+
+-- src/cycle.rt:158:1
+pub returns-clause-whole : goal.returns-clause-whole
+returns-clause-whole c = ?

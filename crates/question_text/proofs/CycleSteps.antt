@@ -19,7 +19,7 @@ use Rattle.heap_past.proofs.Sizes.{table_of}
 use Rattle.heap_step.specs.Apply.{answer_of, applied, applied_unless, refusal_of, state_after}
 use Rattle.heap_step.specs.declared.Answer.{Answer}
 use Rattle.heap_step.specs.declared.Event.{Event}
-use Rattle.heap_step.specs.declared.Event.TheVariants.{Snap, Mark, Drain, Finish, Sweep}
+use Rattle.heap_step.specs.declared.Event.TheVariants.{Finish, Sweep}
 use Rattle.heap_trail.specs.declared.Action.{Action}
 use Rattle.heap_trail.specs.declared.Action.TheVariants.{Step}
 use Rattle.heap_trail.specs.declared.Reply.{Reply}
@@ -28,7 +28,7 @@ use Rattle.heap_trail.specs.Limits.{last_place}
 use Rattle.heap_trail.specs.Machine.{Machine, Allocation, Granted, Denied, LosesPins, AreAllocations, MayDrive, MayFail, MayReply, acted, acted_under, after_result, after_step_at, machine_after, replies_of}
 use Rattle.heap_trail.specs.Trail.{stepped}
 use Rattle.heap_trail.proofs.ActionLists.{driven_more, driven_none}
-use Rattle.question_text.specs.Collections.{Finishes, IsCycleStep, IsMarkStep, IsSweep, Marks, MayRefuse, StopsAt, Sweeps, TakenStep, Takes, swept_by, swept_of}
+use Rattle.question_text.specs.Collections.{Finishes, IsCycleStep, IsMarkStep, IsSweep, IsWholeCycle, Marks, MayRefuse, MovesOn, StopsAt, Sweeps, TakenStep, Takes, swept_by, swept_of}
 
 -- ---- lists of actions
 
@@ -93,10 +93,10 @@ abbrev IsAnswered : Machine → Event → Machine → Answer → Type 0
 IsAnswered m e n a = acted m (Step e) ≡ (n, Answered a)
 
 without_mark : (m n : Machine) (e : Event) (a : Answer) → MayReply m (Step e) n (Answered a) → (k : Machine) × IsAnswered m e k a × (n.trail ≡ k.trail)
+unfolding acted_under
 without_mark m n e a r = go r.0 r.2
   where
     go : (mark : Allocation) → acted_under m (Step e, mark) ≡ (n, Answered a) → (k : Machine) × IsAnswered m e k a × (n.trail ≡ k.trail)
-    unfolding acted_under
     go Granted is = (n, is, refl)
     go Denied is = let clash : Refused Refusal.NoMemory ≡ Answered a = ap (λ (x : Machine × Reply). x.1) is in absurd (cc clash)
     go (LosesPins pins) is =
@@ -109,11 +109,10 @@ abbrev Says : Machine → Event → Machine → Answer → Type 0
 Says m e n a = (m.trail.place < last_place) × (n.trail.place ≡ m.trail.place + 1) × ((v : HeapState) × (applied e m.trail.current ≡ Ok (v, a)))
 
 says : (m n : Machine) (e : Event) (a : Answer) → IsAnswered m e n a → Says m e n a
-unfolding acted
+unfolding acted after_result after_step_at stepped
 says m n e a is = at (nat_le last_place m.trail.place) refl is
   where
     of : (r : Result (HeapState × Answer) Refusal) → m.trail.place < last_place → applied e m.trail.current ≡ r → after_result m r ≡ (n, Answered a) → Says m e n a
-    unfolding after_result stepped
     of (Ok r) lt h is =
         let same : Answered r.1 ≡ Answered a = ap (λ (x : Machine × Reply). x.1) is in
         let answer : r.1 ≡ a = cc same in
@@ -121,7 +120,6 @@ says m n e a is = at (nat_le last_place m.trail.place) refl is
     of (Err r) lt h is = let clash : Refused r ≡ Answered a = ap (λ (x : Machine × Reply). x.1) is in absurd (cc clash)
 
     at : (b : Bool) → nat_le last_place m.trail.place ≡ b → after_step_at b e m ≡ (n, Answered a) → Says m e n a
-    unfolding after_step_at
     at true h is = let clash : Refused Refusal.ChronicleFull ≡ Answered a = ap (λ (x : Machine × Reply). x.1) is in absurd (cc clash)
     at false h is = of (applied e m.trail.current) (omega (arith, leb-false last_place m.trail.place h)) refl is
 
@@ -142,12 +140,14 @@ few_dead w r legal = omega (arith, ap length (dead_in r (pool_of w)), go (used_a
     go (Some u) h = omega (arith, length-filter_map dead_one (enumerate_from 0 u.cells), length-enumerate_from 0 u.cells, (table_few u (table_of w r u legal h)).1)
 
 answer_told : (e : Event) (w v : HeapState) (a : Answer) → applied e w ≡ Ok (v, a) → (u : HeapState) × (a ≡ answer_of e w u)
-unfolding applied
+unfolding applied applied_unless
 answer_told e w v a = go (refusal_of e w)
   where
     go : (x : Option Refusal) → applied_unless x e w ≡ Ok (v, a) → (u : HeapState) × (a ≡ answer_of e w u)
-    unfolding applied_unless
-    go None h = let same : Ok (state_after e w, answer_of e w (state_after e w)) ≡ Ok (v, a) = h in (state_after e w, cc same)
+    go None h =
+        let same : Ok (state_after e w, answer_of e w (state_after e w)) ≡ Ok (v, a) = h in
+        let pair : (state_after e w, answer_of e w (state_after e w)) ≡ (v, a) = cc same in
+        (state_after e w, sym (ap (λ (p : HeapState × Answer). p.1) pair))
     go (Some r) h = absurd (cc h)
 
 -- a sweep removes few objects
@@ -198,12 +198,10 @@ pub stops_wider : (P Q : Event → Type 0) (m n : Machine) (e : Refusal) → ((x
 stops_wider P Q m n e w s = (s.0, taken_wider P Q m n s.0 w s.1, (s.2.0, w s.2.0 s.2.1, s.2.2))
 
 pub sweep_is_step : (x : Event) → IsSweep x → IsCycleStep x
-sweep_is_step (Sweep region) h = inr tt
+sweep_is_step x h = inr (inl h)
 
 pub mark_is_step : (x : Event) → IsMarkStep x → IsCycleStep x
-mark_is_step Snap h = inl tt
-mark_is_step Mark h = inl tt
-mark_is_step Drain h = inl tt
+mark_is_step x h = inl h
 
 -- ---- a whole cycle
 
@@ -214,7 +212,7 @@ pub of_marks : (m n : Machine) → Marks m n → (steps : List TakenStep) × Tak
 of_marks m n s = (s.0, taken_wider IsMarkStep IsCycleStep m n s.0 mark_is_step s.1)
 
 finish_is_step : (x : Event) → x ≡ Finish → IsCycleStep x
-finish_is_step x e = subst IsCycleStep (sym e) tt
+finish_is_step x e = inr (inr e)
 
 pub of_finish : (m n : Machine) (a : ℕ) → Finishes m a n → (steps : List TakenStep) × Takes IsCycleStep m steps n
 of_finish m n a f = ((Finish, f.0) ∷ [], taken_wider (λ x. x ≡ Finish) IsCycleStep m n ((Finish, f.0) ∷ []) finish_is_step f.1)
@@ -226,3 +224,30 @@ stops_last m x y z n a b e s t f l =
     let q = of_marks x y t in
     let r = of_finish y z b f in
     stops_on IsCycleStep m x n e p.0 p.1 (stops_on IsCycleStep x y n e q.0 q.1 (stops_on IsCycleStep y z n e r.0 r.1 (stops_wider IsSweep IsCycleStep z n e sweep_is_step l)))
+
+-- ---- what the functions say
+
+pub moved_place : (b : Bool) (m n : Machine) → b ≡ true → MovesOn b m n → (m.trail.place < last_place) × (n.trail.place ≡ m.trail.place + 1)
+moved_place true m n e h = place_on m n h.0 h.1 h.3
+moved_place false m n e h = absurd (cc e)
+
+pub moved_marks : (b : Bool) (m n k : Machine) → Marks m n → b ≡ true → MovesOn b n k → Marks m k
+moved_marks true m n k s e h = marks_on m n k s (one_mark n k h.0 h.1 h.2 h.3)
+moved_marks false m n k s e h = absurd (cc e)
+
+pub marks_stop : (m n k : Machine) (e : Refusal) → Marks m n → StopsAt IsMarkStep n e k → StopsAt IsMarkStep m e k
+marks_stop m n k e s t = stops_on IsMarkStep m n k e s.0 s.1 t
+
+pub stops_marking : (m x n : Machine) (a : ℕ) (e : Refusal) → Sweeps m a x → StopsAt IsMarkStep x e n → StopsAt IsCycleStep m e n
+stops_marking m x n a e s t =
+    let p = of_sweeps m x a s in
+    stops_on IsCycleStep m x n e p.0 p.1 (stops_wider IsMarkStep IsCycleStep x n e mark_is_step t)
+
+pub stops_finish : (m x y n : Machine) (a : ℕ) (e : Refusal) → Sweeps m a x → Marks x y → MayRefuse IsCycleStep y e → n ≡ y → StopsAt IsCycleStep m e n
+stops_finish m x y n a e s t r h =
+    let p = of_sweeps m x a s in
+    let q = of_marks x y t in
+    stops_on IsCycleStep m x n e p.0 p.1 (stops_after IsCycleStep x y n e q.0 q.1 r h)
+
+pub whole_cycle : (m x y z n : Machine) (a b d : ℕ) → Sweeps m a x → Marks x y → Finishes y b z → Sweeps z d n → IsWholeCycle m b (a + d) n
+whole_cycle m x y z n a b d s t f u = (x, y, z, a, d, s, t, f, u, refl)

@@ -41,8 +41,7 @@ IsMarkStep e = ⊥
 
 -- a step of a cycle
 abbrev pub IsCycleStep : Event → Type 0
-IsCycleStep Finish = Unit {0}
-IsCycleStep e = IsMarkStep e ⊎ IsSweep e
+IsCycleStep e = IsMarkStep e ⊎ IsSweep e ⊎ (e ≡ Finish)
 
 -- a step that was taken, and its answer
 abbrev pub TakenStep : Type 0

@@ -79,7 +79,8 @@ fn sweep_all(machine: &mut Machine) -> Result<u64, Refusal>
     let regions = machine.world().regions().count();
     let mut swept = 0;
     for region in 0..regions {
-        swept += sweep_region(machine, region)?;
+        let removed = sweep_region(machine, region)?;
+        swept += removed;
     }
     Ok(swept)
 }

@@ -1,9 +1,12 @@
-use Rattle.std.proofs.Common.{rules, ◌≡◌, ◌≤◌, ◌++◌, IfErr, IfOk, OnErr, OnOk, ℕ, ◌+◌, ◌-◌, ◌*◌, ◌<◌, length, ◌/◌, ◌%◌, Bool, true, false, nat_eq, nat_lt, List, [], ◌∷◌, slice_index_or, slice_set, bit_and, bit_or, Fits, w8, w32, w64, Bor, MutBor}
-use Rattle.heap_class.specs.declared.Refusal.TheVariants.{NoMemory}
-use Rattle.session_text.specs.Replies.{line_answer_text}
-use Rattle.question_text.specs.Collections.{Collects, Finishes, IsCycleStep, IsMarkStep, IsSweep, IsWholeCycle, Marks, MayRefuse, MovesOn, StopsAt, Sweeps, collected_text, condemned_of, is_collect, swept_of}
+use Rattle.std.proofs.Common.{◌≡◌, refl}
+use Rattle.heap_step.specs.declared.Event.{Event}
+use Rattle.heap_step.specs.declared.Event.TheVariants.{Finish}
+use Rattle.question_text.proofs.CycleSteps.{one_taken}
 use Rattle.question_text.proofs.cycle.finish.Goals as goal
 
--- src/cycle.rt:148:1
 pub returns-clause-finished : goal.returns-clause-finished
-returns-clause-finished c = ?
+returns-clause-finished c = (
+  c.in_ok-answer.answer,
+  one_taken (λ (e : Event). e ≡ Finish) c.args.machine.now c.step.new.self Finish c.in_ok-answer.answer refl c.in_ok-answer.ensures.done,
+  c.condemned_of.ensures,
+)

@@ -1,17 +1,15 @@
-use Rattle.std.proofs.Common.{rules, ◌≡◌, ◌≤◌, ◌++◌, IfErr, IfOk, OnErr, OnOk, ℕ, ◌+◌, ◌-◌, ◌*◌, ◌<◌, length, ◌/◌, ◌%◌, Bool, true, false, nat_eq, nat_lt, List, [], ◌∷◌, slice_index_or, slice_set, bit_and, bit_or, Fits, w8, w32, w64, Bor, MutBor}
-use Rattle.heap_class.specs.declared.Refusal.TheVariants.{NoMemory}
-use Rattle.session_text.specs.Replies.{line_answer_text}
-use Rattle.question_text.specs.Collections.{Collects, Finishes, IsCycleStep, IsMarkStep, IsSweep, IsWholeCycle, Marks, MayRefuse, MovesOn, StopsAt, Sweeps, collected_text, condemned_of, is_collect, swept_of}
+use Rattle.std.proofs.Common.{arith}
+use Rattle.question_text.proofs.CycleSteps.{moved_marks, moved_place, no_mark}
 use Rattle.question_text.proofs.cycle.mark_all.Goals as goal
 
--- src/cycle.rt:130:5
 pub loop-more-init : goal.loop-more-init
-loop-more-init c = ?
+loop-more-init c = no_mark c.args.machine.now
 
--- src/cycle.rt:130:5
 pub loop-more-smaller : goal.loop-more-smaller
-loop-more-smaller c = ?
+loop-more-smaller c =
+    let p = moved_place c.in_ok-more.more c.loop-more.machine c.mark_or_drain.new.machine c.if-not-more.false c.in_ok-more.ensures.moved in
+    omega (arith, p.0, p.1)
 
--- src/cycle.rt:130:5
 pub loop-more-preserved : goal.loop-more-preserved
-loop-more-preserved c = ?
+loop-more-preserved c =
+    moved_marks c.in_ok-more.more c.args.machine.now c.loop-more.machine c.mark_or_drain.new.machine c.loop-more.invariant c.if-not-more.false c.in_ok-more.ensures.moved

@@ -1,17 +1,21 @@
-use Rattle.std.proofs.Common.{rules, ◌≡◌, ◌≤◌, ◌++◌, IfErr, IfOk, OnErr, OnOk, ℕ, ◌+◌, ◌-◌, ◌*◌, ◌<◌, length, ◌/◌, ◌%◌, Bool, true, false, nat_eq, nat_lt, List, [], ◌∷◌, slice_index_or, slice_set, bit_and, bit_or, Fits, w8, w32, w64, Bor, MutBor}
-use Rattle.heap_class.specs.declared.Refusal.TheVariants.{NoMemory}
-use Rattle.session_text.specs.Replies.{line_answer_text}
-use Rattle.question_text.specs.Collections.{Collects, Finishes, IsCycleStep, IsMarkStep, IsSweep, IsWholeCycle, Marks, MayRefuse, MovesOn, StopsAt, Sweeps, collected_text, condemned_of, is_collect, swept_of}
+use Rattle.std.proofs.lemmas.Result.{IfErr-weaker, err_from_is_err_and, on_ok_weaker}
+use Rattle.question_text.specs.Collections.{IsMarkStep, Marks, StopsAt}
+use Rattle.question_text.proofs.CycleSteps.{marks_on, marks_stop, stops_first}
 use Rattle.question_text.proofs.cycle.mark_cycle.Goals as goal
 
--- src/cycle.rt:143:5
 pub returns-in_err-begin-clause-refused : goal.returns-in_err-begin-clause-refused
-returns-in_err-begin-clause-refused c = ?
+returns-in_err-begin-clause-refused c =
+    let p = err_from_is_err_and c.from_residual.result c.from_residual.ensures.1 in
+    rw (p.1, p.2) (stops_first IsMarkStep c.args.machine.now c.begin.new.machine c.in_err-begin.field-0.0 c.in_err-begin.ensures.refused c.in_err-begin.ensures.unchanged)
 
--- src/cycle.rt:139:1
 pub returns-clause-marked : goal.returns-clause-marked
-returns-clause-marked c = ?
+returns-clause-marked c =
+    on_ok_weaker c.mark_all.result (Marks c.begin.new.machine c.mark_all.new.machine) (Marks c.args.machine.now c.mark_all.new.machine)
+    (marks_on c.args.machine.now c.begin.new.machine c.mark_all.new.machine c.in_ok-begin.ensures.begun) c.mark_all.ensures.marked
 
--- src/cycle.rt:139:1
 pub returns-clause-refused : goal.returns-clause-refused
-returns-clause-refused c = ?
+returns-clause-refused c =
+    let m = c.begin.new.machine in
+    let n = c.mark_all.new.machine in
+    IfErr-weaker c.mark_all.result (λ e. StopsAt IsMarkStep m e n) (λ e. StopsAt IsMarkStep c.args.machine.now e n)
+    (λ e h. marks_stop c.args.machine.now m n e c.in_ok-begin.ensures.begun h) c.mark_all.ensures.refused

@@ -1,13 +1,12 @@
-use Rattle.std.proofs.Common.{rules, ◌≡◌, ◌≤◌, ◌++◌, IfErr, IfOk, OnErr, OnOk, ℕ, ◌+◌, ◌-◌, ◌*◌, ◌<◌, length, ◌/◌, ◌%◌, Bool, true, false, nat_eq, nat_lt, List, [], ◌∷◌, slice_index_or, slice_set, bit_and, bit_or, Fits, w8, w32, w64, Bor, MutBor}
-use Rattle.heap_class.specs.declared.Refusal.TheVariants.{NoMemory}
-use Rattle.session_text.specs.Replies.{line_answer_text}
-use Rattle.question_text.specs.Collections.{Collects, Finishes, IsCycleStep, IsMarkStep, IsSweep, IsWholeCycle, Marks, MayRefuse, MovesOn, StopsAt, Sweeps, collected_text, condemned_of, is_collect, swept_of}
+use Rattle.std.proofs.Common.{arith}
+use Rattle.question_text.proofs.CycleSteps.{no_sweep, sweeps_on}
 use Rattle.question_text.proofs.cycle.sweep_all.Goals as goal
 
--- src/cycle.rt:81:5
 pub loop-region-init : goal.loop-region-init
-loop-region-init c = ?
+loop-region-init c = record { swept = no_sweep c.args.machine.now; few = omega arith }
 
--- src/cycle.rt:81:5
 pub loop-region-preserved : goal.loop-region-preserved
-loop-region-preserved c = ?
+loop-region-preserved c = record {
+  swept = sweeps_on c.args.machine.now c.loop-region.machine c.sweep_region.new.machine c.loop-region.swept c.in_ok-removed.removed c.loop-region.invariant.swept c.in_ok-removed.ensures.swept;
+  few = omega (arith, c.loop-region.invariant.few, c.in_ok-removed.ensures.few);
+}

@@ -1,17 +1,19 @@
-use Rattle.std.proofs.Common.{rules, ◌≡◌, ◌≤◌, ◌++◌, IfErr, IfOk, OnErr, OnOk, ℕ, ◌+◌, ◌-◌, ◌*◌, ◌<◌, length, ◌/◌, ◌%◌, Bool, true, false, nat_eq, nat_lt, List, [], ◌∷◌, slice_index_or, slice_set, bit_and, bit_or, Fits, w8, w32, w64, Bor, MutBor}
-use Rattle.heap_class.specs.declared.Refusal.TheVariants.{NoMemory}
-use Rattle.session_text.specs.Replies.{line_answer_text}
-use Rattle.question_text.specs.Collections.{Collects, Finishes, IsCycleStep, IsMarkStep, IsSweep, IsWholeCycle, Marks, MayRefuse, MovesOn, StopsAt, Sweeps, collected_text, condemned_of, is_collect, swept_of}
+use Rattle.std.proofs.Common.{◌≤◌, ℕ, subst, sym}
+use Rattle.heap_trail.specs.Machine.{Machine}
+use Rattle.question_text.specs.Collections.{Sweeps}
+use Rattle.question_text.proofs.CycleSteps.{few_swept, no_sweep, one_sweep}
 use Rattle.question_text.proofs.cycle.sweep_region.Goals as goal
 
--- src/cycle.rt:63:1
 pub returns-in-Ok-clause-swept : goal.returns-in-Ok-clause-swept
-returns-in-Ok-clause-swept c = ?
+returns-in-Ok-clause-swept c =
+    subst (λ (n : ℕ). Sweeps c.args.machine.now n c.step.new.self) (sym c.swept_of.ensures)
+    (one_sweep c.args.machine.now c.step.new.self c.args.region c.in-Ok.answer c.in-Ok.ensures.done)
 
--- src/cycle.rt:63:1
 pub returns-in-Ok-clause-few : goal.returns-in-Ok-clause-few
-returns-in-Ok-clause-few c = ?
+returns-in-Ok-clause-few c =
+    subst (λ (n : ℕ). n ≤ 256) (sym c.swept_of.ensures)
+    (few_swept c.args.machine.now c.step.new.self c.args.region c.in-Ok.answer c.world.ensures.legal c.in-Ok.ensures.done)
 
--- src/cycle.rt:63:1
 pub returns-in-Err-NothingToSweep-clause-swept : goal.returns-in-Err-NothingToSweep-clause-swept
-returns-in-Err-NothingToSweep-clause-swept c = ?
+returns-in-Err-NothingToSweep-clause-swept c =
+    subst (λ (m : Machine). Sweeps c.args.machine.now 0 m) (sym c.in-Err-NothingToSweep.ensures.unchanged) (no_sweep c.args.machine.now)

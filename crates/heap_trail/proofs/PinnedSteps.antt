@@ -1,5 +1,6 @@
 -- What a step makes of a machine with pins.
 use Rattle.heap_class.specs.declared.IdSize.{IdSize}
+use Rattle.std.specs.Prelude.{is_some}
 use Rattle.std.proofs.Common.{◌≡◌, ℕ, suc, ◌+◌, ◌<◌, ◌≤◌, Bool, true, List, [], ◌∷◌, length, map, refl, sym, ap, subst, ◌∙◌, Option, Some, None, IsSome, Ok, inl, inr}
 use Rattle.std.specs.Option.{option_map_or}
 use Rattle.circular_buffer.specs.Buffer.{Buffer}
@@ -94,7 +95,7 @@ lost_touches left v [] [] e n ns h = cc
 lost_touches left v [] (t ∷ ts) e n ns h = absurd e
 lost_touches left v (s ∷ ss) [] e n ns h = absurd e
 lost_touches left v (s ∷ ss) (t ∷ ts) (inl e, es) n ns h = lost_touches left v ss ts es n ns h
-lost_touches left v (s ∷ ss) (t ∷ ts) (inr e, es) n ns h = subst IsSome (sym e.2.1) tt
+lost_touches left v (s ∷ ss) (t ∷ ts) (inr e, es) n ns h = ap is_some e.2.1
 
 -- ---- the step
 

@@ -1,8 +1,7 @@
 -- Steps of a cycle, one after another.
 use Rattle.std.proofs.Common.{◌≡◌, ◌∙◌, ◌+◌, ◌<◌, ◌≤◌, ℕ, Bool, true, false, List, [], ◌∷◌, ◌++◌, Option, Some, None, length, map, refl, sym, ap, ap₂, subst, inl, inr, arith}
-use Rattle.std.specs.Prelude.{Result, Ok, Err, nat_le, sum_by, ◌⊎◌}
+use Rattle.std.specs.Prelude.{Result, Ok, Err, nat_le, sum_by}
 use Rattle.std.specs.List.{AllByRecursion, enumerate_from}
-use Rattle.std.specs.Option.{option_map_or}
 use Rattle.std.proofs.lemmas.Bool.{leb-false}
 use Rattle.std.proofs.lemmas.List.{map-append}
 use Rattle.std.proofs.lemmas.List.FromFn.{length-enumerate_from}
@@ -25,7 +24,7 @@ use Rattle.heap_trail.specs.declared.Action.TheVariants.{Step}
 use Rattle.heap_trail.specs.declared.Reply.{Reply}
 use Rattle.heap_trail.specs.declared.Reply.TheVariants.{Answered, Refused}
 use Rattle.heap_trail.specs.Limits.{last_place}
-use Rattle.heap_trail.specs.Machine.{Machine, Allocation, Granted, Denied, LosesPins, AreAllocations, MayDrive, MayFail, MayReply, acted, acted_under, after_result, after_step_at, machine_after, replies_of}
+use Rattle.heap_trail.specs.Machine.{Machine, Allocation, Granted, Denied, LosesPins, AreAllocations, MayDrive, MayReply, acted, acted_under, after_result, after_step_at, machine_after, replies_of}
 use Rattle.heap_trail.specs.Trail.{stepped}
 use Rattle.heap_trail.proofs.ActionLists.{driven_more, driven_none}
 use Rattle.question_text.specs.Collections.{Finishes, IsCycleStep, IsMarkStep, IsSweep, IsWholeCycle, Marks, MayRefuse, MovesOn, StopsAt, Sweeps, TakenStep, Takes, swept_by, swept_of}

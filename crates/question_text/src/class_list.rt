@@ -46,11 +46,7 @@ fn push_own_fields(
 
 // Appends what stands for the super of a class, which must be there. Fails with NoMemory.
 #[tactic(auto, unfolding(crate::specs::ClassLists::super_words))]
-fn push_super(
-    text: &mut Vec<u8>,
-    classes: &FirstClasses<'_>,
-    class: ClassNo,
-) -> Result<(), Refusal>
+fn push_super(text: &mut Vec<u8>, classes: &FirstClasses<'_>, class: ClassNo) -> Result<(), Refusal>
     requires { class < length classes.now }
     ensures ok { OnOk result (text.new.items ≡ text.old.items ++ super_words classes.now class) }
     ensures refused { IfErr result (λ e. e ≡ NoMemory) }
@@ -66,11 +62,7 @@ fn push_super(
 
 // Appends the line of a class, which must be there. Fails with NoMemory.
 #[tactic(auto, unfolding(crate::specs::ClassLists::class_text))]
-fn push_class(
-    text: &mut Vec<u8>,
-    classes: &FirstClasses<'_>,
-    class: ClassNo,
-) -> Result<(), Refusal>
+fn push_class(text: &mut Vec<u8>, classes: &FirstClasses<'_>, class: ClassNo) -> Result<(), Refusal>
     requires { class < length classes.now }
     ensures ok { OnOk result (text.new.items ≡ text.old.items ++ class_text classes.now class) }
     ensures refused { IfErr result (λ e. e ≡ NoMemory) }

@@ -1,4 +1,4 @@
-use Rattle.std.proofs.Common.{◌≡◌, ◌∙◌, ◌+◌, ◌++◌, List, ℕ, ap, append_assoc, arith, drop, length, sym}
+use Rattle.std.proofs.Common.{◌≡◌, ◌∙◌, ◌+◌, ◌++◌, List, ℕ, ap, append_assoc, arith, drop, sym}
 use Rattle.heap_class.specs.Classes.{fields_of}
 use Rattle.question_text.specs.ClassLists.{and_fields, field_words}
 use Rattle.question_text.proofs.FieldRows.{fields_further}

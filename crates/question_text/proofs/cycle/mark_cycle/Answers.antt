@@ -1,5 +1,5 @@
 use Rattle.std.proofs.lemmas.Result.{IfErr-weaker, err_from_is_err_and, on_ok_weaker}
-use Rattle.question_text.specs.Collections.{IsMarkStep, Marks, StopsAt}
+use Rattle.question_text.specs.Collections.{IsMarkStep, StopsAt}
 use Rattle.question_text.proofs.CycleSteps.{marks_on, marks_stop, stops_first}
 use Rattle.question_text.proofs.cycle.mark_cycle.Goals as goal
 
@@ -10,7 +10,7 @@ returns-in_err-begin-clause-refused c =
 
 pub returns-clause-marked : goal.returns-clause-marked
 returns-clause-marked c =
-    on_ok_weaker c.mark_all.result (Marks c.begin.new.machine c.mark_all.new.machine) (Marks c.args.machine.now c.mark_all.new.machine)
+    on_ok_weaker c.mark_all.result
     (marks_on c.args.machine.now c.begin.new.machine c.mark_all.new.machine c.in_ok-begin.ensures.begun) c.mark_all.ensures.marked
 
 pub returns-clause-refused : goal.returns-clause-refused

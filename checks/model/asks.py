@@ -12,11 +12,14 @@ WANTED = {
     "path": (*ABOUT_A_MOMENT, "no 27", "no 28"),
     "referrers": (*ABOUT_A_MOMENT, "no 28"),
     "registers": ABOUT_A_MOMENT,
+    "classes": ABOUT_A_MOMENT,
     "show": (*ABOUT_A_MOMENT, "no 28"),
     "born": ("ok place", "ok older", "no 28"),
     "wrote": ("ok place", "ok older", "no 9", "no 28"),
     "dropped": ("ok place", "ok older", "ok reached", "no 28"),
     "history": ("ok",),
+    "pins": ("ok",),
+    "collect": ("ok",),
     "help": ("ok", "bad"),
 }
 LEAST = 3

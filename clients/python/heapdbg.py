@@ -33,6 +33,13 @@ class Swept(NamedTuple):
     emptied: bool
 
 
+class Collected(NamedTuple):
+    """What a whole cycle did: how many objects its finish condemned, and how many its sweeps removed."""
+
+    condemned: int
+    swept: int
+
+
 class PinAt(NamedTuple):
     """A pin that was opened: its number and its place."""
 
@@ -98,6 +105,11 @@ def loaded(words: list, _lines: list) -> Union[ObjectId, int, None]:
 def swept(words: list, _lines: list) -> Swept:
     """Returns what a sweep did."""
     return Swept(int(words[1]), words[2:] == ["empty"])
+
+
+def collected(words: list, _lines: list) -> Collected:
+    """Returns what a whole cycle did."""
+    return Collected(int(words[1]), int(words[3]))
 
 
 def pinned(words: list, _lines: list) -> PinAt:
@@ -249,7 +261,7 @@ class Calls:
         return self.send(f"registers {at_of(moment)}", rows)
 
     def classes(self, moment: Moment = None) -> Any:
-        """Returns rows (number, name, super, field..)."""
+        """Returns rows (number, name, super, "field:kind"..): super is a number, "-", or "array" for an array class."""
         return self.send(f"classes {at_of(moment)}", rows)
 
     def histogram(self, moment: Moment = None) -> Any:
@@ -289,8 +301,13 @@ class Calls:
         return self.send(f"history {count}", rows)
 
     def pins(self) -> Any:
-        """Returns rows (pin, place, "held", bytes) or (pin, place, "lost", cause, bytes)."""
+        """Returns rows (pin, place, "held", pieces) or (pin, "lost", cause) of the open pins."""
         return self.send("pins", rows)
+
+    def collect(self) -> Any:
+        """Runs a whole cycle, or finishes the one that runs, and returns what it did as `Collected`. The only question that
+        changes the heap."""
+        return self.send("collect", collected)
 
 
 class Later:

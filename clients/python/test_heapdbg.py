@@ -10,7 +10,7 @@ import sys
 import time
 import unittest
 
-from heapdbg import BadCommand, Ended, ObjectId, Piece, PinAt, Refused, Session, Swept
+from heapdbg import BadCommand, Collected, Ended, ObjectId, Piece, PinAt, Refused, Session, Swept
 
 PROGRAM = os.path.abspath(sys.argv[1]) if len(sys.argv) > 1 else "heapdbg"
 NODE = [("next", "object"), ("v", "long")]
@@ -91,6 +91,14 @@ class Replies(unittest.TestCase):
         self.assertEqual(heap.dropped(0x10000000), ("reached",))
         self.assertEqual(heap.born(0x10000000), ("older", 4))
         self.assertEqual(heap.writer.getvalue(), b"show - 0x10000000\ndropped 0x10000000\nborn 0x10000000\n")
+
+    def test_classes_pins_and_collect(self):
+        lines = "row 0 Node - next:object v:long", "row 1 Nodes array", "ok 2", "row 1 3 held 2", "row 4 lost Rewound", "ok 2"
+        heap = canned(*lines, "ok condemned 3 swept 5")
+        self.assertEqual(heap.classes("@3"), [(0, "Node", "-", "next:object", "v:long"), (1, "Nodes", "array")])
+        self.assertEqual(heap.pins(), [(1, 3, "held", 2), (4, "lost", "Rewound")])
+        self.assertEqual(heap.collect(), Collected(condemned=3, swept=5))
+        self.assertEqual(heap.writer.getvalue(), b"classes @3\npins\ncollect\n")
 
 
 class Refusals(unittest.TestCase):

@@ -8,6 +8,7 @@ use Rattle.heap_class.specs.declared.Field.{Field}
 use Rattle.heap_class.specs.declared.Kind.{Kind}
 use Rattle.heap_class.specs.Classes.{Class, fields_of, sup_of}
 use Rattle.hprof_text.proofs.Loops.{some_item}
+use Rattle.question_text.specs.ClassLists.{and_fields, field_words}
 use Rattle.question_text.specs.Objects.{field_row, field_rows, fields_up}
 
 rows_none : (n : ℕ) (fs : List Field) → field_rows n fs [] ≡ []
@@ -27,6 +28,15 @@ rows_more i j q fs ws name kind e li a k lj =
     ∙ at_drop_more (λ vs. field_rows j (f.0 ∷ drop (i + 1) fs) vs) ws j 0 lj
     ∙ ap₂ (λ b m. field_row j b m (get_or ws j 0) ++ field_rows (j + 1) (drop (i + 1) fs) (drop (j + 1) ws)) (sym (said (λ f. name ≡ f.name) (slice_get fs i) f.0 f.1 a)) (sym (said (λ f. kind ≡ f.kind) (slice_get fs i) f.0 f.1 k))
     ∙ ap (λ p. field_row j name kind (get_or ws j 0) ++ field_rows p (drop (i + 1) fs) (drop p ws)) (sym e)
+
+-- the next field, and those after it
+pub fields_further : (i : ℕ) (fs : List Field) (name : List ℕ) (kind : Kind) → i < length fs → IfSome (slice_get fs i) (λ f. name ≡ f.name) → IfSome (slice_get fs i) (λ f. kind ≡ f.kind)
+    → and_fields (drop i fs) ≡ field_words name kind ++ and_fields (drop (i + 1) fs)
+fields_further i fs name kind li a k =
+    let f = some_item fs i li in
+    at_drop_more and_fields fs i f.0 li
+    ∙ ap (λ g. and_fields (g ∷ drop (i + 1) fs)) (get_or_from_slice_get fs i f.0 f.0 f.1)
+    ∙ ap₂ (λ b m. field_words b m ++ and_fields (drop (i + 1) fs)) (sym (said (λ f. name ≡ f.name) (slice_get fs i) f.0 f.1 a)) (sym (said (λ f. kind ≡ f.kind) (slice_get fs i) f.0 f.1 k))
 
 -- the fields or the words are used up
 pub used_up : (a b f c i : ℕ) → c ≡ min a (b - f) → c ≤ i → f ≤ b → (a ≤ i) ⊎ (b ≤ f + i)

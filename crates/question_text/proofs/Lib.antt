@@ -7,3 +7,5 @@ pub mod Slots
 pub mod FieldNames
 pub mod FieldRows
 pub mod NamedObjects
+pub mod PinRows
+pub mod CycleSteps

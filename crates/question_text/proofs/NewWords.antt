@@ -1,14 +1,17 @@
 -- No line that asks a question is one of the grammar of sessions.
-use Rattle.std.proofs.Common.{◌≡◌, ℕ, Bool, true, false, cond, List, [], ◌∷◌, Some, None, refl, sym, subst}
+use Rattle.std.proofs.Common.{◌≡◌, ◌∙◌, ℕ, Bool, true, false, cond, List, [], ◌∷◌, Some, None, refl, sym, subst}
 use Rattle.std.specs.Prelude.{codes, find, option_and_then}
 use Rattle.std.specs.List.{AllByRecursion}
 use Rattle.std.specs.Str.{bytes_eq}
 use Rattle.std.proofs.lemmas.Slice.Eq.{bytes_eq-Decides}
 use Rattle.session_text.specs.declared.command.Command.TheVariants.{Bad}
 use Rattle.session_text.specs.Grammar.{access_rules, all_rules, by_rule, class_rules, command_of_text, command_of_words, is_plain, making_rules, marking_rules, session_rules, words_of_line}
+use Rattle.question_text.specs.declared.asking.Asking.{Asking}
 use Rattle.question_text.specs.declared.question.Question.{Question}
+use Rattle.question_text.specs.Collections.{is_collect, is_collect_words}
 use Rattle.question_text.specs.Help.{help_about, help_of, help_of_words}
 use Rattle.question_text.specs.Questions.{QuestionRule, question_of, question_of_words, question_rules}
+use Rattle.question_text.specs.Sessions.{AnswersLine, AskingAnswers}
 
 -- a keyword that no rule of sessions has
 abbrev IsNew : List ℕ → Type 0
@@ -16,7 +19,7 @@ IsNew key = (ws : List (List ℕ)) → by_rule all_rules key ws ≡ None
 
 all_new : AllByRecursion (λ (r : QuestionRule). IsNew r.0) question_rules
 unfolding question_rules by_rule class_rules making_rules access_rules marking_rules session_rules
-all_new = (λ ws. refl, (λ ws. refl, (λ ws. refl, (λ ws. refl, (λ ws. refl, (λ ws. refl, (λ ws. refl, (λ ws. refl, (λ ws. refl, (λ ws. refl, (λ ws. refl, tt)))))))))))
+all_new = (λ ws. refl, (λ ws. refl, (λ ws. refl, (λ ws. refl, (λ ws. refl, (λ ws. refl, (λ ws. refl, (λ ws. refl, (λ ws. refl, (λ ws. refl, (λ ws. refl, (λ ws. refl, (λ ws. refl, tt)))))))))))))
 
 found_new : (w : List ℕ) (ws : List (List ℕ)) (rules : List QuestionRule) (q : Question) → AllByRecursion (λ (r : QuestionRule). IsNew r.0) rules
     → option_and_then (λ (rule : QuestionRule). rule.1 ws) (find (λ (rule : QuestionRule). bytes_eq w rule.0) rules) ≡ Some q → IsNew w
@@ -62,3 +65,52 @@ asks_no_command l q e = go (is_plain l)
     go : (b : Bool) → cond b (command_of_words (words_of_line l)) Bad ≡ Bad
     go true = by_words (words_of_line l) q e
     go false = refl
+
+-- ---- collect
+
+collect_new : IsNew (codes "collect")
+unfolding by_rule class_rules making_rules access_rules marking_rules session_rules
+collect_new ws = refl
+
+collect_word : (w : List ℕ) → bytes_eq w (codes "collect") ≡ true → w ≡ codes "collect"
+collect_word w e = (bytes_eq-Decides w (codes "collect")).0 e
+
+by_collect : (ws : List (List ℕ)) → is_collect_words ws ≡ true → command_of_words ws ≡ Bad
+by_collect [] e = absurd (cc e)
+by_collect (w ∷ []) e = let none = subst IsNew (sym (collect_word w e)) collect_new [] in rw none refl
+by_collect (w ∷ v ∷ ws) e = absurd (cc e)
+
+pub collects_no_command : (l : List ℕ) → is_collect l ≡ true → command_of_text l ≡ Bad
+collects_no_command l e = go (is_plain l)
+  where
+    go : (b : Bool) → cond b (command_of_words (words_of_line l)) Bad ≡ Bad
+    go true = by_collect (words_of_line l) e
+    go false = refl
+
+-- ---- no other line changes anything
+
+asks_nothing : question_of_words (codes "collect" ∷ []) ≡ None
+unfolding question_of_words question_rules
+asks_nothing = refl
+
+no_question : (ws : List (List ℕ)) → is_collect_words ws ≡ true → question_of_words ws ≡ None
+no_question [] e = absurd (cc e)
+no_question (w ∷ []) e = subst (λ (v : List ℕ). question_of_words (v ∷ []) ≡ None) (sym (collect_word w e)) asks_nothing
+no_question (w ∷ v ∷ ws) e = absurd (cc e)
+
+no_help : (ws : List (List ℕ)) → is_collect_words ws ≡ true → help_of_words ws ≡ None
+no_help [] e = absurd (cc e)
+no_help (w ∷ []) e = subst (λ (v : List ℕ). help_of_words (v ∷ []) ≡ None) (sym (collect_word w e)) refl
+no_help (w ∷ v ∷ ws) e = absurd (cc e)
+
+unchanged : (b : Bool) (l text : List ℕ) (c d : Asking) → (b ≡ true → ⊥) → AnswersLine b l c text d → d ≡ c
+unchanged true l text c d h a = absurd (h refl)
+unchanged false l text c d h a = a.1
+
+pub question_changes_nothing : (l text : List ℕ) (q : Question) (c d : Asking) → question_of l ≡ Some q → AskingAnswers l c text d → d ≡ c
+question_changes_nothing l text q c d e a =
+    unchanged (is_collect l) l text c d (λ t. let clash : None ≡ Some q = sym (no_question (words_of_line l) t) ∙ e in absurd (cc clash)) a
+
+pub help_changes_nothing : (l text answer : List ℕ) (c d : Asking) → help_of l ≡ Some answer → AskingAnswers l c text d → d ≡ c
+help_changes_nothing l text answer c d e a =
+    unchanged (is_collect l) l text c d (λ t. let clash : None ≡ Some answer = sym (no_help (words_of_line l) t) ∙ e in absurd (cc clash)) a

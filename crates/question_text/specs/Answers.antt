@@ -2,8 +2,9 @@
 use Rattle.std.specs.Prelude.{◌≡◌, ℕ, List, Option, Some, None}
 use Rattle.heap_trail.specs.Machine.{Machine}
 use Rattle.question_text.specs.declared.question.Question.{Question}
-use Rattle.question_text.specs.declared.question.Question.TheVariants.{Histogram, Garbage, Growth, Registers, Referrers, Path, Show, Born, Wrote, Dropped, History}
+use Rattle.question_text.specs.declared.question.Question.TheVariants.{Histogram, Garbage, Growth, Registers, Classes, Referrers, Path, Show, Born, Wrote, Dropped, History, Pins}
 use Rattle.question_text.specs.Births.{IsBornText}
+use Rattle.question_text.specs.ClassLists.{IsClassesText}
 use Rattle.question_text.specs.Histograms.{IsGarbageText, IsHistogramText}
 use Rattle.question_text.specs.Moments.{IsAnswerAbout, IsAnswerBetween, image_at}
 use Rattle.question_text.specs.Growths.{IsGrowthText}
@@ -12,6 +13,7 @@ use Rattle.question_text.specs.Histories.{IsHistoryText}
 use Rattle.question_text.specs.Losses.{IsDroppedText}
 use Rattle.question_text.specs.Objects.{IsShowText, shows_mark}
 use Rattle.question_text.specs.Paths.{IsPathText}
+use Rattle.question_text.specs.PinLists.{IsPinsText}
 use Rattle.question_text.specs.Registers.{IsRegistersText}
 use Rattle.question_text.specs.Referrers.{IsReferrersText}
 use Rattle.question_text.specs.Questions.{question_of}
@@ -24,6 +26,7 @@ IsAnswer (Garbage at) m text = IsAnswerAbout (IsGarbageText m.ids) (image_at at 
 IsAnswer (Growth older newer) m text =
     IsAnswerBetween (IsGrowthText m.ids) (image_at older m) (image_at newer m) text
 IsAnswer (Registers at) m text = IsAnswerAbout IsRegistersText (image_at at m) text
+IsAnswer (Classes at) m text = IsAnswerAbout IsClassesText (image_at at m) text
 IsAnswer (Referrers at x) m text = IsAnswerAbout (IsReferrersText x) (image_at at m) text
 IsAnswer (Path at x) m text = IsAnswerAbout (IsPathText x) (image_at at m) text
 IsAnswer (Show at x) m text =
@@ -32,6 +35,7 @@ IsAnswer (Born x) m text = IsBornText x m.trail text
 IsAnswer (Wrote x s) m text = IsWroteText x s m.trail text
 IsAnswer (Dropped x) m text = IsDroppedText x m.trail text
 IsAnswer (History count) m text = IsHistoryText count m.trail text
+IsAnswer Pins m text = IsPinsText m.pins text
 
 -- the answer of a line that asks this question; or none, and it may ask for help
 abbrev pub IsAnswerOf : Option Question → List ℕ → Machine → List ℕ → Type 0

@@ -14,13 +14,15 @@ pub record LineForm : Type 0 where
 abbrev form_of : List ℕ → List ℕ → List ℕ → LineForm
 form_of key form example = record { key = key; form = form; example = example }
 
--- questions about the past
+-- questions about the past and about pins, `collect` and `help`
 unfoldable pub past_forms : List LineForm
 past_forms =
     form_of (codes "born") (codes "born ID") (codes "born 0x10000020")
     ∷ form_of (codes "wrote") (codes "wrote ID SLOT") (codes "wrote 0x10000020 1")
     ∷ form_of (codes "dropped") (codes "dropped ID") (codes "dropped 0x10000020")
     ∷ form_of (codes "history") (codes "history N") (codes "history 10")
+    ∷ form_of (codes "pins") (codes "pins") (codes "pins")
+    ∷ form_of (codes "collect") (codes "collect") (codes "collect")
     ∷ form_of (codes "help") (codes "help WORD") (codes "help path")
     ∷ []
 
@@ -31,6 +33,7 @@ image_forms =
     ∷ form_of (codes "garbage") (codes "garbage AT") (codes "garbage 1")
     ∷ form_of (codes "growth") (codes "growth AT AT") (codes "growth @120 -")
     ∷ form_of (codes "registers") (codes "registers AT") (codes "registers -")
+    ∷ form_of (codes "classes") (codes "classes AT") (codes "classes -")
     ∷ form_of (codes "referrers") (codes "referrers AT ID") (codes "referrers - 0x10000020")
     ∷ form_of (codes "path") (codes "path AT ID") (codes "path @120 0x10000020")
     ∷ form_of (codes "show") (codes "show AT ID") (codes "show - 0x10000020")

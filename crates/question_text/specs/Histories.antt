@@ -7,7 +7,7 @@ use Rattle.heap_past.specs.declared.steps.PastStep.{PastStep}
 use Rattle.heap_past.specs.Newest.{AreNewest}
 use Rattle.session_text.specs.Replies.{and_number, line}
 use Rattle.question_text.specs.Ids.{and_id, and_reference}
-use Rattle.question_text.specs.Places.{IsAnswered}
+use Rattle.question_text.specs.Places.{IsTextOrNoMemory}
 use Rattle.question_text.specs.Referrers.{count_text}
 
 -- a space, a word, an id and the number of a slot
@@ -33,12 +33,12 @@ event_words (Sweep region dead) = (codes " sweep" ++ and_number region) ++ and_n
 event_words (Reclaim region) = codes " reclaim" ++ and_number region
 
 -- the line of a step
-unfoldable pub step_line : PastStep → List ℕ
-step_line s = line ((codes "row" ++ and_number s.place) ++ event_words s.event)
+unfoldable pub past_step_line : PastStep → List ℕ
+past_step_line s = line ((codes "row" ++ and_number s.place) ++ event_words s.event)
 
 -- the lines of some steps, and their number
 abbrev pub steps_text : List PastStep → List ℕ
-steps_text steps = flat_map step_line steps ++ count_text (length steps)
+steps_text steps = flat_map past_step_line steps ++ count_text (length steps)
 
 -- the lines of the newest `count` retained steps, newest first
 abbrev pub IsNewestText : ℕ → Trail → List ℕ → Type 0
@@ -47,4 +47,4 @@ IsNewestText count t text =
 
 -- the answer of `history`
 abbrev pub IsHistoryText : ℕ → Trail → List ℕ → Type 0
-IsHistoryText count t text = IsAnswered (IsNewestText count t) text
+IsHistoryText count t text = IsTextOrNoMemory (IsNewestText count t) text

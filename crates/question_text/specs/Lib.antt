@@ -5,14 +5,17 @@ pub mod Names
 pub mod Histograms
 pub mod Referrers
 pub mod Registers
+pub mod ClassLists
 pub mod Growths
 pub mod Paths
 pub mod Objects
 pub mod Places
+pub mod PinLists
 pub mod Births
 pub mod Writes
 pub mod Losses
 pub mod Histories
 pub mod Help
+pub mod Collections
 pub mod Answers
 pub mod Sessions

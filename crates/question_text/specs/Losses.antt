@@ -5,7 +5,7 @@ use Rattle.heap_trail.specs.Trail.{Trail}
 use Rattle.heap_past.specs.declared.losses.Loss.{Loss}
 use Rattle.heap_past.specs.declared.losses.Loss.TheVariants.{Reached, At, Older}
 use Rattle.heap_past.specs.Losses.{IsLossOf}
-use Rattle.question_text.specs.Places.{IsAboutObject, IsAnswered, older_text, place_text}
+use Rattle.question_text.specs.Places.{IsAboutObject, IsTextOrNoMemory, older_text, place_text}
 
 -- the line of a loss
 abbrev pub loss_text : Trail → Loss → List ℕ
@@ -19,4 +19,4 @@ IsLossText t at text = (loss : Loss) × IsLossOf t at loss × (text ≡ loss_tex
 
 -- the answer of `dropped`
 abbrev pub IsDroppedText : ℕ → Trail → List ℕ → Type 0
-IsDroppedText x t text = IsAboutObject (λ at. IsAnswered (IsLossText t at)) t.current x text
+IsDroppedText x t text = IsAboutObject (λ at. IsTextOrNoMemory (IsLossText t at)) t.current x text

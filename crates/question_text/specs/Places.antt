@@ -22,8 +22,8 @@ IsPlaceText holds none t text =
     ((place : ℕ) × holds place × (text ≡ place_text place)) ⊎ (none × (text ≡ older_text t))
 
 -- the text is an answer, or memory for it was refused
-abbrev pub IsAnswered : (List ℕ → Type 0) → List ℕ → Type 0
-IsAnswered answers text = answers text ⊎ (text ≡ refused_text NoMemory)
+abbrev pub IsTextOrNoMemory : (List ℕ → Type 0) → List ℕ → Type 0
+IsTextOrNoMemory answers text = answers text ⊎ (text ≡ refused_text NoMemory)
 
 -- an object, dead or not, has the id x and stands at a place
 abbrev pub StandsAt : HeapState → ℕ → ObjRef → Type 0

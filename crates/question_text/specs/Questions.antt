@@ -1,11 +1,11 @@
 -- The lines of questions.
 use Rattle.std.specs.Prelude.{ℕ, List, [], ◌∷◌, take, drop, find, codes, Option, Some, None, option_map, option_and_then, if◌then◌else◌}
 use Rattle.std.specs.Str.{bytes_eq}
-use Rattle.session_text.specs.Grammar.{at_end, number_of_word, words_of_line}
+use Rattle.session_text.specs.Grammar.{at_end, next_number, number_of_word, one_number, words_of_line}
 use Rattle.question_text.specs.declared.question.At.{At}
 use Rattle.question_text.specs.declared.question.At.TheVariants.{Current, Pin, Place}
 use Rattle.question_text.specs.declared.question.Question.{Question}
-use Rattle.question_text.specs.declared.question.Question.TheVariants.{Histogram, Garbage, Growth, Registers, Referrers, Path, Show, Born, Wrote, Dropped, History}
+use Rattle.question_text.specs.declared.question.Question.TheVariants.{Histogram, Garbage, Growth, Registers, Classes, Referrers, Path, Show, Born, Wrote, Dropped, History, Pins}
 use Rattle.question_text.specs.Ids.{id_of_word}
 
 -- the state that a word names: `-`, `@` and a place, or the number of a pin
@@ -58,6 +58,10 @@ growth_line ws = option_map (λ a. Growth a.0 a.1) (two_ats ws)
 abbrev pub registers_line : List (List ℕ) → Option Question
 registers_line ws = option_map (λ at. Registers at) (one_at ws)
 
+-- `classes AT`
+abbrev pub classes_line : List (List ℕ) → Option Question
+classes_line ws = option_map (λ at. Classes at) (one_at ws)
+
 -- `referrers AT ID`
 abbrev pub referrers_line : List (List ℕ) → Option Question
 referrers_line ws = option_map (λ a. Referrers a.0 a.1) (at_and_id ws)
@@ -78,11 +82,6 @@ one_id ws = option_and_then (λ x. at_end x.0 x.1) (next_id ws)
 abbrev pub born_line : List (List ℕ) → Option Question
 born_line ws = option_map (λ x. Born x) (one_id ws)
 
--- the number that the first word is, and the other words
-abbrev pub next_number : List (List ℕ) → Option (ℕ × List (List ℕ))
-next_number [] = None
-next_number (w ∷ ws) = option_map (λ n. (n, ws)) (number_of_word w)
-
 -- the id and the number that the words name
 abbrev pub id_and_number : List (List ℕ) → Option (ℕ × ℕ)
 id_and_number ws =
@@ -97,13 +96,13 @@ wrote_line ws = option_map (λ a. Wrote a.0 a.1) (id_and_number ws)
 abbrev pub dropped_line : List (List ℕ) → Option Question
 dropped_line ws = option_map (λ x. Dropped x) (one_id ws)
 
--- the one number that the words name
-abbrev pub one_number : List (List ℕ) → Option ℕ
-one_number ws = option_and_then (λ n. at_end n.0 n.1) (next_number ws)
-
 -- `history N`
 abbrev pub history_line : List (List ℕ) → Option Question
 history_line ws = option_map (λ n. History n) (one_number ws)
+
+-- `pins`
+abbrev pub pins_line : List (List ℕ) → Option Question
+pins_line ws = at_end Pins ws
 
 -- ---- the table of questions
 
@@ -118,6 +117,7 @@ question_rules =
     ∷ (codes "garbage", garbage_line)
     ∷ (codes "growth", growth_line)
     ∷ (codes "registers", registers_line)
+    ∷ (codes "classes", classes_line)
     ∷ (codes "referrers", referrers_line)
     ∷ (codes "path", path_line)
     ∷ (codes "show", show_line)
@@ -125,6 +125,7 @@ question_rules =
     ∷ (codes "wrote", wrote_line)
     ∷ (codes "dropped", dropped_line)
     ∷ (codes "history", history_line)
+    ∷ (codes "pins", pins_line)
     ∷ []
 
 -- the question of these words, by the rule of the first

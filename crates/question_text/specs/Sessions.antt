@@ -1,5 +1,5 @@
 -- Sessions with questions.
-use Rattle.std.specs.Prelude.{◌≡◌, ℕ, List}
+use Rattle.std.specs.Prelude.{◌≡◌, ℕ, Bool, true, false}
 use Rattle.dump_pump.specs.Outlets.{Outgoing}
 use Rattle.session_text.specs.declared.Ended.{Ended}
 use Rattle.session_text.specs.Answers.{AnswerRelation, AnswersCommand, Begins}
@@ -9,15 +9,22 @@ use Rattle.session_text.specs.Local.{LocalActs}
 use Rattle.session_text.specs.Talks.{Serves}
 use Rattle.question_text.specs.declared.asking.Asking.{Asking}
 use Rattle.question_text.specs.Answers.{IsAnswerOfLine}
+use Rattle.question_text.specs.Collections.{Collects, is_collect}
 
 -- an action, as without questions
 abbrev pub AskingActs : Acts Asking
 AskingActs c a r d =
     LocalActs c.local.machine a r d.local.machine × (d.local.first_pin ≡ c.local.first_pin)
 
--- the answer of a line that the grammar of sessions doesn't know, which changes nothing
+-- `collect` takes steps, and no other line changes anything
+abbrev pub AnswersLine : Bool → AnswerRelation Asking
+AnswersLine true l c text d =
+    Collects c.local.machine text d.local.machine × (d.local.first_pin ≡ c.local.first_pin)
+AnswersLine false l c text d = IsAnswerOfLine l c.local.machine text × (d ≡ c)
+
+-- the answer of a line that the grammar of sessions doesn't know
 abbrev pub AskingAnswers : AnswerRelation Asking
-AskingAnswers l c text d = IsAnswerOfLine l c.local.machine text × (d ≡ c)
+AskingAnswers l c text d = AnswersLine (is_collect l) l c text d
 
 -- a session with questions
 abbrev pub ServesAsking : ℕ → Incoming → Incoming → Asking → Outgoing → Asking → Outgoing → Ended

@@ -2,6 +2,7 @@
 ghost use Rattle.std.specs.Prelude.{◌≡◌};
 ghost use Rattle.session_text.specs.Replies.{line_answer_text};
 ghost use Rattle.question_text.specs.Answers.{IsAnswer};
+ghost use Rattle.question_text.specs.ClassLists.{IsClassesText};
 ghost use Rattle.question_text.specs.Histograms.{IsGarbageText, IsHistogramText};
 ghost use Rattle.question_text.specs.Growths.{IsGrowthText};
 ghost use Rattle.question_text.specs.Objects.{IsShowText, shows_mark};
@@ -12,11 +13,13 @@ ghost use Rattle.question_text.specs.Moments.{IsAnswerAbout, IsAnswerBetween, im
 
 use crate::at::{moment_at, view_of};
 use crate::birth::born_answer;
+use crate::class_list::classes_answer;
 use crate::growth::growth_answer;
 use crate::histogram::{garbage_text, histogram_text};
 use crate::history::history_answer;
 use crate::loss::dropped_answer;
 use crate::path::path_answer;
+use crate::pin_list::pins_answer;
 use crate::question::{At, Question};
 use crate::referrers::referrers_answer;
 use crate::registers::registers_answer;
@@ -28,7 +31,7 @@ use session_text::LineAnswer;
 use std::alloc::Global;
 
 // Returns what is printed of the lines of an answer, or if there is none.
-fn told(lines: Result<Vec<u8>, Unanswered>) -> LineAnswer
+fn line_answer(lines: Result<Vec<u8>, Unanswered>) -> LineAnswer
     ensures { line_answer_text result ≡ told_text lines }
 {
     match lines {
@@ -78,6 +81,15 @@ fn registers(alloc: Global, machine: &Machine, at: At) -> Result<Vec<u8>, Unansw
     Ok(registers_answer(alloc, &view)?)
 }
 
+// Returns the lines of `classes AT`.
+fn classes(alloc: Global, machine: &Machine, at: At) -> Result<Vec<u8>, Unanswered>
+    ensures { IsAnswerAbout IsClassesText (image_at at machine.now) (told_text result) }
+{
+    let moment = moment_at(machine, at)?;
+    let view = view_of(machine, &moment)?;
+    Ok(classes_answer(alloc, &view)?)
+}
+
 // Returns the lines of `referrers AT ID`.
 fn referrers(alloc: Global, machine: &Machine, at: At, id: u64) -> Result<Vec<u8>, Unanswered>
     ensures { IsAnswerAbout (IsReferrersText id) (image_at at machine.now) (told_text result) }
@@ -111,16 +123,18 @@ pub fn answer(alloc: Global, machine: &Machine, question: Question) -> LineAnswe
     ensures { IsAnswer question machine.now (line_answer_text result) }
 {
     match question {
-        Question::Histogram(at) => told(histogram(alloc, machine, at)),
-        Question::Garbage(at) => told(garbage(alloc, machine, at)),
-        Question::Growth { older, newer } => told(growth(alloc, machine, older, newer)),
-        Question::Registers(at) => told(registers(alloc, machine, at)),
-        Question::Referrers { at, id } => told(referrers(alloc, machine, at, id)),
-        Question::Path { at, id } => told(path(alloc, machine, at, id)),
-        Question::Show { at, id } => told(show(alloc, machine, at, id)),
+        Question::Histogram(at) => line_answer(histogram(alloc, machine, at)),
+        Question::Garbage(at) => line_answer(garbage(alloc, machine, at)),
+        Question::Growth { older, newer } => line_answer(growth(alloc, machine, older, newer)),
+        Question::Registers(at) => line_answer(registers(alloc, machine, at)),
+        Question::Classes(at) => line_answer(classes(alloc, machine, at)),
+        Question::Referrers { at, id } => line_answer(referrers(alloc, machine, at, id)),
+        Question::Path { at, id } => line_answer(path(alloc, machine, at, id)),
+        Question::Show { at, id } => line_answer(show(alloc, machine, at, id)),
         Question::Born(id) => born_answer(machine, id),
         Question::Wrote { id, slot } => wrote_answer(machine, id, slot),
         Question::Dropped(id) => dropped_answer(alloc, machine, id),
-        Question::History(count) => told(history_answer(alloc, machine, count)),
+        Question::History(count) => line_answer(history_answer(alloc, machine, count)),
+        Question::Pins => line_answer(pins_answer(alloc, machine)),
     }
 }

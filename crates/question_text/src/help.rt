@@ -9,7 +9,7 @@ use crate::id::is_word;
 use session_text::LineAnswer;
 use session_text::words::Words;
 
-// Returns what `help` answers about a keyword of a question about the past.
+// Returns what `help` answers about a keyword of a question about the past or about pins, `collect` or `help`.
 #[tactic(auto, unfolding(crate::specs::Help::form_text, crate::specs::Help::form_with, crate::specs::Help::past_forms))]
 fn past_help(word: &[u8]) -> Option<&'static [u8]>
     ensures { option_map (λ t. t.now) result ≡ form_with past_forms word.now }
@@ -25,6 +25,12 @@ fn past_help(word: &[u8]) -> Option<&'static [u8]>
     }
     if is_word(word, b"history") {
         return Some(b"row history N\nrow history 10\nok\n");
+    }
+    if is_word(word, b"pins") {
+        return Some(b"row pins\nrow pins\nok\n");
+    }
+    if is_word(word, b"collect") {
+        return Some(b"row collect\nrow collect\nok\n");
     }
     if is_word(word, b"help") {
         return Some(b"row help WORD\nrow help path\nok\n");
@@ -48,6 +54,9 @@ fn image_help(word: &[u8]) -> Option<&'static [u8]>
     }
     if is_word(word, b"registers") {
         return Some(b"row registers AT\nrow registers -\nok\n");
+    }
+    if is_word(word, b"classes") {
+        return Some(b"row classes AT\nrow classes -\nok\n");
     }
     if is_word(word, b"referrers") {
         return Some(b"row referrers AT ID\nrow referrers - 0x10000020\nok\n");
@@ -165,8 +174,8 @@ fn all_help() -> &'static [u8]
         row load M TO FROM SLOT\nrow store M TARGET SLOT SOURCE\nrow put M TARGET SLOT VALUE\nrow move M TO FROM_M FROM\nrow clear M R\n\
         row snap\nrow mark\nrow drain\nrow finish\nrow sweep REGION\n\
         row rewind N\nrow open AT\nrow piece PIN\nrow dump PIN\nrow close PIN\nrow end\n\
-        row histogram AT\nrow garbage AT\nrow growth AT AT\nrow registers AT\nrow referrers AT ID\nrow path AT ID\nrow show AT ID\n\
-        row born ID\nrow wrote ID SLOT\nrow dropped ID\nrow history N\nrow help WORD\nok\n"
+        row histogram AT\nrow garbage AT\nrow growth AT AT\nrow registers AT\nrow classes AT\nrow referrers AT ID\nrow path AT ID\nrow show AT ID\n\
+        row born ID\nrow wrote ID SLOT\nrow dropped ID\nrow history N\nrow pins\nrow collect\nrow help WORD\nok\n"
 }
 
 // Returns what the words after `help` are answered, or None if they name no line.

@@ -1,7 +1,7 @@
 //! The answer of `history`.
 ghost use Rattle.std.specs.Prelude.{◌≡◌, ◌++◌, flat_map, IfErr, IfOk, OnOk};
 ghost use Rattle.heap_class.specs.declared.Refusal.TheVariants.{NoMemory};
-ghost use Rattle.question_text.specs.Histories.{IsHistoryText, IsNewestText, and_overwritten, and_slot, event_words, step_line};
+ghost use Rattle.question_text.specs.Histories.{IsHistoryText, IsNewestText, and_overwritten, and_slot, event_words, past_step_line};
 ghost use Rattle.question_text.specs.Moments.{told_text};
 ghost use Rattle.session_text.specs.Replies.{and_number};
 
@@ -84,9 +84,9 @@ fn push_event(text: &mut Vec<u8>, event: PastEvent) -> Result<(), Refusal>
 }
 
 // Appends the line of a step. Fails with NoMemory.
-#[tactic(auto, unfolding(crate::specs::Histories::step_line))]
+#[tactic(auto, unfolding(crate::specs::Histories::past_step_line))]
 fn push_step(text: &mut Vec<u8>, step: PastStep) -> Result<(), Refusal>
-    ensures ok { OnOk result (text.new.items ≡ text.old.items ++ step_line step) }
+    ensures ok { OnOk result (text.new.items ≡ text.old.items ++ past_step_line step) }
     ensures refused { IfErr result (λ e. e ≡ NoMemory) }
 {
     push_words(text, b"row")?;
@@ -98,7 +98,7 @@ fn push_step(text: &mut Vec<u8>, step: PastStep) -> Result<(), Refusal>
 // Appends the lines of some steps. Fails with NoMemory.
 fn push_steps(text: &mut Vec<u8>, steps: &[PastStep]) -> Result<(), Refusal>
     ensures ok { OnOk result
-        (text.new.items ≡ text.old.items ++ flat_map step_line steps.now) }
+        (text.new.items ≡ text.old.items ++ flat_map past_step_line steps.now) }
     ensures refused { IfErr result (λ e. e ≡ NoMemory) }
 {
     for step in steps {

@@ -1,18 +1,23 @@
 //! Questions as lines, and their answers.
 #![tactic(auto)]
 
-ghost use Rattle.std.specs.Prelude.{◌≡◌, ℕ, List, Some};
+ghost use Rattle.std.specs.Prelude.{◌≡◌, ℕ, List, Some, codes, true};
 ghost use Rattle.session_text.specs.declared.command.Command.TheVariants.{Bad};
 ghost use Rattle.std.specs.List.{AllByRecursion};
 ghost use Rattle.session_text.specs.Grammar.{Rule, all_rules, command_of_text};
 ghost use Rattle.question_text.specs.declared.question.Question.{Question};
+ghost use Rattle.question_text.specs.declared.asking.Asking.{Asking};
+ghost use Rattle.question_text.specs.Collections.{is_collect};
 ghost use Rattle.question_text.specs.Help.{HasForm, help_of};
 ghost use Rattle.question_text.specs.Questions.{QuestionRule, question_of, question_rules};
+ghost use Rattle.question_text.specs.Sessions.{AskingAnswers};
 
 mod answers;
 mod asking;
 mod at;
 mod birth;
+mod class_list;
+mod cycle;
 mod growth;
 mod help;
 mod histogram;
@@ -21,6 +26,7 @@ mod id;
 mod loss;
 mod names;
 mod path;
+mod pin_list;
 mod place;
 mod question;
 mod referrers;
@@ -45,8 +51,22 @@ pub fn help_is_new()
     ensures { (l text : List ℕ) → help_of l ≡ Some text → command_of_text l ≡ Bad }
 {}
 
-/// States that `help` knows the keyword of each line of the grammar of sessions, and of each question.
+/// States the same of the line `collect`.
+pub fn collect_is_new()
+    ensures { (l : List ℕ) → is_collect l ≡ true → command_of_text l ≡ Bad }
+{}
+
+/// States that a question and a line that asks for help change nothing. Only `collect` does.
+pub fn questions_change_nothing()
+    ensures questions { (l text : List ℕ) (q : Question) (c d : Asking)
+        → question_of l ≡ Some q → AskingAnswers l c text d → d ≡ c }
+    ensures help { (l text answer : List ℕ) (c d : Asking)
+        → help_of l ≡ Some answer → AskingAnswers l c text d → d ≡ c }
+{}
+
+/// States that `help` knows the keyword of each line of the grammar of sessions, of each question, and `collect`.
 pub fn help_is_whole()
     ensures sessions { AllByRecursion (λ (r : Rule). HasForm r.0) all_rules }
     ensures questions { AllByRecursion (λ (r : QuestionRule). HasForm r.0) question_rules }
+    ensures collect { HasForm (codes "collect") }
 {}

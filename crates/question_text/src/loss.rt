@@ -3,7 +3,7 @@ ghost use Rattle.std.specs.Prelude.{◌≡◌, IsSome};
 ghost use Rattle.heap_region.specs.Regions.{object_at};
 ghost use Rattle.session_text.specs.Replies.{line_answer_text};
 ghost use Rattle.question_text.specs.Losses.{IsDroppedText, IsLossText, loss_text};
-ghost use Rattle.question_text.specs.Places.{IsAnswered};
+ghost use Rattle.question_text.specs.Places.{IsTextOrNoMemory};
 
 use crate::place::{older_line, place_line, place_of_object};
 use crate::rows::{Unanswered, reason_line};
@@ -27,7 +27,7 @@ fn loss_line(machine: &Machine, loss: Loss) -> LineAnswer
 // Returns the line of when registers lost the object at a place, or the refusal NoMemory if an allocation fails.
 fn loss_line_at(alloc: Global, machine: &Machine, at: ObjRef) -> LineAnswer
     requires { IsSome (object_at machine.now.trail.current.regions at) }
-    ensures { IsAnswered (IsLossText machine.now.trail at) (line_answer_text result) }
+    ensures { IsTextOrNoMemory (IsLossText machine.now.trail at) (line_answer_text result) }
 {
     match loss_of(alloc, machine, at) {
         Ok(loss) => loss_line(machine, loss),

@@ -1,8 +1,8 @@
 //! The grammar of questions.
 ghost use Rattle.std.specs.Prelude.{◌≡◌};
-ghost use Rattle.session_text.specs.Grammar.{at_end, words_of_line};
+ghost use Rattle.session_text.specs.Grammar.{at_end, next_number, one_number, words_of_line};
 ghost use Rattle.session_text.specs.Reads.{IsNextWord};
-ghost use Rattle.question_text.specs.Questions.{at_and_id, at_of_word, born_line, dropped_line, garbage_line, growth_line, histogram_line, history_line, id_and_number, next_at, next_id, next_number, one_at, one_id, one_number, path_line, question_of, referrers_line, registers_line, show_line, two_ats, wrote_line};
+ghost use Rattle.question_text.specs.Questions.{at_and_id, at_of_word, born_line, classes_line, dropped_line, garbage_line, growth_line, histogram_line, history_line, id_and_number, next_at, next_id, one_at, one_id, path_line, pins_line, question_of, referrers_line, registers_line, show_line, two_ats, wrote_line};
 
 use crate::id::{id_of, is_word};
 use session_text::number::number_of;
@@ -30,6 +30,8 @@ pub enum Question {
     Growth { older: At, newer: At },
     /// What each register names.
     Registers(At),
+    /// The classes.
+    Classes(At),
     /// What names an object.
     Referrers { at: At, id: u64 },
     /// Why an object is alive: a shortest path from a register.
@@ -44,6 +46,8 @@ pub enum Question {
     Dropped(u64),
     /// What the newest retained steps did: how many of them.
     History(u64),
+    /// The open pins.
+    Pins,
 }
 
 // Returns the state that a word names.
@@ -144,6 +148,14 @@ fn registers_line(words: Words) -> Option<Question>
     Some(Question::Registers(at))
 }
 
+// Reads the words of `classes AT`.
+fn classes_line(words: Words) -> Option<Question>
+    ensures { result ≡ classes_line (words_of_line words.entry) }
+{
+    let at = one_at(words)?;
+    Some(Question::Classes(at))
+}
+
 // Reads the words of `referrers AT ID`.
 fn referrers_line(words: Words) -> Option<Question>
     ensures { result ≡ referrers_line (words_of_line words.entry) }
@@ -233,6 +245,13 @@ fn history_line(words: Words) -> Option<Question>
     Some(Question::History(count))
 }
 
+// Reads the words of `pins`.
+fn pins_line(words: Words) -> Option<Question>
+    ensures { result ≡ pins_line (words_of_line words.entry) }
+{
+    at_end(Question::Pins, words)
+}
+
 /// Returns the question that a line asks, or None if it asks none.
 #[tactic(auto, unfolding(crate::specs::Questions::question_of_words, crate::specs::Questions::question_rules))]
 pub fn question_of(line: &[u8]) -> Option<Question>
@@ -251,6 +270,9 @@ pub fn question_of(line: &[u8]) -> Option<Question>
     }
     if is_word(word, b"registers") {
         return registers_line(words);
+    }
+    if is_word(word, b"classes") {
+        return classes_line(words);
     }
     if is_word(word, b"referrers") {
         return referrers_line(words);
@@ -272,6 +294,9 @@ pub fn question_of(line: &[u8]) -> Option<Question>
     }
     if is_word(word, b"history") {
         return history_line(words);
+    }
+    if is_word(word, b"pins") {
+        return pins_line(words);
     }
     None
 }

@@ -84,8 +84,8 @@ fn push_elements(text: &mut Vec<u8>, kind: Kind, words: &[u64]) -> Result<(), Re
     Ok(())
 }
 
-// Returns the name of an own field of a class.
-fn field_name<'a>(classes: &'a FirstClasses<'_>, class: ClassNo, field: u64) -> &'a [u8]
+/// Returns the name of an own field of a class. The class must have the field.
+pub(crate) fn field_name<'a>(classes: &'a FirstClasses<'_>, class: ClassNo, field: u64) -> &'a [u8]
     requires { field < length (fields_of classes.now class) }
     ensures { IfSome (slice_get (fields_of classes.now class) field)
         (λ f. result.now ≡ f.name) }
@@ -94,7 +94,7 @@ fn field_name<'a>(classes: &'a FirstClasses<'_>, class: ClassNo, field: u64) -> 
     classes.name_at(id - 1)
 }
 
-// Returns how many of so many slots are own fields of a class.
+// Returns how many of `slots` slots are own fields of a class.
 fn own_count(classes: &FirstClasses<'_>, class: ClassNo, slots: u64) -> u64
     requires { class < length classes.now }
     ensures { result ≡ min (length (fields_of classes.now class)) slots }

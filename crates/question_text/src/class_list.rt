@@ -1,0 +1,101 @@
+//! The answer of `classes`.
+ghost use Rattle.std.specs.Prelude.{◌≡◌, ◌++◌, ◌<◌, flat_map, length, IfErr, IfOk, OnOk};
+ghost use Rattle.std.specs.List.{range_with_len};
+ghost use Rattle.heap_class.specs.Classes.{fields_of};
+ghost use Rattle.heap_class.specs.declared.Refusal.TheVariants.{NoMemory};
+ghost use Rattle.question_text.specs.ClassLists.{IsClassesText, and_fields, class_text, field_words, super_words};
+
+use crate::referrers::push_count;
+use crate::rows::{push_number, push_words};
+use crate::show::field_name;
+use heap_class::{ClassNo, FirstClasses, Kind, Refusal};
+use hprof_text::View;
+use std::alloc::Global;
+
+// Appends a space and a field. Fails with NoMemory.
+#[tactic(auto, unfolding(crate::specs::ClassLists::field_words))]
+fn push_field(text: &mut Vec<u8>, name: &[u8], kind: Kind) -> Result<(), Refusal>
+    ensures ok { OnOk result (text.new.items ≡ text.old.items ++ field_words name.now kind) }
+    ensures refused { IfErr result (λ e. e ≡ NoMemory) }
+{
+    push_words(text, b" ")?;
+    push_words(text, name)?;
+    push_words(text, b":")?;
+    push_words(text, kind.word().as_bytes())
+}
+
+// Appends the own fields of a class, which must be there. Fails with NoMemory.
+fn push_own_fields(
+    text: &mut Vec<u8>,
+    classes: &FirstClasses<'_>,
+    class: ClassNo,
+) -> Result<(), Refusal>
+    requires { class < length classes.now }
+    ensures ok { OnOk result
+        (text.new.items ≡ text.old.items ++ and_fields (fields_of classes.now class)) }
+    ensures refused { IfErr result (λ e. e ≡ NoMemory) }
+{
+    let count = classes.field_count(class);
+    for field in 0..count {
+        let name = field_name(classes, class, field);
+        let kind = classes.field_kind(class, field);
+        push_field(text, name, kind)?;
+    }
+    Ok(())
+}
+
+// Appends what stands for the super of a class, which must be there. Fails with NoMemory.
+#[tactic(auto, unfolding(crate::specs::ClassLists::super_words))]
+fn push_super(text: &mut Vec<u8>, classes: &FirstClasses<'_>, class: ClassNo) -> Result<(), Refusal>
+    requires { class < length classes.now }
+    ensures ok { OnOk result (text.new.items ≡ text.old.items ++ super_words classes.now class) }
+    ensures refused { IfErr result (λ e. e ≡ NoMemory) }
+{
+    if classes.is_array(class) {
+        return push_words(text, b" array");
+    }
+    match classes.sup(class) {
+        Some(sup) => push_number(text, sup),
+        None => push_words(text, b" -"),
+    }
+}
+
+// Appends the line of a class, which must be there. Fails with NoMemory.
+#[tactic(auto, unfolding(crate::specs::ClassLists::class_text))]
+fn push_class(text: &mut Vec<u8>, classes: &FirstClasses<'_>, class: ClassNo) -> Result<(), Refusal>
+    requires { class < length classes.now }
+    ensures ok { OnOk result (text.new.items ≡ text.old.items ++ class_text classes.now class) }
+    ensures refused { IfErr result (λ e. e ≡ NoMemory) }
+{
+    push_words(text, b"row")?;
+    push_number(text, class)?;
+    push_words(text, b" ")?;
+    push_words(text, classes.name(class))?;
+    push_super(text, classes, class)?;
+    push_own_fields(text, classes, class)?;
+    push_words(text, b"\n")
+}
+
+// Appends the lines of all classes. Fails with NoMemory.
+fn push_classes(text: &mut Vec<u8>, classes: &FirstClasses<'_>) -> Result<(), Refusal>
+    ensures ok { OnOk result (text.new.items ≡ text.old.items
+        ++ flat_map (class_text classes.now) (range_with_len 0 (length classes.now))) }
+    ensures refused { IfErr result (λ e. e ≡ NoMemory) }
+{
+    for class in 0..classes.len() {
+        push_class(text, classes, class)?;
+    }
+    Ok(())
+}
+
+/// Returns the answer of `classes` about a view. Fails with NoMemory if an allocation fails.
+pub(crate) fn classes_answer<V: View>(alloc: Global, view: &V) -> Result<Vec<u8>, Refusal>
+    ensures text { IfOk result (λ text. IsClassesText (V.image view.now) text.items) }
+    ensures refused { IfErr result (λ e. e ≡ NoMemory) }
+{
+    let classes = view.classes();
+    let mut text = Vec::new(alloc);
+    push_classes(&mut text, &classes)?;
+    push_count(&mut text, classes.len())?;
+    Ok(text)
+}

@@ -1,0 +1,88 @@
+//! The answer of `pins`.
+ghost use Rattle.std.specs.Prelude.{◌≡◌, ◌++◌, flat_map, length, map, IfErr, IfOk, OnOk};
+ghost use Rattle.heap_class.specs.declared.Refusal.TheVariants.{NoMemory};
+ghost use Rattle.heap_trail.specs.Listings.{listed_pin};
+ghost use Rattle.session_text.specs.Replies.{cause_text};
+ghost use Rattle.question_text.specs.Moments.{told_text};
+ghost use Rattle.question_text.specs.PinLists.{IsPinsText, pin_text, pins_text, status_words};
+
+use crate::referrers::push_count;
+use crate::rows::{Unanswered, push_number, push_words};
+use heap_class::{LostCause, Refusal};
+use heap_trail::{ListedPin, Machine, PinStatus};
+use std::alloc::Global;
+
+// Returns the word of a cause.
+fn cause_word(cause: LostCause) -> &'static [u8]
+    ensures { result.now ≡ cause_text cause }
+{
+    match cause {
+        LostCause::Rewound => b"Rewound",
+        LostCause::Memory => b"Memory",
+        LostCause::Closed => b"Closed",
+    }
+}
+
+// Appends a kept pin's place and the number of the pieces given, or why the pin is lost. Fails with NoMemory.
+#[tactic(auto, unfolding(crate::specs::PinLists::status_words))]
+fn push_status(text: &mut Vec<u8>, status: PinStatus) -> Result<(), Refusal>
+    ensures ok { OnOk result (text.new.items ≡ text.old.items ++ status_words status) }
+    ensures refused { IfErr result (λ e. e ≡ NoMemory) }
+{
+    match status {
+        PinStatus::Kept { place, given } => {
+            push_number(text, place)?;
+            push_words(text, b" held")?;
+            push_number(text, given)
+        }
+        PinStatus::Lost(cause) => {
+            push_words(text, b" lost ")?;
+            push_words(text, cause_word(cause))
+        }
+    }
+}
+
+// Appends the line of a pin. Fails with NoMemory.
+#[tactic(auto, unfolding(crate::specs::PinLists::pin_text))]
+fn push_pin(text: &mut Vec<u8>, pin: ListedPin) -> Result<(), Refusal>
+    ensures ok { OnOk result (text.new.items ≡ text.old.items ++ pin_text pin) }
+    ensures refused { IfErr result (λ e. e ≡ NoMemory) }
+{
+    push_words(text, b"row")?;
+    push_number(text, pin.number)?;
+    push_status(text, pin.status)?;
+    push_words(text, b"\n")
+}
+
+// Appends the lines of the open pins, and returns their number. Fails with NoMemory.
+fn push_pins(text: &mut Vec<u8>, machine: &Machine) -> Result<u64, Refusal>
+    ensures ok { OnOk result (text.new.items ≡ text.old.items
+        ++ flat_map pin_text (map listed_pin machine.now.pins.open_pins)) }
+    ensures count { IfOk result (λ n. n ≡ length machine.now.pins.open_pins) }
+    ensures refused { IfErr result (λ e. e ≡ NoMemory) }
+{
+    let mut count = 0;
+    while let Some(pin) = machine.nth_pin(count) {
+        push_pin(text, pin)?;
+        count += 1;
+    }
+    Ok(count)
+}
+
+// Returns the lines of the open pins, and their number. Fails with NoMemory.
+fn pins_text(alloc: Global, machine: &Machine) -> Result<Vec<u8>, Refusal>
+    ensures text { IfOk result (λ text. text.items ≡ pins_text machine.now.pins) }
+    ensures refused { IfErr result (λ e. e ≡ NoMemory) }
+{
+    let mut text = Vec::new(alloc);
+    let count = push_pins(&mut text, machine)?;
+    push_count(&mut text, count)?;
+    Ok(text)
+}
+
+/// Returns the answer of `pins`. Fails with NoMemory if an allocation fails.
+pub(crate) fn pins_answer(alloc: Global, machine: &Machine) -> Result<Vec<u8>, Unanswered>
+    ensures { IsPinsText machine.now.pins (told_text result) }
+{
+    Ok(pins_text(alloc, machine)?)
+}

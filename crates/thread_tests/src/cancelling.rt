@@ -5,7 +5,7 @@ ghost use Rattle.dump_meter.specs.Seats.{sum, cancel_asked, cancel_found};
 
 use crate::parts::{Asking, PinParts, one_point, points, text_of};
 use crate::sinks::{Gated, reaches};
-use crate::streaming::{into_writer, stream_whole};
+use crate::streaming::into_writer;
 use dump_meter::{AskSeat, Cancel, FeedSeat, Meter, NewMeter, OutSeat};
 use dump_pipe::Watched;
 use dump_pump::{Pumped, WriteOutlet, pump};
@@ -154,14 +154,26 @@ fn cancelled_by_two<R: Threads + Wait + Sync>(
             requires { IsSync R.row × (0 < parts.left) × (out ≡ sum meter.now 0)
                 × (feed.meter ≡ meter.now) }
         {
-            let cancel = meter.cancel();
-            let source = Watched {
+            let mut seat = out;
+            let mut source = Watched {
                 source: parts,
-                cancel,
+                cancel: meter.cancel(),
                 seat: feed,
             };
-            let writer = Gated::new(alloc, 8000, here_now, gate_now);
-            let (pumped, writer) = stream_whole(rt, alloc, source, writer, meter, out);
+            let writer = Gated {
+                taken: Vec::new(alloc),
+                held: 8000,
+                here: here_now,
+                gate: gate_now,
+            };
+            let (pumped, writer) = into_writer(
+                rt,
+                alloc,
+                &mut source,
+                writer,
+                &meter.progress(),
+                &mut seat,
+            );
             (pumped, writer.taken)
         },
     );
@@ -192,7 +204,7 @@ fn cancelled_meanwhile<R: Threads + Wait + Sync>(
 }
 
 /// Streams the dump of 2,000 points and has it cancelled in the middle. Returns whether the outlet was held, the answer is a
-/// cancelling after the bytes that are out, and these are a beginning of the text, but not all of it.
+/// cancelling after so many bytes as are out, and these are a beginning of the text, but not all of it.
 fn cancelled_in_the_middle<R: Threads + Wait + Sync>(rt: &R, alloc: Global) -> Result<bool, Fail> {
     let whole = text_of(alloc, points(alloc, 2000)?)?;
     let parts = PinParts::open(points(alloc, 2000)?)?;

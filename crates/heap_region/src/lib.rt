@@ -147,7 +147,7 @@ impl Regions {
     pub fn has_object(&self, at: ObjRef) -> bool
         ensures { result ≡ is_some (object_at self.now.regions at) }
     {
-        match self.used(at.region as usize) {
+        match self.storage_at(at.region as usize) {
             Some(storage) => storage.has_object(at.cell as u64),
             None => false,
         }
@@ -220,7 +220,7 @@ impl Regions {
     pub fn cell_size(&self, region: u64) -> Option<u64>
         ensures { result ≡ option_map (λ u. u.cell_size) (used_at self.now.regions region) }
     {
-        match self.used(region as usize) {
+        match self.storage_at(region as usize) {
             Some(storage) => Some(storage.cell_size() as u64),
             None => None,
         }
@@ -228,9 +228,10 @@ impl Regions {
 
     /// Returns the storage of a region, or None if it is empty or there is no such region.
     pub fn region(&self, region: u64) -> Option<&Storage>
-        ensures { MatchOption result (used_at self.now.regions region ≡ None) (λ s. used_at self.now.regions region ≡ Some s.now) }
+        ensures { MatchOption result (used_at self.now.regions region ≡ None)
+            (λ s. used_at self.now.regions region ≡ Some s.now) }
     {
-        self.used(region as usize)
+        self.storage_at(region as usize)
     }
 
     /// Returns the number of cells of a region, which must be in use.
@@ -255,7 +256,7 @@ impl Regions {
     pub fn pending(&self, region: u64) -> Option<bool>
         ensures { result ≡ option_map (λ u. u.pending) (used_at self.now.regions region) }
     {
-        match self.used(region as usize) {
+        match self.storage_at(region as usize) {
             Some(storage) => Some(storage.pending()),
             None => None,
         }
@@ -280,7 +281,7 @@ impl Regions {
         }
         let word = (id - OBJECT_BASE) / 8;
         let region = word / REGION_WORDS;
-        let storage = self.used(region as usize)?;
+        let storage = self.storage_at(region as usize)?;
         let size = storage.cell_size() as u64;
         let at = ObjRef {
             region: region as u16,
@@ -497,7 +498,7 @@ impl Regions {
 
     // Returns the storage of a region if it is in use.
     #[inline(always)]
-    fn used(&self, region: usize) -> Option<&Storage>
+    fn storage_at(&self, region: usize) -> Option<&Storage>
         ensures value { MatchOption result (used_at self.now.regions region ≡ None)
             (λ s. used_at self.now.regions region ≡ Some s.now) }
         ensures limit { IfSome result (λ s. region < region_limit) }
@@ -512,7 +513,7 @@ impl Regions {
         ensures value { used_at self.now.regions region ≡ Some result.now }
         ensures limit { region < region_limit }
     {
-        match self.used(region) {
+        match self.storage_at(region) {
             Some(storage) => storage,
             None => unreachable!(),
         }
@@ -524,7 +525,7 @@ impl Regions {
             ≡ option_map_or (λ u. u.cell_size) (used_at self.now.regions region) 0 }
         ensures limit { result ≤ region_words }
     {
-        match self.used(region) {
+        match self.storage_at(region) {
             Some(storage) => storage.cell_size() as u64,
             None => 0,
         }
@@ -567,7 +568,7 @@ impl Regions {
     fn next_live_in(&self, region: usize, from: usize) -> Option<ObjRef>
         ensures { result ≡ slice_get (live_in self.now.regions region from) 0 }
     {
-        let storage = self.used(region)?;
+        let storage = self.storage_at(region)?;
         let cell = storage.next_live(from)?;
         Some(ObjRef {
             region: region as u16,

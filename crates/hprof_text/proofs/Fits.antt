@@ -55,7 +55,7 @@ dump_size_small ids classes t (Prim kind) n h l = omega (arith, id_small ids, mu
 objects_small : (ids : IdSize) (image : Image) → IsDumpable image → All (λ (o : DumpedObject). object_size ids image.classes o ≤ 8217) image.objects
 objects_small ids image d k o h = dump_size_small ids image.classes d.classes _ _ (d.known k o h) (d.small k o h)
 
--- sub-records, and segments, of at most so many bytes
+-- the body of a sub-record or of a segment has at most 8217 bytes
 abbrev IsShortBody : ℕ → Type 0
 IsShortBody n = n ≤ 8217
 

@@ -4,7 +4,7 @@ use Rattle.std.specs.Prelude.{nat_le}
 use Rattle.hprof_text.specs.Segments.{size_of, cut_at, segments_of, sizes_at, segment_sizes}
 use Rattle.hprof_text.proofs.Cutting.{Cutting, cut_by, size_more}
 
--- the sizes of a cutting whose open segment has so many bytes already
+-- the sizes of a cutting whose open segment has `size` bytes already
 abbrev sizes : ℕ → Cutting → List ℕ
 sizes size r = (size + size_of r.0) ∷ map size_of r.1
 

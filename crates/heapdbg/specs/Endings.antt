@@ -50,7 +50,7 @@ work_of (Ok done) = Ok done
 work_of (Err f) = Err (Work f)
 
 -- 0 if the work is done, 1 after a fault, and 2 after a bad command line
-abbrev pub status_of : Result (Unit {0}) Failure → ℕ
-status_of (Ok done) = 0
-status_of (Err (Work f)) = 1
-status_of (Err (Line text)) = 2
+abbrev pub exit_status_of : Result (Unit {0}) Failure → ℕ
+exit_status_of (Ok done) = 0
+exit_status_of (Err (Work f)) = 1
+exit_status_of (Err (Line text)) = 2

@@ -2,7 +2,7 @@
 ghost use Rattle.std.specs.Prelude.{◌≡◌, OnOk};
 ghost use Rattle.std.specs.Io.KnownBytes.{Appends};
 ghost use Rattle.std.specs.Process.{exit_status};
-ghost use Rattle.heapdbg.specs.Endings.{message_of, outcome_of, status_of, word_of_fault};
+ghost use Rattle.heapdbg.specs.Endings.{message_of, outcome_of, exit_status_of, word_of_fault};
 
 use crate::settings::LineFault;
 use session_text::Ended;
@@ -136,7 +136,7 @@ pub fn outcome(ended: Ended) -> Result<(), Fault>
 
 // Returns the exit status: 0 if the work is done, 1 after a fault, 2 after a bad command line.
 fn status(done: &Result<(), Failure>) -> u8
-    ensures { result ≡ status_of done.now }
+    ensures { result ≡ exit_status_of done.now }
 {
     match done {
         Ok(()) => 0,
@@ -156,7 +156,7 @@ fn tell<W: Write>(stderr: &mut W, failure: &Failure) -> io::Result<()>
 /// Writes the text of a failure to standard error, if there is one, and returns the exit code. A write that fails changes
 /// nothing.
 pub fn report<W: Write>(stderr: &mut W, done: &Result<(), Failure>) -> ExitCode
-    ensures { exit_status result ≡ status_of done.now }
+    ensures { exit_status result ≡ exit_status_of done.now }
 {
     if let Err(failure) = done {
         let _ = tell(stderr, failure);

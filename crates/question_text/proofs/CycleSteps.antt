@@ -27,7 +27,7 @@ use Rattle.heap_trail.specs.Limits.{last_place}
 use Rattle.heap_trail.specs.Machine.{Machine, Allocation, Granted, Denied, LosesPins, AreAllocations, MayDrive, MayReply, acted, acted_under, after_result, after_step_at, machine_after, replies_of}
 use Rattle.heap_trail.specs.Trail.{stepped}
 use Rattle.heap_trail.proofs.ActionLists.{driven_more, driven_none}
-use Rattle.question_text.specs.Collections.{Finishes, IsCycleStep, IsMarkStep, IsSweep, IsWholeCycle, Marks, MayRefuse, MovesOn, StopsAt, Sweeps, TakenStep, Takes, swept_by, swept_of}
+use Rattle.question_text.specs.Collections.{Finishes, IsCycleStep, IsMarkStep, IsSweep, IsWholeCycle, MarksLead, MayRefuse, MovesOn, StopsAt, SweepsLead, TakenStep, StepsLead, swept_by, swept_of}
 
 -- ---- lists of actions
 
@@ -57,17 +57,17 @@ driven_on m n k first next rs ss d e = (
 
 -- ---- lists of steps
 
-pub none_taken : (P : Event → Type 0) (m : Machine) → Takes P m [] m
+pub none_taken : (P : Event → Type 0) (m : Machine) → StepsLead P m [] m
 none_taken P m = (tt, driven_none m)
 
-pub one_taken : (P : Event → Type 0) (m n : Machine) (e : Event) (a : Answer) → P e → MayReply m (Step e) n (Answered a) → Takes P m ((e, a) ∷ []) n
+pub one_taken : (P : Event → Type 0) (m n : Machine) (e : Event) (a : Answer) → P e → MayReply m (Step e) n (Answered a) → StepsLead P m ((e, a) ∷ []) n
 one_taken P m n e a p r = ((p, tt), driven_more m [] [] m n (Step e) (Answered a) (driven_none m) r)
 
 all_join : (P : TakenStep → Type 0) (xs ys : List TakenStep) → AllByRecursion P xs → AllByRecursion P ys → AllByRecursion P (xs ++ ys)
 all_join P [] ys h k = k
 all_join P (x ∷ xs) ys h k = (h.0, all_join P xs ys h.1 k)
 
-pub taken_on : (P : Event → Type 0) (m n k : Machine) (xs ys : List TakenStep) → Takes P m xs n → Takes P n ys k → Takes P m (xs ++ ys) k
+pub taken_on : (P : Event → Type 0) (m n k : Machine) (xs ys : List TakenStep) → StepsLead P m xs n → StepsLead P n ys k → StepsLead P m (xs ++ ys) k
 taken_on P m n k xs ys t u = (
   all_join (λ s. P s.0) xs ys t.0 u.0,
   subst (λ (rs : List Reply). MayDrive m (map (λ (s : TakenStep). Step s.0) (xs ++ ys)) rs k) (sym (map-append (λ (s : TakenStep). Answered s.1) xs ys))
@@ -79,7 +79,7 @@ all_wider : (P Q : Event → Type 0) (xs : List TakenStep) → ((e : Event) → 
 all_wider P Q [] w h = tt
 all_wider P Q (x ∷ xs) w h = (w x.0 h.0, all_wider P Q xs w h.1)
 
-pub taken_wider : (P Q : Event → Type 0) (m n : Machine) (xs : List TakenStep) → ((e : Event) → P e → Q e) → Takes P m xs n → Takes Q m xs n
+pub taken_wider : (P Q : Event → Type 0) (m n : Machine) (xs : List TakenStep) → ((e : Event) → P e → Q e) → StepsLead P m xs n → StepsLead Q m xs n
 taken_wider P Q m n xs w t = (all_wider P Q xs w t.0, t.1)
 
 pub swept_on : (xs ys : List TakenStep) → swept_by (xs ++ ys) ≡ swept_by xs + swept_by ys
@@ -160,29 +160,29 @@ few_swept m n region a legal r =
 
 -- ---- sweeps
 
-pub no_sweep : (m : Machine) → Sweeps m 0 m
+pub no_sweep : (m : Machine) → SweepsLead m 0 m
 no_sweep m = ([], none_taken IsSweep m, refl)
 
-pub one_sweep : (m n : Machine) (region : ℕ) (a : Answer) → MayReply m (Step (Sweep region)) n (Answered a) → Sweeps m (swept_of a) n
+pub one_sweep : (m n : Machine) (region : ℕ) (a : Answer) → MayReply m (Step (Sweep region)) n (Answered a) → SweepsLead m (swept_of a) n
 one_sweep m n region a r = ((Sweep region, a) ∷ [], one_taken IsSweep m n (Sweep region) a tt r, omega arith)
 
-pub sweeps_on : (m n k : Machine) (a b : ℕ) → Sweeps m a n → Sweeps n b k → Sweeps m (a + b) k
+pub sweeps_on : (m n k : Machine) (a b : ℕ) → SweepsLead m a n → SweepsLead n b k → SweepsLead m (a + b) k
 sweeps_on m n k a b s t = (s.0 ++ t.0, taken_on IsSweep m n k s.0 t.0 s.1 t.1, ap₂ (λ x y. x + y) s.2 t.2 ∙ sym (swept_on s.0 t.0))
 
 -- ---- marks
 
-pub no_mark : (m : Machine) → Marks m m
+pub no_mark : (m : Machine) → MarksLead m m
 no_mark m = ([], none_taken IsMarkStep m)
 
-pub one_mark : (m n : Machine) (e : Event) (a : Answer) → IsMarkStep e → MayReply m (Step e) n (Answered a) → Marks m n
+pub one_mark : (m n : Machine) (e : Event) (a : Answer) → IsMarkStep e → MayReply m (Step e) n (Answered a) → MarksLead m n
 one_mark m n e a p r = ((e, a) ∷ [], one_taken IsMarkStep m n e a p r)
 
-pub marks_on : (m n k : Machine) → Marks m n → Marks n k → Marks m k
+pub marks_on : (m n k : Machine) → MarksLead m n → MarksLead n k → MarksLead m k
 marks_on m n k s t = (s.0 ++ t.0, taken_on IsMarkStep m n k s.0 t.0 s.1 t.1)
 
 -- ---- a step that is refused
 
-pub stops_on : (P : Event → Type 0) (m n k : Machine) (e : Refusal) (steps : List TakenStep) → Takes P m steps n → StopsAt P n e k → StopsAt P m e k
+pub stops_on : (P : Event → Type 0) (m n k : Machine) (e : Refusal) (steps : List TakenStep) → StepsLead P m steps n → StopsAt P n e k → StopsAt P m e k
 stops_on P m n k e steps t s = (steps ++ s.0, taken_on P m n k steps s.0 t s.1, s.2)
 
 -- refused before any other
@@ -190,7 +190,7 @@ pub stops_first : (P : Event → Type 0) (m n : Machine) (e : Refusal) → MayRe
 stops_first P m n e r h = subst (λ (k : Machine). StopsAt P m e k) (sym h) ([], none_taken P m, r)
 
 -- refused after some steps
-pub stops_after : (P : Event → Type 0) (m n k : Machine) (e : Refusal) (steps : List TakenStep) → Takes P m steps n → MayRefuse P n e → k ≡ n → StopsAt P m e k
+pub stops_after : (P : Event → Type 0) (m n k : Machine) (e : Refusal) (steps : List TakenStep) → StepsLead P m steps n → MayRefuse P n e → k ≡ n → StopsAt P m e k
 stops_after P m n k e steps t r h = subst (λ (x : Machine). StopsAt P m e x) (sym h) (steps, t, r)
 
 pub stops_wider : (P Q : Event → Type 0) (m n : Machine) (e : Refusal) → ((x : Event) → P x → Q x) → StopsAt P m e n → StopsAt Q m e n
@@ -204,20 +204,20 @@ mark_is_step x h = inl h
 
 -- ---- a whole cycle
 
-pub of_sweeps : (m n : Machine) (a : ℕ) → Sweeps m a n → (steps : List TakenStep) × Takes IsCycleStep m steps n
+pub of_sweeps : (m n : Machine) (a : ℕ) → SweepsLead m a n → (steps : List TakenStep) × StepsLead IsCycleStep m steps n
 of_sweeps m n a s = (s.0, taken_wider IsSweep IsCycleStep m n s.0 sweep_is_step s.1)
 
-pub of_marks : (m n : Machine) → Marks m n → (steps : List TakenStep) × Takes IsCycleStep m steps n
+pub of_marks : (m n : Machine) → MarksLead m n → (steps : List TakenStep) × StepsLead IsCycleStep m steps n
 of_marks m n s = (s.0, taken_wider IsMarkStep IsCycleStep m n s.0 mark_is_step s.1)
 
 finish_is_step : (x : Event) → x ≡ Finish → IsCycleStep x
 finish_is_step x e = inr (inr e)
 
-pub of_finish : (m n : Machine) (a : ℕ) → Finishes m a n → (steps : List TakenStep) × Takes IsCycleStep m steps n
+pub of_finish : (m n : Machine) (a : ℕ) → Finishes m a n → (steps : List TakenStep) × StepsLead IsCycleStep m steps n
 of_finish m n a f = ((Finish, f.0) ∷ [], taken_wider (λ x. x ≡ Finish) IsCycleStep m n ((Finish, f.0) ∷ []) finish_is_step f.1)
 
 -- refused in the sweeps after the finish
-pub stops_last : (m x y z n : Machine) (a b : ℕ) (e : Refusal) → Sweeps m a x → Marks x y → Finishes y b z → StopsAt IsSweep z e n → StopsAt IsCycleStep m e n
+pub stops_last : (m x y z n : Machine) (a b : ℕ) (e : Refusal) → SweepsLead m a x → MarksLead x y → Finishes y b z → StopsAt IsSweep z e n → StopsAt IsCycleStep m e n
 stops_last m x y z n a b e s t f l =
     let p = of_sweeps m x a s in
     let q = of_marks x y t in
@@ -230,23 +230,23 @@ pub moved_place : (b : Bool) (m n : Machine) → b ≡ true → MovesOn b m n �
 moved_place true m n e h = place_on m n h.0 h.1 h.3
 moved_place false m n e h = absurd (cc e)
 
-pub moved_marks : (b : Bool) (m n k : Machine) → Marks m n → b ≡ true → MovesOn b n k → Marks m k
+pub moved_marks : (b : Bool) (m n k : Machine) → MarksLead m n → b ≡ true → MovesOn b n k → MarksLead m k
 moved_marks true m n k s e h = marks_on m n k s (one_mark n k h.0 h.1 h.2 h.3)
 moved_marks false m n k s e h = absurd (cc e)
 
-pub marks_stop : (m n k : Machine) (e : Refusal) → Marks m n → StopsAt IsMarkStep n e k → StopsAt IsMarkStep m e k
+pub marks_stop : (m n k : Machine) (e : Refusal) → MarksLead m n → StopsAt IsMarkStep n e k → StopsAt IsMarkStep m e k
 marks_stop m n k e s t = stops_on IsMarkStep m n k e s.0 s.1 t
 
-pub stops_marking : (m x n : Machine) (a : ℕ) (e : Refusal) → Sweeps m a x → StopsAt IsMarkStep x e n → StopsAt IsCycleStep m e n
+pub stops_marking : (m x n : Machine) (a : ℕ) (e : Refusal) → SweepsLead m a x → StopsAt IsMarkStep x e n → StopsAt IsCycleStep m e n
 stops_marking m x n a e s t =
     let p = of_sweeps m x a s in
     stops_on IsCycleStep m x n e p.0 p.1 (stops_wider IsMarkStep IsCycleStep x n e mark_is_step t)
 
-pub stops_finish : (m x y n : Machine) (a : ℕ) (e : Refusal) → Sweeps m a x → Marks x y → MayRefuse IsCycleStep y e → n ≡ y → StopsAt IsCycleStep m e n
+pub stops_finish : (m x y n : Machine) (a : ℕ) (e : Refusal) → SweepsLead m a x → MarksLead x y → MayRefuse IsCycleStep y e → n ≡ y → StopsAt IsCycleStep m e n
 stops_finish m x y n a e s t r h =
     let p = of_sweeps m x a s in
     let q = of_marks x y t in
     stops_on IsCycleStep m x n e p.0 p.1 (stops_after IsCycleStep x y n e q.0 q.1 r h)
 
-pub whole_cycle : (m x y z n : Machine) (a b d : ℕ) → Sweeps m a x → Marks x y → Finishes y b z → Sweeps z d n → IsWholeCycle m b (a + d) n
+pub whole_cycle : (m x y z n : Machine) (a b d : ℕ) → SweepsLead m a x → MarksLead x y → Finishes y b z → SweepsLead z d n → IsWholeCycle m b (a + d) n
 whole_cycle m x y z n a b d s t f u = (x, y, z, a, d, s, t, f, u, refl)

@@ -10,7 +10,7 @@ use Rattle.question_text.specs.declared.asking.Asking.{Asking}
 use Rattle.question_text.specs.declared.question.Question.{Question}
 use Rattle.question_text.specs.Collections.{is_collect, is_collect_words}
 use Rattle.question_text.specs.Help.{help_about, help_of, help_of_words}
-use Rattle.question_text.specs.Questions.{QuestionRule, question_of, question_of_words, question_rules}
+use Rattle.question_text.specs.Questions.{QuestionRule, past_rules, question_by, question_of, question_of_words, question_rules}
 use Rattle.question_text.specs.Sessions.{AnswersLine, AskingAnswers}
 
 -- a keyword that no rule of sessions has
@@ -18,15 +18,15 @@ abbrev IsNew : List ℕ → Type 0
 IsNew key = (ws : List (List ℕ)) → by_rule all_rules key ws ≡ None
 
 all_new : AllByRecursion (λ (r : QuestionRule). IsNew r.0) question_rules
-unfolding question_rules by_rule class_rules making_rules access_rules marking_rules session_rules
+unfolding question_rules past_rules by_rule class_rules making_rules access_rules marking_rules session_rules
 all_new = (λ ws. refl, (λ ws. refl, (λ ws. refl, (λ ws. refl, (λ ws. refl, (λ ws. refl, (λ ws. refl, (λ ws. refl, (λ ws. refl, (λ ws. refl, (λ ws. refl, (λ ws. refl, (λ ws. refl, tt)))))))))))))
 
 found_new : (w : List ℕ) (ws : List (List ℕ)) (rules : List QuestionRule) (q : Question) → AllByRecursion (λ (r : QuestionRule). IsNew r.0) rules
-    → option_and_then (λ (rule : QuestionRule). rule.1 ws) (find (λ (rule : QuestionRule). bytes_eq w rule.0) rules) ≡ Some q → IsNew w
+    → question_by rules w ws ≡ Some q → IsNew w
 found_new w ws [] q all e = cc
 found_new w ws (r ∷ rs) q all e = go (found_new w ws rs q all.1) (bytes_eq w r.0) refl e
   where
-    go : (option_and_then (λ (rule : QuestionRule). rule.1 ws) (find (λ (rule : QuestionRule). bytes_eq w rule.0) rs) ≡ Some q → IsNew w) → (b : Bool) → bytes_eq w r.0 ≡ b
+    go : (question_by rs w ws ≡ Some q → IsNew w) → (b : Bool) → bytes_eq w r.0 ≡ b
         → option_and_then (λ (rule : QuestionRule). rule.1 ws) (cond b (Some r) (find (λ (rule : QuestionRule). bytes_eq w rule.0) rs)) ≡ Some q → IsNew w
     go later true h e = subst IsNew (sym ((bytes_eq-Decides w r.0).0 h)) all.0
     go later false h e = later e
@@ -90,7 +90,7 @@ collects_no_command l e = go (is_plain l)
 -- ---- no other line changes anything
 
 asks_nothing : question_of_words (codes "collect" ∷ []) ≡ None
-unfolding question_of_words question_rules
+unfolding question_of_words question_rules past_rules
 asks_nothing = refl
 
 no_question : (ws : List (List ℕ)) → is_collect_words ws ≡ true → question_of_words ws ≡ None

@@ -48,8 +48,8 @@ abbrev pub TakenStep : Type 0
 TakenStep = Event × Answer
 
 -- under some marks these steps lead from m to n with these answers, and P holds of each
-abbrev pub Takes : (Event → Type 0) → Machine → List TakenStep → Machine → Type 0
-Takes P m steps n =
+abbrev pub StepsLead : (Event → Type 0) → Machine → List TakenStep → Machine → Type 0
+StepsLead P m steps n =
     AllByRecursion (λ (s : TakenStep). P s.0) steps
     × MayDrive m (map (λ (s : TakenStep). Step s.0) steps)
     (map (λ (s : TakenStep). Answered s.1) steps) n
@@ -60,7 +60,7 @@ MayRefuse P m e = (event : Event) × P event × MayFail m (Step event) m e
 
 -- such steps lead from m to n, which may refuse another, for this reason
 abbrev pub StopsAt : (Event → Type 0) → Machine → Refusal → Machine → Type 0
-StopsAt P m e n = (steps : List TakenStep) × Takes P m steps n × MayRefuse P n e
+StopsAt P m e n = (steps : List TakenStep) × StepsLead P m steps n × MayRefuse P n e
 
 -- ---- what was collected
 
@@ -79,8 +79,8 @@ abbrev pub swept_by : List TakenStep → ℕ
 swept_by steps = sum_by (λ (s : TakenStep). swept_of s.1) steps
 
 -- sweeps lead from m to n, and remove this number of objects
-abbrev pub Sweeps : Machine → ℕ → Machine → Type 0
-Sweeps m count n = (steps : List TakenStep) × Takes IsSweep m steps n × (count ≡ swept_by steps)
+abbrev pub SweepsLead : Machine → ℕ → Machine → Type 0
+SweepsLead m count n = (steps : List TakenStep) × StepsLead IsSweep m steps n × (count ≡ swept_by steps)
 
 -- a step of the marker leads from m to n, if there is one more
 abbrev pub MovesOn : Bool → Machine → Machine → Type 0
@@ -89,19 +89,19 @@ MovesOn true m n =
 MovesOn false m n = n ≡ m
 
 -- steps of the marker lead from m to n
-abbrev pub Marks : Machine → Machine → Type 0
-Marks m n = (steps : List TakenStep) × Takes IsMarkStep m steps n
+abbrev pub MarksLead : Machine → Machine → Type 0
+MarksLead m n = (steps : List TakenStep) × StepsLead IsMarkStep m steps n
 
 -- a finish leads from m to n, and condemns this number of objects
 abbrev pub Finishes : Machine → ℕ → Machine → Type 0
 Finishes m count n =
-    (a : Answer) × Takes (λ e. e ≡ Finish) m ((Finish, a) ∷ []) n × (count ≡ condemned_of a)
+    (a : Answer) × StepsLead (λ e. e ≡ Finish) m ((Finish, a) ∷ []) n × (count ≡ condemned_of a)
 
 -- sweeps, steps of the marker, a finish and sweeps lead from m to n
 abbrev pub IsWholeCycle : Machine → ℕ → ℕ → Machine → Type 0
 IsWholeCycle m condemned swept n =
     (x : Machine) × (y : Machine) × (z : Machine) × (before : ℕ) × (after : ℕ)
-    × Sweeps m before x × Marks x y × Finishes y condemned z × Sweeps z after n
+    × SweepsLead m before x × MarksLead x y × Finishes y condemned z × SweepsLead z after n
     × (swept ≡ before + after)
 
 -- ---- the answer

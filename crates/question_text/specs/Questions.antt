@@ -110,7 +110,17 @@ pins_line ws = at_end Pins ws
 abbrev pub QuestionRule : Type 0
 QuestionRule = List ℕ × (List (List ℕ) → Option Question)
 
--- all questions
+-- the questions about what retained steps did, and about pins
+unfoldable pub past_rules : List QuestionRule
+past_rules =
+    (codes "born", born_line)
+    ∷ (codes "wrote", wrote_line)
+    ∷ (codes "dropped", dropped_line)
+    ∷ (codes "history", history_line)
+    ∷ (codes "pins", pins_line)
+    ∷ []
+
+-- all questions: those about a state first
 unfoldable pub question_rules : List QuestionRule
 question_rules =
     (codes "histogram", histogram_line)
@@ -121,18 +131,17 @@ question_rules =
     ∷ (codes "referrers", referrers_line)
     ∷ (codes "path", path_line)
     ∷ (codes "show", show_line)
-    ∷ (codes "born", born_line)
-    ∷ (codes "wrote", wrote_line)
-    ∷ (codes "dropped", dropped_line)
-    ∷ (codes "history", history_line)
-    ∷ (codes "pins", pins_line)
-    ∷ []
+    ∷ past_rules
+
+-- what the words after a keyword ask, by the first of these rules that has it
+abbrev pub question_by : List QuestionRule → List ℕ → List (List ℕ) → Option Question
+question_by rules w ws =
+    option_and_then (λ rule. rule.1 ws) (find (λ rule. bytes_eq w rule.0) rules)
 
 -- the question of these words, by the rule of the first
 unfoldable pub question_of_words : List (List ℕ) → Option Question
 question_of_words [] = None
-question_of_words (w ∷ ws) =
-    option_and_then (λ rule. rule.1 ws) (find (λ rule. bytes_eq w rule.0) question_rules)
+question_of_words (w ∷ ws) = question_by question_rules w ws
 
 -- the question that a line asks
 abbrev pub question_of : List ℕ → Option Question

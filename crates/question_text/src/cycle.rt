@@ -2,7 +2,7 @@
 ghost use Rattle.std.specs.Prelude.{◌≡◌, ◌≤◌, IfErr, IfOk, OnErr, OnOk};
 ghost use Rattle.heap_class.specs.declared.Refusal.TheVariants.{NoMemory};
 ghost use Rattle.session_text.specs.Replies.{line_answer_text};
-ghost use Rattle.question_text.specs.Collections.{Collects, Finishes, IsCycleStep, IsMarkStep, IsSweep, IsWholeCycle, Marks, MayRefuse, MovesOn, StopsAt, Sweeps, collected_text, condemned_of, is_collect, swept_of};
+ghost use Rattle.question_text.specs.Collections.{Collects, Finishes, IsCycleStep, IsMarkStep, IsSweep, IsWholeCycle, MarksLead, MayRefuse, MovesOn, StopsAt, SweepsLead, collected_text, condemned_of, is_collect, swept_of};
 
 use crate::id::is_word;
 use crate::rows::{push_number, push_words};
@@ -56,7 +56,7 @@ fn condemned_of(answer: Answer) -> u64
 
 // Sweeps a region if it waits to be swept, and returns the number of objects that this removed.
 fn sweep_region(machine: &mut Machine, region: u64) -> Result<u64, Refusal>
-    ensures swept { IfOk result (λ n. Sweeps machine.old n machine.new) }
+    ensures swept { IfOk result (λ n. SweepsLead machine.old n machine.new) }
     ensures few { IfOk result (λ n. n ≤ 256) }
     ensures refused { IfErr result (MayRefuse IsSweep machine.old) }
     ensures unchanged { OnErr result (machine.new ≡ machine.old) }
@@ -72,7 +72,7 @@ fn sweep_region(machine: &mut Machine, region: u64) -> Result<u64, Refusal>
 
 // Sweeps each region that waits to be swept, by rising number, and returns the number of objects that this removed.
 fn sweep_all(machine: &mut Machine) -> Result<u64, Refusal>
-    ensures swept { IfOk result (λ n. Sweeps machine.old n machine.new) }
+    ensures swept { IfOk result (λ n. SweepsLead machine.old n machine.new) }
     ensures few { IfOk result (λ n. n ≤ 65536) }
     ensures refused { IfErr result (λ e. StopsAt IsSweep machine.old e machine.new) }
 {
@@ -87,7 +87,7 @@ fn sweep_all(machine: &mut Machine) -> Result<u64, Refusal>
 
 // Begins a cycle, unless one runs.
 fn begin(machine: &mut Machine) -> Result<(), Refusal>
-    ensures begun { OnOk result (Marks machine.old machine.new) }
+    ensures begun { OnOk result (MarksLead machine.old machine.new) }
     ensures refused { IfErr result (MayRefuse IsMarkStep machine.old) }
     ensures unchanged { OnErr result (machine.new ≡ machine.old) }
 {
@@ -125,7 +125,7 @@ fn mark_or_drain(machine: &mut Machine) -> Result<bool, Refusal>
 
 // Marks and drains until no object is gray and no entry of the log is left.
 fn mark_all(machine: &mut Machine) -> Result<(), Refusal>
-    ensures marked { OnOk result (Marks machine.old machine.new) }
+    ensures marked { OnOk result (MarksLead machine.old machine.new) }
     ensures refused { IfErr result (λ e. StopsAt IsMarkStep machine.old e machine.new) }
 {
     loop {
@@ -138,7 +138,7 @@ fn mark_all(machine: &mut Machine) -> Result<(), Refusal>
 
 // Begins a cycle, unless one runs, and marks and drains to its end.
 fn mark_cycle(machine: &mut Machine) -> Result<(), Refusal>
-    ensures marked { OnOk result (Marks machine.old machine.new) }
+    ensures marked { OnOk result (MarksLead machine.old machine.new) }
     ensures refused { IfErr result (λ e. StopsAt IsMarkStep machine.old e machine.new) }
 {
     begin(machine)?;

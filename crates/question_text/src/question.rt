@@ -2,7 +2,7 @@
 ghost use Rattle.std.specs.Prelude.{◌≡◌};
 ghost use Rattle.session_text.specs.Grammar.{at_end, next_number, one_number, words_of_line};
 ghost use Rattle.session_text.specs.Reads.{IsNextWord};
-ghost use Rattle.question_text.specs.Questions.{at_and_id, at_of_word, born_line, classes_line, dropped_line, garbage_line, growth_line, histogram_line, history_line, id_and_number, next_at, next_id, one_at, one_id, path_line, pins_line, question_of, referrers_line, registers_line, show_line, two_ats, wrote_line};
+ghost use Rattle.question_text.specs.Questions.{at_and_id, at_of_word, born_line, classes_line, dropped_line, garbage_line, growth_line, histogram_line, history_line, id_and_number, next_at, next_id, one_at, one_id, past_rules, path_line, pins_line, question_by, question_of, referrers_line, registers_line, show_line, two_ats, wrote_line};
 
 use crate::id::{id_of, is_word};
 use session_text::number::number_of;
@@ -252,51 +252,59 @@ fn pins_line(words: Words) -> Option<Question>
     at_end(Question::Pins, words)
 }
 
+// Reads the words behind a keyword of a question about what retained steps did, or about pins.
+#[tactic(auto, unfolding(crate::specs::Questions::past_rules))]
+fn past_question(keyword: &[u8], words: Words) -> Option<Question>
+    ensures { result ≡ question_by past_rules keyword.now (words_of_line words.entry) }
+{
+    if is_word(keyword, b"born") {
+        return born_line(words);
+    }
+    if is_word(keyword, b"wrote") {
+        return wrote_line(words);
+    }
+    if is_word(keyword, b"dropped") {
+        return dropped_line(words);
+    }
+    if is_word(keyword, b"history") {
+        return history_line(words);
+    }
+    if is_word(keyword, b"pins") {
+        return pins_line(words);
+    }
+    None
+}
+
 /// Returns the question that a line asks, or None if it asks none.
 #[tactic(auto, unfolding(crate::specs::Questions::question_of_words, crate::specs::Questions::question_rules))]
 pub fn question_of(line: &[u8]) -> Option<Question>
     ensures { result ≡ question_of line.now }
 {
     let mut words = Words::new(line);
-    let word = words.next_word()?;
-    if is_word(word, b"histogram") {
+    let keyword = words.next_word()?;
+    if is_word(keyword, b"histogram") {
         return histogram_line(words);
     }
-    if is_word(word, b"garbage") {
+    if is_word(keyword, b"garbage") {
         return garbage_line(words);
     }
-    if is_word(word, b"growth") {
+    if is_word(keyword, b"growth") {
         return growth_line(words);
     }
-    if is_word(word, b"registers") {
+    if is_word(keyword, b"registers") {
         return registers_line(words);
     }
-    if is_word(word, b"classes") {
+    if is_word(keyword, b"classes") {
         return classes_line(words);
     }
-    if is_word(word, b"referrers") {
+    if is_word(keyword, b"referrers") {
         return referrers_line(words);
     }
-    if is_word(word, b"path") {
+    if is_word(keyword, b"path") {
         return path_line(words);
     }
-    if is_word(word, b"show") {
+    if is_word(keyword, b"show") {
         return show_line(words);
     }
-    if is_word(word, b"born") {
-        return born_line(words);
-    }
-    if is_word(word, b"wrote") {
-        return wrote_line(words);
-    }
-    if is_word(word, b"dropped") {
-        return dropped_line(words);
-    }
-    if is_word(word, b"history") {
-        return history_line(words);
-    }
-    if is_word(word, b"pins") {
-        return pins_line(words);
-    }
-    None
+    past_question(keyword, words)
 }

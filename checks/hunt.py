@@ -45,10 +45,10 @@ def of_model(lines):
     return [session.answer(line) for line in lines]
 
 
-def of_program(program, lines, answers):
+def of_program(program, lines, answers, *words):
     """Returns what a program answers to each line, cut as the model's answers are long."""
     text = b"".join(line + b"\n" for line in lines)
-    ran = subprocess.run([program, "explore", "--keep", str(KEEP)], input=text, capture_output=True, timeout=SECONDS)
+    ran = subprocess.run([program, "explore", "--keep", str(KEEP), *words], input=text, capture_output=True, timeout=SECONDS)
     came, at = [], 0
     for answer in answers:
         count = answer.count(b"\n")
@@ -66,6 +66,10 @@ def differences(programs):
     asked = page()
     lines = [*story, *(line for line, _ in asked)]
     answers = of_model(lines)
+    first = ("--from", str(TOP / "examples/leak.session"))
+    for each in programs:
+        if of_program(each, lines[len(story) :], answers[len(story) :], *first) != answers[len(story) :]:
+            yield f"{each}: another answer after --from"
     for who, came in [("the model", answers), *((each, of_program(each, lines, answers)) for each in programs)]:
         for line, answer in zip(story, came):
             if not answer.startswith(b"ok"):

@@ -9,9 +9,13 @@ _heapdbg() {
             mapfile -t COMPREPLY < <(compgen -W "4 8" -- "$word")
             return
             ;;
-        --out)
+        --out | --from)
             compopt -o filenames
             mapfile -t COMPREPLY < <(compgen -f -- "$word")
+            return
+            ;;
+        --questions)
+            mapfile -t COMPREPLY < <(compgen -W "0 1" -- "$word")
             return
             ;;
         --regions | --mutators | --keep | --time | --port | --to | --sessions | --workers)
@@ -23,7 +27,8 @@ _heapdbg() {
         return
     fi
     case ${COMP_WORDS[1]} in
-        run | explore) options=$heap ;;
+        run) options="$heap --questions" ;;
+        explore) options="$heap --from" ;;
         save) options="$heap --out --to" ;;
         serve) options="$heap --port --sessions --workers" ;;
         ask) options="--port" ;;

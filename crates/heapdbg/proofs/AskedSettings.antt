@@ -1,6 +1,6 @@
 -- What the settings are that a command line asks for.
-use Rattle.std.proofs.Common.{◌≡◌, ◌∙◌, ◌<◌, ◌≤◌, ◌^◌, ℕ, Bool, true, false, ◌&&◌, ◌||◌, cond, List, [], ◌∷◌, Option, Some, None, refl, sym, ap, subst, arith, codes, rules}
-use Rattle.std.specs.Prelude.{Err, not, find, drop, length, option_and_then, option_map, nat_le, nat_lt}
+use Rattle.std.proofs.Common.{◌≡◌, ◌∙◌, ◌<◌, ◌≤◌, ◌^◌, ℕ, zero, suc, Bool, true, false, ◌&&◌, ◌||◌, cond, List, [], ◌∷◌, Option, Some, None, refl, sym, ap, subst, arith, codes, rules}
+use Rattle.std.specs.Prelude.{Err, is_some, not, find, drop, length, option_and_then, option_map, nat_le, nat_lt}
 use Rattle.std.specs.List.{list_all}
 use Rattle.std.specs.Char.{is_ascii_digit}
 use Rattle.std.specs.Str.{bytes_eq}
@@ -15,7 +15,7 @@ use Rattle.heap_class.specs.declared.IdSize.TheVariants.{Eight}
 use Rattle.heap_region.specs.Limits.{region_limit}
 use Rattle.heap_world.specs.Limits.{AreHeapSettings, keep_limit, mutator_limit}
 use Rattle.heap_server.specs.SessionSeats.{session_limit}
-use Rattle.heapdbg.specs.CommandLine.{AreSettingsWithin, HasDefaults, IsTask, ask_in, heapdbg_line, id_size_in, id_size_of, is_given, is_task, keep_default, number_in, number_or, port_in, port_limit, save_in, serve_in, serve_with, sessions_in, sessions_of, settings_in, settings_under, settings_with, target_in, task_in, time_limit, option_value, workers_in, workers_of}
+use Rattle.heapdbg.specs.CommandLine.{AreSettingsWithin, HasDefaults, IsTask, ask_in, explore_in, heapdbg_line, id_size_in, id_size_of, is_given, is_task, keep_default, number_in, number_or, port_in, port_limit, questions_in, reads_file, run_with, save_in, serve_in, serve_with, sessions_in, sessions_of, settings_in, settings_under, settings_with, target_in, task_in, time_limit, option_value, workers_in, workers_of}
 use Rattle.heapdbg.specs.declared.settings.Settings.{Settings}
 use Rattle.heapdbg.specs.declared.settings.Task.{Task}
 use Rattle.heapdbg.specs.declared.settings.Task.TheVariants.{Run, Explore, Save, Serve, Ask}
@@ -82,7 +82,7 @@ all_there task (Some r) (Some m) (Some k) (Some t) None s e = cc
 all_there task (Some r) (Some m) (Some k) (Some t) (Some i) s e = (cc, cc, cc, cc, cc, cc)
 
 abbrev task_by : Bool → Bool → Bool → Bool → Bool → List Row → Option Task
-task_by runs explores saves serves asks rows = cond runs (Some Run) (cond explores (Some Explore) (cond saves (save_in rows) (cond serves (serve_in rows) (cond asks (ask_in rows) None))))
+task_by runs explores saves serves asks rows = cond runs (run_with (questions_in rows)) (cond explores (Some (explore_in rows)) (cond saves (save_in rows) (cond serves (serve_in rows) (cond asks (ask_in rows) None))))
 
 is_named : (runs explores saves serves asks : Bool) (rows : List Row) (task : Task) → task_by runs explores saves serves asks rows ≡ Some task → (runs || (explores || (saves || (serves || asks)))) ≡ true
 is_named true explores saves serves asks rows task e = refl
@@ -161,9 +161,14 @@ save_within None (Some text) task e = go (number_in 1 port_limit text) refl e
         let same : Save (To port) ≡ task = cc in
         subst IsTask same (number_within 1 port_limit text port at)
 
+run_within : (q : Option ℕ) (task : Task) → run_with q ≡ Some task → IsTask task
+run_within None task e = cc
+run_within (Some zero) task e = let same : Run ≡ task = cc in subst IsTask same tt
+run_within (Some (suc n)) task e = let same : Explore false ≡ task = cc in subst IsTask same tt
+
 task_within : (runs explores saves serves asks : Bool) (rows : List Row) (task : Task) → task_by runs explores saves serves asks rows ≡ Some task → IsTask task
-task_within true explores saves serves asks rows task e = let same : Run ≡ task = cc in subst IsTask same tt
-task_within false true saves serves asks rows task e = let same : Explore ≡ task = cc in subst IsTask same tt
+task_within true explores saves serves asks rows task e = run_within (questions_in rows) task e
+task_within false true saves serves asks rows task e = let same : explore_in rows ≡ task = cc in subst IsTask same tt
 task_within false false true serves asks rows task e = save_within (first_of (codes "out") rows) (first_of (codes "to") rows) task e
 task_within false false false true asks rows task e = serve_within rows (port_in rows) (sessions_in rows) (workers_in rows) task refl refl refl e
 task_within false false false false true rows task e = ask_within rows (port_in rows) task refl e
@@ -208,12 +213,17 @@ entered_none name (Some p) f all tail e named = go (find (λ s. answers_to p.0 (
         let is_task : is_task s.name ≡ true = subst (λ (g : Text × List Row). is_task g.0 ≡ true) (sym same) named in
         subst (λ (g : Text × List Row). first_of name g.1 ≡ None) same (no_value name s.rules p.1 (rules_free name s free is_task) tail)
 
+not_given : (name : Text) (words : List Text) (f : Text × List Row) → list_all (is_free_command name) (built heapdbg_line).subs ≡ true
+    → subcommand_of heapdbg_line words ≡ Some f → is_task f.0 ≡ true → is_given name words ≡ false → first_of name f.1 ≡ None
+not_given name words f all is named other =
+    let after = tail_free name (built heapdbg_line).top.rules (names_of (built heapdbg_line)) (argument_words heapdbg_line words) (given_later name words other) in
+    entered_none name (stop_after (built heapdbg_line).top.rules (names_of (built heapdbg_line)) (argument_words heapdbg_line words)) f all after is named
+
 default_of : (name : Text) (default least most : ℕ) (words : List Text) (f : Text × List Row) (n : ℕ)
     → list_all (is_free_command name) (built heapdbg_line).subs ≡ true → subcommand_of heapdbg_line words ≡ Some f → is_task f.0 ≡ true
     → option_value name default least most f.1 ≡ Some n → is_given name words ≡ false → n ≡ default
 default_of name default least most words f n all is named read other =
-    let after = tail_free name (built heapdbg_line).top.rules (names_of (built heapdbg_line)) (argument_words heapdbg_line words) (given_later name words other) in
-    let none = entered_none name (stop_after (built heapdbg_line).top.rules (names_of (built heapdbg_line)) (argument_words heapdbg_line words)) f all after is named in
+    let none = not_given name words f all is named other in
     let same : Some default ≡ Some n = subst (λ o. number_or default least most o ≡ Some n) none read in
     cc
 
@@ -234,6 +244,9 @@ ids_free = refl
 
 sessions_free : list_all (is_free_command (codes "sessions")) (built heapdbg_line).subs ≡ true
 sessions_free = refl
+
+from_free : list_all (is_free_command (codes "from")) (built heapdbg_line).subs ≡ true
+from_free = refl
 
 workers_free : list_all (is_free_command (codes "workers")) (built heapdbg_line).subs ≡ true
 workers_free = refl
@@ -266,11 +279,16 @@ one_saved : (target : Option Target) (task : Task) → option_map (λ target. Sa
 one_saved None task e = cc
 one_saved (Some target) task e = let same : Save target ≡ task = cc in subst (λ t. sessions_of t ≡ 1) same refl
 
+one_run : (q : Option ℕ) (task : Task) → run_with q ≡ Some task → sessions_of task ≡ 1
+one_run None task e = cc
+one_run (Some zero) task e = let same : Run ≡ task = cc in subst (λ t. sessions_of t ≡ 1) same refl
+one_run (Some (suc n)) task e = let same : Explore false ≡ task = cc in subst (λ t. sessions_of t ≡ 1) same refl
+
 default_sessions : (runs explores saves serves asks : Bool) (rows : List Row) (task : Task) (words : List Text)
     → (is_given (codes "sessions") words ≡ false → (k : ℕ) → sessions_in rows ≡ Some k → k ≡ 1)
     → task_by runs explores saves serves asks rows ≡ Some task → is_given (codes "sessions") words ≡ false → sessions_of task ≡ 1
-default_sessions true explores saves serves asks rows task words is e other = let same : Run ≡ task = cc in subst (λ t. sessions_of t ≡ 1) same refl
-default_sessions false true saves serves asks rows task words is e other = let same : Explore ≡ task = cc in subst (λ t. sessions_of t ≡ 1) same refl
+default_sessions true explores saves serves asks rows task words is e other = one_run (questions_in rows) task e
+default_sessions false true saves serves asks rows task words is e other = let same : explore_in rows ≡ task = cc in subst (λ t. sessions_of t ≡ 1) same refl
 default_sessions false false true serves asks rows task words is e other = one_saved (target_in (first_of (codes "out") rows) (first_of (codes "to") rows)) task e
 default_sessions false false false true asks rows task words is e other = served_sessions (port_in rows) (sessions_in rows) (workers_in rows) task words is e other
 default_sessions false false false false true rows task words is e other = one_asked (port_in rows) task e
@@ -284,15 +302,53 @@ none_saved : (target : Option Target) (task : Task) → option_map (λ target. S
 none_saved None task e = cc
 none_saved (Some target) task e = let same : Save target ≡ task = cc in subst (λ t. workers_of t ≡ 0) same refl
 
+none_run : (q : Option ℕ) (task : Task) → run_with q ≡ Some task → workers_of task ≡ 0
+none_run None task e = cc
+none_run (Some zero) task e = let same : Run ≡ task = cc in subst (λ t. workers_of t ≡ 0) same refl
+none_run (Some (suc n)) task e = let same : Explore false ≡ task = cc in subst (λ t. workers_of t ≡ 0) same refl
+
 default_workers : (runs explores saves serves asks : Bool) (rows : List Row) (task : Task) (words : List Text)
     → (is_given (codes "workers") words ≡ false → (k : ℕ) → workers_in rows ≡ Some k → k ≡ 0)
     → task_by runs explores saves serves asks rows ≡ Some task → is_given (codes "workers") words ≡ false → workers_of task ≡ 0
-default_workers true explores saves serves asks rows task words is e other = let same : Run ≡ task = cc in subst (λ t. workers_of t ≡ 0) same refl
-default_workers false true saves serves asks rows task words is e other = let same : Explore ≡ task = cc in subst (λ t. workers_of t ≡ 0) same refl
+default_workers true explores saves serves asks rows task words is e other = none_run (questions_in rows) task e
+default_workers false true saves serves asks rows task words is e other = let same : explore_in rows ≡ task = cc in subst (λ t. workers_of t ≡ 0) same refl
 default_workers false false true serves asks rows task words is e other = none_saved (target_in (first_of (codes "out") rows) (first_of (codes "to") rows)) task e
 default_workers false false false true asks rows task words is e other = served_workers (port_in rows) (sessions_in rows) (workers_in rows) task words is e other
 default_workers false false false false true rows task words is e other = none_asked (port_in rows) task e
 default_workers false false false false false rows task words is e other = cc
+
+run_alone : (q : Option ℕ) (task : Task) → run_with q ≡ Some task → reads_file task ≡ false
+run_alone None task e = cc
+run_alone (Some zero) task e = let same : Run ≡ task = cc in subst (λ t. reads_file t ≡ false) same refl
+run_alone (Some (suc n)) task e = let same : Explore false ≡ task = cc in subst (λ t. reads_file t ≡ false) same refl
+
+explored_alone : (given : Option Text) (task : Task) → given ≡ None → Explore (is_some given) ≡ task → reads_file task ≡ false
+explored_alone None task none same = subst (λ t. reads_file t ≡ false) same refl
+explored_alone (Some path) task none same = cc
+
+saved_alone : (target : Option Target) (task : Task) → option_map (λ target. Save target) target ≡ Some task → reads_file task ≡ false
+saved_alone None task e = cc
+saved_alone (Some target) task e = let same : Save target ≡ task = cc in subst (λ t. reads_file t ≡ false) same refl
+
+served_alone : (p n w : Option ℕ) (task : Task) → serve_with p n w ≡ Some task → reads_file task ≡ false
+served_alone None n w task e = cc
+served_alone (Some port) None w task e = cc
+served_alone (Some port) (Some sessions) None task e = cc
+served_alone (Some port) (Some sessions) (Some workers) task e =
+    let same : Serve port sessions workers ≡ task = cc in subst (λ t. reads_file t ≡ false) same refl
+
+asked_alone : (p : Option ℕ) (task : Task) → option_map (λ port. Ask port) p ≡ Some task → reads_file task ≡ false
+asked_alone None task e = cc
+asked_alone (Some port) task e = let same : Ask port ≡ task = cc in subst (λ t. reads_file t ≡ false) same refl
+
+default_from : (runs explores saves serves asks : Bool) (rows : List Row) (task : Task) → first_of (codes "from") rows ≡ None
+    → task_by runs explores saves serves asks rows ≡ Some task → reads_file task ≡ false
+default_from true explores saves serves asks rows task none e = run_alone (questions_in rows) task e
+default_from false true saves serves asks rows task none e = let same : explore_in rows ≡ task = cc in explored_alone (first_of (codes "from") rows) task none same
+default_from false false true serves asks rows task none e = saved_alone (target_in (first_of (codes "out") rows) (first_of (codes "to") rows)) task e
+default_from false false false true asks rows task none e = served_alone (port_in rows) (sessions_in rows) (workers_in rows) task e
+default_from false false false false true rows task none e = asked_alone (port_in rows) task e
+default_from false false false false false rows task none e = cc
 
 -- identifiers of which no word tells the size have 8 bytes
 default_size : (words : List Text) (f : Text × List Row) (x : IdSize) → subcommand_of heapdbg_line words ≡ Some f → is_task f.0 ≡ true
@@ -322,4 +378,6 @@ defaults_of words s e =
           one asked.task;
       workers = default_workers (bytes_eq name (codes "run")) (bytes_eq name (codes "explore")) (bytes_eq name (codes "save")) (bytes_eq name (codes "serve")) (bytes_eq name (codes "ask")) asked.found.1 s.task words
           none asked.task;
+      from = λ other. default_from (bytes_eq name (codes "run")) (bytes_eq name (codes "explore")) (bytes_eq name (codes "save")) (bytes_eq name (codes "serve")) (bytes_eq name (codes "ask")) asked.found.1 s.task
+          (not_given (codes "from") words asked.found from_free asked.is asked.named other) asked.task;
     }

@@ -80,8 +80,8 @@ rows_alone name None = refl
 rows_alone name (Some f) = refl
 
 -- the path is that of the words
-pub path_is : (o : Option (Text × List Row)) (found : Found) (r : Option (Bor Text)) (words : List Text) → Some (rows_of found) ≡ option_map (λ p. p.1) o → o ≡ subcommand_of heapdbg_line words
-    → option_map (λ s. s.now) r ≡ first_value found (codes "out") → IfSome r (λ path. path_of words ≡ Some path.now)
-path_is o found None words rows is text = tt
-path_is o found (Some path) words rows is text =
-    ap (option_and_then (λ f. first_of (codes "out") f.1)) (sym is) ∙ rows_alone (codes "out") o ∙ ap (option_and_then (first_of (codes "out"))) (sym rows) ∙ sym (first_value-rows found (codes "out")) ∙ sym text
+pub path_is : (name : Text) (o : Option (Text × List Row)) (found : Found) (r : Option (Bor Text)) (words : List Text) → Some (rows_of found) ≡ option_map (λ p. p.1) o → o ≡ subcommand_of heapdbg_line words
+    → option_map (λ s. s.now) r ≡ first_value found name → IfSome r (λ path. path_of name words ≡ Some path.now)
+path_is name o found None words rows is text = tt
+path_is name o found (Some path) words rows is text =
+    ap (option_and_then (λ f. first_of name f.1)) (sym is) ∙ rows_alone name o ∙ ap (option_and_then (first_of name)) (sym rows) ∙ sym (first_value-rows found name) ∙ sym text

@@ -1,6 +1,6 @@
 -- The command line: the settings that a list of words asks for.
-use Rattle.std.specs.Prelude.{◌≡◌, ◌≤◌, ◌==◌, ◌&&◌, ◌||◌, ℕ, List, Option, Some, None, Bool, ⊤, true, false, codes}
-use Rattle.std.specs.Prelude.{length, map, nat_le, nat_lt, option_and_then, option_map, string_bytes, if◌then◌else◌}
+use Rattle.std.specs.Prelude.{◌≡◌, ◌≤◌, ◌==◌, ◌&&◌, ◌||◌, ℕ, zero, suc, List, Option, Some, None, Bool, ⊤, true, false, codes}
+use Rattle.std.specs.Prelude.{is_some, length, map, nat_le, nat_lt, option_and_then, option_map, string_bytes, if◌then◌else◌}
 use Rattle.std.specs.List.{list_all, list_any}
 use Rattle.std.specs.Option.{option_map_or}
 use Rattle.clap.specs.Lexer.{long_of}
@@ -51,11 +51,11 @@ port_option = record (value_option (codes "port")) { required = true }
 
 -- the command `run`
 abbrev pub run_line : App
-run_line = session_line (codes "run")
+run_line = with_rule (session_line (codes "run")) (value_option (codes "questions"))
 
 -- the command `explore`
 abbrev pub explore_line : App
-explore_line = session_line (codes "explore")
+explore_line = with_rule (session_line (codes "explore")) (value_option (codes "from"))
 
 -- the command `save`
 abbrev pub save_line : App
@@ -161,6 +161,24 @@ sessions_in rows = option_value (codes "sessions") 1 1 session_limit rows
 abbrev pub workers_in : List Row → Option ℕ
 workers_in rows = option_value (codes "workers") 0 0 1 rows
 
+-- 1 if questions are answered, and 0 if not or the option is not given
+abbrev pub questions_in : List Row → Option ℕ
+questions_in rows = option_value (codes "questions") 0 0 1 rows
+
+-- a session without questions, or with them
+abbrev pub run_with : Option ℕ → Option Task
+run_with (Some zero) = Some Run
+run_with (Some (suc n)) = Some (Explore false)
+run_with None = None
+
+-- the task of the options of `run`
+abbrev pub run_in : List Row → Option Task
+run_in rows = run_with (questions_in rows)
+
+-- the task of the options of `explore`
+abbrev pub explore_in : List Row → Task
+explore_in rows = Explore (is_some (first_of (codes "from") rows))
+
 -- the target of a dump: one of the two options is given, and a port has to be one
 abbrev pub target_in : Option Text → Option Text → Option Target
 target_in (Some path) None = Some Out
@@ -198,8 +216,8 @@ is_task name =
 -- the task of a command's name and options
 abbrev pub task_in : Text → List Row → Option Task
 task_in name rows =
-    if bytes_eq name (codes "run") then Some Run
-    else (if bytes_eq name (codes "explore") then Some Explore
+    if bytes_eq name (codes "run") then run_in rows
+    else (if bytes_eq name (codes "explore") then Some (explore_in rows)
     else (if bytes_eq name (codes "save") then save_in rows
     else (if bytes_eq name (codes "serve") then serve_in rows
     else (if bytes_eq name (codes "ask") then ask_in rows else None))))
@@ -222,15 +240,15 @@ names_option name word = option_map_or (λ found. bytes_eq found.0 name) (long_o
 abbrev pub is_given : Text → List Text → Bool
 is_given name words = list_any (names_option name) words
 
--- the file that a dump goes to
-abbrev pub path_of : List Text → Option Text
-path_of words =
-    option_and_then (λ found. first_of (codes "out") found.1) (subcommand_of heapdbg_line words)
+-- the path that the words give to an option
+abbrev pub path_of : Text → List Text → Option Text
+path_of name words =
+    option_and_then (λ found. first_of name found.1) (subcommand_of heapdbg_line words)
 
 -- the port and the numbers of sessions and workers are within their limits
 abbrev pub IsTask : Task → Type 0
 IsTask Run = ⊤
-IsTask Explore = ⊤
+IsTask (Explore from) = ⊤
 IsTask (Save Out) = ⊤
 IsTask (Save (To port)) = (1 ≤ port) × (port ≤ port_limit)
 IsTask (Serve port sessions workers) =
@@ -244,7 +262,7 @@ AreSettingsWithin s = AreHeapSettings s.regions s.mutators s.keep × IsTask s.ta
 -- the number of sessions
 abbrev pub sessions_of : Task → ℕ
 sessions_of Run = 1
-sessions_of Explore = 1
+sessions_of (Explore from) = 1
 sessions_of (Save target) = 1
 sessions_of (Serve port sessions workers) = sessions
 sessions_of (Ask port) = 1
@@ -252,10 +270,18 @@ sessions_of (Ask port) = 1
 -- the number of markers, and of sweepers
 abbrev pub workers_of : Task → ℕ
 workers_of Run = 0
-workers_of Explore = 0
+workers_of (Explore from) = 0
 workers_of (Save target) = 0
 workers_of (Serve port sessions workers) = workers
 workers_of (Ask port) = 0
+
+-- the lines of a file are read first
+abbrev pub reads_file : Task → Bool
+reads_file Run = false
+reads_file (Explore from) = from
+reads_file (Save target) = false
+reads_file (Serve port sessions workers) = false
+reads_file (Ask port) = false
 
 -- an option that no word names has its default
 pub record HasDefaults (words : List Text) (s : Settings) : Type 0 where
@@ -266,6 +292,7 @@ pub record HasDefaults (words : List Text) (s : Settings) : Type 0 where
   pub ids : is_given (codes "ids") words ≡ false → s.ids ≡ Eight
   pub sessions : is_given (codes "sessions") words ≡ false → sessions_of s.task ≡ 1
   pub workers : is_given (codes "workers") words ≡ false → workers_of s.task ≡ 0
+  pub from : is_given (codes "from") words ≡ false → reads_file s.task ≡ false
 
 -- the fault has this text, or memory ran out
 abbrev pub IsBadWith : Text → LineFault → Type 0

@@ -32,6 +32,7 @@ word_of_fault fault.Listen = codes "listen"
 word_of_fault fault.Accept = codes "accept"
 word_of_fault fault.Connect = codes "connect"
 word_of_fault fault.Out = codes "out"
+word_of_fault fault.From = codes "from"
 word_of_fault fault.Lost = codes "lost"
 
 -- the text for standard error: that of a bad command line, or a line with the word of the fault

@@ -1,6 +1,7 @@
 -- What a session with questions does between its reader and its writer.
-use Rattle.std.specs.Prelude.{◌≡◌, ◌⊎◌, Result, Err}
+use Rattle.std.specs.Prelude.{◌≡◌, ◌⊎◌, Bool, true, false, Result, Err}
 use Rattle.dump_pump.specs.Outlets.{Outgoing}
+use Rattle.heap_console.specs.Loads.{IsLoaded}
 use Rattle.heap_trail.specs.Machine.{opening_machine}
 use Rattle.question_text.specs.declared.asking.Asking.{Asking}
 use Rattle.question_text.specs.Sessions.{ServesAsking}
@@ -8,18 +9,30 @@ use Rattle.session_text.specs.declared.Ended.{Ended}
 use Rattle.session_text.specs.Endings.{EndsSession}
 use Rattle.session_text.specs.Inlets.{Incoming}
 use Rattle.heapdbg.specs.declared.failure.Fault.{Fault}
-use Rattle.heapdbg.specs.declared.failure.Fault.TheVariants.{Memory}
+use Rattle.heapdbg.specs.declared.failure.Fault.TheVariants.{From, Memory}
 use Rattle.heapdbg.specs.declared.settings.Settings.{Settings}
 use Rattle.heapdbg.specs.Endings.{outcome_of}
 
--- a session with questions over a heap with these settings as it begins, and how it ended; or no memory for one, and then
--- nothing is read or written
-abbrev pub IsExplored : Settings → Incoming → Incoming → Outgoing → Outgoing
+-- a heap with these settings as it begins
+abbrev pub IsOpening : Settings → Asking → Type 0
+IsOpening s c = c.local.machine ≡ opening_machine s.ids s.regions s.mutators s.keep
+
+-- a session as it begins: over a heap as it begins, or as the lines of a file left it, which were run first
+abbrev pub IsBegun : Bool → Settings → Asking → Type 0
+IsBegun false s c = IsOpening s c
+IsBegun true s c = (b : Asking) × (ended : Ended) × IsOpening s b × IsLoaded s.time b c ended
+
+-- why a session doesn't begin: no memory, or the file of lines can't be opened
+abbrev pub IsHindrance : Bool → Fault → Type 0
+IsHindrance from f = (f ≡ Memory) ⊎ ((from ≡ true) × (f ≡ From))
+
+-- a session with questions over a heap with these settings, and how it ended; or it didn't begin, and then nothing is read or
+-- written
+abbrev pub IsExplored : Bool → Settings → Incoming → Incoming → Outgoing → Outgoing
     → Result (Unit {0}) Fault
     → Type 0
-IsExplored s a b w w' result =
-    ((ended : Ended) × (c : Asking) × (left : Asking)
-    × (c.local.machine ≡ opening_machine s.ids s.regions s.mutators s.keep)
+IsExplored from s a b w w' result =
+    ((ended : Ended) × (c : Asking) × (left : Asking) × IsBegun from s c
     × ServesAsking s.time a b c w left w' ended
     × EndsSession a b w w' ended × (result ≡ outcome_of ended))
-    ⊎ ((result ≡ Err Memory) × (b ≡ a) × (w' ≡ w))
+    ⊎ ((f : Fault) × IsHindrance from f × (result ≡ Err f) × (b ≡ a) × (w' ≡ w))

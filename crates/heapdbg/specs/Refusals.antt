@@ -5,9 +5,9 @@ use Rattle.clap.specs.Words.{Row, Text, fault_of, first_of, subcommand_of}
 use Rattle.clap.specs.declared.error.kind.ErrorKind.TheVariants.{DisplayVersion}
 use Rattle.heap_region.specs.Limits.{region_limit}
 use Rattle.heap_world.specs.Limits.{keep_limit, mutator_limit}
-use Rattle.heapdbg.specs.CommandLine.{heapdbg_line, id_size_in, is_task, keep_default, number_in, port_in, port_limit, sessions_in, settings_of, option_value, time_limit, workers_in}
+use Rattle.heapdbg.specs.CommandLine.{heapdbg_line, id_size_in, is_task, keep_default, number_in, port_in, port_limit, questions_in, sessions_in, settings_of, option_value, time_limit, workers_in}
 use Rattle.heapdbg.specs.declared.refusal.Mistake.{Mistake}
-use Rattle.heapdbg.specs.declared.refusal.Mistake.TheVariants.{Command, Regions, Mutators, Keep, Time, Ids, Port, Sessions, Workers, To, Place}
+use Rattle.heapdbg.specs.declared.refusal.Mistake.TheVariants.{Command, Regions, Mutators, Keep, Time, Ids, Port, Sessions, Workers, Questions, To, Place}
 use Rattle.heapdbg.specs.declared.settings.LineFault.{LineFault}
 use Rattle.heapdbg.specs.declared.settings.LineFault.TheVariants.{Bad, Memory}
 
@@ -32,6 +32,7 @@ IsMistakeIn Ids rows = id_size_in rows ≡ None
 IsMistakeIn Port rows = port_in rows ≡ None
 IsMistakeIn Sessions rows = sessions_in rows ≡ None
 IsMistakeIn Workers rows = workers_in rows ≡ None
+IsMistakeIn Questions rows = questions_in rows ≡ None
 IsMistakeIn To rows = IsTargetMistake To (first_of (codes "out") rows) (first_of (codes "to") rows)
 IsMistakeIn Place rows =
     IsTargetMistake Place (first_of (codes "out") rows) (first_of (codes "to") rows)
@@ -57,6 +58,7 @@ mistake_of Ids = codes "--ids takes 4 or 8"
 mistake_of Port = codes "--port takes 1 to 65535"
 mistake_of Sessions = codes "--sessions takes 1 to 1000"
 mistake_of Workers = codes "--workers takes 0 or 1"
+mistake_of Questions = codes "--questions takes 0 or 1"
 mistake_of To = codes "--to takes 1 to 65535"
 mistake_of Place = codes "save takes one of --out and --to"
 

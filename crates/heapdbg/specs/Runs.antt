@@ -42,7 +42,7 @@ IsSavedOut s a b w w' result =
 abbrev pub IsTaskDone : Task → Settings → Incoming → Incoming → Outgoing → Outgoing
     → Result (Unit {0}) Fault → Type 0
 IsTaskDone Run s a b w w' result = IsRun s a b w w' result
-IsTaskDone Explore s a b w w' result = IsExplored s a b w w' result
+IsTaskDone (Explore from) s a b w w' result = IsExplored from s a b w w' result
 IsTaskDone (Save Out) s a b w w' result = IsSavedOut s a b w w' result
 IsTaskDone (Save (To port)) s a b w w' result = IsSavedTo fault.Connect s a b w w' result
 IsTaskDone (Serve port sessions workers) s a b w w' result =

@@ -6,13 +6,14 @@ ghost use Rattle.std.specs.Char.{is_ascii_digit};
 ghost use Rattle.clap.specs.Words.{FailsBy, app_of, fault_of, found_of, kind_of, rows_of};
 ghost use Rattle.clap.specs.declared.builder.Command.TheViews.{out-Command};
 ghost use Rattle.clap.specs.Words.{rule_of, subcommand_of, subcommand_rows_of};
-ghost use Rattle.heapdbg.specs.CommandLine.{AreSettingsWithin, HasDefaults, IsBadWith, explore_line, heap_line, heapdbg_line, local_line, named_line, number_in, run_line};
+ghost use Rattle.heapdbg.specs.CommandLine.{AreSettingsWithin, HasDefaults, IsBadWith, heap_line, heapdbg_line, local_line, named_line, number_in};
 ghost use Rattle.heapdbg.specs.CommandLine.{settings_in, settings_of, settings_under, texts, option_value};
 ghost use Rattle.heapdbg.specs.CommandLine.{id_size_in, id_size_of, path_of, session_line, task_in, value_option};
 ghost use Rattle.heapdbg.specs.Refusals.{IsMistake, IsMistakeIn, IsRefusalOf, version_text};
 
 use crate::refusal::{Mistake, VERSION, version};
 use crate::save_options::{save_parser, save_task};
+use crate::session_options::{explore_parser, explore_task, run_parser, run_task};
 use crate::settings::{LineFault, Settings, Task};
 use crate::socket_options::{ask_parser, ask_task, serve_parser, serve_task};
 use clap::error::ErrorKind;
@@ -39,13 +40,13 @@ pub fn settings(alloc: Global, words: &[&str]) -> Result<Settings, LineFault>
     }
 }
 
-/// Returns the path that the words name for a dump, or None if they name none or an allocation fails.
-pub fn out_path<'a>(alloc: Global, words: &'a [&'a str]) -> Option<&'a str>
-    ensures { IfSome result (λ path. path_of (texts words.now) ≡ Some path.now) }
+/// Returns the path that the words give to an option, or None if they give none or an allocation fails.
+pub fn path_option<'a>(alloc: Global, words: &'a [&'a str], name: &str) -> Option<&'a str>
+    ensures { IfSome result (λ path. path_of name.now (texts words.now) ≡ Some path.now) }
 {
     match parse(alloc, words) {
         Ok(matches) => match matches.subcommand() {
-            Some((_, options)) => options.get_str("out"),
+            Some((_, options)) => options.get_str(name),
             None => None,
         },
         Err(_) => None,
@@ -89,30 +90,6 @@ fn named_parser<'a>(alloc: Global) -> Result<Command<'a>, AllocError>
         .version(VERSION)
         .subcommand_required(true)
         .subcommand(run)
-}
-
-// Creates the parser of the command `run`.
-fn run_parser<'a>(alloc: Global) -> Result<Command<'a>, AllocError>
-    ensures app { IfOk result (λ c. app_of c ≡ run_line) }
-    ensures local { IfOk result (λ c. (out-Command c).has_globals ≡ false) }
-{
-    session_parser(
-        alloc,
-        "run",
-        "Reads commands from standard input and writes replies to standard output",
-    )
-}
-
-// Creates the parser of the command `explore`.
-fn explore_parser<'a>(alloc: Global) -> Result<Command<'a>, AllocError>
-    ensures app { IfOk result (λ c. app_of c ≡ explore_line) }
-    ensures local { IfOk result (λ c. (out-Command c).has_globals ≡ false) }
-{
-    session_parser(
-        alloc,
-        "explore",
-        "Reads commands and questions from standard input and writes answers to standard output",
-    )
 }
 
 // Creates the parser of a command that opens a heap, with the options for the heap, its history and its dumps.
@@ -200,10 +177,10 @@ fn task_of(name: &str, options: &ArgMatches<'_>) -> Result<Task, Mistake>
         (λ m. IsMistake m (Some (name.now, rows_of (found_of options.now)))) }
 {
     if name == "run" {
-        return Ok(Task::Run);
+        return run_task(options);
     }
     if name == "explore" {
-        return Ok(Task::Explore);
+        return Ok(explore_task(options));
     }
     if name == "save" {
         return save_task(options);

@@ -1,32 +1,109 @@
 //! A session with questions.
+ghost use Rattle.std.specs.Prelude.{◌≡◌, false, true, IfErr, IfOk};
 ghost use Rattle.heap_world.specs.Limits.{AreHeapSettings};
-ghost use Rattle.heapdbg.specs.Explorations.{IsExplored};
+ghost use Rattle.heapdbg.specs.Explorations.{IsBegun, IsExplored, IsHindrance, IsOpening};
 
+use crate::command_line::path_option;
 use crate::failure::{Fault, outcome};
 use crate::settings::{Settings, config};
+use crate::words::borrow_words;
 use dump_pump::Outlet;
+use heap_console::load_lines;
 use heap_trail::Machine;
-use question_text::{Asking, serve_asking};
+use question_text::{Asking, Watch, serve_asking};
 use session_text::{Inlet, Local};
 use std::alloc::Global;
+use std::fs;
+use std::fs::Files;
 
-/// Runs one session, in which questions are answered, over a heap of its own.
-pub fn explore<I: Inlet, O: Outlet>(
+/// Runs one session, in which questions are answered, over a heap of its own. If `from` says so, the lines of the file that
+/// the words name are run first; their answers are not shown, and each line that is refused is reported on standard error.
+/// Fails as a session does, with Memory if the heap can't be allocated, and with From if the file can't be opened.
+pub fn explore<R: Eprint + Files, I: Inlet, O: Outlet>(
+    rt: &R,
     alloc: Global,
+    words: &[String],
     settings: &Settings,
+    from: bool,
+    watch: &Watch,
     reader: &mut I,
     writer: &mut O,
 ) -> Result<(), Fault>
     requires { AreHeapSettings settings.now.regions settings.now.mutators settings.now.keep }
-    ensures { IsExplored settings.now (I.seen reader.old) (I.seen reader.new) (O.seen writer.old)
-        (O.seen writer.new) result }
+    ensures { IsExplored from settings.now (I.seen reader.old) (I.seen reader.new)
+        (O.seen writer.old) (O.seen writer.new) result }
+{
+    match begin(rt, alloc, words, settings, from, watch) {
+        Ok(mut asking) => outcome(serve_asking(
+            alloc,
+            reader,
+            writer,
+            &mut asking,
+            settings.time,
+        )),
+        Err(fault) => Err(fault),
+    }
+}
+
+// Opens the heap, and runs the lines of the file that the words name if `from` says so.
+fn begin<'a, R: Eprint + Files>(
+    rt: &R,
+    alloc: Global,
+    words: &[String],
+    settings: &Settings,
+    from: bool,
+    watch: &'a Watch,
+) -> Result<Asking<'a>, Fault>
+    requires { AreHeapSettings settings.now.regions settings.now.mutators settings.now.keep }
+    ensures begun { IfOk result (IsBegun from settings.now) }
+    ensures hindrance { IfErr result (IsHindrance from) }
+{
+    let asking = open(alloc, settings, watch)?;
+    if from {
+        load(rt, alloc, words, settings, asking)
+    } else {
+        Ok(asking)
+    }
+}
+
+// Opens the heap.
+fn open<'a>(alloc: Global, settings: &Settings, watch: &'a Watch) -> Result<Asking<'a>, Fault>
+    requires { AreHeapSettings settings.now.regions settings.now.mutators settings.now.keep }
+    ensures opening { IfOk result (IsOpening settings.now) }
+    ensures fault { IfErr result (λ f. f ≡ Fault.Memory) }
 {
     match Machine::new(alloc, config(settings)) {
         Ok(machine) => {
             let local = Local::new(machine);
-            let mut asking = Asking { local };
-            outcome(serve_asking(alloc, reader, writer, &mut asking, settings.time))
+            Ok(Asking { local, watch })
         }
+        Err(_) => Err(Fault::Memory),
+    }
+}
+
+// Runs the lines of the file that the words name.
+fn load<'a, R: Eprint + Files>(
+    rt: &R,
+    alloc: Global,
+    words: &[String],
+    settings: &Settings,
+    mut asking: Asking<'a>,
+) -> Result<Asking<'a>, Fault>
+    requires { IsOpening settings.now asking.entry }
+    ensures begun { IfOk result (IsBegun true settings.now) }
+    ensures hindrance { IfErr result (IsHindrance true) }
+{
+    let Ok(line) = borrow_words(alloc, words) else {
+        return Err(Fault::Memory);
+    };
+    let Some(path) = path_option(alloc, line.as_slice(), "from") else {
+        return Err(Fault::Memory);
+    };
+    let Ok(file) = fs::open(rt, path) else {
+        return Err(Fault::From);
+    };
+    match load_lines(rt, alloc, path, file, &mut asking, settings.time) {
+        Ok(_) => Ok(asking),
         Err(_) => Err(Fault::Memory),
     }
 }

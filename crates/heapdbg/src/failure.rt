@@ -33,6 +33,8 @@ pub enum Fault {
     Connect,
     /// The file can't be made, or a write of the dump failed.
     Out,
+    /// The file of lines that are run first can't be opened.
+    From,
     /// The dump is lost.
     Lost,
 }
@@ -62,6 +64,7 @@ impl Fault {
             Fault::Accept => "accept",
             Fault::Connect => "connect",
             Fault::Out => "out",
+            Fault::From => "from",
             Fault::Lost => "lost",
         }
     }

@@ -13,15 +13,23 @@ mod refusal;
 mod save;
 mod save_options;
 mod serve;
+mod session_options;
 mod settings;
 mod socket_options;
 mod task;
+mod terminals;
+mod words;
 
 use std::io::IsTerminal;
 use std::process::ExitCode;
+use terminals::Terminals;
 
 // Runs the program, and reports its failure, if any, on standard error.
 fn main(rt: HostRuntime) -> ExitCode {
-    let is_terminal = rt.stderr().is_terminal();
-    failure::report(&mut rt.stderr(), &task::perform(&rt, is_terminal))
+    let terminals = Terminals {
+        input: rt.stdin().is_terminal(),
+        output: rt.stdout().is_terminal(),
+        error: rt.stderr().is_terminal(),
+    };
+    failure::report(&mut rt.stderr(), &task::perform(&rt, terminals))
 }

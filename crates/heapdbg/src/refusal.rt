@@ -33,6 +33,8 @@ pub(crate) enum Mistake {
     Sessions,
     // `--workers` is out of its range.
     Workers,
+    // `--questions` is out of its range.
+    Questions,
     // `--to` is out of its range.
     To,
     // Both of `--out` and `--to` are given, or neither.
@@ -54,6 +56,7 @@ impl Mistake {
             Mistake::Port => "--port takes 1 to 65535",
             Mistake::Sessions => "--sessions takes 1 to 1000",
             Mistake::Workers => "--workers takes 0 or 1",
+            Mistake::Questions => "--questions takes 0 or 1",
             Mistake::To => "--to takes 1 to 65535",
             Mistake::Place => "save takes one of --out and --to",
         }

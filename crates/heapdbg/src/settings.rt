@@ -22,7 +22,10 @@ pub enum Task {
     /// Runs one session between standard input and standard output.
     Run,
     /// Runs one session likewise, in which questions are answered.
-    Explore,
+    Explore {
+        /// Whether the lines of a file that the command line names are read first.
+        from: bool,
+    },
     /// Runs one session as `Run` does, and dumps the state that it leaves.
     Save(Target),
     /// Serves sessions over one shared heap to clients of this computer.

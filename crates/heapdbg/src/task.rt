@@ -1,13 +1,13 @@
 //! The tasks, from the words of the command line on.
 ghost use Rattle.std.specs.Prelude.{◌≡◌, Some, IfOk, IfErr, map, string_bytes};
 ghost use Rattle.std.specs.IoError.{error_kind};
-ghost use Rattle.heapdbg.specs.CommandLine.{AreSettingsWithin, IsBadWith, settings_of, texts};
+ghost use Rattle.heapdbg.specs.CommandLine.{AreSettingsWithin, IsBadWith, settings_of};
 ghost use Rattle.heapdbg.specs.Refusals.{IsRefusalOf};
 ghost use Rattle.heapdbg.specs.Runs.{IsTaskDone, IsRun, IsPerformed, IsSavedOut};
 ghost use Rattle.heap_world.specs.Limits.{AreHeapSettings};
 
 use crate::ask::ask_port;
-use crate::command_line::{out_path, settings};
+use crate::command_line::{path_option, settings};
 use crate::explore::explore;
 use crate::failure::{Failure, Fault, outcome};
 use crate::folder::has_folder;
@@ -15,10 +15,14 @@ use crate::refusal::bad;
 use crate::save::{save_out, save_to};
 use crate::serve::serve_port;
 use crate::settings::{LineFault, Settings, Target, Task, config};
+use crate::terminals::{Screen, Terminals};
+use crate::words::borrow_words;
 use dump_pump::{Outlet, WriteOutlet};
+use heap_console::{ColumnOutlet, PromptInlet};
 use heap_trail::Machine;
+use question_text::Watch;
 use session_text::{Inlet, Local, ReadInlet, serve_local};
-use std::alloc::{AllocError, Global};
+use std::alloc::Global;
 use std::fs::Files;
 use std::io::{Error, ErrorKind};
 use std::net::{Net, TcpListener, TcpStream};
@@ -28,9 +32,9 @@ use std::thread::Threads;
 use std::time::Clock;
 use std::{env, io};
 
-/// Reads the command line, and does the task that it asks for between standard input and standard output. `is_terminal` tells
-/// whether standard error is a terminal.
-pub fn perform<R>(rt: &R, is_terminal: bool) -> Result<(), Failure>
+/// Reads the command line, and does the task that it asks for between standard input and standard output. At terminals `explore`
+/// prompts, and shows rows in columns.
+pub fn perform<R>(rt: &R, terminals: Terminals) -> Result<(), Failure>
 where
     R: AllocGlobal + Clock + Env + Eprint + Files + Input + Print,
     R: Net<Listener = TcpListener, Stream = TcpStream> + Threads + Wait,
@@ -41,17 +45,55 @@ where
         Ok(words) => words.collect(rt.alloc()).map_err(|_| Fault::Memory)?,
         Err(error) => return Err(unread(rt.alloc(), &error).into()),
     };
-    let mut reader = ReadInlet::new(rt.reader());
-    let mut writer = WriteOutlet::new(io::writer(rt));
-    perform_words(
-        rt,
-        rt.alloc(),
-        words.as_slice(),
-        &mut reader,
-        ReadInlet::new(rt.reader()),
-        &mut writer,
-        is_terminal,
-    )
+    let watch = Watch::new();
+    let screen = Screen {
+        is_terminal: terminals.error,
+        watch: &watch,
+    };
+    let explores = is_explore(words.as_slice());
+    let shows = explores && terminals.output;
+    let reader = ReadInlet::new(rt.reader());
+    if explores && terminals.input && terminals.error {
+        let mut reader = PromptInlet::new(rt, rt.alloc(), &watch, reader);
+        perform_shown(rt, words.as_slice(), &mut reader, screen, shows)
+    } else {
+        let mut reader = reader;
+        perform_shown(rt, words.as_slice(), &mut reader, screen, shows)
+    }
+}
+
+// Tells whether the words ask for `explore`.
+fn is_explore(words: &[String]) -> bool {
+    match words.get(1) {
+        Some(word) => word.as_str() == "explore",
+        None => false,
+    }
+}
+
+// Does the task that the words ask for between a reader and standard output. `shows` tells whether rows are shown in columns.
+fn perform_shown<R, I: Inlet + Send>(
+    rt: &R,
+    words: &[String],
+    reader: &mut I,
+    screen: Screen<'_>,
+    shows: bool,
+) -> Result<(), Failure>
+where
+    R: AllocGlobal + Clock + Eprint + Files + Input + Print,
+    R: Net<Listener = TcpListener, Stream = TcpStream> + Threads + Wait,
+    R: Copy + Send + Sync + Drop + 'static,
+    R::Reader: Send + 'static,
+{
+    let alloc = rt.alloc();
+    let input = ReadInlet::new(rt.reader());
+    let writer = WriteOutlet::new(io::writer(rt));
+    if shows {
+        let mut writer = ColumnOutlet::new(alloc, writer);
+        perform_words(rt, alloc, words, reader, input, &mut writer, screen)
+    } else {
+        let mut writer = writer;
+        perform_words(rt, alloc, words, reader, input, &mut writer, screen)
+    }
 }
 
 // Does the task that the words ask for: a private session between a reader and a writer, or a client's between `input`, which
@@ -64,7 +106,7 @@ fn perform_words<R, I: Inlet + Send, J: Inlet + Send + Drop + 'static, O: Outlet
     reader: &mut I,
     input: J,
     writer: &mut O,
-    is_terminal: bool,
+    screen: Screen<'_>,
 ) -> Result<(), Failure>
 where
     R: Net<Listener = TcpListener, Stream = TcpStream> + Threads + Wait,
@@ -73,7 +115,7 @@ where
         (O.seen writer.old) (O.seen writer.new) result }
 {
     let asked = settings_of_words(alloc, words)?;
-    work(rt, alloc, words, &asked, reader, input, writer, is_terminal)?;
+    work(rt, alloc, words, &asked, reader, input, writer, screen)?;
     Ok(())
 }
 
@@ -86,7 +128,7 @@ fn work<R, I: Inlet + Send, J: Inlet + Send + Drop + 'static, O: Outlet>(
     reader: &mut I,
     input: J,
     writer: &mut O,
-    is_terminal: bool,
+    screen: Screen<'_>,
 ) -> Result<(), Fault>
 where
     R: Net<Listener = TcpListener, Stream = TcpStream> + Threads + Wait,
@@ -97,9 +139,11 @@ where
 {
     match asked.task {
         Task::Run => session(alloc, asked, reader, writer),
-        Task::Explore => explore(alloc, asked, reader, writer),
-        Task::Save(Target::Out) => save_named(rt, alloc, words, asked, reader, writer, is_terminal),
-        Task::Save(Target::To(to)) => save_to(rt, alloc, asked, to, reader, writer, is_terminal),
+        Task::Explore { from } => {
+            explore(rt, alloc, words, asked, from, screen.watch, reader, writer)
+        }
+        Task::Save(Target::Out) => save_named(rt, alloc, words, asked, reader, writer, screen.is_terminal),
+        Task::Save(Target::To(to)) => save_to(rt, alloc, asked, to, reader, writer, screen.is_terminal),
         Task::Serve {
             port,
             sessions,
@@ -112,7 +156,7 @@ where
             sessions,
             workers,
             writer,
-            is_terminal,
+            screen.is_terminal,
         ),
         Task::Ask { port } => ask_port(rt, alloc, port, input, writer),
     }
@@ -142,17 +186,6 @@ fn settings_of_words(alloc: Global, words: &[String]) -> Result<Settings, LineFa
         Ok(line) => settings(alloc, line.as_slice()),
         Err(_) => Err(LineFault::Memory),
     }
-}
-
-// Returns the words as text. Fails if an allocation fails.
-fn borrow_words<'a>(alloc: Global, words: &'a [String]) -> Result<Vec<&'a str>, AllocError>
-    ensures { IfOk result (λ line. texts line.items ≡ map string_bytes words.now) }
-{
-    let mut line = Vec::new(alloc);
-    for word in words {
-        line.push(word.as_str())?;
-    }
-    Ok(line)
 }
 
 // Runs one session over a private heap.
@@ -195,7 +228,7 @@ where
     let Ok(line) = borrow_words(alloc, words) else {
         return Err(Fault::Memory);
     };
-    match out_path(alloc, line.as_slice()) {
+    match path_option(alloc, line.as_slice(), "out") {
         Some(path) if has_folder(rt, path) => save_out(
             rt,
             alloc,

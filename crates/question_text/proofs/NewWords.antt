@@ -1,11 +1,12 @@
 -- No line that asks a question is one of the grammar of sessions.
-use Rattle.std.proofs.Common.{◌≡◌, ◌∙◌, ℕ, Bool, true, false, cond, List, [], ◌∷◌, Some, None, refl, sym, subst}
+use Rattle.std.proofs.Common.{◌≡◌, ◌∙◌, ap₂, ℕ, Bool, true, false, cond, List, [], ◌∷◌, Some, None, refl, sym, subst}
 use Rattle.std.specs.Prelude.{codes, find, option_and_then}
 use Rattle.std.specs.List.{AllByRecursion}
 use Rattle.std.specs.Str.{bytes_eq}
 use Rattle.std.proofs.lemmas.Slice.Eq.{bytes_eq-Decides}
 use Rattle.session_text.specs.declared.command.Command.TheVariants.{Bad}
 use Rattle.session_text.specs.Grammar.{access_rules, all_rules, by_rule, class_rules, command_of_text, command_of_words, is_plain, making_rules, marking_rules, session_rules, words_of_line}
+use Rattle.session_text.specs.declared.commands.Local.{Local}
 use Rattle.question_text.specs.declared.asking.Asking.{Asking}
 use Rattle.question_text.specs.declared.question.Question.{Question}
 use Rattle.question_text.specs.Collections.{is_collect, is_collect_words}
@@ -103,14 +104,18 @@ no_help [] e = absurd (cc e)
 no_help (w ∷ []) e = subst (λ (v : List ℕ). help_of_words (v ∷ []) ≡ None) (sym (collect_word w e)) refl
 no_help (w ∷ v ∷ ws) e = absurd (cc e)
 
-unchanged : (b : Bool) (l text : List ℕ) (c d : Asking) → (b ≡ true → ⊥) → AnswersLine b l c text d → d ≡ c
-unchanged true l text c d h a = absurd (h refl)
-unchanged false l text c d h a = a.1
+same_local : (b : Bool) (l text : List ℕ) (c d : Local) → (b ≡ true → ⊥) → AnswersLine b l c text d → d ≡ c
+same_local true l text c d h a = absurd (h refl)
+same_local false l text c d h a = a.1
+
+unchanged : (l text : List ℕ) (c d : Asking) → (is_collect l ≡ true → ⊥) → AskingAnswers l c text d → d ≡ c
+unchanged l text c d h a =
+    ap₂ (λ local watch. record { local = local; watch = watch }) (same_local (is_collect l) l text c.local d.local h a.0) a.1
 
 pub question_changes_nothing : (l text : List ℕ) (q : Question) (c d : Asking) → question_of l ≡ Some q → AskingAnswers l c text d → d ≡ c
 question_changes_nothing l text q c d e a =
-    unchanged (is_collect l) l text c d (λ t. let clash : None ≡ Some q = sym (no_question (words_of_line l) t) ∙ e in absurd (cc clash)) a
+    unchanged l text c d (λ t. let clash : None ≡ Some q = sym (no_question (words_of_line l) t) ∙ e in absurd (cc clash)) a
 
 pub help_changes_nothing : (l text answer : List ℕ) (c d : Asking) → help_of l ≡ Some answer → AskingAnswers l c text d → d ≡ c
 help_changes_nothing l text answer c d e a =
-    unchanged (is_collect l) l text c d (λ t. let clash : None ≡ Some answer = sym (no_help (words_of_line l) t) ∙ e in absurd (cc clash)) a
+    unchanged l text c d (λ t. let clash : None ≡ Some answer = sym (no_help (words_of_line l) t) ∙ e in absurd (cc clash)) a

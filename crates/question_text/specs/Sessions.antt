@@ -7,6 +7,7 @@ use Rattle.session_text.specs.Dumps.{Acts}
 use Rattle.session_text.specs.Inlets.{Incoming}
 use Rattle.session_text.specs.Local.{LocalActs}
 use Rattle.session_text.specs.Talks.{Serves}
+use Rattle.session_text.specs.declared.commands.Local.{Local}
 use Rattle.question_text.specs.declared.asking.Asking.{Asking}
 use Rattle.question_text.specs.Answers.{IsAnswerOfLine}
 use Rattle.question_text.specs.Collections.{Collects, is_collect}
@@ -17,14 +18,14 @@ AskingActs c a r d =
     LocalActs c.local.machine a r d.local.machine × (d.local.first_pin ≡ c.local.first_pin)
 
 -- `collect` takes steps, and no other line changes anything
-abbrev pub AnswersLine : Bool → AnswerRelation Asking
-AnswersLine true l c text d =
-    Collects c.local.machine text d.local.machine × (d.local.first_pin ≡ c.local.first_pin)
-AnswersLine false l c text d = IsAnswerOfLine l c.local.machine text × (d ≡ c)
+abbrev pub AnswersLine : Bool → AnswerRelation Local
+AnswersLine true l c text d = Collects c.machine text d.machine × (d.first_pin ≡ c.first_pin)
+AnswersLine false l c text d = IsAnswerOfLine l c.machine text × (d ≡ c)
 
 -- the answer of a line that the grammar of sessions doesn't know
 abbrev pub AskingAnswers : AnswerRelation Asking
-AskingAnswers l c text d = AnswersLine (is_collect l) l c text d
+AskingAnswers l c text d =
+    AnswersLine (is_collect l) l c.local text d.local × (d.watch ≡ c.watch)
 
 -- a session with questions
 abbrev pub ServesAsking : ℕ → Incoming → Incoming → Asking → Outgoing → Asking → Outgoing → Ended

@@ -1,20 +1,41 @@
 //! Commands with questions.
+ghost use Rattle.session_text.specs.Replies.{line_answer_text};
+ghost use Rattle.question_text.specs.Collections.{is_collect};
+ghost use Rattle.question_text.specs.Sessions.{AnswersLine};
+
 use crate::answers::answer;
 use crate::cycle::{collect, is_collect};
 use crate::help::help_answer;
 use crate::question::question_of;
+use crate::watch::Watch;
 use heap_trail::{Action, Reply};
 use session_text::{Commands, LineAnswer, Local};
 use std::alloc::Global;
 
 /// A private machine that acts on the lines of a session, and answers questions about itself, `collect` and `help`.
 #[derive(Drop)]
-pub struct Asking {
+pub struct Asking<'a> {
     /// The machine.
     pub local: Local,
+    /// What readers beside the session see of it.
+    pub watch: &'a Watch,
 }
 
-impl Commands for Asking {
+// Answers a line that the grammar of sessions doesn't know.
+fn answer_question(alloc: Global, local: &mut Local, line: &[u8]) -> LineAnswer
+    ensures { AnswersLine (is_collect line.now) line.now local.old (line_answer_text result)
+        local.new }
+{
+    if is_collect(line) {
+        return collect(alloc, &mut local.machine);
+    }
+    match question_of(line) {
+        Some(question) => answer(alloc, &local.machine, question),
+        None => help_answer(line),
+    }
+}
+
+impl Commands for Asking<'_> {
     ghost use Rattle.question_text.specs.Sessions.{AskingActs, AskingAnswers};
 
     ghost acts = { AskingActs };
@@ -23,16 +44,14 @@ impl Commands for Asking {
 
     #[inline(always)]
     fn act(&mut self, action: Action) -> Reply {
-        self.local.act(action)
+        let reply = self.local.act(action);
+        self.watch.note_reply(self.local.machine.place(), &reply);
+        reply
     }
 
     fn answer_unknown(&mut self, alloc: Global, line: &[u8]) -> LineAnswer {
-        if is_collect(line) {
-            return collect(alloc, &mut self.local.machine);
-        }
-        match question_of(line) {
-            Some(question) => answer(alloc, &self.local.machine, question),
-            None => help_answer(line),
-        }
+        let answer = answer_question(alloc, &mut self.local, line);
+        self.watch.note_answer(self.local.machine.place(), &answer);
+        answer
     }
 }

@@ -3,7 +3,7 @@ ghost use Rattle.std.specs.Prelude.{◌≡◌};
 ghost use Rattle.std.specs.Option.{option_map};
 ghost use Rattle.session_text.specs.Grammar.{words_of_line};
 ghost use Rattle.session_text.specs.Replies.{line_answer_text};
-ghost use Rattle.question_text.specs.Help.{access_forms, cycle_forms, form_with, help_about, help_of, help_or_bad, help_text, image_forms, making_forms, past_forms, pin_forms};
+ghost use Rattle.question_text.specs.Help.{access_forms, all_forms, cycle_forms, form_with, help_about, help_of, help_or_bad, help_text, image_forms, making_forms, past_forms, pin_forms};
 
 use crate::id::is_word;
 use session_text::LineAnswer;
@@ -163,6 +163,13 @@ fn making_help(word: &[u8]) -> Option<&'static [u8]>
         return Some(b"row newprim M R KIND LEN\nrow newprim 0 3 byte 64\nok\n");
     }
     access_help(word)
+}
+
+/// Returns what `help` answers about a keyword, or None if no line begins with it. Takes no memory.
+pub fn keyword_help(word: &[u8]) -> Option<&'static [u8]>
+    ensures { option_map (λ t. t.now) result ≡ form_with all_forms word.now }
+{
+    making_help(word)
 }
 
 // Returns the forms of all lines.

@@ -45,7 +45,7 @@ fn push_array_name(text: &mut Vec<u8>, code: usize) -> Result<(), Refusal>
 
 /// Appends the name of what a row counts. Fails with NoMemory.
 #[tactic(auto, unfolding(crate::specs::Names::row_name))]
-pub(crate) fn push_row_name(
+pub fn push_row_name(
     text: &mut Vec<u8>,
     classes: &FirstClasses<'_>,
     index: usize,

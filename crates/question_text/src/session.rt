@@ -13,7 +13,7 @@ pub fn serve_asking<I: Inlet, O: Outlet>(
     alloc: Global,
     reader: &mut I,
     writer: &mut O,
-    asking: &mut Asking,
+    asking: &mut Asking<'_>,
     time: u64,
 ) -> Ended
     ensures ends { EndsSession (I.seen reader.old) (I.seen reader.new) (O.seen writer.old)

@@ -1,0 +1,10 @@
+-- A read of at most a line.
+use Rattle.std.specs.Prelude.{ℕ, ◌<◌, ◌≤◌, List, ⊤, length}
+use Rattle.session_text.specs.declared.inlet.Take.{Take}
+use Rattle.session_text.specs.declared.inlet.Take.TheVariants.{Got, End, Failed}
+
+-- a read gave bytes to the front of a room, at least one, or none
+abbrev pub IsGiven : List ℕ → Take → Type 0
+IsGiven room (Got n) = (0 < n) × (n ≤ length room)
+IsGiven room End = ⊤
+IsGiven room Failed = ⊤

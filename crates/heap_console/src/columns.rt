@@ -1,0 +1,181 @@
+//! An outlet that shows rows in columns.
+ghost use Rattle.std.specs.Prelude.{◌≡◌, ◌<◌, [], length};
+
+use dump_pump::ledger::note_bytes;
+use dump_pump::{Outlet, Put};
+use http_server::Log;
+use session_text::write_all;
+use std::alloc::{AllocError, Global};
+use std::marker::Model;
+use std::mem;
+
+// The byte at the end of a line.
+const LF: u8 = b'\n';
+
+// The number of columns that are aligned: the words of a row behind them follow each other.
+const COLUMNS: usize = 16;
+
+/// An outlet for a person at a terminal. It shows the words of successive rows below each other, without the word `row`, and
+/// all other lines as they are. Contracts see the bytes that it was given, not those that it shows.
+#[derive(Drop)]
+pub struct ColumnOutlet<O: Outlet + Drop> {
+    outlet: O,
+    alloc: Global,
+    cut: Vec<u8>,
+    put: Log<u8, ()>,
+    failed: Log<(), ()>,
+}
+
+impl<O: Outlet + Drop> Model for ColumnOutlet<O> {
+    ghost use Rattle.std.specs.Prelude.{length};
+    ghost use Rattle.dump_pump.specs.Outlets.{Outgoing, bytes_of};
+
+    ghost Value = { Outgoing };
+
+    ghost view = { λ o. record { out = bytes_of o.put.items; failures = length o.failed.items } };
+}
+
+// The width of each column of some rows.
+#[derive(Clone, Copy)]
+struct Widths([usize; COLUMNS]);
+
+impl Widths {
+    // Returns the widths that the words of these rows need.
+    fn of(rows: &[&[u8]]) -> Widths {
+        let mut widths = Widths([0; COLUMNS]);
+        for row in rows {
+            widths.widen(row);
+        }
+        widths
+    }
+
+    // Makes each column as wide as its word of a row at least.
+    fn widen(&mut self, row: &[u8]) {
+        let mut column = 0;
+        for word in row.split(|byte| *byte == b' ') {
+            if column < COLUMNS {
+                self.0[column] = self.0[column].max(word.len());
+                column += 1;
+            }
+        }
+    }
+
+    // Returns the width of a column, which is 0 if it isn't aligned.
+    fn width(&self, column: usize) -> usize {
+        if column < COLUMNS {
+            self.0[column]
+        } else {
+            0
+        }
+    }
+}
+
+// Adds a number of spaces to a text.
+fn add_spaces(text: &mut Vec<u8>, count: usize) -> Result<(), AllocError> {
+    for _ in 0..count {
+        text.push(b' ')?;
+    }
+    Ok(())
+}
+
+// Adds a row with its words in columns.
+fn add_row(text: &mut Vec<u8>, row: &[u8], widths: &Widths) -> Result<(), AllocError> {
+    let mut column: usize = 0;
+    let mut due = 2;
+    for word in row.split(|byte| *byte == b' ') {
+        add_spaces(text, due)?;
+        text.extend_from_slice(word)?;
+        due = widths.width(column).saturating_sub(word.len()).saturating_add(2);
+        column = column.saturating_add(1);
+    }
+    text.push(LF)?;
+    Ok(())
+}
+
+// Adds rows with their words in columns.
+fn add_rows(text: &mut Vec<u8>, rows: &[&[u8]]) -> Result<(), AllocError> {
+    let widths = Widths::of(rows);
+    for row in rows {
+        add_row(text, row, &widths)?;
+    }
+    Ok(())
+}
+
+// Adds a line that is no row.
+fn add_line(text: &mut Vec<u8>, line: &[u8]) -> Result<(), AllocError> {
+    text.extend_from_slice(line)?;
+    text.push(LF)?;
+    Ok(())
+}
+
+// Returns whole lines, the last without its LF, as they are shown. Fails if an allocation fails.
+fn shown(alloc: Global, lines: &[u8]) -> Result<Vec<u8>, AllocError> {
+    let mut text = Vec::new(alloc);
+    let mut rows = Vec::new(alloc);
+    for line in lines.split(|byte| *byte == LF) {
+        match line.strip_prefix(b"row ") {
+            Some(row) => rows.push(row)?,
+            None => {
+                add_rows(&mut text, rows.as_slice())?;
+                rows.clear();
+                add_line(&mut text, line)?;
+            }
+        }
+    }
+    add_rows(&mut text, rows.as_slice())?;
+    Ok(text)
+}
+
+impl<O: Outlet + Drop> ColumnOutlet<O> {
+    /// Creates an outlet over another, which was given nothing.
+    pub fn new(alloc: Global, outlet: O) -> ColumnOutlet<O>
+        ensures { result ≡ record { out = []; failures = 0 } }
+    {
+        ColumnOutlet {
+            outlet,
+            alloc,
+            cut: Vec::new(alloc),
+            put: Log::new(),
+            failed: Log::new(),
+        }
+    }
+
+    // Shows whole lines, the last without its LF: as they are if there is no memory for columns. Returns false if a put failed.
+    fn show(&mut self, lines: &[u8]) -> bool
+        ensures { self.new ≡ self.old }
+    {
+        match shown(self.alloc, lines) {
+            Ok(text) => write_all(&mut self.outlet, text.as_slice()),
+            Err(_) => write_all(&mut self.outlet, lines) && write_all(&mut self.outlet, b"\n"),
+        }
+    }
+
+    // Shows the lines that are whole with these bytes, and keeps what is behind them. Returns false if a put failed, or there is
+    // no memory to keep it.
+    fn pass(&mut self, given: &[u8]) -> bool
+        ensures { self.new ≡ self.old }
+    {
+        let Some(end) = given.iter().rposition(|byte| *byte == LF) else {
+            return self.cut.extend_from_slice(given).is_ok();
+        };
+        if self.cut.extend_from_slice(&given[..end]).is_err() {
+            return false;
+        }
+        let lines = mem::replace(&mut self.cut, Vec::new(self.alloc));
+        self.show(lines.as_slice()) && self.cut.extend_from_slice(&given[end + 1..]).is_ok()
+    }
+}
+
+impl<O: Outlet + Drop> Outlet for ColumnOutlet<O> {
+    ghost seen = { λ o. o };
+
+    fn put(&mut self, given: &[u8]) -> Put {
+        if !self.pass(given) {
+            self.failed = self.failed.and(&(), &());
+            return Put::Failed;
+        }
+        let n = given.len();
+        note_bytes(&mut self.put, &given[..n]);
+        Put::Took(n)
+    }
+}

@@ -1,0 +1,41 @@
+//! An outlet that takes everything and keeps nothing.
+ghost use Rattle.std.specs.Prelude.{◌≡◌, []};
+
+use dump_pump::ledger::note_bytes;
+use dump_pump::{Outlet, Put};
+use http_server::Log;
+use std::marker::Model;
+
+// An outlet that takes all that it is given and keeps nothing. Contracts see the bytes that it took.
+#[derive(Drop)]
+pub(crate) struct Discard {
+    put: Log<u8, ()>,
+}
+
+impl Model for Discard {
+    ghost use Rattle.std.specs.Prelude.{ℕ, List};
+    ghost use Rattle.dump_pump.specs.Outlets.{bytes_of};
+
+    ghost Value = { List ℕ };
+
+    ghost view = { λ d. bytes_of d.put.items };
+}
+
+impl Discard {
+    // Creates an outlet that has taken nothing.
+    pub(crate) fn new() -> Discard
+        ensures { result ≡ [] }
+    {
+        Discard { put: Log::new() }
+    }
+}
+
+impl Outlet for Discard {
+    ghost seen = { λ d. record { out = d; failures = 0 } };
+
+    fn put(&mut self, given: &[u8]) -> Put {
+        let n = given.len();
+        note_bytes(&mut self.put, &given[..n]);
+        Put::Took(n)
+    }
+}

@@ -1,0 +1,8 @@
+use Rattle.std.proofs.Common.{◌≡◌, ◌∙◌, ap}
+use Rattle.heap_trail.specs.Machine.{opening_machine}
+use Rattle.session_text.specs.declared.commands.Local.{Local}
+use Rattle.heapdbg.proofs.explore.open.Goals as goal
+
+pub returns-in-Ok-clause-opening : goal.returns-in-Ok-clause-opening
+returns-in-Ok-clause-opening c =
+    ap (λ (l : Local). l.machine) c.new-local.ensures ∙ c.in-Ok.ensures.opened ∙ ap (λ s. opening_machine s.ids s.regions s.mutators s.keep) c.config.ensures

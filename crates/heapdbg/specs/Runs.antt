@@ -13,11 +13,12 @@ use Rattle.heapdbg.specs.declared.settings.LineFault.{LineFault}
 use Rattle.heapdbg.specs.declared.settings.Settings.{Settings}
 use Rattle.heapdbg.specs.declared.settings.Task.{Task}
 use Rattle.heapdbg.specs.declared.failure.Fault.TheVariants as fault
-use Rattle.heapdbg.specs.declared.settings.Task.TheVariants.{Run, Explore, Save, Serve, Ask}
+use Rattle.heapdbg.specs.declared.settings.Task.TheVariants.{Run, Explore, Save, Serve, Ask, Fetch}
 use Rattle.heapdbg.specs.declared.settings.Target.TheVariants.{Out, To}
 use Rattle.heapdbg.specs.CommandLine.{settings_of}
 use Rattle.heapdbg.specs.Endings.{failure_of, outcome_of, work_of}
 use Rattle.heapdbg.specs.Explorations.{IsExplored}
+use Rattle.heapdbg.specs.FetchOutcomes.{IsDumpFetched}
 use Rattle.heapdbg.specs.Refusals.{IsRefusalOf}
 use Rattle.heapdbg.specs.SaveOutcomes.{IsSavedTo}
 use Rattle.heapdbg.specs.ServeOutcomes.{IsServerAsked, IsServed}
@@ -45,9 +46,10 @@ IsTaskDone Run s a b w w' result = IsRun s a b w w' result
 IsTaskDone Explore s a b w w' result = IsExplored s a b w w' result
 IsTaskDone (Save Out) s a b w w' result = IsSavedOut s a b w w' result
 IsTaskDone (Save (To port)) s a b w w' result = IsSavedTo fault.Connect s a b w w' result
-IsTaskDone (Serve port sessions workers) s a b w w' result =
+IsTaskDone (Serve port sessions workers dumps) s a b w w' result =
     (b ≡ a) × IsServed workers s sessions w w' result
 IsTaskDone (Ask port) s a b w w' result = (b ≡ a) × IsServerAsked w w' result
+IsTaskDone (Fetch port) s a b w w' result = (b ≡ a) × IsDumpFetched w w' result
 
 -- the settings that the words ask for, and their task done; or a refusal of the words, and then nothing is read or written
 abbrev pub IsPerformed : List (List ℕ) → Incoming → Incoming → Outgoing → Outgoing

@@ -14,7 +14,7 @@ ghost use Rattle.heapdbg.specs.Refusals.{IsMistake, IsMistakeIn, IsRefusalOf, ve
 use crate::refusal::{Mistake, VERSION, version};
 use crate::save_options::{save_parser, save_task};
 use crate::settings::{LineFault, Settings, Task};
-use crate::socket_options::{ask_parser, ask_task, serve_parser, serve_task};
+use crate::socket_options::{ask_parser, ask_task, fetch_parser, fetch_task, serve_parser, serve_task};
 use clap::error::ErrorKind;
 use clap::{Arg, ArgAction, ArgMatches, Command, Error};
 use heap_class::IdSize;
@@ -68,7 +68,11 @@ fn parser<'a>(alloc: Global) -> Result<Command<'a>, AllocError>
 {
     let serve = serve_parser(alloc)?;
     let ask = ask_parser(alloc)?;
-    local_parser(alloc)?.subcommand(serve)?.subcommand(ask)
+    let fetch = fetch_parser(alloc)?;
+    local_parser(alloc)?
+        .subcommand(serve)?
+        .subcommand(ask)?
+        .subcommand(fetch)
 }
 
 // Creates the parser of the program's name and of the commands that use no socket to serve or ask.
@@ -212,7 +216,10 @@ fn task_of(name: &str, options: &ArgMatches<'_>) -> Result<Task, Mistake>
         return serve_task(options);
     }
     if name == "ask" {
-        ask_task(options)
+        return ask_task(options);
+    }
+    if name == "fetch" {
+        fetch_task(options)
     } else {
         Err(Mistake::Command)
     }

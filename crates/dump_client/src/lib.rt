@@ -1,0 +1,10 @@
+//! The client of a dump: it puts out what a socket gives, and tells whether that is a whole dump.
+#![tactic(auto)]
+
+pub mod intake;
+pub mod line;
+pub mod scan;
+
+pub use intake::{Fetched, Finish, Watcher, fetch};
+pub use line::write_last;
+pub use scan::Scan;

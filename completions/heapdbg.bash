@@ -14,19 +14,20 @@ _heapdbg() {
             mapfile -t COMPREPLY < <(compgen -f -- "$word")
             return
             ;;
-        --regions | --mutators | --keep | --time | --port | --to | --sessions | --workers)
+        --regions | --mutators | --keep | --time | --port | --to | --sessions | --workers | --dumps)
             return
             ;;
     esac
     if ((COMP_CWORD == 1)); then
-        mapfile -t COMPREPLY < <(compgen -W "run explore save serve ask --help --version" -- "$word")
+        mapfile -t COMPREPLY < <(compgen -W "run explore save serve ask fetch --help --version" -- "$word")
         return
     fi
     case ${COMP_WORDS[1]} in
         run | explore) options=$heap ;;
         save) options="$heap --out --to" ;;
-        serve) options="$heap --port --sessions --workers" ;;
+        serve) options="$heap --port --sessions --workers --dumps" ;;
         ask) options="--port" ;;
+        fetch) options="--port --out" ;;
         *) return ;;
     esac
     mapfile -t COMPREPLY < <(compgen -W "$options --help" -- "$word")

@@ -49,16 +49,16 @@ fn dump_pin<L: Heap + Send + Sync, O: Outlet, R: Threads + Wait + Sync>(
     ensures refused { IfErr result.0 (λ e. (e ≡ NoMemory) × (result.1 ≡ witness)) }
     ensures unchanged { IfErr result.0 (λ e. O.seen outlet.new ≡ O.seen outlet.old) }
 {
-    let Ok(NewMeter {
+    let Ok(made) = Meter::new(alloc, 0, 0) else {
+        return (Err(Refusal::NoMemory), witness);
+    };
+    let NewMeter {
         meter,
         mut out,
         readers: _,
         askers: _,
         feed,
-    }) = Meter::new(alloc, 0, 0)
-    else {
-        return (Err(Refusal::NoMemory), witness);
-    };
+    } = made;
     let (pumped, _, witness) = stream(
         rt, alloc, shared, witness, pin, time, outlet, &meter, &mut out, feed,
     );

@@ -18,7 +18,7 @@ use std::snapshot::Snapshot;
 use std::sync::Wait;
 use std::sync::atomic::{AtomicBool, Ordering};
 use std::thread;
-use std::thread::{JoinHandle, Threads};
+use std::thread::{JoinHandle, Scope, Threads};
 use std::time::Clock;
 
 /// The listener for the clients of sessions, and the one for the clients of dumps, if there is one.
@@ -133,6 +133,20 @@ fn serve_seats<L: Heap + Send + Sync, R: Threads + Wait + Sync>(
     )
 }
 
+// Begins the thread that sends dumps. Fails if none can be had.
+fn begin_dumps<'s, E, L: Heap + Send + Sync, R: Clock + Eprint + Threads + Wait + Sync>(
+    scope: &Scope<'s, E>,
+    rt: &'s R,
+    alloc: Global,
+    shared: &'s Shared<L>,
+    listener: DumpListener,
+    time: u64,
+    stop: &'s AtomicBool,
+) -> Result<JoinHandle<()>, AllocError> {
+    let thread = scope.spawn(move || tend_dumps(rt, alloc, shared, listener, time, stop))?;
+    Ok(thread)
+}
+
 // Does so while a thread sends dumps to the clients of their listener.
 fn serve_beside_dumps<L: Heap + Send + Sync, R: Clock + Eprint + Threads + Wait + Sync>(
     rt: &R,
@@ -157,10 +171,7 @@ fn serve_beside_dumps<L: Heap + Send + Sync, R: Clock + Eprint + Threads + Wait 
             requires { AreUsers seats × (length seats ≡ most) }
             ensures { IfOk result (IsFor most) }
         {
-            let Ok(dumping) = scope.spawn(move || tend_dumps(rt, alloc, shared, dumps, time, stop))
-            else {
-                return Err(AllocError);
-            };
+            let dumping = begin_dumps(scope, rt, alloc, shared, dumps, time, stop)?;
             let served = serve_seats(rt, alloc, shared, seats, most, listener, time);
             stop.store(true, Ordering::SeqCst);
             dumping.join(rt);

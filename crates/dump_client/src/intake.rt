@@ -2,7 +2,7 @@
 ghost use Rattle.std.specs.Prelude.{◌≡◌};
 ghost use Rattle.dump_client.specs.Fetches.{IsFetched};
 
-use crate::scan::Scan;
+use dump_scan::Scan;
 use dump_pump::Outlet;
 use dump_pump::transfer::put_all;
 use session_text::{Inlet, Take};

@@ -3,8 +3,6 @@
 
 pub mod intake;
 pub mod line;
-pub mod scan;
 
 pub use intake::{Fetched, Finish, Watcher, fetch};
 pub use line::write_last;
-pub use scan::Scan;

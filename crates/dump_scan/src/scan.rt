@@ -1,6 +1,6 @@
 //! The records of a dump, followed byte by byte.
 ghost use Rattle.std.specs.Prelude.{◌≡◌, ◌<◌, ◌≤◌, ◌∷◌, ◌++◌, [], ℕ, List};
-ghost use Rattle.dump_client.specs.Records.{completes, header_size, head_size};
+ghost use Rattle.dump_scan.specs.Records.{completes, header_size, head_size};
 
 /// The tag of HEAP DUMP END.
 const END_TAG: u8 = 0x2c;
@@ -45,7 +45,12 @@ impl Scan {
     pub fn is_ended(&self) -> bool
         ensures { result ≡ completes self.now [] }
     {
-        matches!(self, Scan::Ended)
+        match self {
+            Scan::Ended => true,
+            Scan::Within(_) => false,
+            Scan::Head(_, _) => false,
+            Scan::Broken => false,
+        }
     }
 
     // Returns the scan after one byte more.
@@ -56,7 +61,8 @@ impl Scan {
             Scan::Within(0) => Scan::Head([byte, 0, 0, 0, 0, 0, 0, 0], 1),
             Scan::Within(left) => Scan::Within(left - 1),
             Scan::Head(head, count) => after_head(head, count, byte),
-            Scan::Ended | Scan::Broken => Scan::Broken,
+            Scan::Ended => Scan::Broken,
+            Scan::Broken => Scan::Broken,
         }
     }
 }

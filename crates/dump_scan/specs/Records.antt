@@ -1,8 +1,8 @@
 -- The records of a dump, as far as their heads tell.
-use Rattle.std.specs.Prelude.{ℕ, ◌+◌, ◌-◌, ◌==◌, ◌&&◌, Bool, true, false, List, [], ◌∷◌, ◌++◌, take, drop, length, nat_le, slice_index, if◌then◌else◌, zero, suc}
+use Rattle.std.specs.Prelude.{ℕ, ◌+◌, ◌-◌, ◌==◌, ◌&&◌, Bool, true, false, List, [], ◌∷◌, ◌++◌, min, take, drop, length, nat_le, slice_index, if◌then◌else◌, zero, suc}
 use Rattle.std.specs.Int.{w32, from_be_bytes}
-use Rattle.dump_client.specs.declared.scan.Scan.{Scan}
-use Rattle.dump_client.specs.declared.scan.Scan.TheVariants.{Within, Head, Ended, Broken}
+use Rattle.dump_scan.specs.declared.scan.Scan.{Scan}
+use Rattle.dump_scan.specs.declared.scan.Scan.TheVariants.{Within, Head, Ended, Broken}
 
 -- the size of the header of a dump in bytes
 abbrev pub header_size : ℕ
@@ -11,6 +11,10 @@ header_size = 31
 -- the size of a record's head in bytes: its tag, time and length
 abbrev pub head_size : ℕ
 head_size = 9
+
+-- the most bytes of a head that are kept
+abbrev pub head_room : ℕ
+head_room = 8
 
 -- the tag of HEAP DUMP END
 abbrev pub end_tag : ℕ
@@ -41,6 +45,6 @@ is_whole_dump text = ends_in_records (drop header_size text)
 -- after what has come, these bytes make the dump whole
 unfoldable pub completes : Scan → List ℕ → Bool
 completes (Within left) rest = ends_in_records (drop left rest)
-completes (Head head count) rest = ends_in_records (take count head ++ rest)
+completes (Head head count) rest = ends_in_records (take (min count head_room) head ++ rest)
 completes Ended rest = length rest == 0
 completes Broken rest = false

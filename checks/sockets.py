@@ -19,7 +19,7 @@ import time
 TOP = pathlib.Path(__file__).resolve().parent.parent
 sys.path.append(str(TOP / "clients/python"))
 
-from heapdbg import Session  # noqa: E402
+from heapdbg import Refused, Session  # noqa: E402
 
 EXAMPLE = (TOP / "examples/point.session").read_bytes()
 LIMIT = 20
@@ -28,12 +28,17 @@ RESET = struct.pack("ii", 1, 0)
 ENDINGS = {"quit", "eof", "cut", "read", "write"}
 
 
+def free_port():
+    """Returns a port that was free."""
+    with socket.create_server(("127.0.0.1", 0)) as found:
+        return found.getsockname()[1]
+
+
 class Server:
     """A `serve` of the program, with so many sessions, on a port that was free."""
 
     def __init__(self, program, sessions, *options):
-        with socket.create_server(("127.0.0.1", 0)) as found:
-            self.port = found.getsockname()[1]
+        self.port = free_port()
         words = ["heapdbg", "serve", "--port", str(self.port), "--sessions", str(sessions), *options]
         self.run = subprocess.Popen(words, executable=program, stdout=subprocess.PIPE, stderr=subprocess.PIPE)
 
@@ -192,6 +197,9 @@ def taken_port(program):
         port = str(taken.getsockname()[1])
         ran = subprocess.run(["heapdbg", "serve", "--port", port], executable=program, capture_output=True, timeout=LIMIT)
         yield "a taken port", (ran.returncode, ran.stdout, ran.stderr), (1, b"", b"heapdbg: listen\n")
+        words = ["heapdbg", "serve", "--port", str(free_port()), "--dumps", port]
+        ran = subprocess.run(words, executable=program, capture_output=True, timeout=LIMIT)
+        yield "a taken port for dumps", (ran.returncode, ran.stdout, ran.stderr), (1, b"", b"heapdbg: listen\n")
     ran = subprocess.run(["heapdbg", "ask", "--port", port], executable=program, input=b"", capture_output=True, timeout=LIMIT)
     yield "no server", (ran.returncode, ran.stdout, ran.stderr), (1, b"", b"heapdbg: connect\n")
 
@@ -351,8 +359,170 @@ def workers(program):
     yield "cycles by workers", found, (b"ok ", [cycle] * 20, b"", 0, ["quit", "quit"], b"")
 
 
+class DumpServer(Server):
+    """A `serve` of the program that sends dumps, too."""
+
+    def __init__(self, program, sessions, *options):
+        self.program, self.dumps = program, free_port()
+        super().__init__(program, sessions, "--dumps", str(self.dumps), *options)
+
+    def dump_client(self, room=None):
+        """Returns a connection to the port for dumps of a server that listens, which takes `room` bytes unread, if that is given."""
+        client = socket.socket()
+        if room:
+            client.setsockopt(socket.SOL_SOCKET, socket.SO_RCVBUF, room)
+        client.settimeout(LIMIT)
+        client.connect(("127.0.0.1", self.dumps))
+        return client
+
+    def dump(self):
+        """Returns all that a client of the port for dumps is sent."""
+        with self.dump_client() as client:
+            return all_of(client)
+
+    @contextlib.contextmanager
+    def fetching(self, path):
+        """Has `fetch` run, and ends it."""
+        words = ["heapdbg", "fetch", "--port", str(self.dumps), "--out", str(path)]
+        pipes = {"stdout": subprocess.PIPE, "stderr": subprocess.PIPE}
+        child = subprocess.Popen(words, executable=self.program, **pipes)
+        try:
+            yield child
+        finally:
+            child.kill()
+            child.communicate()
+
+
+def come(child):
+    """Returns status, output and standard error of a program that ends by itself."""
+    out, error = child.communicate(timeout=LIMIT)
+    return child.returncode, out, error
+
+
+def full_heap(client):
+    """Has a client fill the heap of 256 regions with 65,536 instances, so that no connection holds a dump of it that nobody reads."""
+    with client.makefile("rb") as answers:
+        client.sendall(b"class Wide - a:long b:long c:long d:long\n" + b"new 0 0 0\n" * 65_536)
+        return [answers.readline() for _ in range(65_537)][-1]
+
+
+def free_pins(session):
+    """Returns how many pins a session can have, once dumps had the time to close theirs."""
+    for _ in range(LIMIT * 100):
+        pins = []
+        with contextlib.suppress(Refused):
+            for _ in range(4):
+                pins.append(session.open().pin)
+        for pin in pins:
+            session.close(pin)
+        if len(pins) == 4:
+            break
+        time.sleep(0.01)
+    return len(pins)
+
+
+def served_dumps(program):
+    """Yields whether dumps that are sent beside a session's writes, to sockets and to two `fetch` at once, are those of the places
+    that their bytes tell, and the last that of the current state."""
+    with DumpServer(program, 1, "--keep", "65536") as server, server.session() as session:
+        session.define_class("Point", [("x", "int"), ("y", "int")])
+        session.new(0, 0, 0)
+        fresh = server.dump() == session.dump()
+        dumps = []
+        reader = threading.Thread(target=lambda: dumps.extend(server.dump() for _ in range(50)))
+        reader.start()
+        value = 0
+        while reader.is_alive() and value < 60_000:
+            value += 1
+            session.put(0, 0, 0, value)
+        reader.join(LIMIT)
+        places = [2 + int.from_bytes(dump[275:279], "big") for dump in dumps]
+        wanted = []
+        for place in places:
+            pin = session.open(place).pin
+            wanted.append(session.dump(pin))
+            session.close(pin)
+        with tempfile.TemporaryDirectory() as folder:
+            paths = [pathlib.Path(folder) / name for name in ("one", "two")]
+            with server.fetching(paths[0]) as one, server.fetching(paths[1]) as two:
+                told = come(one), come(two)
+            same = [path.read_bytes() == session.dump() for path in paths]
+        found = fresh, len(dumps), dumps == wanted, places == sorted(places), len(set(places)) > 1, told, same
+        session.end()
+        found += (server.ended(),)
+    yield "dumps beside writes", found, (True, 50, True, True, True, ((0, b"fetched 301\n", b""),) * 2, [True] * 2, (0, ["quit"], b""))
+
+
+def unread_dump(program):
+    """Yields what others have beside a client that reads nothing of its dump: a session works on, a second client waits, and the
+    server ends with its last session."""
+    options = "--regions", "256", "--workers", "1"
+    with DumpServer(program, 2, *options) as server, server.client() as client, tempfile.TemporaryDirectory() as folder:
+        last = full_heap(client)
+        with server.dump_client(4096), server.fetching(pathlib.Path(folder) / "dump") as waiting:
+            time.sleep(0.3)
+            client.sendall(b"put 0 0 0 7\nopen -\nopen -\nopen -\nopen -\nend\n")
+            answers, beside, waits = all_of(client), exchanged(server, b"clear 0 0\nend\n"), waiting.poll()
+            found = last, answers[:3], answers[-15:], beside, waits, server.ended(), come(waiting)
+    wanted = b"ok object 0x101fffe0\n", b"ok\n", b"no 25 PinLimit\n", b"ok\n", None, (0, ["quit"] * 2, b""), (1, b"cut 0\n", b"heapdbg: cut\n")
+    yield "a dump that nobody reads", found, wanted
+
+
+def resetting_dumps(program):
+    """Yields how many pins a session can have after each of twenty clients that reset their connection amid their dump, and what
+    one has that comes while four are open."""
+    with DumpServer(program, 1, "--regions", "256") as server:
+        client = server.client()
+        full_heap(client)
+        with Session(client.makefile("rb"), client.makefile("wb"), client.close) as session:
+            counts = []
+            for _ in range(20):
+                with server.dump_client(4096) as reader:
+                    reader.recv(301, socket.MSG_WAITALL)
+                    reader.setsockopt(socket.SOL_SOCKET, socket.SO_LINGER, RESET)
+                counts.append(free_pins(session))
+            pins = [session.open().pin for _ in range(4)]
+            refused = server.dump()
+            for pin in pins:
+                session.close(pin)
+            whole = server.dump() == session.dump()
+        found = counts, refused, whole, server.ended()
+    yield "dumps that are reset", found, ([4] * 20, b"", True, (0, ["quit"], b"heapdbg: dump PinLimit\n"))
+
+
+def fetched(program, folder, given):
+    """Returns what `fetch` says of a server that sends these bytes and closes, and whether the file holds them."""
+    path = folder / "dump"
+    with socket.create_server(("127.0.0.1", 0)) as listener:
+        server = threading.Thread(target=closing_server, args=(listener, given, False))
+        server.start()
+        words = ["heapdbg", "fetch", "--port", str(listener.getsockname()[1]), "--out", str(path)]
+        ran = subprocess.run(words, executable=program, capture_output=True, timeout=LIMIT)
+        server.join(LIMIT)
+    return ran.returncode, ran.stdout, ran.stderr, path.read_bytes() == given
+
+
+def cut_dumps(program):
+    """Yields what `fetch` says of a dump that is cut off at some byte, of one with more after it, and of texts that end as a dump
+    does, inside a record or after a header that is too short."""
+    with Session.run(program, "run") as own:
+        own.define_class("Point", [("x", "int"), ("y", "int")])
+        own.new(0, 0, 0)
+        dump = own.dump()
+    end, segment = dump[-9:], b"\x1c" + bytes(4) + (18).to_bytes(4, "big")
+    others = {dump + b"\0", dump + end, dump[:-9] + segment + end, dump[:30] + end, dump[:-1] + b"\1"}
+    wholes = {dump, dump[:31] + end, dump[:-9] + segment + end + end + end}
+    with tempfile.TemporaryDirectory() as folder:
+        for given in (*(dump[:length] for length in range(0, len(dump), STEP)), *sorted(others), *sorted(wholes)):
+            size = str(len(given)).encode()
+            wanted = (0, b"fetched " + size + b"\n", b"", True) if given in wholes else (1, b"cut " + size + b"\n", b"heapdbg: cut\n", True)
+            yield f"fetches {given[-12:]!r} after {len(given)} bytes", fetched(program, pathlib.Path(folder), given), wanted
+
+
 HOSTILE = closing_clients, resetting_clients, silent_reader, endless_line, many_sessions, taken_port, closing_servers
-CASES = (*HOSTILE, other_addresses, answers_one_by_one, lines_in_parts, open_input, full_output, one_client_more, workers)
+OTHERS = other_addresses, answers_one_by_one, lines_in_parts, open_input, full_output, one_client_more, workers
+DUMPS = served_dumps, unread_dump, resetting_dumps, cut_dumps
+CASES = (*HOSTILE, *OTHERS, *DUMPS)
 
 
 def differences(program):

@@ -18,20 +18,22 @@ _heapdbg() {
             mapfile -t COMPREPLY < <(compgen -W "0 1" -- "$word")
             return
             ;;
-        --regions | --mutators | --keep | --time | --port | --to | --sessions | --workers)
+        --regions | --mutators | --keep | --time | --port | --to | --sessions | --workers | --dumps)
             return
             ;;
     esac
     if ((COMP_CWORD == 1)); then
-        mapfile -t COMPREPLY < <(compgen -W "run explore save serve ask --help --version" -- "$word")
+        mapfile -t COMPREPLY < <(compgen -W "run explore draw save serve ask fetch --help --version" -- "$word")
         return
     fi
     case ${COMP_WORDS[1]} in
         run) options="$heap --questions" ;;
         explore) options="$heap --from" ;;
+        draw) options="$heap --out" ;;
         save) options="$heap --out --to" ;;
-        serve) options="$heap --port --sessions --workers" ;;
+        serve) options="$heap --port --sessions --workers --dumps" ;;
         ask) options="--port" ;;
+        fetch) options="--port --out" ;;
         *) return ;;
     esac
     mapfile -t COMPREPLY < <(compgen -W "$options --help" -- "$word")

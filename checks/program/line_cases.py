@@ -11,6 +11,7 @@ Usage: heapdbg save [OPTIONS] <--out <PATH>|--to <N>>
 """
 VERSION = b"heapdbg 1.0.0 (logic dac8208d650f15bf)\n"
 SERVE_ABOUT = b"Serves sessions over one heap to clients on 127.0.0.1, and tells how each ended\n"
+FETCH_ABOUT = b"Fetches a dump of a heap that is served\n"
 ASK_ABOUT = b"Sends standard input to a session that is served, and copies what comes back to standard output\n"
 
 # What is said of a value that is out of its range or is not in digits alone, and command lines with one.
@@ -26,10 +27,13 @@ MISTAKES = {
     b"--ids takes 4 or 8": """run --ids 0, run --ids 3, run --ids 5, run --ids 6, run --ids 7, run --ids 9, run --ids eight,
         serve --port 7000 --ids 5, save --out x --ids 16""",
     b"--port takes 1 to 65535": """serve --port 0, serve --port 65536, serve --port +80, serve --port=, serve --port 4k,
-        serve --sessions 2 --port 0, ask --port 0, ask --port 65536, ask --port=-1x""",
+        serve --sessions 2 --port 0, ask --port 0, ask --port 65536, ask --port=-1x, fetch --port 0 --out x,
+        fetch --out x --port 4k, serve --port 0 --dumps 0""",
     b"--workers takes 0 or 1": """serve --port 7000 --workers 2, serve --port 7000 --workers x,
         serve --port 7000 --workers=""",
     b"--questions takes 0 or 1": "run --questions 2, run --questions x, run --questions=",
+    b"--dumps takes 1 to 65535, and not the number of --port": """serve --port 7000 --dumps 0, serve --port 7000 --dumps 7000,
+        serve --dumps 65536 --port 7000, serve --port 7000 --dumps=, serve --port 7000 --dumps 07000""",
     b"--sessions takes 1 to 1000": """serve --port 7000 --sessions 0, serve --port 7000 --sessions 1001,
         serve --port 7000 --sessions x""",
     b"--to takes 1 to 65535": """save --to 0, save --to 65536, save --to +80, save --to=, save --to 4k,
@@ -69,6 +73,14 @@ REFUSED = {
     "ask --port 7000 --workers 1": b"unexpected argument '--workers' found",
     "ask --port 7000 --sessions 2": b"unexpected argument '--sessions' found",
     "ask --port 7000 --keep 2": b"unexpected argument '--keep' found",
+    "ask --port 7000 --dumps 7001": b"unexpected argument '--dumps' found",
+    "run --dumps 7001": b"unexpected argument '--dumps' found",
+    "serve --port 7000 --dumps": b"a value is required for '--dumps <N>' but none was supplied",
+    "serve --port 7000 --dumps 7001 --dumps 7001": b"the argument '--dumps <N>' cannot be used multiple times",
+    "fetch": b"the following required arguments were not provided:",
+    "fetch --port 7000": b"the following required arguments were not provided:",
+    "fetch --out x": b"the following required arguments were not provided:",
+    "fetch --port 7000 --out x --keep 2": b"unexpected argument '--keep' found",
 }
 
 
@@ -83,6 +95,7 @@ def bad_lines(program):
         yield "a word that is not UTF-8", run(program, words, EXAMPLE), (2, b"", NOT_UTF8)
     firsts = {words: b"error: %s\n" % text for words, text in REFUSED.items()}
     helps = {"--help": USAGE, "run --help": RUN_ABOUT, "save --help": SAVE_ABOUT, "serve --help": SERVE_ABOUT, "ask --help": ASK_ABOUT}
+    helps["fetch --help"] = FETCH_ABOUT
     for words, line in {**helps, **firsts}.items():
         status, out, error = run(program, words.split(), EXAMPLE)
         yield words or "no words", (status, out, error[: len(line)]), (2, b"", line)

@@ -15,6 +15,6 @@ pub use copy::{Copied, copy_all};
 pub use joined::Joined;
 pub use laws::served_dumps_are_text;
 pub use report::{tell_sessions, word};
-pub use sessions::{Served, ServedHeap, serve_clients, serve_heap, users};
+pub use sessions::{Ports, Served, ServedHeap, serve_clients, serve_heap, users};
 pub use tended::{Staff, Tended, TendedHeap, serve_tended, serve_tended_heap, workers_and_users};
 pub use tending::{tend_marker, tend_sweeper};

@@ -6,6 +6,7 @@ ghost use Rattle.heap_server.specs.SessionSeats.{AreUsers, IsFor, IsOver, sessio
 
 use crate::joined::Joined;
 use dump_pump::WriteOutlet;
+use dump_server::{DumpListener, tend_dumps};
 use heap_class::Refusal;
 use heap_lock::{Blank, Heap, Role, Seat, Seats, Shared};
 use heap_world::Config;
@@ -15,8 +16,17 @@ use std::marker::Brand;
 use std::net::{TcpListener, TcpStream};
 use std::snapshot::Snapshot;
 use std::sync::Wait;
+use std::sync::atomic::{AtomicBool, Ordering};
 use std::thread;
-use std::thread::{JoinHandle, Threads};
+use std::thread::{JoinHandle, Scope, Threads};
+use std::time::Clock;
+
+/// The listener for the clients of sessions, and the one for the clients of dumps, if there is one.
+#[derive(Drop)]
+pub struct Ports {
+    pub sessions: TcpListener,
+    pub dumps: Option<DumpListener>,
+}
 
 /// How the sessions ended, in order of acceptance, and whether an accept failed.
 #[derive(Drop)]
@@ -81,11 +91,8 @@ fn await_all<R: Threads>(
     }
 }
 
-/// Accepts as many clients as there are seats, in turn, and serves each in a thread of its own. After the last of them, or after
-/// an accept that failed, it stops listening, so that a further client is refused at once. Returns once all sessions have ended;
-/// that of a client for which no thread could be had ends by NoMemory. Fails if there is no memory for `most` endings, and
-/// accepts nothing. May wait.
-pub fn serve_clients<L: Heap + Send + Sync, R: Threads + Wait + Sync>(
+// Accepts clients and serves them, as `serve_clients` says.
+fn serve_seats<L: Heap + Send + Sync, R: Threads + Wait + Sync>(
     rt: &R,
     alloc: Global,
     shared: &Shared<L>,
@@ -126,30 +133,102 @@ pub fn serve_clients<L: Heap + Send + Sync, R: Threads + Wait + Sync>(
     )
 }
 
+// Begins the thread that sends dumps. Fails if none can be had.
+fn begin_dumps<'s, E, L: Heap + Send + Sync, R: Clock + Eprint + Threads + Wait + Sync>(
+    scope: &Scope<'s, E>,
+    rt: &'s R,
+    alloc: Global,
+    shared: &'s Shared<L>,
+    listener: DumpListener,
+    time: u64,
+    stop: &'s AtomicBool,
+) -> Result<JoinHandle<()>, AllocError> {
+    let thread = scope.spawn(move || tend_dumps(rt, alloc, shared, listener, time, stop))?;
+    Ok(thread)
+}
+
+// Does so while a thread sends dumps to the clients of their listener.
+fn serve_beside_dumps<L: Heap + Send + Sync, R: Clock + Eprint + Threads + Wait + Sync>(
+    rt: &R,
+    alloc: Global,
+    shared: &Shared<L>,
+    seats: Seats<L>,
+    most: usize,
+    ports: (TcpListener, DumpListener),
+    time: u64,
+) -> Result<Served, AllocError>
+    requires users { AreUsers seats }
+    requires most { length seats ≡ most }
+    ensures { IfOk result (IsFor most) }
+{
+    let word = AtomicBool::new(false);
+    let stop = &word;
+    let (listener, dumps) = ports;
+    thread::scope(
+        thread::scope_env(),
+        rt,
+        move |scope| -> Result<Served, AllocError>
+            requires { AreUsers seats × (length seats ≡ most) }
+            ensures { IfOk result (IsFor most) }
+        {
+            let dumping = begin_dumps(scope, rt, alloc, shared, dumps, time, stop)?;
+            let served = serve_seats(rt, alloc, shared, seats, most, listener, time);
+            stop.store(true, Ordering::SeqCst);
+            dumping.join(rt);
+            served
+        },
+    )
+}
+
+/// Accepts as many clients as there are seats, in turn, and serves each in a thread of its own. After the last of them, or after
+/// an accept that failed, it stops listening, so that a further client is refused at once. Returns once all sessions have ended;
+/// that of a client for which no thread could be had ends by NoMemory. If the ports have a listener for dumps, one more thread
+/// sends a dump to each of its clients, from before the first accept until the last session has ended. Fails if that thread can't
+/// be had, or there is no memory for `most` endings, and accepts nothing. May wait.
+pub fn serve_clients<L: Heap + Send + Sync, R: Clock + Eprint + Threads + Wait + Sync>(
+    rt: &R,
+    alloc: Global,
+    shared: &Shared<L>,
+    seats: Seats<L>,
+    most: usize,
+    ports: Ports,
+    time: u64,
+) -> Result<Served, AllocError>
+    requires users { AreUsers seats }
+    requires most { length seats ≡ most }
+    ensures { IfOk result (IsFor most) }
+{
+    let Ports { sessions, dumps } = ports;
+    match dumps {
+        Some(dumps) => serve_beside_dumps(rt, alloc, shared, seats, most, (sessions, dumps), time),
+        None => serve_seats(rt, alloc, shared, seats, most, sessions, time),
+    }
+}
+
 /// Opens a heap, and serves as many clients as it has seats, as `serve_clients` does, with this time in the headers of its
 /// dumps. May wait.
-pub fn serve_heap<R: Threads + Wait + Sync>(
+pub fn serve_heap<R: Clock + Eprint + Threads + Wait + Sync>(
     rt: &R,
     alloc: Global,
     blank: Blank,
     most: usize,
-    listener: TcpListener,
+    ports: Ports,
     time: u64,
 ) -> Result<ServedHeap, AllocError>
     requires users { AreUsers blank.seats }
     requires most { length blank.seats ≡ most }
     ensures { IfOk result (IsOver blank time most) }
 {
-    serve_opened::<Brand, R>(rt, alloc, blank, most, listener, time)
+    serve_opened::<Brand, R>(rt, alloc, blank, most, ports, time)
 }
 
 // Does so for a heap that a type names.
-fn serve_opened<L: Heap + Send + Sync, R: Threads + Wait + Sync>(
+fn serve_opened<L: Heap + Send + Sync, R: Clock + Eprint + Threads + Wait + Sync>(
     rt: &R,
     alloc: Global,
     blank: Blank,
     most: usize,
-    listener: TcpListener,
+    ports: Ports,
     time: u64,
 ) -> Result<ServedHeap, AllocError>
     requires named { (blank.config ≡ L.config) × (blank.tables ≡ L.tables)
@@ -160,6 +239,6 @@ fn serve_opened<L: Heap + Send + Sync, R: Threads + Wait + Sync>(
 {
     let made = Snapshot::of(&blank);
     let (shared, seats) = blank.open::<L>();
-    let served = serve_clients(rt, alloc, &shared, seats, most, listener, time)?;
+    let served = serve_clients(rt, alloc, &shared, seats, most, ports, time)?;
     Ok(ServedHeap { served, made, time })
 }

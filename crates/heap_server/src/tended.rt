@@ -5,14 +5,13 @@ ghost use Rattle.heap_lock.specs.declared.entry.Role.TheVariants as role;
 ghost use Rattle.heap_server.specs.SessionSeats.{IsFor, session_limit};
 ghost use Rattle.heap_server.specs.Tending.{AreStaff, IsTendedOver, Marks, Sweeps};
 
-use crate::sessions::{Served, ServedHeap, serve_clients};
+use crate::sessions::{Ports, Served, ServedHeap, serve_clients};
 use crate::tending::{tend_marker, tend_sweeper};
 use heap_class::Refusal;
 use heap_lock::{Blank, Heap, Role, Seat, Seats, Shared, Stub};
 use heap_world::Config;
 use std::alloc::{AllocError, Global};
 use std::marker::Brand;
-use std::net::TcpListener;
 use std::snapshot::Snapshot;
 use std::sync::Wait;
 use std::sync::atomic::{AtomicBool, Ordering};
@@ -156,13 +155,13 @@ fn begin_workers<'s, E, L: Heap + Send + Sync, R: Clock + Threads + Wait + Sync>
 /// Serves clients as `serve_clients` does, while two threads tend the collector. They begin before the first accept, and are
 /// told to stop and joined after the last session. Fails if a thread for them can't be had, or there is no memory for `most`
 /// endings, and accepts nothing. May wait.
-pub fn serve_tended<L: Heap + Send + Sync, R: Clock + Threads + Wait + Sync>(
+pub fn serve_tended<L: Heap + Send + Sync, R: Clock + Eprint + Threads + Wait + Sync>(
     rt: &R,
     alloc: Global,
     shared: &Shared<L>,
     staff: Staff<L>,
     most: usize,
-    listener: TcpListener,
+    ports: Ports,
     time: u64,
 ) -> Result<Tended<L>, AllocError>
     requires { AreStaff most (staff.marker ∷ staff.sweeper ∷ staff.users) }
@@ -182,7 +181,7 @@ pub fn serve_tended<L: Heap + Send + Sync, R: Clock + Threads + Wait + Sync>(
             ensures sweeps { IfOk result (λ t. Sweeps L.config staff.sweeper t.sweeper) }
         {
             let workers = begin_workers(scope, rt, shared, staff.marker, staff.sweeper, stop)?;
-            let served = serve_clients(rt, alloc, shared, staff.users, most, listener, time);
+            let served = serve_clients(rt, alloc, shared, staff.users, most, ports, time);
             stop.store(true, Ordering::SeqCst);
             let marker = workers.marking.join(rt);
             let sweeper = workers.sweeping.join(rt);
@@ -198,27 +197,27 @@ pub fn serve_tended<L: Heap + Send + Sync, R: Clock + Threads + Wait + Sync>(
 
 /// Opens a heap, and serves as many clients as it has users' seats, as `serve_tended` does, with this time in the headers of
 /// its dumps. May wait.
-pub fn serve_tended_heap<R: Clock + Threads + Wait + Sync>(
+pub fn serve_tended_heap<R: Clock + Eprint + Threads + Wait + Sync>(
     rt: &R,
     alloc: Global,
     blank: Blank,
     most: usize,
-    listener: TcpListener,
+    ports: Ports,
     time: u64,
 ) -> Result<TendedHeap, AllocError>
     requires { AreStaff most blank.seats }
     ensures { IfOk result (IsTendedOver blank time most) }
 {
-    serve_staffed::<Brand, R>(rt, alloc, blank, most, listener, time)
+    serve_staffed::<Brand, R>(rt, alloc, blank, most, ports, time)
 }
 
 // Does so for a heap that a type names.
-fn serve_staffed<L: Heap + Send + Sync, R: Clock + Threads + Wait + Sync>(
+fn serve_staffed<L: Heap + Send + Sync, R: Clock + Eprint + Threads + Wait + Sync>(
     rt: &R,
     alloc: Global,
     blank: Blank,
     most: usize,
-    listener: TcpListener,
+    ports: Ports,
     time: u64,
 ) -> Result<TendedHeap, AllocError>
     requires named { (blank.config ≡ L.config) × (blank.tables ≡ L.tables)
@@ -243,7 +242,7 @@ fn serve_staffed<L: Heap + Send + Sync, R: Clock + Threads + Wait + Sync>(
         served,
         marker,
         sweeper,
-    } = serve_tended(rt, alloc, &shared, staff, most, listener, time)?;
+    } = serve_tended(rt, alloc, &shared, staff, most, ports, time)?;
     Ok(TendedHeap {
         heap: ServedHeap { served, made, time },
         marker: marker.into_stub(),

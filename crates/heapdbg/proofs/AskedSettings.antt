@@ -1,12 +1,12 @@
 -- What the settings are that a command line asks for.
 use Rattle.std.proofs.Common.{◌≡◌, ◌∙◌, ◌<◌, ◌≤◌, ◌^◌, ℕ, zero, suc, Bool, true, false, ◌&&◌, ◌||◌, cond, List, [], ◌∷◌, Option, Some, None, refl, sym, ap, subst, arith, codes, rules}
-use Rattle.std.specs.Prelude.{Err, is_some, not, find, drop, length, option_and_then, option_map, nat_le, nat_lt}
+use Rattle.std.specs.Prelude.{◌==◌, Err, is_some, not, find, drop, length, option_and_then, option_map, nat_le, nat_lt}
 use Rattle.std.specs.List.{list_all}
 use Rattle.std.specs.Char.{is_ascii_digit}
 use Rattle.std.specs.Str.{bytes_eq}
 use Rattle.std.specs.Str.Parse.{IsNumeral, digits_value, without_leading_plus}
 use Rattle.std.proofs.lemmas.Str.Parse.{IsNumeralModel, numerals_by_value, parse_digits}
-use Rattle.std.proofs.lemmas.Bool.{leb-true, ltb-true}
+use Rattle.std.proofs.lemmas.Bool.{eqb-false, leb-true, ltb-true}
 use Rattle.clap.specs.Simple.{Shape, argument_words, built, entered, label_of, names_of, rows_at}
 use Rattle.clap.specs.Walk.{answers_to, stop_after}
 use Rattle.clap.specs.Words.{Row, Text, first_of, subcommand_of}
@@ -15,10 +15,10 @@ use Rattle.heap_class.specs.declared.IdSize.TheVariants.{Eight}
 use Rattle.heap_region.specs.Limits.{region_limit}
 use Rattle.heap_world.specs.Limits.{AreHeapSettings, keep_limit, mutator_limit}
 use Rattle.heap_server.specs.SessionSeats.{session_limit}
-use Rattle.heapdbg.specs.CommandLine.{AreSettingsWithin, HasDefaults, IsTask, ask_in, explore_in, heapdbg_line, id_size_in, id_size_of, is_given, is_task, keep_default, number_in, number_or, port_in, port_limit, questions_in, reads_file, run_with, save_in, serve_in, serve_with, sessions_in, sessions_of, settings_in, settings_under, settings_with, target_in, task_in, time_limit, option_value, workers_in, workers_of}
+use Rattle.heapdbg.specs.CommandLine.{AreSettingsWithin, HasDefaults, IsTask, ask_in, dumps_in, dumps_of, dumps_with, explore_in, fetch_in, heapdbg_line, id_size_in, id_size_of, is_given, is_task, IsOther, keep_default, number_in, number_or, other_port, port_in, port_limit, questions_in, reads_file, run_with, save_in, serve_in, serve_with, sessions_in, sessions_of, settings_in, settings_under, settings_with, target_in, task_in, time_limit, option_value, workers_in, workers_of}
 use Rattle.heapdbg.specs.declared.settings.Settings.{Settings}
 use Rattle.heapdbg.specs.declared.settings.Task.{Task}
-use Rattle.heapdbg.specs.declared.settings.Task.TheVariants.{Run, Explore, Save, Serve, Ask}
+use Rattle.heapdbg.specs.declared.settings.Task.TheVariants.{Run, Explore, Draw, Save, Serve, Ask, Fetch}
 use Rattle.heapdbg.specs.declared.settings.Target.{Target}
 use Rattle.heapdbg.specs.declared.settings.Target.TheVariants.{Out, To}
 use Rattle.heapdbg.proofs.Words.{IsPlainRules, IsTailFree, both_true, found_passes, is_plain_rule, no_value, right_false, tail_free}
@@ -81,16 +81,18 @@ all_there task (Some r) (Some m) (Some k) None i s e = cc
 all_there task (Some r) (Some m) (Some k) (Some t) None s e = cc
 all_there task (Some r) (Some m) (Some k) (Some t) (Some i) s e = (cc, cc, cc, cc, cc, cc)
 
-abbrev task_by : Bool → Bool → Bool → Bool → Bool → List Row → Option Task
-task_by runs explores saves serves asks rows = cond runs (run_with (questions_in rows)) (cond explores (Some (explore_in rows)) (cond saves (save_in rows) (cond serves (serve_in rows) (cond asks (ask_in rows) None))))
+abbrev task_by : Bool → Bool → Bool → Bool → Bool → Bool → Bool → List Row → Option Task
+task_by runs explores draws saves serves asks fetches rows = cond runs (run_with (questions_in rows)) (cond explores (Some (explore_in rows)) (cond draws (Some Draw) (cond saves (save_in rows) (cond serves (serve_in rows) (cond asks (ask_in rows) (cond fetches (fetch_in rows) None))))))
 
-is_named : (runs explores saves serves asks : Bool) (rows : List Row) (task : Task) → task_by runs explores saves serves asks rows ≡ Some task → (runs || (explores || (saves || (serves || asks)))) ≡ true
-is_named true explores saves serves asks rows task e = refl
-is_named false true saves serves asks rows task e = refl
-is_named false false true serves asks rows task e = refl
-is_named false false false true asks rows task e = refl
-is_named false false false false true rows task e = refl
-is_named false false false false false rows task e = cc
+is_named : (runs explores draws saves serves asks fetches : Bool) (rows : List Row) (task : Task) → task_by runs explores draws saves serves asks fetches rows ≡ Some task → (runs || (explores || (draws || (saves || (serves || (asks || fetches)))))) ≡ true
+is_named true explores draws saves serves asks fetches rows task e = refl
+is_named false true draws saves serves asks fetches rows task e = refl
+is_named false false true saves serves asks fetches rows task e = refl
+is_named false false false true serves asks fetches rows task e = refl
+is_named false false false false true asks fetches rows task e = refl
+is_named false false false false false true fetches rows task e = refl
+is_named false false false false false false true rows task e = refl
+is_named false false false false false false false rows task e = cc
 
 pub record AreAsked (o : Option (Text × List Row)) (s : Settings) : Type 0 where
   pub found : Text × List Row
@@ -111,7 +113,7 @@ are_asked (Some f) s e = go (task_in f.0 f.1) refl e
         record {
           found = f;
           is = refl;
-          named = is_named (bytes_eq f.0 (codes "run")) (bytes_eq f.0 (codes "explore")) (bytes_eq f.0 (codes "save")) (bytes_eq f.0 (codes "serve")) (bytes_eq f.0 (codes "ask")) f.1 task h;
+          named = is_named (bytes_eq f.0 (codes "run")) (bytes_eq f.0 (codes "explore")) (bytes_eq f.0 (codes "draw")) (bytes_eq f.0 (codes "save")) (bytes_eq f.0 (codes "serve")) (bytes_eq f.0 (codes "ask")) (bytes_eq f.0 (codes "fetch")) f.1 task h;
           task = h ∙ ap (λ t. Some t) (sym there.0);
           read = record { regions = there.1; mutators = there.2; keep = there.3; time = there.4; ids = there.5 };
         }
@@ -129,22 +131,44 @@ port_within : (given : Option Text) (port : ℕ) → option_and_then (number_in 
 port_within None port e = cc
 port_within (Some text) port e = number_within 1 port_limit text port e
 
-serve_within : (rows : List Row) (p n k : Option ℕ) (task : Task) → port_in rows ≡ p → sessions_in rows ≡ n → workers_in rows ≡ k
-    → serve_with p n k ≡ Some task → IsTask task
-serve_within rows None n k task at many tending e = cc
-serve_within rows (Some port) None k task at many tending e = cc
-serve_within rows (Some port) (Some sessions) None task at many tending e = cc
-serve_within rows (Some port) (Some sessions) (Some workers) task at many tending e =
-    let same : Serve port sessions workers ≡ task = cc in
+other_within : (port : ℕ) (n : Option ℕ) (dumps : Option ℕ) → ((d : ℕ) → n ≡ Some d → (1 ≤ d) × (d ≤ port_limit)) → option_and_then (other_port port) n ≡ Some dumps → IsOther port dumps
+other_within port None dumps within e = cc
+other_within port (Some d) dumps within e = go (d == port) refl e
+  where
+    go : (b : Bool) → (d == port) ≡ b → cond b None (Some (Some d)) ≡ Some dumps → IsOther port dumps
+    go true h found = cc
+    go false h found =
+        let same : Some d ≡ dumps = cc in
+        let limits = within d refl in
+        subst (IsOther port) same (limits.0, limits.1, eqb-false d port h)
+
+dumps_within : (port : ℕ) (given : Option Text) (dumps : Option ℕ) → dumps_with port given ≡ Some dumps → IsOther port dumps
+dumps_within port None dumps e = let same : None ≡ dumps = cc in subst (IsOther port) same tt
+dumps_within port (Some text) dumps e = other_within port (number_in 1 port_limit text) dumps (λ d is. number_within 1 port_limit text d is) e
+
+serve_within : (rows : List Row) (p n k : Option ℕ) (d : Option (Option ℕ)) (task : Task) → port_in rows ≡ p → sessions_in rows ≡ n → workers_in rows ≡ k
+    → option_and_then (λ port. dumps_with port (first_of (codes "dumps") rows)) p ≡ d → serve_with p n k d ≡ Some task → IsTask task
+serve_within rows None n k d task at many tending beside e = cc
+serve_within rows (Some port) None k d task at many tending beside e = cc
+serve_within rows (Some port) (Some sessions) None d task at many tending beside e = cc
+serve_within rows (Some port) (Some sessions) (Some workers) None task at many tending beside e = cc
+serve_within rows (Some port) (Some sessions) (Some workers) (Some dumps) task at many tending beside e =
+    let same : Serve port sessions workers dumps ≡ task = cc in
     let ports = port_within (first_of (codes "port") rows) port at in
     let counts = value_within 1 1 session_limit (first_of (codes "sessions") rows) sessions (omega arith) (omega arith) many in
     let tended = value_within 0 0 1 (first_of (codes "workers") rows) workers (omega arith) (omega arith) tending in
-    subst IsTask same (ports.0, ports.1, counts.0, counts.1, tended.1)
+    subst IsTask same (ports.0, ports.1, counts.0, counts.1, tended.1, dumps_within port (first_of (codes "dumps") rows) dumps beside)
 
 ask_within : (rows : List Row) (p : Option ℕ) (task : Task) → port_in rows ≡ p → option_map (λ port. Ask port) p ≡ Some task → IsTask task
 ask_within rows None task at e = cc
 ask_within rows (Some port) task at e =
     let same : Ask port ≡ task = cc in
+    subst IsTask same (port_within (first_of (codes "port") rows) port at)
+
+fetch_within : (rows : List Row) (p : Option ℕ) (task : Task) → port_in rows ≡ p → option_map (λ port. Fetch port) p ≡ Some task → IsTask task
+fetch_within rows None task at e = cc
+fetch_within rows (Some port) task at e =
+    let same : Fetch port ≡ task = cc in
     subst IsTask same (port_within (first_of (codes "port") rows) port at)
 
 save_within : (path port : Option Text) (task : Task) → option_map (λ target. Save target) (target_in path port) ≡ Some task → IsTask task
@@ -166,20 +190,22 @@ run_within None task e = cc
 run_within (Some zero) task e = let same : Run ≡ task = cc in subst IsTask same tt
 run_within (Some (suc n)) task e = let same : Explore false ≡ task = cc in subst IsTask same tt
 
-task_within : (runs explores saves serves asks : Bool) (rows : List Row) (task : Task) → task_by runs explores saves serves asks rows ≡ Some task → IsTask task
-task_within true explores saves serves asks rows task e = run_within (questions_in rows) task e
-task_within false true saves serves asks rows task e = let same : explore_in rows ≡ task = cc in subst IsTask same tt
-task_within false false true serves asks rows task e = save_within (first_of (codes "out") rows) (first_of (codes "to") rows) task e
-task_within false false false true asks rows task e = serve_within rows (port_in rows) (sessions_in rows) (workers_in rows) task refl refl refl e
-task_within false false false false true rows task e = ask_within rows (port_in rows) task refl e
-task_within false false false false false rows task e = cc
+task_within : (runs explores draws saves serves asks fetches : Bool) (rows : List Row) (task : Task) → task_by runs explores draws saves serves asks fetches rows ≡ Some task → IsTask task
+task_within true explores draws saves serves asks fetches rows task e = run_within (questions_in rows) task e
+task_within false true draws saves serves asks fetches rows task e = let same : explore_in rows ≡ task = cc in subst IsTask same tt
+task_within false false true saves serves asks fetches rows task e = let same : Draw ≡ task = cc in subst IsTask same tt
+task_within false false false true serves asks fetches rows task e = save_within (first_of (codes "out") rows) (first_of (codes "to") rows) task e
+task_within false false false false true asks fetches rows task e = serve_within rows (port_in rows) (sessions_in rows) (workers_in rows) (dumps_in rows) task refl refl refl refl e
+task_within false false false false false true fetches rows task e = ask_within rows (port_in rows) task refl e
+task_within false false false false false false true rows task e = fetch_within rows (port_in rows) task refl e
+task_within false false false false false false false rows task e = cc
 
 pub limits_of : (o : Option (Text × List Row)) (s : Settings) → option_and_then settings_under o ≡ Some s → AreSettingsWithin s
 limits_of o s e =
     let asked = are_asked o s e in
     let name = asked.found.0 in (
       heap_within o s asked,
-      task_within (bytes_eq name (codes "run")) (bytes_eq name (codes "explore")) (bytes_eq name (codes "save")) (bytes_eq name (codes "serve")) (bytes_eq name (codes "ask")) asked.found.1 s.task asked.task,
+      task_within (bytes_eq name (codes "run")) (bytes_eq name (codes "explore")) (bytes_eq name (codes "draw")) (bytes_eq name (codes "save")) (bytes_eq name (codes "serve")) (bytes_eq name (codes "ask")) (bytes_eq name (codes "fetch")) asked.found.1 s.task asked.task,
     )
 
 -- ---- defaults
@@ -213,9 +239,10 @@ entered_none name (Some p) f all tail e named = go (find (λ s. answers_to p.0 (
         let is_task : is_task s.name ≡ true = subst (λ (g : Text × List Row). is_task g.0 ≡ true) (sym same) named in
         subst (λ (g : Text × List Row). first_of name g.1 ≡ None) same (no_value name s.rules p.1 (rules_free name s free is_task) tail)
 
-not_given : (name : Text) (words : List Text) (f : Text × List Row) → list_all (is_free_command name) (built heapdbg_line).subs ≡ true
-    → subcommand_of heapdbg_line words ≡ Some f → is_task f.0 ≡ true → is_given name words ≡ false → first_of name f.1 ≡ None
-not_given name words f all is named other =
+-- an option that no word names has no row
+none_of : (name : Text) (words : List Text) (f : Text × List Row) → list_all (is_free_command name) (built heapdbg_line).subs ≡ true → subcommand_of heapdbg_line words ≡ Some f → is_task f.0 ≡ true
+    → is_given name words ≡ false → first_of name f.1 ≡ None
+none_of name words f all is named other =
     let after = tail_free name (built heapdbg_line).top.rules (names_of (built heapdbg_line)) (argument_words heapdbg_line words) (given_later name words other) in
     entered_none name (stop_after (built heapdbg_line).top.rules (names_of (built heapdbg_line)) (argument_words heapdbg_line words)) f all after is named
 
@@ -223,7 +250,7 @@ default_of : (name : Text) (default least most : ℕ) (words : List Text) (f : T
     → list_all (is_free_command name) (built heapdbg_line).subs ≡ true → subcommand_of heapdbg_line words ≡ Some f → is_task f.0 ≡ true
     → option_value name default least most f.1 ≡ Some n → is_given name words ≡ false → n ≡ default
 default_of name default least most words f n all is named read other =
-    let none = not_given name words f all is named other in
+    let none = none_of name words f all is named other in
     let same : Some default ≡ Some n = subst (λ o. number_or default least most o ≡ Some n) none read in
     cc
 
@@ -245,110 +272,84 @@ ids_free = refl
 sessions_free : list_all (is_free_command (codes "sessions")) (built heapdbg_line).subs ≡ true
 sessions_free = refl
 
-from_free : list_all (is_free_command (codes "from")) (built heapdbg_line).subs ≡ true
-from_free = refl
-
 workers_free : list_all (is_free_command (codes "workers")) (built heapdbg_line).subs ≡ true
 workers_free = refl
 
-served_sessions : (p n w : Option ℕ) (task : Task) (words : List Text) → (is_given (codes "sessions") words ≡ false → (k : ℕ) → n ≡ Some k → k ≡ 1)
-    → serve_with p n w ≡ Some task → is_given (codes "sessions") words ≡ false
-    → sessions_of task ≡ 1
-served_sessions None n w task words is e other = cc
-served_sessions (Some port) None w task words is e other = cc
-served_sessions (Some port) (Some sessions) None task words is e other = cc
-served_sessions (Some port) (Some sessions) (Some workers) task words is e other =
-    let same : Serve port sessions workers ≡ task = cc in
-    subst (λ t. sessions_of t ≡ 1) same (is other sessions refl)
+from_free : list_all (is_free_command (codes "from")) (built heapdbg_line).subs ≡ true
+from_free = refl
 
-served_workers : (p n w : Option ℕ) (task : Task) (words : List Text) → (is_given (codes "workers") words ≡ false → (k : ℕ) → w ≡ Some k → k ≡ 0)
-    → serve_with p n w ≡ Some task → is_given (codes "workers") words ≡ false
-    → workers_of task ≡ 0
-served_workers None n w task words is e other = cc
-served_workers (Some port) None w task words is e other = cc
-served_workers (Some port) (Some sessions) None task words is e other = cc
-served_workers (Some port) (Some sessions) (Some workers) task words is e other =
-    let same : Serve port sessions workers ≡ task = cc in
-    subst (λ t. workers_of t ≡ 0) same (is other workers refl)
+dumps_free : list_all (is_free_command (codes "dumps")) (built heapdbg_line).subs ≡ true
+dumps_free = refl
 
-one_asked : (p : Option ℕ) (task : Task) → option_map (λ port. Ask port) p ≡ Some task → sessions_of task ≡ 1
-one_asked None task e = cc
-one_asked (Some port) task e = let same : Ask port ≡ task = cc in subst (λ t. sessions_of t ≡ 1) same refl
+-- what sessions without questions and with them have is what the task of `run` has
+run_has : (P : Task → Type 0) (q : Option ℕ) (task : Task) → P Run × P (Explore false) → run_with q ≡ Some task → P task
+run_has P None task both e = cc
+run_has P (Some zero) task both e = let same : Run ≡ task = cc in subst P same both.0
+run_has P (Some (suc n)) task both e = let same : Explore false ≡ task = cc in subst P same both.1
 
-one_saved : (target : Option Target) (task : Task) → option_map (λ target. Save target) target ≡ Some task → sessions_of task ≡ 1
-one_saved None task e = cc
-one_saved (Some target) task e = let same : Save target ≡ task = cc in subst (λ t. sessions_of t ≡ 1) same refl
+-- what a task of no served heap has, and what a served heap has, is what each task has
+by_task : (P : Task → Type 0) (runs explores draws saves serves asks fetches : Bool) (rows : List Row) (task : Task) → P Run × P (Explore false) → P (explore_in rows) → P Draw → ((target : Target) → P (Save target))
+    → ((port : ℕ) → P (Ask port)) → ((port : ℕ) → P (Fetch port)) → (serve_in rows ≡ Some task → P task) → task_by runs explores draws saves serves asks fetches rows ≡ Some task → P task
+by_task P true explores draws saves serves asks fetches rows task run explore draw save ask fetch serve e = run_has P (questions_in rows) task run e
+by_task P false true draws saves serves asks fetches rows task run explore draw save ask fetch serve e = let same : explore_in rows ≡ task = cc in subst P same explore
+by_task P false false true saves serves asks fetches rows task run explore draw save ask fetch serve e = let same : Draw ≡ task = cc in subst P same draw
+by_task P false false false true serves asks fetches rows task run explore draw save ask fetch serve e = go (target_in (first_of (codes "out") rows) (first_of (codes "to") rows)) e
+  where
+    go : (t : Option Target) → option_map (λ target. Save target) t ≡ Some task → P task
+    go None h = cc
+    go (Some target) h = let same : Save target ≡ task = cc in subst P same (save target)
+by_task P false false false false true asks fetches rows task run explore draw save ask fetch serve e = serve e
+by_task P false false false false false true fetches rows task run explore draw save ask fetch serve e = go (port_in rows) e
+  where
+    go : (p : Option ℕ) → option_map (λ port. Ask port) p ≡ Some task → P task
+    go None h = cc
+    go (Some port) h = let same : Ask port ≡ task = cc in subst P same (ask port)
+by_task P false false false false false false true rows task run explore draw save ask fetch serve e = go (port_in rows) e
+  where
+    go : (p : Option ℕ) → option_map (λ port. Fetch port) p ≡ Some task → P task
+    go None h = cc
+    go (Some port) h = let same : Fetch port ≡ task = cc in subst P same (fetch port)
+by_task P false false false false false false false rows task run explore draw save ask fetch serve e = cc
 
-one_run : (q : Option ℕ) (task : Task) → run_with q ≡ Some task → sessions_of task ≡ 1
-one_run None task e = cc
-one_run (Some zero) task e = let same : Run ≡ task = cc in subst (λ t. sessions_of t ≡ 1) same refl
-one_run (Some (suc n)) task e = let same : Explore false ≡ task = cc in subst (λ t. sessions_of t ≡ 1) same refl
+-- a served heap has the numbers of its options
+pub record IsServeOf (p n w : Option ℕ) (d : Option (Option ℕ)) (task : Task) : Type 0 where
+  pub port : ℕ
+  pub at : p ≡ Some port
+  pub sessions : n ≡ Some (sessions_of task)
+  pub workers : w ≡ Some (workers_of task)
+  pub dumps : d ≡ Some (dumps_of task)
 
-default_sessions : (runs explores saves serves asks : Bool) (rows : List Row) (task : Task) (words : List Text)
-    → (is_given (codes "sessions") words ≡ false → (k : ℕ) → sessions_in rows ≡ Some k → k ≡ 1)
-    → task_by runs explores saves serves asks rows ≡ Some task → is_given (codes "sessions") words ≡ false → sessions_of task ≡ 1
-default_sessions true explores saves serves asks rows task words is e other = one_run (questions_in rows) task e
-default_sessions false true saves serves asks rows task words is e other = let same : explore_in rows ≡ task = cc in subst (λ t. sessions_of t ≡ 1) same refl
-default_sessions false false true serves asks rows task words is e other = one_saved (target_in (first_of (codes "out") rows) (first_of (codes "to") rows)) task e
-default_sessions false false false true asks rows task words is e other = served_sessions (port_in rows) (sessions_in rows) (workers_in rows) task words is e other
-default_sessions false false false false true rows task words is e other = one_asked (port_in rows) task e
-default_sessions false false false false false rows task words is e other = cc
+serve_of : (p n w : Option ℕ) (d : Option (Option ℕ)) (task : Task) → serve_with p n w d ≡ Some task → IsServeOf p n w d task
+serve_of None n w d task e = cc
+serve_of (Some port) None w d task e = cc
+serve_of (Some port) (Some sessions) None d task e = cc
+serve_of (Some port) (Some sessions) (Some workers) None task e = cc
+serve_of (Some port) (Some sessions) (Some workers) (Some dumps) task e =
+    let same : Serve port sessions workers dumps ≡ task = cc in
+    subst (IsServeOf (Some port) (Some sessions) (Some workers) (Some dumps)) same (record { port = port; at = refl; sessions = refl; workers = refl; dumps = refl })
 
-none_asked : (p : Option ℕ) (task : Task) → option_map (λ port. Ask port) p ≡ Some task → workers_of task ≡ 0
-none_asked None task e = cc
-none_asked (Some port) task e = let same : Ask port ≡ task = cc in subst (λ t. workers_of t ≡ 0) same refl
+-- a port for dumps that no word tells is none
+default_dumps : (words : List Text) (f : Text × List Row) (task : Task) → subcommand_of heapdbg_line words ≡ Some f → is_task f.0 ≡ true
+    → is_given (codes "dumps") words ≡ false → serve_in f.1 ≡ Some task → dumps_of task ≡ None
+default_dumps words f task is named other e =
+    let served = serve_of (port_in f.1) (sessions_in f.1) (workers_in f.1) (dumps_in f.1) task e in
+    let missing : first_of (codes "dumps") f.1 ≡ None = none_of (codes "dumps") words f dumps_free is named other in
+    let none : dumps_in f.1 ≡ Some None = ap (λ o. option_and_then (λ port. dumps_with port o) (port_in f.1)) missing ∙ ap (option_and_then (λ port. dumps_with port None)) served.at in
+    let same : Some (dumps_of task) ≡ Some None = sym served.dumps ∙ none in
+    cc
 
-none_saved : (target : Option Target) (task : Task) → option_map (λ target. Save target) target ≡ Some task → workers_of task ≡ 0
-none_saved None task e = cc
-none_saved (Some target) task e = let same : Save target ≡ task = cc in subst (λ t. workers_of t ≡ 0) same refl
+-- a file of lines that no word tells is none
+unread : (given : Option Text) → given ≡ None → is_some given ≡ false
+unread None none = refl
+unread (Some path) none = cc
 
-none_run : (q : Option ℕ) (task : Task) → run_with q ≡ Some task → workers_of task ≡ 0
-none_run None task e = cc
-none_run (Some zero) task e = let same : Run ≡ task = cc in subst (λ t. workers_of t ≡ 0) same refl
-none_run (Some (suc n)) task e = let same : Explore false ≡ task = cc in subst (λ t. workers_of t ≡ 0) same refl
-
-default_workers : (runs explores saves serves asks : Bool) (rows : List Row) (task : Task) (words : List Text)
-    → (is_given (codes "workers") words ≡ false → (k : ℕ) → workers_in rows ≡ Some k → k ≡ 0)
-    → task_by runs explores saves serves asks rows ≡ Some task → is_given (codes "workers") words ≡ false → workers_of task ≡ 0
-default_workers true explores saves serves asks rows task words is e other = none_run (questions_in rows) task e
-default_workers false true saves serves asks rows task words is e other = let same : explore_in rows ≡ task = cc in subst (λ t. workers_of t ≡ 0) same refl
-default_workers false false true serves asks rows task words is e other = none_saved (target_in (first_of (codes "out") rows) (first_of (codes "to") rows)) task e
-default_workers false false false true asks rows task words is e other = served_workers (port_in rows) (sessions_in rows) (workers_in rows) task words is e other
-default_workers false false false false true rows task words is e other = none_asked (port_in rows) task e
-default_workers false false false false false rows task words is e other = cc
-
-run_alone : (q : Option ℕ) (task : Task) → run_with q ≡ Some task → reads_file task ≡ false
-run_alone None task e = cc
-run_alone (Some zero) task e = let same : Run ≡ task = cc in subst (λ t. reads_file t ≡ false) same refl
-run_alone (Some (suc n)) task e = let same : Explore false ≡ task = cc in subst (λ t. reads_file t ≡ false) same refl
-
-explored_alone : (given : Option Text) (task : Task) → given ≡ None → Explore (is_some given) ≡ task → reads_file task ≡ false
-explored_alone None task none same = subst (λ t. reads_file t ≡ false) same refl
-explored_alone (Some path) task none same = cc
-
-saved_alone : (target : Option Target) (task : Task) → option_map (λ target. Save target) target ≡ Some task → reads_file task ≡ false
-saved_alone None task e = cc
-saved_alone (Some target) task e = let same : Save target ≡ task = cc in subst (λ t. reads_file t ≡ false) same refl
-
-served_alone : (p n w : Option ℕ) (task : Task) → serve_with p n w ≡ Some task → reads_file task ≡ false
-served_alone None n w task e = cc
-served_alone (Some port) None w task e = cc
-served_alone (Some port) (Some sessions) None task e = cc
-served_alone (Some port) (Some sessions) (Some workers) task e =
-    let same : Serve port sessions workers ≡ task = cc in subst (λ t. reads_file t ≡ false) same refl
-
-asked_alone : (p : Option ℕ) (task : Task) → option_map (λ port. Ask port) p ≡ Some task → reads_file task ≡ false
-asked_alone None task e = cc
-asked_alone (Some port) task e = let same : Ask port ≡ task = cc in subst (λ t. reads_file t ≡ false) same refl
-
-default_from : (runs explores saves serves asks : Bool) (rows : List Row) (task : Task) → first_of (codes "from") rows ≡ None
-    → task_by runs explores saves serves asks rows ≡ Some task → reads_file task ≡ false
-default_from true explores saves serves asks rows task none e = run_alone (questions_in rows) task e
-default_from false true saves serves asks rows task none e = let same : explore_in rows ≡ task = cc in explored_alone (first_of (codes "from") rows) task none same
-default_from false false true serves asks rows task none e = saved_alone (target_in (first_of (codes "out") rows) (first_of (codes "to") rows)) task e
-default_from false false false true asks rows task none e = served_alone (port_in rows) (sessions_in rows) (workers_in rows) task e
-default_from false false false false true rows task none e = asked_alone (port_in rows) task e
-default_from false false false false false rows task none e = cc
+served_unread : (p n w : Option ℕ) (d : Option (Option ℕ)) (task : Task) → serve_with p n w d ≡ Some task → reads_file task ≡ false
+served_unread None n w d task e = cc
+served_unread (Some port) None w d task e = cc
+served_unread (Some port) (Some sessions) None d task e = cc
+served_unread (Some port) (Some sessions) (Some workers) None task e = cc
+served_unread (Some port) (Some sessions) (Some workers) (Some dumps) task e =
+    let same : Serve port sessions workers dumps ≡ task = cc in subst (λ t. reads_file t ≡ false) same refl
 
 -- identifiers of which no word tells the size have 8 bytes
 default_size : (words : List Text) (f : Text × List Row) (x : IdSize) → subcommand_of heapdbg_line words ≡ Some f → is_task f.0 ≡ true
@@ -366,18 +367,24 @@ pub defaults_of : (words : List Text) (s : Settings) → option_and_then setting
 defaults_of words s e =
     let asked = are_asked (subcommand_of heapdbg_line words) s e in
     let name = asked.found.0 in
-    let one : is_given (codes "sessions") words ≡ false → (k : ℕ) → sessions_in asked.found.1 ≡ Some k → k ≡ 1 = λ other k is. default_of (codes "sessions") 1 1 session_limit words asked.found k sessions_free asked.is asked.named is other in
-    let none : is_given (codes "workers") words ≡ false → (k : ℕ) → workers_in asked.found.1 ≡ Some k → k ≡ 0 = λ other k is. default_of (codes "workers") 0 0 1 words asked.found k workers_free asked.is asked.named is other in
+    let rows = asked.found.1 in
+    let served : serve_in rows ≡ Some s.task → IsServeOf (port_in rows) (sessions_in rows) (workers_in rows) (dumps_in rows) s.task = serve_of (port_in rows) (sessions_in rows) (workers_in rows) (dumps_in rows) s.task in
     record {
       regions = default_of (codes "regions") 16 1 region_limit words asked.found s.regions regions_free asked.is asked.named asked.read.regions;
       mutators = default_of (codes "mutators") 2 1 mutator_limit words asked.found s.mutators mutators_free asked.is asked.named asked.read.mutators;
       keep = default_of (codes "keep") keep_default 1 keep_limit words asked.found s.keep keep_free asked.is asked.named asked.read.keep;
       time = default_of (codes "time") 0 0 time_limit words asked.found s.time time_free asked.is asked.named asked.read.time;
       ids = default_size words asked.found s.ids asked.is asked.named asked.read.ids;
-      sessions = default_sessions (bytes_eq name (codes "run")) (bytes_eq name (codes "explore")) (bytes_eq name (codes "save")) (bytes_eq name (codes "serve")) (bytes_eq name (codes "ask")) asked.found.1 s.task words
-          one asked.task;
-      workers = default_workers (bytes_eq name (codes "run")) (bytes_eq name (codes "explore")) (bytes_eq name (codes "save")) (bytes_eq name (codes "serve")) (bytes_eq name (codes "ask")) asked.found.1 s.task words
-          none asked.task;
-      from = λ other. default_from (bytes_eq name (codes "run")) (bytes_eq name (codes "explore")) (bytes_eq name (codes "save")) (bytes_eq name (codes "serve")) (bytes_eq name (codes "ask")) asked.found.1 s.task
-          (not_given (codes "from") words asked.found from_free asked.is asked.named other) asked.task;
+      sessions = λ other. by_task (λ t. sessions_of t ≡ 1) (bytes_eq name (codes "run")) (bytes_eq name (codes "explore")) (bytes_eq name (codes "draw")) (bytes_eq name (codes "save")) (bytes_eq name (codes "serve")) (bytes_eq name (codes "ask")) (bytes_eq name (codes "fetch")) rows s.task
+          (refl, refl) refl refl (λ target. refl) (λ port. refl) (λ port. refl)
+          (λ is. default_of (codes "sessions") 1 1 session_limit words asked.found (sessions_of s.task) sessions_free asked.is asked.named (served is).sessions other) asked.task;
+      workers = λ other. by_task (λ t. workers_of t ≡ 0) (bytes_eq name (codes "run")) (bytes_eq name (codes "explore")) (bytes_eq name (codes "draw")) (bytes_eq name (codes "save")) (bytes_eq name (codes "serve")) (bytes_eq name (codes "ask")) (bytes_eq name (codes "fetch")) rows s.task
+          (refl, refl) refl refl (λ target. refl) (λ port. refl) (λ port. refl)
+          (λ is. default_of (codes "workers") 0 0 1 words asked.found (workers_of s.task) workers_free asked.is asked.named (served is).workers other) asked.task;
+      dumps = λ other. by_task (λ t. dumps_of t ≡ None) (bytes_eq name (codes "run")) (bytes_eq name (codes "explore")) (bytes_eq name (codes "draw")) (bytes_eq name (codes "save")) (bytes_eq name (codes "serve")) (bytes_eq name (codes "ask")) (bytes_eq name (codes "fetch")) rows s.task
+          (refl, refl) refl refl (λ target. refl) (λ port. refl) (λ port. refl)
+          (λ is. default_dumps words asked.found s.task asked.is asked.named other is) asked.task;
+      from = λ other. by_task (λ t. reads_file t ≡ false) (bytes_eq name (codes "run")) (bytes_eq name (codes "explore")) (bytes_eq name (codes "draw")) (bytes_eq name (codes "save")) (bytes_eq name (codes "serve")) (bytes_eq name (codes "ask")) (bytes_eq name (codes "fetch")) rows s.task
+          (refl, refl) (unread (first_of (codes "from") rows) (none_of (codes "from") words asked.found from_free asked.is asked.named other)) refl (λ target. refl) (λ port. refl) (λ port. refl)
+          (λ is. served_unread (port_in rows) (sessions_in rows) (workers_in rows) (dumps_in rows) s.task is) asked.task;
     }

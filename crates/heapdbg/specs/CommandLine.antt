@@ -1,5 +1,5 @@
 -- The command line: the settings that a list of words asks for.
-use Rattle.std.specs.Prelude.{◌≡◌, ◌≤◌, ◌==◌, ◌&&◌, ◌||◌, ℕ, zero, suc, List, Option, Some, None, Bool, ⊤, true, false, codes}
+use Rattle.std.specs.Prelude.{◌≡◌, ◌≢◌, ◌≤◌, ◌==◌, ◌&&◌, ◌||◌, ℕ, zero, suc, List, Option, Some, None, Bool, ⊤, true, false, codes}
 use Rattle.std.specs.Prelude.{is_some, length, map, nat_le, nat_lt, option_and_then, option_map, string_bytes, if◌then◌else◌}
 use Rattle.std.specs.List.{list_all, list_any}
 use Rattle.std.specs.Option.{option_map_or}
@@ -16,7 +16,7 @@ use Rattle.heap_region.specs.Limits.{region_limit}
 use Rattle.heap_server.specs.SessionSeats.{session_limit}
 use Rattle.heap_world.specs.Limits.{AreHeapSettings, keep_limit, mutator_limit}
 use Rattle.heapdbg.specs.declared.settings.Task.{Task}
-use Rattle.heapdbg.specs.declared.settings.Task.TheVariants.{Run, Explore, Save, Serve, Ask}
+use Rattle.heapdbg.specs.declared.settings.Task.TheVariants.{Run, Explore, Draw, Save, Serve, Ask, Fetch}
 use Rattle.heapdbg.specs.declared.settings.Target.{Target}
 use Rattle.heapdbg.specs.declared.settings.Target.TheVariants.{Out, To}
 use Rattle.heapdbg.specs.declared.settings.Settings.{Settings}
@@ -67,13 +67,27 @@ save_line =
 abbrev pub serve_line : App
 serve_line =
     with_rule
+    (with_rule
     (with_rule (with_rule (session_line (codes "serve")) port_option)
     (value_option (codes "sessions")))
-    (value_option (codes "workers"))
+    (value_option (codes "workers")))
+    (value_option (codes "dumps"))
 
 -- the command `ask`
 abbrev pub ask_line : App
 ask_line = with_rule (new_app (codes "ask")) port_option
+
+-- the option `--out VALUE`, which has to be given
+abbrev pub out_option : Rule
+out_option = record (value_option (codes "out")) { required = true }
+
+-- the command `draw`
+abbrev pub draw_line : App
+draw_line = with_rule (session_line (codes "draw")) out_option
+
+-- the command `fetch`
+abbrev pub fetch_line : App
+fetch_line = with_rule (with_rule (new_app (codes "fetch")) port_option) out_option
 
 -- the program's name and `--version`, and a command that has to follow, such as `run`
 abbrev pub named_line : App
@@ -83,13 +97,17 @@ named_line =
     (record named { top = record named.top { subcommand_required = true; has_version = true } })
     run_line.top
 
--- the same, with the other commands that use no socket to serve or ask
+-- the same, with `explore` and `save`
 abbrev pub local_line : App
 local_line = with_subcommand (with_subcommand named_line explore_line.top) save_line.top
 
+-- the same, with `draw` and `serve`
+abbrev pub serving_line : App
+serving_line = with_subcommand (with_subcommand local_line draw_line.top) serve_line.top
+
 -- all commands
 abbrev pub heapdbg_line : App
-heapdbg_line = with_subcommand (with_subcommand local_line serve_line.top) ask_line.top
+heapdbg_line = with_subcommand (with_subcommand serving_line ask_line.top) fetch_line.top
 
 -- the number that a text of digits alone writes, if it lies from least to most
 abbrev pub number_in : ℕ → ℕ → Text → Option ℕ
@@ -192,35 +210,58 @@ save_in rows =
     option_map (λ target. Save target)
     (target_in (first_of (codes "out") rows) (first_of (codes "to") rows))
 
+-- a port for dumps, if it isn't that of the sessions
+abbrev pub other_port : ℕ → ℕ → Option (Option ℕ)
+other_port port dumps = if dumps == port then None else Some (Some dumps)
+
+-- the port for dumps beside that of the sessions: none, if the option is not given
+abbrev pub dumps_with : ℕ → Option Text → Option (Option ℕ)
+dumps_with port None = Some None
+dumps_with port (Some text) = option_and_then (other_port port) (number_in 1 port_limit text)
+
+-- the port for dumps that is given, beside that of the sessions
+abbrev pub dumps_in : List Row → Option (Option ℕ)
+dumps_in rows =
+    option_and_then (λ port. dumps_with port (first_of (codes "dumps") rows)) (port_in rows)
+
 -- a served heap, if each option has a value in its range
-abbrev pub serve_with : Option ℕ → Option ℕ → Option ℕ → Option Task
-serve_with (Some port) (Some sessions) (Some workers) = Some (Serve port sessions workers)
-serve_with _ _ _ = None
+abbrev pub serve_with : Option ℕ → Option ℕ → Option ℕ → Option (Option ℕ) → Option Task
+serve_with (Some port) (Some sessions) (Some workers) (Some dumps) =
+    Some (Serve port sessions workers dumps)
+serve_with _ _ _ _ = None
 
 -- the task of the options of `serve`
 abbrev pub serve_in : List Row → Option Task
-serve_in rows = serve_with (port_in rows) (sessions_in rows) (workers_in rows)
+serve_in rows = serve_with (port_in rows) (sessions_in rows) (workers_in rows) (dumps_in rows)
 
 -- the task of the options of `ask`
 abbrev pub ask_in : List Row → Option Task
 ask_in rows = option_map (λ port. Ask port) (port_in rows)
+
+-- the task of the options of `fetch`
+abbrev pub fetch_in : List Row → Option Task
+fetch_in rows = option_map (λ port. Fetch port) (port_in rows)
 
 -- a task has this name
 abbrev pub is_task : Text → Bool
 is_task name =
     bytes_eq name (codes "run")
     || (bytes_eq name (codes "explore")
+    || (bytes_eq name (codes "draw")
     || (bytes_eq name (codes "save")
-    || (bytes_eq name (codes "serve") || bytes_eq name (codes "ask"))))
+    || (bytes_eq name (codes "serve")
+    || (bytes_eq name (codes "ask") || bytes_eq name (codes "fetch"))))))
 
 -- the task of a command's name and options
 abbrev pub task_in : Text → List Row → Option Task
 task_in name rows =
     if bytes_eq name (codes "run") then run_in rows
     else (if bytes_eq name (codes "explore") then Some (explore_in rows)
+    else (if bytes_eq name (codes "draw") then Some Draw
     else (if bytes_eq name (codes "save") then save_in rows
     else (if bytes_eq name (codes "serve") then serve_in rows
-    else (if bytes_eq name (codes "ask") then ask_in rows else None))))
+    else (if bytes_eq name (codes "ask") then ask_in rows
+    else (if bytes_eq name (codes "fetch") then fetch_in rows else None))))))
 
 -- the settings of a command and its options
 abbrev pub settings_under : Text × List Row → Option Settings
@@ -245,15 +286,23 @@ abbrev pub path_of : Text → List Text → Option Text
 path_of name words =
     option_and_then (λ found. first_of name found.1) (subcommand_of heapdbg_line words)
 
--- the port and the numbers of sessions and workers are within their limits
+-- a port for dumps, if there is one, is within the limits, and isn't that of the sessions
+abbrev pub IsOther : ℕ → Option ℕ → Type 0
+IsOther port None = ⊤
+IsOther port (Some dumps) = (1 ≤ dumps) × (dumps ≤ port_limit) × (dumps ≢ port)
+
+-- the ports and the numbers of sessions and workers are within their limits
 abbrev pub IsTask : Task → Type 0
 IsTask Run = ⊤
 IsTask (Explore from) = ⊤
+IsTask Draw = ⊤
 IsTask (Save Out) = ⊤
 IsTask (Save (To port)) = (1 ≤ port) × (port ≤ port_limit)
-IsTask (Serve port sessions workers) =
+IsTask (Serve port sessions workers dumps) =
     (1 ≤ port) × (port ≤ port_limit) × (1 ≤ sessions) × (sessions ≤ session_limit) × (workers ≤ 1)
+    × IsOther port dumps
 IsTask (Ask port) = (1 ≤ port) × (port ≤ port_limit)
+IsTask (Fetch port) = (1 ≤ port) × (port ≤ port_limit)
 
 -- the settings are within their limits
 abbrev pub AreSettingsWithin : Settings → Type 0
@@ -263,25 +312,41 @@ AreSettingsWithin s = AreHeapSettings s.regions s.mutators s.keep × IsTask s.ta
 abbrev pub sessions_of : Task → ℕ
 sessions_of Run = 1
 sessions_of (Explore from) = 1
+sessions_of Draw = 1
 sessions_of (Save target) = 1
-sessions_of (Serve port sessions workers) = sessions
+sessions_of (Serve port sessions workers dumps) = sessions
 sessions_of (Ask port) = 1
+sessions_of (Fetch port) = 1
 
 -- the number of markers, and of sweepers
 abbrev pub workers_of : Task → ℕ
 workers_of Run = 0
 workers_of (Explore from) = 0
+workers_of Draw = 0
 workers_of (Save target) = 0
-workers_of (Serve port sessions workers) = workers
+workers_of (Serve port sessions workers dumps) = workers
 workers_of (Ask port) = 0
+workers_of (Fetch port) = 0
+
+-- the port for dumps
+abbrev pub dumps_of : Task → Option ℕ
+dumps_of Run = None
+dumps_of (Explore from) = None
+dumps_of Draw = None
+dumps_of (Save target) = None
+dumps_of (Serve port sessions workers dumps) = dumps
+dumps_of (Ask port) = None
+dumps_of (Fetch port) = None
 
 -- the lines of a file are read first
 abbrev pub reads_file : Task → Bool
 reads_file Run = false
 reads_file (Explore from) = from
+reads_file Draw = false
 reads_file (Save target) = false
-reads_file (Serve port sessions workers) = false
+reads_file (Serve port sessions workers dumps) = false
 reads_file (Ask port) = false
+reads_file (Fetch port) = false
 
 -- an option that no word names has its default
 pub record HasDefaults (words : List Text) (s : Settings) : Type 0 where
@@ -293,6 +358,7 @@ pub record HasDefaults (words : List Text) (s : Settings) : Type 0 where
   pub sessions : is_given (codes "sessions") words ≡ false → sessions_of s.task ≡ 1
   pub workers : is_given (codes "workers") words ≡ false → workers_of s.task ≡ 0
   pub from : is_given (codes "from") words ≡ false → reads_file s.task ≡ false
+  pub dumps : is_given (codes "dumps") words ≡ false → dumps_of s.task ≡ None
 
 -- the fault has this text, or memory ran out
 abbrev pub IsBadWith : Text → LineFault → Type 0

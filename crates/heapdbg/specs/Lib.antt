@@ -3,6 +3,7 @@ pub mod CommandLine
 pub mod Refusals
 pub mod Endings
 pub mod ServeOutcomes
+pub mod FetchOutcomes
 pub mod SaveOutcomes
 pub mod Explorations
 pub mod Runs

@@ -5,9 +5,9 @@ use Rattle.clap.specs.Words.{Row, Text, fault_of, first_of, subcommand_of}
 use Rattle.clap.specs.declared.error.kind.ErrorKind.TheVariants.{DisplayVersion}
 use Rattle.heap_region.specs.Limits.{region_limit}
 use Rattle.heap_world.specs.Limits.{keep_limit, mutator_limit}
-use Rattle.heapdbg.specs.CommandLine.{heapdbg_line, id_size_in, is_task, keep_default, number_in, port_in, port_limit, questions_in, sessions_in, settings_of, option_value, time_limit, workers_in}
+use Rattle.heapdbg.specs.CommandLine.{dumps_with, heapdbg_line, id_size_in, is_task, keep_default, number_in, port_in, port_limit, questions_in, sessions_in, settings_of, option_value, time_limit, workers_in}
 use Rattle.heapdbg.specs.declared.refusal.Mistake.{Mistake}
-use Rattle.heapdbg.specs.declared.refusal.Mistake.TheVariants.{Command, Regions, Mutators, Keep, Time, Ids, Port, Sessions, Workers, Questions, To, Place}
+use Rattle.heapdbg.specs.declared.refusal.Mistake.TheVariants.{Command, Regions, Mutators, Keep, Time, Ids, Port, Sessions, Workers, Questions, Dumps, To, Place}
 use Rattle.heapdbg.specs.declared.settings.LineFault.{LineFault}
 use Rattle.heapdbg.specs.declared.settings.LineFault.TheVariants.{Bad, Memory}
 
@@ -33,6 +33,9 @@ IsMistakeIn Port rows = port_in rows ≡ None
 IsMistakeIn Sessions rows = sessions_in rows ≡ None
 IsMistakeIn Workers rows = workers_in rows ≡ None
 IsMistakeIn Questions rows = questions_in rows ≡ None
+IsMistakeIn Dumps rows =
+    (port : ℕ) × (port_in rows ≡ Some port)
+    × (dumps_with port (first_of (codes "dumps") rows) ≡ None)
 IsMistakeIn To rows = IsTargetMistake To (first_of (codes "out") rows) (first_of (codes "to") rows)
 IsMistakeIn Place rows =
     IsTargetMistake Place (first_of (codes "out") rows) (first_of (codes "to") rows)
@@ -49,7 +52,7 @@ IsMistake m found =
 
 -- the text that says what has to be given instead
 abbrev pub mistake_of : Mistake → Text
-mistake_of Command = codes "heapdbg takes one of run, explore, save, serve and ask"
+mistake_of Command = codes "heapdbg takes one of run, explore, draw, save, serve, ask and fetch"
 mistake_of Regions = codes "--regions takes 1 to 256"
 mistake_of Mutators = codes "--mutators takes 1 to 16"
 mistake_of Keep = codes "--keep takes 1 to 65536"
@@ -59,6 +62,7 @@ mistake_of Port = codes "--port takes 1 to 65535"
 mistake_of Sessions = codes "--sessions takes 1 to 1000"
 mistake_of Workers = codes "--workers takes 0 or 1"
 mistake_of Questions = codes "--questions takes 0 or 1"
+mistake_of Dumps = codes "--dumps takes 1 to 65535, and not the number of --port"
 mistake_of To = codes "--to takes 1 to 65535"
 mistake_of Place = codes "save takes one of --out and --to"
 

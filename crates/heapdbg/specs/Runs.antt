@@ -1,5 +1,5 @@
 -- A run of the program between its reader and its writer.
-use Rattle.std.specs.Prelude.{◌≡◌, ℕ, ◌⊎◌, List, Result, Some, Err}
+use Rattle.std.specs.Prelude.{◌≡◌, ℕ, ◌⊎◌, List, Result, Some, Ok, Err}
 use Rattle.dump_pump.specs.Outlets.{Outgoing}
 use Rattle.heap_trail.specs.Machine.{Machine, opening_machine}
 use Rattle.session_text.specs.declared.Ended.{Ended}
@@ -13,11 +13,12 @@ use Rattle.heapdbg.specs.declared.settings.LineFault.{LineFault}
 use Rattle.heapdbg.specs.declared.settings.Settings.{Settings}
 use Rattle.heapdbg.specs.declared.settings.Task.{Task}
 use Rattle.heapdbg.specs.declared.failure.Fault.TheVariants as fault
-use Rattle.heapdbg.specs.declared.settings.Task.TheVariants.{Run, Explore, Save, Serve, Ask}
+use Rattle.heapdbg.specs.declared.settings.Task.TheVariants.{Run, Explore, Draw, Save, Serve, Ask, Fetch}
 use Rattle.heapdbg.specs.declared.settings.Target.TheVariants.{Out, To}
 use Rattle.heapdbg.specs.CommandLine.{settings_of}
 use Rattle.heapdbg.specs.Endings.{failure_of, outcome_of, work_of}
 use Rattle.heapdbg.specs.Explorations.{IsExplored}
+use Rattle.heapdbg.specs.FetchOutcomes.{IsDumpFetched}
 use Rattle.heapdbg.specs.Refusals.{IsRefusalOf}
 use Rattle.heapdbg.specs.SaveOutcomes.{IsSavedTo}
 use Rattle.heapdbg.specs.ServeOutcomes.{IsServerAsked, IsServed}
@@ -32,6 +33,22 @@ IsRun s a b w w' result =
     × EndsSession a b w w' ended × (result ≡ outcome_of ended))
     ⊎ ((result ≡ Err Memory) × (b ≡ a) × (w' ≡ w))
 
+-- the outcome of a session that was drawn: its own if that is a fault, or that of the picture
+abbrev pub IsDrawingOutcome : Result (Unit {0}) Fault → Result (Unit {0}) Fault → Type 0
+IsDrawingOutcome (Err f) result = result ≡ Err f
+IsDrawingOutcome (Ok done) result =
+    (result ≡ Ok done) ⊎ ((result ≡ Err fault.Out) ⊎ (result ≡ Err Memory))
+
+-- a session over a heap with these settings as it begins, and a picture of what it left, if it ended well; or the heap couldn't
+-- be allocated, and nothing is read or written
+abbrev pub IsDrawn : Settings → Incoming → Incoming → Outgoing → Outgoing
+    → Result (Unit {0}) Fault → Type 0
+IsDrawn s a b w w' result =
+    ((ended : Ended) × (left : Machine)
+    × IsSession (opening_machine s.ids s.regions s.mutators s.keep) s.time a b w w' left ended
+    × EndsSession a b w w' ended × IsDrawingOutcome (outcome_of ended) result)
+    ⊎ ((result ≡ Err Memory) × (b ≡ a) × (w' ≡ w))
+
 -- a session that was saved to a file; or the folder of its path was not there, and nothing was read or written
 abbrev pub IsSavedOut : Settings → Incoming → Incoming → Outgoing → Outgoing
     → Result (Unit {0}) Fault → Type 0
@@ -43,11 +60,13 @@ abbrev pub IsTaskDone : Task → Settings → Incoming → Incoming → Outgoing
     → Result (Unit {0}) Fault → Type 0
 IsTaskDone Run s a b w w' result = IsRun s a b w w' result
 IsTaskDone (Explore from) s a b w w' result = IsExplored from s a b w w' result
+IsTaskDone Draw s a b w w' result = IsDrawn s a b w w' result
 IsTaskDone (Save Out) s a b w w' result = IsSavedOut s a b w w' result
 IsTaskDone (Save (To port)) s a b w w' result = IsSavedTo fault.Connect s a b w w' result
-IsTaskDone (Serve port sessions workers) s a b w w' result =
+IsTaskDone (Serve port sessions workers dumps) s a b w w' result =
     (b ≡ a) × IsServed workers s sessions w w' result
 IsTaskDone (Ask port) s a b w w' result = (b ≡ a) × IsServerAsked w w' result
+IsTaskDone (Fetch port) s a b w w' result = (b ≡ a) × IsDumpFetched w w' result
 
 -- the settings that the words ask for, and their task done; or a refusal of the words, and then nothing is read or written
 abbrev pub IsPerformed : List (List ℕ) → Incoming → Incoming → Outgoing → Outgoing

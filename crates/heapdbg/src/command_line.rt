@@ -8,14 +8,14 @@ ghost use Rattle.clap.specs.declared.builder.Command.TheViews.{out-Command};
 ghost use Rattle.clap.specs.Words.{rule_of, subcommand_of, subcommand_rows_of};
 ghost use Rattle.heapdbg.specs.CommandLine.{AreSettingsWithin, HasDefaults, IsBadWith, heap_line, heapdbg_line, local_line, named_line, number_in};
 ghost use Rattle.heapdbg.specs.CommandLine.{settings_in, settings_of, settings_under, texts, option_value};
-ghost use Rattle.heapdbg.specs.CommandLine.{id_size_in, id_size_of, path_of, session_line, task_in, value_option};
+ghost use Rattle.heapdbg.specs.CommandLine.{id_size_in, id_size_of, path_of, serving_line, session_line, task_in, value_option};
 ghost use Rattle.heapdbg.specs.Refusals.{IsMistake, IsMistakeIn, IsRefusalOf, version_text};
 
 use crate::refusal::{Mistake, VERSION, version};
 use crate::save_options::{save_parser, save_task};
-use crate::session_options::{explore_parser, explore_task, run_parser, run_task};
+use crate::session_options::{draw_parser, explore_parser, explore_task, run_parser, run_task};
 use crate::settings::{LineFault, Settings, Task};
-use crate::socket_options::{ask_parser, ask_task, serve_parser, serve_task};
+use crate::socket_options::{ask_parser, ask_task, fetch_parser, fetch_task, serve_parser, serve_task};
 use clap::error::ErrorKind;
 use clap::{Arg, ArgAction, ArgMatches, Command, Error};
 use heap_class::IdSize;
@@ -67,12 +67,21 @@ fn parse<'a>(alloc: Global, words: &'a [&'a str]) -> Result<ArgMatches<'a>, Erro
 fn parser<'a>(alloc: Global) -> Result<Command<'a>, AllocError>
     ensures { IfOk result (λ c. app_of c ≡ heapdbg_line) }
 {
-    let serve = serve_parser(alloc)?;
     let ask = ask_parser(alloc)?;
-    local_parser(alloc)?.subcommand(serve)?.subcommand(ask)
+    let fetch = fetch_parser(alloc)?;
+    serving_parser(alloc)?.subcommand(ask)?.subcommand(fetch)
 }
 
-// Creates the parser of the program's name and of the commands that use no socket to serve or ask.
+// Creates the parser of the program's name and of the commands that open a heap.
+fn serving_parser<'a>(alloc: Global) -> Result<Command<'a>, AllocError>
+    ensures { IfOk result (λ c. app_of c ≡ serving_line) }
+{
+    let draw = draw_parser(alloc)?;
+    let serve = serve_parser(alloc)?;
+    local_parser(alloc)?.subcommand(draw)?.subcommand(serve)
+}
+
+// Creates the parser of the program's name and of the commands `run`, `explore` and `save`.
 fn local_parser<'a>(alloc: Global) -> Result<Command<'a>, AllocError>
     ensures { IfOk result (λ c. app_of c ≡ local_line) }
 {
@@ -141,6 +150,18 @@ fn heap_parser<'a>(alloc: Global, name: &'a str, about: &'a str) -> Result<Comma
         .arg(keep)
 }
 
+// Creates the option `--NAME PATH`.
+pub(crate) fn path_arg<'a>(alloc: Global, name: &'a str, help: &'a str) -> Arg<'a>
+    ensures rule { rule_of result ≡ value_option name.entry.now }
+    ensures local { result.global ≡ false }
+{
+    Arg::new(alloc, name)
+        .long(name)
+        .action(ArgAction::Set)
+        .value_name("PATH")
+        .help(help)
+}
+
 // Creates the option `--NAME N`.
 pub(crate) fn value_arg<'a>(alloc: Global, name: &'a str, help: &'a str) -> Arg<'a>
     ensures rule { rule_of result ≡ value_option name.entry.now }
@@ -182,6 +203,9 @@ fn task_of(name: &str, options: &ArgMatches<'_>) -> Result<Task, Mistake>
     if name == "explore" {
         return Ok(explore_task(options));
     }
+    if name == "draw" {
+        return Ok(Task::Draw);
+    }
     if name == "save" {
         return save_task(options);
     }
@@ -189,7 +213,10 @@ fn task_of(name: &str, options: &ArgMatches<'_>) -> Result<Task, Mistake>
         return serve_task(options);
     }
     if name == "ask" {
-        ask_task(options)
+        return ask_task(options);
+    }
+    if name == "fetch" {
+        fetch_task(options)
     } else {
         Err(Mistake::Command)
     }

@@ -1,12 +1,14 @@
 //! A heap with a debugger's commands: `heapdbg run` answers commands from standard input on standard output, `heapdbg explore`
 //! answers questions too, `heapdbg save` dumps the state that is left, `heapdbg serve` answers the commands of clients on
-//! sockets, and `heapdbg ask` is such a client.
+//! sockets, `heapdbg ask` is such a client, and `heapdbg fetch` is a client of their dumps.
 #![tactic(auto)]
 
 mod ask;
 mod command_line;
+mod draw;
 mod explore;
 mod failure;
+mod fetch;
 mod folder;
 mod progress;
 mod refusal;

@@ -1,4 +1,5 @@
-//! The progress of a save, on a terminal.
+//! The progress of a dump, on a terminal.
+use dump_client::Watcher;
 use heap_class::IdSize;
 use heap_trail::Machine;
 use pin_stream::{Gauge, dump_size};
@@ -8,27 +9,21 @@ use std::time::{Clock, Duration, Instant};
 // The shortest time in milliseconds between two lines of progress.
 const INTERVAL: u64 = 100;
 
-/// A gauge that shows on standard error the number of bytes of a dump that are out, and their total, about ten times a
-/// second, if that is a terminal. It is silent if not, and if the clock can't be read. A write that fails changes nothing.
+/// A line on standard error with a number of bytes, and their total if that is known, written anew about ten times a second. It
+/// is silent before it begins, and if the clock can't be read. A write that fails changes nothing.
 #[derive(Drop)]
-pub struct TerminalGauge<'a, R> {
+pub struct ProgressLine<'a, R> {
     rt: &'a R,
-    alloc: Global,
-    ids: IdSize,
-    is_terminal: bool,
     size: Option<u64>,
     last: Option<Instant>,
     is_shown: bool,
 }
 
-impl<'a, R> TerminalGauge<'a, R> {
-    /// Creates a gauge that has shown nothing. The ids of the dump have this size.
-    pub fn new(rt: &'a R, alloc: Global, ids: IdSize, is_terminal: bool) -> TerminalGauge<'a, R> {
-        TerminalGauge {
+impl<'a, R> ProgressLine<'a, R> {
+    /// Creates a line that has not begun.
+    pub fn new(rt: &'a R) -> ProgressLine<'a, R> {
+        ProgressLine {
             rt,
-            alloc,
-            ids,
-            is_terminal,
             size: None,
             last: None,
             is_shown: false,
@@ -36,7 +31,21 @@ impl<'a, R> TerminalGauge<'a, R> {
     }
 }
 
-impl<R: Clock + Eprint> TerminalGauge<'_, R> {
+impl<R: Clock + Eprint> ProgressLine<'_, R> {
+    /// Begins the line of a dump of this size, if that is known.
+    pub fn begin(&mut self, size: Option<u64>) {
+        self.size = size;
+        self.last = Instant::now(self.rt).ok();
+    }
+
+    /// Writes the line anew, and ends it, if it was written before.
+    pub fn end(&mut self, bytes: u64) {
+        if self.is_shown {
+            self.write_line(bytes);
+            let _ = eprintln!(self.rt; "");
+        }
+    }
+
     // Tells whether the last line has stood long enough, and notes the time if so.
     fn is_due(&mut self) -> bool {
         let Some(last) = self.last else {
@@ -62,24 +71,48 @@ impl<R: Clock + Eprint> TerminalGauge<'_, R> {
     }
 }
 
-impl<R: Clock + Eprint> Gauge for TerminalGauge<'_, R> {
-    fn begin(&mut self, machine: &Machine) {
-        if self.is_terminal {
-            self.size = dump_size(self.alloc, machine.world(), self.ids);
-            self.last = Instant::now(self.rt).ok();
-        }
-    }
-
+impl<R: Clock + Eprint> Watcher for ProgressLine<'_, R> {
     fn show(&mut self, bytes: u64) {
         if self.is_due() {
             self.write_line(bytes);
         }
     }
+}
+
+/// A gauge that shows the number of bytes of a dump that are out, and their total, if standard error is a terminal.
+#[derive(Drop)]
+pub struct TerminalGauge<'a, R> {
+    line: ProgressLine<'a, R>,
+    alloc: Global,
+    ids: IdSize,
+    is_terminal: bool,
+}
+
+impl<'a, R> TerminalGauge<'a, R> {
+    /// Creates a gauge that has shown nothing. The ids of the dump have this size.
+    pub fn new(rt: &'a R, alloc: Global, ids: IdSize, is_terminal: bool) -> TerminalGauge<'a, R> {
+        TerminalGauge {
+            line: ProgressLine::new(rt),
+            alloc,
+            ids,
+            is_terminal,
+        }
+    }
+}
+
+impl<R: Clock + Eprint> Gauge for TerminalGauge<'_, R> {
+    fn begin(&mut self, machine: &Machine) {
+        if self.is_terminal {
+            self.line
+                .begin(dump_size(self.alloc, machine.world(), self.ids));
+        }
+    }
+
+    fn show(&mut self, bytes: u64) {
+        Watcher::show(&mut self.line, bytes);
+    }
 
     fn end(&mut self, bytes: u64) {
-        if self.is_shown {
-            self.write_line(bytes);
-            let _ = eprintln!(self.rt; "");
-        }
+        self.line.end(bytes);
     }
 }

@@ -35,6 +35,8 @@ pub(crate) enum Mistake {
     Workers,
     // `--questions` is out of its range.
     Questions,
+    // `--dumps` is out of its range, or the port of the sessions.
+    Dumps,
     // `--to` is out of its range.
     To,
     // Both of `--out` and `--to` are given, or neither.
@@ -47,7 +49,7 @@ impl Mistake {
         ensures { result.now ≡ mistake_of self }
     {
         match self {
-            Mistake::Command => "heapdbg takes one of run, explore, save, serve and ask",
+            Mistake::Command => "heapdbg takes one of run, explore, draw, save, serve, ask and fetch",
             Mistake::Regions => "--regions takes 1 to 256",
             Mistake::Mutators => "--mutators takes 1 to 16",
             Mistake::Keep => "--keep takes 1 to 65536",
@@ -57,6 +59,7 @@ impl Mistake {
             Mistake::Sessions => "--sessions takes 1 to 1000",
             Mistake::Workers => "--workers takes 0 or 1",
             Mistake::Questions => "--questions takes 0 or 1",
+            Mistake::Dumps => "--dumps takes 1 to 65535, and not the number of --port",
             Mistake::To => "--to takes 1 to 65535",
             Mistake::Place => "save takes one of --out and --to",
         }

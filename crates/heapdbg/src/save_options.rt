@@ -1,15 +1,15 @@
 //! The command line of a session that is saved.
-ghost use Rattle.std.specs.Prelude.{◌≡◌, None, Some, codes, false, option_map, IfErr, IfOk};
-ghost use Rattle.clap.specs.Words.{app_of, found_of, rows_of, rule_of};
+ghost use Rattle.std.specs.Prelude.{◌≡◌, None, Some, false, option_map, IfErr, IfOk};
+ghost use Rattle.clap.specs.Words.{app_of, found_of, rows_of};
 ghost use Rattle.clap.specs.declared.builder.Command.TheViews.{out-Command};
-ghost use Rattle.heapdbg.specs.CommandLine.{save_in, save_line, target_in, value_option};
+ghost use Rattle.heapdbg.specs.CommandLine.{save_in, save_line, target_in};
 ghost use Rattle.heapdbg.specs.Refusals.{IsMistakeIn, IsTargetMistake};
 
-use crate::command_line::{session_parser, value_arg};
+use crate::command_line::{path_arg, session_parser, value_arg};
 use crate::refusal::Mistake;
 use crate::settings::{Target, Task};
 use crate::socket_options::port_of;
-use clap::{Arg, ArgAction, ArgMatches, Command};
+use clap::{ArgMatches, Command};
 use std::alloc::{AllocError, Global};
 
 // Creates the parser of the command `save`.
@@ -17,7 +17,11 @@ pub(crate) fn save_parser<'a>(alloc: Global) -> Result<Command<'a>, AllocError>
     ensures app { IfOk result (λ c. app_of c ≡ save_line) }
     ensures local { IfOk result (λ c. (out-Command c).has_globals ≡ false) }
 {
-    let out = path_arg(alloc);
+    let out = path_arg(
+        alloc,
+        "out",
+        "File that the last state is dumped to; if not given, --to is required",
+    );
     let to = value_arg(
         alloc,
         "to",
@@ -28,18 +32,6 @@ pub(crate) fn save_parser<'a>(alloc: Global) -> Result<Command<'a>, AllocError>
     let usage = "heapdbg save [OPTIONS] <--out <PATH>|--to <N>>";
     let parser = session_parser(alloc, "save", about)?.override_usage(usage);
     parser.arg(out)?.arg(to)
-}
-
-// Creates the option `--out PATH`.
-fn path_arg<'a>(alloc: Global) -> Arg<'a>
-    ensures rule { rule_of result ≡ value_option (codes "out") }
-    ensures local { result.global ≡ false }
-{
-    Arg::new(alloc, "out")
-        .long("out")
-        .action(ArgAction::Set)
-        .value_name("PATH")
-        .help("File that the last state is dumped to; if not given, --to is required")
 }
 
 // Returns the task of the options of `save`: one of the two places has to be given.

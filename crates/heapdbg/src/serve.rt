@@ -8,7 +8,8 @@ ghost use Rattle.heapdbg.specs.ServeOutcomes.{IsHeapServed, IsReportTold, IsServ
 use crate::failure::Fault;
 use crate::settings::{Settings, config};
 use dump_pump::Outlet;
-use heap_server::{Served, serve_heap, serve_tended_heap, tell_sessions, users, workers_and_users};
+use dump_server::DumpListener;
+use heap_server::{Ports, Served, serve_heap, serve_tended_heap, tell_sessions, users, workers_and_users};
 use session_text::write_all;
 use std::alloc::Global;
 use std::net::{Ipv4Addr, Net, TcpListener, TcpStream};
@@ -19,15 +20,24 @@ use std::time::Clock;
 // The size in bytes of the longest line of the report: `session 1000 memory` and its end.
 const LINE: usize = 20;
 
-/// Serves `sessions` sessions to clients of a port, while two threads tend the collector if `workers` isn't 0, and puts out how
-/// each ended. Fails with Memory if the heap can't be allocated or no thread for the workers can be had, with Listen if the port
-/// can't be listened on, with Accept if a client could not be accepted, and else with Write if a write failed. Says on standard
+/// The ports of a served heap.
+#[derive(Clone, Copy, Debug)]
+pub struct PortNumbers {
+    /// The port for sessions.
+    pub sessions: u16,
+    /// The port that sends dumps, or None if there is none.
+    pub dumps: Option<u16>,
+}
+
+/// Serves `sessions` sessions to clients of a port, while two threads tend the collector if `workers` isn't 0, and one sends dumps
+/// if there is a port for them, and puts out how each session ended. Fails with Memory if the heap can't be allocated or no thread
+/// for the workers or the dumps can be had, with Listen if a port can't be listened on, with Accept if a client could not be accepted, and else with Write if a write failed. Says on standard
 /// error that it listens, if that is a terminal. May wait.
 pub fn serve_port<R, O: Outlet>(
     rt: &R,
     alloc: Global,
     settings: &Settings,
-    port: u16,
+    ports: PortNumbers,
     sessions: u64,
     workers: u64,
     writer: &mut O,
@@ -42,9 +52,9 @@ where
         result }
 {
     if workers == 0 {
-        serve_users(rt, alloc, settings, port, sessions, writer, is_terminal)
+        serve_users(rt, alloc, settings, ports, sessions, writer, is_terminal)
     } else {
-        serve_staff(rt, alloc, settings, port, sessions, writer, is_terminal)
+        serve_staff(rt, alloc, settings, ports, sessions, writer, is_terminal)
     }
 }
 
@@ -53,13 +63,14 @@ fn serve_users<R, O: Outlet>(
     rt: &R,
     alloc: Global,
     settings: &Settings,
-    port: u16,
+    ports: PortNumbers,
     sessions: u64,
     writer: &mut O,
     is_terminal: bool,
 ) -> Result<(), Fault>
 where
-    R: Net<Listener = TcpListener, Stream = TcpStream> + Eprint + Threads + Wait + Sync,
+    R: Net<Listener = TcpListener, Stream = TcpStream> + Threads + Wait + Sync,
+    R: Clock + Eprint,
     requires heap { AreHeapSettings settings.now.regions settings.now.mutators settings.now.keep }
     requires sessions { (1 ≤ sessions) × (sessions ≤ session_limit) }
     ensures { IsHeapServed settings.now sessions (O.seen writer.old) (O.seen writer.new) result }
@@ -68,8 +79,8 @@ where
         return Err(Fault::Memory);
     };
     let most = sessions as usize;
-    let (listener, report) = listen(rt, alloc, port, most, is_terminal)?;
-    match serve_heap(rt, alloc, blank, most, listener, settings.time) {
+    let (ports, report) = listen(rt, alloc, ports, most, is_terminal)?;
+    match serve_heap(rt, alloc, blank, most, ports, settings.time) {
         Ok(heap) => tell(&heap.served, report, writer),
         Err(_) => Err(Fault::Memory),
     }
@@ -80,7 +91,7 @@ fn serve_staff<R, O: Outlet>(
     rt: &R,
     alloc: Global,
     settings: &Settings,
-    port: u16,
+    ports: PortNumbers,
     sessions: u64,
     writer: &mut O,
     is_terminal: bool,
@@ -96,21 +107,21 @@ where
         return Err(Fault::Memory);
     };
     let most = sessions as usize;
-    let (listener, report) = listen(rt, alloc, port, most, is_terminal)?;
-    match serve_tended_heap(rt, alloc, blank, most, listener, settings.time) {
+    let (ports, report) = listen(rt, alloc, ports, most, is_terminal)?;
+    match serve_tended_heap(rt, alloc, blank, most, ports, settings.time) {
         Ok(tended) => tell(&tended.heap.served, report, writer),
         Err(_) => Err(Fault::Memory),
     }
 }
 
-// Listens on a port, and returns an empty report with room for the lines of `most` sessions. Fails with Memory or Listen.
+// Listens on the ports, and returns an empty report with room for the lines of `most` sessions. Fails with Memory or Listen.
 fn listen<R>(
     rt: &R,
     alloc: Global,
-    port: u16,
+    ports: PortNumbers,
     most: usize,
     is_terminal: bool,
-) -> Result<(TcpListener, Vec<u8>), Fault>
+) -> Result<(Ports, Vec<u8>), Fault>
 where
     R: Net<Listener = TcpListener, Stream = TcpStream> + Eprint,
     requires { most ≤ session_limit }
@@ -120,13 +131,36 @@ where
     let Ok(report) = Vec::with_capacity(alloc, LINE * most) else {
         return Err(Fault::Memory);
     };
-    let Ok(listener) = TcpListener::bind(rt, (Ipv4Addr::LOCALHOST, port)) else {
-        return Err(Fault::Listen);
+    let dumps = match ports.dumps {
+        Some(port) => Some(dump_listener(rt, port)?),
+        None => None,
     };
+    let sessions = listener(rt, ports.sessions)?;
     if is_terminal {
+        let port = ports.sessions;
         let _ = eprintln!(rt; "heapdbg: listening on 127.0.0.1:{port}");
     }
-    Ok((listener, report))
+    Ok((Ports { sessions, dumps }, report))
+}
+
+// Listens on a port. Fails with Listen.
+fn listener<R: Net<Listener = TcpListener, Stream = TcpStream>>(rt: &R, port: u16) -> Result<TcpListener, Fault>
+    ensures { IfErr result (λ f. f ≡ Listen) }
+{
+    match TcpListener::bind(rt, (Ipv4Addr::LOCALHOST, port)) {
+        Ok(listener) => Ok(listener),
+        Err(_) => Err(Fault::Listen),
+    }
+}
+
+// Listens on the port for dumps. Fails with Listen.
+fn dump_listener<R: Net<Listener = TcpListener, Stream = TcpStream>>(rt: &R, port: u16) -> Result<DumpListener, Fault>
+    ensures { IfErr result (λ f. f ≡ Listen) }
+{
+    match DumpListener::new(listener(rt, port)?) {
+        Ok(listener) => Ok(listener),
+        Err(_) => Err(Fault::Listen),
+    }
 }
 
 // Puts out how sessions ended, by way of a report that is still empty.

@@ -1,14 +1,14 @@
 //! The command lines of the tasks between standard input and standard output.
-ghost use Rattle.std.specs.Prelude.{◌≡◌, None, Some, codes, false, IfErr, IfOk};
-ghost use Rattle.clap.specs.Words.{app_of, found_of, rows_of, rule_of};
+ghost use Rattle.std.specs.Prelude.{◌≡◌, None, Some, false, IfErr, IfOk};
+ghost use Rattle.clap.specs.Words.{app_of, found_of, rows_of};
 ghost use Rattle.clap.specs.declared.builder.Command.TheViews.{out-Command};
-ghost use Rattle.heapdbg.specs.CommandLine.{explore_in, explore_line, run_in, run_line, value_option};
+ghost use Rattle.heapdbg.specs.CommandLine.{draw_line, explore_in, explore_line, run_in, run_line};
 ghost use Rattle.heapdbg.specs.Refusals.{IsMistakeIn};
 
-use crate::command_line::{option_value, session_parser, value_arg};
+use crate::command_line::{option_value, path_arg, session_parser, value_arg};
 use crate::refusal::Mistake;
 use crate::settings::Task;
-use clap::{Arg, ArgAction, ArgMatches, Command};
+use clap::{ArgMatches, Command};
 use std::alloc::{AllocError, Global};
 
 // Creates the parser of the command `run`.
@@ -32,19 +32,22 @@ pub(crate) fn explore_parser<'a>(alloc: Global) -> Result<Command<'a>, AllocErro
 {
     let about =
         "Reads commands and questions from standard input and writes answers to standard output";
-    session_parser(alloc, "explore", about)?.arg(from_arg(alloc))
+    let from = path_arg(
+        alloc,
+        "from",
+        "File of lines that are run first; their replies are not shown",
+    );
+    session_parser(alloc, "explore", about)?.arg(from)
 }
 
-// Creates the option `--from PATH`.
-fn from_arg<'a>(alloc: Global) -> Arg<'a>
-    ensures rule { rule_of result ≡ value_option (codes "from") }
-    ensures local { result.global ≡ false }
+// Creates the parser of the command `draw`.
+pub(crate) fn draw_parser<'a>(alloc: Global) -> Result<Command<'a>, AllocError>
+    ensures app { IfOk result (λ c. app_of c ≡ draw_line) }
+    ensures local { IfOk result (λ c. (out-Command c).has_globals ≡ false) }
 {
-    Arg::new(alloc, "from")
-        .long("from")
-        .action(ArgAction::Set)
-        .value_name("PATH")
-        .help("File of lines that are run first; their replies are not shown")
+    let out = path_arg(alloc, "out", "File that the picture goes to, as SVG").required(true);
+    let about = "Runs a session, and draws the regions of the state that it leaves";
+    session_parser(alloc, "draw", about)?.arg(out)
 }
 
 // Returns the task of the options of `run`, or the mistake in them.

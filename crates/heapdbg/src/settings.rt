@@ -26,6 +26,8 @@ pub enum Task {
         /// Whether the lines of a file that the command line names are read first.
         from: bool,
     },
+    /// Runs one session as `Run` does, and draws the state that it leaves.
+    Draw,
     /// Runs one session as `Run` does, and dumps the state that it leaves.
     Save(Target),
     /// Serves sessions over one shared heap to clients of this computer.
@@ -36,9 +38,16 @@ pub enum Task {
         sessions: u64,
         /// Whether two threads tend the collector, 0 or 1.
         workers: u64,
+        /// The port to send dumps from, 1 to 65,535, or None if there is none.
+        dumps: Option<u16>,
     },
     /// Asks a session that is served: sends standard input, and copies what comes back to standard output.
     Ask {
+        /// The port to connect to, 1 to 65,535.
+        port: u16,
+    },
+    /// Fetches a dump of a heap that is served, into the file that the command line names.
+    Fetch {
         /// The port to connect to, 1 to 65,535.
         port: u16,
     },

@@ -1,11 +1,11 @@
 //! The command lines of the tasks over sockets.
-ghost use Rattle.std.specs.Prelude.{◌≡◌, None, Some, false, IfErr, IfOk};
-ghost use Rattle.clap.specs.Words.{app_of, found_of, rows_of, rule_of};
+ghost use Rattle.std.specs.Prelude.{◌≡◌, None, Some, codes, false, IfErr, IfOk};
+ghost use Rattle.clap.specs.Words.{app_of, first_of, found_of, rows_of, rule_of};
 ghost use Rattle.clap.specs.declared.builder.Command.TheViews.{out-Command};
-ghost use Rattle.heapdbg.specs.CommandLine.{ask_in, ask_line, number_in, port_in, port_limit, port_option, serve_in, serve_line};
+ghost use Rattle.heapdbg.specs.CommandLine.{ask_in, ask_line, dumps_with, fetch_in, fetch_line, number_in, out_option, other_port, port_in, port_limit, port_option, serve_in, serve_line};
 ghost use Rattle.heapdbg.specs.Refusals.{IsMistakeIn};
 
-use crate::command_line::{number, option_value, session_parser, value_arg};
+use crate::command_line::{number, option_value, path_arg, session_parser, value_arg};
 use crate::refusal::Mistake;
 use crate::settings::Task;
 use clap::{Arg, ArgMatches, Command};
@@ -35,11 +35,17 @@ pub(crate) fn serve_parser<'a>(alloc: Global) -> Result<Command<'a>, AllocError>
         "workers",
         "Threads that mark, and threads that sweep, 0 or 1 of each [default: 0]",
     );
+    let dumps = value_arg(
+        alloc,
+        "dumps",
+        "Port on 127.0.0.1 that sends a dump to each client, 1 to 65535 [default: none]",
+    );
     let about = "Serves sessions over one heap to clients on 127.0.0.1, and tells how each ended";
     session_parser(alloc, "serve", about)?
         .arg(port_arg(alloc))?
         .arg(sessions)?
-        .arg(workers)
+        .arg(workers)?
+        .arg(dumps)
 }
 
 // Creates the parser of the command `ask`.
@@ -52,6 +58,18 @@ pub(crate) fn ask_parser<'a>(alloc: Global) -> Result<Command<'a>, AllocError>
             "Sends standard input to a session that is served, and copies what comes back to standard output",
         )
         .arg(port_arg(alloc))
+}
+
+// Creates the parser of the command `fetch`.
+pub(crate) fn fetch_parser<'a>(alloc: Global) -> Result<Command<'a>, AllocError>
+    ensures app { IfOk result (λ c. app_of c ≡ fetch_line) }
+    ensures local { IfOk result (λ c. (out-Command c).has_globals ≡ false) }
+{
+    let out = path_arg(alloc, "out", "File that the dump goes to").required(true);
+    Command::new(alloc, "fetch")
+        .about("Fetches a dump of a heap that is served")
+        .arg(port_arg(alloc))?
+        .arg(out)
 }
 
 // Creates the option `--port N`, which has to be given.
@@ -77,11 +95,47 @@ pub(crate) fn serve_task(options: &ArgMatches<'_>) -> Result<Task, Mistake>
     let Some(workers) = option_value(options, "workers", 0, 0, WORKER_LIMIT) else {
         return Err(Mistake::Workers);
     };
+    let Some(dumps) = dumps(options, port) else {
+        return Err(Mistake::Dumps);
+    };
     Ok(Task::Serve {
         port,
         sessions,
         workers,
+        dumps,
     })
+}
+
+// Returns the port for dumps that the options give beside that of the sessions.
+fn dumps(options: &ArgMatches<'_>, port: u16) -> Option<Option<u16>>
+    ensures { result ≡ dumps_with port (first_of (codes "dumps") (rows_of (found_of options.now))) }
+{
+    match options.get_str("dumps") {
+        Some(text) => other_port(port, port_of(text)?),
+        None => Some(None),
+    }
+}
+
+// Returns a port for dumps beside that of the sessions.
+fn other_port(port: u16, dumps: u16) -> Option<Option<u16>>
+    ensures { result ≡ other_port port dumps }
+{
+    if dumps == port {
+        return None;
+    }
+    Some(Some(dumps))
+}
+
+// Returns the task of the options of `fetch`, or the mistake in them.
+pub(crate) fn fetch_task(options: &ArgMatches<'_>) -> Result<Task, Mistake>
+    ensures ok { IfOk result (λ task. fetch_in (rows_of (found_of options.now)) ≡ Some task) }
+    ensures none { IfErr result (λ m. fetch_in (rows_of (found_of options.now)) ≡ None) }
+    ensures mistake { IfErr result (λ m. IsMistakeIn m (rows_of (found_of options.now))) }
+{
+    match port(options) {
+        Some(port) => Ok(Task::Fetch { port }),
+        None => Err(Mistake::Port),
+    }
 }
 
 // Returns the task of the options of `ask`, or the mistake in them.

@@ -2,18 +2,21 @@
 ghost use Rattle.std.specs.Prelude.{◌≡◌, Some, IfOk, IfErr, map, string_bytes};
 ghost use Rattle.std.specs.IoError.{error_kind};
 ghost use Rattle.heapdbg.specs.CommandLine.{AreSettingsWithin, IsBadWith, settings_of};
+ghost use Rattle.heapdbg.specs.FetchOutcomes.{IsDumpFetched};
 ghost use Rattle.heapdbg.specs.Refusals.{IsRefusalOf};
 ghost use Rattle.heapdbg.specs.Runs.{IsTaskDone, IsRun, IsPerformed, IsSavedOut};
 ghost use Rattle.heap_world.specs.Limits.{AreHeapSettings};
 
 use crate::ask::ask_port;
 use crate::command_line::{path_option, settings};
+use crate::draw::draw;
 use crate::explore::explore;
 use crate::failure::{Failure, Fault, outcome};
+use crate::fetch::fetch_port;
 use crate::folder::has_folder;
 use crate::refusal::bad;
 use crate::save::{save_out, save_to};
-use crate::serve::serve_port;
+use crate::serve::{PortNumbers, serve_port};
 use crate::settings::{LineFault, Settings, Target, Task, config};
 use crate::terminals::{Screen, Terminals};
 use crate::words::borrow_words;
@@ -142,23 +145,32 @@ where
         Task::Explore { from } => {
             explore(rt, alloc, words, asked, from, screen.watch, reader, writer)
         }
+        Task::Draw => draw(rt, alloc, words, asked, reader, writer),
         Task::Save(Target::Out) => save_named(rt, alloc, words, asked, reader, writer, screen.is_terminal),
         Task::Save(Target::To(to)) => save_to(rt, alloc, asked, to, reader, writer, screen.is_terminal),
         Task::Serve {
             port,
             sessions,
             workers,
-        } => serve_port(
-            rt,
-            alloc,
-            asked,
-            port,
-            sessions,
-            workers,
-            writer,
-            screen.is_terminal,
-        ),
+            dumps,
+        } => {
+            let ports = PortNumbers {
+                sessions: port,
+                dumps,
+            };
+            serve_port(
+                rt,
+                alloc,
+                asked,
+                ports,
+                sessions,
+                workers,
+                writer,
+                screen.is_terminal,
+            )
+        }
         Task::Ask { port } => ask_port(rt, alloc, port, input, writer),
+        Task::Fetch { port } => fetch_named(rt, alloc, words, port, writer, screen.is_terminal),
     }
 }
 
@@ -238,6 +250,30 @@ where
             writer,
             is_terminal,
         ),
+        Some(_) => Err(Fault::Out),
+        None => Err(Fault::Memory),
+    }
+}
+
+// Fetches a dump from a port into the file that the words name. Fails with Out, before it connects, if the folder of that file is
+// not there.
+fn fetch_named<R, O: Outlet>(
+    rt: &R,
+    alloc: Global,
+    words: &[String],
+    port: u16,
+    writer: &mut O,
+    is_terminal: bool,
+) -> Result<(), Fault>
+where
+    R: Clock + Eprint + Files + Net + Wait,
+    ensures { IsDumpFetched (O.seen writer.old) (O.seen writer.new) result }
+{
+    let Ok(line) = borrow_words(alloc, words) else {
+        return Err(Fault::Memory);
+    };
+    match path_option(alloc, line.as_slice(), "out") {
+        Some(path) if has_folder(rt, path) => fetch_port(rt, port, path, writer, is_terminal),
         Some(_) => Err(Fault::Out),
         None => Err(Fault::Memory),
     }

@@ -1,0 +1,82 @@
+//! A dump that comes over a socket.
+ghost use Rattle.std.specs.Prelude.{◌≡◌};
+ghost use Rattle.dump_client.specs.Fetches.{IsFetched};
+
+use dump_scan::Scan;
+use dump_pump::Outlet;
+use dump_pump::transfer::put_all;
+use session_text::{Inlet, Take};
+use std::sync::Wait;
+
+/// The most bytes that are taken at once.
+pub const ROOM: usize = 4096;
+
+/// How a fetch ended.
+#[derive(Clone, Copy, PartialEq, Eq, Debug)]
+pub enum Finish {
+    /// All bytes of a dump came, and were put out.
+    Whole,
+    /// What came is no whole dump: it was cut off. It was put out.
+    Cut,
+    /// A write failed.
+    WriteFault,
+}
+
+/// How a fetch ended, and how many bytes it put out; 2^64 - 1 if they are more.
+#[derive(Clone, Copy, PartialEq, Eq, Debug)]
+pub struct Fetched {
+    pub bytes: u64,
+    pub finish: Finish,
+}
+
+/// One who sees a dump come in, such as a line on a terminal. No contract says what it does.
+pub trait Watcher {
+    /// Sees the number of bytes that are out. It is asked after each read.
+    fn show(&mut self, bytes: u64);
+}
+
+/// Puts out all that an inlet gives, as it comes, until it ends or a read or a write fails. Tells whether that is a header and
+/// whole records, of which HEAP DUMP END is the last. Takes no memory. May wait.
+pub fn fetch<R: Wait, I: Inlet, O: Outlet, W: Watcher>(
+    rt: &R,
+    inlet: &mut I,
+    outlet: &mut O,
+    watcher: &mut W,
+) -> Fetched
+    ensures { IsFetched (I.seen inlet.old) (I.seen inlet.new) (O.seen outlet.old) (O.seen outlet.new)
+        result }
+{
+    let mut room = [0u8; ROOM];
+    let mut scan = Scan::new();
+    let mut bytes: u64 = 0;
+    for _ in rt.forever() {
+        let Take::Got(n) = inlet.take(&mut room) else {
+            return Fetched {
+                bytes,
+                finish: finish_of(&scan),
+            };
+        };
+        let put = put_all(outlet, &room[..n]);
+        bytes = bytes.saturating_add(put as u64);
+        watcher.show(bytes);
+        if put < n {
+            return Fetched {
+                bytes,
+                finish: Finish::WriteFault,
+            };
+        }
+        scan.follow(&room[..n]);
+    }
+    unreachable!()
+}
+
+// Returns how a fetch ended of which nothing more comes.
+fn finish_of(scan: &Scan) -> Finish
+    ensures { result ≡ finish_of scan.now }
+{
+    if scan.is_ended() {
+        Finish::Whole
+    } else {
+        Finish::Cut
+    }
+}

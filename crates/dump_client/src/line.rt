@@ -1,0 +1,40 @@
+//! The last line of a fetch.
+ghost use Rattle.std.specs.Prelude.{◌≡◌, ◌++◌, decimal};
+ghost use Rattle.session_text.specs.Replies.{line};
+ghost use Rattle.session_text.specs.Writes.{IsTextWritten};
+ghost use Rattle.dump_client.specs.Fetches.{first_word, last_line};
+
+use crate::intake::{Fetched, Finish};
+use dump_pump::Outlet;
+use session_text::write_all;
+
+// Puts out a number and the end of its line.
+fn write_number<O: Outlet>(writer: &mut O, number: u64) -> bool
+    ensures { IsTextWritten (line (decimal number)) (O.seen writer.old) (O.seen writer.new) result }
+{
+    if !write_all(writer, itoa::Buffer::new().format(number).as_bytes()) {
+        return false;
+    }
+    write_all(writer, b"\n")
+}
+
+// Returns the word for the end of a fetch, and a space.
+fn first_word(finish: Finish) -> &'static [u8]
+    ensures { result.now ≡ first_word finish }
+{
+    match finish {
+        Finish::Whole => b"fetched ",
+        Finish::Cut => b"cut ",
+        Finish::WriteFault => b"failed ",
+    }
+}
+
+/// Puts out the last line: how the fetch ended, and the number of bytes that it put out. Returns whether all of it is out.
+pub fn write_last<O: Outlet>(writer: &mut O, fetched: &Fetched) -> bool
+    ensures { IsTextWritten (last_line fetched.now) (O.seen writer.old) (O.seen writer.new) result }
+{
+    if !write_all(writer, first_word(fetched.finish)) {
+        return false;
+    }
+    write_number(writer, fetched.bytes)
+}

@@ -1,0 +1,130 @@
+-- The heads of a dump's records, byte by byte.
+use Rattle.std.proofs.Common.{◌≡◌, ◌+◌, ◌-◌, ◌<◌, ◌≤◌, ◌&&◌, ℕ, zero, suc, min, Bool, true, false, List, [], ◌∷◌, ◌++◌, take, drop, length, if◌then◌else◌, refl, ap, sym, ◌∙◌, subst, arith, append-nil, append_assoc}
+use Rattle.std.specs.Prelude.{◌==◌, nat_le, slice_index, slice_set}
+use Rattle.std.specs.Int.{w32, from_be_bytes}
+use Rattle.std.proofs.lemmas.List.{length-drop, length-append, length-take, take_more_set}
+use Rattle.std.proofs.lemmas.Bool.{le-leb, lt-leb, eq-eqb, ne_eqb}
+use Rattle.dump_scan.specs.Records.{are_records, body_size, completes, end_tag, ends_in_records}
+use Rattle.dump_scan.specs.declared.scan.Scan.{Scan}
+use Rattle.dump_scan.specs.declared.scan.Scan.TheVariants.{Within, Head, Ended, Broken}
+
+-- the number of records that is allowed doesn't matter, if it is as large as the text
+enough : (k m : ℕ) (text : List ℕ) → length text ≤ k → length text ≤ m → are_records k text ≡ are_records m text
+unfolding are_records
+enough zero zero text a b = refl
+enough zero (suc m) [] a b = refl
+enough zero (suc m) (x ∷ xs) a b = absurd (omega (arith, a))
+enough (suc k) zero [] a b = refl
+enough (suc k) zero (x ∷ xs) a b = absurd (omega (arith, b))
+enough (suc k) (suc m) text a b =
+    ap (λ r. nat_le 9 (length text) && (if slice_index text 0 == end_tag then (body_size text == 0) && (length text == 9) else r))
+    (enough k m (drop (9 + body_size text) text) (omega (arith, a, length-drop (9 + body_size text) text)) (omega (arith, b, length-drop (9 + body_size text) text)))
+
+-- one record more
+one : (k : ℕ) (text : List ℕ)
+    → are_records (suc k) text ≡ (nat_le 9 (length text) && (if slice_index text 0 == end_tag then (body_size text == 0) && (length text == 9) else are_records k (drop (9 + body_size text) text)))
+unfolding are_records
+one k text = refl
+
+none : (text : List ℕ) → are_records zero text ≡ false
+unfolding are_records
+none text = refl
+
+-- a text that is shorter than a head has no records
+short : (k : ℕ) (text : List ℕ) → length text < 9 → are_records k text ≡ false
+short zero text less = none text
+short (suc k) text less = one k text ∙ ap (λ b. b && (if slice_index text 0 == end_tag then (body_size text == 0) && (length text == 9) else are_records k (drop (9 + body_size text) text))) (lt-leb 9 (length text) less)
+
+-- what follows a whole head
+abbrev after : ℕ → ℕ → List ℕ → Bool
+after tag size rest = if tag == end_tag then (size == 0) && (length rest == 0) else ends_in_records (drop size rest)
+
+nine : (n : ℕ) → (suc (suc (suc (suc (suc (suc (suc (suc (suc n)))))))) == 9) ≡ (n == 0)
+nine zero = refl
+nine (suc n) = ne_eqb (suc (suc (suc (suc (suc (suc (suc (suc (suc (suc n)))))))))) 9 (λ e. omega (arith, e)) ∙ sym (ne_eqb (suc n) 0 (λ e. omega (arith, e)))
+
+dropped : (a b c d e f g h i size : ℕ) (rest : List ℕ) → drop (9 + size) (a ∷ b ∷ c ∷ d ∷ e ∷ f ∷ g ∷ h ∷ i ∷ rest) ≡ drop size rest
+dropped a b c d e f g h i size rest =
+    let more : 9 + size ≡ suc (suc (suc (suc (suc (suc (suc (suc (suc size)))))))) = omega arith in
+    ap (λ k. drop k (a ∷ b ∷ c ∷ d ∷ e ∷ f ∷ g ∷ h ∷ i ∷ rest)) more
+
+records_from : (k size : ℕ) (rest : List ℕ) → length rest ≤ k → are_records k (drop size rest) ≡ ends_in_records (drop size rest)
+records_from k size rest most = enough k (length (drop size rest)) (drop size rest) (omega (arith, most, length-drop size rest)) (omega arith)
+
+records_after : (a b c d e f g h i : ℕ) (rest : List ℕ) → ends_in_records (a ∷ b ∷ c ∷ d ∷ e ∷ f ∷ g ∷ h ∷ i ∷ rest) ≡ after a (from_be_bytes w32 (f ∷ g ∷ h ∷ i ∷ [])) rest
+records_after a b c d e f g h i rest =
+    let text = a ∷ b ∷ c ∷ d ∷ e ∷ f ∷ g ∷ h ∷ i ∷ rest in
+    let size = from_be_bytes w32 (f ∷ g ∷ h ∷ i ∷ []) in
+    let k = suc (suc (suc (suc (suc (suc (suc (suc (length rest)))))))) in
+    let long : nat_le 9 (suc k) ≡ true = le-leb 9 (suc k) (omega arith) in
+    let next : are_records k (drop (9 + size) text) ≡ ends_in_records (drop size rest) = ap (are_records k) (dropped a b c d e f g h i size rest) ∙ records_from k size rest (omega arith) in
+    one k text
+    ∙ (λ j. long j && (if a == end_tag then (size == 0) && nine (length rest) j else next j))
+
+-- ---- one byte more
+
+-- a whole head has come
+pub head_full : (head : List ℕ) (count byte : ℕ) (rest : List ℕ) → length head ≡ 8 → 8 ≤ count
+    → completes (Head head count) (byte ∷ rest) ≡ after (slice_index head 0) (from_be_bytes w32 (slice_index head 5 ∷ slice_index head 6 ∷ slice_index head 7 ∷ byte ∷ [])) rest
+unfolding completes
+head_full [] count byte rest size full = absurd (omega (arith, size))
+head_full (a ∷ []) count byte rest size full = absurd (omega (arith, size))
+head_full (a ∷ b ∷ []) count byte rest size full = absurd (omega (arith, size))
+head_full (a ∷ b ∷ c ∷ []) count byte rest size full = absurd (omega (arith, size))
+head_full (a ∷ b ∷ c ∷ d ∷ []) count byte rest size full = absurd (omega (arith, size))
+head_full (a ∷ b ∷ c ∷ d ∷ e ∷ []) count byte rest size full = absurd (omega (arith, size))
+head_full (a ∷ b ∷ c ∷ d ∷ e ∷ f ∷ []) count byte rest size full = absurd (omega (arith, size))
+head_full (a ∷ b ∷ c ∷ d ∷ e ∷ f ∷ g ∷ []) count byte rest size full = absurd (omega (arith, size))
+head_full (a ∷ b ∷ c ∷ d ∷ e ∷ f ∷ g ∷ h ∷ []) count byte rest size full =
+    let all : min count 8 ≡ 8 = omega (arith, full) in
+    ap (λ n. ends_in_records (take n (a ∷ b ∷ c ∷ d ∷ e ∷ f ∷ g ∷ h ∷ []) ++ byte ∷ rest)) all ∙ records_after a b c d e f g h byte rest
+head_full (a ∷ b ∷ c ∷ d ∷ e ∷ f ∷ g ∷ h ∷ i ∷ more) count byte rest size full = absurd (omega (arith, size))
+
+-- a part of a head has come
+pub head_more : (head : List ℕ) (count byte : ℕ) (rest : List ℕ) → length head ≡ 8 → count < 8
+    → completes (Head head count) (byte ∷ rest) ≡ completes (Head (slice_set head count byte) (count + 1)) rest
+unfolding completes
+head_more head count byte rest size part =
+    let here : min count 8 ≡ count = omega (arith, part) in
+    let there : min (count + 1) 8 ≡ count + 1 = omega (arith, part) in
+    ap (λ n. ends_in_records (take n head ++ byte ∷ rest)) here ∙ ap ends_in_records (sym (append_assoc (take count head) (byte ∷ []) rest))
+    ∙ ap (λ l. ends_in_records (l ++ rest)) (sym (take_more_set head count byte (omega (arith, part, size))))
+    ∙ ap (λ n. ends_in_records (take n (slice_set head count byte) ++ rest)) (sym there)
+
+pub within_more : (left byte : ℕ) (rest : List ℕ) → (left ≡ 0 → ⊥) → completes (Within left) (byte ∷ rest) ≡ completes (Within (left - 1)) rest
+unfolding completes
+within_more zero byte rest some = absurd (some refl)
+within_more (suc n) byte rest some = let less : n ≡ suc n - 1 = omega arith in ap (λ k. ends_in_records (drop k rest)) less
+
+pub begins_head : (byte : ℕ) (rest : List ℕ) → completes (Within 0) (byte ∷ rest) ≡ completes (Head (byte ∷ 0 ∷ 0 ∷ 0 ∷ 0 ∷ 0 ∷ 0 ∷ 0 ∷ []) 1) rest
+unfolding completes
+begins_head byte rest = refl
+
+pub past_end : (byte : ℕ) (rest : List ℕ) → completes Ended (byte ∷ rest) ≡ completes Broken rest
+unfolding completes
+past_end byte rest = ne_eqb (suc (length rest)) 0 (λ e. omega (arith, e))
+
+pub stays_broken : (byte : ℕ) (rest : List ℕ) → completes Broken (byte ∷ rest) ≡ completes Broken rest
+unfolding completes
+stays_broken byte rest = refl
+
+-- ---- nothing more
+
+pub within_cut : (left : ℕ) → false ≡ completes (Within left) []
+unfolding completes
+within_cut zero = sym (none [])
+within_cut (suc n) = sym (none [])
+
+pub head_cut : (head : List ℕ) (count : ℕ) → false ≡ completes (Head head count) []
+unfolding completes
+head_cut head count =
+    let text = take (min count 8) head ++ [] in
+    sym (short (length text) text (omega (arith, length-append (take (min count 8) head) [], length-take (min count 8) head)))
+
+pub broken_cut : false ≡ completes Broken []
+unfolding completes
+broken_cut = refl
+
+pub ended_whole : true ≡ completes Ended []
+unfolding completes
+ended_whole = refl

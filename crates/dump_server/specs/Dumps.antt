@@ -1,0 +1,60 @@
+-- What is put out of a dump of the current state.
+use Rattle.std.specs.Prelude.{◌≡◌, ◌⊎◌, ℕ, Bool, List, [], ◌∷◌, ◌++◌, None}
+use Rattle.heap_class.specs.declared.Refusal.{Refusal}
+use Rattle.heap_class.specs.declared.Refusal.TheVariants.{NoMemory}
+use Rattle.heap_world.specs.Limits.{HeapSettings}
+use Rattle.hprof_text.specs.declared.Piece.{Piece}
+use Rattle.hprof_text.specs.Segments.{dump_text}
+use Rattle.heap_pins.specs.Images.{image_of}
+use Rattle.heap_trail.specs.declared.Action.TheVariants.{OpenPin, ClosePin}
+use Rattle.heap_trail.specs.declared.Reply.{Reply}
+use Rattle.heap_trail.specs.declared.Reply.TheVariants.{Pinned, Refused}
+use Rattle.dump_pump.specs.declared.transfer.Pumped.{Pumped}
+use Rattle.dump_pump.specs.Outlets.{Outgoing}
+use Rattle.heap_lock.specs.Calls.{Call, IsLegalLedger, Witnesses}
+use Rattle.heap_lock.specs.Laws.{CallsAskAt, pieces_given, state_at}
+use Rattle.live_dump.specs.Streams.{PutsLive}
+use Rattle.live_dump.specs.StreamTexts.{PutsBeginning}
+
+-- a stream of the pin ended so, from the calls that were seen before to those that were seen after
+abbrev pub PutsPin : HeapSettings → ℕ → ℕ → List Call → List Call → Outgoing → Outgoing → Pumped
+    → Type 0
+PutsPin config pin time start seen w w' r =
+    (found : Bool) × PutsLive config pin time start seen found w w' r × IsLegalLedger config seen
+
+-- these calls, of which the last opened a pin on the current state
+abbrev pub opened : List Call → ℕ → ℕ → List Call
+opened before pin place = before ++ (OpenPin None, Pinned pin place) ∷ []
+
+-- after these calls the pin was asked to close
+abbrev pub IsClosed : HeapSettings → ℕ → List Call → Type 0
+IsClosed config pin seen =
+    (reply : Reply) × (later : List Call) × Witnesses config seen (ClosePin pin) reply later
+
+-- these pieces are all that the pin gave: what is put out is a beginning of the dump of the state at the pin's place, and all
+-- of it if the stream is done
+abbrev pub PutsState : HeapSettings → ℕ → ℕ → ℕ → List Call → List Call → List Piece → Outgoing
+    → Outgoing → Pumped → Type 0
+PutsState config pin place time before after given w w' r =
+    CallsAskAt pin time after → pieces_given pin after ≡ given
+    → PutsBeginning (dump_text config.ids (image_of (state_at config before place)) time) w w' r
+
+-- a pin was opened on the current state, streamed, and closed; `before` and `after` are the calls on the heap before its
+-- opening and from there to its last piece
+pub record IsDump (config : HeapSettings) (time : ℕ) (w w' : Outgoing) (r : Pumped) : Type 0 where
+  pub pin : ℕ
+  pub place : ℕ
+  pub before : List Call
+  pub after : List Call
+  pub found : Bool
+  pub put : PutsLive config pin time (opened before pin place) (opened before pin place ++ after) found w w' r
+  pub legal : IsLegalLedger config (opened before pin place ++ after)
+  pub text : PutsState config pin place time before after put.given w w' r
+  pub closed : IsClosed config pin (opened before pin place ++ after)
+
+-- no pin could be opened; or there was no memory for a stream, and the pin was closed
+abbrev pub IsRefused : HeapSettings → Refusal → Type 0
+IsRefused config e =
+    ((before later : List Call) × Witnesses config before (OpenPin None) (Refused e) later)
+    ⊎ ((e ≡ NoMemory) × (before : List Call) × (pin place : ℕ)
+    × IsLegalLedger config (opened before pin place) × IsClosed config pin (opened before pin place))

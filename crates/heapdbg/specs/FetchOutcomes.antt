@@ -1,0 +1,32 @@
+-- The outcomes of a fetch. Files and sockets tell nothing of their bytes.
+use Rattle.std.specs.Prelude.{◌≡◌, ◌⊎◌, Bool, true, false, List, [], Result, Ok, Err}
+use Rattle.dump_pump.specs.Outlets.{Outgoing}
+use Rattle.session_text.specs.Inlets.{Incoming}
+use Rattle.session_text.specs.Writes.{IsTextWritten}
+use Rattle.dump_client.specs.Fetches.{IsFetched, last_line}
+use Rattle.dump_client.specs.declared.intake.Fetched.{Fetched}
+use Rattle.dump_client.specs.declared.intake.Finish.{Finish}
+use Rattle.dump_client.specs.declared.intake.Finish.TheVariants.{Whole, Cut, WriteFault}
+use Rattle.heapdbg.specs.declared.failure.Fault.{Fault}
+use Rattle.heapdbg.specs.declared.failure.Fault.TheVariants as fault
+
+-- a last line that couldn't be put out comes before the end of the fetch
+abbrev pub fetched_outcome : Finish → Bool → Result (Unit {0}) Fault
+fetched_outcome finish false = Err fault.Write
+fetched_outcome Whole true = Ok tt
+fetched_outcome Cut true = Err fault.Cut
+fetched_outcome WriteFault true = Err fault.Out
+
+-- nothing was fetched
+abbrev pub IsUnfetched : Result (Unit {0}) Fault → Type 0
+IsUnfetched result =
+    (result ≡ Err fault.Connect) ⊎ ((result ≡ Err fault.Out) ⊎ (result ≡ Err fault.Memory))
+
+-- what a socket gave was put out to a file, and then a last line; or nothing was fetched, and nothing was put out
+abbrev pub IsDumpFetched : Outgoing → Outgoing → Result (Unit {0}) Fault → Type 0
+IsDumpFetched w w' result =
+    ((socket socket' : Incoming) × (file file' : Outgoing) × (fetched : Fetched)
+    × (socket.taken ≡ []) × IsFetched socket socket' file file' fetched
+    × ((written : Bool) × IsTextWritten (last_line fetched) w w' written
+    × (result ≡ fetched_outcome fetched.finish written)))
+    ⊎ (IsUnfetched result × (w' ≡ w))

@@ -7,6 +7,7 @@ import sys
 
 from explore_cases import questions
 from line_cases import bad_lines
+from picture_cases import pictures
 from run_cases import faults, lines_at_the_limits, sessions, would_block
 from save_cases import saved_faults, saved_files, saved_on_terminals, saved_to_listeners, saved_to_long_names
 from serve_cases import asking, pins_of_ended_sessions, served_faults, served_on_terminals, served_sessions, tended, worked
@@ -18,7 +19,7 @@ def differences(program):
     parts = ("status", "standard output", "standard error", "first of the clients or the dump", "second", "third", "fourth")
     saves = (saved_files, saved_to_long_names, saved_faults, saved_to_listeners, saved_on_terminals)
     serves = (served_sessions, served_on_terminals, pins_of_ended_sessions, worked, tended, asking, served_faults)
-    for cases in (sessions, questions, settings_shown, lines_at_the_limits, faults, would_block, bad_lines, *saves, *serves):
+    for cases in (sessions, questions, pictures, settings_shown, lines_at_the_limits, faults, would_block, bad_lines, *saves, *serves):
         for name, happened, wanted in cases(program):
             if not len(happened) == len(wanted) <= len(parts):
                 yield f"{program}, {name}: {len(happened)} facts, and must be {len(wanted)}, at most {len(parts)}"

@@ -45,7 +45,7 @@ def files_first(program):
     yield "an empty file", run_after(program, b"", b"snap\n"), (0, b"ok pushed 0\n", b"")
     said = b"heapdbg: PATH:2: the line is too long\n"
     yield "a long line in a file", run_after(program, b"snap\n" + b"x" * 5000, b"mark\n"), (0, b"no 16 NothingToMark\n", said)
-    yield "a dump in a file", run_after(program, EXAMPLE[:-4], b"pins\n"), (0, b"ok 0\n", b"")
+    yield "a dump in a file", run_after(program, EXAMPLE, b"pins\n"), (0, b"ok 0\n", b"")
     words = ["explore", "--from", str(TOP / "no/such/file")]
     yield "no file", run(program, words, ASKED), (1, b"", b"heapdbg: from\n")
     words = ["explore", "--from", str(TOP)]

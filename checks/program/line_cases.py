@@ -57,6 +57,7 @@ REFUSED = {
     "explore --from": b"a value is required for '--from <PATH>' but none was supplied",
     "explore --questions 1": b"unexpected argument '--questions' found",
     "serve --port 7000 --questions 1": b"unexpected argument '--questions' found",
+    "draw": b"the following required arguments were not provided:",
     "run --out x": b"unexpected argument '--out' found",
     "run --to 7000": b"unexpected argument '--to' found",
     "save --out": b"a value is required for '--out <PATH>' but none was supplied",

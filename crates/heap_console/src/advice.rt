@@ -15,7 +15,7 @@ const KEYWORDS: [&str; 36] = [
 // The largest distance, in letters changed, from a word to the keyword that may be meant.
 const NEAR: usize = 2;
 
-/// What may help after a line that is no command.
+// What may help after a line that is no command.
 #[derive(Clone, Copy)]
 pub(crate) enum Advice {
     /// The line begins with a keyword, whose form is this.

@@ -5,15 +5,15 @@ use heap_class::ObjRef;
 use heap_region::Regions;
 use std::alloc::AllocError;
 
-/// The left end of each row, and the height of the first row's middle.
+// The left end of each row, and the height of the first row's middle.
 pub(crate) const LEFT: u64 = 40;
 
 const TOP: u64 = 40;
 
-/// The distance of two rows.
+// The distance of two rows.
 pub(crate) const STEP: u64 = 12;
 
-/// The cells that a stroke is for.
+// The cells that a stroke is for.
 #[derive(Clone, Copy, PartialEq, Eq)]
 pub(crate) enum Sort {
     /// The free cells.
@@ -50,7 +50,7 @@ impl Sort {
     }
 }
 
-/// Returns the height of the middle of a region's row.
+// Returns the height of the middle of a region's row.
 pub(crate) fn middle_of(region: u64) -> u64 {
     TOP.saturating_add(STEP.saturating_mul(region))
 }
@@ -81,7 +81,7 @@ fn add_cells(
     Ok(())
 }
 
-/// Appends the strokes of all cells that are of this sort.
+// Appends the strokes of all cells that are of this sort.
 pub(crate) fn add_all_cells(
     text: &mut Vec<u8>,
     regions: &Regions,
@@ -94,7 +94,7 @@ pub(crate) fn add_all_cells(
     Ok(())
 }
 
-/// Appends the strokes of the cells whose objects are gray.
+// Appends the strokes of the cells whose objects are gray.
 pub(crate) fn add_gray(
     text: &mut Vec<u8>,
     regions: &Regions,
@@ -111,7 +111,7 @@ pub(crate) fn add_gray(
     Ok(())
 }
 
-/// Appends a path of strokes in this colour and width, whose strokes `add_strokes` appends.
+// Appends the beginning of a path in this colour and width.
 pub(crate) fn add_path_begin(
     text: &mut Vec<u8>,
     color: &[u8],
@@ -124,7 +124,7 @@ pub(crate) fn add_path_begin(
     add(text, b"\" d=\"")
 }
 
-/// Appends the end of a path.
+// Appends the end of a path.
 pub(crate) fn add_path_end(text: &mut Vec<u8>) -> Result<(), AllocError> {
     add(text, b"\"/>\n")
 }

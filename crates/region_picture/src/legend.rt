@@ -4,13 +4,13 @@ ghost use Rattle.heap_questions.specs.Histogram.{class_rows};
 
 use crate::cells::{LEFT, add_path_begin, add_path_end};
 use crate::colors::{COLORS, OTHER};
-use crate::text::{add, add_name, add_number, add_stroke, add_text_at};
+use crate::text::{add, add_number, add_stroke, add_text_at};
 use heap_class::{FirstClasses, Refusal};
 use heap_questions::Row;
 use question_text::push_row_name;
 use std::alloc::{AllocError, Global};
 
-/// The distance of two lines of the legend.
+// The distance of two lines of the legend.
 pub(crate) const LINE: u64 = 16;
 
 /// The strokes of the legend beside those of classes: colour, width and meaning.
@@ -22,7 +22,7 @@ const STROKES: [(&[u8], &[u8], &[u8]); 5] = [
     (b"#e00000", b"2", b"gray"),
 ];
 
-/// The number of lines that the legend has beside those of classes.
+// The number of lines that the legend has beside those of classes.
 pub(crate) const OTHER_LINES: u64 = 5;
 
 // Appends a stroke of the legend, and the beginning of the text beside it.
@@ -38,7 +38,7 @@ fn add_sample(
     add_text_at(text, LEFT + 24, y)
 }
 
-/// Appends the line of a row of a histogram, in the colour of this number.
+// Appends the line of a row of a histogram, in the colour of this number.
 pub(crate) fn add_row(
     alloc: Global,
     text: &mut Vec<u8>,
@@ -54,7 +54,7 @@ pub(crate) fn add_row(
     add_sample(text, y, shade, b"9")?;
     let mut name = Vec::new(alloc);
     push_row_name(&mut name, classes, index)?;
-    add_name(text, name.as_slice())?;
+    add(text, name.as_slice())?;
     add(text, b": ")?;
     add_number(text, row.objects)?;
     add(text, b" objects, ")?;
@@ -63,7 +63,7 @@ pub(crate) fn add_row(
     Ok(())
 }
 
-/// Appends the lines of the other strokes, the first at this height.
+// Appends the lines of the other strokes, the first at this height.
 pub(crate) fn add_strokes(text: &mut Vec<u8>, y: u64) -> Result<(), AllocError> {
     let mut y = y;
     for (color, width, meaning) in STROKES {

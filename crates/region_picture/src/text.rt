@@ -1,31 +1,18 @@
 //! The text of a picture.
 use std::alloc::AllocError;
 
-/// Appends words.
+// Appends words.
 pub(crate) fn add(text: &mut Vec<u8>, words: &[u8]) -> Result<(), AllocError> {
     text.extend_from_slice(words)?;
     Ok(())
 }
 
-/// Appends a number.
+// Appends a number.
 pub(crate) fn add_number(text: &mut Vec<u8>, number: u64) -> Result<(), AllocError> {
     add(text, itoa::Buffer::new().format(number).as_bytes())
 }
 
-/// Appends a name, whose letters may mean something in SVG.
-pub(crate) fn add_name(text: &mut Vec<u8>, name: &[u8]) -> Result<(), AllocError> {
-    for letter in name {
-        match letter {
-            b'<' => add(text, b"&lt;")?,
-            b'>' => add(text, b"&gt;")?,
-            b'&' => add(text, b"&amp;")?,
-            _ => text.push(*letter)?,
-        }
-    }
-    Ok(())
-}
-
-/// Appends the beginning of a line of text that stands at this point.
+// Appends the beginning of a line of text that stands at this point.
 pub(crate) fn add_text_at(text: &mut Vec<u8>, x: u64, y: u64) -> Result<(), AllocError> {
     add(text, b"<text x=\"")?;
     add_number(text, x)?;
@@ -34,7 +21,7 @@ pub(crate) fn add_text_at(text: &mut Vec<u8>, x: u64, y: u64) -> Result<(), Allo
     add(text, b"\">")
 }
 
-/// Appends a line from a point to the right.
+// Appends a line from a point to the right.
 pub(crate) fn add_stroke(text: &mut Vec<u8>, x: u64, y: u64, width: u64) -> Result<(), AllocError> {
     add(text, b"M")?;
     add_number(text, x)?;

@@ -1,0 +1,75 @@
+"""Cases of `draw`: what a picture shows of a state that is worked out by hand."""
+import pathlib
+import tempfile
+import xml.etree.ElementTree as trees
+
+from runs import EXAMPLE, EXAMPLE_REPLIES, TOP, run
+
+# Four nodes in cells of four words, and an array of bytes in one of 64. The first cycle condemns a node and the array; another
+# node is dropped then, and of the two that the second cycle shades one is marked.
+CYCLES = b"""class Node - next:object value:int
+new 0 0 0
+new 0 1 0
+new 0 2 0
+new 0 3 0
+newprim 0 4 byte 64
+clear 0 3
+clear 0 4
+snap
+mark
+mark
+mark
+finish
+clear 0 2
+snap
+mark
+"""
+# How many strokes there are of each colour and width: one a cell, and one in the legend.
+STROKES = {
+    ("#4269d0", "9"): 4 + 1,
+    ("#9498a0", "9"): 1 + 1,
+    ("#eeeeee", "9"): 256 - 4 + 16 - 1 + 1,
+    ("url(#dead)", "9"): 2 + 1,
+    ("#000000", "2"): 2 + 1,
+    ("#e00000", "2"): 1 + 1,
+}
+TEXTS = ["place 16: 3 live objects, 36 bytes", "Node: 3 objects, 36 bytes"]
+# The most bytes of a picture of 256 full regions.
+LIMIT = 2_000_000
+
+
+def drawn(program, given, *words):
+    """Returns the status of `draw`, and the picture's root, its bytes and the two other streams."""
+    with tempfile.TemporaryDirectory() as folder:
+        path = pathlib.Path(folder, "heap.svg")
+        status, out, error = run(program, ["draw", "--out", str(path), *words], given)
+        picture = path.read_bytes() if path.exists() else b""
+    return status, trees.fromstring(picture) if picture else None, picture, out, error
+
+
+def strokes_of(root):
+    """Returns how many strokes there are of each colour and width."""
+    found = {}
+    for path in root.iter("{http://www.w3.org/2000/svg}path"):
+        key = path.get("stroke"), path.get("stroke-width")
+        found[key] = found.get(key, 0) + path.get("d").count("h")
+    return {key: count for key, count in found.items() if count}
+
+
+def pictures(program):
+    """Yields pictures as (name, what happened, what must happen)."""
+    status, root, _, _, error = drawn(program, CYCLES)
+    texts = [text.text for text in root.iter("{http://www.w3.org/2000/svg}text")]
+    yield "a picture", (status, error, strokes_of(root)), (0, b"", STROKES)
+    yield "the texts of a picture", tuple(text in texts for text in TEXTS), (True, True)
+    full = b"class Node - next:object\n" + b"new 0 0 0\n" * 65_536 + b"snap\n"
+    status, root, picture, _, _ = drawn(program, full, "--regions", "256")
+    yield "a full heap", (status, len(picture) < LIMIT, strokes_of(root)[("#4269d0", "9")]), (0, True, 65_536 + 1)
+    _, _, picture, _, _ = drawn(program, (TOP / "examples/leak.session").read_bytes(), "--keep", "4096")
+    yield "the picture of README", (picture,), ((TOP / "examples/leak.svg").read_bytes(),)
+    status, root, _, out, error = drawn(program, EXAMPLE)
+    yield "a session that is drawn", (status, out, error), (0, EXAMPLE_REPLIES, b"")
+    status, root, _, out, error = drawn(program, b"snap\nmark")
+    yield "a cut session", (status, root, out, error), (1, None, b"ok pushed 0\nbad cut\n", b"heapdbg: cut\n")
+    words = ["draw", "--out", "/no/such/folder/heap.svg"]
+    yield "no folder", run(program, words, b"snap\n"), (1, b"ok pushed 0\n", b"heapdbg: out\n")

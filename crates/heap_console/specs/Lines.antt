@@ -4,7 +4,7 @@ use Rattle.session_text.specs.declared.inlet.Take.{Take}
 use Rattle.session_text.specs.declared.inlet.Take.TheVariants.{Got, End, Failed}
 
 -- a read gave bytes to the front of a room, at least one, or none
-abbrev pub IsGiven : List ℕ → Take → Type 0
-IsGiven room (Got n) = (0 < n) × (n ≤ length room)
-IsGiven room End = ⊤
-IsGiven room Failed = ⊤
+abbrev pub IsLineGiven : List ℕ → Take → Type 0
+IsLineGiven room (Got n) = (0 < n) × (n ≤ length room)
+IsLineGiven room End = ⊤
+IsLineGiven room Failed = ⊤

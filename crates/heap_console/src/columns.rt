@@ -10,7 +10,7 @@ use std::marker::Model;
 use std::mem;
 
 // The byte at the end of a line.
-const LF: u8 = b'\n';
+const LINE_END: u8 = b'\n';
 
 // The number of columns that are aligned: the words of a row behind them follow each other.
 const COLUMNS: usize = 16;
@@ -62,11 +62,7 @@ impl Widths {
 
     // Returns the width of a column, which is 0 if it isn't aligned.
     fn width(&self, column: usize) -> usize {
-        if column < COLUMNS {
-            self.0[column]
-        } else {
-            0
-        }
+        if column < COLUMNS { self.0[column] } else { 0 }
     }
 }
 
@@ -85,10 +81,13 @@ fn add_row(text: &mut Vec<u8>, row: &[u8], widths: &Widths) -> Result<(), AllocE
     for word in row.split(|byte| *byte == b' ') {
         add_spaces(text, due)?;
         text.extend_from_slice(word)?;
-        due = widths.width(column).saturating_sub(word.len()).saturating_add(2);
+        due = widths
+            .width(column)
+            .saturating_sub(word.len())
+            .saturating_add(2);
         column = column.saturating_add(1);
     }
-    text.push(LF)?;
+    text.push(LINE_END)?;
     Ok(())
 }
 
@@ -104,7 +103,7 @@ fn add_rows(text: &mut Vec<u8>, rows: &[&[u8]]) -> Result<(), AllocError> {
 // Adds a line that is no row.
 fn add_line(text: &mut Vec<u8>, line: &[u8]) -> Result<(), AllocError> {
     text.extend_from_slice(line)?;
-    text.push(LF)?;
+    text.push(LINE_END)?;
     Ok(())
 }
 
@@ -112,7 +111,7 @@ fn add_line(text: &mut Vec<u8>, line: &[u8]) -> Result<(), AllocError> {
 fn shown(alloc: Global, lines: &[u8]) -> Result<Vec<u8>, AllocError> {
     let mut text = Vec::new(alloc);
     let mut rows = Vec::new(alloc);
-    for line in lines.split(|byte| *byte == LF) {
+    for line in lines.split(|byte| *byte == LINE_END) {
         match line.strip_prefix(b"row ") {
             Some(row) => rows.push(row)?,
             None => {
@@ -155,7 +154,7 @@ impl<O: Outlet + Drop> ColumnOutlet<O> {
     fn pass(&mut self, given: &[u8]) -> bool
         ensures { self.new ≡ self.old }
     {
-        let Some(end) = given.iter().rposition(|byte| *byte == LF) else {
+        let Some(end) = given.iter().rposition(|byte| *byte == LINE_END) else {
             return self.cut.extend_from_slice(given).is_ok();
         };
         if self.cut.extend_from_slice(&given[..end]).is_err() {

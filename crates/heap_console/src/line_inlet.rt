@@ -1,6 +1,6 @@
 //! An inlet that gives a file line by line, and reports the lines that were refused.
 ghost use Rattle.std.specs.Prelude.{◌≡◌, ◌<◌, ◌≤◌, length};
-ghost use Rattle.heap_console.specs.Lines.{IsGiven};
+ghost use Rattle.heap_console.specs.Lines.{IsLineGiven};
 
 use dump_pump::ledger::note_bytes;
 use http_server::Log;
@@ -13,7 +13,7 @@ use std::marker::Model;
 use std::str;
 
 // The byte at the end of a line.
-const LF: u8 = b'\n';
+const LINE_END: u8 = b'\n';
 
 // An inlet over a file, which gives at most a line at a read. So all lines before were answered when it is asked again, and it
 // reports the last of them on standard error if that was refused. Contracts see the bytes that it gave.
@@ -52,7 +52,7 @@ fn copy_line(bytes: &[u8], room: &mut [u8]) -> usize
     ensures count { (0 < result) × (result ≤ length room.old) }
     ensures room { length room.new ≡ length room.old }
 {
-    let line = match bytes.iter().position(|byte| *byte == LF) {
+    let line = match bytes.iter().position(|byte| *byte == LINE_END) {
         Some(end) => end + 1,
         None => bytes.len(),
     };
@@ -95,7 +95,9 @@ impl<F: Read + Drop, R: Eprint> LineInlet<'_, F, R> {
             return;
         }
         let (name, number) = (self.name, self.number);
-        let text = str::from_utf8(self.line.as_slice()).unwrap_or("").trim_end();
+        let text = str::from_utf8(self.line.as_slice())
+            .unwrap_or("")
+            .trim_end();
         let _ = if refusal == BAD_COMMAND {
             eprintln!(self.rt; "heapdbg: {name}:{number}: bad command: {text}")
         } else {
@@ -112,7 +114,7 @@ impl<F: Read + Drop, R: Eprint> LineInlet<'_, F, R> {
     // Keeps a part of a line, if there is memory for it, and counts the line if it begins here.
     fn keep(&mut self, part: &[u8]) {
         let is_begun = match self.line.last() {
-            Some(last) => *last != LF,
+            Some(last) => *last != LINE_END,
             None => self.number > 0,
         };
         if !is_begun {
@@ -127,7 +129,7 @@ impl<F: Read + Drop, R: Eprint> LineInlet<'_, F, R> {
     // Reads at most a line to the front of a room.
     fn read_line(&mut self, room: &mut [u8]) -> Take
         requires { 0 < length room.old }
-        ensures taken { IsGiven room.new result }
+        ensures taken { IsLineGiven room.new result }
         ensures room { length room.new ≡ length room.old }
         ensures unchanged { self.new ≡ self.old }
     {

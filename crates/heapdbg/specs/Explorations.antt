@@ -18,9 +18,9 @@ abbrev pub IsOpening : Settings → Asking → Type 0
 IsOpening s c = c.local.machine ≡ opening_machine s.ids s.regions s.mutators s.keep
 
 -- a session as it begins: over a heap as it begins, or as the lines of a file left it, which were run first
-abbrev pub IsBegun : Bool → Settings → Asking → Type 0
-IsBegun false s c = IsOpening s c
-IsBegun true s c = (b : Asking) × (ended : Ended) × IsOpening s b × IsLoaded s.time b c ended
+abbrev pub IsSessionBegun : Bool → Settings → Asking → Type 0
+IsSessionBegun false s c = IsOpening s c
+IsSessionBegun true s c = (b : Asking) × (ended : Ended) × IsOpening s b × IsLoaded s.time b c ended
 
 -- why a session doesn't begin: no memory, or the file of lines can't be opened
 abbrev pub IsHindrance : Bool → Fault → Type 0
@@ -32,7 +32,7 @@ abbrev pub IsExplored : Bool → Settings → Incoming → Incoming → Outgoing
     → Result (Unit {0}) Fault
     → Type 0
 IsExplored from s a b w w' result =
-    ((ended : Ended) × (c : Asking) × (left : Asking) × IsBegun from s c
+    ((ended : Ended) × (c : Asking) × (left : Asking) × IsSessionBegun from s c
     × ServesAsking s.time a b c w left w' ended
     × EndsSession a b w w' ended × (result ≡ outcome_of ended))
     ⊎ ((f : Fault) × IsHindrance from f × (result ≡ Err f) × (b ≡ a) × (w' ≡ w))

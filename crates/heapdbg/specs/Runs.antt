@@ -41,9 +41,9 @@ IsDrawingOutcome (Ok done) result =
 
 -- a session over a heap with these settings as it begins, and a picture of what it left, if it ended well; or the heap couldn't
 -- be allocated, and nothing is read or written
-abbrev pub IsDrawn : Settings → Incoming → Incoming → Outgoing → Outgoing
+abbrev pub IsSessionDrawn : Settings → Incoming → Incoming → Outgoing → Outgoing
     → Result (Unit {0}) Fault → Type 0
-IsDrawn s a b w w' result =
+IsSessionDrawn s a b w w' result =
     ((ended : Ended) × (left : Machine)
     × IsSession (opening_machine s.ids s.regions s.mutators s.keep) s.time a b w w' left ended
     × EndsSession a b w w' ended × IsDrawingOutcome (outcome_of ended) result)
@@ -60,7 +60,7 @@ abbrev pub IsTaskDone : Task → Settings → Incoming → Incoming → Outgoing
     → Result (Unit {0}) Fault → Type 0
 IsTaskDone Run s a b w w' result = IsRun s a b w w' result
 IsTaskDone (Explore from) s a b w w' result = IsExplored from s a b w w' result
-IsTaskDone Draw s a b w w' result = IsDrawn s a b w w' result
+IsTaskDone Draw s a b w w' result = IsSessionDrawn s a b w w' result
 IsTaskDone (Save Out) s a b w w' result = IsSavedOut s a b w w' result
 IsTaskDone (Save (To port)) s a b w w' result = IsSavedTo fault.Connect s a b w w' result
 IsTaskDone (Serve port sessions workers dumps) s a b w w' result =

@@ -1,7 +1,7 @@
 //! A session, and a picture of the regions of the state that it leaves.
 ghost use Rattle.std.specs.Prelude.{◌≡◌, ◌⊎◌, Ok, Err};
 ghost use Rattle.heap_world.specs.Limits.{AreHeapSettings};
-ghost use Rattle.heapdbg.specs.Runs.{IsDrawingOutcome, IsDrawn};
+ghost use Rattle.heapdbg.specs.Runs.{IsDrawingOutcome, IsSessionDrawn};
 
 use crate::command_line::path_option;
 use crate::failure::{Fault, outcome};
@@ -26,7 +26,7 @@ pub fn draw<R: Files, I: Inlet, O: Outlet>(
     writer: &mut O,
 ) -> Result<(), Fault>
     requires { AreHeapSettings settings.now.regions settings.now.mutators settings.now.keep }
-    ensures { IsDrawn settings.now (I.seen reader.old) (I.seen reader.new) (O.seen writer.old)
+    ensures { IsSessionDrawn settings.now (I.seen reader.old) (I.seen reader.new) (O.seen writer.old)
         (O.seen writer.new) result }
 {
     match Machine::new(alloc, config(settings)) {

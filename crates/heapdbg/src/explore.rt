@@ -1,7 +1,7 @@
 //! A session with questions.
 ghost use Rattle.std.specs.Prelude.{◌≡◌, false, true, IfErr, IfOk};
 ghost use Rattle.heap_world.specs.Limits.{AreHeapSettings};
-ghost use Rattle.heapdbg.specs.Explorations.{IsBegun, IsExplored, IsHindrance, IsOpening};
+ghost use Rattle.heapdbg.specs.Explorations.{IsSessionBegun, IsExplored, IsHindrance, IsOpening};
 
 use crate::command_line::path_option;
 use crate::failure::{Fault, outcome};
@@ -34,13 +34,7 @@ pub fn explore<R: Eprint + Files, I: Inlet, O: Outlet>(
         (O.seen writer.old) (O.seen writer.new) result }
 {
     match begin(rt, alloc, words, settings, from, watch) {
-        Ok(mut asking) => outcome(serve_asking(
-            alloc,
-            reader,
-            writer,
-            &mut asking,
-            settings.time,
-        )),
+        Ok(mut asking) => outcome(serve_asking(alloc, reader, writer, &mut asking, settings.time)),
         Err(fault) => Err(fault),
     }
 }
@@ -55,7 +49,7 @@ fn begin<'a, R: Eprint + Files>(
     watch: &'a Watch,
 ) -> Result<Asking<'a>, Fault>
     requires { AreHeapSettings settings.now.regions settings.now.mutators settings.now.keep }
-    ensures begun { IfOk result (IsBegun from settings.now) }
+    ensures begun { IfOk result (IsSessionBegun from settings.now) }
     ensures hindrance { IfErr result (IsHindrance from) }
 {
     let asking = open(alloc, settings, watch)?;
@@ -90,7 +84,7 @@ fn load<'a, R: Eprint + Files>(
     mut asking: Asking<'a>,
 ) -> Result<Asking<'a>, Fault>
     requires { IsOpening settings.now asking.entry }
-    ensures begun { IfOk result (IsBegun true settings.now) }
+    ensures begun { IfOk result (IsSessionBegun true settings.now) }
     ensures hindrance { IfErr result (IsHindrance true) }
 {
     let Ok(line) = borrow_words(alloc, words) else {

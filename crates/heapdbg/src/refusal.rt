@@ -49,7 +49,8 @@ impl Mistake {
         ensures { result.now ≡ mistake_of self }
     {
         match self {
-            Mistake::Command => "heapdbg takes one of run, explore, draw, save, serve, ask and fetch",
+            Mistake::Command =>
+                "heapdbg takes one of run, explore, draw, save, serve, ask and fetch",
             Mistake::Regions => "--regions takes 1 to 256",
             Mistake::Mutators => "--mutators takes 1 to 16",
             Mistake::Keep => "--keep takes 1 to 65536",

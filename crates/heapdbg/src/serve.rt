@@ -9,7 +9,9 @@ use crate::failure::Fault;
 use crate::settings::{Settings, config};
 use dump_pump::Outlet;
 use dump_server::DumpListener;
-use heap_server::{Ports, Served, serve_heap, serve_tended_heap, tell_sessions, users, workers_and_users};
+use heap_server::{
+    Ports, Served, serve_heap, serve_tended_heap, tell_sessions, users, workers_and_users,
+};
 use session_text::write_all;
 use std::alloc::Global;
 use std::net::{Ipv4Addr, Net, TcpListener, TcpStream};
@@ -144,7 +146,10 @@ where
 }
 
 // Listens on a port. Fails with Listen.
-fn listener<R: Net<Listener = TcpListener, Stream = TcpStream>>(rt: &R, port: u16) -> Result<TcpListener, Fault>
+fn listener<R: Net<Listener = TcpListener, Stream = TcpStream>>(
+    rt: &R,
+    port: u16,
+) -> Result<TcpListener, Fault>
     ensures { IfErr result (λ f. f ≡ Listen) }
 {
     match TcpListener::bind(rt, (Ipv4Addr::LOCALHOST, port)) {
@@ -154,7 +159,10 @@ fn listener<R: Net<Listener = TcpListener, Stream = TcpStream>>(rt: &R, port: u1
 }
 
 // Listens on the port for dumps. Fails with Listen.
-fn dump_listener<R: Net<Listener = TcpListener, Stream = TcpStream>>(rt: &R, port: u16) -> Result<DumpListener, Fault>
+fn dump_listener<R: Net<Listener = TcpListener, Stream = TcpStream>>(
+    rt: &R,
+    port: u16,
+) -> Result<DumpListener, Fault>
     ensures { IfErr result (λ f. f ≡ Listen) }
 {
     match DumpListener::new(listener(rt, port)?) {

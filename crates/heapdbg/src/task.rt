@@ -146,8 +146,24 @@ where
             explore(rt, alloc, words, asked, from, screen.watch, reader, writer)
         }
         Task::Draw => draw(rt, alloc, words, asked, reader, writer),
-        Task::Save(Target::Out) => save_named(rt, alloc, words, asked, reader, writer, screen.is_terminal),
-        Task::Save(Target::To(to)) => save_to(rt, alloc, asked, to, reader, writer, screen.is_terminal),
+        Task::Save(Target::Out) => save_named(
+            rt,
+            alloc,
+            words,
+            asked,
+            reader,
+            writer,
+            screen.is_terminal,
+        ),
+        Task::Save(Target::To(to)) => save_to(
+            rt,
+            alloc,
+            asked,
+            to,
+            reader,
+            writer,
+            screen.is_terminal,
+        ),
         Task::Serve {
             port,
             sessions,

@@ -15,7 +15,7 @@ pub(crate) const STEP: u64 = 12;
 
 // The cells that a stroke is for.
 #[derive(Clone, Copy, PartialEq, Eq)]
-pub(crate) enum Sort {
+pub(crate) enum CellSort {
     /// The free cells.
     Free,
     /// The cells whose objects have the colour of this number.
@@ -26,26 +26,26 @@ pub(crate) enum Sort {
     Marked,
 }
 
-impl Sort {
+impl CellSort {
     // Tells whether a cell is of this sort.
     fn has(self, regions: &Regions, palette: &Palette, at: ObjRef) -> bool {
         if !regions.has_object(at) {
-            return self == Sort::Free;
+            return self == CellSort::Free;
         }
         let (live, mark) = regions.bits(at);
         match self {
-            Sort::Free => false,
-            Sort::Colored(color) => palette.color_of(regions.kind(at)) == color,
-            Sort::Dead => !live,
-            Sort::Marked => live && mark,
+            CellSort::Free => false,
+            CellSort::Colored(color) => palette.color_of(regions.kind(at)) == color,
+            CellSort::Dead => !live,
+            CellSort::Marked => live && mark,
         }
     }
 
     // Returns how far below the middle of its row a stroke for these cells runs.
     fn drop_below(self) -> u64 {
         match self {
-            Sort::Free | Sort::Colored(_) | Sort::Dead => 0,
-            Sort::Marked => 4,
+            CellSort::Free | CellSort::Colored(_) | CellSort::Dead => 0,
+            CellSort::Marked => 4,
         }
     }
 }
@@ -60,7 +60,7 @@ fn add_cells(
     text: &mut Vec<u8>,
     regions: &Regions,
     palette: &Palette,
-    sort: Sort,
+    sort: CellSort,
     region: u64,
 ) -> Result<(), AllocError> {
     let Some(size) = regions.cell_size(region) else {
@@ -86,7 +86,7 @@ pub(crate) fn add_all_cells(
     text: &mut Vec<u8>,
     regions: &Regions,
     palette: &Palette,
-    sort: Sort,
+    sort: CellSort,
 ) -> Result<(), AllocError> {
     for region in 0..regions.count() {
         add_cells(text, regions, palette, sort, region)?;
@@ -105,7 +105,12 @@ pub(crate) fn add_gray(
             let region = at.region as u64;
             let size = regions.cell_size(region).unwrap_or(1);
             let x = LEFT.saturating_add(size.saturating_mul(at.cell as u64));
-            add_stroke(text, x, middle_of(region).saturating_sub(4), size.saturating_sub(1))?;
+            add_stroke(
+                text,
+                x,
+                middle_of(region).saturating_sub(4),
+                size.saturating_sub(1),
+            )?;
         }
     }
     Ok(())

@@ -21,7 +21,11 @@ pub(crate) struct Palette {
 impl Palette {
     // Gives a colour to each row of a histogram of `count` rows, of which `ranked` has the numbers, the largest first. Fails if an
     // allocation fails.
-    pub(crate) fn new(alloc: Global, count: usize, ranked: &[usize]) -> Result<Palette, AllocError> {
+    pub(crate) fn new(
+        alloc: Global,
+        count: usize,
+        ranked: &[usize],
+    ) -> Result<Palette, AllocError> {
         let mut colors = vec![in alloc; OTHER; count]?;
         let mut color = 0;
         for row in ranked {

@@ -11,7 +11,7 @@ use question_text::push_row_name;
 use std::alloc::{AllocError, Global};
 
 // The distance of two lines of the legend.
-pub(crate) const LINE: u64 = 16;
+pub(crate) const LEGEND_STEP: u64 = 16;
 
 /// The strokes of the legend beside those of classes: colour, width and meaning.
 const STROKES: [(&[u8], &[u8], &[u8]); 5] = [
@@ -26,12 +26,7 @@ const STROKES: [(&[u8], &[u8], &[u8]); 5] = [
 pub(crate) const OTHER_LINES: u64 = 5;
 
 // Appends a stroke of the legend, and the beginning of the text beside it.
-fn add_sample(
-    text: &mut Vec<u8>,
-    y: u64,
-    color: &[u8],
-    width: &[u8],
-) -> Result<(), AllocError> {
+fn add_sample(text: &mut Vec<u8>, y: u64, color: &[u8], width: &[u8]) -> Result<(), AllocError> {
     add_path_begin(text, color, width)?;
     add_stroke(text, LEFT, y.saturating_sub(4), 15)?;
     add_path_end(text)?;
@@ -50,7 +45,11 @@ pub(crate) fn add_row(
 ) -> Result<(), Refusal>
     requires { index < class_rows + length classes.now }
 {
-    let shade = if color < OTHER { COLORS[color] } else { COLORS[OTHER] };
+    let shade = if color < OTHER {
+        COLORS[color]
+    } else {
+        COLORS[OTHER]
+    };
     add_sample(text, y, shade, b"9")?;
     let mut name = Vec::new(alloc);
     push_row_name(&mut name, classes, index)?;
@@ -70,7 +69,7 @@ pub(crate) fn add_strokes(text: &mut Vec<u8>, y: u64) -> Result<(), AllocError> 
         add_sample(text, y, color, width)?;
         add(text, meaning)?;
         add(text, b"</text>\n")?;
-        y = y.saturating_add(LINE);
+        y = y.saturating_add(LEGEND_STEP);
     }
     Ok(())
 }

@@ -2,9 +2,11 @@
 ghost use Rattle.std.specs.Prelude.{◌≡◌, ◌+◌, All, ◌<◌, length};
 ghost use Rattle.heap_questions.specs.Histogram.{class_rows};
 
-use crate::cells::{LEFT, Sort, add_all_cells, add_gray, add_path_begin, add_path_end, middle_of};
+use crate::cells::{
+    CellSort, LEFT, add_all_cells, add_gray, add_path_begin, add_path_end, middle_of,
+};
 use crate::colors::{COLORS, OTHER, Palette};
-use crate::legend::{LINE, OTHER_LINES, add_row, add_strokes};
+use crate::legend::{LEGEND_STEP, OTHER_LINES, add_row, add_strokes};
 use crate::text::{add, add_number, add_text_at};
 use heap_class::{FirstClasses, Refusal};
 use heap_questions::{Row, count_by_class, ranking};
@@ -18,7 +20,8 @@ use std::alloc::{AllocError, Global};
 const WIDTH: u64 = 1_104;
 
 // The pattern of the cells of dead objects.
-const PATTERN: &[u8] = b"<defs><pattern id=\"dead\" width=\"4\" height=\"4\" patternUnits=\"userSpaceOnUse\">\
+const PATTERN: &[u8] =
+    b"<defs><pattern id=\"dead\" width=\"4\" height=\"4\" patternUnits=\"userSpaceOnUse\">\
     <path d=\"M0 4L4 0\" stroke=\"#000\" stroke-width=\"1\"/></pattern></defs>\n";
 
 // Appends the beginning of a picture of this height.
@@ -28,7 +31,10 @@ fn add_head(text: &mut Vec<u8>, height: u64) -> Result<(), AllocError> {
     add(text, b"\" height=\"")?;
     add_number(text, height)?;
     add(text, b"\" font-family=\"monospace\" font-size=\"11\">\n")?;
-    add(text, b"<rect width=\"100%\" height=\"100%\" fill=\"#fff\"/>\n")?;
+    add(
+        text,
+        b"<rect width=\"100%\" height=\"100%\" fill=\"#fff\"/>\n",
+    )?;
     add(text, PATTERN)
 }
 
@@ -65,7 +71,7 @@ fn add_sort(
     text: &mut Vec<u8>,
     regions: &Regions,
     palette: &Palette,
-    sort: Sort,
+    sort: CellSort,
     color: &[u8],
     width: &[u8],
 ) -> Result<(), AllocError> {
@@ -78,12 +84,19 @@ fn add_sort(
 fn add_regions(text: &mut Vec<u8>, world: &World, palette: &Palette) -> Result<(), AllocError> {
     let regions = world.regions();
     add_labels(text, regions)?;
-    add_sort(text, regions, palette, Sort::Free, b"#eeeeee", b"9")?;
+    add_sort(text, regions, palette, CellSort::Free, b"#eeeeee", b"9")?;
     for color in 0..COLORS.len() {
-        add_sort(text, regions, palette, Sort::Colored(color), COLORS[color], b"9")?;
+        add_sort(
+            text,
+            regions,
+            palette,
+            CellSort::Colored(color),
+            COLORS[color],
+            b"9",
+        )?;
     }
-    add_sort(text, regions, palette, Sort::Dead, b"url(#dead)", b"9")?;
-    add_sort(text, regions, palette, Sort::Marked, b"#000000", b"2")?;
+    add_sort(text, regions, palette, CellSort::Dead, b"url(#dead)", b"9")?;
+    add_sort(text, regions, palette, CellSort::Marked, b"#000000", b"2")?;
     add_path_begin(text, b"#e00000", b"2")?;
     add_gray(text, regions, world.gray())?;
     add_path_end(text)
@@ -107,7 +120,7 @@ fn add_rows(
         if color < OTHER {
             add_row(alloc, text, y, color, classes, *index, rows[*index])?;
             color += 1;
-            y = y.saturating_add(LINE);
+            y = y.saturating_add(LEGEND_STEP);
         }
     }
     Ok(())
@@ -129,14 +142,21 @@ pub fn picture_of(alloc: Global, machine: &Machine) -> Result<Vec<u8>, Refusal> 
     let rows = histogram.as_slice();
     let palette = Palette::new(alloc, rows.len(), ranked.as_slice())?;
     let world = machine.world();
-    let legend = middle_of(world.regions().count()).saturating_add(LINE);
-    let behind = legend.saturating_add(LINE.saturating_mul(class_lines(ranked.as_slice())));
-    let height = behind.saturating_add(LINE.saturating_mul(OTHER_LINES));
+    let legend = middle_of(world.regions().count()).saturating_add(LEGEND_STEP);
+    let behind = legend.saturating_add(LEGEND_STEP.saturating_mul(class_lines(ranked.as_slice())));
+    let height = behind.saturating_add(LEGEND_STEP.saturating_mul(OTHER_LINES));
     let mut text = Vec::new(alloc);
     add_head(&mut text, height)?;
     add_title(&mut text, machine.place(), rows)?;
     add_regions(&mut text, world, &palette)?;
-    add_rows(alloc, &mut text, legend, &view.classes(), rows, ranked.as_slice())?;
+    add_rows(
+        alloc,
+        &mut text,
+        legend,
+        &view.classes(),
+        rows,
+        ranked.as_slice(),
+    )?;
     add_strokes(&mut text, behind)?;
     add(&mut text, b"</svg>\n")?;
     Ok(text)

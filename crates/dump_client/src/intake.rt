@@ -1,6 +1,6 @@
 //! A dump that comes over a socket.
 ghost use Rattle.std.specs.Prelude.{◌≡◌};
-ghost use Rattle.dump_client.specs.Fetches.{IsFetched};
+ghost use Rattle.dump_client.specs.Fetches.{IsFetched, finish_of};
 
 use dump_scan::Scan;
 use dump_pump::Outlet;
@@ -50,33 +50,34 @@ pub fn fetch<R: Wait, I: Inlet, O: Outlet, W: Watcher>(
     let mut scan = Scan::new();
     let mut bytes: u64 = 0;
     for _ in rt.forever() {
-        let Take::Got(n) = inlet.take(&mut room) else {
-            return Fetched {
-                bytes,
-                finish: finish_of(&scan),
-            };
-        };
-        let put = put_all(outlet, &room[..n]);
-        bytes = bytes.saturating_add(put as u64);
-        watcher.show(bytes);
-        if put < n {
-            return Fetched {
-                bytes,
-                finish: Finish::WriteFault,
-            };
+        match inlet.take(&mut room) {
+            Take::Got(n) => {
+                let put = put_all(outlet, &room[..n]);
+                bytes = bytes.saturating_add(put as u64);
+                watcher.show(bytes);
+                if put < n {
+                    return Fetched {
+                        bytes,
+                        finish: Finish::WriteFault,
+                    };
+                }
+                scan.follow(&room[..n]);
+            }
+            Take::End => return end_fetch(bytes, &scan),
+            Take::Failed => return end_fetch(bytes, &scan),
         }
-        scan.follow(&room[..n]);
     }
     unreachable!()
 }
 
-// Returns how a fetch ended of which nothing more comes.
-fn finish_of(scan: &Scan) -> Finish
-    ensures { result ≡ finish_of scan.now }
+// Returns how a fetch ended that put out this many bytes, and of which nothing more comes.
+fn end_fetch(bytes: u64, scan: &Scan) -> Fetched
+    ensures { result ≡ record { bytes = bytes; finish = finish_of scan.now } }
 {
-    if scan.is_ended() {
+    let finish = if scan.is_ended() {
         Finish::Whole
     } else {
         Finish::Cut
-    }
+    };
+    Fetched { bytes, finish }
 }

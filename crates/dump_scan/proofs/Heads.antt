@@ -5,7 +5,7 @@ use Rattle.std.specs.Int.{w32, from_be_bytes}
 use Rattle.std.proofs.lemmas.List.{length-drop, length-append, length-take, take_more_set}
 use Rattle.std.proofs.lemmas.Bool.{le-leb, lt-leb, eq-eqb, ne_eqb}
 use Rattle.dump_scan.specs.Records.{are_records, body_size, completes, end_tag, ends_in_records}
-use Rattle.dump_scan.specs.declared.scan.Scan.{Scan}
+use Rattle.dump_scan.specs.declared.front.Front.{Front}
 use Rattle.dump_scan.specs.declared.scan.Scan.TheVariants.{Within, Head, Ended, Broken}
 
 -- the number of records that is allowed doesn't matter, if it is as large as the text
@@ -63,42 +63,68 @@ records_after a b c d e f g h i rest =
 
 -- ---- one byte more
 
--- a whole head has come
-pub head_full : (head : List ℕ) (count byte : ℕ) (rest : List ℕ) → length head ≡ 8 → 8 ≤ count
-    → completes (Head head count) (byte ∷ rest) ≡ after (slice_index head 0) (from_be_bytes w32 (slice_index head 5 ∷ slice_index head 6 ∷ slice_index head 7 ∷ byte ∷ [])) rest
-unfolding completes
-head_full [] count byte rest size full = absurd (omega (arith, size))
-head_full (a ∷ []) count byte rest size full = absurd (omega (arith, size))
-head_full (a ∷ b ∷ []) count byte rest size full = absurd (omega (arith, size))
-head_full (a ∷ b ∷ c ∷ []) count byte rest size full = absurd (omega (arith, size))
-head_full (a ∷ b ∷ c ∷ d ∷ []) count byte rest size full = absurd (omega (arith, size))
-head_full (a ∷ b ∷ c ∷ d ∷ e ∷ []) count byte rest size full = absurd (omega (arith, size))
-head_full (a ∷ b ∷ c ∷ d ∷ e ∷ f ∷ []) count byte rest size full = absurd (omega (arith, size))
-head_full (a ∷ b ∷ c ∷ d ∷ e ∷ f ∷ g ∷ []) count byte rest size full = absurd (omega (arith, size))
-head_full (a ∷ b ∷ c ∷ d ∷ e ∷ f ∷ g ∷ h ∷ []) count byte rest size full =
-    let all : min count 8 ≡ 8 = omega (arith, full) in
+full : (head : List ℕ) (count byte : ℕ) (rest : List ℕ) → length head ≡ 8 → 8 ≤ count
+    → ends_in_records (take (min count 8) head ++ byte ∷ rest) ≡ after (slice_index head 0) (from_be_bytes w32 (slice_index head 5 ∷ slice_index head 6 ∷ slice_index head 7 ∷ byte ∷ [])) rest
+full [] count byte rest size enough = absurd (omega (arith, size))
+full (a ∷ []) count byte rest size enough = absurd (omega (arith, size))
+full (a ∷ b ∷ []) count byte rest size enough = absurd (omega (arith, size))
+full (a ∷ b ∷ c ∷ []) count byte rest size enough = absurd (omega (arith, size))
+full (a ∷ b ∷ c ∷ d ∷ []) count byte rest size enough = absurd (omega (arith, size))
+full (a ∷ b ∷ c ∷ d ∷ e ∷ []) count byte rest size enough = absurd (omega (arith, size))
+full (a ∷ b ∷ c ∷ d ∷ e ∷ f ∷ []) count byte rest size enough = absurd (omega (arith, size))
+full (a ∷ b ∷ c ∷ d ∷ e ∷ f ∷ g ∷ []) count byte rest size enough = absurd (omega (arith, size))
+full (a ∷ b ∷ c ∷ d ∷ e ∷ f ∷ g ∷ h ∷ []) count byte rest size enough =
+    let all : min count 8 ≡ 8 = omega (arith, enough) in
     ap (λ n. ends_in_records (take n (a ∷ b ∷ c ∷ d ∷ e ∷ f ∷ g ∷ h ∷ []) ++ byte ∷ rest)) all ∙ records_after a b c d e f g h byte rest
-head_full (a ∷ b ∷ c ∷ d ∷ e ∷ f ∷ g ∷ h ∷ i ∷ more) count byte rest size full = absurd (omega (arith, size))
+full (a ∷ b ∷ c ∷ d ∷ e ∷ f ∷ g ∷ h ∷ i ∷ more) count byte rest size enough = absurd (omega (arith, size))
+
+-- the size of the body of a record whose head ends in this byte
+abbrev size_by : Front → ℕ → ℕ
+size_by front byte = from_be_bytes w32 (slice_index front.bytes 5 ∷ slice_index front.bytes 6 ∷ slice_index front.bytes 7 ∷ byte ∷ [])
+
+-- a whole head has come: a body follows, or the end has come, or what is no end
+pub body_follows : (front : Front) (byte size : ℕ) (rest : List ℕ) → 8 ≤ front.count → (slice_index front.bytes 0 ≡ end_tag → ⊥) → size ≡ size_by front byte
+    → completes (Head front) (byte ∷ rest) ≡ completes (Within size) rest
+unfolding completes
+body_follows front byte size rest enough other is =
+    full front.bytes front.count byte rest front.sized enough ∙ ap (λ b. if b then (size_by front byte == 0) && (length rest == 0) else ends_in_records (drop (size_by front byte) rest)) (ne_eqb (slice_index front.bytes 0) end_tag other)
+    ∙ ap (λ n. ends_in_records (drop n rest)) (sym is)
+
+pub end_came : (front : Front) (byte size : ℕ) (rest : List ℕ) → 8 ≤ front.count → slice_index front.bytes 0 ≡ end_tag → size ≡ size_by front byte → size ≡ 0
+    → completes (Head front) (byte ∷ rest) ≡ completes Ended rest
+unfolding completes
+end_came front byte size rest enough end is empty =
+    full front.bytes front.count byte rest front.sized enough ∙ ap (λ b. if b then (size_by front byte == 0) && (length rest == 0) else ends_in_records (drop (size_by front byte) rest)) (eq-eqb (slice_index front.bytes 0) end_tag end)
+    ∙ ap (λ b. b && (length rest == 0)) (eq-eqb (size_by front byte) 0 (sym is ∙ empty))
+
+pub no_end_came : (front : Front) (byte size : ℕ) (rest : List ℕ) → 8 ≤ front.count → slice_index front.bytes 0 ≡ end_tag → size ≡ size_by front byte → (size ≡ 0 → ⊥)
+    → completes (Head front) (byte ∷ rest) ≡ completes Broken rest
+unfolding completes
+no_end_came front byte size rest enough end is some =
+    full front.bytes front.count byte rest front.sized enough ∙ ap (λ b. if b then (size_by front byte == 0) && (length rest == 0) else ends_in_records (drop (size_by front byte) rest)) (eq-eqb (slice_index front.bytes 0) end_tag end)
+    ∙ ap (λ b. b && (length rest == 0)) (ne_eqb (size_by front byte) 0 (λ e. some (is ∙ e)))
 
 -- a part of a head has come
-pub head_more : (head : List ℕ) (count byte : ℕ) (rest : List ℕ) → length head ≡ 8 → count < 8
-    → completes (Head head count) (byte ∷ rest) ≡ completes (Head (slice_set head count byte) (count + 1)) rest
+pub head_more : (front : Front) (byte : ℕ) (rest : List ℕ) (sized : length (slice_set front.bytes front.count byte) ≡ 8) → front.count < 8
+    → completes (Head front) (byte ∷ rest) ≡ completes (Head (record { bytes = slice_set front.bytes front.count byte; count = front.count + 1; sized = sized })) rest
 unfolding completes
-head_more head count byte rest size part =
-    let here : min count 8 ≡ count = omega (arith, part) in
-    let there : min (count + 1) 8 ≡ count + 1 = omega (arith, part) in
-    ap (λ n. ends_in_records (take n head ++ byte ∷ rest)) here ∙ ap ends_in_records (sym (append_assoc (take count head) (byte ∷ []) rest))
-    ∙ ap (λ l. ends_in_records (l ++ rest)) (sym (take_more_set head count byte (omega (arith, part, size))))
-    ∙ ap (λ n. ends_in_records (take n (slice_set head count byte) ++ rest)) (sym there)
+head_more front byte rest sized part =
+    let here : min front.count 8 ≡ front.count = omega (arith, part) in
+    let there : min (front.count + 1) 8 ≡ front.count + 1 = omega (arith, part) in
+    ap (λ n. ends_in_records (take n front.bytes ++ byte ∷ rest)) here ∙ ap ends_in_records (sym (append_assoc (take front.count front.bytes) (byte ∷ []) rest))
+    ∙ ap (λ l. ends_in_records (l ++ rest)) (sym (take_more_set front.bytes front.count byte (omega (arith, part, front.sized))))
+    ∙ ap (λ n. ends_in_records (take n (slice_set front.bytes front.count byte) ++ rest)) (sym there)
 
-pub within_more : (left byte : ℕ) (rest : List ℕ) → (left ≡ 0 → ⊥) → completes (Within left) (byte ∷ rest) ≡ completes (Within (left - 1)) rest
+pub within_more : (left byte : ℕ) (rest : List ℕ) → 0 < left → completes (Within left) (byte ∷ rest) ≡ completes (Within (left - 1)) rest
 unfolding completes
-within_more zero byte rest some = absurd (some refl)
+within_more zero byte rest some = absurd (omega (arith, some))
 within_more (suc n) byte rest some = let less : n ≡ suc n - 1 = omega arith in ap (λ k. ends_in_records (drop k rest)) less
 
-pub begins_head : (byte : ℕ) (rest : List ℕ) → completes (Within 0) (byte ∷ rest) ≡ completes (Head (byte ∷ 0 ∷ 0 ∷ 0 ∷ 0 ∷ 0 ∷ 0 ∷ 0 ∷ []) 1) rest
+pub begins_head : (left byte : ℕ) (rest : List ℕ) (sized : length (byte ∷ 0 ∷ 0 ∷ 0 ∷ 0 ∷ 0 ∷ 0 ∷ 0 ∷ []) ≡ 8) → left ≤ 0
+    → completes (Within left) (byte ∷ rest) ≡ completes (Head (record { bytes = byte ∷ 0 ∷ 0 ∷ 0 ∷ 0 ∷ 0 ∷ 0 ∷ 0 ∷ []; count = 1; sized = sized })) rest
 unfolding completes
-begins_head byte rest = refl
+begins_head zero byte rest sized none = refl
+begins_head (suc n) byte rest sized none = absurd (omega (arith, none))
 
 pub past_end : (byte : ℕ) (rest : List ℕ) → completes Ended (byte ∷ rest) ≡ completes Broken rest
 unfolding completes
@@ -115,11 +141,11 @@ unfolding completes
 within_cut zero = sym (none [])
 within_cut (suc n) = sym (none [])
 
-pub head_cut : (head : List ℕ) (count : ℕ) → false ≡ completes (Head head count) []
+pub head_cut : (front : Front) → false ≡ completes (Head front) []
 unfolding completes
-head_cut head count =
-    let text = take (min count 8) head ++ [] in
-    sym (short (length text) text (omega (arith, length-append (take (min count 8) head) [], length-take (min count 8) head)))
+head_cut front =
+    let text = take (min front.count 8) front.bytes ++ [] in
+    sym (short (length text) text (omega (arith, length-append (take (min front.count 8) front.bytes) [], length-take (min front.count 8) front.bytes)))
 
 pub broken_cut : false ≡ completes Broken []
 unfolding completes

@@ -45,6 +45,7 @@ is_whole_dump text = ends_in_records (drop header_size text)
 -- after what has come, these bytes make the dump whole
 unfoldable pub completes : Scan → List ℕ → Bool
 completes (Within left) rest = ends_in_records (drop left rest)
-completes (Head head count) rest = ends_in_records (take (min count head_room) head ++ rest)
+completes (Head front) rest =
+    ends_in_records (take (min front.count head_room) front.bytes ++ rest)
 completes Ended rest = length rest == 0
 completes Broken rest = false

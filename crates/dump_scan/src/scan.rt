@@ -1,6 +1,8 @@
 //! The records of a dump, followed byte by byte.
-ghost use Rattle.std.specs.Prelude.{◌≡◌, ◌<◌, ◌≤◌, ◌∷◌, ◌++◌, [], ℕ, List};
-ghost use Rattle.dump_scan.specs.Records.{completes, header_size, head_size};
+ghost use Rattle.std.specs.Prelude.{◌≡◌, ◌∷◌, ◌++◌, [], ℕ, List};
+ghost use Rattle.dump_scan.specs.Records.{completes, header_size};
+
+use crate::front::{Front, HEAD_ROOM};
 
 /// The tag of HEAP DUMP END.
 const END_TAG: u8 = 0x2c;
@@ -8,16 +10,13 @@ const END_TAG: u8 = 0x2c;
 /// The size of the header of a dump in bytes.
 const HEADER_SIZE: u64 = 31;
 
-/// The size in bytes of a record's head, less its last byte.
-const HEAD_ROOM: usize = 8;
-
 /// How far a dump has come.
-#[derive(Clone, Copy, Debug)]
+#[derive(Clone, Copy)]
 pub enum Scan {
     /// This many bytes are left of the header or of a record's body, and then a record begins.
     Within(u64),
-    /// The first bytes of a record's head have come: this many of these.
-    Head([u8; HEAD_ROOM], usize),
+    /// The front of a record's head has come.
+    Head(Front),
     /// The last record has come, and nothing after it.
     Ended,
     /// It is no dump.
@@ -48,7 +47,7 @@ impl Scan {
         match self {
             Scan::Ended => true,
             Scan::Within(_) => false,
-            Scan::Head(_, _) => false,
+            Scan::Head(_) => false,
             Scan::Broken => false,
         }
     }
@@ -58,26 +57,41 @@ impl Scan {
         ensures { (rest : List ℕ) → completes self (byte ∷ rest) ≡ completes result rest }
     {
         match self {
-            Scan::Within(0) => Scan::Head([byte, 0, 0, 0, 0, 0, 0, 0], 1),
-            Scan::Within(left) => Scan::Within(left - 1),
-            Scan::Head(head, count) => after_head(head, count, byte),
+            Scan::Within(left) => after_byte(left, byte),
+            Scan::Head(front) => after_front(front, byte),
             Scan::Ended => Scan::Broken,
             Scan::Broken => Scan::Broken,
         }
     }
 }
 
-// Returns the scan after one byte more of a head.
-fn after_head(head: [u8; HEAD_ROOM], count: usize, byte: u8) -> Scan
-    ensures { (rest : List ℕ) → completes (Scan.Head head count) (byte ∷ rest) ≡ completes result rest }
+// Returns the scan after one byte more of the header or of a body of which this many bytes are left, or of the next head.
+fn after_byte(left: u64, byte: u8) -> Scan
+    ensures { (rest : List ℕ) → completes (Scan.Within left) (byte ∷ rest) ≡ completes result rest }
 {
-    if count < HEAD_ROOM {
-        let mut head = head;
-        head[count] = byte;
-        return Scan::Head(head, count + 1);
+    if left > 0 {
+        return Scan::Within(left - 1);
     }
-    let size = u32::from_be_bytes([head[5], head[6], head[7], byte]);
-    if head[0] != END_TAG {
+    Scan::Head(Front {
+        bytes: [byte, 0, 0, 0, 0, 0, 0, 0],
+        count: 1,
+    })
+}
+
+// Returns the scan after one byte more of a head.
+fn after_front(front: Front, byte: u8) -> Scan
+    ensures { (rest : List ℕ) → completes (Scan.Head front) (byte ∷ rest) ≡ completes result rest }
+{
+    let Front { mut bytes, count } = front;
+    if count < HEAD_ROOM {
+        bytes[count] = byte;
+        return Scan::Head(Front {
+            bytes,
+            count: count + 1,
+        });
+    }
+    let size = u32::from_be_bytes([bytes[5], bytes[6], bytes[7], byte]);
+    if bytes[0] != END_TAG {
         return Scan::Within(size as u64);
     }
     if size == 0 { Scan::Ended } else { Scan::Broken }

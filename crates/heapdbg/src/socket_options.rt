@@ -1,8 +1,8 @@
 //! The command lines of the tasks over sockets.
-ghost use Rattle.std.specs.Prelude.{◌≡◌, None, Some, codes, false, IfErr, IfOk};
+ghost use Rattle.std.specs.Prelude.{◌≡◌, None, Some, codes, false, option_and_then, IfErr, IfOk};
 ghost use Rattle.clap.specs.Words.{app_of, first_of, found_of, rows_of, rule_of};
 ghost use Rattle.clap.specs.declared.builder.Command.TheViews.{out-Command};
-ghost use Rattle.heapdbg.specs.CommandLine.{ask_in, ask_line, dumps_with, fetch_in, fetch_line, number_in, out_option, other_port, port_in, port_limit, port_option, serve_in, serve_line};
+ghost use Rattle.heapdbg.specs.CommandLine.{ask_in, ask_line, dumps_with, fetch_in, fetch_line, number_in, other_port, port_in, port_limit, port_option, serve_in, serve_line};
 ghost use Rattle.heapdbg.specs.Refusals.{IsMistakeIn};
 
 use crate::command_line::{number, option_value, path_arg, session_parser, value_arg};
@@ -111,8 +111,18 @@ fn dumps(options: &ArgMatches<'_>, port: u16) -> Option<Option<u16>>
     ensures { result ≡ dumps_with port (first_of (codes "dumps") (rows_of (found_of options.now))) }
 {
     match options.get_str("dumps") {
-        Some(text) => other_port(port, port_of(text)?),
+        Some(text) => port_beside(port, text),
         None => Some(None),
+    }
+}
+
+// Returns the port for dumps that a text writes beside that of the sessions.
+fn port_beside(port: u16, text: &str) -> Option<Option<u16>>
+    ensures { result ≡ option_and_then (other_port port) (number_in 1 port_limit text.now) }
+{
+    match port_of(text) {
+        Some(dumps) => other_port(port, dumps),
+        None => None,
     }
 }
 

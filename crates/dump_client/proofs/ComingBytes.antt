@@ -8,7 +8,7 @@ use Rattle.session_text.specs.Inlets.{Incoming, NothingLeft, whole}
 use Rattle.dump_scan.specs.Records.{completes, is_whole_dump}
 use Rattle.dump_scan.specs.declared.scan.Scan.{Scan}
 use Rattle.dump_scan.specs.declared.scan.Scan.TheVariants.{Within}
-use Rattle.dump_client.specs.Fetches.{EndsFetch, IsFetched, IsOver, finish_of, told_limit}
+use Rattle.dump_client.specs.Fetches.{EndsFetch, IsFetched, HasCome, finish_of, told_limit}
 use Rattle.dump_client.specs.declared.intake.Finish.{Finish}
 use Rattle.dump_client.specs.declared.intake.Finish.TheVariants.{Whole, Cut, WriteFault}
 
@@ -81,7 +81,7 @@ broke_off a b c w w1 w2 scan bytes bytes2 more n k i taken fine keeps size put l
   ends = put.3 (omega (arith, less, size)) ∙ ap (λ m. m + 1) i.written;
 }
 
-finished : (came : List ℕ) (a b : Incoming) (w w' : Outgoing) (scan : Scan) → is_whole_dump came ≡ completes scan [] → IsOver a b → w'.failures ≡ w.failures → EndsFetch came came a b w w' (finish_of scan)
+finished : (came : List ℕ) (a b : Incoming) (w w' : Outgoing) (scan : Scan) → is_whole_dump came ≡ completes scan [] → HasCome a b → w'.failures ≡ w.failures → EndsFetch came came a b w w' (finish_of scan)
 finished came a b w w' scan is over fine = go (completes scan []) refl
   where
     go : (t : Bool) → completes scan [] ≡ t → EndsFetch came came a b w w' (if t then Whole else Cut)
@@ -89,7 +89,7 @@ finished came a b w w' scan is over fine = go (completes scan []) refl
     go false e = (refl, is ∙ e, over, fine)
 
 -- nothing more comes
-over : (a b c : Incoming) (w w1 : Outgoing) (scan : Scan) (bytes : ℕ) → IsComing a b w w1 scan bytes → IsOver a c → c.taken ≡ b.taken → Keeps (whole b) (whole c)
+over : (a b c : Incoming) (w w1 : Outgoing) (scan : Scan) (bytes : ℕ) → IsComing a b w w1 scan bytes → HasCome a c → c.taken ≡ b.taken → Keeps (whole b) (whole c)
     → IsFetched a c w w1 (record { bytes = bytes; finish = finish_of scan })
 over a b c w w1 scan bytes i no_more taken keeps = record {
   came = i.came;

@@ -20,15 +20,15 @@ abbrev pub finish_of : Scan → Finish
 finish_of scan = if completes scan [] then Whole else Cut
 
 -- nothing is left, or a read failed
-abbrev pub IsOver : Incoming → Incoming → Type 0
-IsOver a b = NothingLeft b ⊎ (b.failures ≡ a.failures + 1)
+abbrev pub HasCome : Incoming → Incoming → Type 0
+HasCome a b = NothingLeft b ⊎ (b.failures ≡ a.failures + 1)
 
 -- these bytes came and these were put out: all of them, once no more came, unless a write failed
 abbrev pub EndsFetch : List ℕ → List ℕ → Incoming → Incoming → Outgoing → Outgoing → Finish → Type 0
 EndsFetch came put a b w w' Whole =
-    (put ≡ came) × (is_whole_dump came ≡ true) × IsOver a b × (w'.failures ≡ w.failures)
+    (put ≡ came) × (is_whole_dump came ≡ true) × HasCome a b × (w'.failures ≡ w.failures)
 EndsFetch came put a b w w' Cut =
-    (put ≡ came) × (is_whole_dump came ≡ false) × IsOver a b × (w'.failures ≡ w.failures)
+    (put ≡ came) × (is_whole_dump came ≡ false) × HasCome a b × (w'.failures ≡ w.failures)
 EndsFetch came put a b w w' WriteFault = w'.failures ≡ w.failures + 1
 
 -- bytes were taken, and a beginning of them was put out
@@ -45,11 +45,11 @@ pub record IsFetched (a b : Incoming) (w w' : Outgoing) (r : Fetched) : Type 0 w
 -- ---- the last line
 
 -- the word for the end of a fetch, and a space
-abbrev pub first_word : Finish → List ℕ
-first_word Whole = codes "fetched "
-first_word Cut = codes "cut "
-first_word WriteFault = codes "failed "
+abbrev pub finish_word : Finish → List ℕ
+finish_word Whole = codes "fetched "
+finish_word Cut = codes "cut "
+finish_word WriteFault = codes "failed "
 
 -- the last line of a fetch
-abbrev pub last_line : Fetched → List ℕ
-last_line r = first_word r.finish ++ line (decimal r.bytes)
+abbrev pub fetch_line_of : Fetched → List ℕ
+fetch_line_of r = finish_word r.finish ++ line (decimal r.bytes)

@@ -9,7 +9,7 @@ use session_text::{Inlet, Take};
 use std::sync::Wait;
 
 /// The most bytes that are taken at once.
-pub const ROOM: usize = 4096;
+pub const PIECE: usize = 4096;
 
 /// How a fetch ended.
 #[derive(Clone, Copy, PartialEq, Eq, Debug)]
@@ -46,7 +46,7 @@ pub fn fetch<R: Wait, I: Inlet, O: Outlet, W: Watcher>(
     ensures { IsFetched (I.seen inlet.old) (I.seen inlet.new) (O.seen outlet.old) (O.seen outlet.new)
         result }
 {
-    let mut room = [0u8; ROOM];
+    let mut room = [0u8; PIECE];
     let mut scan = Scan::new();
     let mut bytes: u64 = 0;
     for _ in rt.forever() {

@@ -2,7 +2,7 @@
 ghost use Rattle.std.specs.Prelude.{◌≡◌, ◌++◌, decimal};
 ghost use Rattle.session_text.specs.Replies.{line};
 ghost use Rattle.session_text.specs.Writes.{IsTextWritten};
-ghost use Rattle.dump_client.specs.Fetches.{first_word, last_line};
+ghost use Rattle.dump_client.specs.Fetches.{finish_word, fetch_line_of};
 
 use crate::intake::{Fetched, Finish};
 use dump_pump::Outlet;
@@ -19,8 +19,8 @@ fn write_number<O: Outlet>(writer: &mut O, number: u64) -> bool
 }
 
 // Returns the word for the end of a fetch, and a space.
-fn first_word(finish: Finish) -> &'static [u8]
-    ensures { result.now ≡ first_word finish }
+fn finish_word(finish: Finish) -> &'static [u8]
+    ensures { result.now ≡ finish_word finish }
 {
     match finish {
         Finish::Whole => b"fetched ",
@@ -31,9 +31,9 @@ fn first_word(finish: Finish) -> &'static [u8]
 
 /// Puts out the last line: how the fetch ended, and the number of bytes that it put out. Returns whether all of it is out.
 pub fn write_last<O: Outlet>(writer: &mut O, fetched: &Fetched) -> bool
-    ensures { IsTextWritten (last_line fetched.now) (O.seen writer.old) (O.seen writer.new) result }
+    ensures { IsTextWritten (fetch_line_of fetched.now) (O.seen writer.old) (O.seen writer.new) result }
 {
-    if !write_all(writer, first_word(fetched.finish)) {
+    if !write_all(writer, finish_word(fetched.finish)) {
         return false;
     }
     write_number(writer, fetched.bytes)

@@ -11,13 +11,13 @@ use Rattle.dump_pump.specs.Outlets.{Outgoing}
 use Rattle.heap_lock.specs.Calls.{Call, IsLegalLedger, Witnesses}
 use Rattle.live_dump.proofs.LiveTexts.{streams_text}
 use Rattle.live_dump.proofs.SupplySteps.{given_begins}
-use Rattle.dump_server.specs.Dumps.{PutsPin, opened, IsClosed, IsDump, IsRefused}
+use Rattle.dump_server.specs.Dumps.{PutsServedPin, opened, IsClosed, IsDump, IsDumpRefused}
 
 dump_of : (config : HeapSettings) (pin place time : ℕ) (before after seen : List Call) (w w' : Outgoing) (r : Pumped) → opened before pin place ++ after ≡ seen
-    → PutsPin config pin time (opened before pin place) seen w w' r → IsClosed config pin seen → IsDump config time w w' r
+    → PutsServedPin config pin time (opened before pin place) seen w w' r → IsClosed config pin seen → IsDump config time w w' r
 dump_of config pin place time before after seen w w' r is puts closed =
     let all = opened before pin place ++ after in
-    let p = subst (λ s. PutsPin config pin time (opened before pin place) s w w' r) (sym is) puts in
+    let p = subst (λ s. PutsServedPin config pin time (opened before pin place) s w w' r) (sym is) puts in
     record {
       pin = pin;
       place = place;
@@ -33,22 +33,22 @@ dump_of config pin place time before after seen w w' r is puts closed =
     }
 
 sent : (config : HeapSettings) (pin place time : ℕ) (first start seen : List Call) (w w' : Outgoing) (r : Pumped) → Witnesses config first (OpenPin None) (Pinned pin place) start
-    → PutsPin config pin time start seen w w' r → IsClosed config pin seen → IsDump config time w w' r
+    → PutsServedPin config pin time start seen w w' r → IsClosed config pin seen → IsDump config time w w' r
 sent config pin place time first start seen w w' r opens puts closed =
     let before = first ++ opens.0 in
     let begins = given_begins pin time start puts.1.given seen puts.1.calls in
     dump_of config pin place time before begins.0 seen w w' r (ap (λ s. s ++ begins.0) (sym opens.1) ∙ begins.1)
-    (subst (λ s. PutsPin config pin time s seen w w' r) opens.1 puts) closed
+    (subst (λ s. PutsServedPin config pin time s seen w w' r) opens.1 puts) closed
 
 -- a dump that has ended, if there was memory for it
 pub sent_if : (config : HeapSettings) (pin place time : ℕ) (first start seen : List Call) (w w' : Outgoing) (done : Result Pumped Refusal) → Witnesses config first (OpenPin None) (Pinned pin place) start
-    → IfOk done (PutsPin config pin time start seen w w') → IsClosed config pin seen → IfOk done (IsDump config time w w')
+    → IfOk done (PutsServedPin config pin time start seen w w') → IsClosed config pin seen → IfOk done (IsDump config time w w')
 sent_if config pin place time first start seen w w' (Ok r) opens puts closed = sent config pin place time first start seen w w' r opens puts closed
 sent_if config pin place time first start seen w w' (Err e) opens puts closed = tt
 
 -- a dump that there was no memory for
 pub unsent_if : (config : HeapSettings) (pin place : ℕ) (first start seen : List Call) (done : Result Pumped Refusal) → Witnesses config first (OpenPin None) (Pinned pin place) start
-    → IfErr done (λ e. (e ≡ NoMemory) × (seen ≡ start)) → IsClosed config pin seen → IfErr done (IsRefused config)
+    → IfErr done (λ e. (e ≡ NoMemory) × (seen ≡ start)) → IsClosed config pin seen → IfErr done (IsDumpRefused config)
 unsent_if config pin place first start seen (Ok r) opens none closed = tt
 unsent_if config pin place first start seen (Err e) opens none closed =
     inr (none.0, first ++ opens.0, pin, place, subst (IsLegalLedger config) opens.1 opens.2, subst (IsClosed config pin) (none.1 ∙ opens.1) closed)

@@ -17,9 +17,9 @@ use Rattle.live_dump.specs.Streams.{PutsLive}
 use Rattle.live_dump.specs.StreamTexts.{PutsBeginning}
 
 -- a stream of the pin ended so, from the calls that were seen before to those that were seen after
-abbrev pub PutsPin : HeapSettings → ℕ → ℕ → List Call → List Call → Outgoing → Outgoing → Pumped
+abbrev pub PutsServedPin : HeapSettings → ℕ → ℕ → List Call → List Call → Outgoing → Outgoing → Pumped
     → Type 0
-PutsPin config pin time start seen w w' r =
+PutsServedPin config pin time start seen w w' r =
     (found : Bool) × PutsLive config pin time start seen found w w' r × IsLegalLedger config seen
 
 -- these calls, of which the last opened a pin on the current state
@@ -53,8 +53,8 @@ pub record IsDump (config : HeapSettings) (time : ℕ) (w w' : Outgoing) (r : Pu
   pub closed : IsClosed config pin (opened before pin place ++ after)
 
 -- no pin could be opened; or there was no memory for a stream, and the pin was closed
-abbrev pub IsRefused : HeapSettings → Refusal → Type 0
-IsRefused config e =
+abbrev pub IsDumpRefused : HeapSettings → Refusal → Type 0
+IsDumpRefused config e =
     ((before later : List Call) × Witnesses config before (OpenPin None) (Refused e) later)
     ⊎ ((e ≡ NoMemory) × (before : List Call) × (pin place : ℕ)
     × IsLegalLedger config (opened before pin place) × IsClosed config pin (opened before pin place))

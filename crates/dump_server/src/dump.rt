@@ -2,7 +2,7 @@
 ghost use Rattle.std.specs.Prelude.{◌≡◌, IfOk, IfErr};
 ghost use Rattle.heap_class.specs.declared.Refusal.TheVariants.{NoMemory};
 ghost use Rattle.heap_lock.specs.Calls.{IsLegalLedger};
-ghost use Rattle.dump_server.specs.Dumps.{IsDump, IsRefused, PutsPin};
+ghost use Rattle.dump_server.specs.Dumps.{IsDump, IsDumpRefused, PutsServedPin};
 
 use dump_meter::{Meter, NewMeter};
 use dump_pump::{Outlet, Pumped};
@@ -24,7 +24,7 @@ pub fn dump_current<L: Heap + Send + Sync, O: Outlet, R: Threads + Wait + Sync>(
 ) -> Result<Pumped, Refusal>
     ensures dumped { IfOk result
         (IsDump L.config time (O.seen outlet.old) (O.seen outlet.new)) }
-    ensures refused { IfErr result (IsRefused L.config) }
+    ensures refused { IfErr result (IsDumpRefused L.config) }
     ensures unchanged { IfErr result (λ e. O.seen outlet.new ≡ O.seen outlet.old) }
 {
     let mut witness = shared.witness(rt);
@@ -45,7 +45,7 @@ fn dump_pin<L: Heap + Send + Sync, O: Outlet, R: Threads + Wait + Sync>(
     outlet: &mut O,
 ) -> (Result<Pumped, Refusal>, Witness<L>)
     ensures dumped { IfOk result.0
-        (PutsPin L.config pin time witness result.1 (O.seen outlet.old) (O.seen outlet.new)) }
+        (PutsServedPin L.config pin time witness result.1 (O.seen outlet.old) (O.seen outlet.new)) }
     ensures refused { IfErr result.0 (λ e. (e ≡ NoMemory) × (result.1 ≡ witness)) }
     ensures unchanged { IfErr result.0 (λ e. O.seen outlet.new ≡ O.seen outlet.old) }
 {

@@ -3,7 +3,7 @@ use Rattle.std.specs.Prelude.{◌≡◌, ◌⊎◌, Bool, true, false, List, [],
 use Rattle.dump_pump.specs.Outlets.{Outgoing}
 use Rattle.session_text.specs.Inlets.{Incoming}
 use Rattle.session_text.specs.Writes.{IsTextWritten}
-use Rattle.dump_client.specs.Fetches.{IsFetched, last_line}
+use Rattle.dump_client.specs.Fetches.{IsFetched, fetch_line_of}
 use Rattle.dump_client.specs.declared.intake.Fetched.{Fetched}
 use Rattle.dump_client.specs.declared.intake.Finish.{Finish}
 use Rattle.dump_client.specs.declared.intake.Finish.TheVariants.{Whole, Cut, WriteFault}
@@ -27,6 +27,6 @@ abbrev pub IsDumpFetched : Outgoing → Outgoing → Result (Unit {0}) Fault →
 IsDumpFetched w w' result =
     ((socket socket' : Incoming) × (file file' : Outgoing) × (fetched : Fetched)
     × (socket.taken ≡ []) × IsFetched socket socket' file file' fetched
-    × ((written : Bool) × IsTextWritten (last_line fetched) w w' written
+    × ((written : Bool) × IsTextWritten (fetch_line_of fetched) w w' written
     × (result ≡ fetched_outcome fetched.finish written)))
     ⊎ (IsUnfetched result × (w' ≡ w))

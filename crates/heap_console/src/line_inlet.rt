@@ -112,7 +112,9 @@ impl<F: Read + Drop, R: Eprint> LineInlet<'_, F, R> {
     }
 
     // Keeps a part of a line, if there is memory for it, and counts the line if it begins here.
-    fn keep(&mut self, part: &[u8]) {
+    fn keep(&mut self, part: &[u8])
+        ensures { self.new ≡ self.old }
+    {
         let is_begun = match self.line.last() {
             Some(last) => *last != LINE_END,
             None => self.number > 0,

@@ -1,4 +1,6 @@
 //! An inlet that prompts before each read.
+ghost use Rattle.std.specs.Prelude.{◌≡◌};
+
 use crate::advice::{Advice, advise};
 use question_text::{BAD_COMMAND, Watch};
 use session_text::{Inlet, Take};
@@ -43,7 +45,9 @@ impl<I: Inlet + Drop, R: Eprint> PromptInlet<'_, I, R> {
     }
 
     // Keeps what was read, if there is memory for it.
-    fn keep(&mut self, read: &[u8]) {
+    fn keep(&mut self, read: &[u8])
+        ensures { self.new.inlet ≡ self.old.inlet }
+    {
         self.typed.clear();
         if self.typed.extend_from_slice(read).is_err() {
             self.typed.clear();

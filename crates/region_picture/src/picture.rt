@@ -1,7 +1,4 @@
 //! A picture of the current state of a machine.
-ghost use Rattle.std.specs.Prelude.{◌≡◌, ◌+◌, All, ◌<◌, length};
-ghost use Rattle.heap_questions.specs.Histogram.{class_rows};
-
 use crate::cells::{
     CellSort, LEFT, add_all_cells, add_gray, add_path_begin, add_path_end, middle_of,
 };
@@ -9,7 +6,7 @@ use crate::colors::{COLORS, OTHER, Palette};
 use crate::legend::{LEGEND_STEP, OTHER_LINES, add_row, add_strokes};
 use crate::text::{add, add_number, add_text_at};
 use heap_class::{FirstClasses, Refusal};
-use heap_questions::{Row, count_by_class, ranking};
+use heap_questions::{CLASS_ROWS, Row, count_by_class, ranking};
 use heap_region::Regions;
 use heap_trail::Machine;
 use heap_world::World;
@@ -110,14 +107,12 @@ fn add_rows(
     classes: &FirstClasses<'_>,
     rows: &[Row],
     ranked: &[usize],
-) -> Result<(), Refusal>
-    requires within { All (λ g. g < length rows.now) ranked.now }
-    requires classes { length rows.now ≡ class_rows + length classes.now }
-{
+) -> Result<(), Refusal> {
+    let count = rows.len().min(CLASS_ROWS + classes.len() as usize);
     let mut y = y;
     let mut color = 0;
     for index in ranked {
-        if color < OTHER {
+        if color < OTHER && *index < count {
             add_row(alloc, text, y, color, classes, *index, rows[*index])?;
             color += 1;
             y = y.saturating_add(LEGEND_STEP);

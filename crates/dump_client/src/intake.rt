@@ -2,9 +2,9 @@
 ghost use Rattle.std.specs.Prelude.{◌≡◌};
 ghost use Rattle.dump_client.specs.Fetches.{IsFetched, finish_of};
 
-use dump_scan::Scan;
 use dump_pump::Outlet;
 use dump_pump::transfer::put_all;
+use dump_scan::Scan;
 use session_text::{Inlet, Take};
 use std::sync::Wait;
 

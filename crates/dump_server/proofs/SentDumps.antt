@@ -1,6 +1,5 @@
 -- Dumps of a pin that was opened on the current state.
-use Rattle.std.proofs.Common.{◌≡◌, ◌⊎◌, ℕ, List, [], ◌∷◌, ◌++◌, None, refl, sym, ap, ◌∙◌, subst, inr, append_assoc, Result, Ok, Err, IfOk, IfErr}
-use mathlib.Core.List.{IsPrefix}
+use Rattle.std.proofs.Common.{◌≡◌, ℕ, List, [], ◌∷◌, ◌++◌, None, sym, ap, ◌∙◌, subst, inr, append_assoc, Result, Ok, Err, IfOk, IfErr}
 use Rattle.heap_class.specs.declared.Refusal.{Refusal}
 use Rattle.heap_class.specs.declared.Refusal.TheVariants.{NoMemory}
 use Rattle.heap_world.specs.Limits.{HeapSettings}
@@ -27,8 +26,8 @@ dump_of config pin place time before after seen w w' r is puts closed =
       put = p.1;
       legal = p.2;
       text = λ asks pieces.
-        streams_text config pin time (opened before pin place) all p.0 w w' r p.1 p.2 place before after
-        (record { at = None; opened = append_assoc before ((OpenPin None, Pinned pin place) ∷ []) after; asks = asks; pieces = pieces });
+          streams_text config pin time (opened before pin place) all p.0 w w' r p.1 p.2 place before after
+          (record { at = None; opened = append_assoc before ((OpenPin None, Pinned pin place) ∷ []) after; asks = asks; pieces = pieces });
       closed = subst (IsClosed config pin) (sym is) closed;
     }
 

@@ -14,7 +14,9 @@ ghost use Rattle.heapdbg.specs.Refusals.{IsMistake, IsMistakeIn, IsRefusalOf, ve
 use crate::refusal::{Mistake, VERSION, version};
 use crate::save_options::{save_parser, save_task};
 use crate::settings::{LineFault, Settings, Task};
-use crate::socket_options::{ask_parser, ask_task, fetch_parser, fetch_task, serve_parser, serve_task};
+use crate::socket_options::{
+    ask_parser, ask_task, fetch_parser, fetch_task, serve_parser, serve_task,
+};
 use clap::error::ErrorKind;
 use clap::{Arg, ArgAction, ArgMatches, Command, Error};
 use heap_class::IdSize;

@@ -9,7 +9,9 @@ use crate::failure::Fault;
 use crate::settings::{Settings, config};
 use dump_pump::Outlet;
 use dump_server::DumpListener;
-use heap_server::{Ports, Served, serve_heap, serve_tended_heap, tell_sessions, users, workers_and_users};
+use heap_server::{
+    Ports, Served, serve_heap, serve_tended_heap, tell_sessions, users, workers_and_users,
+};
 use session_text::write_all;
 use std::alloc::Global;
 use std::net::{Ipv4Addr, Net, TcpListener, TcpStream};
@@ -29,10 +31,11 @@ pub struct PortNumbers {
     pub dumps: Option<u16>,
 }
 
-/// Serves `sessions` sessions to clients of a port, while two threads tend the collector if `workers` isn't 0, and one sends dumps
-/// if there is a port for them, and puts out how each session ended. Fails with Memory if the heap can't be allocated or no thread
-/// for the workers or the dumps can be had, with Listen if a port can't be listened on, with Accept if a client could not be accepted, and else with Write if a write failed. Says on standard
-/// error that it listens, if that is a terminal. May wait.
+/// Serves `sessions` sessions to clients of a port, while two threads tend the collector if `workers` isn't 0, and one sends
+/// dumps if there is a port for them, and puts out how each session ended. Fails with Memory if the heap can't be allocated or
+/// no thread for the workers or the dumps can be had, with Listen if a port can't be listened on, with Accept if a client could
+/// not be accepted, and else with Write if a write failed. Says on standard error that it listens, if that is a terminal. May
+/// wait.
 pub fn serve_port<R, O: Outlet>(
     rt: &R,
     alloc: Global,
@@ -144,7 +147,10 @@ where
 }
 
 // Listens on a port. Fails with Listen.
-fn listener<R: Net<Listener = TcpListener, Stream = TcpStream>>(rt: &R, port: u16) -> Result<TcpListener, Fault>
+fn listener<R: Net<Listener = TcpListener, Stream = TcpStream>>(
+    rt: &R,
+    port: u16,
+) -> Result<TcpListener, Fault>
     ensures { IfErr result (λ f. f ≡ Listen) }
 {
     match TcpListener::bind(rt, (Ipv4Addr::LOCALHOST, port)) {
@@ -154,7 +160,10 @@ fn listener<R: Net<Listener = TcpListener, Stream = TcpStream>>(rt: &R, port: u1
 }
 
 // Listens on the port for dumps. Fails with Listen.
-fn dump_listener<R: Net<Listener = TcpListener, Stream = TcpStream>>(rt: &R, port: u16) -> Result<DumpListener, Fault>
+fn dump_listener<R: Net<Listener = TcpListener, Stream = TcpStream>>(
+    rt: &R,
+    port: u16,
+) -> Result<DumpListener, Fault>
     ensures { IfErr result (λ f. f ≡ Listen) }
 {
     match DumpListener::new(listener(rt, port)?) {

@@ -450,7 +450,8 @@ def served_dumps(program):
         found = fresh, len(dumps), dumps == wanted, places == sorted(places), len(set(places)) > 1, told, same
         session.end()
         found += (server.ended(),)
-    yield "dumps beside writes", found, (True, 50, True, True, True, ((0, b"fetched 301\n", b""),) * 2, [True] * 2, (0, ["quit"], b""))
+    wanted = True, 50, True, True, True, ((0, b"fetched 301\n", b""),) * 2, [True] * 2, (0, ["quit"], b"")
+    yield "dumps beside writes", found, wanted
 
 
 def unread_dump(program):
@@ -464,7 +465,8 @@ def unread_dump(program):
             client.sendall(b"put 0 0 0 7\nopen -\nopen -\nopen -\nopen -\nend\n")
             answers, beside, waits = all_of(client), exchanged(server, b"clear 0 0\nend\n"), waiting.poll()
             found = last, answers[:3], answers[-15:], beside, waits, server.ended(), come(waiting)
-    wanted = b"ok object 0x101fffe0\n", b"ok\n", b"no 25 PinLimit\n", b"ok\n", None, (0, ["quit"] * 2, b""), (1, b"cut 0\n", b"heapdbg: cut\n")
+    cut = 1, b"cut 0\n", b"heapdbg: cut\n"
+    wanted = b"ok object 0x101fffe0\n", b"ok\n", b"no 25 PinLimit\n", b"ok\n", None, (0, ["quit"] * 2, b""), cut
     yield "a dump that nobody reads", found, wanted
 
 
@@ -515,7 +517,8 @@ def cut_dumps(program):
     with tempfile.TemporaryDirectory() as folder:
         for given in (*(dump[:length] for length in range(0, len(dump), STEP)), *sorted(others), *sorted(wholes)):
             size = str(len(given)).encode()
-            wanted = (0, b"fetched " + size + b"\n", b"", True) if given in wholes else (1, b"cut " + size + b"\n", b"heapdbg: cut\n", True)
+            whole, cut = (0, b"fetched %b\n" % size, b"", True), (1, b"cut %b\n" % size, b"heapdbg: cut\n", True)
+            wanted = whole if given in wholes else cut
             yield f"fetches {given[-12:]!r} after {len(given)} bytes", fetched(program, pathlib.Path(folder), given), wanted
 
 

@@ -248,8 +248,9 @@ def served_faults(program):
         happened = served(program, lambda port: asked(program, port, b"", stdin=folder))
         yield "a folder as input of ask", happened, (0, b"session 1 quit\n", b"", 1, b"", b"heapdbg: read\n")
         os.close(folder)
-    yield "fetches from nobody", run(program, ["fetch", "--port", str(free_port()), "--out", "/dev/null"]), (1, b"", b"heapdbg: connect\n")
-    yield "fetches to no folder", run(program, ["fetch", "--port", "7", "--out", "/none/x"]), (1, b"", b"heapdbg: out\n")
+    fetch = ["fetch", "--port", str(free_port()), "--out"]
+    yield "fetches from nobody", run(program, [*fetch, "/dev/null"]), (1, b"", b"heapdbg: connect\n")
+    yield "fetches to no folder", run(program, [*fetch, "/none/x"]), (1, b"", b"heapdbg: out\n")
     # Standard streams and the listener take four files, a session one more.
     happened = served(program, lambda port: (), ["--sessions", "2"], preexec_fn=files(4))
     yield "no accept", happened, (1, b"", b"heapdbg: accept\n")

@@ -1,5 +1,5 @@
 -- A fetch with one read more.
-use Rattle.std.proofs.Common.{◌≡◌, ◌⊎◌, ℕ, ◌+◌, ◌<◌, ◌≤◌, min, Bool, true, false, List, [], ◌++◌, take, drop, length, Option, Some, None, if◌then◌else◌, refl, ap, sym, ◌∙◌, subst, inl, inr, arith, append_assoc}
+use Rattle.std.proofs.Common.{◌≡◌, ℕ, ◌+◌, ◌<◌, ◌≤◌, min, Bool, true, false, List, [], ◌++◌, take, drop, length, Option, Some, None, if◌then◌else◌, refl, ap, sym, ◌∙◌, inl, inr, arith, append_assoc}
 use Rattle.std.proofs.lemmas.List.{append-nil, take-append-drop, length-append, length-take, take_all}
 use Rattle.std.specs.Io.KnownBytes.{Keeps}
 use Rattle.dump_pump.specs.Outlets.{Outgoing}
@@ -9,7 +9,6 @@ use Rattle.dump_scan.specs.Records.{completes, is_whole_dump}
 use Rattle.dump_scan.specs.declared.scan.Scan.{Scan}
 use Rattle.dump_scan.specs.declared.scan.Scan.TheVariants.{Within}
 use Rattle.dump_client.specs.Fetches.{EndsFetch, IsFetched, HasCome, finish_of, told_limit}
-use Rattle.dump_client.specs.declared.intake.Finish.{Finish}
 use Rattle.dump_client.specs.declared.intake.Finish.TheVariants.{Whole, Cut, WriteFault}
 
 -- all that came is out, and the scan has followed it

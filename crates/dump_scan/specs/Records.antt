@@ -1,5 +1,5 @@
 -- The records of a dump, as far as their heads tell.
-use Rattle.std.specs.Prelude.{ℕ, ◌+◌, ◌-◌, ◌==◌, ◌&&◌, Bool, true, false, List, [], ◌∷◌, ◌++◌, min, take, drop, length, nat_le, slice_index, if◌then◌else◌, zero, suc}
+use Rattle.std.specs.Prelude.{ℕ, ◌+◌, ◌==◌, ◌&&◌, Bool, false, List, [], ◌∷◌, ◌++◌, min, take, drop, length, nat_le, slice_index, if◌then◌else◌, zero, suc}
 use Rattle.std.specs.Int.{w32, from_be_bytes}
 use Rattle.dump_scan.specs.declared.scan.Scan.{Scan}
 use Rattle.dump_scan.specs.declared.scan.Scan.TheVariants.{Within, Head, Ended, Broken}

@@ -1,5 +1,5 @@
 -- The outcomes of a fetch. Files and sockets tell nothing of their bytes.
-use Rattle.std.specs.Prelude.{◌≡◌, ◌⊎◌, Bool, true, false, List, [], Result, Ok, Err}
+use Rattle.std.specs.Prelude.{◌≡◌, ◌⊎◌, Bool, true, false, [], Result, Ok, Err}
 use Rattle.dump_pump.specs.Outlets.{Outgoing}
 use Rattle.session_text.specs.Inlets.{Incoming}
 use Rattle.session_text.specs.Writes.{IsTextWritten}

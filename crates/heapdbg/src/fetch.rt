@@ -13,10 +13,10 @@ use std::net::{Ipv4Addr, Net, TcpStream};
 use std::sync::Wait;
 use std::time::Clock;
 
-/// Fetches the dump that a port gives into a file, and puts out a last line: `fetched`, or `cut` if what came is no whole dump, or
-/// `failed` if a write to the file failed, and the number of bytes that the file took. Shows its progress on standard error if that
-/// is a terminal. Fails with Connect if no connection can be made and with Out if no file can be made, and then puts out nothing;
-/// else with Write if the last line can't be put out, with Cut, or with Out. May wait.
+/// Fetches the dump that a port gives into a file, and puts out a last line: `fetched`, or `cut` if what came is no whole dump,
+/// or `failed` if a write to the file failed, and the number of bytes that the file took. Shows its progress on standard error
+/// if that is a terminal. Fails with Connect if no connection can be made and with Out if no file can be made, and then puts
+/// out nothing; else with Write if the last line can't be put out, with Cut, or with Out. May wait.
 pub fn fetch_port<R, O: Outlet>(
     rt: &R,
     port: u16,

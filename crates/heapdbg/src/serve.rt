@@ -31,10 +31,11 @@ pub struct PortNumbers {
     pub dumps: Option<u16>,
 }
 
-/// Serves `sessions` sessions to clients of a port, while two threads tend the collector if `workers` isn't 0, and one sends dumps
-/// if there is a port for them, and puts out how each session ended. Fails with Memory if the heap can't be allocated or no thread
-/// for the workers or the dumps can be had, with Listen if a port can't be listened on, with Accept if a client could not be accepted, and else with Write if a write failed. Says on standard
-/// error that it listens, if that is a terminal. May wait.
+/// Serves `sessions` sessions to clients of a port, while two threads tend the collector if `workers` isn't 0, and one sends
+/// dumps if there is a port for them, and puts out how each session ended. Fails with Memory if the heap can't be allocated or
+/// no thread for the workers or the dumps can be had, with Listen if a port can't be listened on, with Accept if a client could
+/// not be accepted, and else with Write if a write failed. Says on standard error that it listens, if that is a terminal. May
+/// wait.
 pub fn serve_port<R, O: Outlet>(
     rt: &R,
     alloc: Global,

@@ -1,6 +1,6 @@
 use Rattle.std.proofs.Common.{take}
 use Rattle.std.proofs.lemmas.List.{length-take-le}
-use Rattle.dump_client.proofs.ComingBytes.{coming, came_on, broke_off, ended, failed}
+use Rattle.dump_client.proofs.ComingBytes.{coming, broke_off}
 use Rattle.dump_client.proofs.intake.fetch.Goals as goal
 
 pub loop-init : goal.loop-init

@@ -5,10 +5,10 @@
 mod collector;
 mod mutator;
 
-use collector::{Pace, mark, sweep};
+use collector::{Pace, collect};
 use heap::{
-    Actor, Answer, Claim, Config, Count, Dumped, Event, Heap, Kind, LastSeen, Machine, Name,
-    Outcome, Pumped, Refusal, Role, Seats, Shared, Task, WriteOutlet, define_class, dump, work_on,
+    Actor, Answer, Claim, Config, Dumped, Event, Heap, Kind, LastSeen, Machine, Name, Outcome,
+    Pumped, Refusal, Role, Seats, Shared, Task, WriteOutlet, define_class, dump, work_on,
 };
 use mutator::{mutate, node};
 use std::alloc::{AllocError, Global};
@@ -62,24 +62,14 @@ impl<W: Write + Drop> Task<Option<Report>> for Work<W> {
         mut seats: Seats<L>,
     ) -> Option<Report> {
         let mut actor = || Some(Actor::new(rt, alloc, shared, seats.take()?));
-        let (mut user, one, two, marker, sweeper) = (
-            actor()?,
-            actor()?,
-            actor()?,
-            actor()?,
-            actor()?,
-        );
+        let (mut user, one, two) = (actor()?, actor()?, actor()?);
+        let (marker, sweeper) = (actor()?, actor()?);
         user.act(node_class(alloc).ok()?).ok()?;
         let name = Name::new(alloc, b"[Node;").ok()?;
         user.act(Event::ArrayClass { name }).ok()?;
-        let pace = &Pace {
-            ended: Count::new(),
-            marked: Count::new(),
-            swept: Count::new(),
-        };
-        let Work { file } = self;
-        let outlet = WriteOutlet::new(file);
-        let ((one, two), (marker, (swept, dumped))) = join(
+        let pace = &Pace::new();
+        let outlet = WriteOutlet::new(self.file);
+        let ((one, two), (marker, dumped)) = join(
             rt,
             move || join(
                 rt,
@@ -89,18 +79,11 @@ impl<W: Write + Drop> Task<Option<Report>> for Work<W> {
             move || {
                 join(
                     rt,
-                    move || mark(pace, marker),
-                    move || {
-                        join(
-                            rt,
-                            move || sweep(pace, sweeper),
-                            move || dump(rt, alloc, shared, 0, outlet, LastSeen { bytes: 0 }),
-                        )
-                    },
+                    move || collect(rt, pace, marker, sweeper),
+                    move || dump(rt, alloc, shared, 0, outlet, LastSeen { bytes: 0 }),
                 )
             },
         );
-        swept?;
         audited(&one?, &two?, &marker?, dumped)
     }
 }

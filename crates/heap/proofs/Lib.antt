@@ -1,1 +1,2 @@
 pub mod StepAnswers
+pub mod Claiming

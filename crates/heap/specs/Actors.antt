@@ -1,5 +1,6 @@
 -- Those who act on a shared heap, and what they claim.
 use Rattle.std.specs.Prelude.{◌≡◌, ◌≢◌, ◌↔◌, ◌⊎◌, ℕ, false, List, [], ◌∷◌, ◌++◌, IsTrue, Bool}
+use Rattle.heap_class.specs.declared.Refusal.{Refusal}
 use Rattle.heap_class.specs.declared.Refusal.TheVariants.{NoMemory}
 use Rattle.heap_world.specs.Limits.{HeapSettings}
 use Rattle.heap_step.specs.declared.Event.{Event}
@@ -43,6 +44,10 @@ abbrev pub IsDenied : HeapSettings → Event → ActorState → Denial → Actor
 IsDenied config event a WrongRole a' = (may a.seat.role event ≡ false) × (a' ≡ a)
 IsDenied config event a (Refused e) a' =
     (IsNoEntry e × (a' ≡ a)) ⊎ IsClaimed config (Step event) a (Outcomes.Refused e) a'
+
+-- the outcome is a refusal, and the actor is told that one
+abbrev pub IsToldRefusal : Outcome → Denial → Type 0
+IsToldRefusal outcome d = (e : Refusal) × (outcome ≡ Outcomes.Refused e) × (d ≡ Refused e)
 
 -- the actor is as before, and has another role, or no memory was found for a claim
 abbrev pub IsIdle : Role → ActorState → Denial → ActorState → Type 0

@@ -1,15 +1,17 @@
 //! Those who act on a shared heap.
-ghost use Rattle.std.specs.Prelude.{◌≡◌, ◌++◌, [], IfOk, IfErr};
+ghost use Rattle.std.specs.Prelude.{◌≡◌, ◌≢◌, ◌++◌, ◌∷◌, [], true, IfOk, IfErr, OnErr};
 ghost use Rattle.heap_trail.specs.declared.Action.TheVariants.{Step};
-ghost use Rattle.heap_lock.specs.declared.entry.Outcome.TheVariants.{Answered};
+ghost use Rattle.heap_lock.specs.declared.entry.Outcome.TheVariants.{Answered, Place};
 ghost use Rattle.heap_lock.specs.declared.entry.Role.TheVariants.{Marker, Sweeper};
+ghost use Rattle.heap_lock.specs.LockStates.{IsNoEntry, IsReceived, Stands};
+ghost use Rattle.heap_lock.specs.Roles.{may};
 ghost use Rattle.heap_work.specs.Rule.{IsMarkWork, IsSweepWork};
-ghost use Rattle.heap.specs.Actors.{end_claims, IsAudited, IsClaimed, IsDenied, IsIdle};
+ghost use Rattle.heap.specs.Actors.{end_claims, IsAudited, IsClaimed, IsDenied, IsIdle, IsToldRefusal};
 
 use crate::audits::{Claim, audit_claims};
 use crate::copies::step_of;
 use heap_class::Refusal;
-use heap_lock::{Heap, Outcome, Role, Seat, Shared};
+use heap_lock::{Heap, Outcome, Receipt, Role, Seat, Shared};
 use heap_step::{Answer, Event};
 use heap_trail::Action;
 use heap_work::{Gate, MarkEnd, SweepEnd, mark_worker, sweep_worker};
@@ -67,6 +69,45 @@ impl<'a, L: Heap, R: Wait> Model for Actor<'a, L, R> {
     ghost view = { λ a. record { seat = a.seat; claims = a.claims.items } };
 }
 
+// Does an event that the role of the seat allows, and claims it by an action that is the same. If that has no entry, nothing has
+// changed.
+fn claim<L: Heap, R: Wait>(
+    rt: &R,
+    shared: &Shared<L>,
+    seat: &mut Seat<L>,
+    claims: &mut Vec<Claim>,
+    action: Action,
+    event: Event,
+) -> Result<Receipt, Refusal>
+    requires role { may seat.old.role event ≡ true }
+    requires action { action ≡ Step event }
+    ensures receipt { IfOk result (λ r. IsReceived (Step event) seat.old r seat.new) }
+    ensures stands { IfOk result (λ r. Stands L.config seat.new r.turn (Step event) r.answer) }
+    ensures claims { IfOk result
+        (λ r. claims.new.items ≡ claims.old.items ++ (Step event, r) ∷ []) }
+    ensures refused { IfErr result (λ e. IsNoEntry e) }
+    ensures unchanged { OnErr result
+        ((seat.new ≡ seat.old) × (claims.new.items ≡ claims.old.items)) }
+{
+    claims.reserve(1)?;
+    let receipt = shared.act(rt, seat, event)?;
+    claims.push_reserved((action, receipt));
+    Ok(receipt)
+}
+
+// Returns the outcome of a step as an actor is told it.
+fn answer_of(outcome: Outcome) -> Result<Answer, Denial>
+    requires { (place : _) → outcome ≢ Place place }
+    ensures done { IfOk result (λ a. outcome ≡ Answered a) }
+    ensures denied { IfErr result (λ d. IsToldRefusal outcome d) }
+{
+    match outcome {
+        Outcome::Answered(answer) => Ok(answer),
+        Outcome::Refused(refusal) => Err(Denial::Refused(refusal)),
+        Outcome::Place(_) => unreachable!(),
+    }
+}
+
 impl<'a, L: Heap, R: Wait> Actor<'a, L, R> {
     /// Returns the actor of a seat, without claims. Takes no memory.
     pub fn new(rt: &'a R, alloc: Global, shared: &'a Shared<L>, seat: Seat<L>) -> Actor<'a, L, R>
@@ -100,13 +141,10 @@ impl<'a, L: Heap, R: Wait> Actor<'a, L, R> {
             return Err(Denial::WrongRole);
         }
         let action = step_of(self.alloc, &event)?;
-        self.claims.reserve(1)?;
-        let receipt = self.shared.act(self.rt, &mut self.seat, event)?;
-        self.claims.push_reserved((action, receipt));
-        match receipt.answer {
-            Outcome::Answered(answer) => Ok(answer),
-            Outcome::Refused(refusal) => Err(Denial::Refused(refusal)),
-            Outcome::Place(_) => unreachable!(),
+        let seat = &mut self.seat;
+        match claim(self.rt, self.shared, seat, &mut self.claims, action, event) {
+            Ok(receipt) => answer_of(receipt.answer),
+            Err(refusal) => Err(Denial::Refused(refusal)),
         }
     }
 

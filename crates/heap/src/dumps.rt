@@ -194,17 +194,16 @@ pub fn dump<
     let (Some(reader), Some(asker)) = (readers.pop(), askers.pop()) else {
         unreachable!();
     };
-    let meter = &meter;
     let watching = Watching {
         watcher,
-        meter,
+        meter: &meter,
         reader,
         asker,
     };
     let writing = Writing {
         outlet,
         time,
-        meter,
+        meter: &meter,
         out,
         feed,
     };

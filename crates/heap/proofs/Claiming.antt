@@ -1,5 +1,5 @@
 -- What an actor gains by an act.
-use Rattle.std.proofs.Common.{◌≡◌, ℕ, List, [], ◌∷◌, ◌++◌, Result, Ok, Err, ap, ◌∙◌, subst, sym}
+use Rattle.std.proofs.Common.{◌≡◌, ℕ, List, [], ◌∷◌, ◌++◌, Result, Ok, Err, ap, ◌∙◌, subst, sym, inr}
 use Rattle.std.specs.Prelude.{IfOk, IfErr}
 use Rattle.heap_world.specs.Limits.{HeapSettings}
 use Rattle.heap_step.specs.declared.Answer.{Answer}

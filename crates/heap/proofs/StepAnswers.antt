@@ -37,5 +37,5 @@ no_place keep t e place is = no_place_at _ e (machine_at keep t) place is
 
 pub never_place : (config : HeapSettings) (s : Chair) (turn : ℕ) (e : Event) (place : ℕ) → Stands config s turn (Step e) (At place) → ⊥
 never_place config s turn e place stands =
-    let due = last_due config.keep (opening config) stands.0 (entry s.number (Step e) (At place)) stands.1.0 in
+    let due = last_due config.keep (opening config) stands.0 (entry s.number (Step e) (At place)) stands.1 in
     no_place config.keep _ e place (sym due.answer)

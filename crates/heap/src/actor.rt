@@ -142,10 +142,11 @@ impl<'a, L: Heap, R: Wait> Actor<'a, L, R> {
         }
         let action = step_of(self.alloc, &event)?;
         let seat = &mut self.seat;
-        match claim(self.rt, self.shared, seat, &mut self.claims, action, event) {
-            Ok(receipt) => answer_of(receipt.answer),
-            Err(refusal) => Err(Denial::Refused(refusal)),
-        }
+        let receipt = match claim(self.rt, self.shared, seat, &mut self.claims, action, event) {
+            Ok(receipt) => receipt,
+            Err(refusal) => return Err(Denial::Refused(refusal)),
+        };
+        answer_of(receipt.answer)
     }
 
     /// Marks a cycle as `mark_worker` does, and keeps the claim of its end, if that is reached. Fails with WrongRole unless the

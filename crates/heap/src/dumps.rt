@@ -107,7 +107,8 @@ fn write<L: Heap + Send + Sync, O: Outlet + Drop, R: Threads + Wait + Sync>(
     shared: &Shared<L>,
     writing: Writing<'_, O>,
 ) -> (Result<Pumped, Refusal>, O)
-    ensures { IsDumped L.config writing.time (O.seen writing.outlet) result.0 (O.seen result.1) }
+    ensures { IsDumped L.config writing.entry.time (O.seen writing.entry.outlet) result.0
+        (O.seen result.1) }
 {
     let Writing {
         mut outlet,
@@ -142,7 +143,7 @@ fn write_watched<
     writing: Writing<'_, O>,
     watching: Watching<'_, W>,
 ) -> Dumped<O, W>
-    ensures { IsDumped L.config writing.time (O.seen writing.outlet) result.end
+    ensures { IsDumped L.config writing.entry.time (O.seen writing.entry.outlet) result.end
         (O.seen result.outlet) }
 {
     let has_ended = AtomicU64::new(0);

@@ -17,37 +17,40 @@ pub fn node(m: u64, r: u64) -> Event {
     Event::New { m, r, class: NODE }
 }
 
-/// Makes a node in register `r`, and links a slot of the object in register `target` to the one in register `source`.
-fn link_node<L: Heap, R: Wait>(
-    mutator: &mut Actor<'_, L, R>,
-    m: u64,
-    r: u64,
-    (target, slot, source): (u64, u64, u64),
-) -> Result<(), Denial> {
-    mutator.act(Event::New { m, r, class: NODE })?;
-    mutator.act(Event::Store {
+/// Creates the event that links a slot of the object in register `target` to the object in register `source`.
+fn link(m: u64, target: u64, slot: u64, source: u64) -> Event {
+    Event::Store {
         m,
         target,
         slot,
         source,
-    })?;
+    }
+}
+
+/// Builds a list in registers 0 and 1, each node linked to the one before it.
+fn build_list<L: Heap, R: Wait>(mutator: &mut Actor<'_, L, R>, m: u64) -> Result<(), Denial> {
+    for i in 0..NODES {
+        mutator.act(node(m, i % 2))?;
+        mutator.act(link(m, i % 2, 0, 1 - i % 2))?;
+    }
     Ok(())
 }
 
-/// Builds a list in registers 0 and 1, each node linked to the one before it, and a map of nodes in register 2. Drops both.
-fn build_and_drop<L: Heap, R: Wait>(mutator: &mut Actor<'_, L, R>, m: u64) -> Result<(), Denial> {
-    for i in 0..NODES {
-        link_node(mutator, m, i % 2, (i % 2, 0, 1 - i % 2))?;
-    }
-    mutator.act(Event::NewArray {
-        m,
-        r: 2,
-        class: MAP,
-        len: KEYS,
-    })?;
+/// Builds a map in register 2, and its nodes in register 3.
+fn build_map<L: Heap, R: Wait>(mutator: &mut Actor<'_, L, R>, m: u64) -> Result<(), Denial> {
+    let (r, class, len) = (2, MAP, KEYS);
+    mutator.act(Event::NewArray { m, r, class, len })?;
     for key in 0..KEYS {
-        link_node(mutator, m, 3, (2, key, 3))?;
+        mutator.act(node(m, 3))?;
+        mutator.act(link(m, 2, key, 3))?;
     }
+    Ok(())
+}
+
+/// Builds list and map, and drops both.
+fn build_and_drop<L: Heap, R: Wait>(mutator: &mut Actor<'_, L, R>, m: u64) -> Result<(), Denial> {
+    build_list(mutator, m)?;
+    build_map(mutator, m)?;
     for r in 0..4u64 {
         mutator.act(Event::Clear { m, r })?;
     }

@@ -58,8 +58,8 @@ fn drained<R: Wait>(
     (pumped, outlet.into_writer())
 }
 
-/// Feeds the parts in one thread, and drains them into a sink in another once the source was asked `first` times. Returns how both
-/// went, how often the source had been asked when the drain began, the source and the sink.
+/// Feeds the parts in one thread, and drains them into a sink in another once the source was asked `first` times. Returns how
+/// both went, how often the source had been asked when the drain began, the source and the sink.
 fn by_two<R: Threads + Wait + Sync>(
     rt: &R,
     alloc: Global,

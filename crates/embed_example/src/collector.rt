@@ -1,69 +1,61 @@
 //! The collector: a marker and a sweeper, which take turns beside the mutators.
-use crate::pace::{Pace, wait_for};
-use crate::{Claims, REGIONS, ROUNDS};
-use heap_lock::{Heap, Receipt, Role, Seat, Shared};
-use heap_step::Event;
-use heap_trail::Action;
-use heap_work::{MarkEnd, Open, SweepEnd, mark_worker, sweep_worker};
-use std::alloc::Global;
+use crate::ROUNDS;
+use heap::{Actor, Count, Heap, MarkEnd, Open, SweepEnd};
 use std::sync::Wait;
-use std::sync::atomic::Ordering;
+use std::thread::{Threads, join};
 
-/// The largest number of the marker's acts in a cycle.
-const CYCLE_ACTS: u64 = 20_000;
+/// The number of rounds that mutators ended, of cycles that were marked, and of cycles that were swept.
+#[derive(Drop)]
+pub struct Pace {
+    pub ended: Count,
+    pub marked: Count,
+    pub swept: Count,
+}
 
-/// Marks a cycle. Returns the receipt of its end, or None if something is refused.
-fn finish<L: Heap, R: Wait>(rt: &R, shared: &Shared<L>, seat: &mut Seat<L>) -> Option<Receipt> {
-    if seat.role() != Role::Marker {
-        return None;
-    }
-    match mark_worker(shared, rt, seat, &mut Open, CYCLE_ACTS) {
-        MarkEnd::Finished(receipt) => Some(receipt),
-        _ => None,
+impl Pace {
+    /// Creates the numbers, all 0.
+    pub fn new() -> Pace {
+        Pace {
+            ended: Count::new(),
+            marked: Count::new(),
+            swept: Count::new(),
+        }
     }
 }
 
-/// Marks a cycle each time both mutators have ended a round and the cycle before is swept. Returns the ends of the cycles.
-pub fn mark<L: Heap, R: Wait>(
-    rt: &R,
-    alloc: Global,
-    shared: &Shared<L>,
-    pace: &Pace,
-    mut seat: Seat<L>,
-) -> Option<Claims> {
-    let mut claims = Vec::new(alloc);
+/// Marks a cycle each time both mutators have ended a round and the cycle before is swept. Returns the marker.
+fn mark<'a, L: Heap, R: Wait>(pace: &Pace, mut marker: Actor<'a, L, R>) -> Option<Actor<'a, L, R>> {
     for cycle in 0..ROUNDS {
-        wait_for(&pace.ended, 2 * cycle + 2)?;
-        wait_for(&pace.swept, cycle)?;
-        let receipt = finish(rt, shared, &mut seat)?;
-        claims.push((Action::Step(Event::Finish), receipt)).ok()?;
-        pace.marked.fetch_add(1, Ordering::SeqCst);
+        pace.ended.wait_for(2 * cycle + 2)?;
+        pace.swept.wait_for(cycle)?;
+        let Ok(MarkEnd::Finished(_)) = marker.mark_cycle(&mut Open, u64::MAX) else {
+            return None;
+        };
+        pace.marked.raise();
     }
-    Some(claims)
+    Some(marker)
 }
 
-/// Sweeps all regions once. Returns None if something is refused.
-fn sweep_all<L: Heap, R: Wait>(rt: &R, shared: &Shared<L>, seat: &mut Seat<L>) -> Option<()> {
-    if seat.role() != Role::Sweeper {
-        return None;
-    }
-    match sweep_worker(shared, rt, seat, &mut Open, REGIONS) {
-        SweepEnd::Swept => Some(()),
-        _ => None,
-    }
-}
-
-/// Sweeps after each cycle. Returns None if something is refused.
-pub fn sweep<L: Heap, R: Wait>(
-    rt: &R,
-    shared: &Shared<L>,
-    pace: &Pace,
-    mut seat: Seat<L>,
-) -> Option<()> {
+/// Sweeps all regions after each cycle. Returns None if something is refused.
+fn sweep<L: Heap, R: Wait>(pace: &Pace, mut sweeper: Actor<'_, L, R>) -> Option<()> {
     for cycle in 0..ROUNDS {
-        wait_for(&pace.marked, cycle + 1)?;
-        sweep_all(rt, shared, &mut seat)?;
-        pace.swept.fetch_add(1, Ordering::SeqCst);
+        pace.marked.wait_for(cycle + 1)?;
+        let Ok(SweepEnd::Swept) = sweeper.sweep_regions(&mut Open, u64::MAX) else {
+            return None;
+        };
+        pace.swept.raise();
     }
     Some(())
+}
+
+/// Has a marker and a sweeper take turns, each in a thread of its own. Returns the marker.
+pub fn collect<'a, L: Heap + Send + Sync, R: Threads + Wait + Sync>(
+    rt: &R,
+    pace: &Pace,
+    marker: Actor<'a, L, R>,
+    sweeper: Actor<'a, L, R>,
+) -> Option<Actor<'a, L, R>> {
+    let (marker, swept) = join(rt, move || mark(pace, marker), move || sweep(pace, sweeper));
+    swept?;
+    marker
 }

@@ -2,29 +2,18 @@
 //! they did. `docs/EMBED.md` walks through it.
 #![tactic(auto)]
 
-ghost use Rattle.std.specs.Prelude.{◌≡◌};
-
 mod collector;
-mod dumper;
 mod mutator;
-mod pace;
-mod past;
-mod report;
 
-use collector::{mark, sweep};
-use dumper::dump;
-use heap_class::{Field, Fields, Kind, Name};
-use heap_lock::{Blank, Heap, Receipt, Role, Seat, Shared};
-use heap_step::Event;
-use heap_trail::Action;
-use heap_world::Config;
-use mutator::run;
-use pace::Pace;
-use past::rewound;
-use report::{Done, Report, audit_all, print_report};
+use collector::{Pace, collect};
+use heap::{
+    Actor, Answer, Claim, Config, Dumped, Event, Heap, Kind, LastSeen, Machine, Name, Outcome,
+    Pumped, Refusal, Role, Seats, Shared, Task, WriteOutlet, define_class, dump, work_on,
+};
+use mutator::{mutate, node};
 use std::alloc::{AllocError, Global};
+use std::fs::Files;
 use std::io::Write;
-use std::marker::Brand;
 use std::sync::Wait;
 use std::thread::{Threads, join};
 use std::{fs, io};
@@ -42,108 +31,116 @@ const NODE: u64 = 0;
 
 const MAP: u64 = 1;
 
-/// What a thread did, each action with its receipt.
-type Claims = Vec<(Action, Receipt)>;
-
 /// Creates the definition of the class of nodes.
 fn node_class(alloc: Global) -> Result<Event, AllocError> {
-    let mut fields = Vec::new(alloc);
-    fields.push(Field {
-        name: Name::new(alloc, b"next")?,
-        kind: Kind::Object,
-    })?;
-    Ok(Event::Class {
-        name: Name::new(alloc, b"Node")?,
-        sup: None,
-        fields: Fields::from_vec(fields),
+    define_class(alloc, b"Node", None, &[(b"next", Kind::Object)])
+}
+
+/// The objects that mutators made, the cycles that were swept, the receipts that stand, how the dump ended, and the bytes that
+/// were seen of it last.
+#[derive(Clone, Copy)]
+struct Report {
+    made: usize,
+    cycles: usize,
+    receipts: usize,
+    dumped: Result<Pumped, Refusal>,
+    seen: u64,
+}
+
+/// Has all threads work, each with a seat, and dumps the heap to a file.
+#[derive(Drop)]
+struct Work<W: Write> {
+    file: W,
+}
+
+impl<W: Write + Drop> Task<Option<Report>> for Work<W> {
+    fn work<L: Heap + Send + Sync, R: Threads + Wait + Sync>(
+        self,
+        rt: &R,
+        alloc: Global,
+        shared: &Shared<L>,
+        mut seats: Seats<L>,
+    ) -> Option<Report> {
+        let mut actor = || Some(Actor::new(rt, alloc, shared, seats.take()?));
+        let (mut user, one, two) = (actor()?, actor()?, actor()?);
+        let (marker, sweeper) = (actor()?, actor()?);
+        user.act(node_class(alloc).ok()?).ok()?;
+        let name = Name::new(alloc, b"[Node;").ok()?;
+        user.act(Event::ArrayClass { name }).ok()?;
+        let pace = &Pace::new();
+        let outlet = WriteOutlet::new(self.file);
+        let ((one, two), (marker, dumped)) = join(
+            rt,
+            move || join(
+                rt,
+                move || mutate(pace, 0, one),
+                move || mutate(pace, 1, two),
+            ),
+            move || {
+                join(
+                    rt,
+                    move || collect(rt, pace, marker, sweeper),
+                    move || dump(rt, alloc, shared, 0, outlet, LastSeen { bytes: 0 }),
+                )
+            },
+        );
+        audited(&one?, &two?, &marker?, dumped)
+    }
+}
+
+/// Returns the number of objects that were made.
+fn count_made(claims: &[Claim]) -> usize {
+    claims
+        .iter()
+        .filter(|c| matches!(c.1.answer, Outcome::Answered(Answer::Object(_))))
+        .count()
+}
+
+/// Audits what the threads did. Returns None if a receipt doesn't stand.
+fn audited<L: Heap, W: Write + Drop, R: Wait>(
+    one: &Actor<'_, L, R>,
+    two: &Actor<'_, L, R>,
+    marker: &Actor<'_, L, R>,
+    dumped: Dumped<WriteOutlet<W>, LastSeen>,
+) -> Option<Report> {
+    if !one.audit() || !two.audit() || !marker.audit() {
+        return None;
+    }
+    let acts = one.claims().len().saturating_add(two.claims().len());
+    let cycles = marker.claims().len();
+    Some(Report {
+        made: count_made(one.claims()).saturating_add(count_made(two.claims())),
+        cycles,
+        receipts: acts.saturating_add(cycles),
+        dumped: dumped.end,
+        seen: dumped.watcher.bytes,
     })
 }
 
-/// Defines a class. Tells whether that has an entry.
-fn defines<L: Heap, R: Wait>(rt: &R, shared: &Shared<L>, user: &mut Seat<L>, class: Event) -> bool {
-    user.may(&class) && shared.act(rt, user, class).is_ok()
+/// Prints what came of the threads.
+fn print_report<R: Print + Files>(rt: &R, report: &Report) -> io::Result<()> {
+    let size = fs::metadata(rt, FILE)?.len();
+    let is_whole = report.dumped == Ok(Pumped::Done { bytes: size }) && report.seen == size;
+    println!(rt;
+        "2 mutators made {} objects, in a heap that holds 4096 nodes",
+        report.made
+    )?;
+    println!(rt;
+        "{} cycles were marked and swept beside them",
+        report.cycles
+    )?;
+    println!(rt; "a dump was written beside them, whole by file and meter: {is_whole}")?;
+    println!(rt; "{} receipts stand in the audit", report.receipts)
 }
 
-/// Has all threads work.
-fn work<L: Heap + Send + Sync, W: Write + Drop, R: Threads + Wait + Sync>(
-    rt: &R,
-    alloc: Global,
-    shared: &Shared<L>,
-    mutators: (Seat<L>, Seat<L>),
-    workers: (Seat<L>, Seat<L>),
-    file: W,
-) -> Done {
-    let pace = Pace::new();
-    let at = &pace;
-    let (one, two) = mutators;
-    let (marker, sweeper) = workers;
-    let ((one, two), (ends, (swept, dumped))) = join(
-        rt,
-        move || {
-            join(
-                rt,
-                move || run(rt, alloc, shared, at, 0, one),
-                move || run(rt, alloc, shared, at, 1, two),
-            )
-        },
-        move || {
-            join(
-                rt,
-                move || mark(rt, alloc, shared, at, marker),
-                move || {
-                    join(
-                        rt,
-                        move || sweep(rt, shared, at, sweeper),
-                        move || dump(rt, alloc, shared, file),
-                    )
-                },
-            )
-        },
-    );
-    let ends = if swept.is_some() { ends } else { None };
-    (one, two, ends, dumped)
-}
-
-/// Opens the heap, defines the classes, and has all threads work. Returns None if anything was refused.
-fn open<L: Heap + Send + Sync, W: Write + Drop, R: Threads + Wait + Sync>(
-    rt: &R,
-    alloc: Global,
-    blank: Blank,
-    classes: (Event, Event),
-    file: W,
-) -> Option<Report>
-    requires { (blank.config ≡ L.config) × (blank.tables ≡ L.tables) × (blank.ledger ≡ L.ledger) }
-{
-    let (shared, mut seats) = blank.open::<L>();
-    let mut user = seats.take()?;
-    let mutators = (seats.take()?, seats.take()?);
-    let workers = (seats.take()?, seats.take()?);
-    let (node, map) = classes;
-    if !defines(rt, &shared, &mut user, node) || !defines(rt, &shared, &mut user, map) {
-        return None;
+/// Defines a class and makes three nodes on a machine of one's own, and undoes all but the class. Returns the place.
+fn rewound(alloc: Global, config: Config) -> Result<u64, Refusal> {
+    let mut machine = Machine::new(alloc, config)?;
+    machine.step(&node_class(alloc)?)?;
+    for r in 0..3u64 {
+        machine.step(&node(0, r))?;
     }
-    let done = work(rt, alloc, &shared, mutators, workers, file);
-    audit_all(rt, &shared, &done)
-}
-
-/// Creates the heap, and has the threads work on it. Returns None if anything was refused.
-fn shared_heap<W: Write + Drop, R: Threads + Wait + Sync>(
-    rt: &R,
-    alloc: Global,
-    config: Config,
-    file: W,
-) -> Option<Report> {
-    let roles = [
-        Role::User,
-        Role::Mutator(0),
-        Role::Mutator(1),
-        Role::Marker,
-        Role::Sweeper,
-    ];
-    let name = Name::new(alloc, b"[Node;").ok()?;
-    let classes = (node_class(alloc).ok()?, Event::ArrayClass { name });
-    let blank = Blank::new(alloc, config, roles.as_slice()).ok()?;
-    open::<Brand, W, R>(rt, alloc, blank, classes, file)
+    machine.rewind(3)
 }
 
 fn main(rt: HostRuntime) -> io::Result<()> {
@@ -151,9 +148,16 @@ fn main(rt: HostRuntime) -> io::Result<()> {
     let Some(config) = Config::new(REGIONS, 2, 1024) else {
         return println!(rt; "the settings are out of range");
     };
-    match shared_heap(&rt, rt.alloc(), config, file) {
-        Some(report) => print_report(&rt, &report)?,
-        None => println!(rt; "something was refused")?,
+    let roles = [
+        Role::User,
+        Role::Mutator(0),
+        Role::Mutator(1),
+        Role::Marker,
+        Role::Sweeper,
+    ];
+    match work_on(&rt, rt.alloc(), config, roles.as_slice(), Work { file }) {
+        Ok(Some(report)) => print_report(&rt, &report)?,
+        _ => println!(rt; "something was refused")?,
     }
     match rewound(rt.alloc(), config) {
         Ok(place) => println!(rt; "a machine of its own is back at place {place} of 4"),

@@ -5,7 +5,7 @@ ghost use Rattle.dump_meter.specs.Seats.{sum, cancel_asked, cancel_found};
 
 use crate::parts::{Asking, PinParts, one_point, points, text_of};
 use crate::sinks::{Gated, reaches};
-use crate::streaming::into_writer;
+use crate::streaming::{into_writer, stream_whole};
 use dump_meter::{AskSeat, Cancel, FeedSeat, Meter, NewMeter, OutSeat};
 use dump_pipe::Watched;
 use dump_pump::{Pumped, WriteOutlet, pump};
@@ -140,8 +140,7 @@ fn cancelled_by_two<R: Threads + Wait + Sync>(
     requires feed { feed.meter ≡ meter.now }
 {
     let (here, gate) = (AtomicU64::new(0), AtomicU64::new(0));
-    let here_now = &here;
-    let gate_now = &gate;
+    let (here_now, gate_now) = (&here, &gate);
     let (held, (pumped, text)) = thread::join(
         rt,
         move || -> bool
@@ -154,26 +153,13 @@ fn cancelled_by_two<R: Threads + Wait + Sync>(
             requires { IsSync R.row × (0 < parts.left) × (out ≡ sum meter.now 0)
                 × (feed.meter ≡ meter.now) }
         {
-            let mut seat = out;
-            let mut source = Watched {
+            let source = Watched {
                 source: parts,
                 cancel: meter.cancel(),
                 seat: feed,
             };
-            let writer = Gated {
-                taken: Vec::new(alloc),
-                held: 8000,
-                here: here_now,
-                gate: gate_now,
-            };
-            let (pumped, writer) = into_writer(
-                rt,
-                alloc,
-                &mut source,
-                writer,
-                &meter.progress(),
-                &mut seat,
-            );
+            let writer = Gated::new(alloc, 8000, here_now, gate_now);
+            let (pumped, writer) = stream_whole(rt, alloc, source, writer, meter, out);
             (pumped, writer.taken)
         },
     );
@@ -204,7 +190,7 @@ fn cancelled_meanwhile<R: Threads + Wait + Sync>(
 }
 
 /// Streams the dump of 2,000 points and has it cancelled in the middle. Returns whether the outlet was held, the answer is a
-/// cancelling after so many bytes as are out, and these are a beginning of the text, but not all of it.
+/// cancelling after the bytes that are out, and these are a beginning of the text, but not all of it.
 fn cancelled_in_the_middle<R: Threads + Wait + Sync>(rt: &R, alloc: Global) -> Result<bool, Fail> {
     let whole = text_of(alloc, points(alloc, 2000)?)?;
     let parts = PinParts::open(points(alloc, 2000)?)?;

@@ -188,7 +188,7 @@ fn takes_out<L: Heap, R: Wait>(
     all_done(rt, shared, mutator, deeds.as_slice())
 }
 
-/// Goes on with a list of so many nodes: forgets it, takes a node out, or puts a new one in, if there is room for one. Returns
+/// Goes on with a list of `length` nodes: forgets it, takes a node out, or puts a new one in, if there is room for one. Returns
 /// how many nodes it has then, or None if one of the deeds was refused.
 fn goes_on<L: Heap, R: Wait>(
     rt: &R,
@@ -276,7 +276,7 @@ fn marks<L: Heap, R: Wait>(
     None
 }
 
-/// Finishes a cycle. If a region has to be swept first, waits until there were so many rounds of sweeps. Returns the receipt of
+/// Finishes a cycle. If a region has to be swept first, waits until there were `rounds` rounds of sweeps. Returns the receipt of
 /// the end.
 fn finishes<L: Heap, R: Wait>(
     rt: &R,
@@ -379,7 +379,7 @@ fn number_of(m: u64) -> Event {
     }
 }
 
-/// Reads the list of a mutator. Returns whether it has so many nodes, and the numbers of all behind the first fall.
+/// Reads the list of a mutator. Returns whether it has `length` nodes, and the numbers of all behind the first fall.
 fn has_list<L: Heap, R: Wait>(
     rt: &R,
     shared: &Shared<L>,
@@ -452,6 +452,29 @@ fn entries<L: Heap, R: Wait>(rt: &R, shared: &Shared<L>) -> u64 {
 
 // ---- all four
 
+/// Returns whether the history has just the acts of both mutators, the marker and the sweeper, and one more, receipts agree
+/// with it, and the mutators' lists are there.
+fn agree<L: Heap, R: Wait>(
+    rt: &R,
+    shared: &Shared<L>,
+    user: &mut Seat<L>,
+    mutated: (&Mutated, &Mutated),
+    marked: u64,
+    sweeps: u64,
+) -> Option<bool> {
+    let (first, first_length) = agreed(rt, shared, mutated.0)?;
+    let (second, second_length) = agreed(rt, shared, mutated.1)?;
+    let acts = first
+        .saturating_add(second)
+        .saturating_add(marked)
+        .saturating_add(sweeps);
+    Some(
+        entries(rt, shared) == acts.saturating_add(1)
+            && has_list(rt, shared, user, 0, first_length)
+            && has_list(rt, shared, user, 1, second_length),
+    )
+}
+
 /// Has two mutators, the marker and the sweeper act, each in a thread of its own. Returns whether all cycles were finished and
 /// swept, their receipts agree with the history, in which there is one entry for each act, and the mutators' lists are there.
 fn by_four<L: Heap + Send + Sync, R: Threads + Wait + Sync>(
@@ -463,9 +486,7 @@ fn by_four<L: Heap + Send + Sync, R: Threads + Wait + Sync>(
     workers: (Seat<L>, Seat<L>),
 ) -> Option<bool> {
     let (begun, finished, swept) = (AtomicU64::new(0), AtomicU64::new(0), AtomicU64::new(0));
-    let begun_now = &begun;
-    let finished_now = &finished;
-    let swept_now = &swept;
+    let (begun_now, finished_now, swept_now) = (&begun, &finished, &swept);
     let (one, two) = mutators;
     let (marker, sweeper) = workers;
     let ((a, b), (c, (is_swept, sweeps))) = thread::join(
@@ -493,19 +514,8 @@ fn by_four<L: Heap + Send + Sync, R: Threads + Wait + Sync>(
             )
         },
     );
-    let (first, first_length) = agreed(rt, shared, &a)?;
-    let (second, second_length) = agreed(rt, shared, &b)?;
     let marks = marked(rt, shared, &c)?;
-    let acts = first
-        .saturating_add(second)
-        .saturating_add(marks)
-        .saturating_add(sweeps);
-    Some(
-        is_swept
-            && entries(rt, shared) == acts.saturating_add(1)
-            && has_list(rt, shared, user, 0, first_length)
-            && has_list(rt, shared, user, 1, second_length),
-    )
+    Some(is_swept && agree(rt, shared, user, (&a, &b), marks, sweeps)?)
 }
 
 fn opened<L: Heap + Send + Sync, R: Threads + Wait + Sync>(

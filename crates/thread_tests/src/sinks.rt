@@ -1,4 +1,5 @@
 //! Writers that fail, or wait.
+use std::alloc::Global;
 use std::io;
 use std::io::{ErrorKind, Write};
 use std::sync::atomic::{AtomicU64, Ordering};
@@ -7,7 +8,7 @@ use std::thread::yield_now;
 /// How many turns a test waits for another thread.
 pub const TURNS: u64 = 10_000_000;
 
-/// Waits until a word is at least so much. Returns false if it isn't after `TURNS` turns.
+/// Waits until a word is at least `least`. Returns false if it isn't after `TURNS` turns.
 pub fn reaches(word: &AtomicU64, least: u64) -> bool {
     for _ in 0..TURNS {
         if word.load(Ordering::SeqCst) >= least {
@@ -48,6 +49,18 @@ pub struct Gated<'a> {
     pub held: usize,
     pub here: &'a AtomicU64,
     pub gate: &'a AtomicU64,
+}
+
+impl<'a> Gated<'a> {
+    /// Creates a gated writer that is held once it has `held` bytes.
+    pub fn new(alloc: Global, held: usize, here: &'a AtomicU64, gate: &'a AtomicU64) -> Gated<'a> {
+        Gated {
+            taken: Vec::new(alloc),
+            held,
+            here,
+            gate,
+        }
+    }
 }
 
 impl Write for Gated<'_> {

@@ -1,0 +1,2 @@
+pub mod StepAnswers
+pub mod Claiming

@@ -1,0 +1,66 @@
+-- Those who act on a shared heap, and what they claim.
+use Rattle.std.specs.Prelude.{◌≡◌, ◌≢◌, ◌↔◌, ◌⊎◌, ℕ, false, List, [], ◌∷◌, ◌++◌, IsTrue, Bool}
+use Rattle.heap_class.specs.declared.Refusal.{Refusal}
+use Rattle.heap_class.specs.declared.Refusal.TheVariants.{NoMemory}
+use Rattle.heap_world.specs.Limits.{HeapSettings}
+use Rattle.heap_step.specs.declared.Event.{Event}
+use Rattle.heap_step.specs.declared.Event.TheVariants as Events
+use Rattle.heap_trail.specs.declared.Action.{Action}
+use Rattle.heap_trail.specs.declared.Action.TheVariants.{Step}
+use Rattle.heap_lock.specs.declared.entry.Entry.{Entry}
+use Rattle.heap_lock.specs.declared.entry.Outcome.{Outcome}
+use Rattle.heap_lock.specs.declared.entry.Outcome.TheVariants as Outcomes
+use Rattle.heap_lock.specs.declared.entry.Receipt.{Receipt}
+use Rattle.heap_lock.specs.declared.entry.Role.{Role}
+use Rattle.heap_lock.specs.Audits.{Audits}
+use Rattle.heap_lock.specs.History.{opening, IsLegalHistory}
+use Rattle.heap_lock.specs.LockStates.{Chair, Stands, IsNoEntry, with_entry}
+use Rattle.heap_lock.specs.Roles.{may}
+use Rattle.heap_work.specs.declared.MarkEnd.{MarkEnd}
+use Rattle.heap_work.specs.declared.MarkEnd.TheVariants.{Finished}
+use Rattle.heap.specs.declared.actor.Denial.{Denial}
+use Rattle.heap.specs.declared.actor.Denial.TheVariants.{WrongRole, Refused}
+
+-- an actor: its seat, and its claims, each an action with its receipt
+pub record ActorState : Type 0 where
+  pub seat : Chair
+  pub claims : List (Action × Receipt)
+
+-- the actor with an entry more, and the claim of it
+abbrev pub with_claim : ℕ → Action → Outcome → ActorState → ActorState
+with_claim turn action outcome a =
+    record {
+      seat = with_entry turn action outcome a.seat;
+      claims = a.claims ++ (action, record { seat = a.seat.number; turn = turn; answer = outcome }) ∷ [];
+    }
+
+-- the action has an entry with this outcome, which ends some legal history, and the actor claims it
+abbrev pub IsClaimed : HeapSettings → Action → ActorState → Outcome → ActorState → Type 0
+IsClaimed config action a outcome a' =
+    (turn : ℕ) × (a' ≡ with_claim turn action outcome a) × Stands config a'.seat turn action outcome
+
+-- the role doesn't allow the event; or the event has no entry; or it has one, and was refused
+abbrev pub IsDenied : HeapSettings → Event → ActorState → Denial → ActorState → Type 0
+IsDenied config event a WrongRole a' = (may a.seat.role event ≡ false) × (a' ≡ a)
+IsDenied config event a (Refused e) a' =
+    (IsNoEntry e × (a' ≡ a)) ⊎ IsClaimed config (Step event) a (Outcomes.Refused e) a'
+
+-- the outcome is a refusal, and the actor is told that one
+abbrev pub IsToldRefusal : Outcome → Denial → Type 0
+IsToldRefusal outcome d = (e : Refusal) × (outcome ≡ Outcomes.Refused e) × (d ≡ Refused e)
+
+-- the actor is as before, and has another role, or no memory was found for a claim
+abbrev pub IsIdle : Role → ActorState → Denial → ActorState → Type 0
+IsIdle role a WrongRole a' = (a.seat.role ≢ role) × (a' ≡ a)
+IsIdle role a (Refused e) a' = (e ≡ NoMemory) × (a' ≡ a)
+
+-- the claim of the end of a cycle, if it is finished
+abbrev pub end_claims : MarkEnd → List (Action × Receipt)
+end_claims (Finished r) = (Step Events.Finish, r) ∷ []
+end_claims end = []
+
+-- the answer of an audit: whether the claims stand in some legal history
+abbrev pub IsAudited : HeapSettings → List (Action × Receipt) → Bool → Type 0
+IsAudited config claims stands =
+    (history : List Entry) × IsLegalHistory config.keep (opening config) history
+    × (IsTrue stands ↔ Audits history 0 claims)

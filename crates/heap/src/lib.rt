@@ -1,0 +1,26 @@
+//! What a runtime embeds the heap by: the crates below in one, and actors, counts and dumps that take one call.
+#![tactic(auto)]
+
+pub mod actor;
+pub mod audits;
+pub mod classes;
+pub mod copies;
+pub mod count;
+pub mod dumps;
+pub mod tasks;
+
+pub use actor::{Actor, Denial};
+pub use audits::{Claim, audit_claims};
+pub use classes::define_class;
+pub use count::Count;
+pub use dump_meter::{AskSeat, FeedSeat, Meter, NewMeter, OutSeat, ReadSeat};
+pub use dump_pump::{Outlet, Pumped, WriteOutlet};
+pub use dumps::{Dumped, LastSeen, Watcher, dump};
+pub use heap_class::{Field, Fields, Kind, Name, Refusal};
+pub use heap_lock::{Blank, Heap, Outcome, Receipt, Role, Seat, Seats, Shared, Witness, audit};
+pub use heap_step::{Answer, Event};
+pub use heap_trail::{Action, Machine};
+pub use heap_work::{Gate, MarkEnd, Open, SweepEnd, mark_worker, sweep_worker};
+pub use heap_world::Config;
+pub use live_dump::stream;
+pub use tasks::{Task, work_on};

@@ -22,17 +22,36 @@ use std::time::Clock;
 // The size in bytes of the longest line of the report: `session 1000 memory` and its end.
 const LINE: usize = 20;
 
-/// The ports of a served heap.
+/// What serves a heap: its ports, its sessions and its workers.
 #[derive(Clone, Copy, Debug)]
-pub struct PortNumbers {
+pub struct Service {
     /// The port for sessions.
-    pub sessions: u16,
+    pub port: u16,
     /// The port that sends dumps, or None if there is none.
     pub dumps: Option<u16>,
+    /// The number of sessions.
+    pub sessions: u64,
+    /// Whether two threads tend the collector: 0 if not.
+    pub workers: u64,
 }
 
-/// Serves `sessions` sessions to clients of a port, while two threads tend the collector if `workers` isn't 0, and one sends
-/// dumps if there is a port for them, and puts out how each session ended. Fails with Memory if the heap can't be allocated or
+impl Service {
+    /// Creates a service of these ports and numbers.
+    pub fn new(port: u16, dumps: Option<u16>, sessions: u64, workers: u64) -> Service
+        ensures { result
+            ≡ record { port = port; dumps = dumps; sessions = sessions; workers = workers } }
+    {
+        Service {
+            port,
+            dumps,
+            sessions,
+            workers,
+        }
+    }
+}
+
+/// Serves sessions to clients of a port, while two threads tend the collector if there are workers, and one sends dumps if there
+/// is a port for them, and puts out how each session ended. Fails with Memory if the heap can't be allocated or
 /// no thread for the workers or the dumps can be had, with Listen if a port can't be listened on, with Accept if a client could
 /// not be accepted, and else with Write if a write failed. Says on standard error that it listens, if that is a terminal. May
 /// wait.
@@ -40,9 +59,7 @@ pub fn serve_port<R, O: Outlet>(
     rt: &R,
     alloc: Global,
     settings: &Settings,
-    ports: PortNumbers,
-    sessions: u64,
-    workers: u64,
+    service: Service,
     writer: &mut O,
     is_terminal: bool,
 ) -> Result<(), Fault>
@@ -50,14 +67,14 @@ where
     R: Net<Listener = TcpListener, Stream = TcpStream> + Threads + Wait + Sync,
     R: Clock + Eprint,
     requires heap { AreHeapSettings settings.now.regions settings.now.mutators settings.now.keep }
-    requires sessions { (1 ≤ sessions) × (sessions ≤ session_limit) }
-    ensures { IsServed workers settings.now sessions (O.seen writer.old) (O.seen writer.new)
-        result }
+    requires sessions { (1 ≤ service.sessions) × (service.sessions ≤ session_limit) }
+    ensures { IsServed service.workers settings.now service.sessions (O.seen writer.old)
+        (O.seen writer.new) result }
 {
-    if workers == 0 {
-        serve_users(rt, alloc, settings, ports, sessions, writer, is_terminal)
+    if service.workers == 0 {
+        serve_users(rt, alloc, settings, service, writer, is_terminal)
     } else {
-        serve_staff(rt, alloc, settings, ports, sessions, writer, is_terminal)
+        serve_staff(rt, alloc, settings, service, writer, is_terminal)
     }
 }
 
@@ -66,8 +83,7 @@ fn serve_users<R, O: Outlet>(
     rt: &R,
     alloc: Global,
     settings: &Settings,
-    ports: PortNumbers,
-    sessions: u64,
+    service: Service,
     writer: &mut O,
     is_terminal: bool,
 ) -> Result<(), Fault>
@@ -75,14 +91,15 @@ where
     R: Net<Listener = TcpListener, Stream = TcpStream> + Threads + Wait + Sync,
     R: Clock + Eprint,
     requires heap { AreHeapSettings settings.now.regions settings.now.mutators settings.now.keep }
-    requires sessions { (1 ≤ sessions) × (sessions ≤ session_limit) }
-    ensures { IsHeapServed settings.now sessions (O.seen writer.old) (O.seen writer.new) result }
+    requires sessions { (1 ≤ service.sessions) × (service.sessions ≤ session_limit) }
+    ensures { IsHeapServed settings.now service.sessions (O.seen writer.old) (O.seen writer.new)
+        result }
 {
-    let Ok(blank) = users(alloc, config(settings), sessions) else {
+    let Ok(blank) = users(alloc, config(settings), service.sessions) else {
         return Err(Fault::Memory);
     };
-    let most = sessions as usize;
-    let (ports, report) = listen(rt, alloc, ports, most, is_terminal)?;
+    let most = service.sessions as usize;
+    let (ports, report) = listen(rt, alloc, service, is_terminal)?;
     match serve_heap(rt, alloc, blank, most, ports, settings.time) {
         Ok(heap) => tell(&heap.served, report, writer),
         Err(_) => Err(Fault::Memory),
@@ -94,8 +111,7 @@ fn serve_staff<R, O: Outlet>(
     rt: &R,
     alloc: Global,
     settings: &Settings,
-    ports: PortNumbers,
-    sessions: u64,
+    service: Service,
     writer: &mut O,
     is_terminal: bool,
 ) -> Result<(), Fault>
@@ -103,44 +119,44 @@ where
     R: Net<Listener = TcpListener, Stream = TcpStream> + Threads + Wait + Sync,
     R: Clock + Eprint,
     requires heap { AreHeapSettings settings.now.regions settings.now.mutators settings.now.keep }
-    requires sessions { (1 ≤ sessions) × (sessions ≤ session_limit) }
-    ensures { IsTendedServed settings.now sessions (O.seen writer.old) (O.seen writer.new) result }
+    requires sessions { (1 ≤ service.sessions) × (service.sessions ≤ session_limit) }
+    ensures { IsTendedServed settings.now service.sessions (O.seen writer.old) (O.seen writer.new)
+        result }
 {
-    let Ok(blank) = workers_and_users(alloc, config(settings), sessions) else {
+    let Ok(blank) = workers_and_users(alloc, config(settings), service.sessions) else {
         return Err(Fault::Memory);
     };
-    let most = sessions as usize;
-    let (ports, report) = listen(rt, alloc, ports, most, is_terminal)?;
+    let most = service.sessions as usize;
+    let (ports, report) = listen(rt, alloc, service, is_terminal)?;
     match serve_tended_heap(rt, alloc, blank, most, ports, settings.time) {
         Ok(tended) => tell(&tended.heap.served, report, writer),
         Err(_) => Err(Fault::Memory),
     }
 }
 
-// Listens on the ports, and returns an empty report with room for the lines of `most` sessions. Fails with Memory or Listen.
+// Listens on the ports, and returns an empty report with room for the lines of all sessions. Fails with Memory or Listen.
 fn listen<R>(
     rt: &R,
     alloc: Global,
-    ports: PortNumbers,
-    most: usize,
+    service: Service,
     is_terminal: bool,
 ) -> Result<(Ports, Vec<u8>), Fault>
 where
     R: Net<Listener = TcpListener, Stream = TcpStream> + Eprint,
-    requires { most ≤ session_limit }
+    requires { service.sessions ≤ session_limit }
     ensures report { IfOk result (λ p. p.1.items ≡ []) }
     ensures fault { IfErr result (λ f. (f ≡ Memory) ⊎ (f ≡ Listen)) }
 {
-    let Ok(report) = Vec::with_capacity(alloc, LINE * most) else {
+    let Ok(report) = Vec::with_capacity(alloc, LINE * service.sessions as usize) else {
         return Err(Fault::Memory);
     };
-    let dumps = match ports.dumps {
+    let dumps = match service.dumps {
         Some(port) => Some(dump_listener(rt, port)?),
         None => None,
     };
-    let sessions = listener(rt, ports.sessions)?;
+    let sessions = listener(rt, service.port)?;
     if is_terminal {
-        let port = ports.sessions;
+        let port = service.port;
         let _ = eprintln!(rt; "heapdbg: listening on 127.0.0.1:{port}");
     }
     Ok((Ports { sessions, dumps }, report))

@@ -16,7 +16,7 @@ use crate::fetch::fetch_port;
 use crate::folder::has_folder;
 use crate::refusal::bad;
 use crate::save::{save_out, save_to};
-use crate::serve::{PortNumbers, serve_port};
+use crate::serve::{Service, serve_port};
 use crate::settings::{LineFault, Settings, Target, Task, config};
 use crate::terminals::{Screen, Terminals};
 use crate::words::borrow_words;
@@ -140,53 +140,26 @@ where
     ensures { IsTaskDone asked.now.task asked.now (I.seen reader.old) (I.seen reader.new)
         (O.seen writer.old) (O.seen writer.new) result }
 {
+    let is_terminal = screen.is_terminal;
     match asked.task {
         Task::Run => session(alloc, asked, reader, writer),
         Task::Explore { from } => {
             explore(rt, alloc, words, asked, from, screen.watch, reader, writer)
         }
         Task::Draw => draw(rt, alloc, words, asked, reader, writer),
-        Task::Save(Target::Out) => save_named(
-            rt,
-            alloc,
-            words,
-            asked,
-            reader,
-            writer,
-            screen.is_terminal,
-        ),
-        Task::Save(Target::To(to)) => save_to(
-            rt,
-            alloc,
-            asked,
-            to,
-            reader,
-            writer,
-            screen.is_terminal,
-        ),
+        Task::Save(Target::Out) => save_named(rt, alloc, words, asked, reader, writer, is_terminal),
+        Task::Save(Target::To(to)) => save_to(rt, alloc, asked, to, reader, writer, is_terminal),
         Task::Serve {
             port,
             sessions,
             workers,
             dumps,
         } => {
-            let ports = PortNumbers {
-                sessions: port,
-                dumps,
-            };
-            serve_port(
-                rt,
-                alloc,
-                asked,
-                ports,
-                sessions,
-                workers,
-                writer,
-                screen.is_terminal,
-            )
+            let service = Service::new(port, dumps, sessions, workers);
+            serve_port(rt, alloc, asked, service, writer, is_terminal)
         }
         Task::Ask { port } => ask_port(rt, alloc, port, input, writer),
-        Task::Fetch { port } => fetch_named(rt, alloc, words, port, writer, screen.is_terminal),
+        Task::Fetch { port } => fetch_named(rt, alloc, words, port, writer, is_terminal),
     }
 }
 

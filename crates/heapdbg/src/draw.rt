@@ -5,8 +5,8 @@ ghost use Rattle.heapdbg.specs.Runs.{IsDrawingOutcome, IsSessionDrawn};
 
 use crate::command_line::path_option;
 use crate::failure::{Fault, outcome};
+use crate::line_words::borrow_words;
 use crate::settings::{Settings, config};
-use crate::words::borrow_words;
 use dump_pump::{Outlet, WriteOutlet};
 use heap_trail::Machine;
 use region_picture::picture_of;

@@ -5,8 +5,8 @@ ghost use Rattle.heapdbg.specs.Explorations.{IsSessionBegun, IsExplored, IsHindr
 
 use crate::command_line::path_option;
 use crate::failure::{Fault, outcome};
+use crate::line_words::borrow_words;
 use crate::settings::{Settings, config};
-use crate::words::borrow_words;
 use dump_pump::Outlet;
 use heap_console::load_lines;
 use heap_trail::Machine;

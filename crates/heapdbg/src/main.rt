@@ -10,6 +10,7 @@ mod explore;
 mod failure;
 mod fetch;
 mod folder;
+mod line_words;
 mod progress;
 mod refusal;
 mod save;
@@ -20,7 +21,6 @@ mod settings;
 mod socket_options;
 mod task;
 mod terminals;
-mod words;
 
 use std::io::IsTerminal;
 use std::process::ExitCode;

@@ -5,7 +5,7 @@
 mod collector;
 mod mutator;
 
-use collector::{Pace, collect};
+use collector::{Pace, mark, sweep};
 use heap::{
     Actor, Answer, Claim, Config, Dumped, Event, Heap, Kind, LastSeen, Machine, Name, Outcome,
     Pumped, Refusal, Role, Seats, Shared, Task, WriteOutlet, define_class, dump, work_on,
@@ -47,7 +47,50 @@ struct Report {
     seen: u64,
 }
 
-/// Has all threads work, each with a seat, and dumps the heap to a file.
+/// Defines the classes, and has all threads work, each with a seat. Returns None if anything was refused.
+fn run<'a, L: Heap + Send + Sync, W: Write + Drop, R: Threads + Wait + Sync>(
+    rt: &'a R,
+    alloc: Global,
+    shared: &'a Shared<L>,
+    mut seats: Seats<L>,
+    file: W,
+) -> Option<Report> {
+    let mut user = Actor::new(rt, alloc, shared, seats.take()?);
+    let one = Actor::new(rt, alloc, shared, seats.take()?);
+    let two = Actor::new(rt, alloc, shared, seats.take()?);
+    let marker = Actor::new(rt, alloc, shared, seats.take()?);
+    let sweeper = Actor::new(rt, alloc, shared, seats.take()?);
+    user.act(node_class(alloc).ok()?).ok()?;
+    let name = Name::new(alloc, b"[Node;").ok()?;
+    user.act(Event::ArrayClass { name }).ok()?;
+    let pace = &Pace::new();
+    let outlet = WriteOutlet::new(file);
+    let ((one, two), (marker, (swept, dumped))) = join(
+        rt,
+        move || join(
+            rt,
+            move || mutate(pace, 0, one),
+            move || mutate(pace, 1, two),
+        ),
+        move || {
+            join(
+                rt,
+                move || mark(pace, marker),
+                move || {
+                    join(
+                        rt,
+                        move || sweep(pace, sweeper),
+                        move || dump(rt, alloc, shared, 0, outlet, LastSeen { bytes: 0 }),
+                    )
+                },
+            )
+        },
+    );
+    swept?;
+    audited(&one?, &two?, &marker?, dumped)
+}
+
+/// The work of all threads, which dump the heap to a file.
 #[derive(Drop)]
 struct Work<W: Write> {
     file: W,
@@ -59,32 +102,10 @@ impl<W: Write + Drop> Task<Option<Report>> for Work<W> {
         rt: &R,
         alloc: Global,
         shared: &Shared<L>,
-        mut seats: Seats<L>,
+        seats: Seats<L>,
     ) -> Option<Report> {
-        let mut actor = || Some(Actor::new(rt, alloc, shared, seats.take()?));
-        let (mut user, one, two) = (actor()?, actor()?, actor()?);
-        let (marker, sweeper) = (actor()?, actor()?);
-        user.act(node_class(alloc).ok()?).ok()?;
-        let name = Name::new(alloc, b"[Node;").ok()?;
-        user.act(Event::ArrayClass { name }).ok()?;
-        let pace = &Pace::new();
-        let outlet = WriteOutlet::new(self.file);
-        let ((one, two), (marker, dumped)) = join(
-            rt,
-            move || join(
-                rt,
-                move || mutate(pace, 0, one),
-                move || mutate(pace, 1, two),
-            ),
-            move || {
-                join(
-                    rt,
-                    move || collect(rt, pace, marker, sweeper),
-                    move || dump(rt, alloc, shared, 0, outlet, LastSeen { bytes: 0 }),
-                )
-            },
-        );
-        audited(&one?, &two?, &marker?, dumped)
+        let Work { file } = self;
+        run(rt, alloc, shared, seats, file)
     }
 }
 

@@ -5,7 +5,7 @@ ghost use Rattle.dump_meter.specs.Seats.{sum, cancel_asked, cancel_found};
 
 use crate::parts::{Asking, PinParts, one_point, points, text_of};
 use crate::sinks::{Gated, reaches};
-use crate::streaming::{into_writer, stream_whole};
+use crate::streaming::into_writer;
 use dump_meter::{AskSeat, Cancel, FeedSeat, Meter, NewMeter, OutSeat};
 use dump_pipe::Watched;
 use dump_pump::{Pumped, WriteOutlet, pump};
@@ -140,7 +140,8 @@ fn cancelled_by_two<R: Threads + Wait + Sync>(
     requires feed { feed.meter ≡ meter.now }
 {
     let (here, gate) = (AtomicU64::new(0), AtomicU64::new(0));
-    let (here_now, gate_now) = (&here, &gate);
+    let here_now = &here;
+    let gate_now = &gate;
     let (held, (pumped, text)) = thread::join(
         rt,
         move || -> bool
@@ -153,13 +154,26 @@ fn cancelled_by_two<R: Threads + Wait + Sync>(
             requires { IsSync R.row × (0 < parts.left) × (out ≡ sum meter.now 0)
                 × (feed.meter ≡ meter.now) }
         {
-            let source = Watched {
+            let mut seat = out;
+            let mut source = Watched {
                 source: parts,
                 cancel: meter.cancel(),
                 seat: feed,
             };
-            let writer = Gated::new(alloc, 8000, here_now, gate_now);
-            let (pumped, writer) = stream_whole(rt, alloc, source, writer, meter, out);
+            let writer = Gated {
+                taken: Vec::new(alloc),
+                held: 8000,
+                here: here_now,
+                gate: gate_now,
+            };
+            let (pumped, writer) = into_writer(
+                rt,
+                alloc,
+                &mut source,
+                writer,
+                &meter.progress(),
+                &mut seat,
+            );
             (pumped, writer.taken)
         },
     );

@@ -452,29 +452,6 @@ fn entries<L: Heap, R: Wait>(rt: &R, shared: &Shared<L>) -> u64 {
 
 // ---- all four
 
-/// Returns whether the history has just the acts of both mutators, the marker and the sweeper, and one more, receipts agree
-/// with it, and the mutators' lists are there.
-fn agree<L: Heap, R: Wait>(
-    rt: &R,
-    shared: &Shared<L>,
-    user: &mut Seat<L>,
-    mutated: (&Mutated, &Mutated),
-    marked: u64,
-    sweeps: u64,
-) -> Option<bool> {
-    let (first, first_length) = agreed(rt, shared, mutated.0)?;
-    let (second, second_length) = agreed(rt, shared, mutated.1)?;
-    let acts = first
-        .saturating_add(second)
-        .saturating_add(marked)
-        .saturating_add(sweeps);
-    Some(
-        entries(rt, shared) == acts.saturating_add(1)
-            && has_list(rt, shared, user, 0, first_length)
-            && has_list(rt, shared, user, 1, second_length),
-    )
-}
-
 /// Has two mutators, the marker and the sweeper act, each in a thread of its own. Returns whether all cycles were finished and
 /// swept, their receipts agree with the history, in which there is one entry for each act, and the mutators' lists are there.
 fn by_four<L: Heap + Send + Sync, R: Threads + Wait + Sync>(
@@ -486,7 +463,9 @@ fn by_four<L: Heap + Send + Sync, R: Threads + Wait + Sync>(
     workers: (Seat<L>, Seat<L>),
 ) -> Option<bool> {
     let (begun, finished, swept) = (AtomicU64::new(0), AtomicU64::new(0), AtomicU64::new(0));
-    let (begun_now, finished_now, swept_now) = (&begun, &finished, &swept);
+    let begun_now = &begun;
+    let finished_now = &finished;
+    let swept_now = &swept;
     let (one, two) = mutators;
     let (marker, sweeper) = workers;
     let ((a, b), (c, (is_swept, sweeps))) = thread::join(
@@ -514,8 +493,19 @@ fn by_four<L: Heap + Send + Sync, R: Threads + Wait + Sync>(
             )
         },
     );
+    let (first, first_length) = agreed(rt, shared, &a)?;
+    let (second, second_length) = agreed(rt, shared, &b)?;
     let marks = marked(rt, shared, &c)?;
-    Some(is_swept && agree(rt, shared, user, (&a, &b), marks, sweeps)?)
+    let acts = first
+        .saturating_add(second)
+        .saturating_add(marks)
+        .saturating_add(sweeps);
+    Some(
+        is_swept
+            && entries(rt, shared) == acts.saturating_add(1)
+            && has_list(rt, shared, user, 0, first_length)
+            && has_list(rt, shared, user, 1, second_length),
+    )
 }
 
 fn opened<L: Heap + Send + Sync, R: Threads + Wait + Sync>(

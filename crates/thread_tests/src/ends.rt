@@ -7,9 +7,9 @@ ghost use Rattle.dump_pipe.specs.declared.view.EndView.TheVariants.{Sends, Gets}
 
 use crate::parts::{Counted, PinParts, one_point, points};
 use crate::sinks::{Sink, reaches};
-use dump_meter::{Meter, NewMeter, OutSeat};
+use dump_meter::{Meter, NewMeter};
 use dump_pipe::start::Start;
-use dump_pipe::{End, Receiver, Sender, drain_pipe, feed, pipe};
+use dump_pipe::{drain_pipe, feed, pipe};
 use dump_pump::{Ending, Pumped, WriteOutlet};
 use std::alloc::{AllocError, Global};
 use std::sync::Wait;
@@ -17,46 +17,6 @@ use std::sync::atomic::{AtomicU64, Ordering};
 use std::test::*;
 use std::thread;
 use std::thread::Threads;
-
-/// Feeds all parts to a pipe, and counts in a word how often the source is asked. Returns how that ended, and the parts.
-fn fed<R: Wait>(
-    rt: &R,
-    sender: &Sender,
-    end: End,
-    parts: PinParts,
-    asked: &AtomicU64,
-) -> (Ending, PinParts)
-    requires parts { 0 < parts.left }
-    requires end { IsSeatAt (sends_on sender.now) end × (view end ≡ Sends []) }
-{
-    let mut end = end;
-    let mut source = Counted {
-        source: parts,
-        asked,
-    };
-    let ending = feed(rt, &mut source, sender, &mut end);
-    (ending, source.source)
-}
-
-/// Drains a pipe into a sink. Returns how that went, and the sink.
-fn drained<R: Wait>(
-    rt: &R,
-    receiver: &Receiver,
-    end: End,
-    sink: Sink,
-    meter: &Meter,
-    out: OutSeat,
-) -> (Pumped, Sink)
-    requires end { IsSeatAt (receives_on receiver.now) end × (view end ≡ Gets []) }
-    requires out { out ≡ sum meter.now 0 }
-{
-    let mut end = end;
-    let mut seat = out;
-    let mut outlet = WriteOutlet::new(sink);
-    let progress = meter.progress();
-    let pumped = drain_pipe(rt, receiver, &mut end, &mut outlet, &progress, &mut seat);
-    (pumped, outlet.into_writer())
-}
 
 /// Feeds the parts in one thread, and drains them into a sink in another once the source was asked `first` times. Returns how
 /// both went, how often the source had been asked when the drain began, the source and the sink.
@@ -83,15 +43,33 @@ fn by_two<R: Threads + Wait + Sync>(
         rt,
         move || -> (Ending, PinParts)
             requires { (0 < parts.left) × IsSeatAt (sends_on sender) one × (view one ≡ Sends []) }
-        { fed(rt, &sender, one, parts, asked_now) },
+        {
+            let mut end = one;
+            let mut source = Counted {
+                source: parts,
+                asked: asked_now,
+            };
+            let ending = feed(rt, &mut source, &sender, &mut end);
+            (ending, source.source)
+        },
         move || -> (u64, Pumped, Sink)
             requires { IsSeatAt (receives_on receiver) other × (view other ≡ Gets [])
                 × (out ≡ sum meter 0) }
         {
+            let mut end = other;
+            let mut seat = out;
+            let mut outlet = WriteOutlet::new(sink);
             reaches(asked_now, first);
             let count = asked_now.load(Ordering::SeqCst);
-            let (pumped, sink) = drained(rt, &receiver, other, sink, &meter, out);
-            (count, pumped, sink)
+            let pumped = drain_pipe(
+                rt,
+                &receiver,
+                &mut end,
+                &mut outlet,
+                &meter.progress(),
+                &mut seat,
+            );
+            (count, pumped, outlet.into_writer())
         },
     );
     Ok((ending, parts, count, pumped, sink))

@@ -54,8 +54,16 @@ fn read_by_two<L: Heap + Send + Sync, R: Threads + Wait + Sync>(
         move || -> (Pumped, usize)
             requires { IsSync R.row × (out ≡ sum meter.now 0) × (feed.meter ≡ meter.now) }
         {
-            let taken = Vec::new(alloc);
-            let (pumped, text) = streamed(rt, alloc, shared, pin, taken, meter, out, feed);
+            let (pumped, text) = streamed(
+                rt,
+                alloc,
+                shared,
+                pin,
+                Vec::new(alloc),
+                meter,
+                out,
+                feed,
+            );
             is_done.store(1, Ordering::SeqCst);
             (pumped, text.len())
         },

@@ -5,7 +5,7 @@ ghost use Rattle.dump_meter.specs.Seats.{sum, sum_read};
 
 use crate::parts::{PinParts, points};
 use crate::sinks::{Gated, Sink, reaches};
-use crate::streaming::stream_whole;
+use crate::streaming::into_writer;
 use dump_meter::{Meter, NewMeter, OutSeat, ReadSeat};
 use dump_pipe::pump_counted;
 use dump_pump::{Pumped, WriteOutlet};
@@ -48,8 +48,23 @@ fn read_while_held<R: Threads + Wait + Sync>(
         move || -> Pumped
             requires { IsSync R.row × (0 < parts.left) × (out ≡ sum meter.now 0) }
         {
-            let gated = Gated::new(alloc, 1, is_here, is_open);
-            stream_whole(rt, alloc, parts, gated, meter, out).0
+            let mut source = parts;
+            let mut seat = out;
+            let gated = Gated {
+                taken: Vec::new(alloc),
+                held: 1,
+                here: is_here,
+                gate: is_open,
+            };
+            let (pumped, _) = into_writer(
+                rt,
+                alloc,
+                &mut source,
+                gated,
+                &meter.progress(),
+                &mut seat,
+            );
+            pumped
         },
     );
     (pumped, read)

@@ -1,5 +1,4 @@
 //! Writers that fail, or wait.
-use std::alloc::Global;
 use std::io;
 use std::io::{ErrorKind, Write};
 use std::sync::atomic::{AtomicU64, Ordering};
@@ -49,18 +48,6 @@ pub struct Gated<'a> {
     pub held: usize,
     pub here: &'a AtomicU64,
     pub gate: &'a AtomicU64,
-}
-
-impl<'a> Gated<'a> {
-    /// Creates a gated writer that is held once it has `held` bytes.
-    pub fn new(alloc: Global, held: usize, here: &'a AtomicU64, gate: &'a AtomicU64) -> Gated<'a> {
-        Gated {
-            taken: Vec::new(alloc),
-            held,
-            here,
-            gate,
-        }
-    }
 }
 
 impl Write for Gated<'_> {

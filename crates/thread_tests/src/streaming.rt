@@ -36,23 +36,6 @@ pub fn into_writer<S: Source + Send, W: Write + Drop, R: Threads + Wait + Sync>(
     (pumped, outlet.into_writer())
 }
 
-/// Streams all of a source into a writer, counted from 0. Returns how it went, and the writer.
-pub fn stream_whole<S: Source + Send + Drop, W: Write + Drop, R: Threads + Wait + Sync>(
-    rt: &R,
-    alloc: Global,
-    source: S,
-    writer: W,
-    meter: &Meter,
-    out: OutSeat,
-) -> (Pumped, W)
-    requires source { 0 < (S.seen source).left }
-    requires out { out ≡ sum meter.now 0 }
-{
-    let mut source = source;
-    let mut seat = out;
-    into_writer(rt, alloc, &mut source, writer, &meter.progress(), &mut seat)
-}
-
 /// Streams the dump of points into a sink that fails once it has `most` bytes. Returns how it went, and how many bytes and
 /// parts there were.
 fn through<R: Threads + Wait + Sync>(
@@ -132,7 +115,16 @@ fn read_by_two<R: Threads + Wait + Sync>(
         move || -> Pumped
             requires { IsSync R.row × (0 < parts.left) × (out ≡ sum meter.now 0) }
         {
-            let (pumped, _) = stream_whole(rt, alloc, parts, Vec::new(alloc), meter, out);
+            let mut source = parts;
+            let mut seat = out;
+            let (pumped, _) = into_writer(
+                rt,
+                alloc,
+                &mut source,
+                Vec::new(alloc),
+                &meter.progress(),
+                &mut seat,
+            );
             is_done.store(1, Ordering::SeqCst);
             pumped
         },

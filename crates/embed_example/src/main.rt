@@ -2,18 +2,21 @@
 //! they did. `docs/EMBED.md` walks through it.
 #![tactic(auto)]
 
+ghost use Rattle.std.specs.Prelude.{◌≡◌};
+
 mod collector;
 mod mutator;
 
 use collector::{Pace, mark, sweep};
 use heap::{
-    Actor, Answer, Claim, Config, Dumped, Event, Heap, Kind, LastSeen, Machine, Name, Outcome,
-    Pumped, Refusal, Role, Seats, Shared, Task, WriteOutlet, define_class, dump, work_on,
+    Actor, Answer, Blank, Claim, Config, Dumped, Event, Heap, Kind, LastSeen, Machine, Name,
+    Outcome, Pumped, Refusal, Role, Seats, Shared, WriteOutlet, define_class, dump,
 };
 use mutator::{mutate, node};
 use std::alloc::{AllocError, Global};
 use std::fs::Files;
 use std::io::Write;
+use std::marker::Brand;
 use std::sync::Wait;
 use std::thread::{Threads, join};
 use std::{fs, io};
@@ -53,7 +56,7 @@ fn run<'a, L: Heap + Send + Sync, W: Write + Drop, R: Threads + Wait + Sync>(
     alloc: Global,
     shared: &'a Shared<L>,
     mut seats: Seats<L>,
-    file: W,
+    outlet: WriteOutlet<W>,
 ) -> Option<Report> {
     let mut user = Actor::new(rt, alloc, shared, seats.take()?);
     let one = Actor::new(rt, alloc, shared, seats.take()?);
@@ -64,7 +67,6 @@ fn run<'a, L: Heap + Send + Sync, W: Write + Drop, R: Threads + Wait + Sync>(
     let name = Name::new(alloc, b"[Node;").ok()?;
     user.act(Event::ArrayClass { name }).ok()?;
     let pace = &Pace::new();
-    let outlet = WriteOutlet::new(file);
     let ((one, two), (marker, (swept, dumped))) = join(
         rt,
         move || join(
@@ -90,23 +92,35 @@ fn run<'a, L: Heap + Send + Sync, W: Write + Drop, R: Threads + Wait + Sync>(
     audited(&one?, &two?, &marker?, dumped)
 }
 
-/// The work of all threads, which dump the heap to a file.
-#[derive(Drop)]
-struct Work<W: Write> {
+/// Opens the heap, and has all threads work on it. Returns None if anything was refused.
+fn open<L: Heap + Send + Sync, W: Write + Drop, R: Threads + Wait + Sync>(
+    rt: &R,
+    alloc: Global,
+    blank: Blank,
     file: W,
+) -> Option<Report>
+    requires { (blank.config ≡ L.config) × (blank.tables ≡ L.tables) × (blank.ledger ≡ L.ledger) }
+{
+    let (shared, seats) = blank.open::<L>();
+    run(rt, alloc, &shared, seats, WriteOutlet::new(file))
 }
 
-impl<W: Write + Drop> Task<Option<Report>> for Work<W> {
-    fn work<L: Heap + Send + Sync, R: Threads + Wait + Sync>(
-        self,
-        rt: &R,
-        alloc: Global,
-        shared: &Shared<L>,
-        seats: Seats<L>,
-    ) -> Option<Report> {
-        let Work { file } = self;
-        run(rt, alloc, shared, seats, file)
-    }
+/// Creates the heap, and has all threads work on it. Returns None if anything was refused.
+fn shared_heap<W: Write + Drop, R: Threads + Wait + Sync>(
+    rt: &R,
+    alloc: Global,
+    config: Config,
+    file: W,
+) -> Option<Report> {
+    let roles = [
+        Role::User,
+        Role::Mutator(0),
+        Role::Mutator(1),
+        Role::Marker,
+        Role::Sweeper,
+    ];
+    let blank = Blank::new(alloc, config, roles.as_slice()).ok()?;
+    open::<Brand, W, R>(rt, alloc, blank, file)
 }
 
 /// Returns the number of objects that were made.
@@ -169,16 +183,9 @@ fn main(rt: HostRuntime) -> io::Result<()> {
     let Some(config) = Config::new(REGIONS, 2, 1024) else {
         return println!(rt; "the settings are out of range");
     };
-    let roles = [
-        Role::User,
-        Role::Mutator(0),
-        Role::Mutator(1),
-        Role::Marker,
-        Role::Sweeper,
-    ];
-    match work_on(&rt, rt.alloc(), config, roles.as_slice(), Work { file }) {
-        Ok(Some(report)) => print_report(&rt, &report)?,
-        _ => println!(rt; "something was refused")?,
+    match shared_heap(&rt, rt.alloc(), config, file) {
+        Some(report) => print_report(&rt, &report)?,
+        None => println!(rt; "something was refused")?,
     }
     match rewound(rt.alloc(), config) {
         Ok(place) => println!(rt; "a machine of its own is back at place {place} of 4"),

@@ -2,7 +2,6 @@
 use crate::ROUNDS;
 use heap::{Actor, Count, Heap, MarkEnd, Open, SweepEnd};
 use std::sync::Wait;
-use std::thread::{Threads, join};
 
 /// The number of rounds that mutators ended, of cycles that were marked, and of cycles that were swept.
 #[derive(Drop)]
@@ -24,7 +23,10 @@ impl Pace {
 }
 
 /// Marks a cycle each time both mutators have ended a round and the cycle before is swept. Returns the marker.
-fn mark<'a, L: Heap, R: Wait>(pace: &Pace, mut marker: Actor<'a, L, R>) -> Option<Actor<'a, L, R>> {
+pub fn mark<'a, L: Heap, R: Wait>(
+    pace: &Pace,
+    mut marker: Actor<'a, L, R>,
+) -> Option<Actor<'a, L, R>> {
     for cycle in 0..ROUNDS {
         pace.ended.wait_for(2 * cycle + 2)?;
         pace.swept.wait_for(cycle)?;
@@ -37,7 +39,7 @@ fn mark<'a, L: Heap, R: Wait>(pace: &Pace, mut marker: Actor<'a, L, R>) -> Optio
 }
 
 /// Sweeps all regions after each cycle. Returns None if something is refused.
-fn sweep<L: Heap, R: Wait>(pace: &Pace, mut sweeper: Actor<'_, L, R>) -> Option<()> {
+pub fn sweep<L: Heap, R: Wait>(pace: &Pace, mut sweeper: Actor<'_, L, R>) -> Option<()> {
     for cycle in 0..ROUNDS {
         pace.marked.wait_for(cycle + 1)?;
         let Ok(SweepEnd::Swept) = sweeper.sweep_regions(&mut Open, u64::MAX) else {
@@ -46,16 +48,4 @@ fn sweep<L: Heap, R: Wait>(pace: &Pace, mut sweeper: Actor<'_, L, R>) -> Option<
         pace.swept.raise();
     }
     Some(())
-}
-
-/// Has a marker and a sweeper take turns, each in a thread of its own. Returns the marker.
-pub fn collect<'a, L: Heap + Send + Sync, R: Threads + Wait + Sync>(
-    rt: &R,
-    pace: &Pace,
-    marker: Actor<'a, L, R>,
-    sweeper: Actor<'a, L, R>,
-) -> Option<Actor<'a, L, R>> {
-    let (marker, swept) = join(rt, move || mark(pace, marker), move || sweep(pace, sweeper));
-    swept?;
-    marker
 }

@@ -2,18 +2,21 @@
 //! they did. `docs/EMBED.md` walks through it.
 #![tactic(auto)]
 
+ghost use Rattle.std.specs.Prelude.{◌≡◌};
+
 mod collector;
 mod mutator;
 
-use collector::{Pace, collect};
+use collector::{Pace, mark, sweep};
 use heap::{
-    Actor, Answer, Claim, Config, Dumped, Event, Heap, Kind, LastSeen, Machine, Name, Outcome,
-    Pumped, Refusal, Role, Seats, Shared, Task, WriteOutlet, define_class, dump, work_on,
+    Actor, Answer, Blank, Claim, Config, Dumped, Event, Heap, Kind, LastSeen, Machine, Name,
+    Outcome, Pumped, Refusal, Role, Seats, Shared, WriteOutlet, define_class, dump,
 };
 use mutator::{mutate, node};
 use std::alloc::{AllocError, Global};
 use std::fs::Files;
 use std::io::Write;
+use std::marker::Brand;
 use std::sync::Wait;
 use std::thread::{Threads, join};
 use std::{fs, io};
@@ -47,45 +50,77 @@ struct Report {
     seen: u64,
 }
 
-/// Has all threads work, each with a seat, and dumps the heap to a file.
-#[derive(Drop)]
-struct Work<W: Write> {
-    file: W,
+/// Defines the classes, and has all threads work, each with a seat. Returns None if anything was refused.
+fn run<'a, L: Heap + Send + Sync, W: Write + Drop, R: Threads + Wait + Sync>(
+    rt: &'a R,
+    alloc: Global,
+    shared: &'a Shared<L>,
+    mut seats: Seats<L>,
+    outlet: WriteOutlet<W>,
+) -> Option<Report> {
+    let mut user = Actor::new(rt, alloc, shared, seats.take()?);
+    let one = Actor::new(rt, alloc, shared, seats.take()?);
+    let two = Actor::new(rt, alloc, shared, seats.take()?);
+    let marker = Actor::new(rt, alloc, shared, seats.take()?);
+    let sweeper = Actor::new(rt, alloc, shared, seats.take()?);
+    user.act(node_class(alloc).ok()?).ok()?;
+    let name = Name::new(alloc, b"[Node;").ok()?;
+    user.act(Event::ArrayClass { name }).ok()?;
+    let pace = &Pace::new();
+    let ((one, two), (marker, (swept, dumped))) = join(
+        rt,
+        move || join(
+            rt,
+            move || mutate(pace, 0, one),
+            move || mutate(pace, 1, two),
+        ),
+        move || {
+            join(
+                rt,
+                move || mark(pace, marker),
+                move || {
+                    join(
+                        rt,
+                        move || sweep(pace, sweeper),
+                        move || dump(rt, alloc, shared, 0, outlet, LastSeen { bytes: 0 }),
+                    )
+                },
+            )
+        },
+    );
+    swept?;
+    audited(&one?, &two?, &marker?, dumped)
 }
 
-impl<W: Write + Drop> Task<Option<Report>> for Work<W> {
-    fn work<L: Heap + Send + Sync, R: Threads + Wait + Sync>(
-        self,
-        rt: &R,
-        alloc: Global,
-        shared: &Shared<L>,
-        mut seats: Seats<L>,
-    ) -> Option<Report> {
-        let mut actor = || Some(Actor::new(rt, alloc, shared, seats.take()?));
-        let (mut user, one, two) = (actor()?, actor()?, actor()?);
-        let (marker, sweeper) = (actor()?, actor()?);
-        user.act(node_class(alloc).ok()?).ok()?;
-        let name = Name::new(alloc, b"[Node;").ok()?;
-        user.act(Event::ArrayClass { name }).ok()?;
-        let pace = &Pace::new();
-        let outlet = WriteOutlet::new(self.file);
-        let ((one, two), (marker, dumped)) = join(
-            rt,
-            move || join(
-                rt,
-                move || mutate(pace, 0, one),
-                move || mutate(pace, 1, two),
-            ),
-            move || {
-                join(
-                    rt,
-                    move || collect(rt, pace, marker, sweeper),
-                    move || dump(rt, alloc, shared, 0, outlet, LastSeen { bytes: 0 }),
-                )
-            },
-        );
-        audited(&one?, &two?, &marker?, dumped)
-    }
+/// Opens the heap, and has all threads work on it. Returns None if anything was refused.
+fn open<L: Heap + Send + Sync, W: Write + Drop, R: Threads + Wait + Sync>(
+    rt: &R,
+    alloc: Global,
+    blank: Blank,
+    file: W,
+) -> Option<Report>
+    requires { (blank.config ≡ L.config) × (blank.tables ≡ L.tables) × (blank.ledger ≡ L.ledger) }
+{
+    let (shared, seats) = blank.open::<L>();
+    run(rt, alloc, &shared, seats, WriteOutlet::new(file))
+}
+
+/// Creates the heap, and has all threads work on it. Returns None if anything was refused.
+fn shared_heap<W: Write + Drop, R: Threads + Wait + Sync>(
+    rt: &R,
+    alloc: Global,
+    config: Config,
+    file: W,
+) -> Option<Report> {
+    let roles = [
+        Role::User,
+        Role::Mutator(0),
+        Role::Mutator(1),
+        Role::Marker,
+        Role::Sweeper,
+    ];
+    let blank = Blank::new(alloc, config, roles.as_slice()).ok()?;
+    open::<Brand, W, R>(rt, alloc, blank, file)
 }
 
 /// Returns the number of objects that were made.
@@ -148,16 +183,9 @@ fn main(rt: HostRuntime) -> io::Result<()> {
     let Some(config) = Config::new(REGIONS, 2, 1024) else {
         return println!(rt; "the settings are out of range");
     };
-    let roles = [
-        Role::User,
-        Role::Mutator(0),
-        Role::Mutator(1),
-        Role::Marker,
-        Role::Sweeper,
-    ];
-    match work_on(&rt, rt.alloc(), config, roles.as_slice(), Work { file }) {
-        Ok(Some(report)) => print_report(&rt, &report)?,
-        _ => println!(rt; "something was refused")?,
+    match shared_heap(&rt, rt.alloc(), config, file) {
+        Some(report) => print_report(&rt, &report)?,
+        None => println!(rt; "something was refused")?,
     }
     match rewound(rt.alloc(), config) {
         Ok(place) => println!(rt; "a machine of its own is back at place {place} of 4"),

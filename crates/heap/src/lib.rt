@@ -7,7 +7,6 @@ pub mod classes;
 pub mod copies;
 pub mod count;
 pub mod dumps;
-pub mod tasks;
 
 pub use actor::{Actor, Denial};
 pub use audits::{Claim, audit_claims};
@@ -23,4 +22,3 @@ pub use heap_trail::{Action, Machine};
 pub use heap_work::{Gate, MarkEnd, Open, SweepEnd, mark_worker, sweep_worker};
 pub use heap_world::Config;
 pub use live_dump::stream;
-pub use tasks::{Task, work_on};

@@ -50,9 +50,9 @@ abbrev pub IsToldRefusal : Outcome → Denial → Type 0
 IsToldRefusal outcome d = (e : Refusal) × (outcome ≡ Outcomes.Refused e) × (d ≡ Refused e)
 
 -- the actor is as before, and has another role, or no memory was found for a claim
-abbrev pub IsIdle : Role → ActorState → Denial → ActorState → Type 0
-IsIdle role a WrongRole a' = (a.seat.role ≢ role) × (a' ≡ a)
-IsIdle role a (Refused e) a' = (e ≡ NoMemory) × (a' ≡ a)
+abbrev pub IsActorIdle : Role → ActorState → Denial → ActorState → Type 0
+IsActorIdle role a WrongRole a' = (a.seat.role ≢ role) × (a' ≡ a)
+IsActorIdle role a (Refused e) a' = (e ≡ NoMemory) × (a' ≡ a)
 
 -- the claim of the end of a cycle, if it is finished
 abbrev pub end_claims : MarkEnd → List (Action × Receipt)

@@ -16,7 +16,7 @@ abbrev pub IsClosing : HeapSettings → List Call → ℕ → List Call → Type
 IsClosing config seen pin after = (reply : Reply) × Witnesses config seen (ClosePin pin) reply after
 
 -- a pin was opened on the current state, a stream of it with this time put out its pieces, and then it was closed
-pub record DumpsNow (config : HeapSettings) (time : ℕ) (w w' : Outgoing) (r : Pumped) : Type 0 where
+pub record DumpsCurrent (config : HeapSettings) (time : ℕ) (w w' : Outgoing) (r : Pumped) : Type 0 where
   pub pin : ℕ
   pub place : ℕ
   pub before : List Call
@@ -36,5 +36,5 @@ IsNoDump config e =
 
 -- a dump of the current state ended so, or it was refused, and nothing was put out
 abbrev pub IsDumped : HeapSettings → ℕ → Outgoing → Result Pumped Refusal → Outgoing → Type 0
-IsDumped config time w (Ok r) w' = DumpsNow config time w w' r
+IsDumped config time w (Ok r) w' = DumpsCurrent config time w w' r
 IsDumped config time w (Err e) w' = IsNoDump config e × (w' ≡ w)

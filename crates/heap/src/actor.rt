@@ -6,7 +6,7 @@ ghost use Rattle.heap_lock.specs.declared.entry.Role.TheVariants.{Marker, Sweepe
 ghost use Rattle.heap_lock.specs.LockStates.{IsNoEntry, IsReceived, Stands};
 ghost use Rattle.heap_lock.specs.Roles.{may};
 ghost use Rattle.heap_work.specs.Rule.{IsMarkWork, IsSweepWork};
-ghost use Rattle.heap.specs.Actors.{end_claims, IsAudited, IsClaimed, IsDenied, IsIdle, IsToldRefusal};
+ghost use Rattle.heap.specs.Actors.{end_claims, IsAudited, IsClaimed, IsDenied, IsActorIdle, IsToldRefusal};
 
 use crate::audits::{Claim, audit_claims};
 use crate::copies::step_of;
@@ -155,7 +155,7 @@ impl<'a, L: Heap, R: Wait> Actor<'a, L, R> {
         ensures marked { IfOk result
             (λ end. IsMarkWork L.config self.old.seat self.new.seat turns end) }
         ensures claims { IfOk result (λ end. self.new.claims ≡ self.old.claims ++ end_claims end) }
-        ensures denied { IfErr result (λ d. IsIdle Marker self.old d self.new) }
+        ensures denied { IfErr result (λ d. IsActorIdle Marker self.old d self.new) }
     {
         if self.seat.role() != Role::Marker {
             return Err(Denial::WrongRole);
@@ -175,7 +175,7 @@ impl<'a, L: Heap, R: Wait> Actor<'a, L, R> {
         ensures swept { IfOk result
             (λ end. IsSweepWork L.config self.old.seat self.new.seat turns end) }
         ensures claims { self.new.claims ≡ self.old.claims }
-        ensures denied { IfErr result (λ d. IsIdle Sweeper self.old d self.new) }
+        ensures denied { IfErr result (λ d. IsActorIdle Sweeper self.old d self.new) }
     {
         if self.seat.role() != Role::Sweeper {
             return Err(Denial::WrongRole);

@@ -15,7 +15,7 @@ use std::sync::atomic::{AtomicU64, Ordering};
 use std::thread::{Threads, join, yield_now};
 
 /// Who watches a dump, in a thread beside it.
-pub trait Watcher {
+pub trait DumpWatcher {
     /// Is told how many bytes are out, again and again, and once more after the dump has ended. Returns whether the dump may go
     /// on; after the first false it is cancelled.
     fn see(&mut self, bytes: u64) -> bool;
@@ -28,7 +28,7 @@ pub struct LastSeen {
     pub bytes: u64,
 }
 
-impl Watcher for LastSeen {
+impl DumpWatcher for LastSeen {
     fn see(&mut self, bytes: u64) -> bool {
         self.bytes = bytes;
         true
@@ -37,7 +37,7 @@ impl Watcher for LastSeen {
 
 /// A dump that has ended, or that was refused.
 #[derive(Drop)]
-pub struct Dumped<O: Outlet + Drop, W: Watcher + Drop> {
+pub struct Dumped<O: Outlet + Drop, W: DumpWatcher + Drop> {
     /// How it ended.
     pub end: Result<Pumped, Refusal>,
     /// Where it was put out.
@@ -48,7 +48,7 @@ pub struct Dumped<O: Outlet + Drop, W: Watcher + Drop> {
 
 // A watcher, and the seats of a meter that it needs.
 #[derive(Drop)]
-struct Watching<'a, W: Watcher + Drop> {
+struct Watching<'a, W: DumpWatcher + Drop> {
     watcher: W,
     meter: &'a Meter,
     reader: ReadSeat,
@@ -71,7 +71,7 @@ struct Writing<'a, O: Outlet + Drop> {
 
 // Shows a watcher the bytes that are out until the dump has ended, and asks to cancel it if the watcher wants that. Returns the
 // watcher.
-fn watch<W: Watcher + Drop>(watching: Watching<'_, W>, has_ended: &AtomicU64) -> W {
+fn watch<W: DumpWatcher + Drop>(watching: Watching<'_, W>, has_ended: &AtomicU64) -> W {
     let Watching {
         mut watcher,
         meter,
@@ -134,7 +134,7 @@ fn write<L: Heap + Send + Sync, O: Outlet + Drop, R: Threads + Wait + Sync>(
 fn write_watched<
     L: Heap + Send + Sync,
     O: Outlet + Drop,
-    W: Watcher + Drop + Send,
+    W: DumpWatcher + Drop + Send,
     R: Threads + Wait + Sync,
 >(
     rt: &R,
@@ -173,7 +173,7 @@ fn write_watched<
 pub fn dump<
     L: Heap + Send + Sync,
     O: Outlet + Drop,
-    W: Watcher + Drop + Send,
+    W: DumpWatcher + Drop + Send,
     R: Threads + Wait + Sync,
 >(rt: &R, alloc: Global, shared: &Shared<L>, time: u64, outlet: O, watcher: W) -> Dumped<O, W>
     ensures { IsDumped L.config time (O.seen outlet) result.end (O.seen result.outlet) }

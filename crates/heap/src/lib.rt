@@ -14,7 +14,7 @@ pub use classes::define_class;
 pub use count::Count;
 pub use dump_meter::{AskSeat, FeedSeat, Meter, NewMeter, OutSeat, ReadSeat};
 pub use dump_pump::{Outlet, Pumped, WriteOutlet};
-pub use dumps::{Dumped, LastSeen, Watcher, dump};
+pub use dumps::{DumpWatcher, Dumped, LastSeen, dump};
 pub use heap_class::{Field, Fields, Kind, Name, Refusal};
 pub use heap_lock::{Blank, Heap, Outcome, Receipt, Role, Seat, Seats, Shared, Witness, audit};
 pub use heap_step::{Answer, Event};

@@ -83,7 +83,7 @@ fn load<'a, R: Eprint + Files>(
     settings: &Settings,
     mut asking: Asking<'a>,
 ) -> Result<Asking<'a>, Fault>
-    requires { IsOpening settings.now asking.entry }
+    requires { IsOpening settings.now asking }
     ensures begun { IfOk result (IsSessionBegun true settings.now) }
     ensures hindrance { IfErr result (IsHindrance true) }
 {

@@ -21,26 +21,26 @@ use std::sync::Wait;
 use std::thread::{Threads, join};
 use std::{fs, io};
 
-/// The file of the dump.
+// The file of the dump.
 const FILE: &str = "embed.hprof";
 
-/// The number of regions, and of rounds of each mutator.
+// The number of regions, and of rounds of each mutator.
 const REGIONS: u64 = 16;
 
 const ROUNDS: u64 = 20;
 
-/// The numbers of the class of nodes, which is defined first, and of that of maps.
+// The numbers of the class of nodes, which is defined first, and of that of maps.
 const NODE: u64 = 0;
 
 const MAP: u64 = 1;
 
-/// Creates the definition of the class of nodes.
+// Creates the definition of the class of nodes.
 fn node_class(alloc: Global) -> Result<Event, AllocError> {
     define_class(alloc, b"Node", None, &[(b"next", Kind::Object)])
 }
 
-/// The objects that mutators made, the cycles that were swept, the receipts that stand, how the dump ended, and the bytes that
-/// were seen of it last.
+// The objects that mutators made, the cycles that were swept, the receipts that stand, how the dump ended, and the bytes that
+// were seen of it last.
 #[derive(Clone, Copy)]
 struct Report {
     made: usize,
@@ -50,7 +50,7 @@ struct Report {
     seen: u64,
 }
 
-/// Defines the classes, and has all threads work, each with a seat. Returns None if anything was refused.
+// Defines the classes, and has all threads work, each with a seat. Returns None if anything was refused.
 fn run<'a, L: Heap + Send + Sync, W: Write + Drop, R: Threads + Wait + Sync>(
     rt: &'a R,
     alloc: Global,
@@ -92,7 +92,7 @@ fn run<'a, L: Heap + Send + Sync, W: Write + Drop, R: Threads + Wait + Sync>(
     audited(&one?, &two?, &marker?, dumped)
 }
 
-/// Opens the heap, and has all threads work on it. Returns None if anything was refused.
+// Opens the heap, and has all threads work on it. Returns None if anything was refused.
 fn open<L: Heap + Send + Sync, W: Write + Drop, R: Threads + Wait + Sync>(
     rt: &R,
     alloc: Global,
@@ -105,7 +105,7 @@ fn open<L: Heap + Send + Sync, W: Write + Drop, R: Threads + Wait + Sync>(
     run(rt, alloc, &shared, seats, WriteOutlet::new(file))
 }
 
-/// Creates the heap, and has all threads work on it. Returns None if anything was refused.
+// Creates the heap, and has all threads work on it. Returns None if anything was refused.
 fn shared_heap<W: Write + Drop, R: Threads + Wait + Sync>(
     rt: &R,
     alloc: Global,
@@ -123,7 +123,7 @@ fn shared_heap<W: Write + Drop, R: Threads + Wait + Sync>(
     open::<Brand, W, R>(rt, alloc, blank, file)
 }
 
-/// Returns the number of objects that were made.
+// Returns the number of objects that were made.
 fn count_made(claims: &[Claim]) -> usize {
     claims
         .iter()
@@ -131,7 +131,7 @@ fn count_made(claims: &[Claim]) -> usize {
         .count()
 }
 
-/// Audits what the threads did. Returns None if a receipt doesn't stand.
+// Audits what the threads did. Returns None if a receipt doesn't stand.
 fn audited<L: Heap, W: Write + Drop, R: Wait>(
     one: &Actor<'_, L, R>,
     two: &Actor<'_, L, R>,
@@ -152,7 +152,7 @@ fn audited<L: Heap, W: Write + Drop, R: Wait>(
     })
 }
 
-/// Prints what came of the threads.
+// Prints what came of the threads.
 fn print_report<R: Print + Files>(rt: &R, report: &Report) -> io::Result<()> {
     let size = fs::metadata(rt, FILE)?.len();
     let is_whole = report.dumped == Ok(Pumped::Done { bytes: size }) && report.seen == size;
@@ -168,7 +168,7 @@ fn print_report<R: Print + Files>(rt: &R, report: &Report) -> io::Result<()> {
     println!(rt; "{} receipts stand in the audit", report.receipts)
 }
 
-/// Defines a class and makes three nodes on a machine of one's own, and undoes all but the class. Returns the place.
+// Defines a class and makes three nodes on a machine of one's own, and undoes all but the class. Returns the place.
 fn rewound(alloc: Global, config: Config) -> Result<u64, Refusal> {
     let mut machine = Machine::new(alloc, config)?;
     machine.step(&node_class(alloc)?)?;

@@ -4,12 +4,12 @@ use crate::{MAP, NODE, ROUNDS};
 use heap::{Actor, Denial, Event, Heap};
 use std::sync::Wait;
 
-/// The number of nodes in a list, and of keys in a map.
+// The number of nodes in a list, and of keys in a map.
 const NODES: u64 = 150;
 
 const KEYS: u64 = 49;
 
-/// The number of rounds that a mutator may be ahead of the sweeper.
+// The number of rounds that a mutator may be ahead of the sweeper.
 const AHEAD: u64 = 2;
 
 /// Creates the event that makes a node in register `r` of mutator `m`.
@@ -17,7 +17,7 @@ pub fn node(m: u64, r: u64) -> Event {
     Event::New { m, r, class: NODE }
 }
 
-/// Creates the event that links a slot of the object in register `target` to the object in register `source`.
+// Creates the event that links a slot of the object in register `target` to the object in register `source`.
 fn link(m: u64, target: u64, slot: u64, source: u64) -> Event {
     Event::Store {
         m,
@@ -27,7 +27,7 @@ fn link(m: u64, target: u64, slot: u64, source: u64) -> Event {
     }
 }
 
-/// Builds a list in registers 0 and 1, each node linked to the one before it.
+// Builds a list in registers 0 and 1, each node linked to the one before it.
 fn build_list<L: Heap, R: Wait>(mutator: &mut Actor<'_, L, R>, m: u64) -> Result<(), Denial> {
     for i in 0..NODES {
         mutator.act(node(m, i % 2))?;
@@ -36,7 +36,7 @@ fn build_list<L: Heap, R: Wait>(mutator: &mut Actor<'_, L, R>, m: u64) -> Result
     Ok(())
 }
 
-/// Builds a map in register 2, and its nodes in register 3.
+// Builds a map in register 2, and its nodes in register 3.
 fn build_map<L: Heap, R: Wait>(mutator: &mut Actor<'_, L, R>, m: u64) -> Result<(), Denial> {
     let (r, class, len) = (2, MAP, KEYS);
     mutator.act(Event::NewArray { m, r, class, len })?;
@@ -47,7 +47,7 @@ fn build_map<L: Heap, R: Wait>(mutator: &mut Actor<'_, L, R>, m: u64) -> Result<
     Ok(())
 }
 
-/// Builds list and map, and drops both.
+// Builds list and map, and drops both.
 fn build_and_drop<L: Heap, R: Wait>(mutator: &mut Actor<'_, L, R>, m: u64) -> Result<(), Denial> {
     build_list(mutator, m)?;
     build_map(mutator, m)?;

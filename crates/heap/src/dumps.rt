@@ -16,7 +16,7 @@ use std::thread::{Threads, join, yield_now};
 
 /// Who watches a dump, in a thread beside it.
 pub trait DumpWatcher {
-    /// Is told how many bytes are out, again and again, and once more after the dump has ended. Returns whether the dump may go
+    /// Sees how many bytes are out, again and again, and once more after the dump has ended. Returns whether the dump may go
     /// on; after the first false it is cancelled.
     fn see(&mut self, bytes: u64) -> bool;
 }

@@ -70,6 +70,7 @@ install:
 	install -D -m 644 completions/heapdbg.bash $(BASHDIR)/heapdbg
 	install -d $(DOCDIR)
 	install -m 644 $(DOCS) $(DOCDIR)
+	install -D -m 644 examples/leak.svg $(DOCDIR)/examples/leak.svg
 
 uninstall:
 	rm -f $(BINDIR)/heapdbg $(MANDIR)/heapdbg.1 $(BASHDIR)/heapdbg

@@ -3,11 +3,15 @@
 
 PROGRAM is `bin/heapdbg` if it isn't given; words before its name are a command that runs it, such as `valgrind -q`. The
 clients send lines of every kind by lot, a page of lines at a time, and open two pins on one place, dump both and close them.
-Prints a line for each reply that is not well formed, for a dump that can't be read or whose references name no object of it,
-for two whole dumps of one place that differ, and for a session that ended otherwise than by `end`; then how much was done, and
-the memory of the program after the first minute and at the end, with the acts done by then. Status 1 if anything was wrong.
+The program has its two workers, which mark and sweep the cycles that clients begin, and `DUMPERS` more clients (2) fetch dumps
+from its second port, one after another. Prints a line for each reply that is not well formed, for a dump that can't be read or
+whose references name no object of it, for two whole dumps of one place that differ, and for a session that ended otherwise than
+by `end`; then how much was done, and the memory of the program after the first minute and at the end, with the acts done by
+then. Status 1 if anything was wrong. A fetched dump may be empty or cut: the clients' pins may be all that can be open, and
+their rewinds lose others' pins.
 
-A heap that is served takes 1,000,000 acts in all, so the clients pause between pages as long as that they don't run out of them.
+A heap that is served takes 1,000,000 acts in all, those of its workers included, so the clients pause between pages as long as
+that they don't run out of them.
 No reply says at which turn it was given, so whether they fit one history can't be seen here: `audit.py` looks at that."""
 import contextlib
 import os
@@ -28,12 +32,15 @@ sys.path.append(str(TOP / "clients/python"))
 from heapdbg import Ended, Refused, Session  # noqa: E402
 
 CLIENTS = int(os.environ.get("CLIENTS") or 8)
+DUMPERS = int(os.environ.get("DUMPERS") or 2)
 MUTATORS = 4
 # How many seconds a reply, or the program's end, may take.
 LIMIT = 300
 # How many acts the clients may do together, and how many lines are in a page.
-ACTS = 900_000
+ACTS = 500_000
 PAGE = 40
+# The last record of a dump.
+END = b"\x2c" + bytes(8)
 NUMBER = r"(0|[1-9][0-9]*)"
 ID = r"0x[0-9a-f]{8}"
 FACTS = {18: f" {NUMBER} {NUMBER}", 19: f" {NUMBER}", 20: f" {NUMBER}", 21: f" {NUMBER} {NUMBER}", 23: " (Rewound|Memory)"}
@@ -153,6 +160,35 @@ class Client(Session):
         self.stop()
 
 
+class Dumper:
+    """A client of the second port, with what it saw."""
+
+    def __init__(self, port):
+        self.port = port
+        self.whole = self.cut = self.empty = 0
+        self.wrong = []
+
+    def fetches(self, seconds):
+        """Fetches dumps for so many seconds."""
+        end = time.monotonic() + seconds
+        while time.monotonic() < end:
+            with contextlib.suppress(ConnectionResetError), socket.create_connection(("127.0.0.1", self.port), LIMIT) as client:
+                text = b"".join(iter(lambda: client.recv(1 << 16), b""))
+                self.look_at(text)
+
+    def look_at(self, text):
+        """Looks at what came until the end of the connection."""
+        if not text:
+            self.empty += 1
+            time.sleep(0.05)
+        elif text.endswith(END):
+            self.whole += 1
+            if fault := segments.fault_of(text):
+                self.wrong.append(f"a fetched dump of {len(text)} bytes: {fault}")
+        else:
+            self.cut += 1
+
+
 def memory(child):
     """Returns how many KiB of memory the program has."""
     found = re.search(r"VmRSS:\s+(\d+) kB", pathlib.Path(f"/proc/{child.pid}/status").read_text())
@@ -184,9 +220,10 @@ def total(clients, name):
     return sum(getattr(client, name) for client in clients)
 
 
-def worked(child, clients, seconds):
+def worked(child, clients, dumpers, seconds):
     """Has all clients work. Returns when the memory of the program was looked at, how much it was and after how many acts."""
     threads = [threading.Thread(target=client.works, args=(number, seconds)) for number, client in enumerate(clients)]
+    threads += [threading.Thread(target=dumper.fetches, args=(seconds - 1,)) for dumper in dumpers]
     for thread in threads:
         thread.start()
     first = min(60, seconds / 2)
@@ -201,24 +238,28 @@ def worked(child, clients, seconds):
 
 def main(program, seconds):
     """Returns the exit status."""
-    port = free_port()
+    port, second = free_port(), free_port()
     line = [*program, "serve", "--port", str(port), "--sessions", str(CLIENTS), "--mutators", str(MUTATORS)]
+    line += ["--workers", "1", "--dumps", str(second)]
     child = subprocess.Popen(line, stdout=subprocess.PIPE, stderr=subprocess.PIPE)
     try:
         clients = connected(port)
-        looks = worked(child, clients, seconds)
+        dumpers = [Dumper(second) for _ in range(DUMPERS)]
+        looks = worked(child, clients, dumpers, seconds)
         out, error = child.communicate(timeout=LIMIT)
     finally:
         if child.poll() is None:
             child.kill()
-    wrong = [text for client in clients for text in client.wrong]
+    wrong = [text for client in (*clients, *dumpers) for text in client.wrong]
     wanted = "".join(f"session {number} quit\n" for number in range(1, CLIENTS + 1)).encode()
-    if (child.returncode, out, error) != (0, wanted, b""):
+    if (child.returncode, out) != (0, wanted) or not re.fullmatch(rb"(heapdbg: dump (PinLimit|Rewound)\n)*", error):
         wrong.append(f"the program ended with {child.returncode}, {out!r} and {error!r}")
     for text in wrong[:50]:
         print(text)
     done = [total(clients, name) for name in ("lines", "dumps", "pairs", "lost", "bytes")]
     print("{} lines, {} whole dumps, {} pairs of equal dumps, {} pairs with a lost pin, {} bytes of dumps".format(*done))
+    fetched = [total(dumpers, name) for name in ("whole", "cut", "empty")]
+    print("{} dumps fetched whole, {} cut, {} empty".format(*fetched))
     print("memory: " + ", ".join("{1} KiB after {0:.0f} s and {2} acts".format(*look) for look in looks))
     return 1 if wrong else 0
 

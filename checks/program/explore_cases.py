@@ -2,6 +2,8 @@
 import os
 import pathlib
 import pty
+import select
+import signal
 import subprocess
 import tempfile
 
@@ -53,8 +55,19 @@ def files_first(program):
     yield "a folder", run(program, words, b"snap\n"), (0, b"ok pushed 0\n", said)
 
 
-def typed(program, words, given):
-    """Returns what a terminal shows of a program whose three streams it is, with its echo off, and the status."""
+def shown_next(stream, seconds):
+    """Returns what a terminal shows next, or nothing if its program has ended or that takes too long."""
+    if not select.select([stream], [], [], seconds)[0]:
+        return b""
+    try:
+        return os.read(stream.fileno(), 4096)
+    except OSError:
+        return b""
+
+
+def typed(program, words, given, seconds=SECONDS):
+    """Returns what a terminal shows of a program whose three streams it is, with its echo off, and the status. Types nothing more
+    once a prompt takes too long."""
     child, terminal = pty.fork()
     if child == 0:
         os.execv(program, ["heapdbg", *words])
@@ -62,15 +75,17 @@ def typed(program, words, given):
         subprocess.run(["stty", "-echo", "-onlcr"], stdin=stream, check=True, timeout=SECONDS)
         shown = bytearray()
         for line in given:
-            while not shown.endswith(b"> "):
-                shown += os.read(stream.fileno(), 4096)
+            while not shown.endswith(b"> ") and (more := shown_next(stream, seconds)):
+                shown += more
+            if not shown.endswith(b"> "):
+                break
             stream.write(line)
             shown += b"|"
-        try:
-            while more := os.read(stream.fileno(), 4096):
+        else:
+            while more := shown_next(stream, seconds):
                 shown += more
-        except OSError:
-            pass
+        if not shown.endswith(b"|\n"):
+            os.kill(child, signal.SIGKILL)
         status = os.waitstatus_to_exitcode(os.waitpid(child, 0)[1])
     return bytes(shown), status
 

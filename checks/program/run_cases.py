@@ -96,5 +96,8 @@ def would_block(program):
     os.set_blocking(output, False)
     ran = run(program, ["run"], b"clear 0 0\n" * room, stdout=output)
     os.close(output)
-    with open(come, "rb") as taken:
-        yield "an output that doesn't wait", (*ran, taken.read()), (1, b"", b"heapdbg: write\n", (b"ok\n" * room)[:room])
+    with open(come, "rb") as output:
+        taken = output.read()
+    # How much of it the pipe takes hangs on the parts in which the input comes.
+    is_beginning = 0 < len(taken) <= room and (b"ok\n" * room).startswith(taken)
+    yield "an output that doesn't wait", (*ran, is_beginning), (1, b"", b"heapdbg: write\n", True)

@@ -43,8 +43,8 @@ pub fn fetch<R: Wait, I: Inlet, O: Outlet, W: Watcher>(
     outlet: &mut O,
     watcher: &mut W,
 ) -> Fetched
-    ensures { IsFetched (I.seen inlet.old) (I.seen inlet.new) (O.seen outlet.old) (O.seen outlet.new)
-        result }
+    ensures { IsFetched (I.seen inlet.old) (I.seen inlet.new) (O.seen outlet.old)
+        (O.seen outlet.new) result }
 {
     let mut room = [0u8; PIECE];
     let mut scan = Scan::new();

@@ -31,7 +31,8 @@ fn finish_word(finish: Finish) -> &'static [u8]
 
 /// Puts out the last line: how the fetch ended, and the number of bytes that it put out. Returns whether all of it is out.
 pub fn write_last<O: Outlet>(writer: &mut O, fetched: &Fetched) -> bool
-    ensures { IsTextWritten (fetch_line_of fetched.now) (O.seen writer.old) (O.seen writer.new) result }
+    ensures { IsTextWritten (fetch_line_of fetched.now) (O.seen writer.old) (O.seen writer.new)
+        result }
 {
     if !write_all(writer, finish_word(fetched.finish)) {
         return false;

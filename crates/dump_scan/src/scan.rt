@@ -4,10 +4,10 @@ ghost use Rattle.dump_scan.specs.Records.{completes, header_size};
 
 use crate::front::{Front, HEAD_ROOM};
 
-/// The tag of HEAP DUMP END.
+// The tag of HEAP DUMP END.
 const END_TAG: u8 = 0x2c;
 
-/// The size of the header of a dump in bytes.
+// The size of the header of a dump in bytes.
 const HEADER_SIZE: u64 = 31;
 
 /// How far a dump has come.
@@ -33,7 +33,8 @@ impl Scan {
 
     /// Follows the next bytes. What completed the dump after them is what completes it now.
     pub fn follow(&mut self, bytes: &[u8])
-        ensures { (rest : List ℕ) → completes self.old (bytes.now ++ rest) ≡ completes self.new rest }
+        ensures { (rest : List ℕ)
+            → completes self.old (bytes.now ++ rest) ≡ completes self.new rest }
     {
         for byte in bytes {
             *self = self.step(*byte);

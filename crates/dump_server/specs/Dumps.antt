@@ -17,7 +17,8 @@ use Rattle.live_dump.specs.Streams.{PutsLive}
 use Rattle.live_dump.specs.StreamTexts.{PutsBeginning}
 
 -- a stream of the pin ended so, from the calls that were seen before to those that were seen after
-abbrev pub PutsServedPin : HeapSettings → ℕ → ℕ → List Call → List Call → Outgoing → Outgoing → Pumped
+abbrev pub PutsServedPin : HeapSettings → ℕ → ℕ → List Call → List Call → Outgoing → Outgoing
+    → Pumped
     → Type 0
 PutsServedPin config pin time start seen w w' r =
     (found : Bool) × PutsLive config pin time start seen found w w' r × IsLegalLedger config seen
@@ -47,7 +48,8 @@ pub record IsDump (config : HeapSettings) (time : ℕ) (w w' : Outgoing) (r : Pu
   pub before : List Call
   pub after : List Call
   pub found : Bool
-  pub put : PutsLive config pin time (opened before pin place) (opened before pin place ++ after) found w w' r
+  pub put : PutsLive config pin time (opened before pin place) (opened before pin place ++ after)
+      found w w' r
   pub legal : IsLegalLedger config (opened before pin place ++ after)
   pub text : PutsState config pin place time before after put.given w w' r
   pub closed : IsClosed config pin (opened before pin place ++ after)
@@ -57,4 +59,5 @@ abbrev pub IsDumpRefused : HeapSettings → Refusal → Type 0
 IsDumpRefused config e =
     ((before later : List Call) × Witnesses config before (OpenPin None) (Refused e) later)
     ⊎ ((e ≡ NoMemory) × (before : List Call) × (pin place : ℕ)
-    × IsLegalLedger config (opened before pin place) × IsClosed config pin (opened before pin place))
+    × IsLegalLedger config (opened before pin place)
+    × IsClosed config pin (opened before pin place))

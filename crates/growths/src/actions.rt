@@ -27,7 +27,7 @@ fn add_answer(digest: &mut Digest, answer: &Answer) {
     }
 }
 
-/// Does an action. If it is refused memory and has changed nothing, does it again.
+// Does an action. If it is refused memory and has changed nothing, does it again.
 fn act(machine: &mut Machine, action: &Action) -> Reply {
     let before = digest_of(machine);
     match machine.act(action) {
@@ -43,7 +43,7 @@ fn act(machine: &mut Machine, action: &Action) -> Reply {
 }
 
 impl ActionReport {
-    /// Returns what no action was answered.
+    // Returns what no action was answered.
     fn new() -> ActionReport {
         ActionReport {
             answers: Digest::new(),
@@ -52,7 +52,7 @@ impl ActionReport {
         }
     }
 
-    /// Adds a reply.
+    // Adds a reply.
     fn add(&mut self, reply: &Reply) {
         match reply {
             Reply::Answered(answer) => add_answer(&mut self.answers, answer),

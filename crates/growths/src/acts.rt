@@ -10,10 +10,10 @@ use std::alloc::Global;
 use std::marker::Brand;
 use std::sync::Wait;
 
-/// Acts of a test.
+// Acts of a test.
 const ACTS: u64 = 6;
 
-/// Creates a heap with the seat of a user.
+// Creates a heap with the seat of a user.
 fn create_heap(alloc: Global, config: Config) -> Option<Blank> {
     let roles = [Role::User];
     match Blank::new(alloc, config, roles.as_slice()) {
@@ -22,7 +22,7 @@ fn create_heap(alloc: Global, config: Config) -> Option<Blank> {
     }
 }
 
-/// Creates the event of an act: an array that fills a region, or nothing new.
+// Creates the event of an act: an array that fills a region, or nothing new.
 fn event_of_act(number: u64) -> Event {
     if number % 2 == 0 {
         Event::NewPrim {
@@ -36,7 +36,7 @@ fn event_of_act(number: u64) -> Event {
     }
 }
 
-/// Returns what the act is answered: the id of the first object of a region, or nothing new.
+// Returns what the act is answered: the id of the first object of a region, or nothing new.
 fn answer(number: u64) -> Outcome {
     match number {
         0 => Outcome::Answered(Answer::Object(0x1000_0000)),
@@ -46,7 +46,7 @@ fn answer(number: u64) -> Outcome {
     }
 }
 
-/// Does an act. If it is refused memory and has left no entry and no step, does it again.
+// Does an act. If it is refused memory and has left no entry and no step, does it again.
 fn act<L: Heap>(kept: &mut Kept<L>, seat: &mut Seat<L>, number: u64) -> Option<Receipt> {
     let (event, again) = (event_of_act(number), event_of_act(number));
     if !seat.may(&event) || !seat.may(&again) {
@@ -64,7 +64,7 @@ fn act<L: Heap>(kept: &mut Kept<L>, seat: &mut Seat<L>, number: u64) -> Option<R
     }
 }
 
-/// Does the acts. Returns how many entries there are if each has the receipt that it has without a refusal.
+// Does the acts. Returns how many entries there are if each has the receipt that it has without a refusal.
 fn act_all<L: Heap>(kept: &mut Kept<L>, seat: &mut Seat<L>) -> Option<usize> {
     for number in 0..ACTS {
         let receipt = act(kept, seat, number)?;

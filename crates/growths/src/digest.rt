@@ -1,6 +1,6 @@
 //! A digest of numbers.
 
-/// The prime of the 64-bit FNV-1a hash.
+// The prime of the 64-bit FNV-1a hash.
 const PRIME: u64 = 0x100_0000_01b3;
 
 /// The FNV-1a hash of numbers, each taken whole.

@@ -14,14 +14,14 @@ mod streams;
 use std::alloc::Global;
 use std::io::Write;
 
-/// Appends a line that says whether two runs of a script went alike.
+// Appends a line that says whether two runs of a script went alike.
 fn say<W: Write>(out: &mut W, name: &[u8], same: bool) {
     let word: &[u8] = if same { b" same\n" } else { b" differs\n" };
     let _ = out.write_all(name);
     let _ = out.write_all(word);
 }
 
-/// Does each script of actions twice, and says how they went.
+// Does each script of actions twice, and says how they went.
 fn compare_actions<W: Write>(alloc: Global, out: &mut W) {
     let same = scripts::is_repeated(alloc, scripts::sweep_and_reuse_rewound);
     say(out, b"sweep_and_reuse_rewound", same);

@@ -7,7 +7,7 @@ use heap_trail::{Action, Machine};
 use heap_world::Config;
 use std::alloc::{AllocError, Global};
 
-/// Returns what defines a class. If memory is refused, asks once more.
+// Returns what defines a class. If memory is refused, asks once more.
 fn ask_twice<F: Fn(Global) -> Result<Event, AllocError>>(alloc: Global, class: F) -> Option<Action>
     requires { F.IsAlwaysCallable class }
 {
@@ -17,13 +17,13 @@ fn ask_twice<F: Fn(Global) -> Result<Event, AllocError>>(alloc: Global, class: F
     }
 }
 
-/// Returns a class of object arrays.
+// Returns a class of object arrays.
 fn arrays(alloc: Global) -> Result<Event, AllocError> {
     let name = Name::new(alloc, b"[Lq;")?;
     Ok(Event::ArrayClass { name })
 }
 
-/// Returns a machine of two regions. If memory is refused, asks once more.
+// Returns a machine of two regions. If memory is refused, asks once more.
 fn create_machine(alloc: Global) -> Option<Machine> {
     let config = Config::new(2, 1, 64)?;
     match Machine::new(alloc, config) {
@@ -32,7 +32,7 @@ fn create_machine(alloc: Global) -> Option<Machine> {
     }
 }
 
-/// Does actions on a machine of two regions.
+// Does actions on a machine of two regions.
 fn run_script(alloc: Global, actions: &[Action]) -> Option<ActionReport> {
     let mut machine = create_machine(alloc)?;
     Some(act_all(&mut machine, actions))

@@ -8,7 +8,7 @@ use heap_region::Regions;
 use heap_trail::Machine;
 use heap_world::World;
 
-/// Cells of a region, at the most.
+// Cells of a region, at the most.
 const CELLS: u16 = 256;
 
 fn add_kind(digest: &mut Digest, kind: ObjKind) {

@@ -16,13 +16,13 @@ use std::marker::Brand;
 use std::sync::Wait;
 use std::thread::Threads;
 
-/// Arrays in the heap, each of which fills a region and a segment of the dump.
+// Arrays in the heap, each of which fills a region and a segment of the dump.
 const ARRAYS: u64 = 10;
 
-/// Bytes of the dump: the opening records, a segment for each array, one for a root, and the end.
+// Bytes of the dump: the opening records, a segment for each array, one for a root, and the end.
 const TEXT_SIZE: usize = 52 + 10 * 8219 + 18 + 9;
 
-/// How a stream went, what it put out, and whether every reader of the heap told the same before and after it.
+// How a stream went, what it put out, and whether every reader of the heap told the same before and after it.
 #[derive(Drop)]
 struct Streamed {
     pumped: Pumped,
@@ -30,7 +30,7 @@ struct Streamed {
     is_as_before: bool,
 }
 
-/// Creates an array that fills a region.
+// Creates an array that fills a region.
 fn longs() -> Event {
     Event::NewPrim {
         m: 0,
@@ -40,7 +40,7 @@ fn longs() -> Event {
     }
 }
 
-/// Makes an array. If memory is refused, asks once more.
+// Makes an array. If memory is refused, asks once more.
 fn make<L: Heap, R: Wait>(rt: &R, shared: &Shared<L>, user: &mut Seat<L>) -> bool {
     let (event, again) = (longs(), longs());
     if !user.may(&event) || !user.may(&again) {
@@ -52,7 +52,7 @@ fn make<L: Heap, R: Wait>(rt: &R, shared: &Shared<L>, user: &mut Seat<L>) -> boo
     }
 }
 
-/// Makes the arrays.
+// Makes the arrays.
 fn make_all<L: Heap, R: Wait>(rt: &R, shared: &Shared<L>, user: &mut Seat<L>) -> bool {
     for _ in 0..ARRAYS {
         if !make(rt, shared, user) {
@@ -62,7 +62,7 @@ fn make_all<L: Heap, R: Wait>(rt: &R, shared: &Shared<L>, user: &mut Seat<L>) ->
     true
 }
 
-/// Opens a pin. If memory is refused, asks once more.
+// Opens a pin. If memory is refused, asks once more.
 fn open<L: Heap, R: Wait>(rt: &R, shared: &Shared<L>, witness: &mut Witness<L>) -> Option<u64> {
     match shared.open_pin(rt, witness, None) {
         Ok(pinned) => Some(pinned.pin),
@@ -71,7 +71,7 @@ fn open<L: Heap, R: Wait>(rt: &R, shared: &Shared<L>, witness: &mut Witness<L>) 
     }
 }
 
-/// Creates a meter. If memory is refused, asks once more.
+// Creates a meter. If memory is refused, asks once more.
 fn create_meter(alloc: Global) -> Option<NewMeter>
     ensures out { IfSome result (λ m. m.out ≡ sum m.meter 0) }
     ensures feed { IfSome result (λ m. m.feed ≡ cancel_found m.meter false) }
@@ -82,7 +82,7 @@ fn create_meter(alloc: Global) -> Option<NewMeter>
     }
 }
 
-/// Creates an empty text with room for the dump. If memory is refused, asks once more.
+// Creates an empty text with room for the dump. If memory is refused, asks once more.
 fn reserve(alloc: Global) -> Option<Vec<u8>> {
     match Vec::with_capacity(alloc, TEXT_SIZE) {
         Ok(text) => Some(text),
@@ -90,7 +90,7 @@ fn reserve(alloc: Global) -> Option<Vec<u8>> {
     }
 }
 
-/// Returns what the readers of a heap tell.
+// Returns what the readers of a heap tell.
 fn digest_of_readers<L: Heap, R: Wait>(rt: &R, shared: &Shared<L>) -> Digest {
     let kept = shared.lock(rt);
     let mut digest = digest_of(kept.machine());
@@ -98,7 +98,7 @@ fn digest_of_readers<L: Heap, R: Wait>(rt: &R, shared: &Shared<L>) -> Digest {
     digest
 }
 
-/// Streams the dump of a pin behind a text. Returns how it went, and the text.
+// Streams the dump of a pin behind a text. Returns how it went, and the text.
 fn stream_behind<L: Heap + Send + Sync, R: Threads + Wait + Sync>(
     rt: &R,
     alloc: Global,
@@ -134,7 +134,7 @@ fn stream_behind<L: Heap + Send + Sync, R: Threads + Wait + Sync>(
     (pumped, outlet.into_writer(), witness)
 }
 
-/// Streams the dump of a new pin, and closes it.
+// Streams the dump of a new pin, and closes it.
 fn stream_once<L: Heap + Send + Sync, R: Threads + Wait + Sync>(
     rt: &R,
     alloc: Global,
@@ -155,7 +155,7 @@ fn stream_once<L: Heap + Send + Sync, R: Threads + Wait + Sync>(
     })
 }
 
-/// Tells whether a stream put out this text, or was lost for want of memory and put out a beginning of it.
+// Tells whether a stream put out this text, or was lost for want of memory and put out a beginning of it.
 fn is_of(streamed: &Streamed, text: &[u8]) -> bool {
     let size = streamed.text.len();
     let is_told = match streamed.pumped {
@@ -169,7 +169,7 @@ fn is_of(streamed: &Streamed, text: &[u8]) -> bool {
     is_told && streamed.is_as_before && text.starts_with(streamed.text.as_slice())
 }
 
-/// Tells whether two streams of one place, at most one of which was lost for want of memory, went as they must.
+// Tells whether two streams of one place, at most one of which was lost for want of memory, went as they must.
 fn are_right(first: &Streamed, second: &Streamed) -> bool {
     let text = if first.text.len() < second.text.len() {
         second.text.as_slice()
@@ -196,7 +196,7 @@ fn run_in<L: Heap + Send + Sync, R: Threads + Wait + Sync>(
     Some(are_right(&first, &second))
 }
 
-/// Creates a heap with a user's seat. If memory is refused, asks once more.
+// Creates a heap with a user's seat. If memory is refused, asks once more.
 fn create_heap(alloc: Global) -> Option<Blank> {
     let config = Config::new(16, 1, 1024)?;
     let roles = [Role::User];

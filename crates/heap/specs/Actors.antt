@@ -31,7 +31,8 @@ abbrev pub with_claim : ℕ → Action → Outcome → ActorState → ActorState
 with_claim turn action outcome a =
     record {
       seat = with_entry turn action outcome a.seat;
-      claims = a.claims ++ (action, record { seat = a.seat.number; turn = turn; answer = outcome }) ∷ [];
+      claims =
+          a.claims ++ (action, record { seat = a.seat.number; turn = turn; answer = outcome }) ∷ [];
     }
 
 -- the action has an entry with this outcome, which ends some legal history, and the actor claims it

@@ -16,7 +16,8 @@ abbrev pub IsClosing : HeapSettings → List Call → ℕ → List Call → Type
 IsClosing config seen pin after = (reply : Reply) × Witnesses config seen (ClosePin pin) reply after
 
 -- a pin was opened on the current state, a stream of it with this time put out its pieces, and then it was closed
-pub record DumpsCurrent (config : HeapSettings) (time : ℕ) (w w' : Outgoing) (r : Pumped) : Type 0 where
+pub record DumpsCurrent (config : HeapSettings) (time : ℕ) (w w' : Outgoing)
+    (r : Pumped) : Type 0 where
   pub pin : ℕ
   pub place : ℕ
   pub before : List Call

@@ -50,11 +50,11 @@ const NEAR: usize = 2;
 // What may help after a line that is no command.
 #[derive(Clone, Copy)]
 pub(crate) enum Advice {
-    /// The line begins with a keyword, whose form is this.
+    // The line begins with a keyword, whose form is this.
     Form(&'static str),
-    /// The line's first word is near a keyword, whose form is this.
+    // The line's first word is near a keyword, whose form is this.
     Near(&'static str),
-    /// The line's first word is like no keyword.
+    // The line's first word is like no keyword.
     Help,
 }
 

@@ -84,7 +84,7 @@ fn new_event(object: u64, m: u8, r: u8, old: u64) -> PastEvent
     }
 }
 
-/// Returns what the step with this record did, given the id of the object that it wrote or created.
+// Returns what the step with this record did, given the id of the object that it wrote or created.
 pub(crate) fn event_with(left: &Undo, object: u64) -> PastEvent
     ensures { result ≡ event_with left.now object }
 {

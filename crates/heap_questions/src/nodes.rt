@@ -16,15 +16,15 @@ const ID_STEP: u64 = 8;
 // The number of words of a heap: 1,024 for each of 256 regions.
 const HEAP_WORDS: u64 = 262_144;
 
-/// An object of a view: its place and its id.
+// An object of a view: its place and its id.
 #[derive(Clone, Copy)]
 pub(crate) struct Node {
     pub(crate) at: ObjRef,
     pub(crate) id: u64,
 }
 
-/// The objects of a view with their places, in order. If ids rise, as those of a heap do, hints tell where an id stands.
-/// Contracts see the list.
+// The objects of a view with their places, in order. If ids rise, as those of a heap do, hints tell where an id stands.
+// Contracts see the list.
 #[derive(Drop)]
 pub(crate) struct NodeList {
     nodes: Vec<Node>,
@@ -219,7 +219,7 @@ fn place_of(nodes: &[Node], node: usize) -> ObjRef
 }
 
 impl NodeList {
-    /// Lists the objects of a view. Fails with NoMemory. Reads each object's id once.
+    // Lists the objects of a view. Fails with NoMemory. Reads each object's id once.
     pub(crate) fn new<V: View>(alloc: Global, view: &V) -> Result<NodeList, Refusal>
         ensures nodes { IfOk result (λ ns. AreNodes (V.image view.now) (V.places view.now) ns) }
         ensures refused { IfErr result (λ e. e ≡ NoMemory) }
@@ -236,14 +236,14 @@ impl NodeList {
         })
     }
 
-    /// Returns the number of objects.
+    // Returns the number of objects.
     pub(crate) fn len(&self) -> usize
         ensures { result ≡ length self.now }
     {
         self.nodes.len()
     }
 
-    /// Finds the first node with this id.
+    // Finds the first node with this id.
     pub(crate) fn find(&self, id: u64) -> Option<usize>
         ensures { result ≡ node_with self.now id }
     {
@@ -251,7 +251,7 @@ impl NodeList {
         node_with(self.nodes.as_slice(), self.rising, guess, id)
     }
 
-    /// Returns the place of a node.
+    // Returns the place of a node.
     pub(crate) fn place(&self, node: usize) -> ObjRef
         requires { node < length self.now }
         ensures { (n : Node) → slice_get self.now node ≡ Some n → result ≡ n.at }
@@ -259,7 +259,7 @@ impl NodeList {
         place_of(self.nodes.as_slice(), node)
     }
 
-    /// Returns the id of a node.
+    // Returns the id of a node.
     pub(crate) fn id(&self, node: usize) -> u64
         requires { node < length self.now }
         ensures { (n : Node) → slice_get self.now node ≡ Some n → result ≡ n.id }

@@ -62,7 +62,7 @@ pub fn object_with<V: View>(view: &V, id: u64) -> Option<ShownObject<'_>>
     None
 }
 
-/// Returns the object with this id, or None if there is none. The nodes must be the view's.
+// Returns the object with this id, or None if there is none. The nodes must be the view's.
 pub(crate) fn shown_with<'a, V: View>(
     view: &'a V,
     nodes: &NodeList,

@@ -98,7 +98,7 @@ fn mark_at(marks: &[bool], index: usize) -> bool
     index < marks.len() && marks[index]
 }
 
-/// Counts the objects of a view that aren't marked. Fails with NoMemory. Reads each object once.
+// Counts the objects of a view that aren't marked. Fails with NoMemory. Reads each object once.
 pub(crate) fn count_unmarked<V: View>(
     alloc: Global,
     view: &V,

@@ -10,14 +10,14 @@ use heap_class::Refusal;
 use hprof_text::View;
 use std::alloc::Global;
 
-/// How an object was found: by a register, or by a slot of an object that was found before.
+// How an object was found: by a register, or by a slot of an object that was found before.
 #[derive(Clone, Copy)]
 pub(crate) enum Via {
     Register(u64),
     Slot { parent: usize, slot: u64 },
 }
 
-/// An object that was found: which node it is, its id, how many slots lead to it, and the last of them.
+// An object that was found: which node it is, its id, how many slots lead to it, and the last of them.
 #[derive(Clone, Copy)]
 pub(crate) struct Found {
     pub(crate) node: usize,
@@ -26,7 +26,7 @@ pub(crate) struct Found {
     pub(crate) via: Via,
 }
 
-/// What the registers reach: which nodes were found, and how, in the order in which they were.
+// What the registers reach: which nodes were found, and how, in the order in which they were.
 #[derive(Drop)]
 pub(crate) struct Reach {
     pub(crate) seen: Vec<bool>,
@@ -134,8 +134,8 @@ fn expand<V: View>(
     Ok(())
 }
 
-/// Finds all that the registers reach, breadth first. The nodes must be the view's. Fails with NoMemory. Reads each object
-/// once.
+// Finds all that the registers reach, breadth first. The nodes must be the view's. Fails with NoMemory. Reads each object
+// once.
 pub(crate) fn search<V: View>(alloc: Global, view: &V, nodes: &NodeList) -> Result<Reach, Refusal>
     requires { AreNodes (V.image view.now) (V.places view.now) nodes.now }
     ensures searched { IfOk result (λ r. IsSearched (V.image view.now) r.queue.items) }

@@ -56,7 +56,8 @@ pub record IsDumpAnswer (config : HeapSettings) (pin time : ℕ) (seen : List Ca
   pub ends : EndsData (length (joined given)) whole end
   pub exact : (place : ℕ) (before after : List Call)
       → AreAllGiven pin place time before after seen given
-      → Spells (dump_text config.ids (image_of (state_at config before place)) time) whole (joined given)
+      → Spells (dump_text config.ids (image_of (state_at config before place)) time) whole
+      (joined given)
 
 -- no pin was opened, and the answer is the line of that reply
 abbrev pub IsUnopened : List ℕ → Type 0

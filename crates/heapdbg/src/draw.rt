@@ -26,8 +26,8 @@ pub fn draw<R: Files, I: Inlet, O: Outlet>(
     writer: &mut O,
 ) -> Result<(), Fault>
     requires { AreHeapSettings settings.now.regions settings.now.mutators settings.now.keep }
-    ensures { IsSessionDrawn settings.now (I.seen reader.old) (I.seen reader.new) (O.seen writer.old)
-        (O.seen writer.new) result }
+    ensures { IsSessionDrawn settings.now (I.seen reader.old) (I.seen reader.new)
+        (O.seen writer.old) (O.seen writer.new) result }
 {
     match Machine::new(alloc, config(settings)) {
         Ok(machine) => {

@@ -29,7 +29,8 @@ PutsBeginning text w w' r =
 
 -- a stream that alone got the pieces of its pin puts out a beginning of the dump of the state at the pin's place, and all of it
 -- if it is done
-abbrev pub StreamsText : HeapSettings → ℕ → ℕ → List Call → List Call → Bool → Outgoing → Outgoing → Pumped
+abbrev pub StreamsText : HeapSettings → ℕ → ℕ → List Call → List Call → Bool → Outgoing → Outgoing
+    → Pumped
     → Type 0
 StreamsText config pin time start seen found w w' r =
     (s : PutsLive config pin time start seen found w w' r) → IsLegalLedger config seen

@@ -80,7 +80,8 @@ swept_by steps = sum_by (λ (s : TakenStep). swept_of s.1) steps
 
 -- sweeps lead from m to n, and remove this number of objects
 abbrev pub SweepsLead : Machine → ℕ → Machine → Type 0
-SweepsLead m count n = (steps : List TakenStep) × StepsLead IsSweep m steps n × (count ≡ swept_by steps)
+SweepsLead m count n =
+    (steps : List TakenStep) × StepsLead IsSweep m steps n × (count ≡ swept_by steps)
 
 -- a step of the marker leads from m to n, if there is one more
 abbrev pub MovesOn : Bool → Machine → Machine → Type 0

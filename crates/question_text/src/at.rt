@@ -10,12 +10,12 @@ use heap_class::Refusal;
 use heap_pins::{Pin, PinView};
 use heap_trail::Machine;
 
-/// A state that a question is about, held to be looked at.
+// A state that a question is about, held to be looked at.
 #[derive(Drop)]
 pub(crate) enum Moment {
-    /// A pin of the question's own.
+    // A pin of the question's own.
     Own(Pin),
-    /// The number of an open pin.
+    // The number of an open pin.
     Open(u64),
 }
 
@@ -53,8 +53,8 @@ fn moment_now(machine: &Machine) -> Result<Moment, Refusal>
     Ok(Moment::Own(pin))
 }
 
-/// Returns the moment that a question is about. Fails with NotRetained if the state of its place isn't retained, and with
-/// NoMemory. A pin by its number is looked up when it is viewed.
+// Returns the moment that a question is about. Fails with NotRetained if the state of its place isn't retained, and with
+// NoMemory. A pin by its number is looked up when it is viewed.
 pub(crate) fn moment_at(machine: &Machine, at: At) -> Result<Moment, Refusal>
     ensures image { IfOk result
         (λ h. IsMomentOf machine.now h
@@ -68,8 +68,8 @@ pub(crate) fn moment_at(machine: &Machine, at: At) -> Result<Moment, Refusal>
     }
 }
 
-/// Returns the view of a moment. Fails with NoPin if it is that of a pin that isn't open, and with Lost and its cause if that
-/// pin is lost. Takes no memory.
+// Returns the view of a moment. Fails with NoPin if it is that of a pin that isn't open, and with Lost and its cause if that
+// pin is lost. Takes no memory.
 pub(crate) fn view_of<'a>(machine: &'a Machine, moment: &'a Moment) -> Result<PinView<'a>, Refusal>
     requires { IsMomentOf machine.now moment.now }
     ensures view { IfOk result

@@ -22,7 +22,7 @@ fn birth_line(machine: &Machine, at: ObjRef) -> LineAnswer
     }
 }
 
-/// Returns the answer of `born`. Reads each record since the object was made once. Takes no memory.
+// Returns the answer of `born`. Reads each record since the object was made once. Takes no memory.
 pub(crate) fn born_answer(machine: &Machine, id: u64) -> LineAnswer
     ensures { IsBornText id machine.now.trail (line_answer_text result) }
 {

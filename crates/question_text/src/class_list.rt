@@ -88,7 +88,7 @@ fn push_classes(text: &mut Vec<u8>, classes: &FirstClasses<'_>) -> Result<(), Re
     Ok(())
 }
 
-/// Returns the answer of `classes` about a view. Fails with NoMemory if an allocation fails.
+// Returns the answer of `classes` about a view. Fails with NoMemory if an allocation fails.
 pub(crate) fn classes_answer<V: View>(alloc: Global, view: &V) -> Result<Vec<u8>, Refusal>
     ensures text { IfOk result (λ text. IsClassesText (V.image view.now) text.items) }
     ensures refused { IfErr result (λ e. e ≡ NoMemory) }

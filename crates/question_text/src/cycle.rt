@@ -13,7 +13,7 @@ use session_text::LineAnswer;
 use session_text::words::Words;
 use std::alloc::Global;
 
-/// Tells whether a line is `collect`.
+// Tells whether a line is `collect`.
 pub(crate) fn is_collect(line: &[u8]) -> bool
     ensures { result ≡ is_collect line.now }
 {
@@ -185,8 +185,8 @@ fn cycle_line(alloc: Global, counts: CycleCounts) -> Result<Vec<u8>, Refusal>
     Ok(text)
 }
 
-/// Runs a whole cycle, or finishes the one that runs, with sweeps before and after it, and returns the answer of `collect`. The
-/// steps up to one that is refused stand, and its refusal is the answer.
+// Runs a whole cycle, or finishes the one that runs, with sweeps before and after it, and returns the answer of `collect`. The
+// steps up to one that is refused stand, and its refusal is the answer.
 pub(crate) fn collect(alloc: Global, machine: &mut Machine) -> LineAnswer
     ensures { Collects machine.old (line_answer_text result) machine.new }
 {

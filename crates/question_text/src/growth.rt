@@ -90,8 +90,8 @@ fn changes_text(
     Ok(text)
 }
 
-/// Returns the answer of `growth` from an older view to a newer one. Fails with NoMemory if an allocation fails. Reads each
-/// object once.
+// Returns the answer of `growth` from an older view to a newer one. Fails with NoMemory if an allocation fails. Reads each
+// object once.
 pub(crate) fn growth_answer<V: View>(
     alloc: Global,
     older: &V,
@@ -99,7 +99,8 @@ pub(crate) fn growth_answer<V: View>(
 ) -> Result<Vec<u8>, Refusal>
     requires { V.ids older.now ≡ V.ids newer.now }
     ensures text { IfOk result
-        (λ text. IsGrowthText (V.ids newer.now) (V.image older.now) (V.image newer.now) text.items) }
+        (λ text. IsGrowthText (V.ids newer.now) (V.image older.now) (V.image newer.now)
+        text.items) }
     ensures refused { IfErr result (λ e. e ≡ NoMemory) }
 {
     let before = count_by_class(alloc, older)?;

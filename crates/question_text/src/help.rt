@@ -210,7 +210,7 @@ fn help_of(line: &[u8]) -> Option<&'static [u8]>
     help_about(words)
 }
 
-/// Returns the answer of a line that asks no question: that of `help`, if it asks for it. Takes no memory.
+// Returns the answer of a line that asks no question: that of `help`, if it asks for it. Takes no memory.
 pub(crate) fn help_answer(line: &[u8]) -> LineAnswer
     ensures { line_answer_text result ≡ help_or_bad line.now }
 {

@@ -11,7 +11,7 @@ use heap_questions::{Histogram, Row, count_by_class, count_garbage, ranking};
 use hprof_text::View;
 use std::alloc::Global;
 
-/// Appends the numbers of a row, each after a space. Fails with NoMemory.
+// Appends the numbers of a row, each after a space. Fails with NoMemory.
 pub(crate) fn push_counts(text: &mut Vec<u8>, row: Row) -> Result<(), Refusal>
     ensures ok { OnOk result (text.new.items ≡ text.old.items ++ and_counts row) }
     ensures refused { IfErr result (λ e. e ≡ NoMemory) }
@@ -86,8 +86,8 @@ fn push_rows(
     Ok(())
 }
 
-/// Returns the lines of a count's rows, in order, and of their total, which must be below 2^64. Fails with NoMemory if an
-/// allocation fails.
+// Returns the lines of a count's rows, in order, and of their total, which must be below 2^64. Fails with NoMemory if an
+// allocation fails.
 pub(crate) fn rows_text(
     alloc: Global,
     classes: &FirstClasses<'_>,
@@ -108,7 +108,7 @@ pub(crate) fn rows_text(
     Ok(text)
 }
 
-/// Returns the answer of `histogram` about a view. Fails with NoMemory if an allocation fails. Reads each object once.
+// Returns the answer of `histogram` about a view. Fails with NoMemory if an allocation fails. Reads each object once.
 pub(crate) fn histogram_text<V: View>(alloc: Global, view: &V) -> Result<Vec<u8>, Refusal>
     ensures text { IfOk result
         (λ text. IsHistogramText (V.ids view.now) (V.image view.now) text.items) }
@@ -119,7 +119,7 @@ pub(crate) fn histogram_text<V: View>(alloc: Global, view: &V) -> Result<Vec<u8>
     rows_text(alloc, &classes, &histogram)
 }
 
-/// Returns the answer of `garbage` about a view. Fails with NoMemory if an allocation fails. Reads each object at most twice.
+// Returns the answer of `garbage` about a view. Fails with NoMemory if an allocation fails. Reads each object at most twice.
 pub(crate) fn garbage_text<V: View>(alloc: Global, view: &V) -> Result<Vec<u8>, Refusal>
     ensures text { IfOk result
         (λ text. IsGarbageText (V.ids view.now) (V.image view.now) text.items) }

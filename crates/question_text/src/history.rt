@@ -119,7 +119,7 @@ fn newest_text(alloc: Global, machine: &Machine, count: u64) -> Result<Vec<u8>, 
     Ok(text)
 }
 
-/// Returns the answer of `history`. Fails with NoMemory if an allocation fails. Reads each record once.
+// Returns the answer of `history`. Fails with NoMemory if an allocation fails. Reads each record once.
 pub(crate) fn history_answer(
     alloc: Global,
     machine: &Machine,

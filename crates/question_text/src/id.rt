@@ -12,7 +12,7 @@ use heap_class::Refusal;
 // The number of bytes of an id in a line.
 const ID_SIZE: usize = 10;
 
-/// Tells whether a word is this one.
+// Tells whether a word is this one.
 pub(crate) fn is_word(word: &[u8], name: &[u8]) -> bool
     ensures { result ≡ bytes_eq word.now name.now }
 {
@@ -58,7 +58,7 @@ fn hex_value(digits: &[u8]) -> Option<u64>
     Some(value)
 }
 
-/// Returns the id that a word is.
+// Returns the id that a word is.
 #[tactic(auto, unfolding(crate::specs::Ids::id_of_word))]
 pub(crate) fn id_of(word: &[u8]) -> Option<u64>
     ensures { result ≡ id_of_word word.now }
@@ -69,7 +69,7 @@ pub(crate) fn id_of(word: &[u8]) -> Option<u64>
     hex_value(&word[2..])
 }
 
-/// Appends a space and an id. Fails with NoMemory.
+// Appends a space and an id. Fails with NoMemory.
 pub(crate) fn push_id(text: &mut Vec<u8>, id: u64) -> Result<(), Refusal>
     ensures ok { OnOk result (text.new.items ≡ text.old.items ++ and_id id) }
     ensures refused { IfErr result (λ e. e ≡ NoMemory) }
@@ -82,7 +82,7 @@ pub(crate) fn push_id(text: &mut Vec<u8>, id: u64) -> Result<(), Refusal>
     push_words(text, &digits)
 }
 
-/// Appends a space, and an id or `null`. Fails with NoMemory.
+// Appends a space, and an id or `null`. Fails with NoMemory.
 pub(crate) fn push_reference(text: &mut Vec<u8>, id: u64) -> Result<(), Refusal>
     ensures ok { OnOk result (text.new.items ≡ text.old.items ++ and_reference id) }
     ensures refused { IfErr result (λ e. e ≡ NoMemory) }

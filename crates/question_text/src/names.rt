@@ -61,7 +61,7 @@ pub fn push_row_name(
     }
 }
 
-/// Appends the name of the class of an object of this kind, which must be there. Fails with NoMemory.
+// Appends the name of the class of an object of this kind, which must be there. Fails with NoMemory.
 #[tactic(auto, unfolding(crate::specs::Names::class_name))]
 pub(crate) fn push_class_name(
     text: &mut Vec<u8>,

@@ -87,8 +87,8 @@ fn route_text<V: View>(alloc: Global, view: &V, path: &Path, id: u64) -> Result<
     Ok(text)
 }
 
-/// Returns the answer of `path` about a view. Fails with NoObject if the id names no object, with Unreachable if no register
-/// reaches it, and with NoMemory if an allocation fails. Reads each object a few times, however long the path is.
+// Returns the answer of `path` about a view. Fails with NoObject if the id names no object, with Unreachable if no register
+// reaches it, and with NoMemory if an allocation fails. Reads each object a few times, however long the path is.
 pub(crate) fn path_answer<V: View>(alloc: Global, view: &V, id: u64) -> Result<Vec<u8>, Unanswered>
     ensures { IsToldOf (IsPathText id) (V.image view.now) (told_text result) }
 {

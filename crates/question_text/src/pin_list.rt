@@ -80,7 +80,7 @@ fn pins_text(alloc: Global, machine: &Machine) -> Result<Vec<u8>, Refusal>
     Ok(text)
 }
 
-/// Returns the answer of `pins`. Fails with NoMemory if an allocation fails.
+// Returns the answer of `pins`. Fails with NoMemory if an allocation fails.
 pub(crate) fn pins_answer(alloc: Global, machine: &Machine) -> Result<Vec<u8>, Unanswered>
     ensures { IsPinsText machine.now.pins (told_text result) }
 {

@@ -8,7 +8,7 @@ use heap_class::ObjRef;
 use heap_trail::Machine;
 use session_text::LineAnswer;
 
-/// Returns the place of the object that an id names in the current state, dead or not, or None if it names none.
+// Returns the place of the object that an id names in the current state, dead or not, or None if it names none.
 pub(crate) fn place_of_object(machine: &Machine, id: u64) -> Option<ObjRef>
     ensures { MatchOption result (object_of machine.now.trail.current.regions id ≡ None)
         (λ at. StandsAt machine.now.trail.current id at) }
@@ -16,14 +16,14 @@ pub(crate) fn place_of_object(machine: &Machine, id: u64) -> Option<ObjRef>
     machine.world().regions().find(id)
 }
 
-/// Returns the line that names a place.
+// Returns the line that names a place.
 pub(crate) fn place_line(place: u64) -> LineAnswer
     ensures { line_answer_text result ≡ place_text place }
 {
     LineAnswer::Number(b"ok place", place)
 }
 
-/// Returns the line of what is older than all retained steps.
+// Returns the line of what is older than all retained steps.
 pub(crate) fn older_line(machine: &Machine) -> LineAnswer
     ensures { line_answer_text result ≡ older_text machine.now.trail }
 {

@@ -13,7 +13,7 @@ use heap_world::REGISTERS_EACH;
 use hprof_text::View;
 use std::alloc::Global;
 
-/// Appends the numbers of a register's mutator and of the register. Fails with NoMemory.
+// Appends the numbers of a register's mutator and of the register. Fails with NoMemory.
 pub(crate) fn push_register(text: &mut Vec<u8>, register: u64) -> Result<(), Refusal>
     ensures ok { OnOk result (text.new.items ≡ text.old.items ++ and_register register) }
     ensures refused { IfErr result (λ e. e ≡ NoMemory) }
@@ -22,7 +22,7 @@ pub(crate) fn push_register(text: &mut Vec<u8>, register: u64) -> Result<(), Ref
     push_number(text, register % REGISTERS_EACH)
 }
 
-/// Appends the last line of an answer that counts its rows. Fails with NoMemory.
+// Appends the last line of an answer that counts its rows. Fails with NoMemory.
 pub(crate) fn push_count(text: &mut Vec<u8>, count: u64) -> Result<(), Refusal>
     ensures ok { OnOk result (text.new.items ≡ text.old.items ++ count_text count) }
     ensures refused { IfErr result (λ e. e ≡ NoMemory) }
@@ -82,8 +82,8 @@ fn referrer_lines<V: View>(alloc: Global, view: &V, id: u64) -> Result<Vec<u8>, 
     Ok(text)
 }
 
-/// Returns the answer of `referrers` about a view. Fails with NoObject if the id names no object, and with NoMemory if an
-/// allocation fails. Reads each object at most twice.
+// Returns the answer of `referrers` about a view. Fails with NoObject if the id names no object, and with NoMemory if an
+// allocation fails. Reads each object at most twice.
 pub(crate) fn referrers_answer<V: View>(
     alloc: Global,
     view: &V,

@@ -20,7 +20,8 @@ fn push_named(
     named: &NamedObject,
 ) -> Result<(), Refusal>
     requires { NamesKnown classes.now named.now }
-    ensures ok { OnOk result (text.new.items ≡ text.old.items ++ named_words classes.now named.now) }
+    ensures ok { OnOk result
+        (text.new.items ≡ text.old.items ++ named_words classes.now named.now) }
     ensures refused { IfErr result (λ e. e ≡ NoMemory) }
 {
     match named.kind {
@@ -69,7 +70,7 @@ fn push_lines(
     Ok(())
 }
 
-/// Returns the answer of `registers` about a view. Fails with NoMemory if an allocation fails. Reads each id once.
+// Returns the answer of `registers` about a view. Fails with NoMemory if an allocation fails. Reads each id once.
 pub(crate) fn registers_answer<V: View>(alloc: Global, view: &V) -> Result<Vec<u8>, Refusal>
     ensures text { IfOk result (λ text. IsRegistersText (V.image view.now) text.items) }
     ensures refused { IfErr result (λ e. e ≡ NoMemory) }

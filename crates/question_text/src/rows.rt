@@ -8,14 +8,14 @@ use heap_class::Refusal;
 use heap_trail::Reply;
 use session_text::LineAnswer;
 
-/// The reason why a question has no answer.
+// The reason why a question has no answer.
 #[derive(Clone, Copy, PartialEq, Eq, Debug)]
 pub(crate) enum Unanswered {
-    /// A refusal that lines of sessions have too.
+    // A refusal that lines of sessions have too.
     Refused(Refusal),
-    /// The id names no object.
+    // The id names no object.
     NoObject,
-    /// No register reaches the object.
+    // No register reaches the object.
     Unreachable,
 }
 
@@ -30,7 +30,7 @@ impl From<Refusal> for Unanswered {
     }
 }
 
-/// Returns what is printed if a question has no answer.
+// Returns what is printed if a question has no answer.
 pub(crate) fn reason_line(reason: Unanswered) -> LineAnswer
     ensures { line_answer_text result ≡ unanswered_text reason }
 {
@@ -41,7 +41,7 @@ pub(crate) fn reason_line(reason: Unanswered) -> LineAnswer
     }
 }
 
-/// Appends words. Fails with NoMemory.
+// Appends words. Fails with NoMemory.
 pub(crate) fn push_words(text: &mut Vec<u8>, words: &[u8]) -> Result<(), Refusal>
     ensures ok { OnOk result (text.new.items ≡ text.old.items ++ words.now) }
     ensures refused { IfErr result (λ e. e ≡ NoMemory) }
@@ -50,7 +50,7 @@ pub(crate) fn push_words(text: &mut Vec<u8>, words: &[u8]) -> Result<(), Refusal
     Ok(())
 }
 
-/// Appends a space and a number. Fails with NoMemory.
+// Appends a space and a number. Fails with NoMemory.
 pub(crate) fn push_number(text: &mut Vec<u8>, n: u64) -> Result<(), Refusal>
     ensures ok { OnOk result (text.new.items ≡ text.old.items ++ and_number n) }
     ensures refused { IfErr result (λ e. e ≡ NoMemory) }

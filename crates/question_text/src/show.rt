@@ -50,7 +50,8 @@ fn push_field(
     kind: Kind,
     word: u64,
 ) -> Result<(), Refusal>
-    ensures ok { OnOk result (text.new.items ≡ text.old.items ++ field_row slot name.now kind word) }
+    ensures ok { OnOk result
+        (text.new.items ≡ text.old.items ++ field_row slot name.now kind word) }
     ensures refused { IfErr result (λ e. e ≡ NoMemory) }
 {
     push_words(text, b"row")?;
@@ -84,7 +85,7 @@ fn push_elements(text: &mut Vec<u8>, kind: Kind, words: &[u64]) -> Result<(), Re
     Ok(())
 }
 
-/// Returns the name of an own field of a class. The class must have the field.
+// Returns the name of an own field of a class. The class must have the field.
 pub(crate) fn field_name<'a>(classes: &'a FirstClasses<'_>, class: ClassNo, field: u64) -> &'a [u8]
     requires { field < length (fields_of classes.now class) }
     ensures { IfSome (slice_get (fields_of classes.now class) field)
@@ -228,8 +229,8 @@ fn object_lines(
     Ok(text)
 }
 
-/// Returns the answer of `show` about a view. Fails with NoObject if the id names no object, and with NoMemory if an allocation
-/// fails. Reads each object before it at most once.
+// Returns the answer of `show` about a view. Fails with NoObject if the id names no object, and with NoMemory if an allocation
+// fails. Reads each object before it at most once.
 pub(crate) fn show_answer<V: View>(
     alloc: Global,
     view: &V,
@@ -255,7 +256,7 @@ fn is_marked(machine: &Machine, id: u64) -> bool
     }
 }
 
-/// Tells whether an answer about a moment says that the object is marked: only if the moment is the current state.
+// Tells whether an answer about a moment says that the object is marked: only if the moment is the current state.
 pub(crate) fn shows_mark(machine: &Machine, at: At, id: u64) -> bool
     ensures { result ≡ shows_mark at machine.now id }
 {

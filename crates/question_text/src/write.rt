@@ -44,7 +44,7 @@ fn slot_line(machine: &Machine, at: ObjRef, slot: u64) -> LineAnswer
     }
 }
 
-/// Returns the answer of `wrote`. Reads each record since the write once. Takes no memory.
+// Returns the answer of `wrote`. Reads each record since the write once. Takes no memory.
 pub(crate) fn wrote_answer(machine: &Machine, id: u64, slot: u64) -> LineAnswer
     ensures { IsWroteText id slot machine.now.trail (line_answer_text result) }
 {

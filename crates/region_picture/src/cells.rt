@@ -16,13 +16,13 @@ pub(crate) const STEP: u64 = 12;
 // The cells that a stroke is for.
 #[derive(Clone, Copy, PartialEq, Eq)]
 pub(crate) enum CellSort {
-    /// The free cells.
+    // The free cells.
     Free,
-    /// The cells whose objects have the colour of this number.
+    // The cells whose objects have the colour of this number.
     Colored(usize),
-    /// The cells whose objects are dead, and wait to be swept.
+    // The cells whose objects are dead, and wait to be swept.
     Dead,
-    /// The cells whose objects are marked.
+    // The cells whose objects are marked.
     Marked,
 }
 

@@ -13,7 +13,7 @@ use std::alloc::{AllocError, Global};
 // The distance of two lines of the legend.
 pub(crate) const LEGEND_STEP: u64 = 16;
 
-/// The strokes of the legend beside those of classes: colour, width and meaning.
+// The strokes of the legend beside those of classes: colour, width and meaning.
 const STROKES: [(&[u8], &[u8], &[u8]); 5] = [
     (b"#9498a0", b"9", b"other classes"),
     (b"#eeeeee", b"9", b"free cells"),

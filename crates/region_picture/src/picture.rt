@@ -13,7 +13,7 @@ use heap_world::World;
 use hprof_text::View;
 use std::alloc::{AllocError, Global};
 
-/// The width of a picture: a margin, and a pixel for each word of a region.
+// The width of a picture: a margin, and a pixel for each word of a region.
 const WIDTH: u64 = 1_104;
 
 // The pattern of the cells of dead objects.

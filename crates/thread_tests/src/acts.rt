@@ -13,7 +13,7 @@ use std::marker::Brand;
 use std::sync::Wait;
 use std::test::*;
 
-/// Returns what an event is answered, or None if it has no entry.
+// Returns what an event is answered, or None if it has no entry.
 fn told<L: Heap, R: Wait>(
     rt: &R,
     shared: &Shared<L>,
@@ -29,7 +29,7 @@ fn told<L: Heap, R: Wait>(
     }
 }
 
-/// Creates a heap of 16 regions and 2 mutators.
+// Creates a heap of 16 regions and 2 mutators.
 fn with_roles(alloc: Global, roles: &[Role]) -> Option<Blank>
     requires { (1 ≤ length roles.now) × (length roles.now ≤ seat_limit) }
 {
@@ -39,7 +39,7 @@ fn with_roles(alloc: Global, roles: &[Role]) -> Option<Blank>
 
 // ---- refusals
 
-/// Creates an event that defines a class with `count` fields `x`.
+// Creates an event that defines a class with `count` fields `x`.
 fn class(alloc: Global, name: &[u8], sup: Option<u64>, count: u64) -> Result<Event, AllocError> {
     let mut fields = Vec::new(alloc);
     for _ in 0..count {
@@ -74,7 +74,7 @@ fn load(from: u64, slot: u64) -> Event {
     }
 }
 
-/// Creates the event of this number of a worked example.
+// Creates the event of this number of a worked example.
 fn asked(alloc: Global, number: u64) -> Result<Event, AllocError> {
     match number {
         0 => class(alloc, b"A", None, 2),
@@ -91,7 +91,7 @@ fn asked(alloc: Global, number: u64) -> Result<Event, AllocError> {
     }
 }
 
-/// Returns what it is answered.
+// Returns what it is answered.
 fn answer(number: u64) -> Outcome {
     match number {
         0 => Outcome::Refused(Refusal::DuplicateName),
@@ -144,7 +144,7 @@ fn refusals_of_mutators(rt: HostRuntime) -> Result<(), Fail> {
 
 // ---- a rewind between acts
 
-/// Creates an array of three longs in the first register of a mutator.
+// Creates an array of three longs in the first register of a mutator.
 fn longs(m: u64) -> Event {
     Event::NewPrim {
         m,
@@ -174,7 +174,7 @@ fn rewound<L: Heap, R: Wait>(rt: &R, shared: &Shared<L>, seat: &mut Seat<L>) -> 
     shared.rewind(rt, seat, 1).ok()
 }
 
-/// Returns whether the second object has the id of the first, and an audit of the three receipts is true.
+// Returns whether the second object has the id of the first, and an audit of the three receipts is true.
 fn agree<L: Heap>(kept: &Kept<L>, receipts: (Receipt, Receipt, Receipt)) -> bool {
     let (first, between, second) = receipts;
     let claims = [
@@ -247,7 +247,7 @@ fn rewinds_held<L: Heap>(kept: &mut Kept<L>, seat: &mut Seat<L>) -> bool {
     }
 }
 
-/// Returns whether the pin on the undone state is lost, and both pins can be closed once.
+// Returns whether the pin on the undone state is lost, and both pins can be closed once.
 fn closes_held<L: Heap>(kept: &mut Kept<L>) -> bool {
     let lost = Refusal::Lost {
         cause: LostCause::Rewound,
@@ -302,7 +302,7 @@ fn clears<L: Heap, R: Wait>(
     shared.act(rt, seat, event)
 }
 
-/// Returns the turn of the last act that was done, what one more is refused, and what is under the lock then.
+// Returns the turn of the last act that was done, what one more is refused, and what is under the lock then.
 fn filled_in<L: Heap, R: Wait>(
     rt: &R,
     shared: &Shared<L>,

@@ -16,8 +16,8 @@ use std::test::*;
 use std::thread;
 use std::thread::Threads;
 
-/// Pumps parts, watched, from a source that is taken to have given `turn` of them: it asks to cancel before the second, if that is
-/// to come. Returns how it went, and what is out.
+// Pumps parts, watched, from a source that is taken to have given `turn` of them: it asks to cancel before the second, if that is
+// to come. Returns how it went, and what is out.
 fn pump_asked(
     alloc: Global,
     meter: &Meter,
@@ -46,7 +46,7 @@ fn pump_asked(
     (pumped, outlet.into_writer())
 }
 
-/// Pumps the dump of one point so. Returns how it went, and what is out.
+// Pumps the dump of one point so. Returns how it went, and what is out.
 fn pumped_watched(alloc: Global, turn: u64) -> Result<(Pumped, Vec<u8>), Fail> {
     let parts = PinParts::open(one_point(alloc)?)?;
     let NewMeter {
@@ -60,7 +60,7 @@ fn pumped_watched(alloc: Global, turn: u64) -> Result<(Pumped, Vec<u8>), Fail> {
     Ok(pump_asked(alloc, &meter, parts, asker, feed, turn))
 }
 
-/// Returns how a watched pump went, and whether its bytes are the first of the text of one point.
+// Returns how a watched pump went, and whether its bytes are the first of the text of one point.
 fn begins_text(alloc: Global, turn: u64) -> Result<(Pumped, usize, bool), Fail> {
     let whole = text_of(alloc, one_point(alloc)?)?;
     let (pumped, text) = pumped_watched(alloc, turn)?;
@@ -123,8 +123,8 @@ pub fn ask_once_held(
     held
 }
 
-/// Streams into an outlet that is held at 8,000 bytes, and has another thread ask meanwhile. Returns whether it was held, how the
-/// stream went, and what is out.
+// Streams into an outlet that is held at 8,000 bytes, and has another thread ask meanwhile. Returns whether it was held, how the
+// stream went, and what is out.
 fn cancelled_by_two<R: Threads + Wait + Sync>(
     rt: &R,
     alloc: Global,
@@ -166,7 +166,7 @@ fn cancelled_by_two<R: Threads + Wait + Sync>(
     (held, pumped, text)
 }
 
-/// Streams so with the seats of a new meter. None if it has no asker.
+// Streams so with the seats of a new meter. None if it has no asker.
 fn cancelled_meanwhile<R: Threads + Wait + Sync>(
     rt: &R,
     alloc: Global,
@@ -189,8 +189,8 @@ fn cancelled_meanwhile<R: Threads + Wait + Sync>(
     Some(cancelled_by_two(rt, alloc, parts, &meter, out, asker, feed))
 }
 
-/// Streams the dump of 2,000 points and has it cancelled in the middle. Returns whether the outlet was held, the answer is a
-/// cancelling after the bytes that are out, and these are a beginning of the text, but not all of it.
+// Streams the dump of 2,000 points and has it cancelled in the middle. Returns whether the outlet was held, the answer is a
+// cancelling after the bytes that are out, and these are a beginning of the text, but not all of it.
 fn cancelled_in_the_middle<R: Threads + Wait + Sync>(rt: &R, alloc: Global) -> Result<bool, Fail> {
     let whole = text_of(alloc, points(alloc, 2000)?)?;
     let parts = PinParts::open(points(alloc, 2000)?)?;

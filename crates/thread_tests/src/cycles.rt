@@ -17,14 +17,14 @@ use std::test::*;
 use std::thread;
 use std::thread::Threads;
 
-/// How many cycles there are, how many turns the marker has for each, and how many regions the heap has.
+// How many cycles there are, how many turns the marker has for each, and how many regions the heap has.
 const CYCLES: u64 = 3;
 
 const TURNS: u64 = 200_000;
 
 const REGIONS: u64 = 4;
 
-/// How many rounds a mutator has at most, after how many the cycles may begin, and how long its list gets.
+// How many rounds a mutator has at most, after how many the cycles may begin, and how long its list gets.
 const ROUNDS: u64 = 3000;
 
 const BEGUN: u64 = 50;
@@ -33,28 +33,28 @@ const LONGEST: u64 = 100;
 
 // ---- mutators
 
-/// What a mutator does to a list of nodes, which register 0 names.
+// What a mutator does to a list of nodes, which register 0 names.
 #[derive(Clone, Copy)]
 enum Deed {
-    /// Makes a node in register 1.
+    // Makes a node in register 1.
     Make,
-    /// Gives it a number.
+    // Gives it a number.
     Number(u64),
-    /// Makes it the first.
+    // Makes it the first.
     First,
-    /// Puts the second node in register 2, and the one behind it in register 3.
+    // Puts the second node in register 2, and the one behind it in register 3.
     Second,
     Third,
-    /// Links the new node to the second, and the first to the new one.
+    // Links the new node to the second, and the first to the new one.
     Link,
     Join,
-    /// Links the first to the third.
+    // Links the first to the third.
     Skip,
-    /// Makes a register null.
+    // Makes a register null.
     Clear(u64),
 }
 
-/// Creates the event of a mutator's deed.
+// Creates the event of a mutator's deed.
 fn event_of(m: u64, deed: Deed) -> Event {
     match deed {
         Deed::Make => Event::New { m, r: 1, class: 0 },
@@ -79,7 +79,7 @@ fn event_of(m: u64, deed: Deed) -> Event {
     }
 }
 
-/// Creates a store of what a register holds to the link of a node.
+// Creates a store of what a register holds to the link of a node.
 fn stored(m: u64, target: u64, source: u64) -> Event {
     Event::Store {
         m,
@@ -89,7 +89,7 @@ fn stored(m: u64, target: u64, source: u64) -> Event {
     }
 }
 
-/// Creates a load of a node's link.
+// Creates a load of a node's link.
 fn next_of(m: u64, to: u64, from: u64) -> Event {
     Event::Load {
         m,
@@ -99,7 +99,7 @@ fn next_of(m: u64, to: u64, from: u64) -> Event {
     }
 }
 
-/// A mutator's seat and its claims.
+// A mutator's seat and its claims.
 #[derive(Drop)]
 struct Mutator<L: Heap> {
     m: u64,
@@ -107,7 +107,7 @@ struct Mutator<L: Heap> {
     claims: Vec<(Action, Receipt)>,
 }
 
-/// Does a deed, and adds its claim. Returns whether it was answered.
+// Does a deed, and adds its claim. Returns whether it was answered.
 fn does<L: Heap, R: Wait>(
     rt: &R,
     shared: &Shared<L>,
@@ -133,7 +133,7 @@ fn is_answered(receipt: Receipt) -> bool {
     }
 }
 
-/// Does deeds in turn, up to one that is refused. Returns whether all were answered.
+// Does deeds in turn, up to one that is refused. Returns whether all were answered.
 fn all_done<L: Heap, R: Wait>(
     rt: &R,
     shared: &Shared<L>,
@@ -148,8 +148,8 @@ fn all_done<L: Heap, R: Wait>(
     Ok(true)
 }
 
-/// Puts a new node of this number behind the first one of a list, or makes it the first if there is none. Returns whether it is
-/// there: all deeds but the making were answered.
+// Puts a new node of this number behind the first one of a list, or makes it the first if there is none. Returns whether it is
+// there: all deeds but the making were answered.
 fn puts_in<L: Heap, R: Wait>(
     rt: &R,
     shared: &Shared<L>,
@@ -172,7 +172,7 @@ fn puts_in<L: Heap, R: Wait>(
     all_done(rt, shared, mutator, deeds.as_slice())
 }
 
-/// Takes the second node out of a list of two or more. Returns whether all deeds were answered.
+// Takes the second node out of a list of two or more. Returns whether all deeds were answered.
 fn takes_out<L: Heap, R: Wait>(
     rt: &R,
     shared: &Shared<L>,
@@ -188,8 +188,8 @@ fn takes_out<L: Heap, R: Wait>(
     all_done(rt, shared, mutator, deeds.as_slice())
 }
 
-/// Goes on with a list of `length` nodes: forgets it, takes a node out, or puts a new one in, if there is room for one. Returns
-/// how many nodes it has then, or None if one of the deeds was refused.
+// Goes on with a list of `length` nodes: forgets it, takes a node out, or puts a new one in, if there is room for one. Returns
+// how many nodes it has then, or None if one of the deeds was refused.
 fn goes_on<L: Heap, R: Wait>(
     rt: &R,
     shared: &Shared<L>,
@@ -210,8 +210,8 @@ fn goes_on<L: Heap, R: Wait>(
     Ok(if done { Some(after) } else { None })
 }
 
-/// Has a mutator go on until the cycles are over, and tells when it has a list. Returns its claims and how many nodes its list
-/// has, or None if a deed was refused.
+// Has a mutator go on until the cycles are over, and tells when it has a list. Returns its claims and how many nodes its list
+// has, or None if a deed was refused.
 fn mutates<L: Heap, R: Wait>(
     rt: &R,
     alloc: Global,
@@ -249,7 +249,7 @@ fn mutates<L: Heap, R: Wait>(
 
 // ---- the marker and the sweeper
 
-/// A gate that counts its passes.
+// A gate that counts its passes.
 #[derive(Drop)]
 struct Counting {
     passes: u64,
@@ -263,7 +263,7 @@ impl Gate for Counting {
     }
 }
 
-/// Marks until the worker ends. None if it isn't the marker's seat.
+// Marks until the worker ends. None if it isn't the marker's seat.
 fn marks<L: Heap, R: Wait>(
     rt: &R,
     shared: &Shared<L>,
@@ -276,8 +276,8 @@ fn marks<L: Heap, R: Wait>(
     None
 }
 
-/// Finishes a cycle. If a region has to be swept first, waits until there were `rounds` rounds of sweeps. Returns the receipt of
-/// the end.
+// Finishes a cycle. If a region has to be swept first, waits until there were `rounds` rounds of sweeps. Returns the receipt of
+// the end.
 fn finishes<L: Heap, R: Wait>(
     rt: &R,
     shared: &Shared<L>,
@@ -299,8 +299,8 @@ fn finishes<L: Heap, R: Wait>(
     }
 }
 
-/// Finishes all cycles, from when both mutators have lists on, and tells how many are finished. Returns the claims of their
-/// ends, and how many acts there were.
+// Finishes all cycles, from when both mutators have lists on, and tells how many are finished. Returns the claims of their
+// ends, and how many acts there were.
 fn marks_all<L: Heap, R: Wait>(
     rt: &R,
     alloc: Global,
@@ -323,7 +323,7 @@ fn marks_all<L: Heap, R: Wait>(
     Ok((claims, gate.passes))
 }
 
-/// Sweeps all regions once. Returns whether it did.
+// Sweeps all regions once. Returns whether it did.
 fn sweeps<L: Heap, R: Wait>(
     rt: &R,
     shared: &Shared<L>,
@@ -333,7 +333,7 @@ fn sweeps<L: Heap, R: Wait>(
     seat.role() == Role::Sweeper && sweep_worker(shared, rt, seat, gate, REGIONS) == SweepEnd::Swept
 }
 
-/// Sweeps all regions once after each cycle, and tells how many rounds there were. Returns whether all were, and how many acts.
+// Sweeps all regions once after each cycle, and tells how many rounds there were. Returns whether all were, and how many acts.
 fn sweeps_all<L: Heap, R: Wait>(
     rt: &R,
     shared: &Shared<L>,
@@ -353,7 +353,7 @@ fn sweeps_all<L: Heap, R: Wait>(
 
 // ---- what is left
 
-/// Returns what an act is answered, or None if it has no entry.
+// Returns what an act is answered, or None if it has no entry.
 fn answer<L: Heap, R: Wait>(
     rt: &R,
     shared: &Shared<L>,
@@ -369,7 +369,7 @@ fn answer<L: Heap, R: Wait>(
     }
 }
 
-/// Creates a load of the number of the node in register 4.
+// Creates a load of the number of the node in register 4.
 fn number_of(m: u64) -> Event {
     Event::Load {
         m,
@@ -379,7 +379,7 @@ fn number_of(m: u64) -> Event {
     }
 }
 
-/// Reads the list of a mutator. Returns whether it has `length` nodes, and the numbers of all behind the first fall.
+// Reads the list of a mutator. Returns whether it has `length` nodes, and the numbers of all behind the first fall.
 fn has_list<L: Heap, R: Wait>(
     rt: &R,
     shared: &Shared<L>,
@@ -405,7 +405,7 @@ fn has_list<L: Heap, R: Wait>(
     length == 0 || node == Some(Outcome::Answered(Answer::Null))
 }
 
-/// Creates a copy of a mutator's list to register 4.
+// Creates a copy of a mutator's list to register 4.
 fn moved(m: u64) -> Event {
     Event::Move {
         m,
@@ -415,10 +415,10 @@ fn moved(m: u64) -> Event {
     }
 }
 
-/// What came of a mutator's thread.
+// What came of a mutator's thread.
 type Mutated = Result<Option<(Vec<(Action, Receipt)>, u64)>, AllocError>;
 
-/// Returns how many claims a mutator has that an audit agrees with, and how many nodes its list has.
+// Returns how many claims a mutator has that an audit agrees with, and how many nodes its list has.
 fn agreed<L: Heap, R: Wait>(rt: &R, shared: &Shared<L>, mutated: &Mutated) -> Option<(u64, u64)> {
     let Ok(Some((claims, length))) = mutated else {
         return None;
@@ -430,7 +430,7 @@ fn agreed<L: Heap, R: Wait>(rt: &R, shared: &Shared<L>, mutated: &Mutated) -> Op
     None
 }
 
-/// Returns how many acts the marker did, if it finished all cycles and an audit agrees with their ends.
+// Returns how many acts the marker did, if it finished all cycles and an audit agrees with their ends.
 fn marked<L: Heap, R: Wait>(
     rt: &R,
     shared: &Shared<L>,
@@ -452,8 +452,8 @@ fn entries<L: Heap, R: Wait>(rt: &R, shared: &Shared<L>) -> u64 {
 
 // ---- all four
 
-/// Returns whether the history has just the acts of both mutators, the marker and the sweeper, and one more, receipts agree
-/// with it, and the mutators' lists are there.
+// Returns whether the history has just the acts of both mutators, the marker and the sweeper, and one more, receipts agree
+// with it, and the mutators' lists are there.
 fn agree<L: Heap, R: Wait>(
     rt: &R,
     shared: &Shared<L>,
@@ -475,8 +475,8 @@ fn agree<L: Heap, R: Wait>(
     )
 }
 
-/// Has two mutators, the marker and the sweeper act, each in a thread of its own. Returns whether all cycles were finished and
-/// swept, their receipts agree with the history, in which there is one entry for each act, and the mutators' lists are there.
+// Has two mutators, the marker and the sweeper act, each in a thread of its own. Returns whether all cycles were finished and
+// swept, their receipts agree with the history, in which there is one entry for each act, and the mutators' lists are there.
 fn by_four<L: Heap + Send + Sync, R: Threads + Wait + Sync>(
     rt: &R,
     alloc: Global,

@@ -18,7 +18,7 @@ use std::test::*;
 use std::thread;
 use std::thread::Threads;
 
-/// Feeds all parts to a pipe, and counts in a word how often the source is asked. Returns how that ended, and the parts.
+// Feeds all parts to a pipe, and counts in a word how often the source is asked. Returns how that ended, and the parts.
 fn fed<R: Wait>(
     rt: &R,
     sender: &Sender,
@@ -38,7 +38,7 @@ fn fed<R: Wait>(
     (ending, source.source)
 }
 
-/// Drains a pipe into a sink. Returns how that went, and the sink.
+// Drains a pipe into a sink. Returns how that went, and the sink.
 fn drained<R: Wait>(
     rt: &R,
     receiver: &Receiver,
@@ -58,8 +58,8 @@ fn drained<R: Wait>(
     (pumped, outlet.into_writer())
 }
 
-/// Feeds the parts in one thread, and drains them into a sink in another once the source was asked `first` times. Returns how
-/// both went, how often the source had been asked when the drain began, the source and the sink.
+// Feeds the parts in one thread, and drains them into a sink in another once the source was asked `first` times. Returns how
+// both went, how often the source had been asked when the drain began, the source and the sink.
 fn by_two<R: Threads + Wait + Sync>(
     rt: &R,
     alloc: Global,
@@ -97,8 +97,8 @@ fn by_two<R: Threads + Wait + Sync>(
     Ok((ending, parts, count, pumped, sink))
 }
 
-/// Feeds the dump of points, and drains none of it until the source was asked for a ninth part. Returns how both went, how
-/// often the source had been asked, and how many bytes are out.
+// Feeds the dump of points, and drains none of it until the source was asked for a ninth part. Returns how both went, how
+// often the source had been asked, and how many bytes are out.
 fn after_nine<R: Threads + Wait + Sync>(
     rt: &R,
     alloc: Global,
@@ -120,8 +120,8 @@ fn pipe_needs_two(rt: HostRuntime) -> Result<(), Fail> {
     Ok(())
 }
 
-/// Returns whether a sink of at most `size` bytes a write, which fails once it has `most`, ends the pipe of one point as it
-/// should, and a new pin of the heap then gives its whole dump.
+// Returns whether a sink of at most `size` bytes a write, which fails once it has `most`, ends the pipe of one point as it
+// should, and a new pin of the heap then gives its whole dump.
 fn fails_as_told<R: Threads + Wait + Sync>(
     rt: &R,
     alloc: Global,
@@ -150,7 +150,7 @@ fn fails_as_told<R: Threads + Wait + Sync>(
     )
 }
 
-/// Returns whether sinks that fail after 0 to 300 bytes, and one that doesn't, end the pipe as they should.
+// Returns whether sinks that fail after 0 to 300 bytes, and one that doesn't, end the pipe as they should.
 fn each_fails_as_told<R: Threads + Wait + Sync>(
     rt: &R,
     alloc: Global,
@@ -173,14 +173,14 @@ fn outlets_that_fail(rt: HostRuntime) -> Result<(), Fail> {
     Ok(())
 }
 
-/// Returns what a start is told that nobody makes in time: whether it was begun, whether one may begin then, and whether it was
-/// begun.
+// Returns what a start is told that nobody makes in time: whether it was begun, whether one may begin then, and whether it was
+// begun.
 fn given_up<R: Wait>(rt: &R) -> (bool, bool, bool) {
     let late = Start::new();
     (late.is_begun(rt), late.begin(), late.is_begun(rt))
 }
 
-/// Returns what a start is told that somebody makes in time: whether one may begin, and whether it was begun, twice.
+// Returns what a start is told that somebody makes in time: whether one may begin, and whether it was begun, twice.
 fn begun<R: Wait>(rt: &R) -> (bool, bool, bool) {
     let early = Start::new();
     (early.begin(), early.is_begun(rt), early.is_begun(rt))

@@ -15,8 +15,8 @@ use std::test::*;
 use std::thread;
 use std::thread::Threads;
 
-/// A gate at which somebody else looks at the heap: each pass waits until that is done. Notes how many passes there were, and
-/// whether one of them waited in vain.
+// A gate at which somebody else looks at the heap: each pass waits until that is done. Notes how many passes there were, and
+// whether one of them waited in vain.
 #[derive(Drop)]
 struct Looked<'a> {
     passes: u64,
@@ -38,8 +38,8 @@ impl<'a> Gate for Looked<'a> {
     }
 }
 
-/// Looks at the heap at each of `passes` passes. Returns whether the gate was told the number of the act, counted from 1, and
-/// there was an entry for each act before that and no other since there were `first`.
+// Looks at the heap at each of `passes` passes. Returns whether the gate was told the number of the act, counted from 1, and
+// there was an entry for each act before that and no other since there were `first`.
 fn looks<L: Heap, R: Wait>(
     rt: &R,
     shared: &Shared<L>,
@@ -63,8 +63,8 @@ fn looks<L: Heap, R: Wait>(
     is_right
 }
 
-/// Runs the worker of a seat for `turns` turns. Returns whether it has used them up, and passed the gate as often, and never in
-/// vain.
+// Runs the worker of a seat for `turns` turns. Returns whether it has used them up, and passed the gate as often, and never in
+// vain.
 fn works<L: Heap, R: Wait>(
     rt: &R,
     shared: &Shared<L>,
@@ -89,7 +89,7 @@ fn works<L: Heap, R: Wait>(
     ended && gate.passes == turns && !gate.in_vain
 }
 
-/// Runs a worker in one thread, and looks at each of its passes in another. Returns whether both went as they must.
+// Runs a worker in one thread, and looks at each of its passes in another. Returns whether both went as they must.
 fn watched<L: Heap + Send + Sync, R: Threads + Wait + Sync>(
     rt: &R,
     shared: &Shared<L>,
@@ -108,8 +108,8 @@ fn watched<L: Heap + Send + Sync, R: Threads + Wait + Sync>(
     )
 }
 
-/// Watches a marker for five turns, and then a sweeper for one turn a region, of a heap with three entries. Returns whether
-/// each worker and who looked went as they must.
+// Watches a marker for five turns, and then a sweeper for one turn a region, of a heap with three entries. Returns whether
+// each worker and who looked went as they must.
 fn both_watched<L: Heap + Send + Sync, R: Threads + Wait + Sync>(
     rt: &R,
     class: Event,

@@ -15,7 +15,7 @@ use std::sync::atomic::{AtomicU64, Ordering};
 use std::thread;
 use std::thread::Threads;
 
-/// Writes to the point once an outlet is held, and then opens its gate. Returns whether it was held and the write was answered.
+// Writes to the point once an outlet is held, and then opens its gate. Returns whether it was held and the write was answered.
 fn write_once_held<L: Heap, R: Wait>(
     rt: &R,
     shared: &Shared<L>,

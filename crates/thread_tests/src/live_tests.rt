@@ -33,7 +33,7 @@ pub const ONE_POINT: &str = "\
 ff0000000010000000\
 2c0000000000000000";
 
-/// What is done with a heap.
+// What is done with a heap.
 #[derive(Clone, Copy)]
 enum Case {
     PumpedBeside,
@@ -43,13 +43,13 @@ enum Case {
     Failing,
 }
 
-/// Returns whether all of the dump of one point is out.
+// Returns whether all of the dump of one point is out.
 fn is_of_one_point(alloc: Global, pumped: Pumped, text: &[u8]) -> Result<bool, Fail> {
     let digits = hex::encode(alloc, text)?;
     Ok(pumped == Pumped::Done { bytes: 301 } && digits.as_str() == ONE_POINT)
 }
 
-/// Returns whether the dump of one point, pumped while a mutator writes to it, is that of its pin.
+// Returns whether the dump of one point, pumped while a mutator writes to it, is that of its pin.
 fn is_pumped_of_its_pin<L: Heap + Send + Sync, R: Threads + Wait + Sync>(
     rt: &R,
     alloc: Global,
@@ -62,7 +62,7 @@ fn is_pumped_of_its_pin<L: Heap + Send + Sync, R: Threads + Wait + Sync>(
     Ok(written && is_of_one_point(alloc, pumped, text.as_slice())?)
 }
 
-/// Returns whether the dump of one point, streamed while a mutator writes to it, is that of its pin.
+// Returns whether the dump of one point, streamed while a mutator writes to it, is that of its pin.
 fn is_streamed_of_its_pin<L: Heap + Send + Sync, R: Threads + Wait + Sync>(
     rt: &R,
     alloc: Global,
@@ -84,7 +84,7 @@ fn is_streamed_of_its_pin<L: Heap + Send + Sync, R: Threads + Wait + Sync>(
     Ok(written && is_of_one_point(alloc, pumped, text.as_slice())?)
 }
 
-/// Streams the dump of a new pin into a sink. Returns how it went, and what is out.
+// Streams the dump of a new pin into a sink. Returns how it went, and what is out.
 fn into_sink<L: Heap + Send + Sync, R: Threads + Wait + Sync>(
     rt: &R,
     alloc: Global,
@@ -111,7 +111,7 @@ fn into_sink<L: Heap + Send + Sync, R: Threads + Wait + Sync>(
     Ok((pumped, sink.taken))
 }
 
-/// Returns whether the dump of 2,000 points is streamed whole.
+// Returns whether the dump of 2,000 points is streamed whole.
 fn is_whole<L: Heap + Send + Sync, R: Threads + Wait + Sync>(
     rt: &R,
     alloc: Global,
@@ -127,7 +127,7 @@ fn is_whole<L: Heap + Send + Sync, R: Threads + Wait + Sync>(
     )
 }
 
-/// Streams with the seats of a new meter, and has it cancelled in the middle. None if it has no asker.
+// Streams with the seats of a new meter, and has it cancelled in the middle. None if it has no asker.
 fn cancelled_meanwhile<L: Heap + Send + Sync, R: Threads + Wait + Sync>(
     rt: &R,
     alloc: Global,
@@ -150,7 +150,7 @@ fn cancelled_meanwhile<L: Heap + Send + Sync, R: Threads + Wait + Sync>(
     Some(streamed_cancelled(rt, alloc, shared, pin, asker, &meter, out, feed))
 }
 
-/// Returns whether a stream of 2,000 points that is cancelled in the middle puts out a beginning of the text, but not all of it.
+// Returns whether a stream of 2,000 points that is cancelled in the middle puts out a beginning of the text, but not all of it.
 fn is_beginning<L: Heap + Send + Sync, R: Threads + Wait + Sync>(
     rt: &R,
     alloc: Global,
@@ -172,7 +172,7 @@ fn is_beginning<L: Heap + Send + Sync, R: Threads + Wait + Sync>(
     )
 }
 
-/// Returns what the readers of a heap tell of its history, its first register and its marker.
+// Returns what the readers of a heap tell of its history, its first register and its marker.
 fn told<L: Heap, R: Wait>(rt: &R, alloc: Global, shared: &Shared<L>) -> Result<String, Fail> {
     let kept = shared.lock(rt);
     let machine = kept.machine();
@@ -190,8 +190,8 @@ fn told<L: Heap, R: Wait>(rt: &R, alloc: Global, shared: &Shared<L>) -> Result<S
     Ok(text)
 }
 
-/// Returns whether a stream into a sink of `size` bytes a write, which fails once it has `most`, ends as it must, and the heap is
-/// then as before.
+// Returns whether a stream into a sink of `size` bytes a write, which fails once it has `most`, ends as it must, and the heap is
+// then as before.
 fn fails_as_told<L: Heap + Send + Sync, R: Threads + Wait + Sync>(
     rt: &R,
     alloc: Global,
@@ -218,8 +218,8 @@ fn fails_as_told<L: Heap + Send + Sync, R: Threads + Wait + Sync>(
     )
 }
 
-/// Returns whether sinks of one byte a write and of any number, which fail once they have 0 to 300 bytes, and one of either sort that
-/// doesn't fail, end the stream of one point as they must.
+// Returns whether sinks of one byte a write and of any number, which fail once they have 0 to 300 bytes, and one of either sort that
+// doesn't fail, end the stream of one point as they must.
 fn each_fails_as_told<L: Heap + Send + Sync, R: Threads + Wait + Sync>(
     rt: &R,
     alloc: Global,
@@ -236,7 +236,7 @@ fn each_fails_as_told<L: Heap + Send + Sync, R: Threads + Wait + Sync>(
     Ok(true)
 }
 
-/// Returns whether a case goes as it must, over a heap with its points.
+// Returns whether a case goes as it must, over a heap with its points.
 fn goes<L: Heap + Send + Sync, R: Threads + Wait + Sync>(
     rt: &R,
     alloc: Global,
@@ -253,7 +253,7 @@ fn goes<L: Heap + Send + Sync, R: Threads + Wait + Sync>(
     }
 }
 
-/// Opens a heap with `count` points, and does what a case asks.
+// Opens a heap with `count` points, and does what a case asks.
 fn opened<L: Heap + Send + Sync, R: Threads + Wait + Sync>(
     rt: &R,
     alloc: Global,
@@ -273,7 +273,7 @@ fn opened<L: Heap + Send + Sync, R: Threads + Wait + Sync>(
     goes(rt, alloc, &shared, mutator, case)
 }
 
-/// Creates a heap with `count` points, and does what a case asks.
+// Creates a heap with `count` points, and does what a case asks.
 fn done<R: Threads + Wait + Sync>(
     rt: &R,
     alloc: Global,

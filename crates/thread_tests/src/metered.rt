@@ -17,16 +17,16 @@ use std::test::*;
 use std::thread;
 use std::thread::Threads;
 
-/// Bytes of the dump of thirty points, and how many points there are.
+// Bytes of the dump of thirty points, and how many points there are.
 const SIZE: u64 = 1258;
 
 const POINTS: u64 = 30;
 
-/// How a stream went, how many bytes are out, and what was read of its progress last, and whether nothing above the size was
-/// read.
+// How a stream went, how many bytes are out, and what was read of its progress last, and whether nothing above the size was
+// read.
 type Streamed = (Pumped, usize, (u64, bool));
 
-/// Streams the dump of a pin into memory, while another thread reads the progress.
+// Streams the dump of a pin into memory, while another thread reads the progress.
 fn read_by_two<L: Heap + Send + Sync, R: Threads + Wait + Sync>(
     rt: &R,
     alloc: Global,
@@ -63,7 +63,7 @@ fn read_by_two<L: Heap + Send + Sync, R: Threads + Wait + Sync>(
     (pumped, size, read)
 }
 
-/// Streams so with the seats of a new meter. None if it has no reader.
+// Streams so with the seats of a new meter. None if it has no reader.
 fn read_meanwhile<L: Heap + Send + Sync, R: Threads + Wait + Sync>(
     rt: &R,
     alloc: Global,
@@ -86,7 +86,7 @@ fn read_meanwhile<L: Heap + Send + Sync, R: Threads + Wait + Sync>(
     Some(read_by_two(rt, alloc, shared, pin, &meter, out, reader, feed))
 }
 
-/// Streams after somebody asked to cancel. Returns how it went, and how many bytes are out, or None if the meter has no asker.
+// Streams after somebody asked to cancel. Returns how it went, and how many bytes are out, or None if the meter has no asker.
 fn asked_before<L: Heap + Send + Sync, R: Threads + Wait + Sync>(
     rt: &R,
     alloc: Global,
@@ -111,15 +111,15 @@ fn asked_before<L: Heap + Send + Sync, R: Threads + Wait + Sync>(
     Some((pumped, text.len()))
 }
 
-/// Opens a pin on the current state, and returns its number.
+// Opens a pin on the current state, and returns its number.
 fn opened_pin<L: Heap, R: Wait>(rt: &R, shared: &Shared<L>) -> Result<u64, Fail> {
     let mut witness = shared.witness(rt);
     let pinned = shared.open_pin(rt, &mut witness, None)?;
     Ok(pinned.pin)
 }
 
-/// Streams thirty points with a reader beside it, and then by another pin after somebody asked. Returns whether the first was
-/// whole and read to its end, the second put out nothing, and a dump of a third pin is whole.
+// Streams thirty points with a reader beside it, and then by another pin after somebody asked. Returns whether the first was
+// whole and read to its end, the second put out nothing, and a dump of a third pin is whole.
 fn both_go<L: Heap + Send + Sync, R: Threads + Wait + Sync>(
     rt: &R,
     alloc: Global,

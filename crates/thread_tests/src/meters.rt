@@ -16,8 +16,8 @@ use std::test::*;
 use std::thread;
 use std::thread::Threads;
 
-/// Streams parts into a writer that takes the first and then waits until another thread has read the progress. Returns how the
-/// stream went, and what was read.
+// Streams parts into a writer that takes the first and then waits until another thread has read the progress. Returns how the
+// stream went, and what was read.
 fn read_while_held<R: Threads + Wait + Sync>(
     rt: &R,
     alloc: Global,
@@ -55,7 +55,7 @@ fn read_while_held<R: Threads + Wait + Sync>(
     (pumped, read)
 }
 
-/// Streams so with the seats of a new meter. None if it has no reader.
+// Streams so with the seats of a new meter. None if it has no reader.
 fn read_of_new<R: Threads + Wait + Sync>(
     rt: &R,
     alloc: Global,
@@ -77,15 +77,15 @@ fn read_of_new<R: Threads + Wait + Sync>(
     Some(read_while_held(rt, alloc, parts, &meter, out, reader))
 }
 
-/// Streams the dump of thirty points so.
+// Streams the dump of thirty points so.
 fn held<R: Threads + Wait + Sync>(rt: &R, alloc: Global) -> Result<Option<(Pumped, u64)>, Fail> {
     let parts = PinParts::open(points(alloc, 30)?)?;
     let made = Meter::new(alloc, 1, 0)?;
     Ok(read_of_new(rt, alloc, parts, made))
 }
 
-/// The opening of the dump has 143 bytes: the header, 31; the names `Point`, `x` and `y`, 22 and twice 18; the class, 33; and
-/// the trace, 21.
+// The opening of the dump has 143 bytes: the header, 31; the names `Point`, `x` and `y`, 22 and twice 18; the class, 33; and
+// the trace, 21.
 #[test]
 fn a_reader_sees_a_held_stream_rise(rt: HostRuntime) -> Result<(), Fail> {
     let read = held(&rt, rt.alloc())?;
@@ -93,8 +93,8 @@ fn a_reader_sees_a_held_stream_rise(rt: HostRuntime) -> Result<(), Fail> {
     Ok(())
 }
 
-/// Puts out parts in one thread, into a sink that fails once it has `most` bytes. Returns how it went, how many bytes are out,
-/// and what is read then.
+// Puts out parts in one thread, into a sink that fails once it has `most` bytes. Returns how it went, how many bytes are out,
+// and what is read then.
 fn counted(
     alloc: Global,
     mut parts: PinParts,
@@ -123,7 +123,7 @@ fn counted(
     Some((pumped, outlet.into_writer().taken.len(), read))
 }
 
-/// Puts out the dump of thirty points so.
+// Puts out the dump of thirty points so.
 fn thirty_counted(alloc: Global, most: usize) -> Result<Option<(Pumped, usize, u64)>, Fail> {
     let parts = PinParts::open(points(alloc, 30)?)?;
     let made = Meter::new(alloc, 1, 0)?;

@@ -6,8 +6,8 @@ use dump_pump::{Pumped, WriteOutlet, pump};
 use std::alloc::Global;
 use std::test::*;
 
-/// Where the dump of one point may fail, and how many of its parts were given then. Its opening has 143 bytes, its segment 149,
-/// its end 9.
+// Where the dump of one point may fail, and how many of its parts were given then. Its opening has 143 bytes, its segment 149,
+// its end 9.
 const FAILS: [(usize, u64); 9] = [
     (0, 1),
     (1, 1),
@@ -20,8 +20,8 @@ const FAILS: [(usize, u64); 9] = [
     (300, 3),
 ];
 
-/// Pumps the dump of one point into a sink that takes at most `size` bytes a write, and fails once it has `most`. Returns how
-/// it went, how many parts were given, and what is out, in hexadecimal.
+// Pumps the dump of one point into a sink that takes at most `size` bytes a write, and fails once it has `most`. Returns how
+// it went, how many parts were given, and what is out, in hexadecimal.
 fn pumped(alloc: Global, size: usize, most: usize) -> Result<(Pumped, u64, String), Fail> {
     let mut source = PinParts::open(one_point(alloc)?)?;
     let sink = Sink {
@@ -36,15 +36,15 @@ fn pumped(alloc: Global, size: usize, most: usize) -> Result<(Pumped, u64, Strin
     Ok((pumped, source.given(), digits))
 }
 
-/// Returns whether a pump goes so, into a sink of `size` bytes a write, and the first bytes of the dump are out, and no
-/// others.
+// Returns whether a pump goes so, into a sink of `size` bytes a write, and the first bytes of the dump are out, and no
+// others.
 fn goes(alloc: Global, size: usize, most: usize, wanted: Pumped, parts: u64) -> Result<bool, Fail> {
     let (went, given, digits) = pumped(alloc, size, most)?;
     let out = ONE_POINT.as_bytes().get(..most.saturating_mul(2));
     Ok(went == wanted && given == parts && out == Some(digits.as_bytes()))
 }
 
-/// Returns whether all of them fail as they must, and one with just enough room doesn't.
+// Returns whether all of them fail as they must, and one with just enough room doesn't.
 fn all_go(alloc: Global, size: usize) -> Result<bool, Fail> {
     for (most, parts) in FAILS {
         let failed = Pumped::OutletFailed { bytes: most as u64 };

@@ -12,10 +12,10 @@ use std::marker::Brand;
 use std::sync::Wait;
 use std::test::*;
 
-/// How many acts there are: those that `asked` and `answer` tell.
+// How many acts there are: those that `asked` and `answer` tell.
 const ACTS: u64 = 10;
 
-/// Creates the definition of the class of this number.
+// Creates the definition of the class of this number.
 fn class(alloc: Global, number: u64) -> Result<Event, AllocError> {
     match number {
         0 => node(alloc),
@@ -23,7 +23,7 @@ fn class(alloc: Global, number: u64) -> Result<Event, AllocError> {
     }
 }
 
-/// Creates the definition of the array class of this number.
+// Creates the definition of the array class of this number.
 fn array_class(alloc: Global, number: u64) -> Result<Event, AllocError> {
     let name = match number {
         0 => Name::new(alloc, b"[LNode;")?,
@@ -32,7 +32,7 @@ fn array_class(alloc: Global, number: u64) -> Result<Event, AllocError> {
     Ok(Event::ArrayClass { name })
 }
 
-/// Creates an event of this number that has no lists. Its last number differs for each change.
+// Creates an event of this number that has no lists. Its last number differs for each change.
 fn plain(number: u64, change: u64) -> Event {
     match number {
         2 => Event::New {
@@ -68,7 +68,7 @@ fn plain(number: u64, change: u64) -> Event {
     }
 }
 
-/// Creates an event of the marker.
+// Creates an event of the marker.
 fn cycle(number: u64, change: u64) -> Event {
     if change == 1 {
         return Event::Mark;
@@ -80,7 +80,7 @@ fn cycle(number: u64, change: u64) -> Event {
     }
 }
 
-/// Creates the action of this number. It differs in one number for each change.
+// Creates the action of this number. It differs in one number for each change.
 fn asked(alloc: Global, number: u64, change: u64) -> Result<Action, AllocError> {
     match number {
         0 => Ok(Action::Step(class(alloc, change)?)),
@@ -90,7 +90,7 @@ fn asked(alloc: Global, number: u64, change: u64) -> Result<Action, AllocError> 
     }
 }
 
-/// Returns what the act of this number is refused. It differs in one number for each change.
+// Returns what the act of this number is refused. It differs in one number for each change.
 fn refused(number: u64, change: u64) -> Refusal {
     match number {
         3 if change == 0 => Refusal::TooLarge,
@@ -106,7 +106,7 @@ fn refused(number: u64, change: u64) -> Refusal {
     }
 }
 
-/// Returns what the act of this number is answered. It differs in one number for each change.
+// Returns what the act of this number is answered. It differs in one number for each change.
 fn answer(number: u64, change: u64) -> Outcome {
     match number {
         0 => Outcome::Answered(Answer::Class(change)),
@@ -121,7 +121,7 @@ fn answer(number: u64, change: u64) -> Outcome {
     }
 }
 
-/// Returns the receipt of the act of this number, with an answer that differs for each change.
+// Returns the receipt of the act of this number, with an answer that differs for each change.
 fn receipt(number: u64, seat: u64, change: u64) -> Receipt
     requires { number < 10 }
 {
@@ -132,7 +132,7 @@ fn receipt(number: u64, seat: u64, change: u64) -> Receipt
     }
 }
 
-/// Does the action. Returns its receipt, or None if it has none.
+// Does the action. Returns its receipt, or None if it has none.
 fn told<L: Heap>(kept: &mut Kept<L>, seat: &mut Seat<L>, action: Action) -> Option<Receipt> {
     match action {
         Action::Step(event) => {
@@ -151,7 +151,7 @@ fn told<L: Heap>(kept: &mut Kept<L>, seat: &mut Seat<L>, action: Action) -> Opti
     }
 }
 
-/// Does the acts. Returns whether each has its receipt.
+// Does the acts. Returns whether each has its receipt.
 fn all_told<L: Heap>(
     alloc: Global,
     kept: &mut Kept<L>,
@@ -166,7 +166,7 @@ fn all_told<L: Heap>(
     Ok(true)
 }
 
-/// Returns what an audit says of the action of this number beside a receipt.
+// Returns what an audit says of the action of this number beside a receipt.
 fn audited<L: Heap>(
     alloc: Global,
     kept: &Kept<L>,
@@ -178,7 +178,7 @@ fn audited<L: Heap>(
     Ok(audit(kept, claims.as_slice()))
 }
 
-/// Returns whether an audit tells the act of this number from others: another action, seat or answer.
+// Returns whether an audit tells the act of this number from others: another action, seat or answer.
 fn is_told_apart<L: Heap>(alloc: Global, kept: &Kept<L>, number: u64) -> Result<bool, AllocError>
     requires { number < 10 }
 {
@@ -189,7 +189,7 @@ fn is_told_apart<L: Heap>(alloc: Global, kept: &Kept<L>, number: u64) -> Result<
     Ok(same && !action && !seat && !answer)
 }
 
-/// Returns whether an audit tells each of the acts from others.
+// Returns whether an audit tells each of the acts from others.
 fn all_told_apart<L: Heap>(alloc: Global, kept: &Kept<L>) -> Result<bool, AllocError> {
     for number in 0..ACTS {
         if !is_told_apart(alloc, kept, number)? {

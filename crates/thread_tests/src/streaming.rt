@@ -53,8 +53,8 @@ pub fn stream_whole<S: Source + Send + Drop, W: Write + Drop, R: Threads + Wait 
     into_writer(rt, alloc, &mut source, writer, &meter.progress(), &mut seat)
 }
 
-/// Streams the dump of points into a sink that fails once it has `most` bytes. Returns how it went, and how many bytes and
-/// parts there were.
+// Streams the dump of points into a sink that fails once it has `most` bytes. Returns how it went, and how many bytes and
+// parts there were.
 fn through<R: Threads + Wait + Sync>(
     rt: &R,
     alloc: Global,
@@ -105,8 +105,8 @@ pub fn read_along(
     (0, false)
 }
 
-/// Streams parts while another thread reads the progress. Returns how the stream went, what was read last, and whether nothing
-/// above 1,258 was read.
+// Streams parts while another thread reads the progress. Returns how the stream went, what was read last, and whether nothing
+// above 1,258 was read.
 fn read_by_two<R: Threads + Wait + Sync>(
     rt: &R,
     alloc: Global,
@@ -140,7 +140,7 @@ fn read_by_two<R: Threads + Wait + Sync>(
     (pumped, read)
 }
 
-/// Streams so with the seats of a new meter. None if it has no reader.
+// Streams so with the seats of a new meter. None if it has no reader.
 fn read_meanwhile<R: Threads + Wait + Sync>(
     rt: &R,
     alloc: Global,
@@ -162,8 +162,8 @@ fn read_meanwhile<R: Threads + Wait + Sync>(
     Some(read_by_two(rt, alloc, parts, &meter, out, reader))
 }
 
-/// Streams the dump of thirty points. Returns how it went, what was read of the progress last, and whether nothing above the
-/// limit was read.
+// Streams the dump of thirty points. Returns how it went, what was read of the progress last, and whether nothing above the
+// limit was read.
 fn with_progress<R: Threads + Wait + Sync>(
     rt: &R,
     alloc: Global,

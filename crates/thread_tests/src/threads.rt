@@ -13,7 +13,7 @@ use std::test::*;
 use std::thread;
 use std::thread::Threads;
 
-/// Creates an event of mutator m, another for each of eight numbers.
+// Creates an event of mutator m, another for each of eight numbers.
 fn event_of(m: u64, i: u64) -> Event {
     match i % 8 {
         0 => Event::NewPrim {
@@ -52,7 +52,7 @@ fn event_of(m: u64, i: u64) -> Event {
     }
 }
 
-/// Returns what a mutator's acts are answered.
+// Returns what a mutator's acts are answered.
 fn mutated<L: Heap, R: Wait>(
     rt: &R,
     alloc: Global,
@@ -71,7 +71,7 @@ fn mutated<L: Heap, R: Wait>(
     Ok(done)
 }
 
-/// Returns what a user's acts are answered, of which each tenth is a rewind.
+// Returns what a user's acts are answered, of which each tenth is a rewind.
 fn used<L: Heap, R: Wait>(
     rt: &R,
     alloc: Global,
@@ -98,7 +98,7 @@ fn used<L: Heap, R: Wait>(
     Ok(done)
 }
 
-/// Returns what an audit says of these claims and one more.
+// Returns what an audit says of these claims and one more.
 fn audited_with<L: Heap>(
     kept: &Kept<L>,
     claims: &mut Vec<(Action, Receipt)>,
@@ -113,7 +113,7 @@ fn audited_with<L: Heap>(
     said
 }
 
-/// Creates the action of a claim once more, if it is a clearing or a rewind, as that of a last claim is.
+// Creates the action of a claim once more, if it is a clearing or a rewind, as that of a last claim is.
 fn copied(action: &Action) -> Option<Action> {
     match action {
         Action::Step(Event::Clear { m, r }) => Some(Action::Step(Event::Clear { m: *m, r: *r })),
@@ -122,7 +122,7 @@ fn copied(action: &Action) -> Option<Action> {
     }
 }
 
-/// Returns what an audit says of these claims with the last of them twice, true if there is no copy of it.
+// Returns what an audit says of these claims with the last of them twice, true if there is no copy of it.
 fn audited_twice<L: Heap>(kept: &Kept<L>, claims: &mut Vec<(Action, Receipt)>) -> bool {
     let Some((action, receipt)) = claims.last() else {
         return true;
@@ -134,7 +134,7 @@ fn audited_twice<L: Heap>(kept: &Kept<L>, claims: &mut Vec<(Action, Receipt)>) -
     }
 }
 
-/// Returns what an audit says of these claims, once the last is there twice, and once it has another answer, or another action.
+// Returns what an audit says of these claims, once the last is there twice, and once it has another answer, or another action.
 fn changed<L: Heap>(
     kept: &Kept<L>,
     mut claims: Vec<(Action, Receipt)>,
@@ -153,7 +153,7 @@ fn changed<L: Heap>(
     (before, twice, answer, event)
 }
 
-/// What audits say of two threads' claims.
+// What audits say of two threads' claims.
 type Audits = (bool, bool, bool, bool);
 
 fn by_two_in<L: Heap + Send + Sync, R: Threads + Wait + Sync>(
@@ -202,7 +202,7 @@ fn rewinds_between_acts(rt: HostRuntime) -> Result<(), Fail> {
     Ok(())
 }
 
-/// Creates an event of a mutator or the marker, another for each of four numbers, or of the sweeper, another for each region.
+// Creates an event of a mutator or the marker, another for each of four numbers, or of the sweeper, another for each region.
 fn drawn(role: Role, i: u64) -> Event {
     match role {
         Role::Mutator(m) => match i % 4 {
@@ -255,7 +255,7 @@ fn thousand<L: Heap, R: Wait>(
     Ok(done)
 }
 
-/// Returns whether the receipts of four seats, each in a thread of its own, agree with the history.
+// Returns whether the receipts of four seats, each in a thread of its own, agree with the history.
 fn by_four_in<L: Heap + Send + Sync, R: Threads + Wait + Sync>(
     rt: &R,
     alloc: Global,

@@ -86,7 +86,7 @@ pub fn began<L: Heap, R: Wait>(
         )
 }
 
-/// How the workers ended, how many entries there were after each, and how many of the sweeps were answered as they must.
+// How the workers ended, how many entries there were after each, and how many of the sweeps were answered as they must.
 #[derive(Clone, Copy)]
 struct Ends {
     marked: Option<MarkEnd>,
@@ -96,8 +96,8 @@ struct Ends {
     answered: u64,
 }
 
-/// Returns the receipt of the sweep of a region, by the third seat, after nine entries: the two objects are in region 0 and
-/// stay there, and all other regions are empty.
+// Returns the receipt of the sweep of a region, by the third seat, after nine entries: the two objects are in region 0 and
+// stay there, and all other regions are empty.
 fn sweep_receipt(region: u64) -> Receipt
     requires { region < 16 }
 {
@@ -116,7 +116,7 @@ fn sweep_receipt(region: u64) -> Receipt
     }
 }
 
-/// Returns how many of the sixteen regions have the entry of their sweep.
+// Returns how many of the sixteen regions have the entry of their sweep.
 fn sweeps_answered<L: Heap, R: Wait>(rt: &R, shared: &Shared<L>) -> u64 {
     let kept = shared.lock(rt);
     let mut answered: u64 = 0;
@@ -129,7 +129,7 @@ fn sweeps_answered<L: Heap, R: Wait>(rt: &R, shared: &Shared<L>) -> u64 {
     answered
 }
 
-/// Runs the marker for the first number of turns, and then the sweeper for the second.
+// Runs the marker for the first number of turns, and then the sweeper for the second.
 fn worked_in<L: Heap, R: Wait>(
     rt: &R,
     shared: &Shared<L>,
@@ -149,7 +149,7 @@ fn worked_in<L: Heap, R: Wait>(
     }
 }
 
-/// Creates two objects, and runs the workers.
+// Creates two objects, and runs the workers.
 fn worked<L: Heap, R: Wait>(rt: &R, class: Event, blank: Blank, turns: (u64, u64)) -> Option<Ends>
     requires { (blank.config ≡ L.config) × (blank.tables ≡ L.tables) × (blank.ledger ≡ L.ledger) }
 {
@@ -180,8 +180,8 @@ fn ended<R: Wait>(rt: &R, alloc: Global, turns: (u64, u64)) -> Option<Ends> {
     worked::<Brand, R>(rt, class, blank, turns)
 }
 
-/// Returns whether six marks finish the cycle and sixteen sweeps the heap, each answered as it must be, and one fewer of either
-/// doesn't. None if memory was refused.
+// Returns whether six marks finish the cycle and sixteen sweeps the heap, each answered as it must be, and one fewer of either
+// doesn't. None if memory was refused.
 fn need_their_turns<R: Wait>(rt: &R, alloc: Global) -> Option<bool> {
     let five = ended(rt, alloc, (5, 0))?;
     let six = ended(rt, alloc, (6, 16))?;
@@ -206,7 +206,7 @@ fn workers_finish_a_cycle(rt: HostRuntime) -> Result<(), Fail> {
     Ok(())
 }
 
-/// A gate that lets no act begin from this turn on.
+// A gate that lets no act begin from this turn on.
 #[derive(Clone, Copy)]
 struct Closing {
     turn: u64,
@@ -218,8 +218,8 @@ impl Gate for Closing {
     }
 }
 
-/// Runs the marker at a gate that closes before its third act, and the sweeper at one that closes before its second, after three
-/// entries. Returns whether both ended there.
+// Runs the marker at a gate that closes before its third act, and the sweeper at one that closes before its second, after three
+// entries. Returns whether both ended there.
 fn stopped<L: Heap, R: Wait>(rt: &R, class: Event, blank: Blank) -> Option<bool>
     requires { (blank.config ≡ L.config) × (blank.tables ≡ L.tables) × (blank.ledger ≡ L.ledger) }
 {
@@ -253,7 +253,7 @@ fn closed_gates_end_workers(rt: HostRuntime) -> Result<(), Fail> {
     Ok(())
 }
 
-/// A gate that is passed before the third act only once a mutator was answered there.
+// A gate that is passed before the third act only once a mutator was answered there.
 #[derive(Drop)]
 struct Waiting<'a> {
     here: &'a AtomicU64,

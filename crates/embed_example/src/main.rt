@@ -3,93 +3,79 @@
 #![tactic(auto)]
 
 ghost use Rattle.std.specs.Prelude.{◌≡◌};
+ghost use denote.Param.Send.{IsSend, IsSync};
 
-mod collector;
 mod mutator;
 
-use collector::{Pace, mark, sweep};
 use heap::{
-    Actor, Answer, Blank, Claim, Config, Dumped, Event, Heap, Kind, LastSeen, Machine, Name,
-    Outcome, Pumped, Refusal, Role, Seats, Shared, WriteOutlet, define_class, dump,
+    Actors, Blank, Config, Dumped, Event, Heap, Kind, LastSeen, Machine, Pace, Pumped, Refusal,
+    Role, Totals, WriteOutlet, audit_all, define_array_class, define_class, dump,
 };
-use mutator::{mutate, node};
+use mutator::mutate;
 use std::alloc::{AllocError, Global};
 use std::fs::Files;
 use std::io::Write;
 use std::marker::Brand;
 use std::sync::Wait;
-use std::thread::{Threads, join};
-use std::{fs, io};
+use std::thread::Threads;
+use std::{fs, io, thread};
 
 // The file of the dump.
 const FILE: &str = "embed.hprof";
 
-// The number of regions, and of rounds of each mutator.
+// The number of regions, of rounds of each mutator, and of rounds that a mutator may be ahead of the sweeper.
 const REGIONS: u64 = 16;
 
 const ROUNDS: u64 = 20;
+
+const AHEAD: u64 = 2;
 
 // The numbers of the class of nodes, which is defined first, and of that of maps.
 const NODE: u64 = 0;
 
 const MAP: u64 = 1;
 
+// What the actors did, and the dump that was written beside them.
+type Report<W> = (Totals, Dumped<WriteOutlet<W>, LastSeen>);
+
 // Creates the definition of the class of nodes.
 fn node_class(alloc: Global) -> Result<Event, AllocError> {
     define_class(alloc, b"Node", None, &[(b"next", Kind::Object)])
 }
 
-// The objects that mutators made, the cycles that were swept, the receipts that stand, how the dump ended, and the bytes that
-// were seen of it last.
-#[derive(Clone, Copy)]
-struct Report {
-    made: usize,
-    cycles: usize,
-    receipts: usize,
-    dumped: Result<Pumped, Refusal>,
-    seen: u64,
-}
-
-// Defines the classes, and has all threads work, each with a seat. Returns None if anything was refused.
+// Defines the classes, has all threads work, each with an actor, and audits them. Returns None if anything was refused.
 fn run<'a, L: Heap + Send + Sync, W: Write + Drop, R: Threads + Wait + Sync>(
-    rt: &'a R,
-    alloc: Global,
-    shared: &'a Shared<L>,
-    mut seats: Seats<L>,
-    outlet: WriteOutlet<W>,
-) -> Option<Report> {
-    let mut user = Actor::new(rt, alloc, shared, seats.take()?);
-    let one = Actor::new(rt, alloc, shared, seats.take()?);
-    let two = Actor::new(rt, alloc, shared, seats.take()?);
-    let marker = Actor::new(rt, alloc, shared, seats.take()?);
-    let sweeper = Actor::new(rt, alloc, shared, seats.take()?);
+    mut actors: Actors<'a, L, R>,
+    file: W,
+) -> Option<Report<W>> {
+    let (rt, alloc, shared) = (actors.rt, actors.alloc, actors.shared);
+    let mut user = actors.take()?;
     user.act(node_class(alloc).ok()?).ok()?;
-    let name = Name::new(alloc, b"[Node;").ok()?;
-    user.act(Event::ArrayClass { name }).ok()?;
-    let pace = &Pace::new();
-    let ((one, two), (marker, (swept, dumped))) = join(
+    user.act(define_array_class(alloc, b"[Node;").ok()?).ok()?;
+    let (mut one, mut two) = (actors.take()?, actors.take()?);
+    let (mut marker, mut sweeper) = (actors.take()?, actors.take()?);
+    let pace = &Pace::new(2, AHEAD);
+    let dumped = thread::scope(
+        thread::scope_env(),
         rt,
-        move || join(
-            rt,
-            move || mutate(pace, 0, one),
-            move || mutate(pace, 1, two),
-        ),
-        move || {
-            join(
-                rt,
-                move || mark(pace, marker),
-                move || {
-                    join(
-                        rt,
-                        move || sweep(pace, sweeper),
-                        move || dump(rt, alloc, shared, 0, outlet, LastSeen { bytes: 0 }),
-                    )
-                },
-            )
+        |scope| -> Option<Dumped<WriteOutlet<W>, LastSeen>>
+            requires { IsSend L.row × IsSync L.row × IsSync R.row }
+        {
+            let first = scope.spawn(|| mutate(pace, &mut one)).ok()?;
+            let second = scope.spawn(|| mutate(pace, &mut two)).ok()?;
+            let marking = scope.spawn(|| marker.mark_cycles(pace, ROUNDS)).ok()?;
+            let sweeping = scope.spawn(|| sweeper.sweep_cycles(pace, ROUNDS)).ok()?;
+            let outlet = WriteOutlet::new(file);
+            let dumped = dump(rt, alloc, shared, 0, outlet, LastSeen { bytes: 0 });
+            first.join(rt)?;
+            second.join(rt)?;
+            marking.join(rt).ok()?;
+            sweeping.join(rt).ok()?;
+            Some(dumped)
         },
-    );
-    swept?;
-    audited(&one?, &two?, &marker?, dumped)
+    )?;
+    let totals = audit_all(&[one, two, marker])?;
+    Some((totals, dumped))
 }
 
 // Opens the heap, and has all threads work on it. Returns None if anything was refused.
@@ -98,11 +84,11 @@ fn open<L: Heap + Send + Sync, W: Write + Drop, R: Threads + Wait + Sync>(
     alloc: Global,
     blank: Blank,
     file: W,
-) -> Option<Report>
+) -> Option<Report<W>>
     requires { (blank.config ≡ L.config) × (blank.tables ≡ L.tables) × (blank.ledger ≡ L.ledger) }
 {
     let (shared, seats) = blank.open::<L>();
-    run(rt, alloc, &shared, seats, WriteOutlet::new(file))
+    run(Actors::new(rt, alloc, &shared, seats), file)
 }
 
 // Creates the heap, and has all threads work on it. Returns None if anything was refused.
@@ -111,7 +97,7 @@ fn shared_heap<W: Write + Drop, R: Threads + Wait + Sync>(
     alloc: Global,
     config: Config,
     file: W,
-) -> Option<Report> {
+) -> Option<Report<W>> {
     let roles = [
         Role::User,
         Role::Mutator(0),
@@ -123,57 +109,25 @@ fn shared_heap<W: Write + Drop, R: Threads + Wait + Sync>(
     open::<Brand, W, R>(rt, alloc, blank, file)
 }
 
-// Returns the number of objects that were made.
-fn count_made(claims: &[Claim]) -> usize {
-    claims
-        .iter()
-        .filter(|c| matches!(c.1.answer, Outcome::Answered(Answer::Object(_))))
-        .count()
-}
-
-// Audits what the threads did. Returns None if a receipt doesn't stand.
-fn audited<L: Heap, W: Write + Drop, R: Wait>(
-    one: &Actor<'_, L, R>,
-    two: &Actor<'_, L, R>,
-    marker: &Actor<'_, L, R>,
-    dumped: Dumped<WriteOutlet<W>, LastSeen>,
-) -> Option<Report> {
-    if !one.audit() || !two.audit() || !marker.audit() {
-        return None;
-    }
-    let acts = one.claims().len().saturating_add(two.claims().len());
-    let cycles = marker.claims().len();
-    Some(Report {
-        made: count_made(one.claims()).saturating_add(count_made(two.claims())),
-        cycles,
-        receipts: acts.saturating_add(cycles),
-        dumped: dumped.end,
-        seen: dumped.watcher.bytes,
-    })
-}
-
 // Prints what came of the threads.
-fn print_report<R: Print + Files>(rt: &R, report: &Report) -> io::Result<()> {
+fn print_report<W: Write + Drop, R: Print + Files>(rt: &R, report: &Report<W>) -> io::Result<()> {
+    let (totals, dumped) = report;
+    let (made, cycles, receipts) = (totals.made, totals.finished, totals.claims);
     let size = fs::metadata(rt, FILE)?.len();
-    let is_whole = report.dumped == Ok(Pumped::Done { bytes: size }) && report.seen == size;
-    println!(rt;
-        "2 mutators made {} objects, in a heap that holds 4096 nodes",
-        report.made
-    )?;
-    println!(rt;
-        "{} cycles were marked and swept beside them",
-        report.cycles
-    )?;
+    let is_whole = dumped.end == Ok(Pumped::Done { bytes: size }) && dumped.watcher.bytes == size;
+    println!(rt; "2 mutators made {made} objects, in a heap that holds 4096 nodes")?;
+    println!(rt; "{cycles} cycles were marked and swept beside them")?;
     println!(rt; "a dump was written beside them, whole by file and meter: {is_whole}")?;
-    println!(rt; "{} receipts stand in the audit", report.receipts)
+    println!(rt; "{receipts} receipts stand in the audit")
 }
 
 // Defines a class and makes three nodes on a machine of one's own, and undoes all but the class. Returns the place.
 fn rewound(alloc: Global, config: Config) -> Result<u64, Refusal> {
     let mut machine = Machine::new(alloc, config)?;
     machine.step(&node_class(alloc)?)?;
+    let (m, class) = (0, NODE);
     for r in 0..3u64 {
-        machine.step(&node(0, r))?;
+        machine.step(&Event::New { m, r, class })?;
     }
     machine.rewind(3)
 }

@@ -1,2 +1,3 @@
+pub mod CappedSums
 pub mod StepAnswers
 pub mod Claiming

@@ -8,7 +8,6 @@ use Rattle.heap_step.specs.declared.Event.{Event}
 use Rattle.heap_trail.specs.declared.Action.TheVariants.{Step}
 use Rattle.heap_trail.specs.declared.Reply.TheVariants.{Place}
 use Rattle.heap_trail.specs.Trail.{Trail}
-use Rattle.heap_trail.specs.Limits.{last_place}
 use Rattle.heap_trail.specs.Machine.{Machine, acted, after_result, after_step_at}
 use Rattle.heap_lock.specs.declared.entry.Entry.{Entry}
 use Rattle.heap_lock.specs.declared.entry.Outcome.TheVariants.{Place as At}

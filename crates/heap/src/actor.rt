@@ -122,6 +122,13 @@ impl<'a, L: Heap, R: Wait> Actor<'a, L, R> {
         }
     }
 
+    /// Returns the role of its seat.
+    pub fn role(&self) -> Role
+        ensures { result ≡ self.now.seat.role }
+    {
+        self.seat.role()
+    }
+
     /// Returns the claims of what it did, in order.
     pub fn claims(&self) -> &[Claim]
         ensures { result.now ≡ self.now.claims }

@@ -1,6 +1,6 @@
 //! Definitions of classes.
 ghost use Rattle.std.specs.Prelude.{◌≡◌, IfOk, map};
-ghost use Rattle.heap_step.specs.declared.Event.TheVariants.{Class};
+ghost use Rattle.heap_step.specs.declared.Event.TheVariants.{ArrayClass, Class};
 
 use heap_class::{ClassNo, Field, Fields, Kind, Name};
 use heap_step::Event;
@@ -28,4 +28,12 @@ pub fn define_class(
         sup,
         fields: Fields::from_vec(own),
     })
+}
+
+/// Creates the event that defines a class of object arrays with this name. Fails if an allocation fails.
+pub fn define_array_class(alloc: Global, name: &[u8]) -> Result<Event, AllocError>
+    ensures { IfOk result (λ e. e ≡ ArrayClass name.now) }
+{
+    let name = Name::new(alloc, name)?;
+    Ok(Event::ArrayClass { name })
 }

@@ -2,16 +2,23 @@
 #![tactic(auto)]
 
 pub mod actor;
+pub mod actors;
 pub mod audits;
 pub mod classes;
 pub mod copies;
 pub mod count;
+pub mod cycles;
 pub mod dumps;
+pub mod mutator;
+pub mod pace;
+pub mod totals;
 
 pub use actor::{Actor, Denial};
+pub use actors::Actors;
 pub use audits::{Claim, audit_claims};
-pub use classes::define_class;
+pub use classes::{define_array_class, define_class};
 pub use count::Count;
+pub use cycles::Halt;
 pub use dump_meter::{AskSeat, FeedSeat, Meter, NewMeter, OutSeat, ReadSeat};
 pub use dump_pump::{Outlet, Pumped, WriteOutlet};
 pub use dumps::{DumpWatcher, Dumped, LastSeen, dump};
@@ -22,3 +29,5 @@ pub use heap_trail::{Action, Machine};
 pub use heap_work::{Gate, MarkEnd, Open, SweepEnd, mark_worker, sweep_worker};
 pub use heap_world::Config;
 pub use live_dump::stream;
+pub use pace::Pace;
+pub use totals::{Totals, audit_all};

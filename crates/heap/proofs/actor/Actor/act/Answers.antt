@@ -1,4 +1,4 @@
-use Rattle.std.proofs.Common.{◌≡◌, subst}
+use Rattle.std.proofs.Common.{subst}
 use Rattle.heap_trail.specs.declared.Action.TheVariants.{Step}
 use Rattle.heap_lock.specs.declared.entry.Outcome.{Outcome}
 use Rattle.heap_lock.specs.LockStates.{Stands}

@@ -1,0 +1,55 @@
+-- Cycles, one after another.
+use Rattle.std.specs.Prelude.{◌≡◌, ℕ, suc, zero, ◌<◌, ◌-◌, ◌^◌, [], ◌∷◌, ◌++◌}
+use Rattle.heap_world.specs.Limits.{HeapSettings}
+use Rattle.heap_step.specs.declared.Event.TheVariants as Events
+use Rattle.heap_trail.specs.declared.Action.TheVariants.{Step}
+use Rattle.heap_lock.specs.declared.entry.Receipt.{Receipt}
+use Rattle.heap_lock.specs.declared.entry.Role.TheVariants.{Marker, Sweeper}
+use Rattle.heap_work.specs.declared.MarkEnd.TheVariants.{Finished}
+use Rattle.heap_work.specs.declared.SweepEnd.TheVariants.{Swept}
+use Rattle.heap_work.specs.Rule.{IsMarkWork, IsSweepWork}
+use Rattle.heap.specs.declared.cycles.Halt.{Halt}
+use Rattle.heap.specs.declared.cycles.Halt.TheVariants.{GaveUp, Denied, Marking, Sweeping}
+use Rattle.heap.specs.Actors.{ActorState, IsActorIdle}
+
+-- so many steps, one after another
+abbrev pub StepsInTurn : (ActorState → ActorState → Type 0) → ℕ → ActorState → ActorState → Type 0
+StepsInTurn Takes zero a a' = a' ≡ a
+StepsInTurn Takes (suc n) a a' = (b : ActorState) × StepsInTurn Takes n a b × Takes b a'
+
+-- fewer than so many steps, and then a halt
+abbrev pub HaltsWithin : (ActorState → ActorState → Type 0)
+    → (ActorState → Halt → ActorState → Type 0) → ℕ → ActorState → Halt → ActorState → Type 0
+HaltsWithin Takes Stops n a h a' =
+    (k : ℕ) × (b : ActorState) × (k < n) × StepsInTurn Takes k a b × Stops b h a'
+
+-- the turns of a worker that has no limit
+abbrev pub all_turns : ℕ
+all_turns = 2 ^ 64 - 1
+
+-- a cycle was marked to its end, which is claimed
+abbrev pub MarksCycle : HeapSettings → ActorState → ActorState → Type 0
+MarksCycle config a a' =
+    (r : Receipt) × IsMarkWork config a.seat a'.seat all_turns (Finished r)
+    × (a'.claims ≡ a.claims ++ (Step Events.Finish, r) ∷ [])
+
+-- why a cycle wasn't marked to its end; nothing more is claimed
+abbrev pub HaltsMarking : HeapSettings → ActorState → Halt → ActorState → Type 0
+HaltsMarking config a GaveUp a' = a' ≡ a
+HaltsMarking config a (Denied d) a' = IsActorIdle Marker a d a'
+HaltsMarking config a (Marking end) a' =
+    IsMarkWork config a.seat a'.seat all_turns end × (a'.claims ≡ a.claims)
+HaltsMarking config a (Sweeping end) a' = ⊥
+
+-- all regions were swept; nothing is claimed
+abbrev pub SweepsCycle : HeapSettings → ActorState → ActorState → Type 0
+SweepsCycle config a a' =
+    IsSweepWork config a.seat a'.seat all_turns Swept × (a'.claims ≡ a.claims)
+
+-- why not all regions were swept; nothing is claimed
+abbrev pub HaltsSweeping : HeapSettings → ActorState → Halt → ActorState → Type 0
+HaltsSweeping config a GaveUp a' = a' ≡ a
+HaltsSweeping config a (Denied d) a' = IsActorIdle Sweeper a d a'
+HaltsSweeping config a (Marking end) a' = ⊥
+HaltsSweeping config a (Sweeping end) a' =
+    IsSweepWork config a.seat a'.seat all_turns end × (a'.claims ≡ a.claims)

@@ -1,0 +1,97 @@
+//! What several actors did, by their claims.
+ghost use Rattle.std.specs.Prelude.{◌≡◌, true, false, count_by, All, Contains, IfSome, IfNone};
+ghost use Rattle.heap.specs.Actors.{IsAudited};
+ghost use Rattle.heap.specs.Totals.{IsTotal, is_finishing, is_making};
+
+use crate::actor::Actor;
+use crate::audits::Claim;
+use heap_lock::{Heap, Outcome};
+use heap_step::Event;
+use heap_trail::Action;
+use std::sync::Wait;
+
+/// What several actors did, by their claims. A number that doesn't fit is `usize::MAX`.
+#[derive(Clone, Copy, PartialEq, Eq, Debug)]
+pub struct Totals {
+    /// The number of claims.
+    pub claims: usize,
+    /// The number of objects made.
+    pub made: usize,
+    /// The number of cycles finished.
+    pub finished: usize,
+}
+
+// Returns whether a claim is that of an object that was made.
+#[tactic(auto, unfolding(crate::specs::Totals::is_making))]
+fn is_made(claim: &Claim) -> bool
+    ensures { result ≡ is_making claim.now }
+{
+    let (action, receipt) = claim;
+    let is_new = matches!(
+        action,
+        Action::Step(Event::New { .. } | Event::NewArray { .. } | Event::NewPrim { .. })
+    );
+    is_new && matches!(receipt.answer, Outcome::Answered(_))
+}
+
+// Returns whether a claim is that of a cycle that was finished.
+#[tactic(auto, unfolding(crate::specs::Totals::is_finishing))]
+fn is_finished(claim: &Claim) -> bool
+    ensures { result ≡ is_finishing claim.now }
+{
+    let (action, receipt) = claim;
+    matches!(action, Action::Step(Event::Finish)) && matches!(receipt.answer, Outcome::Answered(_))
+}
+
+// Returns the number of objects that were made.
+fn count_made(claims: &[Claim]) -> usize
+    ensures { result ≡ count_by is_making claims.now }
+{
+    let mut made = 0usize;
+    for claim in claims {
+        if is_made(claim) {
+            made += 1;
+        }
+    }
+    made
+}
+
+// Returns the number of cycles that were finished.
+fn count_finished(claims: &[Claim]) -> usize
+    ensures { result ≡ count_by is_finishing claims.now }
+{
+    let mut finished = 0usize;
+    for claim in claims {
+        if is_finished(claim) {
+            finished += 1;
+        }
+    }
+    finished
+}
+
+/// Returns what the actors did, or None if a claim of one of them doesn't stand in the history, as `Actor::audit` says. Takes no
+/// memory. May wait.
+pub fn audit_all<L: Heap, R: Wait>(actors: &[Actor<'_, L, R>]) -> Option<Totals>
+    ensures totals { IfSome result (IsTotal actors.now) }
+    ensures stand { IfSome result (λ _. All (λ a. IsAudited L.config a.claims true) actors.now) }
+    ensures none { IfNone result
+        ((a : _) × Contains actors.now a × IsAudited L.config a.claims false) }
+{
+    let mut claims = 0usize;
+    let mut made = 0usize;
+    let mut finished = 0usize;
+    for actor in actors {
+        if !actor.audit() {
+            return None;
+        }
+        let own = actor.claims();
+        claims = claims.saturating_add(own.len());
+        made = made.saturating_add(count_made(own));
+        finished = finished.saturating_add(count_finished(own));
+    }
+    Some(Totals {
+        claims,
+        made,
+        finished,
+    })
+}

@@ -14,9 +14,8 @@ pub mod SessionCommands
 pub mod SessionLines
 pub mod CutAnswers
 pub mod Sessions
-pub mod FirstPin
+pub mod KeptNumbers
 pub mod DumpLines
-pub mod Hexadecimal
 pub mod NumberDigits
 pub mod QuickLines
 pub mod ActionLists

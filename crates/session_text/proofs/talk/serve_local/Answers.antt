@@ -1,4 +1,4 @@
-use Rattle.session_text.proofs.FirstPin.{first_stays}
+use Rattle.session_text.proofs.KeptNumbers.{first_stays}
 use Rattle.session_text.proofs.Sessions.{local_session}
 use Rattle.session_text.proofs.talk.serve_local.Goals as goal
 

@@ -50,7 +50,7 @@ SECONDS ?= 600
 soak:
 	CLIENTS=$(CLIENTS) SECONDS=$(SECONDS) python3 bench/soak.py bin/heapdbg
 
-# Has 16 threads act on a heap under its lock, and their receipts audited. Builds a program of its own in a temporary folder.
+# Has 16 threads, a marker and a sweeper act on a heap under its lock, and their receipts audited. Builds a program of its own in a temporary folder.
 audit:
 	SECONDS=$(SECONDS) python3 bench/audit.py
 

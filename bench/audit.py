@@ -1,6 +1,6 @@
 #!/usr/bin/env python3
-"""Has 16 threads act on a heap under its lock, and their receipts audited: `audit.py [COMMAND ..]`, for `SECONDS` seconds
-(600).
+"""Has 16 threads, a marker and a sweeper act on a heap under its lock, and their receipts audited: `audit.py [COMMAND ..]`, for
+`SECONDS` seconds (600).
 
 Builds `audit.rt.txt` as one more crate of a copy of this repository in a temporary folder, over what checks here kept. With a
 command, that of a program which was built so, runs it instead; words before the program run it, such as `valgrind -q`. Each
@@ -17,7 +17,7 @@ import time
 
 from programs import built
 
-LIBRARIES = "dump_pump heap_scripts http_server"
+LIBRARIES = "dump_pump heap_scripts heap_work http_server"
 NAMES = "acts, finished cycles, rewinds, pairs of equal dumps, pairs with a pin that was lost or refused".split(", ")
 
 
@@ -37,7 +37,7 @@ def main(command, seconds, acts):
         rounds += 1
         ran = subprocess.run([*command, str(rounds), acts], capture_output=True)
         found = counts(ran.stdout)
-        if ran.returncode or ran.stderr or not found or found[0] != 16 * int(acts):
+        if ran.returncode or ran.stderr or not found or found[0] < 18 * int(acts):
             wrong += 1
             print(f"round {rounds}: status {ran.returncode}, {ran.stdout!r}, {ran.stderr!r:.1000}")
         else:

@@ -5,7 +5,7 @@ Usage: checks/growths.py [-v] GROWTHS WANTED HEAPDBG
 GROWTHS has to print what is in the file WANTED whatever is refused. HEAPDBG does sessions: each ends for want of memory before
 it reads, or refuses one line and answers all others as a session without that line, or loses a pin and answers all but its
 pieces as if it hadn't. It serves two clients at a time: a session that ends for want of memory has answered nothing, and the
-other one goes on. It saves a dump: that of the session's last state, or a beginning of it, if the dump is lost for want of
+other one goes on, also beside workers and dumps, of which each is whole or a beginning. It saves a dump: that of the session's last state, or a beginning of it, if the dump is lost for want of
 memory. If it is lost before its first byte, or the session isn't dumped, a file that was there stays what it was, and no file is
 made. No session asks for much more memory at once than its settings need. Prints a line for each program or session that goes
 otherwise, and with -v for each how many allocations were refused; ends with status 1 if one goes otherwise."""
@@ -36,6 +36,12 @@ SESSIONS = {
     "dump_of_object_array": "array [Lq;, newarray 0 0 0 2, store 0 0 1 0, dump -",
     "save_pumps_the_heap": "class Point - x:int y:int, new 0 0 0, put 0 0 0 7, open -, put 0 0 0 9",
 }
+
+# What the first of two clients sends to a heap with workers, whose answers are the same whatever these do; and the second.
+BESIDE_WORKERS = [b"class Point - x:int y:int", b"new 0 0 0", b"put 0 0 0 7", b"newprim 0 1 long 3"]
+IN_A_CYCLE = [b"snap", b"put 0 0 1 8", b"load 0 2 0 1", b"new 0 3 0", b"move 1 0 0 3"]
+# What is said of a dump for which no memory was there.
+NO_DUMPS = (b"", b"heapdbg: dump NoMemory\n", b"heapdbg: dump Memory\n")
 
 # What the second of two clients sends.
 SECOND = [b"newprim 1 5 byte 3", b"put 1 5 2 9", b"load 1 0 5 2", b"dump -", b"clear 1 5"]
@@ -127,6 +133,78 @@ def served(program, library, number, clients, tries=3):
     if tries > 1 and error.endswith(b"heapdbg: listen\n"):
         return served(program, library, number, clients, tries - 1)
     return server.returncode, [line.split()[-1] for line in out.splitlines()], answers, error
+
+
+def free_ports(count):
+    """Returns ports that nobody listens on."""
+    with contextlib.ExitStack() as opened:
+        found = [opened.enter_context(socket.create_server(("127.0.0.1", 0))) for _ in range(count)]
+        return [server.getsockname()[1] for server in found]
+
+
+def tended(program, library, number, clients, tries=3):
+    """Serves two clients, one after another, with workers and dumps, and the allocation of this number refused. A dump is fetched
+    between the two, and another beside the second. Returns status, the words of the sessions, what each client was answered,
+    the dumps, and standard error."""
+    port, dumps = free_ports(2)
+    words = [program, "serve", "--port", str(port), "--dumps", str(dumps), "--sessions", "2", "--regions", "2", "--workers", "1"]
+    variables = {"LD_PRELOAD": library, "REFUSED": str(number)}
+    answers, fetched = [], []
+    with contextlib.ExitStack() as opened, subprocess.Popen(
+        words, env=variables, stdout=subprocess.PIPE, stderr=subprocess.PIPE
+    ) as server:
+        try:
+            found = [opened.enter_context(client) for _ in clients if (client := connected(server, port))]
+            for client, given in zip(found, clients):
+                if dumper := connected(server, dumps) if answers else None:
+                    with dumper:
+                        fetched.append(answered(dumper, b""))
+                dumper = connected(server, dumps) if answers else None
+                answers.append(replies(answered(client, given)))
+                if dumper:
+                    with dumper:
+                        fetched.append(answered(dumper, b""))
+            out, error = server.communicate(timeout=60)
+        finally:
+            server.kill()
+    if tries > 1 and error.endswith(b"heapdbg: listen\n"):
+        return tended(program, library, number, clients, tries - 1)
+    return server.returncode, [line.split()[-1] for line in out.splitlines()], answers, fetched, error
+
+
+def are_dumps(program, library, found, fetched, error):
+    """Tells whether the first dump is that of what the first client left, or a beginning of it if that is said, and the second
+    begins as a dump does."""
+    kept = [line for line, (_, last) in zip(BESIDE_WORKERS, found) if last != REFUSED]
+    _, _, _, whole = saved(program, library, kept)
+    first, second = fetched
+    said = error.removeprefix(b"refused\n")
+    opening = whole[:31]
+    return said in NO_DUMPS and (first == whole or said != b"" and whole.startswith(first)) and second[:31] in (b"", opening)
+
+
+def wrong_tended(program, library):
+    """Yields the numbers of the allocations after whose refusal two sessions beside workers and dumps go otherwise than they may, and
+    then how many there are. How many each run makes depends on how its threads meet."""
+    command = [program, "run", "--regions", "2"]
+    both = (BESIDE_WORKERS, IN_A_CYCLE)
+    clients = [b"".join(line + b"\n" for line in lines) for lines in both]
+    for number in range(1, LIMIT):
+        status, words, answers, fetched, error = tended(program, library, number, clients)
+        if b"refused" not in error:
+            return number - 1
+        if words == [] and answers == []:
+            good = (status, error) == (1, b"refused\nheapdbg: memory\n")
+        elif b"memory" in words:
+            at = words.index(b"memory")
+            good = (status, answers[at], words[1 - at]) == (0, [], b"eof")
+        else:
+            found = [reply for client in answers for reply in client]
+            good = words == [b"eof", b"eof"] and is_right(command, library, [*both[0], *both[1]], status, found, b"refused\n")
+            good = good and are_dumps(program, library, answers[0], fetched, error)
+        if not good:
+            yield number
+    return LIMIT
 
 
 def answered(client, given):
@@ -327,6 +405,7 @@ def main(growths, wanted, heapdbg, verbose=False):
             for line in wrong_sizes(program, library, lines):
                 print(f"{name}, {line}")
                 good = False
+        good = told("beside workers and dumps", wrong_tended(program, library), verbose) and good
     return 0 if good else 1
 
 

@@ -471,16 +471,16 @@ def unread_dump(program):
 
 
 def resetting_dumps(program):
-    """Yields how many pins a session can have after each of twenty clients that reset their connection amid their dump, and what
-    one has that comes while four are open."""
+    """Yields how many pins a session can have after each of 302 clients that reset their connection once they have 0, 1, .. 301 bytes
+    of their dump, and what one has that comes while four are open."""
     with DumpServer(program, 1, "--regions", "256") as server:
         client = server.client()
         full_heap(client)
         with Session(client.makefile("rb"), client.makefile("wb"), client.close) as session:
             counts = []
-            for _ in range(20):
+            for size in range(302):
                 with server.dump_client(4096) as reader:
-                    reader.recv(301, socket.MSG_WAITALL)
+                    reader.recv(size, socket.MSG_WAITALL)
                     reader.setsockopt(socket.SOL_SOCKET, socket.SO_LINGER, RESET)
                 counts.append(free_pins(session))
             pins = [session.open().pin for _ in range(4)]
@@ -489,7 +489,7 @@ def resetting_dumps(program):
                 session.close(pin)
             whole = server.dump() == session.dump()
         found = counts, refused, whole, server.ended()
-    yield "dumps that are reset", found, ([4] * 20, b"", True, (0, ["quit"], b"heapdbg: dump PinLimit\n"))
+    yield "dumps that are reset", found, ([4] * 302, b"", True, (0, ["quit"], b"heapdbg: dump PinLimit\n"))
 
 
 def fetched(program, folder, given):

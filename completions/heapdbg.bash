@@ -28,10 +28,10 @@ _heapdbg() {
     fi
     case ${COMP_WORDS[1]} in
         run) options="$heap --questions" ;;
-        explore) options="$heap --from" ;;
+        explore) options="$heap --from --port" ;;
         draw) options="$heap --out" ;;
-        save) options="$heap --out --to" ;;
-        serve) options="$heap --port --sessions --workers --dumps" ;;
+        save) options="$heap --out --to --questions" ;;
+        serve) options="$heap --port --sessions --workers --dumps --questions" ;;
         ask) options="--port" ;;
         fetch) options="--port --out" ;;
         *) return ;;

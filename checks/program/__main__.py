@@ -10,7 +10,16 @@ from line_cases import bad_lines
 from picture_cases import pictures
 from run_cases import faults, lines_at_the_limits, sessions, would_block
 from save_cases import saved_faults, saved_files, saved_on_terminals, saved_to_listeners, saved_to_long_names
-from serve_cases import asking, pins_of_ended_sessions, served_faults, served_on_terminals, served_sessions, tended, worked
+from serve_cases import (
+    asking,
+    pins_of_ended_sessions,
+    served_faults,
+    served_on_terminals,
+    served_questions,
+    served_sessions,
+    tended,
+    worked,
+)
 from settings_cases import settings_shown
 
 
@@ -18,7 +27,7 @@ def differences(program):
     """Yields a line for each run that went otherwise than it must."""
     parts = ("status", "standard output", "standard error", "first of the clients or the dump", "second", "third", "fourth")
     saves = (saved_files, saved_to_long_names, saved_faults, saved_to_listeners, saved_on_terminals)
-    serves = (served_sessions, served_on_terminals, pins_of_ended_sessions, worked, tended, asking, served_faults)
+    serves = (served_sessions, served_on_terminals, pins_of_ended_sessions, worked, tended, served_questions, asking, served_faults)
     for cases in (sessions, questions, pictures, settings_shown, lines_at_the_limits, faults, would_block, bad_lines, *saves, *serves):
         for name, happened, wanted in cases(program):
             if not len(happened) == len(wanted) <= len(parts):

@@ -63,6 +63,16 @@ def saved_files(program):
         pins = b"ok pin 1 at 3\nok pin 2 at 3\nok pin 3 at 3\nok pin 4 at 3\n"
         four = (0, POINT_MADE + pins + b"saved 301\n", b"", POINT_DUMP)
         yield "saved beside four pins", saved(program, path, POINT + b"open -\n" * 4), four
+        shown = b"row 0 x int 7\nrow 1 y int 0\nok object Point 2\n"
+        asked = saved(program, path, POINT + b"show - 0x10000000\n", ["--questions", "1"])
+        yield "saved with questions", asked, (0, POINT_MADE + shown + b"saved 301\n", b"", POINT_DUMP)
+        swept = saved(program, path, POINT + b"open -\nclear 0 0\ncollect\n", ["--questions=1"])
+        made = POINT_MADE + b"ok pin 1 at 3\nok\nok condemned 1 swept 1\n"
+        yield "saved after a collection", swept[:2], (0, made + b"saved %d\n" % len(swept[3]))
+        cut = saved(program, path + "x", b"show - 0x10000000\npi", ["--questions", "1"])
+        yield "a cut session with questions saved", cut, (1, b"no 28 NoObject\nbad cut\n", b"heapdbg: cut\n", None)
+        plain = saved(program, path, POINT + b"pins\n")
+        yield "saved without questions", plain, (0, POINT_MADE + b"bad command\nsaved 301\n", b"", POINT_DUMP)
         short = bytes_of(dump_of_longs(1, 4, 7))
         ids = (0, b"ok object 0x10000000\nsaved %d\n" % len(short), b"", short)
         yield "saved ids and time", saved(program, path, b"newprim 0 0 long 1\n", ["--ids", "4", "--time=7"]), ids

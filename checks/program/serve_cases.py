@@ -5,7 +5,7 @@ import subprocess
 import threading
 
 from clients import answered, asked, connected, ended, ended_by, free_port, repeated, reply_of, rest_of, served
-from runs import EXAMPLE, EXAMPLE_REPLIES, MEBIBYTE, POINT, POINT_MADE, SECONDS, dump_of_longs, files, limited, run
+from runs import EXAMPLE, EXAMPLE_REPLIES, MEBIBYTE, POINT, POINT_MADE, SECONDS, TOP, dump_of_longs, files, limited, run
 
 
 def example_by_two(port):
@@ -184,6 +184,41 @@ def tended(program):
     yield "workers with nothing to do", idle, (0, b"session 1 quit\n", b"", EXAMPLE_REPLIES)
     none = served(program, ended(b"snap\nfinish\nend\n"), ["--workers", "0"])
     yield "no workers", none, (0, b"session 1 quit\n", b"", b"ok pushed 0\nok condemned 0\n")
+
+
+def asked_beside(port):
+    """The first client makes the point and asks for what the second must be told, which asks while the first is still there."""
+    with connected(port) as first, connected(port) as second:
+        made = answered(first, POINT + b"histogram -\n", len(POINT_MADE) + len(HISTOGRAM))
+        return made, rest_of(second, b"histogram @3\nclear 0 0\ngarbage -\nend\n"), rest_of(first, b"dropped 0x10000000\nend\n")
+
+
+HISTOGRAM = b"row 1 8 Point\nok 1 8\n"
+
+
+def served_questions(program):
+    """Yields sessions with questions over a shared heap as (name, what happened, what must happen)."""
+    quit = (0, b"session 1 quit\n", b"")
+    with_questions = ["--questions", "1"]
+    for path in sorted(TOP.glob("examples/questions/*.session")):
+        lines, answers = path.read_bytes(), path.with_suffix(".expected").read_bytes()
+        yield f"{path.stem}, served", served(program, ended(lines + b"end\n"), with_questions), (*quit, answers)
+        happened = served(program, lambda port: explored(program, port, lines), with_questions)
+        yield f"{path.stem}, explored from a port", happened, (*quit, 0, answers, b"")
+    two = (0, b"session 1 quit\nsession 2 quit\n", b"")
+    told = POINT_MADE + HISTOGRAM, HISTOGRAM + b"ok\n" + HISTOGRAM, b"ok place 4\n"
+    yield "questions of two", served(program, asked_beside, ["--sessions", "2", *with_questions]), (*two, *told)
+    bad = served(program, ended(b"histogram -\nhelp\ncollect\nend\n"))
+    yield "no questions of a served heap", bad, (*quit, b"bad command\n" * 3)
+    lines = POINT + b"clear 0 0\ncollect\nhistory 1\nend\n"
+    collected = POINT_MADE + b"ok\nok condemned 1 swept 1\nrow 7 reclaim 0\nok 1\n"
+    yield "a collection of a served heap", served(program, ended(lines), with_questions), (*quit, collected)
+    yield "explores nobody", run(program, ["explore", "--port", str(free_port())], EXAMPLE), (1, b"", b"heapdbg: connect\n")
+
+
+def explored(program, port, given):
+    """Runs `explore --port`, once somebody listens on the port."""
+    return asked(program, port, given, task="explore")
 
 
 def asking(program):

@@ -10,7 +10,7 @@ use std::marker::Model;
 use std::mem;
 
 // The byte at the end of a line.
-const LINE_END: u8 = b'\n';
+pub(crate) const LINE_END: u8 = b'\n';
 
 // The number of columns that are aligned: the words of a row behind them follow each other.
 const COLUMNS: usize = 16;

@@ -2,6 +2,7 @@
 ghost use Rattle.std.specs.Prelude.{◌≡◌, ◌<◌, ◌≤◌, length};
 ghost use Rattle.heap_console.specs.Lines.{IsLineGiven};
 
+use crate::columns::LINE_END;
 use dump_pump::ledger::note_bytes;
 use http_server::Log;
 use question_text::{BAD_COMMAND, Watch};
@@ -11,9 +12,6 @@ use std::alloc::{AllocError, Global};
 use std::io::{BufRead, BufReader, Read};
 use std::marker::Model;
 use std::str;
-
-// The byte at the end of a line.
-const LINE_END: u8 = b'\n';
 
 // An inlet over a file, which gives at most a line at a read. So all lines before were answered when it is asked again, and it
 // reports the last of them on standard error if that was refused. Contracts see the bytes that it gave.

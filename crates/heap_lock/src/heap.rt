@@ -235,12 +235,14 @@ impl<L: Heap> Kept<L> {
         }
     }
 
-    /// Returns what was done. It is a legal history of the heap's seats, and the machine's trail is what it leaves.
+    /// Returns what was done. It is a legal history of the heap's seats, and the machine's trail is what it leaves. The machine's
+    /// ids have the size that the heap was made with.
     pub fn chronicle(&self) -> &Chronicle
         ensures entries { result.now.entries ≡ self.now.chronicle }
         ensures legal { IsLegalHistory L.config.keep (opening L.config) self.now.chronicle }
         ensures seated { AllSeated (length L.tables) self.now.chronicle }
         ensures folds { Folds L.config self.now }
+        ensures ids { self.now.machine.ids ≡ L.config.ids }
     {
         &self.chronicle
     }

@@ -14,31 +14,29 @@ use Rattle.session_text.specs.Writes.{IsTextWritten}
 use Rattle.heap_save.specs.Saves.{IsSaved, EndsSave, Lands, LandsNowhere, last_line}
 
 -- after a session in which each line was run, a dump and a last line
-pub saved_so : (makes : Option Outgoing → Type 0) (first own time : ℕ) (m left m' : Machine) (a b : Incoming) (w between w' : Outgoing) (outlet : Option Outgoing) (talked ended : Ended) (r : Pumped) (written : Bool)
-    → is_whole_session talked ≡ true → own ≡ first → IsSession m time a b w between left talked → EndsSession a b w between talked → Lands makes time (own_closed own left) m' outlet r
-    → IsTextWritten (last_line r) between w' written → ended ≡ ended_of talked written → IsSaved makes first time m m' a b w w' outlet ended (Some r)
-saved_so makes first own time m left m' a b w between w' outlet talked ended r written whole same session ends lands said is = record {
+pub saved_so : (makes : Option Outgoing → Type 0) (first time : ℕ) (left m' : Machine) (between w' : Outgoing) (outlet : Option Outgoing) (talked ended : Ended) (r : Pumped) (written : Bool)
+    → is_whole_session talked ≡ true → Lands makes time (own_closed first left) m' outlet r
+    → IsTextWritten (last_line r) between w' written → ended ≡ ended_of talked written → EndsSave makes first time left m' between w' outlet talked ended (Some r) (is_whole_session talked)
+saved_so makes first time left m' between w' outlet talked ended r written whole lands said is =
+    subst (λ q. EndsSave makes first time left m' between w' outlet talked ended (Some r) q) (sym whole) (r, lands, refl, (written, said, is))
+
+-- a session, and what was done after it
+pub saved_whole : (makes : Option Outgoing → Type 0) (first own time : ℕ) (m left m' : Machine) (a b : Incoming) (w between w' : Outgoing) (outlet : Option Outgoing) (talked ended : Ended) (pumped : Option Pumped)
+    → own ≡ first → IsSession m time a b w between left talked → EndsSession a b w between talked
+    → EndsSave makes own time left m' between w' outlet talked ended pumped (is_whole_session talked) → IsSaved makes first time m m' a b w w' outlet ended pumped
+saved_whole makes first own time m left m' a b w between w' outlet talked ended pumped same session ends goes = record {
   talked = talked;
   left = left;
   between = between;
   session = session;
   ends = ends;
-  goes =
-      subst (λ q. EndsSave makes first time left m' between w' outlet talked ended (Some r) q) (sym whole)
-      (r, subst (λ n. Lands makes time (own_closed n left) m' outlet r) same lands, refl, (written, said, is));
+  goes = subst (λ n. EndsSave makes n time left m' between w' outlet talked ended pumped (is_whole_session talked)) same goes;
 }
 
--- the same wherever an outlet may be made
-pub saved_anywhere : (makes others : Option Outgoing → Type 0) (first time : ℕ) (m m' : Machine) (a b : Incoming) (w w' : Outgoing) (outlet : Option Outgoing) (ended : Ended) (pumped : Option Pumped)
-    → ((o : Option Outgoing) → makes o → others o) → IsSaved makes first time m m' a b w w' outlet ended pumped → IsSaved others first time m m' a b w w' outlet ended pumped
-saved_anywhere makes others first time m m' a b w w' outlet ended pumped more s = record {
-  talked = s.talked;
-  left = s.left;
-  between = s.between;
-  session = s.session;
-  ends = s.ends;
-  goes = go (is_whole_session s.talked) s.goes;
-}
+-- what is done after a session is the same wherever an outlet may be made
+pub ends_anywhere : (makes others : Option Outgoing → Type 0) (first time : ℕ) (left m' : Machine) (between w' : Outgoing) (outlet : Option Outgoing) (talked ended : Ended) (pumped : Option Pumped) (whole : Bool)
+    → ((o : Option Outgoing) → makes o → others o) → EndsSave makes first time left m' between w' outlet talked ended pumped whole → EndsSave others first time left m' between w' outlet talked ended pumped whole
+ends_anywhere makes others first time left m' between w' outlet talked ended pumped whole more h = go whole h
   where
     nowhere_there : (n n' : Machine) (r : Pumped) → LandsNowhere makes time n n' r → LandsNowhere others time n n' r
     nowhere_there n n' (Done k) h = h
@@ -50,6 +48,18 @@ saved_anywhere makes others first time m m' a b w w' outlet ended pumped more s 
     lands_there n n' None r h = nowhere_there n n' r h
     lands_there n n' (Some w2) r (begun, (w1, made, dumped)) = (begun, (w1, more (Some w1) made, dumped))
 
-    go : (q : Bool) → EndsSave makes first time s.left m' s.between w' outlet s.talked ended pumped q → EndsSave others first time s.left m' s.between w' outlet s.talked ended pumped q
-    go true (r, lands, is, line) = (r, lands_there (own_closed first s.left) m' outlet r lands, is, line)
+    go : (q : Bool) → EndsSave makes first time left m' between w' outlet talked ended pumped q → EndsSave others first time left m' between w' outlet talked ended pumped q
+    go true (r, lands, is, line) = (r, lands_there (own_closed first left) m' outlet r lands, is, line)
     go false h = h
+
+-- so is a session that is saved
+pub saved_anywhere : (makes others : Option Outgoing → Type 0) (first time : ℕ) (m m' : Machine) (a b : Incoming) (w w' : Outgoing) (outlet : Option Outgoing) (ended : Ended) (pumped : Option Pumped)
+    → ((o : Option Outgoing) → makes o → others o) → IsSaved makes first time m m' a b w w' outlet ended pumped → IsSaved others first time m m' a b w w' outlet ended pumped
+saved_anywhere makes others first time m m' a b w w' outlet ended pumped more s = record {
+  talked = s.talked;
+  left = s.left;
+  between = s.between;
+  session = s.session;
+  ends = s.ends;
+  goes = ends_anywhere makes others first time s.left m' s.between w' outlet s.talked ended pumped (is_whole_session s.talked) more s.goes;
+}

@@ -1,8 +1,9 @@
 //! Sessions that are saved.
 ghost use Rattle.std.specs.Prelude.{◌≡◌, Some, true, option_map};
 ghost use Rattle.session_text.specs.Endings.{ended_of};
+ghost use Rattle.session_text.specs.Limits.{is_whole_session};
 ghost use Rattle.session_text.specs.Local.{own_closed};
-ghost use Rattle.heap_save.specs.Saves.{IsUncancelled, IsSaved, Lands, LandsLate, is_unasked};
+ghost use Rattle.heap_save.specs.Saves.{EndsSave, IsUncancelled, IsSaved, Lands, LandsLate, is_unasked};
 
 use crate::late_outlet::{LateOutlet, Origin};
 use crate::line::write_last;
@@ -74,16 +75,53 @@ fn end_of_save(ended: Ended, written: bool) -> Ended
     if written { ended } else { Ended::WriteFault }
 }
 
-/// Serves a session of a private machine as `serve_local` does. If it ended by `end` or at the end of input, closes each pin
-/// that was opened through these commands, dumps the current state into the outlet of a place, and writes a last line:
-/// `saved`, `failed` or `lost` with its cause, and the number of bytes that the outlet took. If the session ended otherwise,
-/// the place is not asked, and no last line is written. `time`, in milliseconds, stands in the header of each dump.
+/// Does what a save does after its session, which ended so. If that was by `end` or at the end of input, closes each pin that was
+/// opened through these commands, dumps the current state into the outlet of a place, and writes a last line: `saved`, `failed`
+/// or `lost` with its cause, and the number of bytes that the outlet took. If the session ended otherwise, the place is not
+/// asked, and no last line is written. `time`, in milliseconds, stands in the header of the dump.
 ///
 /// The place is asked for the outlet when the first page is there: not if the dump is lost before. The dump is failed at 0
 /// bytes if no outlet could be made. A second thread makes the pieces of the dump, and the caller's puts them out, which a
 /// gauge sees; without such a thread or a pipe the caller's does both. If a meter can't be allocated the dump is lost by
 /// Memory, at 0 bytes. The outlet is asked once for each page of at most 65,536 bytes; if pages can't be allocated, once for
 /// each piece. May wait.
+pub fn save_after<O: Outlet, P: Outlets, G: Gauge, R: Threads + Wait + Sync>(
+    rt: &R,
+    alloc: Global,
+    ended: Ended,
+    local: &mut Local,
+    writer: &mut O,
+    place: P,
+    gauge: &mut G,
+    time: u64,
+) -> Saved<P, P::Out>
+    ensures ends { EndsSave (P.makes place) local.old.first_pin time local.old.machine
+        local.new.machine (O.seen writer.old) (O.seen writer.new)
+        (option_map P.Out.seen result.outlet) ended result.ended result.pumped
+        (is_whole_session ended) }
+    ensures first { local.new.first_pin ≡ local.old.first_pin }
+    ensures untouched { is_unasked result.pumped ≡ true → result.place ≡ place }
+{
+    if !ended.is_whole() {
+        return Saved {
+            ended,
+            pumped: None,
+            place,
+            outlet: None,
+        };
+    }
+    let (pumped, place, outlet) = dump_last(rt, alloc, local, place, gauge, time);
+    let written = write_last(writer, pumped);
+    Saved {
+        ended: end_of_save(ended, written),
+        pumped: Some(pumped),
+        place,
+        outlet,
+    }
+}
+
+/// Serves a session of a private machine as `serve_local` does, and then does what `save_after` says. `time`, in milliseconds,
+/// stands in the header of each dump. May wait.
 pub fn save_into<I: Inlet, O: Outlet, P: Outlets, G: Gauge, R: Threads + Wait + Sync>(
     rt: &R,
     alloc: Global,
@@ -101,20 +139,5 @@ pub fn save_into<I: Inlet, O: Outlet, P: Outlets, G: Gauge, R: Threads + Wait + 
     ensures untouched { is_unasked result.pumped ≡ true → result.place ≡ place }
 {
     let ended = serve_local(alloc, reader, writer, local, time);
-    if !ended.is_whole() {
-        return Saved {
-            ended,
-            pumped: None,
-            place,
-            outlet: None,
-        };
-    }
-    let (pumped, place, outlet) = dump_last(rt, alloc, local, place, gauge, time);
-    let written = write_last(writer, pumped);
-    Saved {
-        ended: end_of_save(ended, written),
-        pumped: Some(pumped),
-        place,
-        outlet,
-    }
+    save_after(rt, alloc, ended, local, writer, place, gauge, time)
 }

@@ -4,3 +4,4 @@ pub mod UserSeats
 pub mod Acts
 pub mod DumpTexts
 pub mod WorkerRuns
+pub mod HeldSteps

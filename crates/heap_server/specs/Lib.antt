@@ -1,4 +1,5 @@
 pub mod JoinedActs
+pub mod JoinedAnswers
 pub mod Copies
 pub mod ClientEndings
 pub mod SessionSeats

@@ -5,6 +5,7 @@ use Rattle.heap_lock.specs.Blanks.{Maker}
 use Rattle.heap_lock.specs.LockStates.{Chair}
 use Rattle.heap_server.specs.declared.sessions.Served.{Served}
 use Rattle.heap_server.specs.declared.sessions.ServedHeap.{ServedHeap}
+use Rattle.heap_server.specs.declared.sessions.Terms.{Terms}
 
 -- the most sessions
 abbrev pub session_limit : ℕ
@@ -19,6 +20,6 @@ AreUsers (s ∷ seats) = (s.role ≡ User) × AreUsers seats
 abbrev pub IsFor : ℕ → Served → Type 0
 IsFor most s = (length s.ends.items ≤ most) × (s.refused ≡ false → length s.ends.items ≡ most)
 
--- these sessions were over this heap, with this time in its dumps
-abbrev pub IsOver : Maker → ℕ → ℕ → ServedHeap → Type 0
-IsOver blank time most h = (h.made.value ≡ blank) × (h.time ≡ time) × IsFor most h.served
+-- these sessions were over this heap, on these terms
+abbrev pub IsOver : Maker → Terms → ℕ → ServedHeap → Type 0
+IsOver blank terms most h = (h.made.value ≡ blank) × (h.terms ≡ terms) × IsFor most h.served

@@ -10,6 +10,7 @@ use Rattle.heap_work.specs.declared.MarkEnd.{MarkEnd}
 use Rattle.heap_work.specs.declared.SweepEnd.{SweepEnd}
 use Rattle.heap_work.specs.Rule.{IsMarkWork, IsSweepWork}
 use Rattle.heap_server.specs.SessionSeats.{AreUsers, IsOver}
+use Rattle.heap_server.specs.declared.sessions.Terms.{Terms}
 use Rattle.heap_server.specs.declared.tended.TendedHeap.{TendedHeap}
 
 -- the acts of a run at most: as many as a chronicle has entries
@@ -51,6 +52,6 @@ AreTended config (marker ∷ sweeper ∷ users) marked swept =
 AreTended config seats marked swept = ⊥
 
 -- these sessions were over this heap, and this is what its workers did
-abbrev pub IsTendedOver : Maker → ℕ → ℕ → TendedHeap → Type 0
-IsTendedOver blank time most h =
-    IsOver blank time most h.heap × AreTended blank.config blank.seats h.marker h.sweeper
+abbrev pub IsTendedOver : Maker → Terms → ℕ → TendedHeap → Type 0
+IsTendedOver blank terms most h =
+    IsOver blank terms most h.heap × AreTended blank.config blank.seats h.marker h.sweeper

@@ -5,11 +5,15 @@ ghost use Rattle.heap_trail.specs.Machine.{IsSmall};
 ghost use Rattle.heap_lock.specs.declared.entry.Role.TheVariants.{User};
 ghost use Rattle.heap_lock.specs.Calls.{Witnesses};
 ghost use Rattle.heap_lock.specs.History.{reply_of};
+ghost use Rattle.session_text.specs.Replies.{line_answer_text};
 ghost use Rattle.heap_server.specs.JoinedActs.{IsReply, IsLegalPart};
+ghost use Rattle.heap_server.specs.JoinedAnswers.{IsAnswerOfHeap, IsCollectionOfHeap, IsSeatAfter};
 
+use crate::held_heap::collect_held;
 use heap_class::Refusal;
 use heap_lock::{Heap, Outcome, Receipt, Seat, Shared, Witness};
 use heap_trail::{Action, Reply};
+use question_text::answer_line;
 use session_text::{Commands, LineAnswer};
 use std::alloc::Global;
 use std::sync::Wait;
@@ -108,6 +112,26 @@ impl<'a, L: Heap, R: Wait> Joined<'a, L, R> {
             Ok(()) => Reply::Closed,
             Err(refusal) => Reply::Refused(refusal),
         }
+    }
+
+    // Answers a question about the heap, at one moment under the lock.
+    pub(crate) fn answer(&self, alloc: Global, line: &[u8]) -> LineAnswer
+        ensures { IsAnswerOfHeap L.config line.now (line_answer_text result) }
+    {
+        let kept = self.shared.lock(self.rt);
+        // Its contract says that the machine is what a legal history leaves.
+        kept.chronicle();
+        answer_line(alloc, kept.machine(), line)
+    }
+
+    // Takes the steps of `collect` under the lock, each an act of this seat, and returns its answer.
+    pub(crate) fn collect(&mut self, alloc: Global) -> LineAnswer
+        ensures collects { IsCollectionOfHeap L.config (line_answer_text result) }
+        ensures seat { IsSeatAfter self.old.seat self.new.seat }
+        ensures witness { self.new.witness ≡ self.old.witness }
+    {
+        let mut kept = self.shared.lock(self.rt);
+        collect_held(alloc, &mut *kept, &mut self.seat)
     }
 }
 

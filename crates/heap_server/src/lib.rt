@@ -1,8 +1,10 @@
 //! Sessions of clients over one shared heap, each in a thread of its own, and the client that asks.
 #![tactic(auto)]
 
+pub mod asking;
 pub mod client;
 pub mod copy;
+mod held_heap;
 pub mod joined;
 pub mod laws;
 pub mod report;
@@ -10,11 +12,12 @@ pub mod sessions;
 pub mod tended;
 pub mod tending;
 
+pub use asking::AskingSeat;
 pub use client::{Asked, ask};
 pub use copy::{Copied, copy_all};
 pub use joined::Joined;
 pub use laws::served_dumps_are_text;
 pub use report::{tell_sessions, word};
-pub use sessions::{Ports, Served, ServedHeap, serve_clients, serve_heap, users};
+pub use sessions::{Ports, Served, ServedHeap, Terms, serve_clients, serve_heap, users};
 pub use tended::{Staff, Tended, TendedHeap, serve_tended, serve_tended_heap, workers_and_users};
 pub use tending::{tend_marker, tend_sweeper};

@@ -4,6 +4,7 @@ ghost use Rattle.heap_class.specs.declared.Refusal.TheVariants.{NoMemory};
 ghost use Rattle.heap_lock.specs.declared.entry.Role.TheVariants.{User};
 ghost use Rattle.heap_server.specs.SessionSeats.{AreUsers, IsFor, IsOver, session_limit};
 
+use crate::asking::AskingSeat;
 use crate::joined::Joined;
 use dump_pump::WriteOutlet;
 use dump_server::{DumpListener, tend_dumps};
@@ -28,6 +29,15 @@ pub struct Ports {
     pub dumps: Option<DumpListener>,
 }
 
+/// What all sessions over a heap have in common. Contracts see the record itself.
+#[derive(Clone, Copy, PartialEq, Eq, Debug)]
+pub struct Terms {
+    /// The time in the headers of dumps, in milliseconds since 1970.
+    pub time: u64,
+    /// Whether questions are answered.
+    pub questions: bool,
+}
+
 /// How the sessions ended, in order of acceptance, and whether an accept failed.
 #[derive(Drop)]
 pub struct Served {
@@ -35,12 +45,12 @@ pub struct Served {
     pub refused: bool,
 }
 
-/// How the sessions over a heap ended. Contracts see the heap as it was made, and the time in the headers of its dumps.
+/// How the sessions over a heap ended. Contracts see the heap as it was made, and the terms of the sessions.
 #[derive(Drop)]
 pub struct ServedHeap {
     pub served: Served,
     pub made: Snapshot<Blank>,
-    pub time: u64,
+    pub terms: Terms,
 }
 
 /// Creates a heap of these settings with a user's seat for each of 1 to 1,000 sessions. Fails with NoMemory.
@@ -63,7 +73,7 @@ fn session<L: Heap, R: Wait>(
     shared: &Shared<L>,
     seat: Seat<L>,
     stream: TcpStream,
-    time: u64,
+    terms: Terms,
 ) -> Ended
     requires { seat.role ≡ User }
 {
@@ -71,7 +81,12 @@ fn session<L: Heap, R: Wait>(
     let mut reader = ReadInlet::new(&stream);
     let mut writer = WriteOutlet::new(&stream);
     let mut joined = Joined::new(shared, rt, seat, shared.witness(rt));
-    serve(alloc, &mut reader, &mut writer, &mut joined, time)
+    if terms.questions {
+        let mut asking = AskingSeat { joined };
+        serve(alloc, &mut reader, &mut writer, &mut asking, terms.time)
+    } else {
+        serve(alloc, &mut reader, &mut writer, &mut joined, terms.time)
+    }
 }
 
 // Waits for each session in turn. One for which no thread could be had ended by NoMemory.
@@ -99,7 +114,7 @@ fn serve_seats<L: Heap + Send + Sync, R: Threads + Wait + Sync>(
     seats: Seats<L>,
     most: usize,
     listener: TcpListener,
-    time: u64,
+    terms: Terms,
 ) -> Result<Served, AllocError>
     requires users { AreUsers seats }
     requires most { length seats ≡ most }
@@ -123,7 +138,7 @@ fn serve_seats<L: Heap + Send + Sync, R: Threads + Wait + Sync>(
                     refused = true;
                     break;
                 };
-                let thread = scope.spawn(move || session(rt, alloc, shared, seat, stream, time));
+                let thread = scope.spawn(move || session(rt, alloc, shared, seat, stream, terms));
                 running.push_reserved(thread.ok());
             }
             drop(listener);
@@ -155,7 +170,7 @@ fn serve_beside_dumps<L: Heap + Send + Sync, R: Clock + Eprint + Threads + Wait 
     seats: Seats<L>,
     most: usize,
     ports: (TcpListener, DumpListener),
-    time: u64,
+    terms: Terms,
 ) -> Result<Served, AllocError>
     requires users { AreUsers seats }
     requires most { length seats ≡ most }
@@ -171,8 +186,8 @@ fn serve_beside_dumps<L: Heap + Send + Sync, R: Clock + Eprint + Threads + Wait 
             requires { AreUsers seats × (length seats ≡ most) }
             ensures { IfOk result (IsFor most) }
         {
-            let dumping = begin_dumps(scope, rt, alloc, shared, dumps, time, stop)?;
-            let served = serve_seats(rt, alloc, shared, seats, most, listener, time);
+            let dumping = begin_dumps(scope, rt, alloc, shared, dumps, terms.time, stop)?;
+            let served = serve_seats(rt, alloc, shared, seats, most, listener, terms);
             stop.store(true, Ordering::SeqCst);
             dumping.join(rt);
             served
@@ -192,7 +207,7 @@ pub fn serve_clients<L: Heap + Send + Sync, R: Clock + Eprint + Threads + Wait +
     seats: Seats<L>,
     most: usize,
     ports: Ports,
-    time: u64,
+    terms: Terms,
 ) -> Result<Served, AllocError>
     requires users { AreUsers seats }
     requires most { length seats ≡ most }
@@ -200,26 +215,25 @@ pub fn serve_clients<L: Heap + Send + Sync, R: Clock + Eprint + Threads + Wait +
 {
     let Ports { sessions, dumps } = ports;
     match dumps {
-        Some(dumps) => serve_beside_dumps(rt, alloc, shared, seats, most, (sessions, dumps), time),
-        None => serve_seats(rt, alloc, shared, seats, most, sessions, time),
+        Some(dumps) => serve_beside_dumps(rt, alloc, shared, seats, most, (sessions, dumps), terms),
+        None => serve_seats(rt, alloc, shared, seats, most, sessions, terms),
     }
 }
 
-/// Opens a heap, and serves as many clients as it has seats, as `serve_clients` does, with this time in the headers of its
-/// dumps. May wait.
+/// Opens a heap, and serves as many clients as it has seats, as `serve_clients` does. May wait.
 pub fn serve_heap<R: Clock + Eprint + Threads + Wait + Sync>(
     rt: &R,
     alloc: Global,
     blank: Blank,
     most: usize,
     ports: Ports,
-    time: u64,
+    terms: Terms,
 ) -> Result<ServedHeap, AllocError>
     requires users { AreUsers blank.seats }
     requires most { length blank.seats ≡ most }
-    ensures { IfOk result (IsOver blank time most) }
+    ensures { IfOk result (IsOver blank terms most) }
 {
-    serve_opened::<Brand, R>(rt, alloc, blank, most, ports, time)
+    serve_opened::<Brand, R>(rt, alloc, blank, most, ports, terms)
 }
 
 // Does so for a heap that a type names.
@@ -229,16 +243,20 @@ fn serve_opened<L: Heap + Send + Sync, R: Clock + Eprint + Threads + Wait + Sync
     blank: Blank,
     most: usize,
     ports: Ports,
-    time: u64,
+    terms: Terms,
 ) -> Result<ServedHeap, AllocError>
     requires named { (blank.config ≡ L.config) × (blank.tables ≡ L.tables)
         × (blank.ledger ≡ L.ledger) }
     requires users { AreUsers blank.seats }
     requires most { length blank.seats ≡ most }
-    ensures { IfOk result (IsOver blank time most) }
+    ensures { IfOk result (IsOver blank terms most) }
 {
     let made = Snapshot::of(&blank);
     let (shared, seats) = blank.open::<L>();
-    let served = serve_clients(rt, alloc, &shared, seats, most, ports, time)?;
-    Ok(ServedHeap { served, made, time })
+    let served = serve_clients(rt, alloc, &shared, seats, most, ports, terms)?;
+    Ok(ServedHeap {
+        served,
+        made,
+        terms,
+    })
 }

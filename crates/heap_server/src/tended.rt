@@ -5,7 +5,7 @@ ghost use Rattle.heap_lock.specs.declared.entry.Role.TheVariants as role;
 ghost use Rattle.heap_server.specs.SessionSeats.{IsFor, session_limit};
 ghost use Rattle.heap_server.specs.Tending.{AreStaff, IsTendedOver, Marks, Sweeps};
 
-use crate::sessions::{Ports, Served, ServedHeap, serve_clients};
+use crate::sessions::{Ports, Served, ServedHeap, Terms, serve_clients};
 use crate::tending::{tend_marker, tend_sweeper};
 use heap_class::Refusal;
 use heap_lock::{Blank, Heap, Role, Seat, Seats, Shared, Stub};
@@ -162,7 +162,7 @@ pub fn serve_tended<L: Heap + Send + Sync, R: Clock + Eprint + Threads + Wait + 
     staff: Staff<L>,
     most: usize,
     ports: Ports,
-    time: u64,
+    terms: Terms,
 ) -> Result<Tended<L>, AllocError>
     requires { AreStaff most (staff.marker ∷ staff.sweeper ∷ staff.users) }
     ensures served { IfOk result (λ t. IsFor most t.served) }
@@ -181,7 +181,7 @@ pub fn serve_tended<L: Heap + Send + Sync, R: Clock + Eprint + Threads + Wait + 
             ensures sweeps { IfOk result (λ t. Sweeps L.config staff.sweeper t.sweeper) }
         {
             let workers = begin_workers(scope, rt, shared, staff.marker, staff.sweeper, stop)?;
-            let served = serve_clients(rt, alloc, shared, staff.users, most, ports, time);
+            let served = serve_clients(rt, alloc, shared, staff.users, most, ports, terms);
             stop.store(true, Ordering::SeqCst);
             let marker = workers.marking.join(rt);
             let sweeper = workers.sweeping.join(rt);
@@ -195,20 +195,40 @@ pub fn serve_tended<L: Heap + Send + Sync, R: Clock + Eprint + Threads + Wait + 
     )
 }
 
-/// Opens a heap, and serves as many clients as it has users' seats, as `serve_tended` does, with this time in the headers of
-/// its dumps. May wait.
+/// Opens a heap, and serves as many clients as it has users' seats, as `serve_tended` does. May wait.
 pub fn serve_tended_heap<R: Clock + Eprint + Threads + Wait + Sync>(
     rt: &R,
     alloc: Global,
     blank: Blank,
     most: usize,
     ports: Ports,
-    time: u64,
+    terms: Terms,
 ) -> Result<TendedHeap, AllocError>
     requires { AreStaff most blank.seats }
-    ensures { IfOk result (IsTendedOver blank time most) }
+    ensures { IfOk result (IsTendedOver blank terms most) }
 {
-    serve_staffed::<Brand, R>(rt, alloc, blank, most, ports, time)
+    serve_staffed::<Brand, R>(rt, alloc, blank, most, ports, terms)
+}
+
+// Returns the marker's seat, the sweeper's, and those of `most` users.
+fn staff_of<L: Heap>(seats: Seats<L>, most: usize) -> Staff<L>
+    requires { AreStaff most seats }
+    ensures seats { seats ≡ result.marker ∷ result.sweeper ∷ result.users }
+    ensures staff { AreStaff most (result.marker ∷ result.sweeper ∷ result.users) }
+{
+    let _most = most;
+    let mut users = seats;
+    let Some(marker) = users.take() else {
+        unreachable!()
+    };
+    let Some(sweeper) = users.take() else {
+        unreachable!()
+    };
+    Staff {
+        marker,
+        sweeper,
+        users,
+    }
 }
 
 // Does so for a heap that a type names.
@@ -218,33 +238,27 @@ fn serve_staffed<L: Heap + Send + Sync, R: Clock + Eprint + Threads + Wait + Syn
     blank: Blank,
     most: usize,
     ports: Ports,
-    time: u64,
+    terms: Terms,
 ) -> Result<TendedHeap, AllocError>
     requires named { (blank.config ≡ L.config) × (blank.tables ≡ L.tables)
         × (blank.ledger ≡ L.ledger) }
     requires staff { AreStaff most blank.seats }
-    ensures { IfOk result (IsTendedOver blank time most) }
+    ensures { IfOk result (IsTendedOver blank terms most) }
 {
     let made = Snapshot::of(&blank);
-    let (shared, mut seats) = blank.open::<L>();
-    let Some(marker) = seats.take() else {
-        unreachable!()
-    };
-    let Some(sweeper) = seats.take() else {
-        unreachable!()
-    };
-    let staff = Staff {
-        marker,
-        sweeper,
-        users: seats,
-    };
+    let (shared, seats) = blank.open::<L>();
+    let staff = staff_of(seats, most);
     let Tended {
         served,
         marker,
         sweeper,
-    } = serve_tended(rt, alloc, &shared, staff, most, ports, time)?;
+    } = serve_tended(rt, alloc, &shared, staff, most, ports, terms)?;
     Ok(TendedHeap {
-        heap: ServedHeap { served, made, time },
+        heap: ServedHeap {
+            served,
+            made,
+            terms,
+        },
         marker: marker.into_stub(),
         sweeper: sweeper.into_stub(),
     })

@@ -15,7 +15,7 @@ use Rattle.heap_class.specs.declared.IdSize.TheVariants.{Eight}
 use Rattle.heap_region.specs.Limits.{region_limit}
 use Rattle.heap_world.specs.Limits.{AreHeapSettings, keep_limit, mutator_limit}
 use Rattle.heap_server.specs.SessionSeats.{session_limit}
-use Rattle.heapdbg.specs.CommandLine.{AreSettingsWithin, HasDefaults, IsTask, ask_in, dumps_in, dumps_of, dumps_with, explore_in, fetch_in, heapdbg_line, id_size_in, id_size_of, is_given, is_task, IsOther, keep_default, number_in, number_or, other_port, port_in, port_limit, questions_in, reads_file, run_with, save_in, serve_in, serve_with, sessions_in, sessions_of, settings_in, settings_under, settings_with, target_in, task_in, time_limit, option_value, workers_in, workers_of}
+use Rattle.heapdbg.specs.CommandLine.{AreSettingsWithin, HasDefaults, IsTask, ask_in, dumps_in, dumps_of, dumps_with, explore_in, explore_with, fetch_in, heapdbg_line, id_size_in, id_size_of, is_given, is_task, IsOther, keep_default, number_in, number_or, other_port, port_in, port_limit, questions_in, reads_file, save_in, serve_in, serve_with, sessions_in, sessions_of, settings_in, settings_under, settings_with, target_in, task_in, time_limit, option_value, workers_in, workers_of}
 use Rattle.heapdbg.specs.declared.settings.Settings.{Settings}
 use Rattle.heapdbg.specs.declared.settings.Task.{Task}
 use Rattle.heapdbg.specs.declared.settings.Task.TheVariants.{Run, Explore, Draw, Save, Serve, Ask, Fetch}
@@ -71,18 +71,20 @@ pub record AreRead (rows : List Row) (s : Settings) : Type 0 where
   pub keep : option_value (codes "keep") keep_default 1 keep_limit rows ≡ Some s.keep
   pub time : option_value (codes "time") 0 0 time_limit rows ≡ Some s.time
   pub ids : id_size_in rows ≡ Some s.ids
+  pub questions : questions_in rows ≡ Some s.questions
 
-all_there : (task : Task) (r m k t : Option ℕ) (i : Option IdSize) (s : Settings) → settings_with task r m k t i ≡ Some s
-    → (s.task ≡ task) × (r ≡ Some s.regions) × (m ≡ Some s.mutators) × (k ≡ Some s.keep) × (t ≡ Some s.time) × (i ≡ Some s.ids)
-all_there task None m k t i s e = cc
-all_there task (Some r) None k t i s e = cc
-all_there task (Some r) (Some m) None t i s e = cc
-all_there task (Some r) (Some m) (Some k) None i s e = cc
-all_there task (Some r) (Some m) (Some k) (Some t) None s e = cc
-all_there task (Some r) (Some m) (Some k) (Some t) (Some i) s e = (cc, cc, cc, cc, cc, cc)
+all_there : (task : Task) (r m k t : Option ℕ) (i : Option IdSize) (q : Option Bool) (s : Settings) → settings_with task r m k t i q ≡ Some s
+    → (s.task ≡ task) × (r ≡ Some s.regions) × (m ≡ Some s.mutators) × (k ≡ Some s.keep) × (t ≡ Some s.time) × (i ≡ Some s.ids) × (q ≡ Some s.questions)
+all_there task None m k t i q s e = cc
+all_there task (Some r) None k t i q s e = cc
+all_there task (Some r) (Some m) None t i q s e = cc
+all_there task (Some r) (Some m) (Some k) None i q s e = cc
+all_there task (Some r) (Some m) (Some k) (Some t) None q s e = cc
+all_there task (Some r) (Some m) (Some k) (Some t) (Some i) None s e = cc
+all_there task (Some r) (Some m) (Some k) (Some t) (Some i) (Some q) s e = (cc, cc, cc, cc, cc, cc, cc)
 
 abbrev task_by : Bool → Bool → Bool → Bool → Bool → Bool → Bool → List Row → Option Task
-task_by runs explores draws saves serves asks fetches rows = cond runs (run_with (questions_in rows)) (cond explores (Some (explore_in rows)) (cond draws (Some Draw) (cond saves (save_in rows) (cond serves (serve_in rows) (cond asks (ask_in rows) (cond fetches (fetch_in rows) None))))))
+task_by runs explores draws saves serves asks fetches rows = cond runs (Some Run) (cond explores (explore_in rows) (cond draws (Some Draw) (cond saves (save_in rows) (cond serves (serve_in rows) (cond asks (ask_in rows) (cond fetches (fetch_in rows) None))))))
 
 is_named : (runs explores draws saves serves asks fetches : Bool) (rows : List Row) (task : Task) → task_by runs explores draws saves serves asks fetches rows ≡ Some task → (runs || (explores || (draws || (saves || (serves || (asks || fetches)))))) ≡ true
 is_named true explores draws saves serves asks fetches rows task e = refl
@@ -109,13 +111,13 @@ are_asked (Some f) s e = go (task_in f.0 f.1) refl e
     go None h found = cc
     go (Some task) h found =
         let there = all_there task (option_value (codes "regions") 16 1 region_limit f.1) (option_value (codes "mutators") 2 1 mutator_limit f.1)
-        (option_value (codes "keep") keep_default 1 keep_limit f.1) (option_value (codes "time") 0 0 time_limit f.1) (id_size_in f.1) s found in
+        (option_value (codes "keep") keep_default 1 keep_limit f.1) (option_value (codes "time") 0 0 time_limit f.1) (id_size_in f.1) (questions_in f.1) s found in
         record {
           found = f;
           is = refl;
           named = is_named (bytes_eq f.0 (codes "run")) (bytes_eq f.0 (codes "explore")) (bytes_eq f.0 (codes "draw")) (bytes_eq f.0 (codes "save")) (bytes_eq f.0 (codes "serve")) (bytes_eq f.0 (codes "ask")) (bytes_eq f.0 (codes "fetch")) f.1 task h;
           task = h ∙ ap (λ t. Some t) (sym there.0);
-          read = record { regions = there.1; mutators = there.2; keep = there.3; time = there.4; ids = there.5 };
+          read = record { regions = there.1; mutators = there.2; keep = there.3; time = there.4; ids = there.5; questions = there.6 };
         }
 
 heap_within : (o : Option (Text × List Row)) (s : Settings) (a : AreAsked o s) → AreHeapSettings s.regions s.mutators s.keep
@@ -185,14 +187,20 @@ save_within None (Some text) task e = go (number_in 1 port_limit text) refl e
         let same : Save (To port) ≡ task = cc in
         subst IsTask same (number_within 1 port_limit text port at)
 
-run_within : (q : Option ℕ) (task : Task) → run_with q ≡ Some task → IsTask task
-run_within None task e = cc
-run_within (Some zero) task e = let same : Run ≡ task = cc in subst IsTask same tt
-run_within (Some (suc n)) task e = let same : Explore false ≡ task = cc in subst IsTask same tt
+explore_within : (from port : Option Text) (task : Task) → explore_with from port ≡ Some task → IsTask task
+explore_within from None task e = let same : Explore (is_some from) ≡ task = cc in subst IsTask same tt
+explore_within (Some path) (Some text) task e = cc
+explore_within None (Some text) task e = go (number_in 1 port_limit text) refl e
+  where
+    go : (n : Option ℕ) → number_in 1 port_limit text ≡ n → option_map (λ port. Ask port) n ≡ Some task → IsTask task
+    go None at h = cc
+    go (Some port) at h =
+        let same : Ask port ≡ task = cc in
+        subst IsTask same (number_within 1 port_limit text port at)
 
 task_within : (runs explores draws saves serves asks fetches : Bool) (rows : List Row) (task : Task) → task_by runs explores draws saves serves asks fetches rows ≡ Some task → IsTask task
-task_within true explores draws saves serves asks fetches rows task e = run_within (questions_in rows) task e
-task_within false true draws saves serves asks fetches rows task e = let same : explore_in rows ≡ task = cc in subst IsTask same tt
+task_within true explores draws saves serves asks fetches rows task e = let same : Run ≡ task = cc in subst IsTask same tt
+task_within false true draws saves serves asks fetches rows task e = explore_within (first_of (codes "from") rows) (first_of (codes "port") rows) task e
 task_within false false true saves serves asks fetches rows task e = let same : Draw ≡ task = cc in subst IsTask same tt
 task_within false false false true serves asks fetches rows task e = save_within (first_of (codes "out") rows) (first_of (codes "to") rows) task e
 task_within false false false false true asks fetches rows task e = serve_within rows (port_in rows) (sessions_in rows) (workers_in rows) (dumps_in rows) task refl refl refl refl e
@@ -281,17 +289,24 @@ from_free = refl
 dumps_free : list_all (is_free_command (codes "dumps")) (built heapdbg_line).subs ≡ true
 dumps_free = refl
 
--- what sessions without questions and with them have is what the task of `run` has
-run_has : (P : Task → Type 0) (q : Option ℕ) (task : Task) → P Run × P (Explore false) → run_with q ≡ Some task → P task
-run_has P None task both e = cc
-run_has P (Some zero) task both e = let same : Run ≡ task = cc in subst P same both.0
-run_has P (Some (suc n)) task both e = let same : Explore false ≡ task = cc in subst P same both.1
+questions_free : list_all (is_free_command (codes "questions")) (built heapdbg_line).subs ≡ true
+questions_free = refl
+
+-- what sessions with questions have, of a private heap and of a served one, is what the task of `explore` has
+explore_has : (P : Task → Type 0) (from port : Option Text) (task : Task) → P (Explore (is_some from)) → ((n : ℕ) → P (Ask n)) → explore_with from port ≡ Some task → P task
+explore_has P from None task one other e = let same : Explore (is_some from) ≡ task = cc in subst P same one
+explore_has P (Some path) (Some text) task one other e = cc
+explore_has P None (Some text) task one other e = go (number_in 1 port_limit text) e
+  where
+    go : (n : Option ℕ) → option_map (λ port. Ask port) n ≡ Some task → P task
+    go None h = cc
+    go (Some n) h = let same : Ask n ≡ task = cc in subst P same (other n)
 
 -- what a task of no served heap has, and what a served heap has, is what each task has
-by_task : (P : Task → Type 0) (runs explores draws saves serves asks fetches : Bool) (rows : List Row) (task : Task) → P Run × P (Explore false) → P (explore_in rows) → P Draw → ((target : Target) → P (Save target))
+by_task : (P : Task → Type 0) (runs explores draws saves serves asks fetches : Bool) (rows : List Row) (task : Task) → P Run → P (Explore (is_some (first_of (codes "from") rows))) → P Draw → ((target : Target) → P (Save target))
     → ((port : ℕ) → P (Ask port)) → ((port : ℕ) → P (Fetch port)) → (serve_in rows ≡ Some task → P task) → task_by runs explores draws saves serves asks fetches rows ≡ Some task → P task
-by_task P true explores draws saves serves asks fetches rows task run explore draw save ask fetch serve e = run_has P (questions_in rows) task run e
-by_task P false true draws saves serves asks fetches rows task run explore draw save ask fetch serve e = let same : explore_in rows ≡ task = cc in subst P same explore
+by_task P true explores draws saves serves asks fetches rows task run explore draw save ask fetch serve e = let same : Run ≡ task = cc in subst P same run
+by_task P false true draws saves serves asks fetches rows task run explore draw save ask fetch serve e = explore_has P (first_of (codes "from") rows) (first_of (codes "port") rows) task explore ask e
 by_task P false false true saves serves asks fetches rows task run explore draw save ask fetch serve e = let same : Draw ≡ task = cc in subst P same draw
 by_task P false false false true serves asks fetches rows task run explore draw save ask fetch serve e = go (target_in (first_of (codes "out") rows) (first_of (codes "to") rows)) e
   where
@@ -363,6 +378,18 @@ default_size words f x is named read other = go (option_value (codes "ids") 8 4 
         let same : Some Eight ≡ Some x = subst (λ n. id_size_of n ≡ Some x) eight sized in
         cc
 
+-- without the option no question is answered
+default_answers : (words : List Text) (f : Text × List Row) (x : Bool) → subcommand_of heapdbg_line words ≡ Some f → is_task f.0 ≡ true
+    → questions_in f.1 ≡ Some x → is_given (codes "questions") words ≡ false → x ≡ false
+default_answers words f x is named read other = go (option_value (codes "questions") 0 0 1 f.1) refl read
+  where
+    go : (o : Option ℕ) → option_value (codes "questions") 0 0 1 f.1 ≡ o → option_map (λ number. number == 1) o ≡ Some x → x ≡ false
+    go None e h = cc
+    go (Some n) e h =
+        let zero_is : n ≡ 0 = default_of (codes "questions") 0 0 1 words f n questions_free is named e other in
+        let same : Some false ≡ Some x = subst (λ k. option_map (λ number. number == 1) (Some k) ≡ Some x) zero_is h in
+        cc
+
 pub defaults_of : (words : List Text) (s : Settings) → option_and_then settings_under (subcommand_of heapdbg_line words) ≡ Some s → HasDefaults words s
 defaults_of words s e =
     let asked = are_asked (subcommand_of heapdbg_line words) s e in
@@ -375,16 +402,17 @@ defaults_of words s e =
       keep = default_of (codes "keep") keep_default 1 keep_limit words asked.found s.keep keep_free asked.is asked.named asked.read.keep;
       time = default_of (codes "time") 0 0 time_limit words asked.found s.time time_free asked.is asked.named asked.read.time;
       ids = default_size words asked.found s.ids asked.is asked.named asked.read.ids;
+      questions = default_answers words asked.found s.questions asked.is asked.named asked.read.questions;
       sessions = λ other. by_task (λ t. sessions_of t ≡ 1) (bytes_eq name (codes "run")) (bytes_eq name (codes "explore")) (bytes_eq name (codes "draw")) (bytes_eq name (codes "save")) (bytes_eq name (codes "serve")) (bytes_eq name (codes "ask")) (bytes_eq name (codes "fetch")) rows s.task
-          (refl, refl) refl refl (λ target. refl) (λ port. refl) (λ port. refl)
+          refl refl refl (λ target. refl) (λ port. refl) (λ port. refl)
           (λ is. default_of (codes "sessions") 1 1 session_limit words asked.found (sessions_of s.task) sessions_free asked.is asked.named (served is).sessions other) asked.task;
       workers = λ other. by_task (λ t. workers_of t ≡ 0) (bytes_eq name (codes "run")) (bytes_eq name (codes "explore")) (bytes_eq name (codes "draw")) (bytes_eq name (codes "save")) (bytes_eq name (codes "serve")) (bytes_eq name (codes "ask")) (bytes_eq name (codes "fetch")) rows s.task
-          (refl, refl) refl refl (λ target. refl) (λ port. refl) (λ port. refl)
+          refl refl refl (λ target. refl) (λ port. refl) (λ port. refl)
           (λ is. default_of (codes "workers") 0 0 1 words asked.found (workers_of s.task) workers_free asked.is asked.named (served is).workers other) asked.task;
       dumps = λ other. by_task (λ t. dumps_of t ≡ None) (bytes_eq name (codes "run")) (bytes_eq name (codes "explore")) (bytes_eq name (codes "draw")) (bytes_eq name (codes "save")) (bytes_eq name (codes "serve")) (bytes_eq name (codes "ask")) (bytes_eq name (codes "fetch")) rows s.task
-          (refl, refl) refl refl (λ target. refl) (λ port. refl) (λ port. refl)
+          refl refl refl (λ target. refl) (λ port. refl) (λ port. refl)
           (λ is. default_dumps words asked.found s.task asked.is asked.named other is) asked.task;
       from = λ other. by_task (λ t. reads_file t ≡ false) (bytes_eq name (codes "run")) (bytes_eq name (codes "explore")) (bytes_eq name (codes "draw")) (bytes_eq name (codes "save")) (bytes_eq name (codes "serve")) (bytes_eq name (codes "ask")) (bytes_eq name (codes "fetch")) rows s.task
-          (refl, refl) (unread (first_of (codes "from") rows) (none_of (codes "from") words asked.found from_free asked.is asked.named other)) refl (λ target. refl) (λ port. refl) (λ port. refl)
+          refl (unread (first_of (codes "from") rows) (none_of (codes "from") words asked.found from_free asked.is asked.named other)) refl (λ target. refl) (λ port. refl) (λ port. refl)
           (λ is. served_unread (port_in rows) (sessions_in rows) (workers_in rows) (dumps_in rows) s.task is) asked.task;
     }

@@ -1,5 +1,5 @@
 -- A session that is saved is a run of the program.
-use Rattle.std.proofs.Common.{◌≡◌, ℕ, inl, inr, refl, ap, sym, ◌∙◌, subst, Bool, true, List, Option, Some, None, Result, Ok, Err, IfOk, codes}
+use Rattle.std.proofs.Common.{◌≡◌, ℕ, inl, inr, refl, ap, sym, ◌∙◌, subst, Bool, true, false, List, Option, Some, None, Result, Ok, Err, IfOk, codes}
 use Rattle.std.specs.Borrow.{Bor}
 use Rattle.std.specs.Prelude.{IfSome, is_some, option_and_then, option_map}
 use Rattle.clap.proofs.WalkLemmas.{first_value-rows}
@@ -14,14 +14,19 @@ use Rattle.heap_class.specs.declared.IdSize.{IdSize}
 use Rattle.heap_trail.specs.Machine.{Machine, opening_machine}
 use Rattle.session_text.specs.declared.Ended.{Ended}
 use Rattle.session_text.specs.Inlets.{Incoming}
-use Rattle.heap_save.specs.Saves.{IsSaved}
-use Rattle.heap_save.proofs.SavedSessions.{saved_anywhere}
+use Rattle.session_text.specs.Endings.{EndsSession}
+use Rattle.session_text.specs.Limits.{is_whole_session}
+use Rattle.question_text.specs.declared.asking.Asking.{Asking}
+use Rattle.question_text.specs.Sessions.{ServesAsking}
+use Rattle.heap_save.specs.Saves.{EndsSave, IsSaved}
+use Rattle.heap_save.proofs.SavedSessions.{ends_anywhere, saved_anywhere}
 use Rattle.heapdbg.specs.declared.failure.Fault.{Fault}
 use Rattle.heapdbg.specs.declared.settings.Settings.{Settings}
-use Rattle.heapdbg.specs.CommandLine.{heapdbg_line, path_of, target_in}
-use Rattle.heapdbg.specs.Refusals.{IsMistakeIn, IsTargetMistake}
+use Rattle.heapdbg.specs.CommandLine.{explore_with, heapdbg_line, number_in, path_of, port_limit, target_in}
+use Rattle.heapdbg.specs.Refusals.{IsExploreMistake, IsMistakeIn, IsOutside, IsTargetMistake}
 use Rattle.heapdbg.specs.declared.refusal.Mistake.{Mistake}
-use Rattle.heapdbg.specs.SaveOutcomes.{IsSavedTo, any_outlet, save_outcome}
+use Rattle.heapdbg.specs.Explorations.{IsOpening}
+use Rattle.heapdbg.specs.SaveOutcomes.{IsSavedAs, any_outlet, save_outcome}
 
 -- the first pin of a heap as it begins
 pub first_is : (ids : IdSize) (regions mutators keep : ℕ) → (opening_machine ids regions mutators keep).pins.next ≡ 1
@@ -30,11 +35,35 @@ first_is ids regions mutators keep = refl
 
 pub saved_to : (unmade : Fault) (s : Settings) (makes : Option Outgoing → Type 0) (first : ℕ) (m left : Machine) (a b : Incoming) (w w' : Outgoing) (outlet : Option Outgoing) (made : Bool) (ended : Ended) (pumped : Option Pumped) (result : Result (Unit {0}) Fault)
     → m ≡ opening_machine s.ids s.regions s.mutators s.keep → first ≡ m.pins.next → made ≡ is_some outlet
-    → IsSaved makes first s.time m left a b w w' outlet ended pumped → result ≡ save_outcome unmade made ended pumped → IsSavedTo unmade s a b w w' result
+    → IsSaved makes first s.time m left a b w w' outlet ended pumped → result ≡ save_outcome unmade made ended pumped → IsSavedAs false unmade s a b w w' result
 saved_to unmade s makes first m left a b w w' outlet made ended pumped result opening is there saved so =
     let one : first ≡ 1 = is ∙ ap (λ (n : Machine). n.pins.next) opening ∙ first_is s.ids s.regions s.mutators s.keep in
     let here : IsSaved makes 1 s.time (opening_machine s.ids s.regions s.mutators s.keep) left a b w w' outlet ended pumped = subst (λ n. IsSaved makes n s.time (opening_machine s.ids s.regions s.mutators s.keep) left a b w w' outlet ended pumped) one (subst (λ n. IsSaved makes first s.time n left a b w w' outlet ended pumped) opening saved) in
     inl (left, outlet, ended, pumped, saved_anywhere makes any_outlet 1 s.time (opening_machine s.ids s.regions s.mutators s.keep) left a b w w' outlet ended pumped (λ o h. tt) here, so ∙ ap (λ k. save_outcome unmade k ended pumped) there)
+
+-- a session with questions that is saved, too
+pub saved_asking : (unmade : Fault) (s : Settings) (makes : Option Outgoing → Type 0) (own : ℕ) (c asked : Asking) (left : Machine) (a b : Incoming) (w between w' : Outgoing) (outlet : Option Outgoing) (made : Bool) (talked ended : Ended) (pumped : Option Pumped) (result : Result (Unit {0}) Fault)
+    → IsOpening s c → c.local.first_pin ≡ 1 → own ≡ c.local.first_pin → made ≡ is_some outlet → ServesAsking s.time a b c w asked between talked → EndsSession a b w between talked
+    → EndsSave makes own s.time asked.local.machine left between w' outlet talked ended pumped (is_whole_session talked) → result ≡ save_outcome unmade made ended pumped → IsSavedAs true unmade s a b w w' result
+saved_asking unmade s makes own c asked left a b w between w' outlet made talked ended pumped result opening one same there session ends goes so =
+    let here : EndsSave makes 1 s.time asked.local.machine left between w' outlet talked ended pumped (is_whole_session talked) = subst (λ n. EndsSave makes n s.time asked.local.machine left between w' outlet talked ended pumped (is_whole_session talked)) (same ∙ one) goes in
+    inl (
+      left,
+      outlet,
+      ended,
+      pumped,
+      record {
+        begun = c;
+        asked = asked;
+        talked = talked;
+        between = between;
+        opening = opening;
+        session = session;
+        ends = ends;
+        goes = ends_anywhere makes any_outlet 1 s.time asked.local.machine left between w' outlet talked ended pumped (is_whole_session talked) (λ o h. tt) here;
+      },
+      so ∙ ap (λ k. save_outcome unmade k ended pumped) there,
+    )
 
 -- ---- what is told of options
 
@@ -54,6 +83,25 @@ given_mistake m found path port one other h =
 pub of_places : (m : Mistake) (rows : List Row) → IsTargetMistake m (first_of (codes "out") rows) (first_of (codes "to") rows) → IsMistakeIn m rows
 of_places m rows (inl h) = subst (λ x. IsMistakeIn x rows) (sym h.0) (inl (refl, h.1))
 of_places m rows (inr h) = subst (λ x. IsMistakeIn x rows) (sym h.0) (inr (refl, h.1))
+
+-- so are the task of `explore` and a mistake in it
+pub given_explored : (found : Found) (from port : Option (Bor Text)) → option_map (λ s. s.now) from ≡ first_value found (codes "from") → option_map (λ s. s.now) port ≡ first_value found (codes "port")
+    → explore_with (option_map (λ s. s.now) from) (option_map (λ s. s.now) port) ≡ explore_with (first_of (codes "from") (rows_of found)) (first_of (codes "port") (rows_of found))
+given_explored found from port one other = λ i. explore_with ((one ∙ first_value-rows found (codes "from")) i) ((other ∙ first_value-rows found (codes "port")) i)
+
+pub given_source : (m : Mistake) (found : Found) (from port : Option (Bor Text)) → option_map (λ s. s.now) from ≡ first_value found (codes "from") → option_map (λ s. s.now) port ≡ first_value found (codes "port")
+    → IsExploreMistake m (option_map (λ s. s.now) from) (option_map (λ s. s.now) port) → IsExploreMistake m (first_of (codes "from") (rows_of found)) (first_of (codes "port") (rows_of found))
+given_source m found from port one other h =
+    subst (λ o. IsExploreMistake m o (first_of (codes "port") (rows_of found))) (one ∙ first_value-rows found (codes "from"))
+    (subst (λ o. IsExploreMistake m (option_map (λ s. s.now) from) o) (other ∙ first_value-rows found (codes "port")) h)
+
+outside_none : (least most : ℕ) (given : Option Text) → IsOutside least most given → option_and_then (number_in least most) given ≡ None
+outside_none least most None h = absurd h
+outside_none least most (Some text) h = h
+
+pub of_sources : (m : Mistake) (rows : List Row) → IsExploreMistake m (first_of (codes "from") rows) (first_of (codes "port") rows) → IsMistakeIn m rows
+of_sources m rows (inl h) = subst (λ x. IsMistakeIn x rows) (sym h.0) (inl (refl, h.1, h.2))
+of_sources m rows (inr h) = subst (λ x. IsMistakeIn x rows) (sym h.0) (outside_none 1 port_limit (first_of (codes "port") rows) h.1)
 
 -- an outlet is there however it is seen
 pub still_some : {A B : Type 0} (f : A → B) (o : Option A) → is_some o ≡ is_some (option_map f o)

@@ -55,23 +55,30 @@ run_line = with_rule (session_line (codes "run")) (value_option (codes "question
 
 -- the command `explore`
 abbrev pub explore_line : App
-explore_line = with_rule (session_line (codes "explore")) (value_option (codes "from"))
+explore_line =
+    with_rule (with_rule (session_line (codes "explore")) (value_option (codes "from")))
+    (value_option (codes "port"))
 
 -- the command `save`
 abbrev pub save_line : App
 save_line =
-    with_rule (with_rule (session_line (codes "save")) (value_option (codes "out")))
-    (value_option (codes "to"))
+    with_rule
+    (with_rule (with_rule (session_line (codes "save")) (value_option (codes "out")))
+    (value_option (codes "to")))
+    (value_option (codes "questions"))
+
+-- the command `serve` with its port, its sessions and its workers
+abbrev pub staffed_line : App
+staffed_line =
+    with_rule
+    (with_rule (with_rule (session_line (codes "serve")) port_option)
+    (value_option (codes "sessions")))
+    (value_option (codes "workers"))
 
 -- the command `serve`
 abbrev pub serve_line : App
 serve_line =
-    with_rule
-    (with_rule
-    (with_rule (with_rule (session_line (codes "serve")) port_option)
-    (value_option (codes "sessions")))
-    (value_option (codes "workers")))
-    (value_option (codes "dumps"))
+    with_rule (with_rule staffed_line (value_option (codes "dumps"))) (value_option (codes "questions"))
 
 -- the command `ask`
 abbrev pub ask_line : App
@@ -135,8 +142,9 @@ id_size_in rows = option_and_then id_size_of (option_value (codes "ids") 8 4 8 r
 
 -- the settings, if each option has a value in its range
 abbrev pub settings_with : Task → Option ℕ → Option ℕ → Option ℕ → Option ℕ → Option IdSize
-    → Option Settings
-settings_with task (Some regions) (Some mutators) (Some keep) (Some time) (Some ids) =
+    → Option Bool → Option Settings
+settings_with task (Some regions) (Some mutators) (Some keep) (Some time) (Some ids)
+    (Some questions) =
     Some (record {
       task = task;
       regions = regions;
@@ -144,8 +152,9 @@ settings_with task (Some regions) (Some mutators) (Some keep) (Some time) (Some 
       keep = keep;
       time = time;
       ids = ids;
+      questions = questions;
     })
-settings_with task _ _ _ _ _ = None
+settings_with task _ _ _ _ _ _ = None
 
 -- the number of steps that can be undone, if the option is not given
 abbrev pub keep_default : ℕ
@@ -155,13 +164,17 @@ keep_default = 1024
 abbrev pub time_limit : ℕ
 time_limit = 18446744073709551615
 
+-- whether questions are answered: not, if the option is not given
+abbrev pub questions_in : List Row → Option Bool
+questions_in rows = option_map (λ number. number == 1) (option_value (codes "questions") 0 0 1 rows)
+
 -- the settings of a task and its options
 abbrev pub settings_in : Task → List Row → Option Settings
 settings_in task rows = settings_with task (option_value (codes "regions") 16 1 region_limit rows)
     (option_value (codes "mutators") 2 1 mutator_limit rows)
     (option_value (codes "keep") keep_default 1 keep_limit rows)
     (option_value (codes "time") 0 0 time_limit rows)
-    (id_size_in rows)
+    (id_size_in rows) (questions_in rows)
 
 -- the highest port
 abbrev pub port_limit : ℕ
@@ -179,23 +192,15 @@ sessions_in rows = option_value (codes "sessions") 1 1 session_limit rows
 abbrev pub workers_in : List Row → Option ℕ
 workers_in rows = option_value (codes "workers") 0 0 1 rows
 
--- 1 if questions are answered, and 0 if not or the option is not given
-abbrev pub questions_in : List Row → Option ℕ
-questions_in rows = option_value (codes "questions") 0 0 1 rows
-
--- a session without questions, or with them
-abbrev pub run_with : Option ℕ → Option Task
-run_with (Some zero) = Some Run
-run_with (Some (suc n)) = Some (Explore false)
-run_with None = None
-
--- the task of the options of `run`
-abbrev pub run_in : List Row → Option Task
-run_in rows = run_with (questions_in rows)
+-- the task of `explore`, to which this file of lines or this port is given, or neither
+abbrev pub explore_with : Option Text → Option Text → Option Task
+explore_with from None = Some (Explore (is_some from))
+explore_with None (Some text) = option_map (λ port. Ask port) (number_in 1 port_limit text)
+explore_with (Some path) (Some text) = None
 
 -- the task of the options of `explore`
-abbrev pub explore_in : List Row → Task
-explore_in rows = Explore (is_some (first_of (codes "from") rows))
+abbrev pub explore_in : List Row → Option Task
+explore_in rows = explore_with (first_of (codes "from") rows) (first_of (codes "port") rows)
 
 -- the target of a dump: one of the two options is given, and a port has to be one
 abbrev pub target_in : Option Text → Option Text → Option Target
@@ -255,8 +260,8 @@ is_task name =
 -- the task of a command's name and options
 abbrev pub task_in : Text → List Row → Option Task
 task_in name rows =
-    if bytes_eq name (codes "run") then run_in rows
-    else (if bytes_eq name (codes "explore") then Some (explore_in rows)
+    if bytes_eq name (codes "run") then Some Run
+    else (if bytes_eq name (codes "explore") then explore_in rows
     else (if bytes_eq name (codes "draw") then Some Draw
     else (if bytes_eq name (codes "save") then save_in rows
     else (if bytes_eq name (codes "serve") then serve_in rows
@@ -355,6 +360,7 @@ pub record HasDefaults (words : List Text) (s : Settings) : Type 0 where
   pub keep : is_given (codes "keep") words ≡ false → s.keep ≡ keep_default
   pub time : is_given (codes "time") words ≡ false → s.time ≡ 0
   pub ids : is_given (codes "ids") words ≡ false → s.ids ≡ Eight
+  pub questions : is_given (codes "questions") words ≡ false → s.questions ≡ false
   pub sessions : is_given (codes "sessions") words ≡ false → sessions_of s.task ≡ 1
   pub workers : is_given (codes "workers") words ≡ false → workers_of s.task ≡ 0
   pub from : is_given (codes "from") words ≡ false → reads_file s.task ≡ false

@@ -1,5 +1,5 @@
 -- The texts for command lines that the program refuses.
-use Rattle.std.specs.Prelude.{◌≡◌, ◌⊎◌, ◌++◌, ℕ, List, Option, Some, None, [], ◌∷◌, ⊤, false, codes, is_some, string_bytes}
+use Rattle.std.specs.Prelude.{◌≡◌, ◌⊎◌, ◌++◌, ℕ, List, Option, Some, None, [], ◌∷◌, ⊤, false, true, codes, is_some, string_bytes}
 use Rattle.std.specs.Option.{option_map_or}
 use Rattle.clap.specs.Words.{Row, Text, fault_of, first_of, subcommand_of}
 use Rattle.clap.specs.declared.error.kind.ErrorKind.TheVariants.{DisplayVersion}
@@ -7,7 +7,7 @@ use Rattle.heap_region.specs.Limits.{region_limit}
 use Rattle.heap_world.specs.Limits.{keep_limit, mutator_limit}
 use Rattle.heapdbg.specs.CommandLine.{dumps_with, heapdbg_line, id_size_in, is_task, keep_default, number_in, port_in, port_limit, questions_in, sessions_in, settings_of, option_value, time_limit, workers_in}
 use Rattle.heapdbg.specs.declared.refusal.Mistake.{Mistake}
-use Rattle.heapdbg.specs.declared.refusal.Mistake.TheVariants.{Command, Regions, Mutators, Keep, Time, Ids, Port, Sessions, Workers, Questions, Dumps, To, Place}
+use Rattle.heapdbg.specs.declared.refusal.Mistake.TheVariants.{Command, Regions, Mutators, Keep, Time, Ids, Port, Sessions, Workers, Questions, Dumps, To, Place, Source}
 use Rattle.heapdbg.specs.declared.settings.LineFault.{LineFault}
 use Rattle.heapdbg.specs.declared.settings.LineFault.TheVariants.{Bad, Memory}
 
@@ -20,6 +20,12 @@ IsOutside least most (Some text) = number_in least most text ≡ None
 abbrev pub IsTargetMistake : Mistake → Option Text → Option Text → Type 0
 IsTargetMistake m path port =
     ((m ≡ Place) × (is_some path ≡ is_some port)) ⊎ ((m ≡ To) × IsOutside 1 port_limit port)
+
+-- a file of lines and a port have this mistake, of which at most one may be given
+abbrev pub IsExploreMistake : Mistake → Option Text → Option Text → Type 0
+IsExploreMistake m from port =
+    ((m ≡ Source) × (is_some from ≡ true) × (is_some port ≡ true))
+    ⊎ ((m ≡ Port) × IsOutside 1 port_limit port)
 
 -- the options of a command have this mistake
 abbrev pub IsMistakeIn : Mistake → List Row → Type 0
@@ -36,6 +42,8 @@ IsMistakeIn Questions rows = questions_in rows ≡ None
 IsMistakeIn Dumps rows =
     (port : ℕ) × (port_in rows ≡ Some port)
     × (dumps_with port (first_of (codes "dumps") rows) ≡ None)
+IsMistakeIn Source rows =
+    IsExploreMistake Source (first_of (codes "from") rows) (first_of (codes "port") rows)
 IsMistakeIn To rows = IsTargetMistake To (first_of (codes "out") rows) (first_of (codes "to") rows)
 IsMistakeIn Place rows =
     IsTargetMistake Place (first_of (codes "out") rows) (first_of (codes "to") rows)
@@ -65,6 +73,7 @@ mistake_of Questions = codes "--questions takes 0 or 1"
 mistake_of Dumps = codes "--dumps takes 1 to 65535, and not the number of --port"
 mistake_of To = codes "--to takes 1 to 65535"
 mistake_of Place = codes "save takes one of --out and --to"
+mistake_of Source = codes "explore takes one of --from and --port, or neither"
 
 -- the whole text of a mistake
 abbrev pub text_of_mistake : Mistake → Text

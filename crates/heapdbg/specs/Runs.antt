@@ -1,5 +1,5 @@
 -- A run of the program between its reader and its writer.
-use Rattle.std.specs.Prelude.{◌≡◌, ℕ, ◌⊎◌, List, Result, Some, Ok, Err}
+use Rattle.std.specs.Prelude.{◌≡◌, ℕ, ◌⊎◌, Bool, true, false, List, Result, Some, Ok, Err}
 use Rattle.dump_pump.specs.Outlets.{Outgoing}
 use Rattle.heap_trail.specs.Machine.{Machine, opening_machine}
 use Rattle.session_text.specs.declared.Ended.{Ended}
@@ -33,6 +33,12 @@ IsRun s a b w w' result =
     × EndsSession a b w w' ended × (result ≡ outcome_of ended))
     ⊎ ((result ≡ Err Memory) × (b ≡ a) × (w' ≡ w))
 
+-- a session with questions or without
+abbrev pub IsRunWith : Bool → Settings → Incoming → Incoming → Outgoing → Outgoing
+    → Result (Unit {0}) Fault → Type 0
+IsRunWith true s a b w w' result = IsExplored false s a b w w' result
+IsRunWith false s a b w w' result = IsRun s a b w w' result
+
 -- the outcome of a session that was drawn: its own if that is a fault, or that of the picture
 abbrev pub IsDrawingOutcome : Result (Unit {0}) Fault → Result (Unit {0}) Fault → Type 0
 IsDrawingOutcome (Err f) result = result ≡ Err f
@@ -58,7 +64,7 @@ IsSavedOut s a b w w' result =
 -- the task of the settings was done
 abbrev pub IsTaskDone : Task → Settings → Incoming → Incoming → Outgoing → Outgoing
     → Result (Unit {0}) Fault → Type 0
-IsTaskDone Run s a b w w' result = IsRun s a b w w' result
+IsTaskDone Run s a b w w' result = IsRunWith s.questions s a b w w' result
 IsTaskDone (Explore from) s a b w w' result = IsExplored from s a b w w' result
 IsTaskDone Draw s a b w w' result = IsSessionDrawn s a b w w' result
 IsTaskDone (Save Out) s a b w w' result = IsSavedOut s a b w w' result

@@ -6,11 +6,16 @@ use Rattle.dump_pump.specs.Outlets.{Outgoing}
 use Rattle.heap_trail.specs.Machine.{Machine, opening_machine}
 use Rattle.session_text.specs.declared.Ended.{Ended}
 use Rattle.session_text.specs.Inlets.{Incoming}
-use Rattle.heap_save.specs.Saves.{IsSaved}
+use Rattle.session_text.specs.Endings.{EndsSession}
+use Rattle.session_text.specs.Limits.{is_whole_session}
+use Rattle.question_text.specs.declared.asking.Asking.{Asking}
+use Rattle.question_text.specs.Sessions.{ServesAsking}
+use Rattle.heap_save.specs.Saves.{EndsSave, IsSaved}
 use Rattle.heapdbg.specs.declared.failure.Fault.{Fault}
 use Rattle.heapdbg.specs.declared.failure.Fault.TheVariants as fault
 use Rattle.heapdbg.specs.declared.settings.Settings.{Settings}
 use Rattle.heapdbg.specs.Endings.{outcome_of}
+use Rattle.heapdbg.specs.Explorations.{IsOpening}
 
 -- the outcome of the end of a dump; `unmade` is the fault if no outlet was made
 abbrev pub dump_outcome : Fault → Bool → Option Pumped → Result (Unit {0}) Fault
@@ -36,13 +41,39 @@ save_outcome unmade made ended pumped =
 abbrev pub any_outlet : Option Outgoing → Type 0
 any_outlet o = Unit {0}
 
+-- a session with questions over a heap with these settings as it begins, and what was done after it
+pub record IsAskingSaved (s : Settings) (left : Machine) (a b : Incoming) (w w' : Outgoing)
+    (outlet : Option Outgoing) (ended : Ended) (pumped : Option Pumped) : Type 0 where
+  pub begun : Asking
+  pub asked : Asking
+  pub talked : Ended
+  pub between : Outgoing
+  pub opening : IsOpening s begun
+  pub session : ServesAsking s.time a b begun w asked between talked
+  pub ends : EndsSession a b w between talked
+  pub goes : EndsSave any_outlet 1 s.time asked.local.machine left between w' outlet talked ended
+      pumped (is_whole_session talked)
+
+-- a session over such a heap, with questions or without, which was saved
+abbrev pub IsSavedWith : Bool → Settings → Machine → Incoming → Incoming → Outgoing → Outgoing
+    → Option Outgoing → Ended → Option Pumped → Type 0
+IsSavedWith true s left a b w w' outlet ended pumped =
+    IsAskingSaved s left a b w w' outlet ended pumped
+IsSavedWith false s left a b w w' outlet ended pumped =
+    IsSaved any_outlet 1 s.time (opening_machine s.ids s.regions s.mutators s.keep) left a b w w'
+    outlet ended pumped
+
 -- a session over a heap with these settings as it begins, which was saved; or the heap couldn't be allocated, and nothing is
 -- read or written
-abbrev pub IsSavedTo : Fault → Settings → Incoming → Incoming → Outgoing → Outgoing
+abbrev pub IsSavedAs : Bool → Fault → Settings → Incoming → Incoming → Outgoing → Outgoing
     → Result (Unit {0}) Fault → Type 0
-IsSavedTo unmade s a b w w' result =
+IsSavedAs questions unmade s a b w w' result =
     ((left : Machine) × (outlet : Option Outgoing) × (ended : Ended) × (pumped : Option Pumped)
-    × IsSaved any_outlet 1 s.time (opening_machine s.ids s.regions s.mutators s.keep) left a b w w'
-    outlet ended pumped
+    × IsSavedWith questions s left a b w w' outlet ended pumped
     × (result ≡ save_outcome unmade (is_some outlet) ended pumped))
     ⊎ ((result ≡ Err fault.Memory) × (b ≡ a) × (w' ≡ w))
+
+-- the same, with questions if the settings say so
+abbrev pub IsSavedTo : Fault → Settings → Incoming → Incoming → Outgoing → Outgoing
+    → Result (Unit {0}) Fault → Type 0
+IsSavedTo unmade s a b w w' result = IsSavedAs s.questions unmade s a b w w' result

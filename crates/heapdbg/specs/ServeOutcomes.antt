@@ -9,6 +9,7 @@ use Rattle.heap_server.specs.declared.client.Asked.{Asked}
 use Rattle.heap_server.specs.declared.client.Asked.TheVariants as asked
 use Rattle.heap_server.specs.declared.sessions.Served.{Served}
 use Rattle.heap_server.specs.declared.sessions.ServedHeap.{ServedHeap}
+use Rattle.heap_server.specs.declared.sessions.Terms.{Terms}
 use Rattle.heap_server.specs.declared.tended.TendedHeap.{TendedHeap}
 use Rattle.heap_server.specs.Tending.{AreStaff, AreTended}
 use Rattle.heapdbg.specs.declared.failure.Fault.{Fault}
@@ -29,13 +30,17 @@ IsReportTold served w w' result =
     × (result ≡ served_outcome served.refused written))
     ⊎ ((result ≡ Err Memory) × (w' ≡ w))
 
+-- the terms of its sessions
+abbrev pub terms_of : Settings → Terms
+terms_of s = record { time = s.time; questions = s.questions }
+
 -- a heap was made of these settings with a seat for each of this number of sessions, which ended, or fewer if an accept
 -- failed
 abbrev pub IsHeapOf : Settings → ℕ → ServedHeap → Type 0
 IsHeapOf s sessions h =
     (h.made.value.config
     ≡ record { regions = s.regions; mutators = s.mutators; keep = s.keep; ids = s.ids })
-    × (length h.made.value.seats ≡ sessions) × (h.time ≡ s.time) × IsFor sessions h.served
+    × (length h.made.value.seats ≡ sessions) × (h.terms ≡ terms_of s) × IsFor sessions h.served
 
 -- a heap of these settings was served, and its sessions' endings were put out; or an allocation failed or the port couldn't
 -- be listened on, and nothing was put out
@@ -50,7 +55,7 @@ abbrev pub IsTendedHeapOf : Settings → ℕ → TendedHeap → Type 0
 IsTendedHeapOf s sessions t =
     (t.heap.made.value.config
     ≡ record { regions = s.regions; mutators = s.mutators; keep = s.keep; ids = s.ids })
-    × AreStaff sessions t.heap.made.value.seats × (t.heap.time ≡ s.time)
+    × AreStaff sessions t.heap.made.value.seats × (t.heap.terms ≡ terms_of s)
     × IsFor sessions t.heap.served
     × AreTended t.heap.made.value.config t.heap.made.value.seats t.marker t.sweeper
 

@@ -8,12 +8,12 @@ ghost use Rattle.clap.specs.declared.builder.Command.TheViews.{out-Command};
 ghost use Rattle.clap.specs.Words.{rule_of, subcommand_of, subcommand_rows_of};
 ghost use Rattle.heapdbg.specs.CommandLine.{AreSettingsWithin, HasDefaults, IsBadWith, heap_line, heapdbg_line, local_line, named_line, number_in};
 ghost use Rattle.heapdbg.specs.CommandLine.{settings_in, settings_of, settings_under, texts, option_value};
-ghost use Rattle.heapdbg.specs.CommandLine.{id_size_in, id_size_of, path_of, serving_line, session_line, task_in, value_option};
+ghost use Rattle.heapdbg.specs.CommandLine.{id_size_in, id_size_of, path_of, questions_in, serving_line, session_line, task_in, value_option};
 ghost use Rattle.heapdbg.specs.Refusals.{IsMistake, IsMistakeIn, IsRefusalOf, version_text};
 
 use crate::refusal::{Mistake, VERSION, version};
 use crate::save_options::{save_parser, save_task};
-use crate::session_options::{draw_parser, explore_parser, explore_task, run_parser, run_task};
+use crate::session_options::{draw_parser, explore_parser, explore_task, run_parser};
 use crate::settings::{LineFault, Settings, Task};
 use crate::socket_options::{
     ask_parser, ask_task, fetch_parser, fetch_task, serve_parser, serve_task,
@@ -176,6 +176,15 @@ pub(crate) fn value_arg<'a>(alloc: Global, name: &'a str, help: &'a str) -> Arg<
         .help(help)
 }
 
+// Creates the option `--questions N`.
+pub(crate) fn questions_arg<'a>(alloc: Global) -> Arg<'a>
+    ensures rule { rule_of result ≡ value_option (codes "questions") }
+    ensures local { result.global ≡ false }
+{
+    let help = "Whether questions are answered, 0 or 1 [default: 0]";
+    value_arg(alloc, "questions", help)
+}
+
 // Returns the settings that the matches ask for, or the mistake in them.
 fn settings_of_matches(matches: &ArgMatches<'_>) -> Result<Settings, Mistake>
     ensures ok { IfOk result
@@ -200,10 +209,10 @@ fn task_of(name: &str, options: &ArgMatches<'_>) -> Result<Task, Mistake>
         (λ m. IsMistake m (Some (name.now, rows_of (found_of options.now)))) }
 {
     if name == "run" {
-        return run_task(options);
+        return Ok(Task::Run);
     }
     if name == "explore" {
-        return Ok(explore_task(options));
+        return explore_task(options);
     }
     if name == "draw" {
         return Ok(Task::Draw);
@@ -245,6 +254,9 @@ fn settings_from(task: Task, options: &ArgMatches<'_>) -> Result<Settings, Mista
     let Some(ids) = id_size_from(options) else {
         return Err(Mistake::Ids);
     };
+    let Some(questions) = questions_from(options) else {
+        return Err(Mistake::Questions);
+    };
     Ok(Settings {
         task,
         regions,
@@ -252,6 +264,7 @@ fn settings_from(task: Task, options: &ArgMatches<'_>) -> Result<Settings, Mista
         keep,
         time,
         ids,
+        questions,
     })
 }
 
@@ -261,6 +274,14 @@ fn id_size_from(options: &ArgMatches<'_>) -> Option<IdSize>
 {
     let bytes = option_value(options, "ids", 8, 4, 8)?;
     id_size(bytes)
+}
+
+// Returns whether the options ask for answers to questions, or None if the option is out of its range.
+fn questions_from(options: &ArgMatches<'_>) -> Option<bool>
+    ensures { result ≡ questions_in (rows_of (found_of options.now)) }
+{
+    let number = option_value(options, "questions", 0, 0, 1)?;
+    Some(number == 1)
 }
 
 // Returns the size of an identifier of `bytes` bytes, or None if they are neither 4 nor 8.

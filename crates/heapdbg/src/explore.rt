@@ -61,9 +61,14 @@ fn begin<'a, R: Eprint + Files>(
 }
 
 // Opens the heap.
-fn open<'a>(alloc: Global, settings: &Settings, watch: &'a Watch) -> Result<Asking<'a>, Fault>
+pub(crate) fn open<'a>(
+    alloc: Global,
+    settings: &Settings,
+    watch: &'a Watch,
+) -> Result<Asking<'a>, Fault>
     requires { AreHeapSettings settings.now.regions settings.now.mutators settings.now.keep }
     ensures opening { IfOk result (IsOpening settings.now) }
+    ensures first { IfOk result (λ c. c.local.first_pin ≡ 1) }
     ensures fault { IfErr result (λ f. f ≡ Fault.Memory) }
 {
     match Machine::new(alloc, config(settings)) {

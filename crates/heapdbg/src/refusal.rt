@@ -41,6 +41,8 @@ pub(crate) enum Mistake {
     To,
     // Both of `--out` and `--to` are given, or neither.
     Place,
+    // Both of `--from` and `--port` are given.
+    Source,
 }
 
 impl Mistake {
@@ -63,6 +65,7 @@ impl Mistake {
             Mistake::Dumps => "--dumps takes 1 to 65535, and not the number of --port",
             Mistake::To => "--to takes 1 to 65535",
             Mistake::Place => "save takes one of --out and --to",
+            Mistake::Source => "explore takes one of --from and --port, or neither",
         }
     }
 

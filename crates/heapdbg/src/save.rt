@@ -1,15 +1,17 @@
 //! A session whose last state is dumped to a file or a socket.
-ghost use Rattle.std.specs.Prelude.{◌≡◌, option_map};
+ghost use Rattle.std.specs.Prelude.{◌≡◌, false, option_map, true};
 ghost use Rattle.heap_world.specs.Limits.{AreHeapSettings};
-ghost use Rattle.heapdbg.specs.SaveOutcomes.{IsSavedTo, save_outcome};
+ghost use Rattle.heapdbg.specs.SaveOutcomes.{IsSavedAs, IsSavedTo, save_outcome};
 
+use crate::explore::open;
 use crate::failure::{Fault, outcome};
 use crate::progress::TerminalGauge;
 use crate::settings::{Settings, config};
 use dump_pump::{Outlet, Pumped, WriteOutlet};
-use heap_save::{Outlets, save_into};
+use heap_save::{Outlets, save_after, save_into};
 use heap_trail::Machine;
 use pin_stream::Gauge;
+use question_text::{Watch, serve_asking};
 use session_text::{Ended, Inlet, Local};
 use std::alloc::Global;
 use std::fs;
@@ -123,7 +125,8 @@ where
     )
 }
 
-// Runs a session and dumps the state that it leaves into the outlet of a place. Fails with `unmade` if none can be made.
+// Runs a session, in which questions are answered if the settings say so, and dumps the state that it leaves into the outlet of
+// a place. Fails with `unmade` if none can be made.
 fn save<I: Inlet, O: Outlet, P: Outlets + Drop, G: Gauge, R: Threads + Wait + Sync>(
     rt: &R,
     alloc: Global,
@@ -138,22 +141,64 @@ fn save<I: Inlet, O: Outlet, P: Outlets + Drop, G: Gauge, R: Threads + Wait + Sy
     ensures { IsSavedTo unmade settings.now (I.seen reader.old) (I.seen reader.new)
         (O.seen writer.old) (O.seen writer.new) result }
 {
+    if settings.questions {
+        save_asking(rt, alloc, settings, reader, writer, place, gauge, unmade)
+    } else {
+        save_session(rt, alloc, settings, reader, writer, place, gauge, unmade)
+    }
+}
+
+// Runs a session without questions, and dumps the state that it leaves.
+fn save_session<I: Inlet, O: Outlet, P: Outlets + Drop, G: Gauge, R: Threads + Wait + Sync>(
+    rt: &R,
+    alloc: Global,
+    settings: &Settings,
+    reader: &mut I,
+    writer: &mut O,
+    place: P,
+    gauge: &mut G,
+    unmade: Fault,
+) -> Result<(), Fault>
+    requires { AreHeapSettings settings.now.regions settings.now.mutators settings.now.keep }
+    ensures { IsSavedAs false unmade settings.now (I.seen reader.old) (I.seen reader.new)
+        (O.seen writer.old) (O.seen writer.new) result }
+{
     match Machine::new(alloc, config(settings)) {
         Ok(machine) => {
             let mut local = Local::new(machine);
-            let saved = save_into(
-                rt,
-                alloc,
-                &mut local,
-                reader,
-                writer,
-                place,
-                gauge,
-                settings.time,
-            );
+            let time = settings.time;
+            let saved = save_into(rt, alloc, &mut local, reader, writer, place, gauge, time);
             save_outcome(unmade, saved.outlet.is_some(), saved.ended, saved.pumped)
         }
         Err(_) => Err(Fault::Memory),
+    }
+}
+
+// Runs a session with questions, and dumps the state that it leaves.
+fn save_asking<I: Inlet, O: Outlet, P: Outlets + Drop, G: Gauge, R: Threads + Wait + Sync>(
+    rt: &R,
+    alloc: Global,
+    settings: &Settings,
+    reader: &mut I,
+    writer: &mut O,
+    place: P,
+    gauge: &mut G,
+    unmade: Fault,
+) -> Result<(), Fault>
+    requires { AreHeapSettings settings.now.regions settings.now.mutators settings.now.keep }
+    ensures { IsSavedAs true unmade settings.now (I.seen reader.old) (I.seen reader.new)
+        (O.seen writer.old) (O.seen writer.new) result }
+{
+    let watch = Watch::new();
+    match open(alloc, settings, &watch) {
+        Ok(mut asking) => {
+            let time = settings.time;
+            let ended = serve_asking(alloc, reader, writer, &mut asking, time);
+            let local = &mut asking.local;
+            let saved = save_after(rt, alloc, ended, local, writer, place, gauge, time);
+            save_outcome(unmade, saved.outlet.is_some(), saved.ended, saved.pumped)
+        }
+        Err(fault) => Err(fault),
     }
 }
 

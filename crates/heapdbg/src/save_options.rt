@@ -5,7 +5,7 @@ ghost use Rattle.clap.specs.declared.builder.Command.TheViews.{out-Command};
 ghost use Rattle.heapdbg.specs.CommandLine.{save_in, save_line, target_in};
 ghost use Rattle.heapdbg.specs.Refusals.{IsMistakeIn, IsTargetMistake};
 
-use crate::command_line::{path_arg, session_parser, value_arg};
+use crate::command_line::{path_arg, questions_arg, session_parser, value_arg};
 use crate::refusal::Mistake;
 use crate::settings::{Target, Task};
 use crate::socket_options::port_of;
@@ -31,7 +31,7 @@ pub(crate) fn save_parser<'a>(alloc: Global) -> Result<Command<'a>, AllocError>
         "Runs a session, and dumps the state that it leaves; one of --out and --to is required";
     let usage = "heapdbg save [OPTIONS] <--out <PATH>|--to <N>>";
     let parser = session_parser(alloc, "save", about)?.override_usage(usage);
-    parser.arg(out)?.arg(to)
+    parser.arg(out)?.arg(to)?.arg(questions_arg(alloc))
 }
 
 // Returns the task of the options of `save`: one of the two places has to be given.

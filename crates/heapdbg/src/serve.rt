@@ -3,14 +3,14 @@ ghost use Rattle.std.specs.Prelude.{◌≡◌, ◌⊎◌, ◌≤◌, [], IfErr, 
 ghost use Rattle.heap_server.specs.SessionSeats.{session_limit};
 ghost use Rattle.heap_world.specs.Limits.{AreHeapSettings};
 ghost use Rattle.heapdbg.specs.declared.failure.Fault.TheVariants.{Listen, Memory};
-ghost use Rattle.heapdbg.specs.ServeOutcomes.{IsHeapServed, IsReportTold, IsServed, IsTendedServed, served_outcome};
+ghost use Rattle.heapdbg.specs.ServeOutcomes.{IsHeapServed, IsReportTold, IsServed, IsTendedServed, served_outcome, terms_of};
 
 use crate::failure::Fault;
 use crate::settings::{Settings, config};
 use dump_pump::Outlet;
 use dump_server::DumpListener;
 use heap_server::{
-    Ports, Served, serve_heap, serve_tended_heap, tell_sessions, users, workers_and_users,
+    Ports, Served, Terms, serve_heap, serve_tended_heap, tell_sessions, users, workers_and_users,
 };
 use session_text::write_all;
 use std::alloc::Global;
@@ -78,6 +78,16 @@ where
     }
 }
 
+// Returns the terms of the sessions.
+fn terms(settings: &Settings) -> Terms
+    ensures { result ≡ terms_of settings.now }
+{
+    Terms {
+        time: settings.time,
+        questions: settings.questions,
+    }
+}
+
 // Serves sessions without workers.
 fn serve_users<R, O: Outlet>(
     rt: &R,
@@ -100,7 +110,7 @@ where
     };
     let most = service.sessions as usize;
     let (ports, report) = listen(rt, alloc, service, is_terminal)?;
-    match serve_heap(rt, alloc, blank, most, ports, settings.time) {
+    match serve_heap(rt, alloc, blank, most, ports, terms(settings)) {
         Ok(heap) => tell(&heap.served, report, writer),
         Err(_) => Err(Fault::Memory),
     }
@@ -128,7 +138,7 @@ where
     };
     let most = service.sessions as usize;
     let (ports, report) = listen(rt, alloc, service, is_terminal)?;
-    match serve_tended_heap(rt, alloc, blank, most, ports, settings.time) {
+    match serve_tended_heap(rt, alloc, blank, most, ports, terms(settings)) {
         Ok(tended) => tell(&tended.heap.served, report, writer),
         Err(_) => Err(Fault::Memory),
     }

@@ -1,13 +1,14 @@
 //! The command lines of the tasks between standard input and standard output.
-ghost use Rattle.std.specs.Prelude.{◌≡◌, None, Some, false, IfErr, IfOk};
+ghost use Rattle.std.specs.Prelude.{◌≡◌, None, Some, codes, false, is_some, option_map, IfErr, IfOk};
 ghost use Rattle.clap.specs.Words.{app_of, found_of, rows_of};
 ghost use Rattle.clap.specs.declared.builder.Command.TheViews.{out-Command};
-ghost use Rattle.heapdbg.specs.CommandLine.{draw_line, explore_in, explore_line, run_in, run_line};
-ghost use Rattle.heapdbg.specs.Refusals.{IsMistakeIn};
+ghost use Rattle.heapdbg.specs.CommandLine.{draw_line, explore_in, explore_line, explore_with, run_line};
+ghost use Rattle.heapdbg.specs.Refusals.{IsExploreMistake, IsMistakeIn};
 
-use crate::command_line::{option_value, path_arg, session_parser, value_arg};
+use crate::command_line::{path_arg, questions_arg, session_parser, value_arg};
 use crate::refusal::Mistake;
 use crate::settings::Task;
+use crate::socket_options::port_of;
 use clap::{ArgMatches, Command};
 use std::alloc::{AllocError, Global};
 
@@ -16,13 +17,8 @@ pub(crate) fn run_parser<'a>(alloc: Global) -> Result<Command<'a>, AllocError>
     ensures app { IfOk result (λ c. app_of c ≡ run_line) }
     ensures local { IfOk result (λ c. (out-Command c).has_globals ≡ false) }
 {
-    let questions = value_arg(
-        alloc,
-        "questions",
-        "Whether questions are answered, 0 or 1 [default: 0]",
-    );
     let about = "Reads commands from standard input and writes replies to standard output";
-    session_parser(alloc, "run", about)?.arg(questions)
+    session_parser(alloc, "run", about)?.arg(questions_arg(alloc))
 }
 
 // Creates the parser of the command `explore`.
@@ -37,7 +33,14 @@ pub(crate) fn explore_parser<'a>(alloc: Global) -> Result<Command<'a>, AllocErro
         "from",
         "File of lines that are run first; their replies are not shown",
     );
-    session_parser(alloc, "explore", about)?.arg(from)
+    let port = value_arg(
+        alloc,
+        "port",
+        "Port on 127.0.0.1 of a heap that is served, to ask about that, 1 to 65535; not with --from",
+    );
+    session_parser(alloc, "explore", about)?
+        .arg(from)?
+        .arg(port)
 }
 
 // Creates the parser of the command `draw`.
@@ -50,23 +53,42 @@ pub(crate) fn draw_parser<'a>(alloc: Global) -> Result<Command<'a>, AllocError>
     session_parser(alloc, "draw", about)?.arg(out)
 }
 
-// Returns the task of the options of `run`, or the mistake in them.
-pub(crate) fn run_task(options: &ArgMatches<'_>) -> Result<Task, Mistake>
-    ensures ok { IfOk result (λ task. run_in (rows_of (found_of options.now)) ≡ Some task) }
-    ensures none { IfErr result (λ m. run_in (rows_of (found_of options.now)) ≡ None) }
+// Returns the task of the options of `explore`, or the mistake in them: a file of lines is run first, or the questions are about
+// a heap that is served.
+pub(crate) fn explore_task(options: &ArgMatches<'_>) -> Result<Task, Mistake>
+    ensures ok { IfOk result (λ task. explore_in (rows_of (found_of options.now)) ≡ Some task) }
+    ensures none { IfErr result (λ m. explore_in (rows_of (found_of options.now)) ≡ None) }
     ensures mistake { IfErr result (λ m. IsMistakeIn m (rows_of (found_of options.now))) }
 {
-    match option_value(options, "questions", 0, 0, 1) {
-        Some(0) => Ok(Task::Run),
-        Some(_) => Ok(Task::Explore { from: false }),
-        None => Err(Mistake::Questions),
+    let from = options.get_str("from");
+    let port = options.get_str("port");
+    match explored(from, port) {
+        Ok(task) => Ok(task),
+        Err(mistake) => Err(mistake),
     }
 }
 
-// Returns the task of the options of `explore`.
-pub(crate) fn explore_task(options: &ArgMatches<'_>) -> Task
-    ensures { result ≡ explore_in (rows_of (found_of options.now)) }
+// Returns the task of `explore` to which this file or this port is given.
+fn explored(from: Option<&str>, port: Option<&str>) -> Result<Task, Mistake>
+    ensures ok { IfOk result
+        (λ t. explore_with (option_map (λ s. s.now) from.entry) (option_map (λ s. s.now) port.entry)
+        ≡ Some t) }
+    ensures none { IfErr result
+        (λ m. explore_with (option_map (λ s. s.now) from.entry) (option_map (λ s. s.now) port.entry)
+        ≡ None) }
+    ensures mistake { IfErr result
+        (λ m. IsExploreMistake m (option_map (λ s. s.now) from.entry)
+        (option_map (λ s. s.now) port.entry)) }
 {
-    let from = options.get_str("from").is_some();
-    Task::Explore { from }
+    let Some(text) = port else {
+        let from = from.is_some();
+        return Ok(Task::Explore { from });
+    };
+    if from.is_some() {
+        return Err(Mistake::Source);
+    }
+    match port_of(text) {
+        Some(port) => Ok(Task::Ask { port }),
+        None => Err(Mistake::Port),
+    }
 }

@@ -68,6 +68,8 @@ pub struct Settings {
     pub time: u64,
     /// The size of an identifier in a dump.
     pub ids: IdSize,
+    /// Whether the sessions of `run`, `save` and `serve` answer questions.
+    pub questions: bool,
 }
 
 /// The reason why a command line gives no settings.

@@ -2,10 +2,12 @@
 ghost use Rattle.std.specs.Prelude.{◌≡◌, None, Some, codes, false, option_and_then, IfErr, IfOk};
 ghost use Rattle.clap.specs.Words.{app_of, first_of, found_of, rows_of, rule_of};
 ghost use Rattle.clap.specs.declared.builder.Command.TheViews.{out-Command};
-ghost use Rattle.heapdbg.specs.CommandLine.{ask_in, ask_line, dumps_with, fetch_in, fetch_line, number_in, other_port, port_in, port_limit, port_option, serve_in, serve_line};
+ghost use Rattle.heapdbg.specs.CommandLine.{ask_in, ask_line, dumps_with, fetch_in, fetch_line, number_in, other_port, port_in, port_limit, port_option, serve_in, serve_line, staffed_line};
 ghost use Rattle.heapdbg.specs.Refusals.{IsMistakeIn};
 
-use crate::command_line::{number, option_value, path_arg, session_parser, value_arg};
+use crate::command_line::{
+    number, option_value, path_arg, questions_arg, session_parser, value_arg,
+};
 use crate::refusal::Mistake;
 use crate::settings::Task;
 use clap::{Arg, ArgMatches, Command};
@@ -25,6 +27,19 @@ pub(crate) fn serve_parser<'a>(alloc: Global) -> Result<Command<'a>, AllocError>
     ensures app { IfOk result (λ c. app_of c ≡ serve_line) }
     ensures local { IfOk result (λ c. (out-Command c).has_globals ≡ false) }
 {
+    let dumps = value_arg(
+        alloc,
+        "dumps",
+        "Port on 127.0.0.1 that sends a dump to each client, 1 to 65535 [default: none]",
+    );
+    staffed_parser(alloc)?.arg(dumps)?.arg(questions_arg(alloc))
+}
+
+// Creates the parser of the command `serve` with its port, its sessions and its workers.
+fn staffed_parser<'a>(alloc: Global) -> Result<Command<'a>, AllocError>
+    ensures app { IfOk result (λ c. app_of c ≡ staffed_line) }
+    ensures local { IfOk result (λ c. (out-Command c).has_globals ≡ false) }
+{
     let sessions = value_arg(
         alloc,
         "sessions",
@@ -35,17 +50,11 @@ pub(crate) fn serve_parser<'a>(alloc: Global) -> Result<Command<'a>, AllocError>
         "workers",
         "Threads that mark, and threads that sweep, 0 or 1 of each [default: 0]",
     );
-    let dumps = value_arg(
-        alloc,
-        "dumps",
-        "Port on 127.0.0.1 that sends a dump to each client, 1 to 65535 [default: none]",
-    );
     let about = "Serves sessions over one heap to clients on 127.0.0.1, and tells how each ended";
     session_parser(alloc, "serve", about)?
         .arg(port_arg(alloc))?
         .arg(sessions)?
-        .arg(workers)?
-        .arg(dumps)
+        .arg(workers)
 }
 
 // Creates the parser of the command `ask`.

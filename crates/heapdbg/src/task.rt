@@ -4,7 +4,7 @@ ghost use Rattle.std.specs.IoError.{error_kind};
 ghost use Rattle.heapdbg.specs.CommandLine.{AreSettingsWithin, IsBadWith, settings_of};
 ghost use Rattle.heapdbg.specs.FetchOutcomes.{IsDumpFetched};
 ghost use Rattle.heapdbg.specs.Refusals.{IsRefusalOf};
-ghost use Rattle.heapdbg.specs.Runs.{IsTaskDone, IsRun, IsPerformed, IsSavedOut};
+ghost use Rattle.heapdbg.specs.Runs.{IsTaskDone, IsRun, IsRunWith, IsPerformed, IsSavedOut};
 ghost use Rattle.heap_world.specs.Limits.{AreHeapSettings};
 
 use crate::ask::ask_port;
@@ -142,7 +142,7 @@ where
 {
     let is_terminal = screen.is_terminal;
     match asked.task {
-        Task::Run => session(alloc, asked, reader, writer),
+        Task::Run => run(rt, alloc, words, asked, screen.watch, reader, writer),
         Task::Explore { from } => {
             explore(rt, alloc, words, asked, from, screen.watch, reader, writer)
         }
@@ -186,6 +186,27 @@ fn settings_of_words(alloc: Global, words: &[String]) -> Result<Settings, LineFa
     match borrow_words(alloc, words) {
         Ok(line) => settings(alloc, line.as_slice()),
         Err(_) => Err(LineFault::Memory),
+    }
+}
+
+// Runs one session over a private heap, in which questions are answered if the settings say so.
+fn run<R: Eprint + Files, I: Inlet, O: Outlet>(
+    rt: &R,
+    alloc: Global,
+    words: &[String],
+    settings: &Settings,
+    watch: &Watch,
+    reader: &mut I,
+    writer: &mut O,
+) -> Result<(), Fault>
+    requires { AreHeapSettings settings.now.regions settings.now.mutators settings.now.keep }
+    ensures { IsRunWith settings.now.questions settings.now (I.seen reader.old) (I.seen reader.new)
+        (O.seen writer.old) (O.seen writer.new) result }
+{
+    if settings.questions {
+        explore(rt, alloc, words, settings, false, watch, reader, writer)
+    } else {
+        session(alloc, settings, reader, writer)
     }
 }
 

@@ -1,6 +1,6 @@
 -- Steps of a cycle, one after another.
 use Rattle.std.proofs.Common.{◌≡◌, ◌∙◌, ◌+◌, ◌<◌, ◌≤◌, ℕ, Bool, true, false, List, [], ◌∷◌, ◌++◌, Option, Some, None, length, map, refl, sym, ap, ap₂, subst, inl, inr, arith}
-use Rattle.std.specs.Prelude.{Result, Ok, Err, nat_le, sum_by}
+use Rattle.std.specs.Prelude.{◌⊎◌, IfErr, IfOk, Result, Ok, Err, nat_le, sum_by}
 use Rattle.std.specs.List.{AllByRecursion, enumerate_from}
 use Rattle.std.proofs.lemmas.Bool.{leb-false}
 use Rattle.std.proofs.lemmas.List.{map-append}
@@ -24,10 +24,12 @@ use Rattle.heap_trail.specs.declared.Action.TheVariants.{Step}
 use Rattle.heap_trail.specs.declared.Reply.{Reply}
 use Rattle.heap_trail.specs.declared.Reply.TheVariants.{Answered, Refused}
 use Rattle.heap_trail.specs.Limits.{last_place}
-use Rattle.heap_trail.specs.Machine.{Machine, Allocation, Granted, Denied, LosesPins, AreAllocations, MayDrive, MayReply, acted, acted_under, after_result, after_step_at, machine_after, replies_of}
+use Rattle.heap_trail.specs.Machine.{Machine, Allocation, Granted, Denied, LosesPins, AreAllocations, MayDrive, MayFail, MayReply, acted, acted_under, after_result, after_step_at, machine_after, replies_of}
 use Rattle.heap_trail.specs.Trail.{stepped}
 use Rattle.heap_trail.proofs.ActionLists.{driven_more, driven_none}
-use Rattle.question_text.specs.Collections.{Finishes, IsCycleStep, IsMarkStep, IsSweep, IsWholeCycle, MarksLead, MayRefuse, MovesOn, StopsAt, SweepsLead, TakenStep, StepsLead, swept_by, swept_of}
+use Rattle.question_text.specs.declared.cycle.CycleCounts.{CycleCounts}
+use Rattle.question_text.specs.Places.{IsTextOrNoMemory}
+use Rattle.question_text.specs.Collections.{Finishes, IsCycleAnswer, IsCycleStep, IsMarkStep, IsSweep, IsWholeCycle, MarksLead, MayRefuse, MovesOn, RunsCycle, StopsAt, SweepsLead, TakenStep, StepsLead, collected_text, swept_by, swept_of}
 
 -- ---- lists of actions
 
@@ -182,19 +184,28 @@ marks_on m n k s t = (s.0 ++ t.0, taken_on IsMarkStep m n k s.0 t.0 s.1 t.1)
 
 -- ---- a step that is refused
 
-pub stops_on : (P : Event → Type 0) (m n k : Machine) (e : Refusal) (steps : List TakenStep) → StepsLead P m steps n → StopsAt P n e k → StopsAt P m e k
-stops_on P m n k e steps t s = (steps ++ s.0, taken_on P m n k steps s.0 t s.1, s.2)
+pub stops_on : (D : Refusal → Type 0) (P : Event → Type 0) (m n k : Machine) (e : Refusal) (steps : List TakenStep) → StepsLead P m steps n → StopsAt D P n e k → StopsAt D P m e k
+stops_on D P m n k e steps t s = (steps ++ s.0, taken_on P m n k steps s.0 t s.1, s.2)
 
 -- refused before any other
-pub stops_first : (P : Event → Type 0) (m n : Machine) (e : Refusal) → MayRefuse P m e → n ≡ m → StopsAt P m e n
-stops_first P m n e r h = subst (λ (k : Machine). StopsAt P m e k) (sym h) ([], none_taken P m, r)
+pub stops_first : (D : Refusal → Type 0) (P : Event → Type 0) (m n : Machine) (e : Refusal) → MayRefuse D P m e → n ≡ m → StopsAt D P m e n
+stops_first D P m n e r h = subst (λ (k : Machine). StopsAt D P m e k) (sym h) ([], none_taken P m, r)
 
 -- refused after some steps
-pub stops_after : (P : Event → Type 0) (m n k : Machine) (e : Refusal) (steps : List TakenStep) → StepsLead P m steps n → MayRefuse P n e → k ≡ n → StopsAt P m e k
-stops_after P m n k e steps t r h = subst (λ (x : Machine). StopsAt P m e x) (sym h) (steps, t, r)
+pub stops_after : (D : Refusal → Type 0) (P : Event → Type 0) (m n k : Machine) (e : Refusal) (steps : List TakenStep) → StepsLead P m steps n → MayRefuse D P n e → k ≡ n → StopsAt D P m e k
+stops_after D P m n k e steps t r h = subst (λ (x : Machine). StopsAt D P m e x) (sym h) (steps, t, r)
 
-pub stops_wider : (P Q : Event → Type 0) (m n : Machine) (e : Refusal) → ((x : Event) → P x → Q x) → StopsAt P m e n → StopsAt Q m e n
-stops_wider P Q m n e w s = (s.0, taken_wider P Q m n s.0 w s.1, (s.2.0, w s.2.0 s.2.1, s.2.2))
+-- one of these steps
+pub refused_step : (D : Refusal → Type 0) (P : Event → Type 0) (m : Machine) (x : Event) (e : Refusal) → P x → MayFail m (Step x) m e ⊎ D e → MayRefuse D P m e
+refused_step D P m x e p (inl h) = inl (x, p, h)
+refused_step D P m x e p (inr h) = inr h
+
+refused_wider : (D : Refusal → Type 0) (P Q : Event → Type 0) (n : Machine) (e : Refusal) → ((x : Event) → P x → Q x) → MayRefuse D P n e → MayRefuse D Q n e
+refused_wider D P Q n e w (inl h) = inl (h.0, w h.0 h.1, h.2)
+refused_wider D P Q n e w (inr h) = inr h
+
+pub stops_wider : (D : Refusal → Type 0) (P Q : Event → Type 0) (m n : Machine) (e : Refusal) → ((x : Event) → P x → Q x) → StopsAt D P m e n → StopsAt D Q m e n
+stops_wider D P Q m n e w s = (s.0, taken_wider P Q m n s.0 w s.1, refused_wider D P Q n e w s.2)
 
 pub sweep_is_step : (x : Event) → IsSweep x → IsCycleStep x
 sweep_is_step x h = inr (inl h)
@@ -217,12 +228,12 @@ pub of_finish : (m n : Machine) (a : ℕ) → Finishes m a n → (steps : List T
 of_finish m n a f = ((Finish, f.0) ∷ [], taken_wider (λ x. x ≡ Finish) IsCycleStep m n ((Finish, f.0) ∷ []) finish_is_step f.1)
 
 -- refused in the sweeps after the finish
-pub stops_last : (m x y z n : Machine) (a b : ℕ) (e : Refusal) → SweepsLead m a x → MarksLead x y → Finishes y b z → StopsAt IsSweep z e n → StopsAt IsCycleStep m e n
-stops_last m x y z n a b e s t f l =
+pub stops_last : (D : Refusal → Type 0) (m x y z n : Machine) (a b : ℕ) (e : Refusal) → SweepsLead m a x → MarksLead x y → Finishes y b z → StopsAt D IsSweep z e n → StopsAt D IsCycleStep m e n
+stops_last D m x y z n a b e s t f l =
     let p = of_sweeps m x a s in
     let q = of_marks x y t in
     let r = of_finish y z b f in
-    stops_on IsCycleStep m x n e p.0 p.1 (stops_on IsCycleStep x y n e q.0 q.1 (stops_on IsCycleStep y z n e r.0 r.1 (stops_wider IsSweep IsCycleStep z n e sweep_is_step l)))
+    stops_on D IsCycleStep m x n e p.0 p.1 (stops_on D IsCycleStep x y n e q.0 q.1 (stops_on D IsCycleStep y z n e r.0 r.1 (stops_wider D IsSweep IsCycleStep z n e sweep_is_step l)))
 
 -- ---- what the functions say
 
@@ -234,19 +245,28 @@ pub moved_marks : (b : Bool) (m n k : Machine) → MarksLead m n → b ≡ true 
 moved_marks true m n k s e h = marks_on m n k s (one_mark n k h.0 h.1 h.2 h.3)
 moved_marks false m n k s e h = absurd (cc e)
 
-pub marks_stop : (m n k : Machine) (e : Refusal) → MarksLead m n → StopsAt IsMarkStep n e k → StopsAt IsMarkStep m e k
-marks_stop m n k e s t = stops_on IsMarkStep m n k e s.0 s.1 t
+pub marks_stop : (D : Refusal → Type 0) (m n k : Machine) (e : Refusal) → MarksLead m n → StopsAt D IsMarkStep n e k → StopsAt D IsMarkStep m e k
+marks_stop D m n k e s t = stops_on D IsMarkStep m n k e s.0 s.1 t
 
-pub stops_marking : (m x n : Machine) (a : ℕ) (e : Refusal) → SweepsLead m a x → StopsAt IsMarkStep x e n → StopsAt IsCycleStep m e n
-stops_marking m x n a e s t =
+pub stops_marking : (D : Refusal → Type 0) (m x n : Machine) (a : ℕ) (e : Refusal) → SweepsLead m a x → StopsAt D IsMarkStep x e n → StopsAt D IsCycleStep m e n
+stops_marking D m x n a e s t =
     let p = of_sweeps m x a s in
-    stops_on IsCycleStep m x n e p.0 p.1 (stops_wider IsMarkStep IsCycleStep x n e mark_is_step t)
+    stops_on D IsCycleStep m x n e p.0 p.1 (stops_wider D IsMarkStep IsCycleStep x n e mark_is_step t)
 
-pub stops_finish : (m x y n : Machine) (a : ℕ) (e : Refusal) → SweepsLead m a x → MarksLead x y → MayRefuse IsCycleStep y e → n ≡ y → StopsAt IsCycleStep m e n
-stops_finish m x y n a e s t r h =
+pub stops_finish : (D : Refusal → Type 0) (m x y n : Machine) (a : ℕ) (e : Refusal) → SweepsLead m a x → MarksLead x y → MayRefuse D IsCycleStep y e → n ≡ y → StopsAt D IsCycleStep m e n
+stops_finish D m x y n a e s t r h =
     let p = of_sweeps m x a s in
     let q = of_marks x y t in
-    stops_on IsCycleStep m x n e p.0 p.1 (stops_after IsCycleStep x y n e q.0 q.1 r h)
+    stops_on D IsCycleStep m x n e p.0 p.1 (stops_after D IsCycleStep x y n e q.0 q.1 r h)
 
 pub whole_cycle : (m x y z n : Machine) (a b d : ℕ) → SweepsLead m a x → MarksLead x y → Finishes y b z → SweepsLead z d n → IsWholeCycle m b (a + d) n
 whole_cycle m x y z n a b d s t f u = (x, y, z, a, d, s, t, f, u, refl)
+
+-- a cycle as its two clauses tell it
+pub runs_cycle : (D : Refusal → Type 0) (m n : Machine) (cycle : Result CycleCounts Refusal) → IfOk cycle (λ c. IsWholeCycle m c.condemned c.swept n) → IfErr cycle (λ e. StopsAt D IsCycleStep m e n) → RunsCycle D m cycle n
+runs_cycle D m n (Ok c) whole refused = whole
+runs_cycle D m n (Err e) whole refused = refused
+
+-- the answer about a whole cycle
+pub cycle_told : (cycle : Result CycleCounts Refusal) (c : CycleCounts) (text : List ℕ) → cycle ≡ Ok c → IsTextOrNoMemory (λ text. text ≡ collected_text c.condemned c.swept) text → IsCycleAnswer cycle text
+cycle_told cycle c text is h = subst (λ (x : Result CycleCounts Refusal). IsCycleAnswer x text) (sym is) h

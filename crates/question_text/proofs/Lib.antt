@@ -9,3 +9,4 @@ pub mod FieldRows
 pub mod NamedObjects
 pub mod PinRows
 pub mod CycleSteps
+pub mod KeptPins

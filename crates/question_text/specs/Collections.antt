@@ -1,5 +1,5 @@
 -- The steps of `collect`, and its answer.
-use Rattle.std.specs.Prelude.{◌≡◌, ◌⊎◌, ℕ, ◌+◌, Bool, true, false, List, [], ◌∷◌, ◌++◌, codes, map, sum_by}
+use Rattle.std.specs.Prelude.{◌≡◌, ◌⊎◌, ℕ, ◌+◌, Bool, true, false, Result, Ok, Err, List, [], ◌∷◌, ◌++◌, codes, map, sum_by}
 use Rattle.std.specs.List.{AllByRecursion}
 use Rattle.std.specs.Str.{bytes_eq}
 use Rattle.heap_class.specs.declared.Refusal.{Refusal}
@@ -12,6 +12,7 @@ use Rattle.heap_trail.specs.declared.Reply.TheVariants.{Answered}
 use Rattle.heap_trail.specs.Machine.{Machine, MayDrive, MayFail, MayReply}
 use Rattle.session_text.specs.Grammar.{words_of_line}
 use Rattle.session_text.specs.Replies.{and_number, line}
+use Rattle.question_text.specs.declared.cycle.CycleCounts.{CycleCounts}
 use Rattle.question_text.specs.Moments.{refused_text}
 use Rattle.question_text.specs.Places.{IsTextOrNoMemory}
 
@@ -54,13 +55,19 @@ StepsLead P m steps n =
     × MayDrive m (map (λ (s : TakenStep). Step s.0) steps)
     (map (λ (s : TakenStep). Answered s.1) steps) n
 
--- the machine may refuse such a step, for this reason
-abbrev pub MayRefuse : (Event → Type 0) → Machine → Refusal → Type 0
-MayRefuse P m e = (event : Event) × P event × MayFail m (Step event) m e
+-- nothing but the machine refuses a step
+abbrev pub NoneDenies : Refusal → Type 0
+NoneDenies e = ⊥
 
--- such steps lead from m to n, which may refuse another, for this reason
-abbrev pub StopsAt : (Event → Type 0) → Machine → Refusal → Machine → Type 0
-StopsAt P m e n = (steps : List TakenStep) × StepsLead P m steps n × MayRefuse P n e
+-- the machine may refuse such a step, for this reason, or whoever takes its steps is denied them
+abbrev pub MayRefuse : (Refusal → Type 0) → (Event → Type 0) → Machine → Refusal → Type 0
+MayRefuse Denies P m e =
+    ((event : Event) × P event × MayFail m (Step event) m e) ⊎ Denies e
+
+-- such steps lead from m to n, where another may be refused, for this reason
+abbrev pub StopsAt : (Refusal → Type 0) → (Event → Type 0) → Machine → Refusal → Machine → Type 0
+StopsAt Denies P m e n =
+    (steps : List TakenStep) × StepsLead P m steps n × MayRefuse Denies P n e
 
 -- ---- what was collected
 
@@ -112,14 +119,18 @@ abbrev pub collected_text : ℕ → ℕ → List ℕ
 collected_text condemned swept =
     ((codes "ok condemned" ++ and_number condemned) ++ codes " swept") ++ line (and_number swept)
 
--- a whole cycle and its line, if memory for that wasn't refused
-abbrev pub CollectsAll : Machine → List ℕ → Machine → Type 0
-CollectsAll m text n =
-    (condemned : ℕ) × (swept : ℕ) × IsWholeCycle m condemned swept n
-    × IsTextOrNoMemory (λ text. text ≡ collected_text condemned swept) text
+-- the answer about a cycle that ended so: its line, if memory for that wasn't refused; or the refusal of a step
+abbrev pub IsCycleAnswer : Result CycleCounts Refusal → List ℕ → Type 0
+IsCycleAnswer (Ok c) text =
+    IsTextOrNoMemory (λ text. text ≡ collected_text c.condemned c.swept) text
+IsCycleAnswer (Err e) text = text ≡ refused_text e
+
+-- steps led from m to n that are such a cycle: a whole one, or up to a step that is refused
+abbrev pub RunsCycle : (Refusal → Type 0) → Machine → Result CycleCounts Refusal → Machine → Type 0
+RunsCycle Denies m (Ok c) n = IsWholeCycle m c.condemned c.swept n
+RunsCycle Denies m (Err e) n = StopsAt Denies IsCycleStep m e n
 
 -- the answer of `collect`, which takes steps: those of a whole cycle, or up to one that was refused, whose refusal is the answer
-abbrev pub Collects : Machine → List ℕ → Machine → Type 0
-Collects m text n =
-    CollectsAll m text n
-    ⊎ ((e : Refusal) × StopsAt IsCycleStep m e n × (text ≡ refused_text e))
+abbrev pub Collects : (Refusal → Type 0) → Machine → List ℕ → Machine → Type 0
+Collects Denies m text n =
+    (cycle : Result CycleCounts Refusal) × RunsCycle Denies m cycle n × IsCycleAnswer cycle text

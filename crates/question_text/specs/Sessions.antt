@@ -10,7 +10,7 @@ use Rattle.session_text.specs.Talks.{Serves}
 use Rattle.session_text.specs.declared.commands.Local.{Local}
 use Rattle.question_text.specs.declared.asking.Asking.{Asking}
 use Rattle.question_text.specs.Answers.{IsAnswerOfLine}
-use Rattle.question_text.specs.Collections.{Collects, is_collect}
+use Rattle.question_text.specs.Collections.{Collects, NoneDenies, is_collect}
 
 -- an action, as without questions
 abbrev pub AskingActs : Acts Asking
@@ -19,7 +19,8 @@ AskingActs c a r d =
 
 -- `collect` takes steps, and no other line changes anything
 abbrev pub AnswersLine : Bool → AnswerRelation Local
-AnswersLine true l c text d = Collects c.machine text d.machine × (d.first_pin ≡ c.first_pin)
+AnswersLine true l c text d =
+    Collects NoneDenies c.machine text d.machine × (d.first_pin ≡ c.first_pin)
 AnswersLine false l c text d = IsAnswerOfLine l c.machine text × (d ≡ c)
 
 -- the answer of a line that the grammar of sessions doesn't know

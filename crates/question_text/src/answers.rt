@@ -1,7 +1,7 @@
 //! The answers of questions.
 ghost use Rattle.std.specs.Prelude.{◌≡◌};
 ghost use Rattle.session_text.specs.Replies.{line_answer_text};
-ghost use Rattle.question_text.specs.Answers.{IsAnswer};
+ghost use Rattle.question_text.specs.Answers.{IsAnswer, IsAnswerOfLine};
 ghost use Rattle.question_text.specs.ClassLists.{IsClassesText};
 ghost use Rattle.question_text.specs.Histograms.{IsGarbageText, IsHistogramText};
 ghost use Rattle.question_text.specs.Growths.{IsGrowthText};
@@ -15,12 +15,13 @@ use crate::at::{moment_at, view_of};
 use crate::birth::born_answer;
 use crate::class_list::classes_answer;
 use crate::growth::growth_answer;
+use crate::help::help_answer;
 use crate::histogram::{garbage_text, histogram_text};
 use crate::history::history_answer;
 use crate::loss::dropped_answer;
 use crate::path::path_answer;
 use crate::pin_list::pins_answer;
-use crate::question::{At, Question};
+use crate::question::{At, Question, question_of};
 use crate::referrers::referrers_answer;
 use crate::registers::registers_answer;
 use crate::rows::{Unanswered, reason_line};
@@ -136,5 +137,16 @@ pub fn answer(alloc: Global, machine: &Machine, question: Question) -> LineAnswe
         Question::Dropped(id) => dropped_answer(alloc, machine, id),
         Question::History(count) => line_answer(history_answer(alloc, machine, count)),
         Question::Pins => line_answer(pins_answer(alloc, machine)),
+    }
+}
+
+/// Returns the answer of a line that the grammar of sessions doesn't know: that of a question about a machine, or of `help`; and
+/// `bad command`, if it is neither. Answers NoMemory if an allocation fails. The line `collect` is no question.
+pub fn answer_line(alloc: Global, machine: &Machine, line: &[u8]) -> LineAnswer
+    ensures { IsAnswerOfLine line.now machine.now (line_answer_text result) }
+{
+    match question_of(line) {
+        Some(question) => answer(alloc, machine, question),
+        None => help_answer(line),
     }
 }

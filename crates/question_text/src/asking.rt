@@ -3,10 +3,8 @@ ghost use Rattle.session_text.specs.Replies.{line_answer_text};
 ghost use Rattle.question_text.specs.Collections.{is_collect};
 ghost use Rattle.question_text.specs.Sessions.{AnswersLine};
 
-use crate::answers::answer;
+use crate::answers::answer_line;
 use crate::cycle::{collect, is_collect};
-use crate::help::help_answer;
-use crate::question::question_of;
 use crate::watch::Watch;
 use heap_trail::{Action, Reply};
 use session_text::{Commands, LineAnswer, Local};
@@ -29,10 +27,7 @@ fn answer_question(alloc: Global, local: &mut Local, line: &[u8]) -> LineAnswer
     if is_collect(line) {
         return collect(alloc, &mut local.machine);
     }
-    match question_of(line) {
-        Some(question) => answer(alloc, &local.machine, question),
-        None => help_answer(line),
-    }
+    answer_line(alloc, &local.machine, line)
 }
 
 impl Commands for Asking<'_> {

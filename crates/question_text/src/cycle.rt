@@ -2,10 +2,11 @@
 ghost use Rattle.std.specs.Prelude.{◌≡◌, ◌≤◌, IfErr, IfOk, OnErr, OnOk};
 ghost use Rattle.heap_class.specs.declared.Refusal.TheVariants.{NoMemory};
 ghost use Rattle.session_text.specs.Replies.{line_answer_text};
-ghost use Rattle.question_text.specs.Collections.{Collects, Finishes, IsCycleStep, IsMarkStep, IsSweep, IsWholeCycle, MarksLead, MayRefuse, MovesOn, StopsAt, SweepsLead, collected_text, condemned_of, is_collect, swept_of};
+ghost use Rattle.question_text.specs.Collections.{Collects, Finishes, IsCycleAnswer, IsCycleStep, IsMarkStep, IsSweep, IsWholeCycle, MarksLead, MayRefuse, MovesOn, NoneDenies, StopsAt, SweepsLead, collected_text, condemned_of, is_collect, swept_of};
 
 use crate::id::is_word;
 use crate::rows::{push_number, push_words};
+use crate::steps::Steps;
 use heap_class::Refusal;
 use heap_step::{Answer, Event};
 use heap_trail::{Machine, Reply};
@@ -13,8 +14,8 @@ use session_text::LineAnswer;
 use session_text::words::Words;
 use std::alloc::Global;
 
-// Tells whether a line is `collect`.
-pub(crate) fn is_collect(line: &[u8]) -> bool
+/// Tells whether a line is `collect`.
+pub fn is_collect(line: &[u8]) -> bool
     ensures { result ≡ is_collect line.now }
 {
     let mut words = Words::new(line);
@@ -27,11 +28,13 @@ pub(crate) fn is_collect(line: &[u8]) -> bool
     is_word(word, b"collect")
 }
 
-// What a cycle did: how many objects it condemned, and how many the sweeps before and after it removed.
+/// What a cycle did. Contracts see the record itself.
 #[derive(Clone, Copy, PartialEq, Eq, Debug)]
-struct CycleCounts {
-    condemned: u64,
-    swept: u64,
+pub struct CycleCounts {
+    /// The number of objects that it condemned.
+    pub condemned: u64,
+    /// The number of objects that the sweeps before and after it removed.
+    pub swept: u64,
 }
 
 // Returns the number of objects that an answer says were removed.
@@ -55,15 +58,17 @@ fn condemned_of(answer: Answer) -> u64
 }
 
 // Sweeps a region if it waits to be swept, and returns the number of objects that this removed.
-fn sweep_region(machine: &mut Machine, region: u64) -> Result<u64, Refusal>
-    ensures swept { IfOk result (λ n. SweepsLead machine.old n machine.new) }
+fn sweep_region<S: Steps>(steps: &mut S, by: &mut S::By, region: u64) -> Result<u64, Refusal>
+    requires { S.may by.old }
+    ensures still { S.may by.new }
+    ensures swept { IfOk result (λ n. SweepsLead (S.seen steps.old) n (S.seen steps.new)) }
     ensures few { IfOk result (λ n. n ≤ 256) }
-    ensures refused { IfErr result (MayRefuse IsSweep machine.old) }
-    ensures unchanged { OnErr result (machine.new ≡ machine.old) }
+    ensures refused { IfErr result (MayRefuse S.denies IsSweep (S.seen steps.old)) }
+    ensures unchanged { OnErr result (S.seen steps.new ≡ S.seen steps.old) }
 {
     // Its contract says that the heap is legal.
-    machine.world();
-    match machine.step(&Event::Sweep { region }) {
+    steps.machine().world();
+    match steps.take(by, Event::Sweep { region }) {
         Ok(answer) => Ok(swept_of(answer)),
         Err(Refusal::NothingToSweep { .. }) => Ok(0),
         Err(refusal) => Err(refusal),
@@ -71,39 +76,46 @@ fn sweep_region(machine: &mut Machine, region: u64) -> Result<u64, Refusal>
 }
 
 // Sweeps each region that waits to be swept, by rising number, and returns the number of objects that this removed.
-fn sweep_all(machine: &mut Machine) -> Result<u64, Refusal>
-    ensures swept { IfOk result (λ n. SweepsLead machine.old n machine.new) }
+fn sweep_all<S: Steps>(steps: &mut S, by: &mut S::By) -> Result<u64, Refusal>
+    requires { S.may by.old }
+    ensures still { S.may by.new }
+    ensures swept { IfOk result (λ n. SweepsLead (S.seen steps.old) n (S.seen steps.new)) }
     ensures few { IfOk result (λ n. n ≤ 65536) }
-    ensures refused { IfErr result (λ e. StopsAt IsSweep machine.old e machine.new) }
+    ensures refused { IfErr result
+        (λ e. StopsAt S.denies IsSweep (S.seen steps.old) e (S.seen steps.new)) }
 {
-    let regions = machine.world().regions().count();
+    let regions = steps.machine().world().regions().count();
     let mut swept = 0;
     for region in 0..regions {
-        let removed = sweep_region(machine, region)?;
+        let removed = sweep_region(steps, by, region)?;
         swept += removed;
     }
     Ok(swept)
 }
 
 // Begins a cycle, unless one runs.
-fn begin(machine: &mut Machine) -> Result<(), Refusal>
-    ensures begun { OnOk result (MarksLead machine.old machine.new) }
-    ensures refused { IfErr result (MayRefuse IsMarkStep machine.old) }
-    ensures unchanged { OnErr result (machine.new ≡ machine.old) }
+fn begin<S: Steps>(steps: &mut S, by: &mut S::By) -> Result<(), Refusal>
+    requires { S.may by.old }
+    ensures still { S.may by.new }
+    ensures begun { OnOk result (MarksLead (S.seen steps.old) (S.seen steps.new)) }
+    ensures refused { IfErr result (MayRefuse S.denies IsMarkStep (S.seen steps.old)) }
+    ensures unchanged { OnErr result (S.seen steps.new ≡ S.seen steps.old) }
 {
-    if !machine.world().phase().is_marking() {
-        machine.step(&Event::Snap)?;
+    if !steps.machine().world().phase().is_marking() {
+        steps.take(by, Event::Snap)?;
     }
     Ok(())
 }
 
 // Drains one entry of the log. Tells whether there was one.
-fn drain(machine: &mut Machine) -> Result<bool, Refusal>
-    ensures moved { IfOk result (λ more. MovesOn more machine.old machine.new) }
-    ensures refused { IfErr result (MayRefuse IsMarkStep machine.old) }
-    ensures unchanged { OnErr result (machine.new ≡ machine.old) }
+fn drain<S: Steps>(steps: &mut S, by: &mut S::By) -> Result<bool, Refusal>
+    requires { S.may by.old }
+    ensures still { S.may by.new }
+    ensures moved { IfOk result (λ more. MovesOn more (S.seen steps.old) (S.seen steps.new)) }
+    ensures refused { IfErr result (MayRefuse S.denies IsMarkStep (S.seen steps.old)) }
+    ensures unchanged { OnErr result (S.seen steps.new ≡ S.seen steps.old) }
 {
-    match machine.step(&Event::Drain) {
+    match steps.take(by, Event::Drain) {
         Ok(_) => Ok(true),
         Err(Refusal::NothingToDrain) => Ok(false),
         Err(refusal) => Err(refusal),
@@ -111,25 +123,30 @@ fn drain(machine: &mut Machine) -> Result<bool, Refusal>
 }
 
 // Marks the newest gray object, or drains one entry of the log if no object is gray. Tells whether there was one.
-fn mark_or_drain(machine: &mut Machine) -> Result<bool, Refusal>
-    ensures moved { IfOk result (λ more. MovesOn more machine.old machine.new) }
-    ensures refused { IfErr result (MayRefuse IsMarkStep machine.old) }
-    ensures unchanged { OnErr result (machine.new ≡ machine.old) }
+fn mark_or_drain<S: Steps>(steps: &mut S, by: &mut S::By) -> Result<bool, Refusal>
+    requires { S.may by.old }
+    ensures still { S.may by.new }
+    ensures moved { IfOk result (λ more. MovesOn more (S.seen steps.old) (S.seen steps.new)) }
+    ensures refused { IfErr result (MayRefuse S.denies IsMarkStep (S.seen steps.old)) }
+    ensures unchanged { OnErr result (S.seen steps.new ≡ S.seen steps.old) }
 {
-    match machine.step(&Event::Mark) {
+    match steps.take(by, Event::Mark) {
         Ok(_) => Ok(true),
-        Err(Refusal::NothingToMark) => drain(machine),
+        Err(Refusal::NothingToMark) => drain(steps, by),
         Err(refusal) => Err(refusal),
     }
 }
 
 // Marks and drains until no object is gray and no entry of the log is left.
-fn mark_all(machine: &mut Machine) -> Result<(), Refusal>
-    ensures marked { OnOk result (MarksLead machine.old machine.new) }
-    ensures refused { IfErr result (λ e. StopsAt IsMarkStep machine.old e machine.new) }
+fn mark_all<S: Steps>(steps: &mut S, by: &mut S::By) -> Result<(), Refusal>
+    requires { S.may by.old }
+    ensures still { S.may by.new }
+    ensures marked { OnOk result (MarksLead (S.seen steps.old) (S.seen steps.new)) }
+    ensures refused { IfErr result
+        (λ e. StopsAt S.denies IsMarkStep (S.seen steps.old) e (S.seen steps.new)) }
 {
     loop {
-        let more = mark_or_drain(machine)?;
+        let more = mark_or_drain(steps, by)?;
         if !more {
             return Ok(());
         }
@@ -137,33 +154,43 @@ fn mark_all(machine: &mut Machine) -> Result<(), Refusal>
 }
 
 // Begins a cycle, unless one runs, and marks and drains to its end.
-fn mark_cycle(machine: &mut Machine) -> Result<(), Refusal>
-    ensures marked { OnOk result (MarksLead machine.old machine.new) }
-    ensures refused { IfErr result (λ e. StopsAt IsMarkStep machine.old e machine.new) }
+fn mark_cycle<S: Steps>(steps: &mut S, by: &mut S::By) -> Result<(), Refusal>
+    requires { S.may by.old }
+    ensures still { S.may by.new }
+    ensures marked { OnOk result (MarksLead (S.seen steps.old) (S.seen steps.new)) }
+    ensures refused { IfErr result
+        (λ e. StopsAt S.denies IsMarkStep (S.seen steps.old) e (S.seen steps.new)) }
 {
-    begin(machine)?;
-    mark_all(machine)
+    begin(steps, by)?;
+    mark_all(steps, by)
 }
 
 // Finishes the cycle, and returns the number of condemned objects.
-fn finish(machine: &mut Machine) -> Result<u64, Refusal>
-    ensures finished { IfOk result (λ n. Finishes machine.old n machine.new) }
-    ensures refused { IfErr result (MayRefuse IsCycleStep machine.old) }
-    ensures unchanged { OnErr result (machine.new ≡ machine.old) }
+fn finish<S: Steps>(steps: &mut S, by: &mut S::By) -> Result<u64, Refusal>
+    requires { S.may by.old }
+    ensures still { S.may by.new }
+    ensures finished { IfOk result (λ n. Finishes (S.seen steps.old) n (S.seen steps.new)) }
+    ensures refused { IfErr result (MayRefuse S.denies IsCycleStep (S.seen steps.old)) }
+    ensures unchanged { OnErr result (S.seen steps.new ≡ S.seen steps.old) }
 {
-    let answer = machine.step(&Event::Finish)?;
+    let answer = steps.take(by, Event::Finish)?;
     Ok(condemned_of(answer))
 }
 
-// Runs a whole cycle, or finishes the one that runs, with sweeps before and after it.
-fn run_cycle(machine: &mut Machine) -> Result<CycleCounts, Refusal>
-    ensures whole { IfOk result (λ c. IsWholeCycle machine.old c.condemned c.swept machine.new) }
-    ensures refused { IfErr result (λ e. StopsAt IsCycleStep machine.old e machine.new) }
+/// Runs a whole cycle, or finishes the one that runs, with sweeps before and after it. The steps up to one that is refused stand,
+/// and its refusal is the error.
+pub fn run_cycle<S: Steps>(steps: &mut S, by: &mut S::By) -> Result<CycleCounts, Refusal>
+    requires { S.may by.old }
+    ensures still { S.may by.new }
+    ensures whole { IfOk result
+        (λ c. IsWholeCycle (S.seen steps.old) c.condemned c.swept (S.seen steps.new)) }
+    ensures refused { IfErr result
+        (λ e. StopsAt S.denies IsCycleStep (S.seen steps.old) e (S.seen steps.new)) }
 {
-    let before = sweep_all(machine)?;
-    mark_cycle(machine)?;
-    let condemned = finish(machine)?;
-    let after = sweep_all(machine)?;
+    let before = sweep_all(steps, by)?;
+    mark_cycle(steps, by)?;
+    let condemned = finish(steps, by)?;
+    let after = sweep_all(steps, by)?;
     Ok(CycleCounts {
         condemned,
         swept: before + after,
@@ -185,16 +212,23 @@ fn cycle_line(alloc: Global, counts: CycleCounts) -> Result<Vec<u8>, Refusal>
     Ok(text)
 }
 
-// Runs a whole cycle, or finishes the one that runs, with sweeps before and after it, and returns the answer of `collect`. The
-// steps up to one that is refused stand, and its refusal is the answer.
-pub(crate) fn collect(alloc: Global, machine: &mut Machine) -> LineAnswer
-    ensures { Collects machine.old (line_answer_text result) machine.new }
+/// Returns the answer of `collect` about a cycle that ended so.
+pub fn collect_answer(alloc: Global, cycle: Result<CycleCounts, Refusal>) -> LineAnswer
+    ensures { IsCycleAnswer cycle (line_answer_text result) }
 {
-    match run_cycle(machine) {
+    match cycle {
         Ok(counts) => match cycle_line(alloc, counts) {
             Ok(text) => LineAnswer::Text(text),
             Err(refusal) => LineAnswer::Known(Reply::Refused(refusal)),
         },
         Err(refusal) => LineAnswer::Known(Reply::Refused(refusal)),
     }
+}
+
+// Takes the steps of `collect` on a machine, and returns its answer.
+pub(crate) fn collect(alloc: Global, machine: &mut Machine) -> LineAnswer
+    ensures { Collects NoneDenies machine.old (line_answer_text result) machine.new }
+{
+    let cycle = run_cycle(machine, &mut ());
+    collect_answer(alloc, cycle)
 }

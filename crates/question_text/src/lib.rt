@@ -34,15 +34,18 @@ mod registers;
 mod rows;
 mod session;
 mod show;
+mod steps;
 mod watch;
 mod write;
 
-pub use answers::answer;
+pub use answers::{answer, answer_line};
 pub use asking::Asking;
+pub use cycle::{CycleCounts, collect_answer, is_collect, run_cycle};
 pub use help::keyword_help;
 pub use names::push_row_name;
 pub use question::{At, Question, question_of};
 pub use session::serve_asking;
+pub use steps::Steps;
 pub use watch::{BAD_COMMAND, Watch};
 
 /// States that no line that asks a question is one of the grammar of sessions, so that each of these keeps its meaning.

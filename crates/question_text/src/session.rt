@@ -1,4 +1,5 @@
 //! Sessions with questions.
+ghost use Rattle.std.specs.Prelude.{◌≡◌};
 ghost use Rattle.session_text.specs.Endings.{EndsSession};
 ghost use Rattle.question_text.specs.Sessions.{ServesAsking};
 
@@ -18,6 +19,7 @@ pub fn serve_asking<I: Inlet, O: Outlet>(
 ) -> Ended
     ensures ends { EndsSession (I.seen reader.old) (I.seen reader.new) (O.seen writer.old)
         (O.seen writer.new) result }
+    ensures first { asking.new.local.first_pin ≡ asking.old.local.first_pin }
     ensures session { ServesAsking time (I.seen reader.old) (I.seen reader.new) asking.old
         (O.seen writer.old) asking.new (O.seen writer.new) result }
 {

@@ -13,7 +13,7 @@ returns-in-Ok-serve_tended_heap g c =
       (
         ap (λ (b : Maker). b.config) made ∙ c.in-Ok.ensures.settings ∙ c.config.ensures,
         subst (λ (b : Maker). AreStaff c.args.service.sessions b.seats) (sym made) c.in-Ok.ensures.seats,
-        over.0.1,
+        over.0.1 ∙ c.terms.ensures,
         over.0.2,
         subst (λ (b : Maker). AreTended b.config b.seats t.marker t.sweeper) (sym made) over.1,
       ),

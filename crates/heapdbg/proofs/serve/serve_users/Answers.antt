@@ -11,7 +11,7 @@ returns-in-Ok-serve_heap g c =
       (
         ap (λ (b : Maker). b.config) over.0 ∙ c.in-Ok.ensures.settings ∙ c.config.ensures,
         ap (λ (b : Maker). length b.seats) over.0 ∙ c.in-Ok.ensures.seats.1,
-        over.1,
+        over.1 ∙ c.terms.ensures,
         over.2,
       ),
       c.tell.ensures,

@@ -1,16 +1,17 @@
-use Rattle.std.proofs.Common.{◌≡◌, ◌∙◌, Option, Some, None, refl, sym, ap, codes}
-use Rattle.std.specs.Prelude.{is_some, option_map}
-use Rattle.std.specs.Borrow.{Bor}
-use Rattle.clap.specs.Words.{Text, found_of}
-use Rattle.clap.proofs.WalkLemmas.{first_value-rows}
-use Rattle.heapdbg.specs.declared.settings.Task.TheVariants.{Explore}
+use Rattle.std.proofs.Common.{◌∙◌, sym}
+use Rattle.clap.specs.Words.{found_of, rows_of}
+use Rattle.heapdbg.proofs.SavedRuns.{given_explored, given_source, of_sources}
 use Rattle.heapdbg.proofs.session_options.explore_task.Goals as goal
 
-some_mapped : (o : Option (Bor Text)) → is_some (option_map (λ s. s.now) o) ≡ is_some o
-some_mapped None = refl
-some_mapped (Some s) = refl
+pub returns-in-Ok-clause-ok : goal.returns-in-Ok-clause-ok
+returns-in-Ok-clause-ok c =
+    sym (given_explored (found_of c.args.options.now) c.get_str-from.result c.get_str-port.result c.get_str-from.ensures c.get_str-port.ensures) ∙ c.in-Ok.ensures.ok
 
-pub returns : goal.returns
-returns c =
-    let found = found_of c.args.options.now in
-    ap (λ from. Explore from) (c.is_some-from.ensures ∙ sym (some_mapped c.get_str.result) ∙ ap is_some (c.get_str.ensures ∙ first_value-rows found (codes "from")))
+pub returns-in-Err-clause-none : goal.returns-in-Err-clause-none
+returns-in-Err-clause-none c =
+    sym (given_explored (found_of c.args.options.now) c.get_str-from.result c.get_str-port.result c.get_str-from.ensures c.get_str-port.ensures) ∙ c.in-Err.ensures.none
+
+pub returns-in-Err-clause-mistake : goal.returns-in-Err-clause-mistake
+returns-in-Err-clause-mistake c =
+    of_sources c.in-Err.mistake (rows_of (found_of c.args.options.now))
+    (given_source c.in-Err.mistake (found_of c.args.options.now) c.get_str-from.result c.get_str-port.result c.get_str-from.ensures c.get_str-port.ensures c.in-Err.ensures.mistake)

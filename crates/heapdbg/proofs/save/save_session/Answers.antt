@@ -2,7 +2,7 @@ use Rattle.std.proofs.Common.{◌≡◌, ◌∙◌, ap, sym}
 use Rattle.heap_trail.specs.Machine.{opening_machine}
 use Rattle.session_text.specs.declared.commands.Local.{Local}
 use Rattle.heapdbg.proofs.SavedRuns.{saved_to, still_some}
-use Rattle.heapdbg.proofs.save.save.Goals as goal
+use Rattle.heapdbg.proofs.save.save_session.Goals as goal
 
 pub returns-in-Ok : goal.returns-in-Ok
 returns-in-Ok g c =

@@ -1,0 +1,93 @@
+//! A shared heap as its holder has it, on which `collect` takes its steps.
+ghost use Rattle.std.specs.Prelude.{◌≡◌};
+ghost use Rattle.session_text.specs.Replies.{line_answer_text};
+ghost use Rattle.heap_lock.specs.declared.entry.Role.TheVariants.{User};
+ghost use Rattle.heap_server.specs.JoinedAnswers.{IsCollectionOfHeap, IsSeatAfter, IsSeatSince, RunsCycleOfHeap};
+
+use heap_class::Refusal;
+use heap_lock::{Heap, Kept, Outcome, Seat};
+use heap_step::{Answer, Event};
+use heap_trail::Machine;
+use question_text::{CycleCounts, Steps, collect_answer, run_cycle};
+use session_text::LineAnswer;
+use std::alloc::Global;
+use std::marker::{Brand, PhantomData};
+
+// A fact about a seat before its first step. Each call picks it.
+trait SeatOrigin<P> {
+    ghost was: { P → Type 0 };
+}
+
+impl<P> SeatOrigin<P> for Brand {
+    ghost was = { λ seat. Unit {0} };
+}
+
+// The heap under its lock.
+#[derive(Drop)]
+struct HeldHeap<'a, L: Heap, B: SeatOrigin<Seat<L>>> {
+    kept: &'a mut Kept<L>,
+    of: PhantomData<B>,
+}
+
+impl<'a, L: Heap, B: SeatOrigin<Seat<L>>> Steps for HeldHeap<'a, L, B> {
+    ghost use Rattle.heap_lock.specs.LockStates.{IsNoEntry};
+    ghost use Rattle.heap_server.specs.JoinedAnswers.{IsSeatSince};
+
+    type By = Seat<L>;
+
+    ghost seen = { λ h. h.kept.now.machine };
+
+    ghost may = { λ seat. IsSeatSince B.was seat };
+
+    ghost denies = { IsNoEntry };
+
+    fn machine(&self) -> &Machine {
+        self.kept.machine()
+    }
+
+    fn take(&mut self, by: &mut Seat<L>, event: Event) -> Result<Answer, Refusal> {
+        match self.kept.act_held(by, event) {
+            Ok(receipt) => match receipt.answer {
+                Outcome::Answered(answer) => Ok(answer),
+                Outcome::Refused(refusal) => Err(refusal),
+                Outcome::Place(_) => unreachable!(),
+            },
+            Err(refusal) => Err(refusal),
+        }
+    }
+}
+
+// Runs a cycle for one who holds the lock.
+fn cycle_from<L: Heap, B: SeatOrigin<Seat<L>>>(
+    kept: &mut Kept<L>,
+    seat: &mut Seat<L>,
+) -> Result<CycleCounts, Refusal>
+    requires user { seat.old.role ≡ User }
+    requires was { B.was seat.old }
+    ensures runs { RunsCycleOfHeap L.config result }
+    ensures since { IsSeatSince B.was seat.new }
+{
+    // Its contract says that the machine is what a legal history leaves.
+    kept.chronicle();
+    let mut held: HeldHeap<'_, L, B> = HeldHeap {
+        kept,
+        of: PhantomData,
+    };
+    let cycle = run_cycle(&mut held, seat);
+    held.kept.chronicle();
+    cycle
+}
+
+// Takes the steps of `collect` for one who holds the lock, each an act of the seat, and returns its answer.
+pub(crate) fn collect_held<L: Heap>(
+    alloc: Global,
+    kept: &mut Kept<L>,
+    seat: &mut Seat<L>,
+) -> LineAnswer
+    requires { seat.old.role ≡ User }
+    ensures collects { IsCollectionOfHeap L.config (line_answer_text result) }
+    ensures seat { IsSeatAfter seat.old seat.new }
+{
+    let cycle = cycle_from::<L, Brand>(kept, seat);
+    collect_answer(alloc, cycle)
+}

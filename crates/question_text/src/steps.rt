@@ -1,0 +1,57 @@
+//! What `collect` takes its steps on.
+use heap_class::Refusal;
+use heap_step::{Answer, Event};
+use heap_trail::Machine;
+
+/// A machine, and those who may take its steps. Contracts see the machine, who may take steps, and for which reasons others than
+/// the machine's a step may be denied.
+pub trait Steps {
+    ghost use Rattle.std.specs.Prelude.{◌≡◌, ◌⊎◌, IfErr, IfOk, OnErr};
+    ghost use Rattle.heap_class.specs.declared.Refusal.{Refusal};
+    ghost use Rattle.heap_trail.specs.declared.Action.TheVariants.{Step};
+    ghost use Rattle.heap_trail.specs.declared.Reply.TheVariants.{Answered};
+    ghost use Rattle.heap_trail.specs.Machine.{Machine, MayFail, MayReply};
+
+    /// Who takes steps.
+    type By;
+
+    ghost seen: { Self → Machine };
+
+    ghost may: { Self.By → Type 0 };
+
+    ghost denies: { Refusal → Type 0 };
+
+    /// Returns the machine.
+    fn machine(&self) -> &Machine
+        ensures { result.now ≡ seen self.now };
+
+    /// Takes a step, or refuses it and leaves the machine.
+    fn take(&mut self, by: &mut Self::By, event: Event) -> Result<Answer, Refusal>
+        requires { may by.old }
+        ensures still { may by.new }
+        ensures done { IfOk result
+            (λ a. MayReply (seen self.old) (Step event) (seen self.new) (Answered a)) }
+        ensures refused { IfErr result
+            (λ e. MayFail (seen self.old) (Step event) (seen self.old) e ⊎ denies e) }
+        ensures unchanged { OnErr result (seen self.new ≡ seen self.old) };
+}
+
+impl Steps for Machine {
+    ghost use Rattle.question_text.specs.Collections.{NoneDenies};
+
+    type By = ();
+
+    ghost seen = { λ m. m };
+
+    ghost may = { λ by. Unit {0} };
+
+    ghost denies = { NoneDenies };
+
+    fn machine(&self) -> &Machine {
+        self
+    }
+
+    fn take(&mut self, _by: &mut (), event: Event) -> Result<Answer, Refusal> {
+        self.step(&event)
+    }
+}

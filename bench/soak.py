@@ -2,7 +2,8 @@
 """Has clients work on one served heap: `soak.py [PROGRAM ..]`, `CLIENTS` of them (8) for `SECONDS` seconds (600).
 
 PROGRAM is `bin/heapdbg` if it isn't given; words before its name are a command that runs it, such as `valgrind -q`. The
-clients send lines of every kind by lot, a page of lines at a time, and open two pins on one place, dump both and close them.
+clients send lines of every kind by lot, questions and `collect` too, a page of lines at a time, and open two pins on one place,
+dump both and close them.
 The program has its two workers, which mark and sweep the cycles that clients begin, and `DUMPERS` more clients (2) fetch dumps
 from its second port, one after another. Prints a line for each reply that is not well formed, for a dump that can't be read or
 whose references name no object of it, for two whole dumps of one place that differ, and for a session that ended otherwise than
@@ -44,9 +45,10 @@ END = b"\x2c" + bytes(8)
 NUMBER = r"(0|[1-9][0-9]*)"
 ID = r"0x[0-9a-f]{8}"
 FACTS = {18: f" {NUMBER} {NUMBER}", 19: f" {NUMBER}", 20: f" {NUMBER}", 21: f" {NUMBER} {NUMBER}", 23: " (Rewound|Memory)"}
+NAMED = r"[^ ]+"
 NAMES = """NoMemory NoClass ClassLimit BadName DuplicateName FieldLimit BadRegister NullRegister BadSlot WrongKind OutOfRange TooLarge HeapFull
 AlreadyMarking NotMarking NothingToMark NothingToDrain NotDone SweepPending NothingToSweep TooFar NoPin Lost NotRetained PinLimit
-ChronicleFull""".split()
+ChronicleFull Unreachable NoObject""".split()
 REFUSED = "|".join(f"no {number} {name}{FACTS.get(number, '')}" for number, name in enumerate(NAMES, 1))
 # What a line may be answered if it is not refused, by its first word.
 ANSWERS = {
@@ -55,11 +57,20 @@ ANSWERS = {
     "snap": f"ok pushed {NUMBER}", "mark": f"ok pushed {NUMBER}", "drain": "ok pushed [01]", "finish": f"ok condemned {NUMBER}",
     "sweep": f"ok swept {NUMBER}( empty)?", "rewind": f"ok place {NUMBER}", "open": f"ok pin {NUMBER} at {NUMBER}",
     "dump": f"ok dump {NUMBER}", "piece": f"ok (piece|last) {NUMBER}", "close": "ok", "what": "bad command",
+    "histogram": f"ok {NUMBER} {NUMBER}", "garbage": f"ok {NUMBER} {NUMBER}", "registers": f"ok {NUMBER}", "path": f"ok {NUMBER}",
+    "history": f"ok {NUMBER}", "pins": f"ok {NUMBER}", "collect": f"ok condemned {NUMBER} swept {NUMBER}",
+}
+# A row of the answer to a question, by its first word.
+ROWS = {
+    "histogram": f"{NUMBER} {NUMBER} {NAMED}", "garbage": f"{NUMBER} {NUMBER} {NAMED}", "registers": f"[0-3] [0-7] (null|{ID} {NAMED})",
+    "path": f"([0-3] [0-7] {ID}|{ID} {NUMBER} {ID})", "history": f"{NUMBER} [a-z]+.*", "pins": f"{NUMBER} ({NUMBER} held {NUMBER}|lost Rewound)",
 }
 PATTERNS = {word: re.compile(f"({answer})|{REFUSED}") for word, answer in ANSWERS.items()}
 DATA = re.compile("data ([0-9a-f]{2}){1,64}")
-# What adds nothing to the chronicle, by its first word.
-NO_ACTS = {"open", "dump", "piece", "close", "what"}
+BEFORE = {"dump": DATA, "piece": DATA} | {word: re.compile(f"row {row}") for word, row in ROWS.items()}
+# What adds nothing to the chronicle, by its first word; and how many entries `collect` adds, about.
+NO_ACTS = {"open", "dump", "piece", "close", "what", *ROWS}
+COLLECTED = 300
 
 
 def line_by_lot(lot):
@@ -79,7 +90,8 @@ def line_by_lot(lot):
         (6, f"clear {mutator} {register}"),
         (3, "snap"), (12, "mark"), (8, "drain"), (3, "finish"), (6, f"sweep {lot.randrange(16)}"),
         (1, f"rewind {lot.randrange(1, 30) if lot.randrange(4) == 0 else 2000}"),
-        (1, "what is this"),
+        (1, "what is this"), (0.1, "collect"), (1, "histogram -"), (1, "garbage -"), (1, "registers -"), (1, "pins"),
+        (1, f"path - 0x{0x10000000 + lot.randrange(1 << 12) * 8:08x}"), (1, f"history {lot.randrange(30)}"),
     )
     return lot.choices([text for _, text in lines], [weight for weight, _ in lines])[0]
 
@@ -96,14 +108,13 @@ class Client(Session):
         """Yields the lines of a reply, once it has looked at them."""
         *data, got = super().lines_of(line)
         word = line.split()[0]
-        well_formed = PATTERNS[word].fullmatch(got) and all(map(DATA.fullmatch, data))
-        if not well_formed or (data and word not in ("dump", "piece")):
-            self.wrong.append(f"{line!r} was answered {got!r} after {len(data)} data lines")
-        text = bytes.fromhex("".join(each[5:] for each in data))
+        if not PATTERNS[word].fullmatch(got) or data and not (word in BEFORE and all(map(BEFORE[word].fullmatch, data))):
+            self.wrong.append(f"{line!r} was answered {got!r} after {len(data)} lines, first {data[:1]!r}")
+        text = b"" if word in ROWS else bytes.fromhex("".join(each[5:] for each in data))
         if got.startswith("ok dump "):
             self.look_at(line, got, text)
         self.lines += 1
-        self.acts += word not in NO_ACTS
+        self.acts += COLLECTED if word == "collect" else word not in NO_ACTS
         self.bytes += len(text)
         yield from (*data, got)
 
@@ -240,7 +251,7 @@ def main(program, seconds):
     """Returns the exit status."""
     port, second = free_port(), free_port()
     line = [*program, "serve", "--port", str(port), "--sessions", str(CLIENTS), "--mutators", str(MUTATORS)]
-    line += ["--workers", "1", "--dumps", str(second)]
+    line += ["--workers", "1", "--dumps", str(second), "--questions", "1"]
     child = subprocess.Popen(line, stdout=subprocess.PIPE, stderr=subprocess.PIPE)
     try:
         clients = connected(port)

@@ -193,8 +193,9 @@ def wrong_tended(program, library):
         status, words, answers, fetched, error = tended(program, library, number, clients)
         if b"refused" not in error:
             return number - 1
-        if words == [] and answers == []:
-            good = (status, error) == (1, b"refused\nheapdbg: memory\n")
+        if words == []:
+            # It may listen already when it finds no thread, but it accepts nobody.
+            good = (status, error) == (1, b"refused\nheapdbg: memory\n") and not any(answers) and not any(fetched)
         elif b"memory" in words:
             at = words.index(b"memory")
             good = (status, answers[at], words[1 - at]) == (0, [], b"eof")
@@ -221,7 +222,7 @@ def answered(client, given):
 def connected(server, port):
     """Returns a connection to a server once it listens, or None if it ends before."""
     while server.poll() is None:
-        with contextlib.suppress(ConnectionRefusedError):
+        with contextlib.suppress(ConnectionError):
             return socket.create_connection(("127.0.0.1", port), 60)
         time.sleep(0.005)
     return None

@@ -30,6 +30,7 @@ test:
 	@python3 checks/program crates/heapdbg/out/heapdbg crates/heapdbg/out/heapdbg.by-rattle
 	@python3 checks/sockets.py crates/heapdbg/out/heapdbg
 	@python3 clients/python/test_heapdbg.py crates/heapdbg/out/heapdbg
+	@python3 checks/installed.py crates/heapdbg/out/heapdbg
 
 # Tries the edits that are not in the gate: of all crates, or of those that CRATE names.
 edits:

@@ -21,6 +21,7 @@ WANTED = {
     "pins": ("ok",),
     "collect": ("ok",),
     "help": ("ok", "bad"),
+    "comment": ("nothing",),
 }
 LEAST = 3
 
@@ -72,5 +73,13 @@ class AskingDraw(Draw):
         self.machine.sights.met[f"{word.decode()}: {sort}"] += 1
         return accepted
 
+    def comment(self):
+        """Says a comment, which has no answer."""
+        self.say_bytes(self.lots.pick([b"#", b"# x", b"  #histogram -", b"#\r", b"# \xc3\xa4\t\x00", b"#" * 4096]))
+        self.machine.sights.met["comment: nothing"] += self.lines[-1][1] == b""
+        return False
+
     def turn(self):
+        if self.lots.once_in(40):
+            return self.comment()
         return self.ask() if self.lots.once_in(3) else super().turn()

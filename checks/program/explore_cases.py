@@ -100,6 +100,7 @@ TYPED = [
     b"histgram -\n",
     b"histogram\n",
     b"frobnicate\n",
+    b"# a comment\n",
     b"rewind 1\n",
     b"\x04",
 ]
@@ -114,7 +115,7 @@ heapdbg 2> |bad command
 the form of this line is: histogram AT
 heapdbg 2> |bad command
 help lists all lines
-heapdbg 2> |ok place 1
+heapdbg 2> |heapdbg 2> |ok place 1
 heapdbg 1> |
 """
 
@@ -135,7 +136,7 @@ def questions(program):
         yield path.stem, run(program, ["explore"], path.read_bytes()), wanted
         yield f"{path.stem}, run", run(program, ["run", "--questions", "1"], path.read_bytes()), wanted
     for words in ([], ["--questions", "0"]):
-        asked = run(program, ["run", *words], b"histogram -\ncollect\nhelp\n")
-        yield "no questions in run", asked, (0, b"bad command\n" * 3, b"")
+        asked = run(program, ["run", *words], b"histogram -\ncollect\nhelp\n# x\n")
+        yield "no questions in run", asked, (0, b"bad command\n" * 4, b"")
     yield from files_first(program)
     yield from at_a_terminal(program)

@@ -208,8 +208,8 @@ def served_questions(program):
     two = (0, b"session 1 quit\nsession 2 quit\n", b"")
     told = POINT_MADE + HISTOGRAM, HISTOGRAM + b"ok\n" + HISTOGRAM, b"ok place 4\n"
     yield "questions of two", served(program, asked_beside, ["--sessions", "2", *with_questions]), (*two, *told)
-    bad = served(program, ended(b"histogram -\nhelp\ncollect\nend\n"))
-    yield "no questions of a served heap", bad, (*quit, b"bad command\n" * 3)
+    bad = served(program, ended(b"histogram -\nhelp\ncollect\n# x\nend\n"))
+    yield "no questions of a served heap", bad, (*quit, b"bad command\n" * 4)
     lines = POINT + b"clear 0 0\ncollect\nhistory 1\nend\n"
     collected = POINT_MADE + b"ok\nok condemned 1 swept 1\nrow 7 reclaim 0\nok 1\n"
     yield "a collection of a served heap", served(program, ended(lines), with_questions), (*quit, collected)

@@ -107,8 +107,8 @@ fn add_line(text: &mut Vec<u8>, line: &[u8]) -> Result<(), AllocError> {
     Ok(())
 }
 
-// Returns whole lines, the last without its LF, as they are shown. Fails if an allocation fails.
-fn shown(alloc: Global, lines: &[u8]) -> Result<Vec<u8>, AllocError> {
+// Returns whole lines, the last without its LF, with their rows in columns. Fails if an allocation fails.
+fn lines_in_columns(alloc: Global, lines: &[u8]) -> Result<Vec<u8>, AllocError> {
     let mut text = Vec::new(alloc);
     let mut rows = Vec::new(alloc);
     for line in lines.split(|byte| *byte == LINE_END) {
@@ -143,7 +143,7 @@ impl<O: Outlet + Drop> ColumnOutlet<O> {
     fn show(&mut self, lines: &[u8]) -> bool
         ensures { self.new ≡ self.old }
     {
-        match shown(self.alloc, lines) {
+        match lines_in_columns(self.alloc, lines) {
             Ok(text) => write_all(&mut self.outlet, text.as_slice()),
             Err(_) => write_all(&mut self.outlet, lines) && write_all(&mut self.outlet, b"\n"),
         }

@@ -62,14 +62,14 @@ pub(crate) fn explore_task(options: &ArgMatches<'_>) -> Result<Task, Mistake>
 {
     let from = options.get_str("from");
     let port = options.get_str("port");
-    match explored(from, port) {
+    match choose_task(from, port) {
         Ok(task) => Ok(task),
         Err(mistake) => Err(mistake),
     }
 }
 
 // Returns the task of `explore` to which this file or this port is given.
-fn explored(from: Option<&str>, port: Option<&str>) -> Result<Task, Mistake>
+fn choose_task(from: Option<&str>, port: Option<&str>) -> Result<Task, Mistake>
     ensures ok { IfOk result
         (λ t. explore_with (option_map (λ s. s.now) from.entry) (option_map (λ s. s.now) port.entry)
         ≡ Some t) }

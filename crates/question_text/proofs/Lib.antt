@@ -2,6 +2,7 @@ pub mod Totals
 pub mod RankedRows
 pub mod PinImages
 pub mod NewWords
+pub mod Comments
 pub mod HelpForms
 pub mod Slots
 pub mod FieldNames

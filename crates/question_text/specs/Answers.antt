@@ -8,7 +8,7 @@ use Rattle.question_text.specs.ClassLists.{IsClassesText}
 use Rattle.question_text.specs.Histograms.{IsGarbageText, IsHistogramText}
 use Rattle.question_text.specs.Moments.{IsAnswerAbout, IsAnswerBetween, image_at}
 use Rattle.question_text.specs.Growths.{IsGrowthText}
-use Rattle.question_text.specs.Help.{help_or_bad}
+use Rattle.question_text.specs.Comments.{unasked_text}
 use Rattle.question_text.specs.Histories.{IsHistoryText}
 use Rattle.question_text.specs.Losses.{IsDroppedText}
 use Rattle.question_text.specs.Objects.{IsShowText, shows_mark}
@@ -37,9 +37,9 @@ IsAnswer (Dropped x) m text = IsDroppedText x m.trail text
 IsAnswer (History count) m text = IsHistoryText count m.trail text
 IsAnswer Pins m text = IsPinsText m.pins text
 
--- the answer of a line that asks this question; or none, and it may ask for help
+-- the answer of a line that asks this question; or none, and it may be a comment or ask for help
 abbrev pub IsAnswerOf : Option Question → List ℕ → Machine → List ℕ → Type 0
-IsAnswerOf None l m text = text ≡ help_or_bad l
+IsAnswerOf None l m text = text ≡ unasked_text l
 IsAnswerOf (Some q) l m text = IsAnswer q m text
 
 -- the answer of a line that the grammar of sessions doesn't know

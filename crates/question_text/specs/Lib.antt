@@ -16,6 +16,7 @@ pub mod Writes
 pub mod Losses
 pub mod Histories
 pub mod Help
+pub mod Comments
 pub mod Collections
 pub mod Answers
 pub mod Sessions

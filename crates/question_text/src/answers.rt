@@ -14,8 +14,8 @@ ghost use Rattle.question_text.specs.Moments.{IsAnswerAbout, IsAnswerBetween, im
 use crate::at::{moment_at, view_of};
 use crate::birth::born_answer;
 use crate::class_list::classes_answer;
+use crate::comment::unasked_answer;
 use crate::growth::growth_answer;
-use crate::help::help_answer;
 use crate::histogram::{garbage_text, histogram_text};
 use crate::history::history_answer;
 use crate::loss::dropped_answer;
@@ -147,6 +147,6 @@ pub fn answer_line(alloc: Global, machine: &Machine, line: &[u8]) -> LineAnswer
 {
     match question_of(line) {
         Some(question) => answer(alloc, machine, question),
-        None => help_answer(line),
+        None => unasked_answer(line),
     }
 }

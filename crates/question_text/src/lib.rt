@@ -1,13 +1,14 @@
 //! Questions as lines, and their answers.
 #![tactic(auto)]
 
-ghost use Rattle.std.specs.Prelude.{◌≡◌, ℕ, List, Some, codes, true};
+ghost use Rattle.std.specs.Prelude.{◌≡◌, ℕ, List, [], Some, codes, true};
 ghost use Rattle.session_text.specs.declared.command.Command.TheVariants.{Bad};
 ghost use Rattle.std.specs.List.{AllByRecursion};
 ghost use Rattle.session_text.specs.Grammar.{Rule, all_rules, command_of_text};
 ghost use Rattle.question_text.specs.declared.question.Question.{Question};
 ghost use Rattle.question_text.specs.declared.asking.Asking.{Asking};
 ghost use Rattle.question_text.specs.Collections.{is_collect};
+ghost use Rattle.question_text.specs.Comments.{is_comment};
 ghost use Rattle.question_text.specs.Help.{HasForm, help_of};
 ghost use Rattle.question_text.specs.Questions.{QuestionRule, question_of, question_rules};
 ghost use Rattle.question_text.specs.Sessions.{AskingAnswers};
@@ -17,6 +18,7 @@ mod asking;
 mod at;
 mod birth;
 mod class_list;
+mod comment;
 mod cycle;
 mod growth;
 mod help;
@@ -61,6 +63,17 @@ pub fn help_is_new()
 /// States the same of the line `collect`.
 pub fn collect_is_new()
     ensures { (l : List ℕ) → is_collect l ≡ true → command_of_text l ≡ Bad }
+{}
+
+/// States the same of a comment: a line whose first word begins with `#`.
+pub fn comments_are_new()
+    ensures { (l : List ℕ) → is_comment l ≡ true → command_of_text l ≡ Bad }
+{}
+
+/// States that a comment has no answer and changes nothing.
+pub fn comments_are_silent()
+    ensures { (l text : List ℕ) (c d : Asking) → is_comment l ≡ true → AskingAnswers l c text d
+        → (text ≡ []) × (d ≡ c) }
 {}
 
 /// States that a question and a line that asks for help change nothing. Only `collect` does.

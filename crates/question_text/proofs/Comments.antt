@@ -1,0 +1,77 @@
+-- A comment is no line of the grammar of sessions, no question and no line that asks for help.
+use Rattle.std.proofs.Common.{◌≡◌, ◌∙◌, ap, ap₂, ℕ, Bool, true, false, cond, List, [], ◌∷◌, Some, None, refl, sym, subst}
+use Rattle.std.specs.Prelude.{Option, codes, slice_index, take}
+use Rattle.std.specs.Str.{bytes_eq}
+use Rattle.std.proofs.lemmas.Slice.Eq.{bytes_eq-Decides}
+use Rattle.session_text.specs.declared.command.Command.TheVariants.{Bad}
+use Rattle.session_text.specs.Grammar.{access_rules, all_rules, by_rule, class_rules, command_of_text, command_of_words, is_plain, making_rules, marking_rules, session_rules, words_of_line}
+use Rattle.session_text.specs.declared.commands.Local.{Local}
+use Rattle.question_text.specs.declared.asking.Asking.{Asking}
+use Rattle.question_text.specs.declared.question.Question.{Question}
+use Rattle.question_text.specs.Answers.{IsAnswerOf}
+use Rattle.question_text.specs.Collections.{is_collect, is_collect_words}
+use Rattle.question_text.specs.Comments.{is_comment, is_comment_words, unasked_text}
+use Rattle.question_text.specs.Help.{help_or_bad}
+use Rattle.question_text.specs.Questions.{past_rules, question_by, question_of, question_of_words, question_rules}
+use Rattle.question_text.specs.Sessions.{AnswersLine, AskingAnswers}
+
+-- the first byte of the first word
+first_byte : (b : ℕ) (v : List ℕ) → bytes_eq (take 1 (b ∷ v)) (codes "#") ≡ true → b ≡ 35
+first_byte b v e = ap (λ (l : List ℕ). slice_index l 0) ((bytes_eq-Decides (take 1 (b ∷ v)) (codes "#")).0 e)
+
+no_rule : (v : List ℕ) (ws : List (List ℕ)) → by_rule all_rules (35 ∷ v) ws ≡ None
+unfolding by_rule class_rules making_rules access_rules marking_rules session_rules
+no_rule v ws = refl
+
+no_question : (v : List ℕ) (ws : List (List ℕ)) → question_of_words ((35 ∷ v) ∷ ws) ≡ None
+unfolding question_of_words question_rules past_rules
+no_question v ws = refl
+
+-- ---- the grammar of sessions
+
+by_words : (ws : List (List ℕ)) → is_comment_words ws ≡ true → command_of_words ws ≡ Bad
+by_words [] e = absurd (cc e)
+by_words ([] ∷ ws) e = absurd (cc e)
+by_words ((b ∷ v) ∷ ws) e =
+    subst (λ (x : ℕ). command_of_words ((x ∷ v) ∷ ws) ≡ Bad) (sym (first_byte b v e)) (let none = no_rule v ws in rw none refl)
+
+pub comments_no_command : (l : List ℕ) → is_comment l ≡ true → command_of_text l ≡ Bad
+comments_no_command l e = go (is_plain l)
+  where
+    go : (b : Bool) → cond b (command_of_words (words_of_line l)) Bad ≡ Bad
+    go true = by_words (words_of_line l) e
+    go false = refl
+
+-- ---- questions
+
+asks_none : (ws : List (List ℕ)) → is_comment_words ws ≡ true → question_of_words ws ≡ None
+asks_none [] e = absurd (cc e)
+asks_none ([] ∷ ws) e = absurd (cc e)
+asks_none ((b ∷ v) ∷ ws) e =
+    subst (λ (x : ℕ). question_of_words ((x ∷ v) ∷ ws) ≡ None) (sym (first_byte b v e)) (no_question v ws)
+
+collects_none : (ws : List (List ℕ)) → is_comment_words ws ≡ true → is_collect_words ws ≡ false
+collects_none [] e = absurd (cc e)
+collects_none ([] ∷ ws) e = absurd (cc e)
+collects_none ((b ∷ v) ∷ []) e =
+    subst (λ (x : ℕ). is_collect_words ((x ∷ v) ∷ []) ≡ false) (sym (first_byte b v e)) refl
+collects_none ((b ∷ v) ∷ w ∷ ws) e = refl
+
+-- ---- no answer, and no change
+
+no_text : (l : List ℕ) → is_comment l ≡ true → unasked_text l ≡ []
+no_text l e = go (is_comment l) e
+  where
+    go : (b : Bool) → b ≡ true → cond b [] (help_or_bad l) ≡ []
+    go true h = refl
+    go false h = absurd (cc h)
+
+local_silent : (b : Bool) (l text : List ℕ) (c d : Local) → b ≡ false → is_comment l ≡ true → AnswersLine b l c text d → (text ≡ []) × (d ≡ c)
+local_silent true l text c d h e a = absurd (cc h)
+local_silent false l text c d h e a =
+    (subst (λ (q : Option Question). IsAnswerOf q l c.machine text) (asks_none (words_of_line l) e) a.0 ∙ no_text l e, a.1)
+
+pub comment_silent : (l text : List ℕ) (c d : Asking) → is_comment l ≡ true → AskingAnswers l c text d → (text ≡ []) × (d ≡ c)
+comment_silent l text c d e a =
+    let local = local_silent (is_collect l) l text c.local d.local (collects_none (words_of_line l) e) e a.0
+    in (local.0, ap₂ (λ own watch. record { local = own; watch = watch }) local.1 a.1)

@@ -57,7 +57,7 @@ audit:
 
 # Where `make install` puts things: below DESTDIR if that is given.
 PREFIX ?= /usr/local
-VERSION := $(shell sed -n 's/.*VERSION: &str = "\(.*\)";/\1/p' crates/heapdbg/src/refusal.rt)
+VERSION := $(shell sed -n 's/.*VERSION: &str = "\(.*\)";/\1/p' crates/heapdbg_options/src/refusal.rt)
 DOCS := README.md CHANGES.md $(wildcard docs/*.md)
 BINDIR = $(DESTDIR)$(PREFIX)/bin
 MANDIR = $(DESTDIR)$(PREFIX)/share/man/man1

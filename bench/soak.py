@@ -1,5 +1,6 @@
 #!/usr/bin/env python3
-"""Has clients work on one served heap: `soak.py [PROGRAM ..]`, `CLIENTS` of them (8) for `SECONDS` seconds (600).
+"""Has clients work on one served heap: `soak.py [PROGRAM ..]`, `CLIENTS` of them (8) for `SECONDS` seconds (600), `ACTS` acts in all
+(500,000).
 
 PROGRAM is `bin/heapdbg` if it isn't given; words before its name are a command that runs it, such as `valgrind -q`. The
 clients send lines of every kind by lot, questions and `collect` too, a page of lines at a time, and open two pins on one place,
@@ -11,8 +12,8 @@ by `end`; then how much was done, and the memory of the program after the first 
 then. Status 1 if anything was wrong. A fetched dump may be empty or cut: the clients' pins may be all that can be open, and
 their rewinds lose others' pins.
 
-A heap that is served takes 1,000,000 acts in all, those of its workers included, so the clients pause between pages as long as
-that they don't run out of them.
+The clients pause between pages so that their acts last as long as they work. A heap that is served takes 1,000,000 acts in all,
+those of its workers included; for more than 500,000 acts of clients it drops old ones (`--roll 1`).
 No reply says at which turn it was given, so whether they fit one history can't be seen here: `audit.py` looks at that."""
 import contextlib
 import os
@@ -38,7 +39,8 @@ MUTATORS = 4
 # How many seconds a reply, or the program's end, may take.
 LIMIT = 300
 # How many acts the clients may do together, and how many lines are in a page.
-ACTS = 500_000
+SAFE_ACTS = 500_000
+ACTS = int(os.environ.get("ACTS") or SAFE_ACTS)
 PAGE = 40
 # The last record of a dump.
 END = b"\x2c" + bytes(8)
@@ -251,7 +253,7 @@ def main(program, seconds):
     """Returns the exit status."""
     port, second = free_port(), free_port()
     line = [*program, "serve", "--port", str(port), "--sessions", str(CLIENTS), "--mutators", str(MUTATORS)]
-    line += ["--workers", "1", "--dumps", str(second), "--questions", "1"]
+    line += ["--workers", "1", "--dumps", str(second), "--questions", "1", "--roll", str(int(ACTS > SAFE_ACTS))]
     child = subprocess.Popen(line, stdout=subprocess.PIPE, stderr=subprocess.PIPE)
     try:
         clients = connected(port)

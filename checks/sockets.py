@@ -359,6 +359,18 @@ def workers(program):
     yield "cycles by workers", found, (b"ok ", [cycle] * 20, b"", 0, ["quit", "quit"], b"")
 
 
+def old_acts(program):
+    """Yields what a client has of more acts than a heap keeps, of a heap that drops old ones and of one that doesn't."""
+    lines = b"clear 0 0\n" * 1_000_001 + b"rewind 2\nend\n"
+    for options, rest in ((["--roll", "1"], b"ok\nok place 999999\n"), (["--roll", "0"], b"no 26 ChronicleFull\n" * 2)):
+        with Server(program, 1, *options) as server, server.client() as client:
+            writer = threading.Thread(target=client.sendall, args=(lines,))
+            writer.start()
+            found = all_of(client)
+            writer.join(LIMIT)
+            yield f"1,000,002 acts, {' '.join(options)}", (found, server.ended()), (b"ok\n" * 1_000_000 + rest, (0, ["quit"], b""))
+
+
 class DumpServer(Server):
     """A `serve` of the program that sends dumps, too."""
 
@@ -523,7 +535,7 @@ def cut_dumps(program):
 
 
 HOSTILE = closing_clients, resetting_clients, silent_reader, endless_line, many_sessions, taken_port, closing_servers
-OTHERS = other_addresses, answers_one_by_one, lines_in_parts, open_input, full_output, one_client_more, workers
+OTHERS = other_addresses, answers_one_by_one, lines_in_parts, open_input, full_output, one_client_more, workers, old_acts
 DUMPS = served_dumps, unread_dump, resetting_dumps, cut_dumps
 CASES = (*HOSTILE, *OTHERS, *DUMPS)
 

@@ -14,7 +14,7 @@ _heapdbg() {
             mapfile -t COMPREPLY < <(compgen -f -- "$word")
             return
             ;;
-        --questions)
+        --questions | --roll)
             mapfile -t COMPREPLY < <(compgen -W "0 1" -- "$word")
             return
             ;;
@@ -31,7 +31,7 @@ _heapdbg() {
         explore) options="$heap --from --port" ;;
         draw) options="$heap --out" ;;
         save) options="$heap --out --to --questions" ;;
-        serve) options="$heap --port --sessions --workers --dumps --questions" ;;
+        serve) options="$heap --port --sessions --workers --dumps --questions --roll" ;;
         ask) options="--port" ;;
         fetch) options="--port --out" ;;
         *) return ;;

@@ -423,13 +423,14 @@ class Session(Calls):
         raise Ended(line, words[0] if word == "bad" and words else None)
 
     def send(self, line: str, reader: Reader) -> Any:
-        if not line.split() or line.split() == ["end"]:
+        words = line.split()
+        if not words or words == ["end"] or words[0].startswith("#"):
             raise BadCommand(line)
         self.write(line + "\n")
         return self.read(line, reader)
 
     def say(self, line: str) -> list[str]:
-        """Sends any line, and returns the lines of its reply as they came."""
+        """Sends any line that has a reply, and returns the reply's lines as they came."""
         return self.send(line, lambda words, before: [*before, " ".join(["ok", *words])])
 
     # ---- more

@@ -236,7 +236,7 @@ class Endings(unittest.TestCase):
 
     def test_bad_commands(self):
         with session() as heap:
-            for line in ("what", "clear 0", "end", "", "class A - x:foo"):
+            for line in ("what", "clear 0", "end", "", " # what", "class A - x:foo"):
                 with self.assertRaises(BadCommand):
                     heap.say(line)
             self.assertEqual(heap.say("clear 0 0"), ["ok"])

@@ -74,7 +74,7 @@ fn run<'a, L: Heap + Send + Sync, W: Write + Drop, R: Threads + Wait + Sync>(
             Some(dumped)
         },
     )?;
-    let totals = audit_all(&[one, two, marker])?;
+    let totals = audit_all(&[one, two, marker]).ok()?;
     Some((totals, dumped))
 }
 

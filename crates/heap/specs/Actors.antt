@@ -1,5 +1,5 @@
 -- Those who act on a shared heap, and what they claim.
-use Rattle.std.specs.Prelude.{◌≡◌, ◌≢◌, ◌↔◌, ◌⊎◌, ℕ, false, List, [], ◌∷◌, ◌++◌, IsTrue, Bool}
+use Rattle.std.specs.Prelude.{◌≡◌, ◌≢◌, ◌⊎◌, ℕ, false, List, [], ◌∷◌, ◌++◌, length, Bool}
 use Rattle.heap_class.specs.declared.Refusal.{Refusal}
 use Rattle.heap_class.specs.declared.Refusal.TheVariants.{NoMemory}
 use Rattle.heap_world.specs.Limits.{HeapSettings}
@@ -12,7 +12,9 @@ use Rattle.heap_lock.specs.declared.entry.Outcome.{Outcome}
 use Rattle.heap_lock.specs.declared.entry.Outcome.TheVariants as Outcomes
 use Rattle.heap_lock.specs.declared.entry.Receipt.{Receipt}
 use Rattle.heap_lock.specs.declared.entry.Role.{Role}
-use Rattle.heap_lock.specs.Audits.{Audits}
+use Rattle.heap_lock.specs.declared.audits.Verdict.{Verdict}
+use Rattle.heap_lock.specs.Audits.{IsVerdict}
+use Rattle.heap_lock.specs.Chronicles.{dropped_of}
 use Rattle.heap_lock.specs.History.{opening, IsLegalHistory}
 use Rattle.heap_lock.specs.LockStates.{Chair, Stands, IsNoEntry, with_entry}
 use Rattle.heap_lock.specs.Roles.{may}
@@ -60,8 +62,9 @@ abbrev pub end_claims : MarkEnd → List (Action × Receipt)
 end_claims (Finished r) = (Step Events.Finish, r) ∷ []
 end_claims end = []
 
--- the answer of an audit: whether the claims stand in some legal history
-abbrev pub IsAudited : HeapSettings → List (Action × Receipt) → Bool → Type 0
-IsAudited config claims stands =
-    (history : List Entry) × IsLegalHistory config.keep (opening config) history
-    × (IsTrue stands ↔ Audits history 0 claims)
+-- the verdict on claims over some legal history, whose oldest entries may have been dropped
+abbrev pub IsAudited : HeapSettings → List (Action × Receipt) → Verdict → Type 0
+IsAudited config claims verdict =
+    (history : List Entry) × (rolls : Bool)
+    × IsLegalHistory config.keep (opening config) history
+    × IsVerdict (dropped_of rolls (length history)) history claims verdict

@@ -11,7 +11,7 @@ ghost use Rattle.heap.specs.Actors.{end_claims, IsAudited, IsClaimed, IsDenied, 
 use crate::audits::{Claim, audit_claims};
 use crate::copies::step_of;
 use heap_class::Refusal;
-use heap_lock::{Heap, Outcome, Receipt, Role, Seat, Shared};
+use heap_lock::{Heap, Outcome, Receipt, Role, Seat, Shared, Verdict};
 use heap_step::{Answer, Event};
 use heap_trail::Action;
 use heap_work::{Gate, MarkEnd, SweepEnd, mark_worker, sweep_worker};
@@ -192,7 +192,7 @@ impl<'a, L: Heap, R: Wait> Actor<'a, L, R> {
     }
 
     /// Returns whether all claims stand in the history, as `audit_claims` says. May wait.
-    pub fn audit(&self) -> bool
+    pub fn audit(&self) -> Verdict
         ensures { IsAudited L.config self.now.claims result }
     {
         audit_claims(self.rt, self.shared, self.claims())

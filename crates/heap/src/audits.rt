@@ -1,7 +1,7 @@
 //! Audits of claims, under the lock.
 ghost use Rattle.heap.specs.Actors.{IsAudited};
 
-use heap_lock::{Heap, Receipt, Shared, audit};
+use heap_lock::{Heap, Receipt, Shared, Verdict, audit};
 use heap_trail::Action;
 use std::sync::Wait;
 
@@ -9,8 +9,9 @@ use std::sync::Wait;
 pub type Claim = (Action, Receipt);
 
 /// Returns whether the claims stand in the history, in this order: the turns of their receipts rise, and each names an entry with
-/// its seat, its action and its answer. Takes no memory. May wait.
-pub fn audit_claims<L: Heap, R: Wait>(rt: &R, shared: &Shared<L>, claims: &[Claim]) -> bool
+/// its seat, its action and its answer; or that nothing can be said of some, whose entries were dropped. Takes no memory. May
+/// wait.
+pub fn audit_claims<L: Heap, R: Wait>(rt: &R, shared: &Shared<L>, claims: &[Claim]) -> Verdict
     ensures { IsAudited L.config claims.now result }
 {
     let kept = shared.lock(rt);

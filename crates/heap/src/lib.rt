@@ -23,7 +23,9 @@ pub use dump_meter::{AskSeat, FeedSeat, Meter, NewMeter, OutSeat, ReadSeat};
 pub use dump_pump::{Outlet, Pumped, WriteOutlet};
 pub use dumps::{DumpWatcher, Dumped, LastSeen, dump};
 pub use heap_class::{Field, Fields, Kind, Name, Refusal};
-pub use heap_lock::{Blank, Heap, Outcome, Receipt, Role, Seat, Seats, Shared, Witness, audit};
+pub use heap_lock::{
+    Blank, Heap, Outcome, Receipt, Role, Seat, Seats, Shared, Verdict, Witness, audit,
+};
 pub use heap_step::{Answer, Event};
 pub use heap_trail::{Action, Machine};
 pub use heap_work::{Gate, MarkEnd, Open, SweepEnd, mark_worker, sweep_worker};

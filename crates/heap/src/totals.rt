@@ -1,11 +1,12 @@
 //! What several actors did, by their claims.
-ghost use Rattle.std.specs.Prelude.{◌≡◌, true, false, count_by, All, Contains, IfSome, IfNone};
+ghost use Rattle.std.specs.Prelude.{◌≡◌, ◌≢◌, count_by, All, Contains, IfErr, IfOk};
+ghost use Rattle.heap_lock.specs.declared.audits.Verdict.TheVariants.{Holds};
 ghost use Rattle.heap.specs.Actors.{IsAudited};
 ghost use Rattle.heap.specs.Totals.{IsTotal, is_finishing, is_making};
 
 use crate::actor::Actor;
 use crate::audits::Claim;
-use heap_lock::{Heap, Outcome};
+use heap_lock::{Heap, Outcome, Verdict};
 use heap_step::Event;
 use heap_trail::Action;
 use std::sync::Wait;
@@ -69,27 +70,28 @@ fn count_finished(claims: &[Claim]) -> usize
     finished
 }
 
-/// Returns what the actors did, or None if a claim of one of them doesn't stand in the history, as `Actor::audit` says. Takes no
-/// memory. May wait.
-pub fn audit_all<L: Heap, R: Wait>(actors: &[Actor<'_, L, R>]) -> Option<Totals>
-    ensures totals { IfSome result (IsTotal actors.now) }
-    ensures stand { IfSome result (λ _. All (λ a. IsAudited L.config a.claims true) actors.now) }
-    ensures none { IfNone result
-        ((a : _) × Contains actors.now a × IsAudited L.config a.claims false) }
+/// Returns what the actors did if all claims of each of them stand in the history, as `Actor::audit` says. Fails with the first
+/// other verdict. Takes no memory. May wait.
+pub fn audit_all<L: Heap, R: Wait>(actors: &[Actor<'_, L, R>]) -> Result<Totals, Verdict>
+    ensures totals { IfOk result (IsTotal actors.now) }
+    ensures stand { IfOk result (λ _. All (λ a. IsAudited L.config a.claims Holds) actors.now) }
+    ensures refused { IfErr result
+        (λ v. (v ≢ Holds) × (a : _) × Contains actors.now a × IsAudited L.config a.claims v) }
 {
     let mut claims = 0usize;
     let mut made = 0usize;
     let mut finished = 0usize;
     for actor in actors {
-        if !actor.audit() {
-            return None;
+        let verdict = actor.audit();
+        if verdict != Verdict::Holds {
+            return Err(verdict);
         }
         let own = actor.claims();
         claims = claims.saturating_add(own.len());
         made = made.saturating_add(count_made(own));
         finished = finished.saturating_add(count_finished(own));
     }
-    Some(Totals {
+    Ok(Totals {
         claims,
         made,
         finished,

@@ -1,11 +1,11 @@
 -- A ledger with a call more.
-use Rattle.std.proofs.Common.{◌≡◌, ℕ, Bool, true, false, List, [], ◌∷◌, ◌++◌, map, filter, append-nil, refl, sym, ap, ◌∙◌, subst}
+use Rattle.std.proofs.Common.{◌≡◌, Bool, true, false, List, [], ◌∷◌, ◌++◌, map, filter, append-nil, refl, sym, ap, ◌∙◌, subst}
 use Rattle.std.specs.Prelude.{not, if◌then◌else◌}
 use Rattle.std.proofs.lemmas.List.Elements.{filter-append}
 use Rattle.heap_world.specs.Limits.{HeapSettings}
 use Rattle.heap_trail.specs.declared.Action.{Action}
 use Rattle.heap_trail.specs.declared.Reply.{Reply}
-use Rattle.heap_trail.specs.Machine.{Machine, Allocation, MayStand, AreAllocations, MayDrive, MayReply, opening_machine, acted_under, machine_after, replies_of, is_dump_action}
+use Rattle.heap_trail.specs.Machine.{Machine, MayStand, AreAllocations, MayDrive, MayReply, opening_machine, acted_under, machine_after, replies_of, is_dump_action}
 use Rattle.heap_trail.proofs.ActionLists.{driven_none, driven_more}
 use Rattle.heap_lock.specs.declared.entry.Entry.{Entry}
 use Rattle.heap_lock.specs.History.{reply_of}

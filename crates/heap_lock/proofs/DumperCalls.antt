@@ -16,7 +16,8 @@ use Rattle.heap_lock.specs.Calls.{Call, call_of, IsLedger, IsLegalLedger, Witnes
 use Rattle.heap_lock.specs.History.{reply_of}
 use Rattle.heap_lock.specs.Sights.{calls_of}
 use Rattle.heap_lock.specs.Ledgers.{table_of, all_in, HasCalls, HasLedger, CallsAs}
-use Rattle.heap_lock.specs.LockStates.{LockState, IsDumperAct, IsUnderLock}
+use Rattle.heap_lock.specs.Chronicles.{ChronicleState}
+use Rattle.heap_lock.specs.LockStates.{LockState, IsDumperAct, IsUnderLock, lock_state}
 use Rattle.heap_lock.proofs.CallLists.{acted_more, dumped_more}
 
 done_moves : (m m' : Machine) (a : Action) (r : Reply) → acted m a ≡ (m', r) → MayReply m a m' r
@@ -64,13 +65,13 @@ dumped_has config table m m' es l l' c has dump may as' =
     let more : IsLedger config m' es (all_in l ++ c ∷ []) = dumped_more config m m' es (all_in l) c has.1 dump may in
     gained config table m' es l l' (all_in l ++ c ∷ []) has.0 more as'
 
-pub dumped_done : {A : Type 0} (k : LockState) (m m' : Machine) (es : List Entry) (l l' : Ledger) (a : Action) (reply : A → Reply) (r : Result A Refusal)
-    → record { machine = m; chronicle = es; ledger = all_in l } ≡ k → MayReply m a m' (replied reply r) → CallsAs l l' (all_in l ++ (a, replied reply r) ∷ [])
-    → IfOk r (λ p. IsDumperAct a k (reply p) (record { machine = m'; chronicle = es; ledger = all_in l' })) × IfErr r (λ e. IsDumperAct a k (Refused e) (record { machine = m'; chronicle = es; ledger = all_in l' }))
-dumped_done k m m' es l l' a reply (Ok p) was may as' =
-    (subst (λ (h : LockState). IsDumperAct a h (reply p) (record { machine = m'; chronicle = es; ledger = all_in l' })) was (may, refl, all_as l l' _ as'), tt)
-dumped_done k m m' es l l' a reply (Err e) was may as' =
-    (tt, subst (λ (h : LockState). IsDumperAct a h (Refused e) (record { machine = m'; chronicle = es; ledger = all_in l' })) was (may, refl, all_as l l' _ as'))
+pub dumped_done : {A : Type 0} (k : LockState) (m m' : Machine) (ch : ChronicleState) (l l' : Ledger) (a : Action) (reply : A → Reply) (r : Result A Refusal)
+    → lock_state m ch (all_in l) ≡ k → MayReply m a m' (replied reply r) → CallsAs l l' (all_in l ++ (a, replied reply r) ∷ [])
+    → IfOk r (λ p. IsDumperAct a k (reply p) (lock_state m' ch (all_in l'))) × IfErr r (λ e. IsDumperAct a k (Refused e) (lock_state m' ch (all_in l')))
+dumped_done k m m' ch l l' a reply (Ok p) was may as' =
+    (subst (λ (h : LockState). IsDumperAct a h (reply p) (lock_state m' ch (all_in l'))) was (may, refl, all_as l l' _ as', refl), tt)
+dumped_done k m m' ch l l' a reply (Err e) was may as' =
+    (tt, subst (λ (h : LockState). IsDumperAct a h (Refused e) (lock_state m' ch (all_in l'))) was (may, refl, all_as l l' _ as', refl))
 
 -- a call that takes no memory
 pub plainly : {A : Type 0} (m m' : Machine) (a : Action) (r : Result A Refusal) → IfErr r (λ e. acted m a ≡ (m', Refused e)) → IfErr r (λ e. MayFail m a m' e)

@@ -75,7 +75,7 @@ pub desk_of : (config : HeapSettings) (tables : List TableId) (m : Machine) (es 
 desk_of config tables m es desks n d k lt is = k.booked n d (at_index desks n d (omega (arith, k.count, lt)) is)
 
 -- a machine under a chronicle that isn't full isn't at the last place
-pub not_last : (config : HeapSettings) (tables : List TableId) (m : Machine) (es : List Entry) (desks : List Desk) → IsUnderLock config tables m es desks → length es < 1000000 → m.trail.place < last_place
+pub not_last : (config : HeapSettings) (tables : List TableId) (m : Machine) (es : List Entry) (desks : List Desk) → IsUnderLock config tables m es desks → length es < last_place → m.trail.place < last_place
 not_last config tables m es desks k lt = omega (arith, place_within config.keep (opening config) es, ap (λ (t : Trail). t.place) k.folds, lt)
 
 -- an entry with the machine's reply is due

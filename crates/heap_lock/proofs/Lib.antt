@@ -1,6 +1,8 @@
 pub mod Parts
 pub mod Spare
 pub mod Places
+pub mod Rolls
+pub mod AuditLaws
 pub mod Plain
 pub mod Histories
 pub mod SeatedHeaps

@@ -1,12 +1,11 @@
 -- The numbers of open pins stay below the next one.
-use Rattle.std.proofs.Common.{◌≡◌, ℕ, ◌+◌, ◌<◌, Bool, true, false, List, [], ◌∷◌, ◌++◌, map, refl, sym, ap, subst, arith, Option, Some, None}
-use Rattle.std.specs.Prelude.{All, filter, nat_le, nat_lt, not, unwrap_or, length, ◌==◌, if◌then◌else◌}
+use Rattle.std.proofs.Common.{ℕ, ◌+◌, ◌<◌, Bool, true, false, List, [], ◌∷◌, map, sym, subst, arith, Option, Some, None}
+use Rattle.std.specs.Prelude.{All, nat_le, nat_lt, not, unwrap_or, length, ◌==◌, if◌then◌else◌}
 use Rattle.std.specs.List.{list_any}
 use Rattle.std.proofs.lemmas.List.Elements.{All-nil, All-cons, All-head, All-tail, All-append, All-filter}
 use Rattle.heap_class.specs.declared.IdSize.{IdSize}
 use Rattle.heap_class.specs.declared.LostCause.TheVariants.{Rewound, Memory}
 use Rattle.heap_class.specs.declared.Refusal.{Refusal}
-use Rattle.heap_step.specs.declared.Event.{Event}
 use Rattle.hprof_text.specs.Image.{Image}
 use Rattle.hprof_text.specs.Segments.{pieces_of}
 use Rattle.heap_trail.specs.declared.Action.{Action}
@@ -14,7 +13,7 @@ use Rattle.heap_trail.specs.declared.Action.TheVariants.{Step, Rewind, OpenPin, 
 use Rattle.heap_trail.specs.Limits.{last_place}
 use Rattle.heap_trail.specs.Trail.{rewind_refusal, rewound}
 use Rattle.heap_trail.specs.Pins.{Pins, PinState, Kept, Gone, AreNumbered, pin_at, open_refusal, with_pin, without_pin, if_kept, each_kept, with_piece_given, after_rewind, with_lost}
-use Rattle.heap_trail.specs.Machine.{Machine, Allocation, Granted, Denied, LosesPins, opening_machine, after_step_at, unless, after_rewind_by, after_open, counted, after_piece, after_close, acted, acted_under, machine_after}
+use Rattle.heap_trail.specs.Machine.{Machine, Allocation, Granted, Denied, LosesPins, opening_machine, unless, after_rewind_by, after_open, counted, after_piece, after_close, acted, acted_under, machine_after}
 use Rattle.heap_trail.proofs.Images.{step_same}
 
 -- ---- the list of pins

@@ -1,5 +1,5 @@
 -- What a pin gives to all callers together is the text of its state.
-use Rattle.std.proofs.Common.{◌≡◌, ℕ, Bool, true, false, List, [], ◌∷◌, ◌++◌, map, append-nil, append_assoc, refl, sym, ap, ◌∙◌, subst, Option, Some}
+use Rattle.std.proofs.Common.{◌≡◌, ℕ, Bool, true, false, List, [], ◌∷◌, ◌++◌, map, append-nil, append_assoc, refl, sym, ap, ◌∙◌, subst, Option}
 use Rattle.std.specs.Prelude.{◌==◌, ◌&&◌, ◌||◌, ◌-◌, if◌then◌else◌}
 use Rattle.std.specs.List.{list_any}
 use Rattle.std.proofs.lemmas.List.Folds.{list_any-append}
@@ -15,15 +15,14 @@ use Rattle.heap_trail.specs.declared.Reply.{Reply}
 use Rattle.heap_trail.specs.declared.Reply.TheVariants.{Answered, Place, Pinned, Part, Closed, Refused}
 use Rattle.heap_trail.specs.Trail.{Trail, state_ago}
 use Rattle.heap_trail.specs.Pins.{AreNumbered}
-use Rattle.heap_trail.specs.Machine.{Machine, Allocation, Granted, Denied, LosesPins, MayReply, acted, acted_under, may_overwrite, opening_machine, machine_after, replies_of}
+use Rattle.heap_trail.specs.Machine.{Machine, Allocation, Granted, Denied, LosesPins, MayReply, acted, acted_under, may_overwrite, opening_machine, replies_of}
 use Rattle.heap_trail.specs.Laws.{AskAt, AsksAt, piece_given, last_given, bytes_given, gave_last}
 use Rattle.heap_trail.proofs.ByTrail.{dumps_leave}
 use Rattle.heap_trail.proofs.GivenText.{gives_text}
 use Rattle.heap_trail.proofs.OpenedPins.{opens_pin}
 use Rattle.dump_pump.specs.Pumps.{joined}
 use Rattle.heap_lock.specs.Calls.{Call}
-use Rattle.heap_lock.specs.History.{opening}
-use Rattle.heap_lock.specs.Laws.{piece_replied, pieces_given, CallsAskAt, trail_by, GiveText}
+use Rattle.heap_lock.specs.Laws.{piece_replied, pieces_given, CallsAskAt, GiveText}
 use Rattle.heap_lock.proofs.CallLists.{Leads, leads_split, leads_head}
 use Rattle.heap_lock.proofs.NumberedPins.{numbered_after, opening_numbered}
 use Rattle.heap_lock.proofs.CallTrails.{trail_is}

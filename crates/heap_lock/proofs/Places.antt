@@ -1,4 +1,4 @@
--- A chronicle with an entry more.
+-- A block with an entry more.
 use Rattle.std.proofs.Common.{◌≡◌, ℕ, ◌<◌, ◌≤◌, zero, suc, Bool, true, false, List, [], ◌∷◌, ◌++◌, length, length-append, map, get_or, refl, sym, ap, subst, ◌∙◌, arith}
 use Rattle.std.specs.Prelude.{◌↔◌, IsTrue, Option, Some, None, if◌then◌else◌, slice_get, vec_len}
 use Rattle.std.specs.Option.{option_map}
@@ -11,7 +11,7 @@ use Rattle.std.proofs.lemmas.Option.{slice_get-map, slice_get_past, slice_get_re
 use Rattle.heap_lock.specs.declared.entry.Entry.{Entry}
 use Rattle.heap_lock.specs.declared.pack.Pack.{Pack}
 use Rattle.heap_lock.specs.Packs.{entry_by, entry_in, TellsEntry}
-use Rattle.heap_lock.specs.Chronicles.{HasPlace, AllPlaced, entries_in, room_in}
+use Rattle.heap_lock.specs.Blocks.{HasPlace, AllPlaced, entries_in, room_in}
 
 pub has_room : (whole : Vec Entry) (packs : Vec Pack) → 0 < room_in whole packs → (vec_len packs < vec_capacity packs) × (vec_len whole < vec_capacity whole)
 has_room whole packs h = (omega arith, omega arith)

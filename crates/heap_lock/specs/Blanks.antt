@@ -1,5 +1,5 @@
 -- What a heap is made of.
-use Rattle.std.specs.Prelude.{◌≡◌, ℕ, ◌+◌, List, [], ◌∷◌, map}
+use Rattle.std.specs.Prelude.{◌≡◌, ℕ, ◌+◌, Bool, List, [], ◌∷◌, map}
 use mathlib.Core.Option.{some}
 use lib.ListN.{get_elem?}
 use Rattle.atomic_table.specs.Seated.{TableId}
@@ -13,9 +13,11 @@ use Rattle.heap_lock.specs.declared.ledger.Ledger.{Ledger}
 use Rattle.heap_lock.specs.LockStates.{Chair, table_at, IsChair, IsDesk}
 use Rattle.heap_lock.specs.Ledgers.{HasCalls, table_of}
 
--- a heap that isn't open yet: its settings, the table of each seat and that of the ledger, and its seats
+-- a heap that isn't open yet: its settings, whether old entries are dropped in place of refusing new ones, the table of each seat
+-- and that of the ledger, and its seats
 pub record Maker : Type 0 where
   pub config : HeapSettings
+  pub rolls : Bool
   pub tables : List TableId
   pub ledger : TableId
   pub seats : List Chair

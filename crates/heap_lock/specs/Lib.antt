@@ -5,6 +5,7 @@ pub mod Calls
 pub mod Sights
 pub mod Ledgers
 pub mod Packs
+pub mod Blocks
 pub mod Chronicles
 pub mod Desks
 pub mod Roles

@@ -1,5 +1,5 @@
 -- What lies under the lock, what a seat has, and what an act does to both.
-use Rattle.std.specs.Prelude.{◌≡◌, ℕ, ◌+◌, ◌<◌, ◌≤◌, ◌⊎◌, List, [], ◌∷◌, ◌++◌, length, slice_index_or}
+use Rattle.std.specs.Prelude.{◌≡◌, ℕ, ◌+◌, ◌<◌, ◌≤◌, ◌⊎◌, Bool, List, [], ◌∷◌, ◌++◌, length, slice_index_or}
 use mathlib.Core.Option.{some}
 use lib.ListN.{get_elem?}
 use Rattle.atomic_table.specs.Seated.{TableId}
@@ -17,7 +17,8 @@ use Rattle.heap_lock.specs.declared.entry.Receipt.{Receipt}
 use Rattle.heap_lock.specs.declared.entry.Role.{Role}
 use Rattle.heap_lock.specs.declared.view.SeatView.{SeatView}
 use Rattle.heap_lock.specs.declared.view.SeatView.TheVariants.{Book, Share}
-use Rattle.heap_lock.specs.Limits.{chronicle_limit}
+use Rattle.heap_lock.specs.Limits.{entry_limit}
+use Rattle.heap_lock.specs.Chronicles.{ChronicleState}
 use Rattle.heap_lock.specs.History.{entry, reply_of, opening, trail_after, IsDue, IsLegalHistory, history_trail, tally}
 use Rattle.heap_lock.specs.Tally.{tally_in}
 use Rattle.heap_lock.specs.Calls.{Call}
@@ -28,11 +29,23 @@ pub record Chair : Type 0 where
   pub role : Role
   pub share : List (ℕ × Entry)
 
--- what lies under the lock, and all calls, of which no code stores the list
+-- what lies under the lock: the machine, all entries, whether old ones are dropped in place of refusing new ones, and all calls,
+-- of which no code stores the list
 pub record LockState : Type 0 where
   pub machine : Machine
   pub chronicle : List Entry
+  pub rolls : Bool
   pub ledger : List Call
+
+-- this machine, this chronicle and these calls
+abbrev pub lock_state : Machine → ChronicleState → List Call → LockState
+lock_state m c calls =
+    record {
+      machine = m;
+      chronicle = c.entries;
+      rolls = c.rolls;
+      ledger = calls;
+    }
 
 -- each entry names one of n seats
 abbrev pub AllSeated : ℕ → List Entry → Type 0
@@ -102,8 +115,9 @@ abbrev pub IsAct : Action → LockState → Chair → Receipt → LockState → 
 IsAct action k s r k' s' =
     (k'.chronicle ≡ k.chronicle ++ entry s.number action r.answer ∷ [])
     × (k'.ledger ≡ k.ledger ++ (action, reply_of r.answer) ∷ [])
-    × (length k.chronicle < chronicle_limit) × (r.seat ≡ s.number) × (r.turn ≡ length k'.chronicle)
-    × (s' ≡ with_entry r.turn action r.answer s)
+    × (length k.chronicle < entry_limit k.rolls) × (r.seat ≡ s.number)
+    × (r.turn ≡ length k'.chronicle) × (s' ≡ with_entry r.turn action r.answer s)
+    × (k'.rolls ≡ k.rolls)
 
 -- what the receipt of an act says of its seat
 abbrev pub IsReceived : Action → Chair → Receipt → Chair → Type 0
@@ -116,8 +130,8 @@ IsNoEntry e = (e ≡ NoMemory) ⊎ (e ≡ ChronicleFull)
 -- which of the two it is tells whether the chronicle is full
 abbrev pub IsRefused : LockState → Refusal → Type 0
 IsRefused k e =
-    ((e ≡ NoMemory) × (length k.chronicle < chronicle_limit))
-    ⊎ ((e ≡ ChronicleFull) × (chronicle_limit ≤ length k.chronicle))
+    ((e ≡ NoMemory) × (length k.chronicle < entry_limit k.rolls))
+    ⊎ ((e ≡ ChronicleFull) × (entry_limit k.rolls ≤ length k.chronicle))
 
 -- some legal history of `turn` turns ends with this entry, and has of the seat just the share
 abbrev pub Stands : HeapSettings → Chair → ℕ → Action → Outcome → Type 0
@@ -132,4 +146,4 @@ Stands config s turn action answer =
 abbrev pub IsDumperAct : Action → LockState → Reply → LockState → Type 0
 IsDumperAct action k r k' =
     MayReply k.machine action k'.machine r × (k'.chronicle ≡ k.chronicle)
-    × (k'.ledger ≡ k.ledger ++ (action, r) ∷ [])
+    × (k'.ledger ≡ k.ledger ++ (action, r) ∷ []) × (k'.rolls ≡ k.rolls)

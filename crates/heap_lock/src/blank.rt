@@ -1,5 +1,5 @@
 //! A heap before it is opened.
-ghost use Rattle.std.specs.Prelude.{◌≡◌, ◌∷◌, ◌≤◌, [], map, length, IfOk, IfErr, IfSome, IfNone};
+ghost use Rattle.std.specs.Prelude.{◌≡◌, ◌∷◌, ◌≤◌, [], false, map, length, IfOk, IfErr, IfSome, IfNone};
 ghost use Rattle.heap_class.specs.declared.Refusal.TheVariants.{NoMemory};
 ghost use Rattle.heap_lock.specs.Limits.{seat_limit};
 ghost use Rattle.heap_lock.specs.Blanks.{chairs, chair_of, tables_of, AllFresh, AllStubs};
@@ -25,6 +25,7 @@ pub struct Blank {
     desks: Vec<Desk>,
     stubs: Vec<Stub>,
     ledger: Ledger,
+    rolls: bool,
     alloc: Global,
 }
 
@@ -38,6 +39,7 @@ impl Model for Blank {
     ghost view = { λ b.
         record {
           config = b.config;
+          rolls = b.rolls;
           tables = tables_of b.desks.items;
           ledger = table_of b.ledger;
           seats = map chair_of b.stubs.items;
@@ -108,6 +110,7 @@ impl Blank {
     pub fn new(alloc: Global, config: Config, roles: &[Role]) -> Result<Blank, Refusal>
         requires { (1 ≤ length roles.now) × (length roles.now ≤ seat_limit) }
         ensures settings { IfOk result (λ b. b.config ≡ config) }
+        ensures rolls { IfOk result (λ b. b.rolls ≡ false) }
         ensures seats { IfOk result (λ b. b.seats ≡ chairs 0 roles.now) }
         ensures tables { IfOk result (λ b. length b.tables ≡ length roles.now) }
         ensures refused { IfErr result (λ e. e ≡ NoMemory) }
@@ -125,8 +128,17 @@ impl Blank {
             desks,
             stubs,
             ledger,
+            rolls: false,
             alloc,
         })
+    }
+
+    /// Sets whether the chronicle, once 1,000,000 entries are kept, drops the oldest ones in place of refusing new ones. It
+    /// refuses new ones if this isn't called. Takes no memory.
+    pub fn set_rolls(&mut self, rolls: bool)
+        ensures { self.new ≡ record self.old { rolls = rolls } }
+    {
+        self.rolls = rolls;
     }
 
     /// Returns the heap under its lock, and its seats in order. Takes no memory.
@@ -140,9 +152,10 @@ impl Blank {
             desks,
             stubs,
             ledger,
+            rolls,
             alloc,
         } = self;
-        let kept = Kept::of(machine, Chronicle::new(alloc), desks, ledger);
+        let kept = Kept::of(machine, Chronicle::new(alloc, rolls), desks, ledger);
         let stubs = VecDeque::from_vec(stubs);
         (
             Shared::of(config, kept),

@@ -1,171 +1,188 @@
 //! What was done, in order.
-ghost use Rattle.std.specs.Prelude.{◌≡◌, ◌↔◌, ◌<◌, ◌++◌, ◌∷◌, [], true, length, slice_get, Some, IsTrue, OnOk};
-ghost use Rattle.heap_lock.specs.Chronicles.{HasPlace};
+ghost use Rattle.std.specs.Prelude.{◌≡◌, ◌↔◌, ◌<◌, ◌≤◌, ◌++◌, ◌∷◌, Bool, List, [], length, slice_get, Some, IfNone, IfSome, IsTrue, MatchBool, OnOk};
+ghost use Rattle.heap_trail.specs.Limits.{last_place};
+ghost use Rattle.heap_lock.specs.declared.entry.Entry.{Entry};
+ghost use Rattle.heap_lock.specs.Chronicles.{HaveWay, IsChronicle, dropped_of, room_of};
 ghost use Rattle.heap_lock.specs.History.{entry};
-ghost use Rattle.heap_lock.specs.Packs.{entry_by, entry_in, TellsEntry};
+ghost use Rattle.heap_lock.specs.Limits.{block_limit, entry_limit};
 
+use crate::block::EntryBlock;
 use crate::entry::{Entry, Outcome};
-use crate::pack::{Deed, Pack, Told};
-use crate::packing::pack_of;
-use crate::same::{is_same_action, is_same_answer};
-use crate::unpacking::{action_in, outcome_in};
-use heap_class::Kind;
 use heap_trail::Action;
+use http_server::Log;
 use std::alloc::{AllocError, Global};
 use std::marker::Model;
+use std::mem::swap;
 
-/// What was done, in order, an entry for each act. Contracts see the entries, and how many more it has room for. An entry
-/// takes 48 bytes. One that defines a class or an array class takes 120 more and those of its names.
+/// Entries of a chronicle that are kept at most.
+pub const CHRONICLE_LIMIT: usize = 1_000_000;
+
+// Entries that are dropped together.
+const BLOCK_LIMIT: usize = 500_000;
+
+// Entries of a chronicle that drops old ones at most: 2^62.
+const LAST_ENTRY: usize = 0x4000_0000_0000_0000;
+
+/// What was done, in order, an entry for each act. Once 1,000,000 entries are kept it takes no more, or, if it rolls, the next
+/// one has it drop the oldest 500,000. Contracts see all entries, dropped ones included, whether it rolls, and how many entries
+/// more it has room for. An entry takes 48 bytes. One that defines a class or an array class takes 120 more
+/// and those of its names.
 #[derive(Drop)]
 pub struct Chronicle {
-    packs: Vec<Pack>,
-    whole: Vec<Entry>,
+    older: EntryBlock,
+    // The entries after those of `older`.
+    newer: EntryBlock,
+    // The number of the entries before those of `older`.
+    dropped: usize,
+    rolls: bool,
+    // All entries, for contracts alone.
+    noted: Log<Entry, ()>,
 }
 
 impl Model for Chronicle {
-    ghost use Rattle.std.specs.Prelude.{length};
-    ghost use Rattle.heap_lock.specs.Chronicles.{ChronicleState, AllPlaced, entries_in, room_in};
+    ghost use Rattle.heap_lock.specs.Chronicles.{ChronicleState, IsChronicle, entries_of, room_of};
 
     ghost Value = { ChronicleState };
 
     ghost view = { λ c.
         record {
-          entries = entries_in c.whole.items c.packs.items;
-          room = room_in c.whole c.packs;
+          entries = entries_of c.noted.items;
+          rolls = c.rolls;
+          room = room_of c.older c.newer;
         } };
 
-    ghost invariant = { λ c. AllPlaced (length c.whole.items) c.packs.items };
+    ghost invariant = { λ c. IsChronicle c.older.entries c.newer.entries c.dropped c.rolls
+        (entries_of c.noted.items) };
 }
 
-// Returns a pack that has the place of a whole entry.
-fn pack_at(place: u64) -> Pack
-    ensures { (result.is_whole ≡ true) × (result.first ≡ place) }
+// Drops the entries of the older block, which is the newer one then. Returns how many they were.
+#[inline(never)]
+fn roll(older: &mut EntryBlock, newer: &mut EntryBlock) -> usize
+    ensures older { older.new.entries ≡ newer.old.entries }
+    ensures newer { newer.new.entries ≡ [] }
+    ensures room { older.old.room ≤ newer.new.room }
+    ensures dropped { result ≡ length older.old.entries }
 {
-    Pack {
-        first: place,
-        second: 0,
-        third: 0,
-        fourth: 0,
-        told_first: 0,
-        seat: 0,
-        is_whole: true,
-        deed: Deed::Snap,
-        kind: Kind::Object,
-        told: Told::Done,
-        reason: 0,
-    }
+    let dropped = older.len();
+    older.clear();
+    swap(older, newer);
+    dropped
 }
 
-// Returns whether this is the entry of the seat, the action and the answer.
-fn is_of(at: &Entry, seat: u64, action: &Action, answer: Outcome) -> bool
-    ensures { IsTrue result ↔ (at.now ≡ entry seat action.now answer) }
+// Makes way for one more entry in the newer of two blocks, before which `dropped` entries were dropped. Returns how many are
+// dropped then.
+#[inline(always)]
+fn make_way(older: &mut EntryBlock, newer: &mut EntryBlock, dropped: usize) -> usize
+    requires dropped { dropped ≤ last_place }
+    requires older { length older.old.entries ≤ block_limit }
+    ensures kept { (rolls : Bool) (es : List Entry)
+        → IsChronicle older.old.entries newer.old.entries dropped rolls es
+        → length es < entry_limit rolls → HaveWay older.new newer.new result rolls es }
+    ensures room { room_of older.old newer.old ≤ newer.new.room }
 {
-    at.seat == seat && is_same_action(&at.action, action) && is_same_answer(at.answer, answer)
-}
-
-// Returns the entry that a pack tells by its numbers.
-#[tactic(auto, unfolding(crate::specs::Packs::entry_by))]
-fn unpack(pack: &Pack) -> Entry
-    ensures { result ≡ entry_by pack.now }
-{
-    Entry {
-        seat: pack.seat as u64,
-        action: action_in(
-            pack.deed,
-            pack.kind,
-            pack.first,
-            pack.second,
-            pack.third,
-            pack.fourth,
-        ),
-        answer: outcome_in(pack.told, pack.reason, pack.told_first, pack.fourth),
-    }
-}
-
-// Returns whether the pack tells the entry of the seat, the action and the answer.
-fn tells(whole: &[Entry], pack: &Pack, seat: u64, action: &Action, answer: Outcome) -> bool
-    requires { HasPlace (length whole.now) pack.now }
-    ensures { IsTrue result ↔ (entry_in whole.now pack.now ≡ entry seat action.now answer) }
-{
-    if pack.is_whole {
-        is_of(&whole[pack.first as usize], seat, action, answer)
+    if newer.len() == BLOCK_LIMIT {
+        dropped + roll(older, newer)
     } else {
-        is_of(&unpack(pack), seat, action, answer)
+        dropped
     }
 }
 
 impl Chronicle {
-    /// Creates a chronicle without entries. Takes no memory.
-    #[tactic(auto, unfolding(crate::specs::Chronicles::entries_in))]
-    pub fn new(alloc: Global) -> Chronicle
-        ensures { result.entries ≡ [] }
+    /// Creates a chronicle without entries, which drops old ones or refuses new ones. Takes no memory.
+    #[tactic(auto, unfolding(crate::specs::Chronicles::entries_of))]
+    pub fn new(alloc: Global, rolls: bool) -> Chronicle
+        ensures entries { result.entries ≡ [] }
+        ensures rolls { result.rolls ≡ rolls }
     {
         Chronicle {
-            packs: Vec::new(alloc),
-            whole: Vec::new(alloc),
+            older: EntryBlock::new(alloc),
+            newer: EntryBlock::new(alloc),
+            dropped: 0,
+            rolls,
+            noted: Log::new(),
         }
     }
 
-    /// Returns how many entries there are.
-    #[tactic(auto, unfolding(crate::specs::Chronicles::entries_in))]
+    /// Returns how many entries there are, dropped ones included.
     pub fn len(&self) -> usize
         ensures { result ≡ length self.now.entries }
     {
-        self.packs.len()
+        self.dropped + self.older.len() + self.newer.len()
+    }
+
+    /// Returns how many of the first entries were dropped.
+    pub fn dropped(&self) -> usize
+        ensures { result ≡ dropped_of self.now.rolls (length self.now.entries) }
+    {
+        self.dropped
+    }
+
+    /// Tells whether it drops old entries in place of refusing new ones.
+    pub fn rolls(&self) -> bool
+        ensures { result ≡ self.now.rolls }
+    {
+        self.rolls
+    }
+
+    /// Tells whether it takes no more entries: if there are 1,000,000, or 2^62 if it rolls.
+    #[inline(always)]
+    pub fn is_full(&self) -> bool
+        ensures { MatchBool result (entry_limit self.now.rolls ≤ length self.now.entries)
+            (length self.now.entries < entry_limit self.now.rolls) }
+    {
+        let most = if self.rolls {
+            LAST_ENTRY
+        } else {
+            CHRONICLE_LIMIT
+        };
+        self.len() >= most
     }
 
     /// Makes room for one more entry. Fails with AllocError if it finds no memory; the entries stay in either case.
     pub fn reserve(&mut self) -> Result<(), AllocError>
-        ensures entries { self.new.entries ≡ self.old.entries }
+        ensures entries { self.new ≡ record self.old { room = self.new.room } }
         ensures room { OnOk result (0 < self.new.room) }
     {
-        self.packs.reserve(1)?;
-        self.whole.reserve(1)
+        if self.newer.len() == BLOCK_LIMIT {
+            self.older.reserve()
+        } else {
+            self.newer.reserve()
+        }
     }
 
-    // Appends a pack, which tells this entry by its numbers.
-    #[inline(always)]
-    fn push_pack(&mut self, pack: Pack, entry: &Entry)
-        requires room { 0 < self.old.room }
-        requires tells { TellsEntry pack entry.now }
-        ensures { self.new.entries ≡ self.old.entries ++ entry.now ∷ [] }
-    {
-        let _ = entry;
-        self.packs.push_reserved(pack);
-    }
-
-    // Appends an entry to the whole ones, and a pack with its place.
-    fn push_whole(&mut self, entry: Entry)
-        requires { 0 < self.old.room }
-        ensures { self.new.entries ≡ self.old.entries ++ entry ∷ [] }
-    {
-        let place = self.whole.len() as u64;
-        self.packs.push_reserved(pack_at(place));
-        self.whole.push_reserved(entry);
-    }
-
-    /// Appends an entry, for which there has to be room. Takes no memory.
+    /// Appends an entry, for which there has to be room. Drops the oldest 500,000 entries if 1,000,000 are kept. Takes no
+    /// memory.
     #[inline(always)]
     pub fn push(&mut self, entry: Entry)
-        requires { 0 < self.old.room }
-        ensures { self.new.entries ≡ self.old.entries ++ entry ∷ [] }
+        requires room { 0 < self.old.room }
+        requires more { length self.old.entries < entry_limit self.old.rolls }
+        ensures entries { self.new.entries ≡ self.old.entries ++ entry ∷ [] }
+        ensures rolls { self.new.rolls ≡ self.old.rolls }
     {
-        match pack_of(&entry) {
-            Some(pack) => self.push_pack(pack, &entry),
-            None => self.push_whole(entry),
-        }
+        self.dropped = make_way(&mut self.older, &mut self.newer, self.dropped);
+        self.noted = self.noted.and(&entry, &());
+        self.newer.push(entry);
     }
 
-    /// Returns whether the entry at an index is that of the seat, the action and the answer. Returns false if there is none at
-    /// the index. Takes no memory.
-    pub fn is_done(&self, at: usize, seat: u64, action: &Action, answer: Outcome) -> bool
-        ensures { IsTrue result ↔
-            (slice_get self.now.entries at ≡ Some (entry seat action.now answer)) }
+    /// Returns whether the entry at an index is that of the seat, the action and the answer, or None if the entry at the index
+    /// was dropped. Returns false if there is none at the index. Takes no memory.
+    pub fn is_done(&self, at: usize, seat: u64, action: &Action, answer: Outcome) -> Option<bool>
+        ensures kept { IfSome result
+            (λ b. (dropped_of self.now.rolls (length self.now.entries) ≤ at)
+            × (IsTrue b ↔
+            (slice_get self.now.entries at ≡ Some (entry seat action.now answer)))) }
+        ensures dropped { IfNone result
+            (at < dropped_of self.now.rolls (length self.now.entries)) }
     {
-        if at >= self.packs.len() {
-            return false;
+        if at < self.dropped {
+            return None;
         }
-        let pack = &self.packs[at];
-        tells(self.whole.as_slice(), pack, seat, action, answer)
+        let kept = at - self.dropped;
+        let older = self.older.len();
+        if kept < older {
+            Some(self.older.is_done(kept, seat, action, answer))
+        } else {
+            Some(self.newer.is_done(kept - older, seat, action, answer))
+        }
     }
 }

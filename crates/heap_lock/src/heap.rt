@@ -10,7 +10,7 @@ ghost use Rattle.heap_lock.specs.History.{opening, Enters, IsLegalHistory};
 ghost use Rattle.heap_lock.specs.Blanks.{chair_of};
 ghost use Rattle.heap_lock.specs.Roles.{is_of_mutator, is_of_marker, is_of_sweeper, may};
 ghost use Rattle.heap_lock.specs.Ledgers.{all_in, HasLedger};
-ghost use Rattle.heap_lock.specs.LockStates.{AllSeated, Folds, Stands, IsMoved, IsAct, IsReceived, IsRefused, IsNoEntry, IsChair, IsUnderLock};
+ghost use Rattle.heap_lock.specs.LockStates.{AllSeated, Folds, Stands, IsMoved, IsAct, IsReceived, IsRefused, IsNoEntry, IsChair, IsUnderLock, lock_state};
 
 use crate::chronicle::Chronicle;
 use crate::desk::Desk;
@@ -26,9 +26,6 @@ use heap_world::Config;
 use std::marker::{Brand, Model, PhantomData};
 use std::mem::replace;
 use std::sync::{Mutex, MutexGuard, Wait};
-
-/// Entries of a chronicle at most.
-pub const CHRONICLE_LIMIT: usize = 1_000_000;
 
 /// Which heap it is: what it was made with, the table of each seat's tally, and that of the ledger.
 pub trait Heap {
@@ -87,13 +84,13 @@ pub struct Kept<L: Heap> {
 }
 
 impl<L: Heap> Model for Kept<L> {
-    ghost use Rattle.heap_lock.specs.LockStates.{LockState, IsUnderLock};
+    ghost use Rattle.heap_lock.specs.LockStates.{LockState, IsUnderLock, lock_state};
     ghost use Rattle.heap_lock.specs.Ledgers.{all_in, HasLedger};
 
     ghost Value = { LockState };
 
     ghost view = { λ k.
-        record { machine = k.machine; chronicle = k.chronicle.entries; ledger = all_in k.ledger } };
+        lock_state k.machine k.chronicle (all_in k.ledger) };
 
     ghost invariant = { λ k. IsUnderLock L.config L.tables k.machine k.chronicle.entries
         k.desks.items × HasLedger L.config L.ledger k.machine k.chronicle.entries k.ledger };
@@ -223,8 +220,7 @@ impl<L: Heap> Kept<L> {
     ) -> Kept<L>
         requires kept { IsUnderLock L.config L.tables machine chronicle.entries desks.items }
         requires ledger { HasLedger L.config L.ledger machine chronicle.entries ledger }
-        ensures { result
-            ≡ record { machine = machine; chronicle = chronicle.entries; ledger = all_in ledger } }
+        ensures { result ≡ lock_state machine chronicle (all_in ledger) }
     {
         Kept {
             machine,
@@ -239,6 +235,7 @@ impl<L: Heap> Kept<L> {
     /// ids have the size that the heap was made with.
     pub fn chronicle(&self) -> &Chronicle
         ensures entries { result.now.entries ≡ self.now.chronicle }
+        ensures rolls { result.now.rolls ≡ self.now.rolls }
         ensures legal { IsLegalHistory L.config.keep (opening L.config) self.now.chronicle }
         ensures seated { AllSeated (length L.tables) self.now.chronicle }
         ensures folds { Folds L.config self.now }
@@ -270,7 +267,7 @@ impl<L: Heap> Kept<L> {
             ledger,
             heap: _,
         } = self;
-        if chronicle.len() >= CHRONICLE_LIMIT {
+        if chronicle.is_full() {
             return Err(Refusal::ChronicleFull);
         }
         chronicle.reserve()?;
@@ -297,8 +294,8 @@ impl<L: Heap> Kept<L> {
     }
 
     /// Does an event for one who holds the lock. The chronicle and the seat's share gain the entry with the answer that
-    /// the model gives at that point; a refused event is an entry too. Fails with ChronicleFull if there are 1,000,000
-    /// entries, and with NoMemory; then nothing has changed.
+    /// the model gives at that point; a refused event is an entry too. Fails with ChronicleFull if the chronicle
+    /// takes no more entries, and with NoMemory; then nothing has changed.
     pub fn act_held(&mut self, seat: &mut Seat<L>, event: Event) -> Result<Receipt, Refusal>
         requires { may seat.old.role event ≡ true }
         ensures moves { IfOk result (λ r. IsMoved L.config (Step event) self.old r self.new) }

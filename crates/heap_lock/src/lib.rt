@@ -3,6 +3,7 @@
 
 pub mod audits;
 pub mod blank;
+mod block;
 pub mod chronicle;
 pub mod collector;
 pub mod desk;
@@ -21,7 +22,7 @@ pub mod unpacking;
 pub mod view;
 pub mod witness;
 
-pub use audits::audit;
+pub use audits::{Verdict, audit};
 pub use blank::{Blank, Seats};
 pub use chronicle::Chronicle;
 pub use entry::{Entry, Outcome, Receipt, Role};

@@ -13,7 +13,7 @@ use Rattle.heap_server.specs.SessionSeats.{AreUsers, IsOver}
 use Rattle.heap_server.specs.declared.sessions.Terms.{Terms}
 use Rattle.heap_server.specs.declared.tended.TendedHeap.{TendedHeap}
 
--- the acts of a run at most: as many as a chronicle has entries
+-- the acts of a run at most: as many as a chronicle keeps
 abbrev pub turn_limit : ℕ
 turn_limit = chronicle_limit
 

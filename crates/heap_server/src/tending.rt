@@ -11,7 +11,7 @@ use std::sync::atomic::{AtomicBool, Ordering};
 use std::thread;
 use std::time::{Clock, Duration};
 
-// The acts of a run at most: as many as a chronicle has entries.
+// The acts of a run at most: as many as a chronicle keeps.
 const RUN_TURNS: u64 = 1_000_000;
 
 // A gate that is open until the stop word is set. It yields at each pass, so that the lock is free between two acts.

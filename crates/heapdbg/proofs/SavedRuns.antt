@@ -1,13 +1,6 @@
 -- A session that is saved is a run of the program.
-use Rattle.std.proofs.Common.{◌≡◌, ℕ, inl, inr, refl, ap, sym, ◌∙◌, subst, Bool, true, false, List, Option, Some, None, Result, Ok, Err, IfOk, codes}
-use Rattle.std.specs.Borrow.{Bor}
-use Rattle.std.specs.Prelude.{IfSome, is_some, option_and_then, option_map}
-use Rattle.clap.proofs.WalkLemmas.{first_value-rows}
-use Rattle.clap.specs.Matches.{first_value}
-use Rattle.clap.specs.Words.{App, FailsBy, HasMatchesOf, Row, Text, fault_of, first_of, is_simple, is_simple_and_free, rows_of, subcommand_of, subcommand_rows_of}
-use Rattle.clap.specs.declared.error.Error.{Error}
-use Rattle.clap.specs.declared.parser.matches.ArgMatches.{ArgMatches}
-use Rattle.clap.specs.declared.parser.matches.Found.{Found}
+use Rattle.std.proofs.Common.{◌≡◌, ℕ, inl, refl, ap, ◌∙◌, subst, Bool, true, false, Option, Some, None, Result}
+use Rattle.std.specs.Prelude.{is_some, option_map}
 use Rattle.dump_pump.specs.declared.transfer.Pumped.{Pumped}
 use Rattle.dump_pump.specs.Outlets.{Outgoing}
 use Rattle.heap_class.specs.declared.IdSize.{IdSize}
@@ -21,10 +14,7 @@ use Rattle.question_text.specs.Sessions.{ServesAsking}
 use Rattle.heap_save.specs.Saves.{EndsSave, IsSaved}
 use Rattle.heap_save.proofs.SavedSessions.{ends_anywhere, saved_anywhere}
 use Rattle.heapdbg.specs.declared.failure.Fault.{Fault}
-use Rattle.heapdbg.specs.declared.settings.Settings.{Settings}
-use Rattle.heapdbg.specs.CommandLine.{explore_with, heapdbg_line, number_in, path_of, port_limit, target_in}
-use Rattle.heapdbg.specs.Refusals.{IsExploreMistake, IsMistakeIn, IsOutside, IsTargetMistake}
-use Rattle.heapdbg.specs.declared.refusal.Mistake.{Mistake}
+use Rattle.heapdbg_options.specs.declared.settings.Settings.{Settings}
 use Rattle.heapdbg.specs.Explorations.{IsOpening}
 use Rattle.heapdbg.specs.SaveOutcomes.{IsSavedAs, any_outlet, save_outcome}
 
@@ -65,71 +55,7 @@ saved_asking unmade s makes own c asked left a b w between w' outlet made talked
       so ∙ ap (λ k. save_outcome unmade k ended pumped) there,
     )
 
--- ---- what is told of options
-
--- the texts of two options are those of their rows
-pub given_target : (found : Found) (path port : Option (Bor Text)) → option_map (λ s. s.now) path ≡ first_value found (codes "out") → option_map (λ s. s.now) port ≡ first_value found (codes "to")
-    → target_in (option_map (λ s. s.now) path) (option_map (λ s. s.now) port) ≡ target_in (first_of (codes "out") (rows_of found)) (first_of (codes "to") (rows_of found))
-given_target found path port one other = λ i. target_in ((one ∙ first_value-rows found (codes "out")) i) ((other ∙ first_value-rows found (codes "to")) i)
-
--- so is a mistake in them
-pub given_mistake : (m : Mistake) (found : Found) (path port : Option (Bor Text)) → option_map (λ s. s.now) path ≡ first_value found (codes "out") → option_map (λ s. s.now) port ≡ first_value found (codes "to")
-    → IsTargetMistake m (option_map (λ s. s.now) path) (option_map (λ s. s.now) port) → IsTargetMistake m (first_of (codes "out") (rows_of found)) (first_of (codes "to") (rows_of found))
-given_mistake m found path port one other h =
-    subst (λ o. IsTargetMistake m o (first_of (codes "to") (rows_of found))) (one ∙ first_value-rows found (codes "out"))
-    (subst (λ o. IsTargetMistake m (option_map (λ s. s.now) path) o) (other ∙ first_value-rows found (codes "to")) h)
-
--- a mistake in the two places is one of the options
-pub of_places : (m : Mistake) (rows : List Row) → IsTargetMistake m (first_of (codes "out") rows) (first_of (codes "to") rows) → IsMistakeIn m rows
-of_places m rows (inl h) = subst (λ x. IsMistakeIn x rows) (sym h.0) (inl (refl, h.1))
-of_places m rows (inr h) = subst (λ x. IsMistakeIn x rows) (sym h.0) (inr (refl, h.1))
-
--- so are the task of `explore` and a mistake in it
-pub given_explored : (found : Found) (from port : Option (Bor Text)) → option_map (λ s. s.now) from ≡ first_value found (codes "from") → option_map (λ s. s.now) port ≡ first_value found (codes "port")
-    → explore_with (option_map (λ s. s.now) from) (option_map (λ s. s.now) port) ≡ explore_with (first_of (codes "from") (rows_of found)) (first_of (codes "port") (rows_of found))
-given_explored found from port one other = λ i. explore_with ((one ∙ first_value-rows found (codes "from")) i) ((other ∙ first_value-rows found (codes "port")) i)
-
-pub given_source : (m : Mistake) (found : Found) (from port : Option (Bor Text)) → option_map (λ s. s.now) from ≡ first_value found (codes "from") → option_map (λ s. s.now) port ≡ first_value found (codes "port")
-    → IsExploreMistake m (option_map (λ s. s.now) from) (option_map (λ s. s.now) port) → IsExploreMistake m (first_of (codes "from") (rows_of found)) (first_of (codes "port") (rows_of found))
-given_source m found from port one other h =
-    subst (λ o. IsExploreMistake m o (first_of (codes "port") (rows_of found))) (one ∙ first_value-rows found (codes "from"))
-    (subst (λ o. IsExploreMistake m (option_map (λ s. s.now) from) o) (other ∙ first_value-rows found (codes "port")) h)
-
-outside_none : (least most : ℕ) (given : Option Text) → IsOutside least most given → option_and_then (number_in least most) given ≡ None
-outside_none least most None h = absurd h
-outside_none least most (Some text) h = h
-
-pub of_sources : (m : Mistake) (rows : List Row) → IsExploreMistake m (first_of (codes "from") rows) (first_of (codes "port") rows) → IsMistakeIn m rows
-of_sources m rows (inl h) = subst (λ x. IsMistakeIn x rows) (sym h.0) (inl (refl, h.1, h.2))
-of_sources m rows (inr h) = subst (λ x. IsMistakeIn x rows) (sym h.0) (outside_none 1 port_limit (first_of (codes "port") rows) h.1)
-
 -- an outlet is there however it is seen
 pub still_some : {A B : Type 0} (f : A → B) (o : Option A) → is_some o ≡ is_some (option_map f o)
 still_some f None = refl
 still_some f (Some x) = refl
-
--- ---- what is told of the words
-
-simple : is_simple heapdbg_line ≡ true
-simple = refl
-
-free : is_simple_and_free heapdbg_line ≡ true
-free = refl
-
-pub simple_ok : {E : Type 0} (a : App) (r : Result ArgMatches E) (words : List Text) → a ≡ heapdbg_line → IfOk r (HasMatchesOf a words) → IfOk r (λ m. subcommand_rows_of m ≡ subcommand_of heapdbg_line words)
-simple_ok a (Ok m) words is h = (subst (λ x. HasMatchesOf x words m) is h simple).1
-simple_ok a (Err e) words is h = tt
-
-pub simple_faults : {T : Type 0} (a : App) (r : Result T Error) (words : List Text) → a ≡ heapdbg_line → (is_simple_and_free a ≡ true → FailsBy (fault_of a words) r) → FailsBy (fault_of heapdbg_line words) r
-simple_faults a r words is h = subst (λ x. is_simple_and_free x ≡ true → FailsBy (fault_of x words) r) is h free
-
-rows_alone : (name : Text) (o : Option (Text × List Row)) → option_and_then (λ f. first_of name f.1) o ≡ option_and_then (first_of name) (option_map (λ p. p.1) o)
-rows_alone name None = refl
-rows_alone name (Some f) = refl
-
--- the path is that of the words
-pub path_is : (name : Text) (o : Option (Text × List Row)) (found : Found) (r : Option (Bor Text)) (words : List Text) → Some (rows_of found) ≡ option_map (λ p. p.1) o → o ≡ subcommand_of heapdbg_line words
-    → option_map (λ s. s.now) r ≡ first_value found name → IfSome r (λ path. path_of name words ≡ Some path.now)
-path_is name o found None words rows is text = tt
-path_is name o found (Some path) words rows is text =
-    ap (option_and_then (λ f. first_of name f.1)) (sym is) ∙ rows_alone name o ∙ ap (option_and_then (first_of name)) (sym rows) ∙ sym (first_value-rows found name) ∙ sym text

@@ -6,8 +6,8 @@ use Rattle.heapdbg.specs.declared.failure.Fault.{Fault}
 use Rattle.heapdbg.specs.declared.failure.Fault.TheVariants as fault
 use Rattle.heapdbg.specs.declared.failure.Failure.{Failure}
 use Rattle.heapdbg.specs.declared.failure.Failure.TheVariants.{Line, Work}
-use Rattle.heapdbg.specs.declared.settings.LineFault.{LineFault}
-use Rattle.heapdbg.specs.declared.settings.LineFault.TheVariants.{Bad, Memory}
+use Rattle.heapdbg_options.specs.declared.settings.LineFault.{LineFault}
+use Rattle.heapdbg_options.specs.declared.settings.LineFault.TheVariants.{Bad, Memory}
 
 -- a session that ended by `end` or at the end of input is done, and any other is a fault
 abbrev pub outcome_of : Ended → Result (Unit {0}) Fault

@@ -10,7 +10,7 @@ use Rattle.session_text.specs.Endings.{EndsSession}
 use Rattle.session_text.specs.Inlets.{Incoming}
 use Rattle.heapdbg.specs.declared.failure.Fault.{Fault}
 use Rattle.heapdbg.specs.declared.failure.Fault.TheVariants.{From, Memory}
-use Rattle.heapdbg.specs.declared.settings.Settings.{Settings}
+use Rattle.heapdbg_options.specs.declared.settings.Settings.{Settings}
 use Rattle.heapdbg.specs.Endings.{outcome_of}
 
 -- a heap with these settings as it begins

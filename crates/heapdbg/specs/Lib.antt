@@ -1,6 +1,4 @@
--- The meaning of the program's command line, and the endings of the program.
-pub mod CommandLine
-pub mod Refusals
+-- What the program's tasks do, and the endings of the program.
 pub mod Endings
 pub mod ServeOutcomes
 pub mod FetchOutcomes

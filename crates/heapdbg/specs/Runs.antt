@@ -9,17 +9,17 @@ use Rattle.session_text.specs.Session.{IsSession}
 use Rattle.heapdbg.specs.declared.failure.Fault.{Fault}
 use Rattle.heapdbg.specs.declared.failure.Fault.TheVariants.{Memory}
 use Rattle.heapdbg.specs.declared.failure.Failure.{Failure}
-use Rattle.heapdbg.specs.declared.settings.LineFault.{LineFault}
-use Rattle.heapdbg.specs.declared.settings.Settings.{Settings}
-use Rattle.heapdbg.specs.declared.settings.Task.{Task}
+use Rattle.heapdbg_options.specs.declared.settings.LineFault.{LineFault}
+use Rattle.heapdbg_options.specs.declared.settings.Settings.{Settings}
+use Rattle.heapdbg_options.specs.declared.settings.Task.{Task}
 use Rattle.heapdbg.specs.declared.failure.Fault.TheVariants as fault
-use Rattle.heapdbg.specs.declared.settings.Task.TheVariants.{Run, Explore, Draw, Save, Serve, Ask, Fetch}
-use Rattle.heapdbg.specs.declared.settings.Target.TheVariants.{Out, To}
-use Rattle.heapdbg.specs.CommandLine.{settings_of}
+use Rattle.heapdbg_options.specs.declared.settings.Task.TheVariants.{Run, Explore, Draw, Save, Serve, Ask, Fetch}
+use Rattle.heapdbg_options.specs.declared.settings.Target.TheVariants.{Out, To}
+use Rattle.heapdbg_options.specs.CommandLine.{settings_of}
 use Rattle.heapdbg.specs.Endings.{failure_of, outcome_of, work_of}
 use Rattle.heapdbg.specs.Explorations.{IsExplored}
 use Rattle.heapdbg.specs.FetchOutcomes.{IsDumpFetched}
-use Rattle.heapdbg.specs.Refusals.{IsRefusalOf}
+use Rattle.heapdbg_options.specs.Refusals.{IsRefusalOf}
 use Rattle.heapdbg.specs.SaveOutcomes.{IsSavedTo}
 use Rattle.heapdbg.specs.ServeOutcomes.{IsServerAsked, IsServed}
 

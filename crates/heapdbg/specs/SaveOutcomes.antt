@@ -1,5 +1,5 @@
 -- The outcomes of a session whose last state is dumped. Files and sockets tell nothing of their bytes.
-use Rattle.std.specs.Prelude.{◌≡◌, ℕ, ◌⊎◌, Bool, true, false, Option, Some, None, Result, Ok, Err, is_some}
+use Rattle.std.specs.Prelude.{◌≡◌, ◌⊎◌, Bool, true, false, Option, Some, None, Result, Ok, Err, is_some}
 use Rattle.dump_pump.specs.declared.transfer.Pumped.{Pumped}
 use Rattle.dump_pump.specs.declared.transfer.Pumped.TheVariants.{Done, OutletFailed, Lost, Cancelled}
 use Rattle.dump_pump.specs.Outlets.{Outgoing}
@@ -13,7 +13,7 @@ use Rattle.question_text.specs.Sessions.{ServesAsking}
 use Rattle.heap_save.specs.Saves.{EndsSave, IsSaved}
 use Rattle.heapdbg.specs.declared.failure.Fault.{Fault}
 use Rattle.heapdbg.specs.declared.failure.Fault.TheVariants as fault
-use Rattle.heapdbg.specs.declared.settings.Settings.{Settings}
+use Rattle.heapdbg_options.specs.declared.settings.Settings.{Settings}
 use Rattle.heapdbg.specs.Endings.{outcome_of}
 use Rattle.heapdbg.specs.Explorations.{IsOpening}
 

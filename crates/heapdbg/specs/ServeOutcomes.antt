@@ -14,7 +14,7 @@ use Rattle.heap_server.specs.declared.tended.TendedHeap.{TendedHeap}
 use Rattle.heap_server.specs.Tending.{AreStaff, AreTended}
 use Rattle.heapdbg.specs.declared.failure.Fault.{Fault}
 use Rattle.heapdbg.specs.declared.failure.Fault.TheVariants.{Accept, Connect, Listen, Memory, Read, Write}
-use Rattle.heapdbg.specs.declared.settings.Settings.{Settings}
+use Rattle.heapdbg_options.specs.declared.settings.Settings.{Settings}
 
 -- an accept that failed is named before a write that did
 abbrev pub served_outcome : Bool → Bool → Result (Unit {0}) Fault
@@ -34,13 +34,14 @@ IsReportTold served w w' result =
 abbrev pub terms_of : Settings → Terms
 terms_of s = record { time = s.time; questions = s.questions }
 
--- a heap was made of these settings with a seat for each of this number of sessions, which ended, or fewer if an accept
--- failed
+-- a heap was made of these settings with a seat for each of this number of sessions, which ended, or fewer if an accept failed;
+-- it drops old entries or refuses new ones, as the settings say
 abbrev pub IsHeapOf : Settings → ℕ → ServedHeap → Type 0
 IsHeapOf s sessions h =
     (h.made.value.config
     ≡ record { regions = s.regions; mutators = s.mutators; keep = s.keep; ids = s.ids })
     × (length h.made.value.seats ≡ sessions) × (h.terms ≡ terms_of s) × IsFor sessions h.served
+    × (h.made.value.rolls ≡ s.rolls)
 
 -- a heap of these settings was served, and its sessions' endings were put out; or an allocation failed or the port couldn't
 -- be listened on, and nothing was put out
@@ -58,6 +59,7 @@ IsTendedHeapOf s sessions t =
     × AreStaff sessions t.heap.made.value.seats × (t.heap.terms ≡ terms_of s)
     × IsFor sessions t.heap.served
     × AreTended t.heap.made.value.config t.heap.made.value.seats t.marker t.sweeper
+    × (t.heap.made.value.rolls ≡ s.rolls)
 
 -- the same of a heap whose collector two threads tended; an allocation that failed may be that of a thread
 abbrev pub IsTendedServed : Settings → ℕ → Outgoing → Outgoing → Result (Unit {0}) Fault → Type 0

@@ -3,12 +3,12 @@ ghost use Rattle.std.specs.Prelude.{◌≡◌, ◌⊎◌, Ok, Err};
 ghost use Rattle.heap_world.specs.Limits.{AreHeapSettings};
 ghost use Rattle.heapdbg.specs.Runs.{IsDrawingOutcome, IsSessionDrawn};
 
-use crate::command_line::path_option;
 use crate::failure::{Fault, outcome};
-use crate::line_words::borrow_words;
-use crate::settings::{Settings, config};
 use dump_pump::{Outlet, WriteOutlet};
 use heap_trail::Machine;
+use heapdbg_options::command_line::path_option;
+use heapdbg_options::line_words::borrow_words;
+use heapdbg_options::settings::{Settings, config};
 use region_picture::picture_of;
 use session_text::{Inlet, Local, serve_local, write_all};
 use std::alloc::Global;

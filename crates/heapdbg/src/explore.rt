@@ -3,13 +3,13 @@ ghost use Rattle.std.specs.Prelude.{◌≡◌, false, true, IfErr, IfOk};
 ghost use Rattle.heap_world.specs.Limits.{AreHeapSettings};
 ghost use Rattle.heapdbg.specs.Explorations.{IsSessionBegun, IsExplored, IsHindrance, IsOpening};
 
-use crate::command_line::path_option;
 use crate::failure::{Fault, outcome};
-use crate::line_words::borrow_words;
-use crate::settings::{Settings, config};
 use dump_pump::Outlet;
 use heap_console::load_lines;
 use heap_trail::Machine;
+use heapdbg_options::command_line::path_option;
+use heapdbg_options::line_words::borrow_words;
+use heapdbg_options::settings::{Settings, config};
 use question_text::{Asking, Watch, serve_asking};
 use session_text::{Inlet, Local};
 use std::alloc::Global;

@@ -4,7 +4,7 @@ ghost use Rattle.std.specs.Io.KnownBytes.{Appends};
 ghost use Rattle.std.specs.Process.{exit_status};
 ghost use Rattle.heapdbg.specs.Endings.{message_of, outcome_of, exit_status_of, word_of_fault};
 
-use crate::settings::LineFault;
+use heapdbg_options::settings::LineFault;
 use session_text::Ended;
 use std::io::Write;
 use std::process::ExitCode;

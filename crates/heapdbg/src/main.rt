@@ -4,21 +4,14 @@
 #![tactic(auto)]
 
 mod ask;
-mod command_line;
 mod draw;
 mod explore;
 mod failure;
 mod fetch;
 mod folder;
-mod line_words;
 mod progress;
-mod refusal;
 mod save;
-mod save_options;
 mod serve;
-mod session_options;
-mod settings;
-mod socket_options;
 mod task;
 mod terminals;
 

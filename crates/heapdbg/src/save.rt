@@ -6,10 +6,10 @@ ghost use Rattle.heapdbg.specs.SaveOutcomes.{IsSavedAs, IsSavedTo, save_outcome}
 use crate::explore::open;
 use crate::failure::{Fault, outcome};
 use crate::progress::TerminalGauge;
-use crate::settings::{Settings, config};
 use dump_pump::{Outlet, Pumped, WriteOutlet};
 use heap_save::{Outlets, save_after, save_into};
 use heap_trail::Machine;
+use heapdbg_options::settings::{Settings, config};
 use pin_stream::Gauge;
 use question_text::{Watch, serve_asking};
 use session_text::{Ended, Inlet, Local};

@@ -6,12 +6,12 @@ ghost use Rattle.heapdbg.specs.declared.failure.Fault.TheVariants.{Listen, Memor
 ghost use Rattle.heapdbg.specs.ServeOutcomes.{IsHeapServed, IsReportTold, IsServed, IsTendedServed, served_outcome, terms_of};
 
 use crate::failure::Fault;
-use crate::settings::{Settings, config};
 use dump_pump::Outlet;
 use dump_server::DumpListener;
 use heap_server::{
     Ports, Served, Terms, serve_heap, serve_tended_heap, tell_sessions, users, workers_and_users,
 };
+use heapdbg_options::settings::{Settings, config};
 use session_text::write_all;
 use std::alloc::Global;
 use std::net::{Ipv4Addr, Net, TcpListener, TcpStream};
@@ -105,9 +105,10 @@ where
     ensures { IsHeapServed settings.now service.sessions (O.seen writer.old) (O.seen writer.new)
         result }
 {
-    let Ok(blank) = users(alloc, config(settings), service.sessions) else {
+    let Ok(mut blank) = users(alloc, config(settings), service.sessions) else {
         return Err(Fault::Memory);
     };
+    blank.set_rolls(settings.rolls);
     let most = service.sessions as usize;
     let (ports, report) = listen(rt, alloc, service, is_terminal)?;
     match serve_heap(rt, alloc, blank, most, ports, terms(settings)) {
@@ -133,9 +134,10 @@ where
     ensures { IsTendedServed settings.now service.sessions (O.seen writer.old) (O.seen writer.new)
         result }
 {
-    let Ok(blank) = workers_and_users(alloc, config(settings), service.sessions) else {
+    let Ok(mut blank) = workers_and_users(alloc, config(settings), service.sessions) else {
         return Err(Fault::Memory);
     };
+    blank.set_rolls(settings.rolls);
     let most = service.sessions as usize;
     let (ports, report) = listen(rt, alloc, service, is_terminal)?;
     match serve_tended_heap(rt, alloc, blank, most, ports, terms(settings)) {

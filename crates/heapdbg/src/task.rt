@@ -1,28 +1,28 @@
 //! The tasks, from the words of the command line on.
 ghost use Rattle.std.specs.Prelude.{◌≡◌, Some, IfOk, IfErr, map, string_bytes};
 ghost use Rattle.std.specs.IoError.{error_kind};
-ghost use Rattle.heapdbg.specs.CommandLine.{AreSettingsWithin, IsBadWith, settings_of};
+ghost use Rattle.heapdbg_options.specs.CommandLine.{AreSettingsWithin, IsBadWith, settings_of};
 ghost use Rattle.heapdbg.specs.FetchOutcomes.{IsDumpFetched};
-ghost use Rattle.heapdbg.specs.Refusals.{IsRefusalOf};
+ghost use Rattle.heapdbg_options.specs.Refusals.{IsRefusalOf};
 ghost use Rattle.heapdbg.specs.Runs.{IsTaskDone, IsRun, IsRunWith, IsPerformed, IsSavedOut};
 ghost use Rattle.heap_world.specs.Limits.{AreHeapSettings};
 
 use crate::ask::ask_port;
-use crate::command_line::{path_option, settings};
 use crate::draw::draw;
 use crate::explore::explore;
 use crate::failure::{Failure, Fault, outcome};
 use crate::fetch::fetch_port;
 use crate::folder::has_folder;
-use crate::line_words::borrow_words;
-use crate::refusal::bad;
 use crate::save::{save_out, save_to};
 use crate::serve::{Service, serve_port};
-use crate::settings::{LineFault, Settings, Target, Task, config};
 use crate::terminals::{Screen, Terminals};
 use dump_pump::{Outlet, WriteOutlet};
 use heap_console::{ColumnOutlet, PromptInlet};
 use heap_trail::Machine;
+use heapdbg_options::command_line::{path_option, settings};
+use heapdbg_options::line_words::borrow_words;
+use heapdbg_options::refusal::bad;
+use heapdbg_options::settings::{LineFault, Settings, Target, Task, config};
 use question_text::Watch;
 use session_text::{Inlet, Local, ReadInlet, serve_local};
 use std::alloc::Global;

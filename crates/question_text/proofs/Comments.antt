@@ -1,5 +1,5 @@
 -- A comment is no line of the grammar of sessions, no question and no line that asks for help.
-use Rattle.std.proofs.Common.{◌≡◌, ◌∙◌, ap, ap₂, ℕ, Bool, true, false, cond, List, [], ◌∷◌, Some, None, refl, sym, subst}
+use Rattle.std.proofs.Common.{◌≡◌, ◌∙◌, ap, ap₂, ℕ, Bool, true, false, cond, List, [], ◌∷◌, None, refl, sym, subst}
 use Rattle.std.specs.Prelude.{Option, codes, slice_index, take}
 use Rattle.std.specs.Str.{bytes_eq}
 use Rattle.std.proofs.lemmas.Slice.Eq.{bytes_eq-Decides}
@@ -12,7 +12,7 @@ use Rattle.question_text.specs.Answers.{IsAnswerOf}
 use Rattle.question_text.specs.Collections.{is_collect, is_collect_words}
 use Rattle.question_text.specs.Comments.{is_comment, is_comment_words, unasked_text}
 use Rattle.question_text.specs.Help.{help_or_bad}
-use Rattle.question_text.specs.Questions.{past_rules, question_by, question_of, question_of_words, question_rules}
+use Rattle.question_text.specs.Questions.{past_rules, question_of_words, question_rules}
 use Rattle.question_text.specs.Sessions.{AnswersLine, AskingAnswers}
 
 -- the first byte of the first word

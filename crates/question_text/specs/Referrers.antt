@@ -1,6 +1,5 @@
 -- The texts of `referrers` and `registers`.
 use Rattle.std.specs.Prelude.{◌≡◌, ℕ, ◌/◌, ◌%◌, List, ◌++◌, codes, flat_map, length, Option, Some, None}
-use Rattle.heap_class.specs.declared.ObjKind.TheVariants.{Prim}
 use Rattle.heap_world.specs.Limits.{registers_each}
 use Rattle.hprof_text.specs.Image.{DumpedObject, Image}
 use Rattle.heap_questions.specs.declared.references.Referrer.{Referrer}

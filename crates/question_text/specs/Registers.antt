@@ -1,7 +1,6 @@
 -- The text of `registers`.
 use Rattle.std.specs.Prelude.{◌≡◌, ℕ, ◌+◌, List, [], ◌∷◌, ◌++◌, codes, length, map, Option, Some, None}
 use Rattle.heap_class.specs.declared.ObjKind.{ObjKind}
-use Rattle.heap_class.specs.declared.ObjKind.TheVariants.{Prim}
 use Rattle.heap_class.specs.Classes.{Class}
 use Rattle.hprof_text.specs.Image.{Image}
 use Rattle.heap_questions.specs.declared.registers.NamedObject.{NamedObject}

@@ -3,7 +3,7 @@ ghost use Rattle.std.specs.Prelude.{◌≡◌, ◌≤◌, length};
 ghost use Rattle.heap_lock.specs.Limits.{seat_limit};
 
 use heap_class::{Field, Fields, Kind, LostCause, Name, Refusal};
-use heap_lock::{Blank, Heap, Kept, Outcome, Receipt, Role, Seat, Shared, audit};
+use heap_lock::{Blank, Heap, Kept, Outcome, Receipt, Role, Seat, Shared, Verdict, audit};
 use heap_scripts::{FIRST, point};
 use heap_step::{Answer, Event};
 use heap_trail::{Action, PinAt};
@@ -185,7 +185,7 @@ fn agree<L: Heap>(kept: &Kept<L>, receipts: (Receipt, Receipt, Receipt)) -> bool
     first.answer == Outcome::Answered(Answer::Object(FIRST))
         && between.answer == Outcome::Place(0)
         && second.answer == first.answer
-        && audit(kept, claims.as_slice())
+        && audit(kept, claims.as_slice()) == Verdict::Holds
 }
 
 fn between_in<L: Heap, R: Wait>(

@@ -3,7 +3,7 @@ ghost use Rattle.std.specs.Prelude.{◌≡◌};
 
 use crate::shared::acts;
 use crate::sinks::reaches;
-use heap_lock::{Blank, Heap, Outcome, Receipt, Role, Seat, Shared, audit};
+use heap_lock::{Blank, Heap, Outcome, Receipt, Role, Seat, Shared, Verdict, audit};
 use heap_scripts::node;
 use heap_step::{Answer, Event};
 use heap_trail::Action;
@@ -424,7 +424,7 @@ fn agreed<L: Heap, R: Wait>(rt: &R, shared: &Shared<L>, mutated: &Mutated) -> Op
         return None;
     };
     let kept = shared.lock(rt);
-    if audit(&*kept, claims.as_slice()) {
+    if audit(&*kept, claims.as_slice()) == Verdict::Holds {
         return Some((claims.len() as u64, *length));
     }
     None
@@ -440,7 +440,7 @@ fn marked<L: Heap, R: Wait>(
         return None;
     };
     let kept = shared.lock(rt);
-    if claims.len() as u64 == CYCLES && audit(&*kept, claims.as_slice()) {
+    if claims.len() as u64 == CYCLES && audit(&*kept, claims.as_slice()) == Verdict::Holds {
         return Some(*acts);
     }
     None

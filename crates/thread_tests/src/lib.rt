@@ -27,6 +27,8 @@ mod pumps;
 #[cfg(test)]
 mod receipts;
 #[cfg(test)]
+mod rolls;
+#[cfg(test)]
 mod shared;
 #[cfg(test)]
 mod sinks;

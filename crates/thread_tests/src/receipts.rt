@@ -2,7 +2,7 @@
 ghost use Rattle.std.specs.Prelude.{◌≡◌, ◌<◌};
 
 use heap_class::{Kind, Name, Refusal};
-use heap_lock::{Blank, Heap, Kept, Outcome, Receipt, Role, Seat, audit};
+use heap_lock::{Blank, Heap, Kept, Outcome, Receipt, Role, Seat, Verdict, audit};
 use heap_scripts::{FIRST, SECOND, node, point};
 use heap_step::{Answer, Event};
 use heap_trail::Action;
@@ -175,7 +175,7 @@ fn audited<L: Heap>(
     receipt: Receipt,
 ) -> Result<bool, AllocError> {
     let claims = [(asked(alloc, number, change)?, receipt)];
-    Ok(audit(kept, claims.as_slice()))
+    Ok(audit(kept, claims.as_slice()) == Verdict::Holds)
 }
 
 // Returns whether an audit tells the act of this number from others: another action, seat or answer.

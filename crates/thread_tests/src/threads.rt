@@ -2,7 +2,7 @@
 ghost use Rattle.std.specs.Prelude.{◌≡◌};
 
 use heap_class::Kind;
-use heap_lock::{Blank, Heap, Kept, Outcome, Receipt, Role, Seat, Shared, audit};
+use heap_lock::{Blank, Heap, Kept, Outcome, Receipt, Role, Seat, Shared, Verdict, audit};
 use heap_step::Event;
 use heap_trail::Action;
 use heap_world::Config;
@@ -108,7 +108,7 @@ fn audited_with<L: Heap>(
     if claims.push((action, receipt)).is_err() {
         return true;
     }
-    let said = audit(kept, claims.as_slice());
+    let said = audit(kept, claims.as_slice()) == Verdict::Holds;
     claims.pop();
     said
 }
@@ -139,7 +139,7 @@ fn changed<L: Heap>(
     kept: &Kept<L>,
     mut claims: Vec<(Action, Receipt)>,
 ) -> (bool, bool, bool, bool) {
-    let before = audit(kept, claims.as_slice());
+    let before = audit(kept, claims.as_slice()) == Verdict::Holds;
     let twice = audited_twice(kept, &mut claims);
     let Some((action, receipt)) = claims.pop() else {
         return (false, true, true, true);
@@ -292,7 +292,7 @@ fn by_four_in<L: Heap + Send + Sync, R: Threads + Wait + Sync>(
 
 fn is_right<L: Heap>(kept: &Kept<L>, claims: &Result<Vec<(Action, Receipt)>, AllocError>) -> bool {
     match claims {
-        Ok(claims) => claims.len() == 1000 && audit(kept, claims.as_slice()),
+        Ok(claims) => claims.len() == 1000 && audit(kept, claims.as_slice()) == Verdict::Holds,
         Err(_) => false,
     }
 }

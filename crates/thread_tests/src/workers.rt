@@ -3,7 +3,7 @@ ghost use Rattle.std.specs.Prelude.{◌≡◌, ◌<◌};
 
 use crate::shared::acts;
 use heap_class::Refusal;
-use heap_lock::{Blank, Heap, Outcome, Receipt, Role, Seat, Shared, audit};
+use heap_lock::{Blank, Heap, Outcome, Receipt, Role, Seat, Shared, Verdict, audit};
 use heap_scripts::node;
 use heap_step::{Answer, Event};
 use heap_trail::Action;
@@ -122,7 +122,7 @@ fn sweeps_answered<L: Heap, R: Wait>(rt: &R, shared: &Shared<L>) -> u64 {
     let mut answered: u64 = 0;
     for region in 0..16u64 {
         let claims = [(Action::Step(Event::Sweep { region }), sweep_receipt(region))];
-        if audit(&*kept, claims.as_slice()) {
+        if audit(&*kept, claims.as_slice()) == Verdict::Holds {
             answered = answered.saturating_add(1);
         }
     }

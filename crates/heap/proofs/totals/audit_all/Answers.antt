@@ -1,4 +1,5 @@
-use Rattle.std.proofs.Common.{rules, ◌∙◌, All, ap, length, count_by, true, subst}
+use Rattle.std.proofs.Common.{◌≡◌, rules, ◌∙◌, All, ap, length, count_by, subst}
+use Rattle.heap_lock.specs.declared.audits.Verdict.TheVariants.{Holds}
 use Rattle.std.proofs.lemmas.List.{take_all}
 use Rattle.heap.specs.Actors.{IsAudited}
 use Rattle.heap.specs.Totals.{claim_count, finished_count, is_finishing, is_making, made_count}
@@ -14,12 +15,13 @@ loop-actor-preserved g c =
     let below = c.loop-actor-test.true in
     let at = c.actor-item.is in
     let own = c.claims-own.ensures in
+    let stands : c.audit-verdict.result ≡ Holds = search rules in
     record {
       claims = capped_more claim_count xs i a (length c.claims-own.result.now) c.loop-actor.claims _ below at (ap length own) was.claims c.saturating_add-claims.ensures;
       made = capped_more made_count xs i a c.count_made.result c.loop-actor.made _ below at (c.count_made.ensures ∙ ap (count_by is_making) own) was.made c.saturating_add-made.ensures;
       finished = capped_more finished_count xs i a c.count_finished.result c.loop-actor.finished _ below at (c.count_finished.ensures ∙ ap (count_by is_finishing) own) was.finished c.saturating_add-finished.ensures;
-      stand = all_more (λ b. IsAudited g.L.Heap.config b.claims true) xs i a below at was.stand (subst (IsAudited g.L.Heap.config a.claims) (search rules) c.audit.ensures);
+      stand = all_more (λ b. IsAudited g.L.Heap.config b.claims Holds) xs i a below at was.stand (subst (IsAudited g.L.Heap.config a.claims) stands c.audit-verdict.ensures);
     }
 
 pub returns-clause-stand : goal.returns-clause-stand
-returns-clause-stand g c = subst (All (λ a. IsAudited g.L.Heap.config a.claims true)) (take_all c.loop-actor.actor-index c.args.actors.now c.loop-actor-test.false) c.loop-actor.invariant.stand
+returns-clause-stand g c = subst (All (λ a. IsAudited g.L.Heap.config a.claims Holds)) (take_all c.loop-actor.actor-index c.args.actors.now c.loop-actor-test.false) c.loop-actor.invariant.stand

@@ -1,4 +1,5 @@
-use Rattle.std.proofs.Common.{◌≡◌, take, true, All}
+use Rattle.std.proofs.Common.{◌≡◌, take, All}
+use Rattle.heap_lock.specs.declared.audits.Verdict.TheVariants.{Holds}
 use Rattle.heap.specs.Actors.{IsAudited}
 use Rattle.heap.specs.Totals.{capped_sum, claim_count, finished_count, made_count}
 use Rattle.heap.proofs.totals.audit_all.Given as goal
@@ -8,5 +9,5 @@ invariant-loop-actor g l = record {
   claims : l.claims ≡ capped_sum claim_count (take l.actor-index l.actors);
   made : l.made ≡ capped_sum made_count (take l.actor-index l.actors);
   finished : l.finished ≡ capped_sum finished_count (take l.actor-index l.actors);
-  stand : All (λ a. IsAudited g.L.Heap.config a.claims true) (take l.actor-index l.actors);
+  stand : All (λ a. IsAudited g.L.Heap.config a.claims Holds) (take l.actor-index l.actors);
 }

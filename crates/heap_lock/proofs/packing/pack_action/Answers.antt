@@ -1,4 +1,4 @@
-use Rattle.std.proofs.Common.{◌≡◌, sym, ap, ◌∙◌}
+use Rattle.std.proofs.Common.{sym, ap, ◌∙◌}
 use Rattle.heap_lock.specs.declared.pack.DeedPack.{DeedPack}
 use Rattle.heap_lock.specs.Packs.{action_by, action_in}
 use Rattle.heap_lock.proofs.packing.pack_action.Goals as goal

@@ -6,13 +6,15 @@ use Rattle.heapdbg.proofs.serve.serve_users.Goals as goal
 pub returns-in-Ok-serve_heap : goal.returns-in-Ok-serve_heap
 returns-in-Ok-serve_heap g c =
     let over = c.in-Ok-serve_heap.ensures in
+    let made = over.0 ∙ c.set_rolls.ensures in
     inl (
       c.in-Ok-serve_heap.heap,
       (
-        ap (λ (b : Maker). b.config) over.0 ∙ c.in-Ok.ensures.settings ∙ c.config.ensures,
-        ap (λ (b : Maker). length b.seats) over.0 ∙ c.in-Ok.ensures.seats.1,
+        ap (λ (b : Maker). b.config) made ∙ c.in-Ok.ensures.settings ∙ c.config.ensures,
+        ap (λ (b : Maker). length b.seats) made ∙ c.in-Ok.ensures.seats.1,
         over.1 ∙ c.terms.ensures,
         over.2,
+        ap (λ (b : Maker). b.rolls) made,
       ),
       c.tell.ensures,
     )

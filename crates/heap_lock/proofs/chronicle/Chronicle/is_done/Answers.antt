@@ -1,34 +1,16 @@
-use Rattle.std.proofs.Common.{◌<◌, List, length, sym, ap, subst, ◌∙◌, arith}
-use Rattle.std.specs.Prelude.{Some, slice_get}
-use Rattle.heap_lock.specs.declared.entry.Entry.{Entry}
-use Rattle.heap_lock.specs.Chronicles.{ChronicleState, HasPlace}
-use Rattle.heap_lock.specs.History.{entry}
-use Rattle.heap_lock.specs.Packs.{entry_in}
-use Rattle.heap_lock.proofs.Places.{reads, reads_none, at_placed, same_at, none_at}
+use Rattle.std.proofs.Common.{◌≡◌, ◌-◌, length, sym, ap, ◌∙◌, arith}
+use Rattle.std.specs.Prelude.{slice_get}
+use Rattle.heap_lock.specs.Chronicles.{ChronicleState, dropped_of, entries_of}
+use Rattle.heap_lock.proofs.Rolls.{in_newer}
 use Rattle.heap_lock.proofs.chronicle.Chronicle.is_done.Goals as goal
 
-pub tells-requires : goal.tells-requires
-tells-requires c =
-    let whole = c.self.inside.whole.items in
-    let packs = c.self.inside.packs.items in
-    let p = c.index-pack.result.now in
-    let lt : c.args.at < length packs = omega (arith, c.len.ensures, c.if-at-len.false) in
-    subst (λ (l : List Entry). HasPlace (length l) p) (sym c.as_slice.ensures.value) (at_placed (length whole) packs c.args.at p c.self.invariant lt c.index-pack.ensures)
-
-pub returns-then-at-len : goal.returns-then-at-len
-returns-then-at-len c =
-    let whole = c.self.inside.whole.items in
-    let packs = c.self.inside.packs.items in
-    let none = reads_none whole packs c.args.at (omega (arith, c.len.ensures, c.if-at-len.true)) in
-    none_at _ (entry c.args.seat c.args.action.now c.args.answer) (ap (λ (s : ChronicleState). slice_get s.entries c.args.at) (sym c.self.view_is) ∙ none)
-
-pub returns : goal.returns
-returns c =
-    let whole = c.self.inside.whole.items in
-    let packs = c.self.inside.packs.items in
-    let p = c.index-pack.result.now in
-    let lt : c.args.at < length packs = omega (arith, c.len.ensures, c.if-at-len.false) in
-    let read = reads whole packs c.args.at p lt c.index-pack.ensures in
-    same_at c.tells.result _ (entry_in c.as_slice.result.now p) (entry c.args.seat c.args.action.now c.args.answer)
-    (ap (λ (s : ChronicleState). slice_get s.entries c.args.at) (sym c.self.view_is) ∙ read ∙ ap (λ (l : List Entry). Some (entry_in l p)) (sym c.as_slice.ensures.value))
-    c.tells.ensures
+pub returns-else-kept-older-clause-kept : goal.returns-else-kept-older-clause-kept
+returns-else-kept-older-clause-kept c =
+    let s = c.self.inside in
+    let here : slice_get c.args.self.now.entries c.args.at ≡ slice_get s.newer.entries (c.args.at - s.dropped - c.len-older.result) =
+    ap (λ (x : ChronicleState). slice_get x.entries c.args.at) (sym c.self.view_is)
+    ∙ in_newer s.older.entries s.newer.entries s.dropped (entries_of s.noted.items) c.args.at c.self.invariant.0 (omega (arith, c.if-at-self.false)) (omega (arith, c.len-older.ensures, c.if-kept-older.false))
+    ∙ ap (λ n. slice_get s.newer.entries (c.args.at - s.dropped - n)) (sym c.len-older.ensures) in (
+      omega (arith, ap (λ (x : ChronicleState). dropped_of x.rolls (length x.entries)) c.self.view_is, c.self.invariant.1, c.if-at-self.false),
+      (λ t. here ∙ c.is_done-else-kept-older.ensures.0 t, λ e. c.is_done-else-kept-older.ensures.1 (sym here ∙ e)),
+    )

@@ -19,9 +19,9 @@ invariant_of-self g c =
 pub returns-clause-done : goal.returns-clause-done
 returns-clause-done g c =
     let may = may_reply c.self.inside.machine c.close_pin-done.new.self (ClosePin c.args.pin) (λ u. Closed) c.close_pin-done.result c.close_pin-done.ensures.done (plainly c.self.inside.machine c.close_pin-done.new.self (ClosePin c.args.pin) c.close_pin-done.result c.close_pin-done.ensures.refused) c.close_pin-done.ensures.unchanged in
-    (dumped_done c.args.self.now c.self.inside.machine c.close_pin-done.new.self c.self.inside.chronicle.entries c.self.inside.ledger c.note.new.self (ClosePin c.args.pin) (λ u. Closed) c.close_pin-done.result c.self.view_is may c.note.ensures).0
+    (dumped_done c.args.self.now c.self.inside.machine c.close_pin-done.new.self c.self.inside.chronicle c.self.inside.ledger c.note.new.self (ClosePin c.args.pin) (λ u. Closed) c.close_pin-done.result c.self.view_is may c.note.ensures).0
 
 pub returns-clause-refused : goal.returns-clause-refused
 returns-clause-refused g c =
     let may = may_reply c.self.inside.machine c.close_pin-done.new.self (ClosePin c.args.pin) (λ u. Closed) c.close_pin-done.result c.close_pin-done.ensures.done (plainly c.self.inside.machine c.close_pin-done.new.self (ClosePin c.args.pin) c.close_pin-done.result c.close_pin-done.ensures.refused) c.close_pin-done.ensures.unchanged in
-    (dumped_done c.args.self.now c.self.inside.machine c.close_pin-done.new.self c.self.inside.chronicle.entries c.self.inside.ledger c.note.new.self (ClosePin c.args.pin) (λ u. Closed) c.close_pin-done.result c.self.view_is may c.note.ensures).1
+    (dumped_done c.args.self.now c.self.inside.machine c.close_pin-done.new.self c.self.inside.chronicle c.self.inside.ledger c.note.new.self (ClosePin c.args.pin) (λ u. Closed) c.close_pin-done.result c.self.view_is may c.note.ensures).1

@@ -20,12 +20,12 @@ invariant_of-self g c =
 pub returns-clause-done : goal.returns-clause-done
 returns-clause-done g c =
     let may = may_reply c.self.inside.machine c.piece-done.new.self (NextPiece c.args.pin c.args.time) (λ p. Part p) c.piece-done.result c.piece-done.ensures.done c.piece-done.ensures.refused c.piece-done.ensures.unchanged in
-    (dumped_done c.args.self.now c.self.inside.machine c.piece-done.new.self c.self.inside.chronicle.entries c.self.inside.ledger c.note.new.self (NextPiece c.args.pin c.args.time) (λ p. Part p) c.piece-done.result c.self.view_is may c.note.ensures).0
+    (dumped_done c.args.self.now c.self.inside.machine c.piece-done.new.self c.self.inside.chronicle c.self.inside.ledger c.note.new.self (NextPiece c.args.pin c.args.time) (λ p. Part p) c.piece-done.result c.self.view_is may c.note.ensures).0
 
 pub returns-clause-refused : goal.returns-clause-refused
 returns-clause-refused g c =
     let may = may_reply c.self.inside.machine c.piece-done.new.self (NextPiece c.args.pin c.args.time) (λ p. Part p) c.piece-done.result c.piece-done.ensures.done c.piece-done.ensures.refused c.piece-done.ensures.unchanged in
-    (dumped_done c.args.self.now c.self.inside.machine c.piece-done.new.self c.self.inside.chronicle.entries c.self.inside.ledger c.note.new.self (NextPiece c.args.pin c.args.time) (λ p. Part p) c.piece-done.result c.self.view_is may c.note.ensures).1
+    (dumped_done c.args.self.now c.self.inside.machine c.piece-done.new.self c.self.inside.chronicle c.self.inside.ledger c.note.new.self (NextPiece c.args.pin c.args.time) (λ p. Part p) c.piece-done.result c.self.view_is may c.note.ensures).1
 
 pub returns-clause-legal : goal.returns-clause-legal
 returns-clause-legal g c = subst (λ ids. IfOk c.piece-done.result (λ p. IsPieceOfLegal ids c.args.time p)) c.self.invariant.0.ids c.piece-done.ensures.legal

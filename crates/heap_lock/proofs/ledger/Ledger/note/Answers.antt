@@ -1,4 +1,4 @@
-use Rattle.std.proofs.Common.{ap, sym, ◌∙◌, arith}
+use Rattle.std.proofs.Common.{arith}
 use Rattle.heap_lock.proofs.SightSteps.{adds_as}
 use Rattle.heap_lock.proofs.ledger.Ledger.note.Goals as goal
 

@@ -1,0 +1,423 @@
+-- What the settings are that a command line asks for.
+use Rattle.std.proofs.Common.{◌≡◌, ◌∙◌, ◌<◌, ◌≤◌, ◌^◌, ℕ, Bool, true, false, ◌&&◌, ◌||◌, cond, List, [], ◌∷◌, Option, Some, None, refl, sym, ap, subst, arith, codes, rules}
+use Rattle.std.specs.Prelude.{◌==◌, Err, is_some, not, find, drop, length, option_and_then, option_map, nat_le, nat_lt}
+use Rattle.std.specs.List.{list_all}
+use Rattle.std.specs.Char.{is_ascii_digit}
+use Rattle.std.specs.Str.{bytes_eq}
+use Rattle.std.specs.Str.Parse.{IsNumeral, digits_value, without_leading_plus}
+use Rattle.std.proofs.lemmas.Str.Parse.{IsNumeralModel, numerals_by_value, parse_digits}
+use Rattle.std.proofs.lemmas.Bool.{eqb-false, leb-true, ltb-true}
+use Rattle.clap.specs.Simple.{Shape, argument_words, built, entered, label_of, names_of, rows_at}
+use Rattle.clap.specs.Walk.{answers_to, stop_after}
+use Rattle.clap.specs.Words.{Row, Text, first_of, subcommand_of}
+use Rattle.heap_class.specs.declared.IdSize.{IdSize}
+use Rattle.heap_class.specs.declared.IdSize.TheVariants.{Eight}
+use Rattle.heap_region.specs.Limits.{region_limit}
+use Rattle.heap_world.specs.Limits.{AreHeapSettings, keep_limit, mutator_limit}
+use Rattle.heapdbg_options.specs.CommandLine.{AreSettingsWithin, HasDefaults, IsTask, ask_in, dumps_in, dumps_of, dumps_with, explore_in, explore_with, flag_in, fetch_in, heapdbg_line, id_size_in, id_size_of, is_given, is_task, IsOther, keep_default, most_sessions, number_in, number_or, other_port, port_in, port_limit, questions_in, rolls_in, reads_file, save_in, serve_in, serve_with, sessions_in, sessions_of, settings_in, settings_under, settings_with, target_in, task_in, time_limit, option_value, workers_in, workers_of}
+use Rattle.heapdbg_options.specs.declared.settings.Settings.{Settings}
+use Rattle.heapdbg_options.specs.declared.settings.Task.{Task}
+use Rattle.heapdbg_options.specs.declared.settings.Task.TheVariants.{Run, Explore, Draw, Save, Serve, Ask, Fetch}
+use Rattle.heapdbg_options.specs.declared.settings.Target.{Target}
+use Rattle.heapdbg_options.specs.declared.settings.Target.TheVariants.{Out, To}
+use Rattle.heapdbg_options.proofs.Words.{IsPlainRules, IsTailFree, both_true, found_passes, is_plain_rule, no_value, right_false, tail_free}
+
+-- ---- numbers
+
+own : IsNumeralModel (λ ds. list_all is_ascii_digit ds ≡ true) (digits_value 10)
+own = numerals_by_value _ (search rules)
+
+-- digits that `parse` refuses are none, or more than the limit
+pub number_refused : (least most : ℕ) (text : List ℕ) → most < 2 ^ 64 → list_all is_ascii_digit text ≡ true
+    → ((IsNumeral 10 (without_leading_plus text) × (digits_value 10 (without_leading_plus text) < 2 ^ 64)) → ⊥)
+    → None ≡ number_in least most text
+number_refused least most text fits digits refused =
+    go (nat_lt 0 (length text) && (list_all is_ascii_digit text && (nat_le least (digits_value 10 text) && nat_le (digits_value 10 text) most))) refl
+  where
+    go : (b : Bool) → (nat_lt 0 (length text) && (list_all is_ascii_digit text && (nat_le least (digits_value 10 text) && nat_le (digits_value 10 text) most))) ≡ b
+        → None ≡ cond b (Some (digits_value 10 text)) None
+    go false h = refl
+    go true h =
+        let all = both_true _ _ h in
+        let within = both_true _ _ (both_true _ _ all.1).1 in
+        let some_digit : 0 < length text = ltb-true _ _ all.0 in
+        let below : digits_value 10 text ≤ most = leb-true _ _ within.1 in
+        absurd (parse_digits own {E = ℕ} 64 text (Err 0) refused digits (some_digit, omega arith))
+
+pub number_within : (least most : ℕ) (text : Text) (n : ℕ) → number_in least most text ≡ Some n → (least ≤ n) × (n ≤ most)
+number_within least most text n e =
+    go (nat_lt 0 (length text) && (list_all is_ascii_digit text && (nat_le least (digits_value 10 text) && nat_le (digits_value 10 text) most))) refl e
+  where
+    go : (b : Bool) → (nat_lt 0 (length text) && (list_all is_ascii_digit text && (nat_le least (digits_value 10 text) && nat_le (digits_value 10 text) most))) ≡ b
+        → cond b (Some (digits_value 10 text)) None ≡ Some n → (least ≤ n) × (n ≤ most)
+    go false h found = cc
+    go true h found =
+        let within = both_true _ _ (both_true _ _ (both_true _ _ h).1).1 in
+        let same : digits_value 10 text ≡ n = cc (found) in
+        rw (← same) (leb-true _ _ within.0, leb-true _ _ within.1)
+
+value_within : (default least most : ℕ) (given : Option Text) (n : ℕ) → least ≤ default → default ≤ most
+    → number_or default least most given ≡ Some n → (least ≤ n) × (n ≤ most)
+value_within default least most None n low high e = let same : default ≡ n = cc in rw (← same) (low, high)
+value_within default least most (Some text) n low high e = number_within least most text n e
+
+-- ---- settings
+
+-- the rows have the settings' values
+pub record AreRead (rows : List Row) (s : Settings) : Type 0 where
+  pub regions : option_value (codes "regions") 16 1 region_limit rows ≡ Some s.regions
+  pub mutators : option_value (codes "mutators") 2 1 mutator_limit rows ≡ Some s.mutators
+  pub keep : option_value (codes "keep") keep_default 1 keep_limit rows ≡ Some s.keep
+  pub time : option_value (codes "time") 0 0 time_limit rows ≡ Some s.time
+  pub ids : id_size_in rows ≡ Some s.ids
+  pub questions : questions_in rows ≡ Some s.questions
+  pub rolls : rolls_in rows ≡ Some s.rolls
+
+all_there : (task : Task) (r m k t : Option ℕ) (i : Option IdSize) (q o : Option Bool) (s : Settings) → settings_with task r m k t i q o ≡ Some s
+    → (s.task ≡ task) × (r ≡ Some s.regions) × (m ≡ Some s.mutators) × (k ≡ Some s.keep) × (t ≡ Some s.time) × (i ≡ Some s.ids) × (q ≡ Some s.questions) × (o ≡ Some s.rolls)
+all_there task None m k t i q o s e = cc
+all_there task (Some r) None k t i q o s e = cc
+all_there task (Some r) (Some m) None t i q o s e = cc
+all_there task (Some r) (Some m) (Some k) None i q o s e = cc
+all_there task (Some r) (Some m) (Some k) (Some t) None q o s e = cc
+all_there task (Some r) (Some m) (Some k) (Some t) (Some i) None o s e = cc
+all_there task (Some r) (Some m) (Some k) (Some t) (Some i) (Some q) None s e = cc
+all_there task (Some r) (Some m) (Some k) (Some t) (Some i) (Some q) (Some o) s e = (cc, cc, cc, cc, cc, cc, cc, cc)
+
+abbrev task_by : Bool → Bool → Bool → Bool → Bool → Bool → Bool → List Row → Option Task
+task_by runs explores draws saves serves asks fetches rows = cond runs (Some Run) (cond explores (explore_in rows) (cond draws (Some Draw) (cond saves (save_in rows) (cond serves (serve_in rows) (cond asks (ask_in rows) (cond fetches (fetch_in rows) None))))))
+
+is_named : (runs explores draws saves serves asks fetches : Bool) (rows : List Row) (task : Task) → task_by runs explores draws saves serves asks fetches rows ≡ Some task → (runs || (explores || (draws || (saves || (serves || (asks || fetches)))))) ≡ true
+is_named true explores draws saves serves asks fetches rows task e = refl
+is_named false true draws saves serves asks fetches rows task e = refl
+is_named false false true saves serves asks fetches rows task e = refl
+is_named false false false true serves asks fetches rows task e = refl
+is_named false false false false true asks fetches rows task e = refl
+is_named false false false false false true fetches rows task e = refl
+is_named false false false false false false true rows task e = refl
+is_named false false false false false false false rows task e = cc
+
+pub record AreAsked (o : Option (Text × List Row)) (s : Settings) : Type 0 where
+  pub found : Text × List Row
+  pub is : o ≡ Some found
+  pub named : is_task found.0 ≡ true
+  pub task : task_in found.0 found.1 ≡ Some s.task
+  pub read : AreRead found.1 s
+
+are_asked : (o : Option (Text × List Row)) (s : Settings) → option_and_then settings_under o ≡ Some s → AreAsked o s
+are_asked None s e = cc
+are_asked (Some f) s e = go (task_in f.0 f.1) refl e
+  where
+    go : (t : Option Task) → task_in f.0 f.1 ≡ t → option_and_then (λ task. settings_in task f.1) t ≡ Some s → AreAsked (Some f) s
+    go None h found = cc
+    go (Some task) h found =
+        let there = all_there task (option_value (codes "regions") 16 1 region_limit f.1) (option_value (codes "mutators") 2 1 mutator_limit f.1)
+        (option_value (codes "keep") keep_default 1 keep_limit f.1) (option_value (codes "time") 0 0 time_limit f.1) (id_size_in f.1) (questions_in f.1) (rolls_in f.1) s found in
+        record {
+          found = f;
+          is = refl;
+          named = is_named (bytes_eq f.0 (codes "run")) (bytes_eq f.0 (codes "explore")) (bytes_eq f.0 (codes "draw")) (bytes_eq f.0 (codes "save")) (bytes_eq f.0 (codes "serve")) (bytes_eq f.0 (codes "ask")) (bytes_eq f.0 (codes "fetch")) f.1 task h;
+          task = h ∙ ap (λ t. Some t) (sym there.0);
+          read = record { regions = there.1; mutators = there.2; keep = there.3; time = there.4; ids = there.5; questions = there.6; rolls = there.7 };
+        }
+
+heap_within : (o : Option (Text × List Row)) (s : Settings) (a : AreAsked o s) → AreHeapSettings s.regions s.mutators s.keep
+heap_within o s asked =
+    let rows = asked.found.1 in
+    record {
+      regions_within = value_within 16 1 region_limit (first_of (codes "regions") rows) s.regions (omega arith) (omega arith) asked.read.regions;
+      mutators_within = value_within 2 1 mutator_limit (first_of (codes "mutators") rows) s.mutators (omega arith) (omega arith) asked.read.mutators;
+      keep_within = value_within keep_default 1 keep_limit (first_of (codes "keep") rows) s.keep (omega arith) (omega arith) asked.read.keep;
+    }
+
+port_within : (given : Option Text) (port : ℕ) → option_and_then (number_in 1 port_limit) given ≡ Some port → (1 ≤ port) × (port ≤ port_limit)
+port_within None port e = cc
+port_within (Some text) port e = number_within 1 port_limit text port e
+
+other_within : (port : ℕ) (n : Option ℕ) (dumps : Option ℕ) → ((d : ℕ) → n ≡ Some d → (1 ≤ d) × (d ≤ port_limit)) → option_and_then (other_port port) n ≡ Some dumps → IsOther port dumps
+other_within port None dumps within e = cc
+other_within port (Some d) dumps within e = go (d == port) refl e
+  where
+    go : (b : Bool) → (d == port) ≡ b → cond b None (Some (Some d)) ≡ Some dumps → IsOther port dumps
+    go true h found = cc
+    go false h found =
+        let same : Some d ≡ dumps = cc in
+        let limits = within d refl in
+        subst (IsOther port) same (limits.0, limits.1, eqb-false d port h)
+
+dumps_within : (port : ℕ) (given : Option Text) (dumps : Option ℕ) → dumps_with port given ≡ Some dumps → IsOther port dumps
+dumps_within port None dumps e = let same : None ≡ dumps = cc in subst (IsOther port) same tt
+dumps_within port (Some text) dumps e = other_within port (number_in 1 port_limit text) dumps (λ d is. number_within 1 port_limit text d is) e
+
+serve_within : (rows : List Row) (p n k : Option ℕ) (d : Option (Option ℕ)) (task : Task) → port_in rows ≡ p → sessions_in rows ≡ n → workers_in rows ≡ k
+    → option_and_then (λ port. dumps_with port (first_of (codes "dumps") rows)) p ≡ d → serve_with p n k d ≡ Some task → IsTask task
+serve_within rows None n k d task at many tending beside e = cc
+serve_within rows (Some port) None k d task at many tending beside e = cc
+serve_within rows (Some port) (Some sessions) None d task at many tending beside e = cc
+serve_within rows (Some port) (Some sessions) (Some workers) None task at many tending beside e = cc
+serve_within rows (Some port) (Some sessions) (Some workers) (Some dumps) task at many tending beside e =
+    let same : Serve port sessions workers dumps ≡ task = cc in
+    let ports = port_within (first_of (codes "port") rows) port at in
+    let counts = value_within 1 1 most_sessions (first_of (codes "sessions") rows) sessions (omega arith) (omega arith) many in
+    let tended = value_within 0 0 1 (first_of (codes "workers") rows) workers (omega arith) (omega arith) tending in
+    subst IsTask same (ports.0, ports.1, counts.0, counts.1, tended.1, dumps_within port (first_of (codes "dumps") rows) dumps beside)
+
+ask_within : (rows : List Row) (p : Option ℕ) (task : Task) → port_in rows ≡ p → option_map (λ port. Ask port) p ≡ Some task → IsTask task
+ask_within rows None task at e = cc
+ask_within rows (Some port) task at e =
+    let same : Ask port ≡ task = cc in
+    subst IsTask same (port_within (first_of (codes "port") rows) port at)
+
+fetch_within : (rows : List Row) (p : Option ℕ) (task : Task) → port_in rows ≡ p → option_map (λ port. Fetch port) p ≡ Some task → IsTask task
+fetch_within rows None task at e = cc
+fetch_within rows (Some port) task at e =
+    let same : Fetch port ≡ task = cc in
+    subst IsTask same (port_within (first_of (codes "port") rows) port at)
+
+save_within : (path port : Option Text) (task : Task) → option_map (λ target. Save target) (target_in path port) ≡ Some task → IsTask task
+save_within (Some path) None task e =
+    let same : Save Out ≡ task = cc in
+    subst IsTask same tt
+save_within (Some path) (Some text) task e = cc
+save_within None None task e = cc
+save_within None (Some text) task e = go (number_in 1 port_limit text) refl e
+  where
+    go : (n : Option ℕ) → number_in 1 port_limit text ≡ n → option_map (λ target. Save target) (option_map (λ port. To port) n) ≡ Some task → IsTask task
+    go None at e = cc
+    go (Some port) at e =
+        let same : Save (To port) ≡ task = cc in
+        subst IsTask same (number_within 1 port_limit text port at)
+
+explore_within : (from port : Option Text) (task : Task) → explore_with from port ≡ Some task → IsTask task
+explore_within from None task e = let same : Explore (is_some from) ≡ task = cc in subst IsTask same tt
+explore_within (Some path) (Some text) task e = cc
+explore_within None (Some text) task e = go (number_in 1 port_limit text) refl e
+  where
+    go : (n : Option ℕ) → number_in 1 port_limit text ≡ n → option_map (λ port. Ask port) n ≡ Some task → IsTask task
+    go None at h = cc
+    go (Some port) at h =
+        let same : Ask port ≡ task = cc in
+        subst IsTask same (number_within 1 port_limit text port at)
+
+task_within : (runs explores draws saves serves asks fetches : Bool) (rows : List Row) (task : Task) → task_by runs explores draws saves serves asks fetches rows ≡ Some task → IsTask task
+task_within true explores draws saves serves asks fetches rows task e = let same : Run ≡ task = cc in subst IsTask same tt
+task_within false true draws saves serves asks fetches rows task e = explore_within (first_of (codes "from") rows) (first_of (codes "port") rows) task e
+task_within false false true saves serves asks fetches rows task e = let same : Draw ≡ task = cc in subst IsTask same tt
+task_within false false false true serves asks fetches rows task e = save_within (first_of (codes "out") rows) (first_of (codes "to") rows) task e
+task_within false false false false true asks fetches rows task e = serve_within rows (port_in rows) (sessions_in rows) (workers_in rows) (dumps_in rows) task refl refl refl refl e
+task_within false false false false false true fetches rows task e = ask_within rows (port_in rows) task refl e
+task_within false false false false false false true rows task e = fetch_within rows (port_in rows) task refl e
+task_within false false false false false false false rows task e = cc
+
+pub limits_of : (o : Option (Text × List Row)) (s : Settings) → option_and_then settings_under o ≡ Some s → AreSettingsWithin s
+limits_of o s e =
+    let asked = are_asked o s e in
+    let name = asked.found.0 in (
+      heap_within o s asked,
+      task_within (bytes_eq name (codes "run")) (bytes_eq name (codes "explore")) (bytes_eq name (codes "draw")) (bytes_eq name (codes "save")) (bytes_eq name (codes "serve")) (bytes_eq name (codes "ask")) (bytes_eq name (codes "fetch")) asked.found.1 s.task asked.task,
+    )
+
+-- ---- defaults
+
+-- the command's rules leave the option alone if no word names it, or the command is no task
+abbrev is_free_command : Text → Shape → Bool
+is_free_command name s = not (is_task s.name) || list_all (is_plain_rule name) s.rules
+
+rules_free : (name : Text) (s : Shape) → is_free_command name s ≡ true → is_task s.name ≡ true → IsPlainRules name s.rules
+rules_free name s e named = go (is_task s.name) named e
+  where
+    go : (b : Bool) → b ≡ true → (not b || list_all (is_plain_rule name) s.rules) ≡ true → IsPlainRules name s.rules
+    go true h all = all
+    go false h all = cc
+
+given_later : (name : Text) (words : List Text) → is_given name words ≡ false → is_given name (drop 1 words) ≡ false
+given_later name [] e = refl
+given_later name (word ∷ rest) e = right_false _ _ e
+
+entered_none : (name : Text) (stop : Option (Text × List Text)) (f : Text × List Row) → list_all (is_free_command name) (built heapdbg_line).subs ≡ true
+    → IsTailFree name stop → entered (built heapdbg_line) stop ≡ Some f → is_task f.0 ≡ true → first_of name f.1 ≡ None
+entered_none name None f all tail e named = cc
+entered_none name (Some p) f all tail e named = go (find (λ s. answers_to p.0 (label_of s)) (built heapdbg_line).subs) refl e
+  where
+    go : (o : Option Shape) → find (λ s. answers_to p.0 (label_of s)) (built heapdbg_line).subs ≡ o → option_map (λ s. rows_at s p.1) o ≡ Some f
+        → first_of name f.1 ≡ None
+    go None h found = cc
+    go (Some s) h found =
+        let free = (found_passes (λ s. answers_to p.0 (label_of s)) (is_free_command name) (built heapdbg_line).subs s all h).0 in
+        let same : rows_at s p.1 ≡ f = cc in
+        let is_task : is_task s.name ≡ true = subst (λ (g : Text × List Row). is_task g.0 ≡ true) (sym same) named in
+        subst (λ (g : Text × List Row). first_of name g.1 ≡ None) same (no_value name s.rules p.1 (rules_free name s free is_task) tail)
+
+-- an option that no word names has no row
+none_of : (name : Text) (words : List Text) (f : Text × List Row) → list_all (is_free_command name) (built heapdbg_line).subs ≡ true → subcommand_of heapdbg_line words ≡ Some f → is_task f.0 ≡ true
+    → is_given name words ≡ false → first_of name f.1 ≡ None
+none_of name words f all is named other =
+    let after = tail_free name (built heapdbg_line).top.rules (names_of (built heapdbg_line)) (argument_words heapdbg_line words) (given_later name words other) in
+    entered_none name (stop_after (built heapdbg_line).top.rules (names_of (built heapdbg_line)) (argument_words heapdbg_line words)) f all after is named
+
+default_of : (name : Text) (default least most : ℕ) (words : List Text) (f : Text × List Row) (n : ℕ)
+    → list_all (is_free_command name) (built heapdbg_line).subs ≡ true → subcommand_of heapdbg_line words ≡ Some f → is_task f.0 ≡ true
+    → option_value name default least most f.1 ≡ Some n → is_given name words ≡ false → n ≡ default
+default_of name default least most words f n all is named read other =
+    let none = none_of name words f all is named other in
+    let same : Some default ≡ Some n = subst (λ o. number_or default least most o ≡ Some n) none read in
+    cc
+
+regions_free : list_all (is_free_command (codes "regions")) (built heapdbg_line).subs ≡ true
+regions_free = refl
+
+mutators_free : list_all (is_free_command (codes "mutators")) (built heapdbg_line).subs ≡ true
+mutators_free = refl
+
+keep_free : list_all (is_free_command (codes "keep")) (built heapdbg_line).subs ≡ true
+keep_free = refl
+
+time_free : list_all (is_free_command (codes "time")) (built heapdbg_line).subs ≡ true
+time_free = refl
+
+ids_free : list_all (is_free_command (codes "ids")) (built heapdbg_line).subs ≡ true
+ids_free = refl
+
+sessions_free : list_all (is_free_command (codes "sessions")) (built heapdbg_line).subs ≡ true
+sessions_free = refl
+
+workers_free : list_all (is_free_command (codes "workers")) (built heapdbg_line).subs ≡ true
+workers_free = refl
+
+from_free : list_all (is_free_command (codes "from")) (built heapdbg_line).subs ≡ true
+from_free = refl
+
+dumps_free : list_all (is_free_command (codes "dumps")) (built heapdbg_line).subs ≡ true
+dumps_free = refl
+
+questions_free : list_all (is_free_command (codes "questions")) (built heapdbg_line).subs ≡ true
+questions_free = refl
+
+roll_free : list_all (is_free_command (codes "roll")) (built heapdbg_line).subs ≡ true
+roll_free = refl
+
+-- what sessions with questions have, of a private heap and of a served one, is what the task of `explore` has
+explore_has : (P : Task → Type 0) (from port : Option Text) (task : Task) → P (Explore (is_some from)) → ((n : ℕ) → P (Ask n)) → explore_with from port ≡ Some task → P task
+explore_has P from None task one other e = let same : Explore (is_some from) ≡ task = cc in subst P same one
+explore_has P (Some path) (Some text) task one other e = cc
+explore_has P None (Some text) task one other e = go (number_in 1 port_limit text) e
+  where
+    go : (n : Option ℕ) → option_map (λ port. Ask port) n ≡ Some task → P task
+    go None h = cc
+    go (Some n) h = let same : Ask n ≡ task = cc in subst P same (other n)
+
+-- what a task of no served heap has, and what a served heap has, is what each task has
+by_task : (P : Task → Type 0) (runs explores draws saves serves asks fetches : Bool) (rows : List Row) (task : Task) → P Run → P (Explore (is_some (first_of (codes "from") rows))) → P Draw → ((target : Target) → P (Save target))
+    → ((port : ℕ) → P (Ask port)) → ((port : ℕ) → P (Fetch port)) → (serve_in rows ≡ Some task → P task) → task_by runs explores draws saves serves asks fetches rows ≡ Some task → P task
+by_task P true explores draws saves serves asks fetches rows task run explore draw save ask fetch serve e = let same : Run ≡ task = cc in subst P same run
+by_task P false true draws saves serves asks fetches rows task run explore draw save ask fetch serve e = explore_has P (first_of (codes "from") rows) (first_of (codes "port") rows) task explore ask e
+by_task P false false true saves serves asks fetches rows task run explore draw save ask fetch serve e = let same : Draw ≡ task = cc in subst P same draw
+by_task P false false false true serves asks fetches rows task run explore draw save ask fetch serve e = go (target_in (first_of (codes "out") rows) (first_of (codes "to") rows)) e
+  where
+    go : (t : Option Target) → option_map (λ target. Save target) t ≡ Some task → P task
+    go None h = cc
+    go (Some target) h = let same : Save target ≡ task = cc in subst P same (save target)
+by_task P false false false false true asks fetches rows task run explore draw save ask fetch serve e = serve e
+by_task P false false false false false true fetches rows task run explore draw save ask fetch serve e = go (port_in rows) e
+  where
+    go : (p : Option ℕ) → option_map (λ port. Ask port) p ≡ Some task → P task
+    go None h = cc
+    go (Some port) h = let same : Ask port ≡ task = cc in subst P same (ask port)
+by_task P false false false false false false true rows task run explore draw save ask fetch serve e = go (port_in rows) e
+  where
+    go : (p : Option ℕ) → option_map (λ port. Fetch port) p ≡ Some task → P task
+    go None h = cc
+    go (Some port) h = let same : Fetch port ≡ task = cc in subst P same (fetch port)
+by_task P false false false false false false false rows task run explore draw save ask fetch serve e = cc
+
+-- a served heap has the numbers of its options
+pub record IsServeOf (p n w : Option ℕ) (d : Option (Option ℕ)) (task : Task) : Type 0 where
+  pub port : ℕ
+  pub at : p ≡ Some port
+  pub sessions : n ≡ Some (sessions_of task)
+  pub workers : w ≡ Some (workers_of task)
+  pub dumps : d ≡ Some (dumps_of task)
+
+serve_of : (p n w : Option ℕ) (d : Option (Option ℕ)) (task : Task) → serve_with p n w d ≡ Some task → IsServeOf p n w d task
+serve_of None n w d task e = cc
+serve_of (Some port) None w d task e = cc
+serve_of (Some port) (Some sessions) None d task e = cc
+serve_of (Some port) (Some sessions) (Some workers) None task e = cc
+serve_of (Some port) (Some sessions) (Some workers) (Some dumps) task e =
+    let same : Serve port sessions workers dumps ≡ task = cc in
+    subst (IsServeOf (Some port) (Some sessions) (Some workers) (Some dumps)) same (record { port = port; at = refl; sessions = refl; workers = refl; dumps = refl })
+
+-- a port for dumps that no word tells is none
+default_dumps : (words : List Text) (f : Text × List Row) (task : Task) → subcommand_of heapdbg_line words ≡ Some f → is_task f.0 ≡ true
+    → is_given (codes "dumps") words ≡ false → serve_in f.1 ≡ Some task → dumps_of task ≡ None
+default_dumps words f task is named other e =
+    let served = serve_of (port_in f.1) (sessions_in f.1) (workers_in f.1) (dumps_in f.1) task e in
+    let missing : first_of (codes "dumps") f.1 ≡ None = none_of (codes "dumps") words f dumps_free is named other in
+    let none : dumps_in f.1 ≡ Some None = ap (λ o. option_and_then (λ port. dumps_with port o) (port_in f.1)) missing ∙ ap (option_and_then (λ port. dumps_with port None)) served.at in
+    let same : Some (dumps_of task) ≡ Some None = sym served.dumps ∙ none in
+    cc
+
+-- a file of lines that no word tells is none
+unread : (given : Option Text) → given ≡ None → is_some given ≡ false
+unread None none = refl
+unread (Some path) none = cc
+
+served_unread : (p n w : Option ℕ) (d : Option (Option ℕ)) (task : Task) → serve_with p n w d ≡ Some task → reads_file task ≡ false
+served_unread None n w d task e = cc
+served_unread (Some port) None w d task e = cc
+served_unread (Some port) (Some sessions) None d task e = cc
+served_unread (Some port) (Some sessions) (Some workers) None task e = cc
+served_unread (Some port) (Some sessions) (Some workers) (Some dumps) task e =
+    let same : Serve port sessions workers dumps ≡ task = cc in subst (λ t. reads_file t ≡ false) same refl
+
+-- identifiers of which no word tells the size have 8 bytes
+default_size : (words : List Text) (f : Text × List Row) (x : IdSize) → subcommand_of heapdbg_line words ≡ Some f → is_task f.0 ≡ true
+    → id_size_in f.1 ≡ Some x → is_given (codes "ids") words ≡ false → x ≡ Eight
+default_size words f x is named read other = go (option_value (codes "ids") 8 4 8 f.1) refl read
+  where
+    go : (o : Option ℕ) → option_value (codes "ids") 8 4 8 f.1 ≡ o → option_and_then id_size_of o ≡ Some x → x ≡ Eight
+    go None e sized = cc
+    go (Some bytes) e sized =
+        let eight : bytes ≡ 8 = default_of (codes "ids") 8 4 8 words f bytes ids_free is named e other in
+        let same : Some Eight ≡ Some x = subst (λ n. id_size_of n ≡ Some x) eight sized in
+        cc
+
+-- an option that no word tells is not given as 1
+default_flag : (flag : Text) (words : List Text) (f : Text × List Row) (x : Bool) → list_all (is_free_command flag) (built heapdbg_line).subs ≡ true → subcommand_of heapdbg_line words ≡ Some f → is_task f.0 ≡ true
+    → flag_in flag f.1 ≡ Some x → is_given flag words ≡ false → x ≡ false
+default_flag flag words f x free is named read other = go (option_value flag 0 0 1 f.1) refl read
+  where
+    go : (o : Option ℕ) → option_value flag 0 0 1 f.1 ≡ o → option_map (λ number. number == 1) o ≡ Some x → x ≡ false
+    go None e h = cc
+    go (Some n) e h =
+        let zero_is : n ≡ 0 = default_of flag 0 0 1 words f n free is named e other in
+        let same : Some false ≡ Some x = subst (λ k. option_map (λ number. number == 1) (Some k) ≡ Some x) zero_is h in
+        cc
+
+pub defaults_of : (words : List Text) (s : Settings) → option_and_then settings_under (subcommand_of heapdbg_line words) ≡ Some s → HasDefaults words s
+defaults_of words s e =
+    let asked = are_asked (subcommand_of heapdbg_line words) s e in
+    let name = asked.found.0 in
+    let rows = asked.found.1 in
+    let served : serve_in rows ≡ Some s.task → IsServeOf (port_in rows) (sessions_in rows) (workers_in rows) (dumps_in rows) s.task = serve_of (port_in rows) (sessions_in rows) (workers_in rows) (dumps_in rows) s.task in
+    record {
+      regions = default_of (codes "regions") 16 1 region_limit words asked.found s.regions regions_free asked.is asked.named asked.read.regions;
+      mutators = default_of (codes "mutators") 2 1 mutator_limit words asked.found s.mutators mutators_free asked.is asked.named asked.read.mutators;
+      keep = default_of (codes "keep") keep_default 1 keep_limit words asked.found s.keep keep_free asked.is asked.named asked.read.keep;
+      time = default_of (codes "time") 0 0 time_limit words asked.found s.time time_free asked.is asked.named asked.read.time;
+      ids = default_size words asked.found s.ids asked.is asked.named asked.read.ids;
+      questions = default_flag (codes "questions") words asked.found s.questions questions_free asked.is asked.named asked.read.questions;
+      rolls = default_flag (codes "roll") words asked.found s.rolls roll_free asked.is asked.named asked.read.rolls;
+      sessions = λ other. by_task (λ t. sessions_of t ≡ 1) (bytes_eq name (codes "run")) (bytes_eq name (codes "explore")) (bytes_eq name (codes "draw")) (bytes_eq name (codes "save")) (bytes_eq name (codes "serve")) (bytes_eq name (codes "ask")) (bytes_eq name (codes "fetch")) rows s.task
+          refl refl refl (λ target. refl) (λ port. refl) (λ port. refl)
+          (λ is. default_of (codes "sessions") 1 1 most_sessions words asked.found (sessions_of s.task) sessions_free asked.is asked.named (served is).sessions other) asked.task;
+      workers = λ other. by_task (λ t. workers_of t ≡ 0) (bytes_eq name (codes "run")) (bytes_eq name (codes "explore")) (bytes_eq name (codes "draw")) (bytes_eq name (codes "save")) (bytes_eq name (codes "serve")) (bytes_eq name (codes "ask")) (bytes_eq name (codes "fetch")) rows s.task
+          refl refl refl (λ target. refl) (λ port. refl) (λ port. refl)
+          (λ is. default_of (codes "workers") 0 0 1 words asked.found (workers_of s.task) workers_free asked.is asked.named (served is).workers other) asked.task;
+      dumps = λ other. by_task (λ t. dumps_of t ≡ None) (bytes_eq name (codes "run")) (bytes_eq name (codes "explore")) (bytes_eq name (codes "draw")) (bytes_eq name (codes "save")) (bytes_eq name (codes "serve")) (bytes_eq name (codes "ask")) (bytes_eq name (codes "fetch")) rows s.task
+          refl refl refl (λ target. refl) (λ port. refl) (λ port. refl)
+          (λ is. default_dumps words asked.found s.task asked.is asked.named other is) asked.task;
+      from = λ other. by_task (λ t. reads_file t ≡ false) (bytes_eq name (codes "run")) (bytes_eq name (codes "explore")) (bytes_eq name (codes "draw")) (bytes_eq name (codes "save")) (bytes_eq name (codes "serve")) (bytes_eq name (codes "ask")) (bytes_eq name (codes "fetch")) rows s.task
+          refl (unread (first_of (codes "from") rows) (none_of (codes "from") words asked.found from_free asked.is asked.named other)) refl (λ target. refl) (λ port. refl) (λ port. refl)
+          (λ is. served_unread (port_in rows) (sessions_in rows) (workers_in rows) (dumps_in rows) s.task is) asked.task;
+    }

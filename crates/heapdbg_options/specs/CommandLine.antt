@@ -1,0 +1,388 @@
+-- The command line: the settings that a list of words asks for.
+use Rattle.std.specs.Prelude.{◌≡◌, ◌≢◌, ◌≤◌, ◌==◌, ◌&&◌, ◌||◌, ℕ, List, Option, Some, None, Bool, ⊤, true, false, codes}
+use Rattle.std.specs.Prelude.{is_some, length, map, nat_le, nat_lt, option_and_then, option_map, string_bytes, if◌then◌else◌}
+use Rattle.std.specs.List.{list_all, list_any}
+use Rattle.std.specs.Option.{option_map_or}
+use Rattle.clap.specs.Lexer.{long_of}
+use Rattle.std.specs.Borrow.{Bor}
+use Rattle.std.specs.Char.{is_ascii_digit}
+use Rattle.std.specs.Str.{bytes_eq}
+use Rattle.std.specs.Str.Parse.{digits_value}
+use Rattle.clap.specs.Words.{App, Row, Rule, Text, fault_of, first_of, new_app, new_rule, subcommand_of, with_rule, with_subcommand}
+use Rattle.clap.specs.declared.builder.ArgAction.TheVariants.{Set}
+use Rattle.heap_class.specs.declared.IdSize.{IdSize}
+use Rattle.heap_class.specs.declared.IdSize.TheVariants.{Four, Eight}
+use Rattle.heap_region.specs.Limits.{region_limit}
+use Rattle.heap_world.specs.Limits.{AreHeapSettings, keep_limit, mutator_limit}
+use Rattle.heapdbg_options.specs.declared.settings.Task.{Task}
+use Rattle.heapdbg_options.specs.declared.settings.Task.TheVariants.{Run, Explore, Draw, Save, Serve, Ask, Fetch}
+use Rattle.heapdbg_options.specs.declared.settings.Target.{Target}
+use Rattle.heapdbg_options.specs.declared.settings.Target.TheVariants.{Out, To}
+use Rattle.heapdbg_options.specs.declared.settings.Settings.{Settings}
+use Rattle.heapdbg_options.specs.declared.settings.LineFault.{LineFault}
+use Rattle.heapdbg_options.specs.declared.settings.LineFault.TheVariants.{Bad, Memory}
+
+-- the texts that a list of words holds
+abbrev pub texts : List (Bor Text) → List Text
+texts = map (λ word. word.now)
+
+-- an option `--NAME VALUE`
+abbrev pub value_option : Text → Rule
+value_option name = record (new_rule name) { long = Some name; action = Some Set; value_names = 1 }
+
+-- a command with the options of the heap and its history
+abbrev pub heap_line : Text → App
+heap_line name =
+    with_rule
+    (with_rule (with_rule (new_app name) (value_option (codes "regions")))
+    (value_option (codes "mutators")))
+    (value_option (codes "keep"))
+
+-- a command with the options of the heap, its history and its dumps
+abbrev pub session_line : Text → App
+session_line name =
+    with_rule (with_rule (heap_line name) (value_option (codes "time")))
+    (value_option (codes "ids"))
+
+-- the option `--port VALUE`, which has to be given
+abbrev pub port_option : Rule
+port_option = record (value_option (codes "port")) { required = true }
+
+-- the command `run`
+abbrev pub run_line : App
+run_line = with_rule (session_line (codes "run")) (value_option (codes "questions"))
+
+-- the command `explore`
+abbrev pub explore_line : App
+explore_line =
+    with_rule (with_rule (session_line (codes "explore")) (value_option (codes "from")))
+    (value_option (codes "port"))
+
+-- the command `save`
+abbrev pub save_line : App
+save_line =
+    with_rule
+    (with_rule (with_rule (session_line (codes "save")) (value_option (codes "out")))
+    (value_option (codes "to")))
+    (value_option (codes "questions"))
+
+-- the command `serve` with its port, its sessions and its workers
+abbrev pub staffed_line : App
+staffed_line =
+    with_rule
+    (with_rule (with_rule (session_line (codes "serve")) port_option)
+    (value_option (codes "sessions")))
+    (value_option (codes "workers"))
+
+-- the command `serve`
+abbrev pub serve_line : App
+serve_line =
+    with_rule
+    (with_rule (with_rule staffed_line (value_option (codes "dumps")))
+    (value_option (codes "questions")))
+    (value_option (codes "roll"))
+
+-- the command `ask`
+abbrev pub ask_line : App
+ask_line = with_rule (new_app (codes "ask")) port_option
+
+-- the option `--out VALUE`, which has to be given
+abbrev pub out_option : Rule
+out_option = record (value_option (codes "out")) { required = true }
+
+-- the command `draw`
+abbrev pub draw_line : App
+draw_line = with_rule (session_line (codes "draw")) out_option
+
+-- the command `fetch`
+abbrev pub fetch_line : App
+fetch_line = with_rule (with_rule (new_app (codes "fetch")) port_option) out_option
+
+-- the program's name and `--version`, and a command that has to follow, such as `run`
+abbrev pub named_line : App
+named_line =
+    let named = new_app (codes "heapdbg") in
+    with_subcommand
+    (record named { top = record named.top { subcommand_required = true; has_version = true } })
+    run_line.top
+
+-- the same, with `explore` and `save`
+abbrev pub local_line : App
+local_line = with_subcommand (with_subcommand named_line explore_line.top) save_line.top
+
+-- the same, with `draw` and `serve`
+abbrev pub serving_line : App
+serving_line = with_subcommand (with_subcommand local_line draw_line.top) serve_line.top
+
+-- all commands
+abbrev pub heapdbg_line : App
+heapdbg_line = with_subcommand (with_subcommand serving_line ask_line.top) fetch_line.top
+
+-- the number that a text of digits alone writes, if it lies from least to most
+abbrev pub number_in : ℕ → ℕ → Text → Option ℕ
+number_in least most text =
+    if nat_lt 0 (length text) && (list_all is_ascii_digit text
+    && (nat_le least (digits_value 10 text) && nat_le (digits_value 10 text) most))
+    then Some (digits_value 10 text) else None
+
+-- the number that an option is given, and its default if it is not given
+abbrev pub number_or : ℕ → ℕ → ℕ → Option Text → Option ℕ
+number_or default least most None = Some default
+number_or default least most (Some text) = number_in least most text
+
+-- the value of the option of this name among the options given
+abbrev pub option_value : Text → ℕ → ℕ → ℕ → List Row → Option ℕ
+option_value name default least most rows = number_or default least most (first_of name rows)
+
+-- the size of an identifier of this number of bytes
+abbrev pub id_size_of : ℕ → Option IdSize
+id_size_of bytes = if bytes == 4 then Some Four else (if bytes == 8 then Some Eight else None)
+
+-- the size of identifiers that the option is given, and its default if it is not given
+abbrev pub id_size_in : List Row → Option IdSize
+id_size_in rows = option_and_then id_size_of (option_value (codes "ids") 8 4 8 rows)
+
+-- the settings, if each option has a value in its range
+abbrev pub settings_with : Task → Option ℕ → Option ℕ → Option ℕ → Option ℕ → Option IdSize
+    → Option Bool → Option Bool → Option Settings
+settings_with task (Some regions) (Some mutators) (Some keep) (Some time) (Some ids)
+    (Some questions) (Some rolls) =
+    Some (record {
+      task = task;
+      regions = regions;
+      mutators = mutators;
+      keep = keep;
+      time = time;
+      ids = ids;
+      questions = questions;
+      rolls = rolls;
+    })
+settings_with task _ _ _ _ _ _ _ = None
+
+-- the number of steps that can be undone, if the option is not given
+abbrev pub keep_default : ℕ
+keep_default = 1024
+
+-- the largest time
+abbrev pub time_limit : ℕ
+time_limit = 18446744073709551615
+
+-- whether an option is given as 1: not, if it is not given
+abbrev pub flag_in : Text → List Row → Option Bool
+flag_in name rows = option_map (λ number. number == 1) (option_value name 0 0 1 rows)
+
+-- whether questions are answered
+abbrev pub questions_in : List Row → Option Bool
+questions_in rows = flag_in (codes "questions") rows
+
+-- whether old entries of a chronicle are dropped in place of refusing new ones
+abbrev pub rolls_in : List Row → Option Bool
+rolls_in rows = flag_in (codes "roll") rows
+
+-- the settings of a task and its options
+abbrev pub settings_in : Task → List Row → Option Settings
+settings_in task rows = settings_with task (option_value (codes "regions") 16 1 region_limit rows)
+    (option_value (codes "mutators") 2 1 mutator_limit rows)
+    (option_value (codes "keep") keep_default 1 keep_limit rows)
+    (option_value (codes "time") 0 0 time_limit rows)
+    (id_size_in rows) (questions_in rows) (rolls_in rows)
+
+-- the highest port
+abbrev pub port_limit : ℕ
+port_limit = 65535
+
+-- the port that is given
+abbrev pub port_in : List Row → Option ℕ
+port_in rows = option_and_then (number_in 1 port_limit) (first_of (codes "port") rows)
+
+-- the largest number of sessions
+abbrev pub most_sessions : ℕ
+most_sessions = 1000
+
+-- the number of sessions asked for, and 1 if the option is not given
+abbrev pub sessions_in : List Row → Option ℕ
+sessions_in rows = option_value (codes "sessions") 1 1 most_sessions rows
+
+-- the number of markers and of sweepers asked for, and none if the option is not given
+abbrev pub workers_in : List Row → Option ℕ
+workers_in rows = option_value (codes "workers") 0 0 1 rows
+
+-- the task of `explore`, to which this file of lines or this port is given, or neither
+abbrev pub explore_with : Option Text → Option Text → Option Task
+explore_with from None = Some (Explore (is_some from))
+explore_with None (Some text) = option_map (λ port. Ask port) (number_in 1 port_limit text)
+explore_with (Some path) (Some text) = None
+
+-- the task of the options of `explore`
+abbrev pub explore_in : List Row → Option Task
+explore_in rows = explore_with (first_of (codes "from") rows) (first_of (codes "port") rows)
+
+-- the target of a dump: one of the two options is given, and a port has to be one
+abbrev pub target_in : Option Text → Option Text → Option Target
+target_in (Some path) None = Some Out
+target_in None (Some text) = option_map (λ port. To port) (number_in 1 port_limit text)
+target_in None None = None
+target_in (Some path) (Some text) = None
+
+-- the task of the options of `save`
+abbrev pub save_in : List Row → Option Task
+save_in rows =
+    option_map (λ target. Save target)
+    (target_in (first_of (codes "out") rows) (first_of (codes "to") rows))
+
+-- a port for dumps, if it isn't that of the sessions
+abbrev pub other_port : ℕ → ℕ → Option (Option ℕ)
+other_port port dumps = if dumps == port then None else Some (Some dumps)
+
+-- the port for dumps beside that of the sessions: none, if the option is not given
+abbrev pub dumps_with : ℕ → Option Text → Option (Option ℕ)
+dumps_with port None = Some None
+dumps_with port (Some text) = option_and_then (other_port port) (number_in 1 port_limit text)
+
+-- the port for dumps that is given, beside that of the sessions
+abbrev pub dumps_in : List Row → Option (Option ℕ)
+dumps_in rows =
+    option_and_then (λ port. dumps_with port (first_of (codes "dumps") rows)) (port_in rows)
+
+-- a served heap, if each option has a value in its range
+abbrev pub serve_with : Option ℕ → Option ℕ → Option ℕ → Option (Option ℕ) → Option Task
+serve_with (Some port) (Some sessions) (Some workers) (Some dumps) =
+    Some (Serve port sessions workers dumps)
+serve_with _ _ _ _ = None
+
+-- the task of the options of `serve`
+abbrev pub serve_in : List Row → Option Task
+serve_in rows = serve_with (port_in rows) (sessions_in rows) (workers_in rows) (dumps_in rows)
+
+-- the task of the options of `ask`
+abbrev pub ask_in : List Row → Option Task
+ask_in rows = option_map (λ port. Ask port) (port_in rows)
+
+-- the task of the options of `fetch`
+abbrev pub fetch_in : List Row → Option Task
+fetch_in rows = option_map (λ port. Fetch port) (port_in rows)
+
+-- a task has this name
+abbrev pub is_task : Text → Bool
+is_task name =
+    bytes_eq name (codes "run")
+    || (bytes_eq name (codes "explore")
+    || (bytes_eq name (codes "draw")
+    || (bytes_eq name (codes "save")
+    || (bytes_eq name (codes "serve")
+    || (bytes_eq name (codes "ask") || bytes_eq name (codes "fetch"))))))
+
+-- the task of a command's name and options
+abbrev pub task_in : Text → List Row → Option Task
+task_in name rows =
+    if bytes_eq name (codes "run") then Some Run
+    else (if bytes_eq name (codes "explore") then explore_in rows
+    else (if bytes_eq name (codes "draw") then Some Draw
+    else (if bytes_eq name (codes "save") then save_in rows
+    else (if bytes_eq name (codes "serve") then serve_in rows
+    else (if bytes_eq name (codes "ask") then ask_in rows
+    else (if bytes_eq name (codes "fetch") then fetch_in rows else None))))))
+
+-- the settings of a command and its options
+abbrev pub settings_under : Text × List Row → Option Settings
+settings_under found = option_and_then (λ task. settings_in task found.1) (task_in found.0 found.1)
+
+-- the settings that the words ask for, if they are a command line of the program
+abbrev pub settings_of : List Text → Option Settings
+settings_of words =
+    if length (fault_of heapdbg_line words) == 0
+    then option_and_then settings_under (subcommand_of heapdbg_line words) else None
+
+-- the word is `--NAME` or `--NAME=VALUE`
+abbrev pub names_option : Text → Text → Bool
+names_option name word = option_map_or (λ found. bytes_eq found.0 name) (long_of word) false
+
+-- a word names the option
+abbrev pub is_given : Text → List Text → Bool
+is_given name words = list_any (names_option name) words
+
+-- the path that the words give to an option
+abbrev pub path_of : Text → List Text → Option Text
+path_of name words =
+    option_and_then (λ found. first_of name found.1) (subcommand_of heapdbg_line words)
+
+-- a port for dumps, if there is one, is within the limits, and isn't that of the sessions
+abbrev pub IsOther : ℕ → Option ℕ → Type 0
+IsOther port None = ⊤
+IsOther port (Some dumps) = (1 ≤ dumps) × (dumps ≤ port_limit) × (dumps ≢ port)
+
+-- the ports and the numbers of sessions and workers are within their limits
+abbrev pub IsTask : Task → Type 0
+IsTask Run = ⊤
+IsTask (Explore from) = ⊤
+IsTask Draw = ⊤
+IsTask (Save Out) = ⊤
+IsTask (Save (To port)) = (1 ≤ port) × (port ≤ port_limit)
+IsTask (Serve port sessions workers dumps) =
+    (1 ≤ port) × (port ≤ port_limit) × (1 ≤ sessions) × (sessions ≤ most_sessions) × (workers ≤ 1)
+    × IsOther port dumps
+IsTask (Ask port) = (1 ≤ port) × (port ≤ port_limit)
+IsTask (Fetch port) = (1 ≤ port) × (port ≤ port_limit)
+
+-- the settings are within their limits
+abbrev pub AreSettingsWithin : Settings → Type 0
+AreSettingsWithin s = AreHeapSettings s.regions s.mutators s.keep × IsTask s.task
+
+-- the number of sessions
+abbrev pub sessions_of : Task → ℕ
+sessions_of Run = 1
+sessions_of (Explore from) = 1
+sessions_of Draw = 1
+sessions_of (Save target) = 1
+sessions_of (Serve port sessions workers dumps) = sessions
+sessions_of (Ask port) = 1
+sessions_of (Fetch port) = 1
+
+-- the number of markers, and of sweepers
+abbrev pub workers_of : Task → ℕ
+workers_of Run = 0
+workers_of (Explore from) = 0
+workers_of Draw = 0
+workers_of (Save target) = 0
+workers_of (Serve port sessions workers dumps) = workers
+workers_of (Ask port) = 0
+workers_of (Fetch port) = 0
+
+-- the port for dumps
+abbrev pub dumps_of : Task → Option ℕ
+dumps_of Run = None
+dumps_of (Explore from) = None
+dumps_of Draw = None
+dumps_of (Save target) = None
+dumps_of (Serve port sessions workers dumps) = dumps
+dumps_of (Ask port) = None
+dumps_of (Fetch port) = None
+
+-- the lines of a file are read first
+abbrev pub reads_file : Task → Bool
+reads_file Run = false
+reads_file (Explore from) = from
+reads_file Draw = false
+reads_file (Save target) = false
+reads_file (Serve port sessions workers dumps) = false
+reads_file (Ask port) = false
+reads_file (Fetch port) = false
+
+-- an option that no word names has its default
+pub record HasDefaults (words : List Text) (s : Settings) : Type 0 where
+  pub regions : is_given (codes "regions") words ≡ false → s.regions ≡ 16
+  pub mutators : is_given (codes "mutators") words ≡ false → s.mutators ≡ 2
+  pub keep : is_given (codes "keep") words ≡ false → s.keep ≡ keep_default
+  pub time : is_given (codes "time") words ≡ false → s.time ≡ 0
+  pub ids : is_given (codes "ids") words ≡ false → s.ids ≡ Eight
+  pub questions : is_given (codes "questions") words ≡ false → s.questions ≡ false
+  pub rolls : is_given (codes "roll") words ≡ false → s.rolls ≡ false
+  pub sessions : is_given (codes "sessions") words ≡ false → sessions_of s.task ≡ 1
+  pub workers : is_given (codes "workers") words ≡ false → workers_of s.task ≡ 0
+  pub from : is_given (codes "from") words ≡ false → reads_file s.task ≡ false
+  pub dumps : is_given (codes "dumps") words ≡ false → dumps_of s.task ≡ None
+
+-- the fault has this text, or memory ran out
+abbrev pub IsBadWith : Text → LineFault → Type 0
+IsBadWith text (Bad shown) = string_bytes shown ≡ text
+IsBadWith text Memory = ⊤

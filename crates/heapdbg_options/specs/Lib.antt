@@ -1,0 +1,3 @@
+-- The meaning of the program's command line.
+pub mod CommandLine
+pub mod Refusals

@@ -1,0 +1,101 @@
+-- The texts for command lines that the program refuses.
+use Rattle.std.specs.Prelude.{◌≡◌, ◌⊎◌, ◌++◌, ℕ, List, Option, Some, None, [], ◌∷◌, ⊤, false, true, codes, is_some, string_bytes}
+use Rattle.std.specs.Option.{option_map_or}
+use Rattle.clap.specs.Words.{Row, Text, fault_of, first_of, subcommand_of}
+use Rattle.clap.specs.declared.error.kind.ErrorKind.TheVariants.{DisplayVersion}
+use Rattle.heap_region.specs.Limits.{region_limit}
+use Rattle.heap_world.specs.Limits.{keep_limit, mutator_limit}
+use Rattle.heapdbg_options.specs.CommandLine.{dumps_with, heapdbg_line, id_size_in, is_task, keep_default, number_in, port_in, port_limit, questions_in, rolls_in, sessions_in, settings_of, option_value, time_limit, workers_in}
+use Rattle.heapdbg_options.specs.declared.refusal.Mistake.{Mistake}
+use Rattle.heapdbg_options.specs.declared.refusal.Mistake.TheVariants.{Command, Regions, Mutators, Keep, Time, Ids, Port, Sessions, Workers, Questions, Roll, Dumps, To, Place, Source}
+use Rattle.heapdbg_options.specs.declared.settings.LineFault.{LineFault}
+use Rattle.heapdbg_options.specs.declared.settings.LineFault.TheVariants.{Bad, Memory}
+
+-- a value is given that is no number in this range
+abbrev pub IsOutside : ℕ → ℕ → Option Text → Type 0
+IsOutside least most None = ⊥
+IsOutside least most (Some text) = number_in least most text ≡ None
+
+-- a path and a port have this mistake, of which one has to be given
+abbrev pub IsTargetMistake : Mistake → Option Text → Option Text → Type 0
+IsTargetMistake m path port =
+    ((m ≡ Place) × (is_some path ≡ is_some port)) ⊎ ((m ≡ To) × IsOutside 1 port_limit port)
+
+-- a file of lines and a port have this mistake, of which at most one may be given
+abbrev pub IsExploreMistake : Mistake → Option Text → Option Text → Type 0
+IsExploreMistake m from port =
+    ((m ≡ Source) × (is_some from ≡ true) × (is_some port ≡ true))
+    ⊎ ((m ≡ Port) × IsOutside 1 port_limit port)
+
+-- the options of a command have this mistake
+abbrev pub IsMistakeIn : Mistake → List Row → Type 0
+IsMistakeIn Command rows = ⊥
+IsMistakeIn Regions rows = option_value (codes "regions") 16 1 region_limit rows ≡ None
+IsMistakeIn Mutators rows = option_value (codes "mutators") 2 1 mutator_limit rows ≡ None
+IsMistakeIn Keep rows = option_value (codes "keep") keep_default 1 keep_limit rows ≡ None
+IsMistakeIn Time rows = option_value (codes "time") 0 0 time_limit rows ≡ None
+IsMistakeIn Ids rows = id_size_in rows ≡ None
+IsMistakeIn Port rows = port_in rows ≡ None
+IsMistakeIn Sessions rows = sessions_in rows ≡ None
+IsMistakeIn Workers rows = workers_in rows ≡ None
+IsMistakeIn Questions rows = questions_in rows ≡ None
+IsMistakeIn Roll rows = rolls_in rows ≡ None
+IsMistakeIn Dumps rows =
+    (port : ℕ) × (port_in rows ≡ Some port)
+    × (dumps_with port (first_of (codes "dumps") rows) ≡ None)
+IsMistakeIn Source rows =
+    IsExploreMistake Source (first_of (codes "from") rows) (first_of (codes "port") rows)
+IsMistakeIn To rows = IsTargetMistake To (first_of (codes "out") rows) (first_of (codes "to") rows)
+IsMistakeIn Place rows =
+    IsTargetMistake Place (first_of (codes "out") rows) (first_of (codes "to") rows)
+
+-- no command of the program is there
+abbrev pub IsNoTask : Option (Text × List Row) → Type 0
+IsNoTask None = ⊤
+IsNoTask (Some found) = is_task found.0 ≡ false
+
+-- a command line, of which a command and its options were found, has this mistake
+abbrev pub IsMistake : Mistake → Option (Text × List Row) → Type 0
+IsMistake m found =
+    IsMistakeIn m (option_map_or (λ f. f.1) found []) ⊎ ((m ≡ Command) × IsNoTask found)
+
+-- the text that says what has to be given instead
+abbrev pub mistake_of : Mistake → Text
+mistake_of Command = codes "heapdbg takes one of run, explore, draw, save, serve, ask and fetch"
+mistake_of Regions = codes "--regions takes 1 to 256"
+mistake_of Mutators = codes "--mutators takes 1 to 16"
+mistake_of Keep = codes "--keep takes 1 to 65536"
+mistake_of Time = codes "--time takes 0 to 18446744073709551615"
+mistake_of Ids = codes "--ids takes 4 or 8"
+mistake_of Port = codes "--port takes 1 to 65535"
+mistake_of Sessions = codes "--sessions takes 1 to 1000"
+mistake_of Workers = codes "--workers takes 0 or 1"
+mistake_of Questions = codes "--questions takes 0 or 1"
+mistake_of Roll = codes "--roll takes 0 or 1"
+mistake_of Dumps = codes "--dumps takes 1 to 65535, and not the number of --port"
+mistake_of To = codes "--to takes 1 to 65535"
+mistake_of Place = codes "save takes one of --out and --to"
+mistake_of Source = codes "explore takes one of --from and --port, or neither"
+
+-- the whole text of a mistake
+abbrev pub text_of_mistake : Mistake → Text
+text_of_mistake m =
+    codes "error: " ++ (mistake_of m ++ codes "\n\nFor more information, try 'heapdbg --help'.\n")
+
+-- the answer to `--version`
+abbrev pub version_text : Text
+version_text = codes "heapdbg 1.0.0 (logic dac8208d650f15bf)\n"
+
+-- the text names a mistake of the command line
+abbrev pub NamesMistake : List Text → Text → Type 0
+NamesMistake words text =
+    (m : Mistake) × IsMistake m (subcommand_of heapdbg_line words) × (text ≡ text_of_mistake m)
+
+-- a refusal fits the words: they ask for no settings. If the parser finds no fault in them, the text names a mistake; if it
+-- finds that they ask for the version, the text is that
+abbrev pub IsRefusalOf : List Text → LineFault → Type 0
+IsRefusalOf words (Bad text) =
+    (settings_of words ≡ None)
+    × (fault_of heapdbg_line words ≡ [] → NamesMistake words (string_bytes text))
+    × (fault_of heapdbg_line words ≡ DisplayVersion ∷ [] → string_bytes text ≡ version_text)
+IsRefusalOf words Memory = ⊤

@@ -1,0 +1,355 @@
+//! Reads the command line.
+ghost use Rattle.std.specs.Prelude.{◌≡◌, None, Some, codes, false, IfOk, IfErr, IfSome};
+ghost use Rattle.std.specs.List.{list_all};
+ghost use Rattle.std.specs.Prelude.{option_and_then};
+ghost use Rattle.std.specs.Char.{is_ascii_digit};
+ghost use Rattle.clap.specs.Words.{FailsBy, app_of, fault_of, found_of, kind_of, rows_of};
+ghost use Rattle.clap.specs.declared.builder.Command.TheViews.{out-Command};
+ghost use Rattle.clap.specs.Words.{rule_of, subcommand_of, subcommand_rows_of};
+ghost use Rattle.heapdbg_options.specs.CommandLine.{AreSettingsWithin, HasDefaults, IsBadWith, heap_line, heapdbg_line, local_line, named_line, number_in};
+ghost use Rattle.heapdbg_options.specs.CommandLine.{settings_in, settings_of, settings_under, texts, option_value};
+ghost use Rattle.heapdbg_options.specs.CommandLine.{id_size_in, id_size_of, flag_in, path_of, serving_line, session_line, task_in, value_option};
+ghost use Rattle.heapdbg_options.specs.Refusals.{IsMistake, IsMistakeIn, IsRefusalOf, version_text};
+
+use crate::refusal::{Mistake, VERSION, version};
+use crate::save_options::{save_parser, save_task};
+use crate::session_options::{draw_parser, explore_parser, explore_task, run_parser};
+use crate::settings::{LineFault, Settings, Task};
+use crate::socket_options::{
+    ask_parser, ask_task, fetch_parser, fetch_task, serve_parser, serve_task,
+};
+use clap::error::ErrorKind;
+use clap::{Arg, ArgAction, ArgMatches, Command, Error};
+use heap_class::IdSize;
+use heap_world::{KEEP_LIMIT, MUTATOR_LIMIT, REGION_LIMIT};
+use std::alloc::{AllocError, Global};
+
+/// Returns the settings that the words ask for, the first of which is the program's name. Fails with Bad if they are no
+/// command line of this program or ask for help or for the version, and with Memory only if an allocation fails.
+pub fn settings(alloc: Global, words: &[&str]) -> Result<Settings, LineFault>
+    ensures ok { IfOk result (λ s. settings_of (texts words.now) ≡ Some s) }
+    ensures refused { IfErr result (IsRefusalOf (texts words.now)) }
+    ensures limits { IfOk result AreSettingsWithin }
+    ensures defaults { IfOk result (HasDefaults (texts words.now)) }
+{
+    let matches = match parse(alloc, words) {
+        Ok(matches) => matches,
+        Err(error) => return Err(refusal(alloc, &error)),
+    };
+    match settings_of_matches(&matches) {
+        Ok(settings) => Ok(settings),
+        Err(mistake) => Err(mistake.refusal(alloc)),
+    }
+}
+
+/// Returns the path that the words give to an option, or None if they give none or an allocation fails.
+pub fn path_option<'a>(alloc: Global, words: &'a [&'a str], name: &str) -> Option<&'a str>
+    ensures { IfSome result (λ path. path_of name.now (texts words.now) ≡ Some path.now) }
+{
+    match parse(alloc, words) {
+        Ok(matches) => match matches.subcommand() {
+            Some((_, options)) => options.get_str(name),
+            None => None,
+        },
+        Err(_) => None,
+    }
+}
+
+// Parses the words.
+fn parse<'a>(alloc: Global, words: &'a [&'a str]) -> Result<ArgMatches<'a>, Error>
+    ensures ok { IfOk result
+        (λ m. subcommand_rows_of m ≡ subcommand_of heapdbg_line (texts words.now)) }
+    ensures faults { FailsBy (fault_of heapdbg_line (texts words.now)) result }
+{
+    let parser = parser(alloc)?;
+    parser.try_get_matches_from(words)
+}
+
+// Creates the parser of the command line: the program's name, and a command that has to follow.
+fn parser<'a>(alloc: Global) -> Result<Command<'a>, AllocError>
+    ensures { IfOk result (λ c. app_of c ≡ heapdbg_line) }
+{
+    let ask = ask_parser(alloc)?;
+    let fetch = fetch_parser(alloc)?;
+    serving_parser(alloc)?.subcommand(ask)?.subcommand(fetch)
+}
+
+// Creates the parser of the program's name and of the commands that open a heap.
+fn serving_parser<'a>(alloc: Global) -> Result<Command<'a>, AllocError>
+    ensures { IfOk result (λ c. app_of c ≡ serving_line) }
+{
+    let draw = draw_parser(alloc)?;
+    let serve = serve_parser(alloc)?;
+    local_parser(alloc)?.subcommand(draw)?.subcommand(serve)
+}
+
+// Creates the parser of the program's name and of the commands `run`, `explore` and `save`.
+fn local_parser<'a>(alloc: Global) -> Result<Command<'a>, AllocError>
+    ensures { IfOk result (λ c. app_of c ≡ local_line) }
+{
+    let explore = explore_parser(alloc)?;
+    let save = save_parser(alloc)?;
+    named_parser(alloc)?.subcommand(explore)?.subcommand(save)
+}
+
+// Creates the parser of the program's name and of the command `run`.
+fn named_parser<'a>(alloc: Global) -> Result<Command<'a>, AllocError>
+    ensures { IfOk result (λ c. app_of c ≡ named_line) }
+{
+    let run = run_parser(alloc)?;
+    Command::new(alloc, "heapdbg")
+        .version(VERSION)
+        .subcommand_required(true)
+        .subcommand(run)
+}
+
+// Creates the parser of a command that opens a heap, with the options for the heap, its history and its dumps.
+pub(crate) fn session_parser<'a>(
+    alloc: Global,
+    name: &'a str,
+    about: &'a str,
+) -> Result<Command<'a>, AllocError>
+    ensures app { IfOk result (λ c. app_of c ≡ session_line name.entry.now) }
+    ensures local { IfOk result (λ c. (out-Command c).has_globals ≡ false) }
+{
+    let time = value_arg(
+        alloc,
+        "time",
+        "Milliseconds since 1970 in the header of a dump [default: 0]",
+    );
+    let ids = value_arg(
+        alloc,
+        "ids",
+        "Bytes of an identifier in a dump, 4 or 8 [default: 8]",
+    );
+    heap_parser(alloc, name, about)?.arg(time)?.arg(ids)
+}
+
+// Creates the parser of a command with the options for the size of the heap and its history.
+fn heap_parser<'a>(alloc: Global, name: &'a str, about: &'a str) -> Result<Command<'a>, AllocError>
+    ensures app { IfOk result (λ c. app_of c ≡ heap_line name.entry.now) }
+    ensures local { IfOk result (λ c. (out-Command c).has_globals ≡ false) }
+{
+    let regions = value_arg(
+        alloc,
+        "regions",
+        "Regions of the heap, 1 to 256 [default: 16]",
+    );
+    let mutators = value_arg(
+        alloc,
+        "mutators",
+        "Mutators of the heap, 1 to 16 [default: 2]",
+    );
+    let keep = value_arg(
+        alloc,
+        "keep",
+        "Steps that can be undone, 1 to 65536 [default: 1024]",
+    );
+    Command::new(alloc, name)
+        .about(about)
+        .arg(regions)?
+        .arg(mutators)?
+        .arg(keep)
+}
+
+// Creates the option `--NAME PATH`.
+pub(crate) fn path_arg<'a>(alloc: Global, name: &'a str, help: &'a str) -> Arg<'a>
+    ensures rule { rule_of result ≡ value_option name.entry.now }
+    ensures local { result.global ≡ false }
+{
+    Arg::new(alloc, name)
+        .long(name)
+        .action(ArgAction::Set)
+        .value_name("PATH")
+        .help(help)
+}
+
+// Creates the option `--NAME N`.
+pub(crate) fn value_arg<'a>(alloc: Global, name: &'a str, help: &'a str) -> Arg<'a>
+    ensures rule { rule_of result ≡ value_option name.entry.now }
+    ensures local { result.global ≡ false }
+{
+    Arg::new(alloc, name)
+        .long(name)
+        .action(ArgAction::Set)
+        .value_name("N")
+        .help(help)
+}
+
+// Creates the option `--questions N`.
+pub(crate) fn questions_arg<'a>(alloc: Global) -> Arg<'a>
+    ensures rule { rule_of result ≡ value_option (codes "questions") }
+    ensures local { result.global ≡ false }
+{
+    let help = "Whether questions are answered, 0 or 1 [default: 0]";
+    value_arg(alloc, "questions", help)
+}
+
+// Returns the settings that the matches ask for, or the mistake in them.
+fn settings_of_matches(matches: &ArgMatches<'_>) -> Result<Settings, Mistake>
+    ensures ok { IfOk result
+        (λ s. option_and_then settings_under (subcommand_rows_of matches.now) ≡ Some s) }
+    ensures none { IfErr result
+        (λ m. option_and_then settings_under (subcommand_rows_of matches.now) ≡ None) }
+    ensures mistake { IfErr result (λ m. IsMistake m (subcommand_rows_of matches.now)) }
+{
+    let Some((name, options)) = matches.subcommand() else {
+        return Err(Mistake::Command);
+    };
+    let task = task_of(name, options)?;
+    settings_from(task, options)
+}
+
+// Returns the task of a command's name and options, or the mistake in them.
+fn task_of(name: &str, options: &ArgMatches<'_>) -> Result<Task, Mistake>
+    ensures ok { IfOk result
+        (λ task. task_in name.now (rows_of (found_of options.now)) ≡ Some task) }
+    ensures none { IfErr result (λ m. task_in name.now (rows_of (found_of options.now)) ≡ None) }
+    ensures mistake { IfErr result
+        (λ m. IsMistake m (Some (name.now, rows_of (found_of options.now)))) }
+{
+    if name == "run" {
+        return Ok(Task::Run);
+    }
+    if name == "explore" {
+        return explore_task(options);
+    }
+    if name == "draw" {
+        return Ok(Task::Draw);
+    }
+    if name == "save" {
+        return save_task(options);
+    }
+    if name == "serve" {
+        return serve_task(options);
+    }
+    if name == "ask" {
+        return ask_task(options);
+    }
+    if name == "fetch" {
+        fetch_task(options)
+    } else {
+        Err(Mistake::Command)
+    }
+}
+
+// Returns the settings of a task's options, or the option whose value is out of its range.
+fn settings_from(task: Task, options: &ArgMatches<'_>) -> Result<Settings, Mistake>
+    ensures ok { IfOk result (λ s. settings_in task (rows_of (found_of options.now)) ≡ Some s) }
+    ensures none { IfErr result (λ m. settings_in task (rows_of (found_of options.now)) ≡ None) }
+    ensures mistake { IfErr result (λ m. IsMistakeIn m (rows_of (found_of options.now))) }
+{
+    let Some(regions) = option_value(options, "regions", 16, 1, REGION_LIMIT) else {
+        return Err(Mistake::Regions);
+    };
+    let Some(mutators) = option_value(options, "mutators", 2, 1, MUTATOR_LIMIT) else {
+        return Err(Mistake::Mutators);
+    };
+    let Some(keep) = option_value(options, "keep", 1024, 1, KEEP_LIMIT) else {
+        return Err(Mistake::Keep);
+    };
+    let Some(time) = option_value(options, "time", 0, 0, u64::MAX) else {
+        return Err(Mistake::Time);
+    };
+    let Some(ids) = id_size_from(options) else {
+        return Err(Mistake::Ids);
+    };
+    let Some(questions) = flag_from(options, "questions") else {
+        return Err(Mistake::Questions);
+    };
+    let Some(rolls) = flag_from(options, "roll") else {
+        return Err(Mistake::Roll);
+    };
+    Ok(Settings {
+        task,
+        regions,
+        mutators,
+        keep,
+        time,
+        ids,
+        questions,
+        rolls,
+    })
+}
+
+// Returns the size of identifiers that the options give, or None if it is out of its range.
+fn id_size_from(options: &ArgMatches<'_>) -> Option<IdSize>
+    ensures { result ≡ id_size_in (rows_of (found_of options.now)) }
+{
+    let bytes = option_value(options, "ids", 8, 4, 8)?;
+    id_size(bytes)
+}
+
+// Returns whether an option is given as 1, or None if it is out of its range.
+fn flag_from(options: &ArgMatches<'_>, name: &str) -> Option<bool>
+    ensures { result ≡ flag_in name.now (rows_of (found_of options.now)) }
+{
+    let number = option_value(options, name, 0, 0, 1)?;
+    Some(number == 1)
+}
+
+// Returns the size of an identifier of `bytes` bytes, or None if they are neither 4 nor 8.
+fn id_size(bytes: u64) -> Option<IdSize>
+    ensures { result ≡ id_size_of bytes }
+{
+    match bytes {
+        4 => Some(IdSize::Four),
+        8 => Some(IdSize::Eight),
+        _ => None,
+    }
+}
+
+// Returns the value of an option, `default` if it isn't given, or None if it isn't from `least` to `most`.
+pub(crate) fn option_value(
+    options: &ArgMatches<'_>,
+    name: &str,
+    default: u64,
+    least: u64,
+    most: u64,
+) -> Option<u64>
+    ensures { result ≡ option_value name.now default least most (rows_of (found_of options.now)) }
+{
+    match options.get_str(name) {
+        Some(text) => number(text, least, most),
+        None => Some(default),
+    }
+}
+
+// Returns the number that a text of digits alone writes, or None if it isn't from `least` to `most` or the text is another.
+pub(crate) fn number(text: &str, least: u64, most: u64) -> Option<u64>
+    ensures { result ≡ number_in least most text.now }
+{
+    if !is_digits(text) {
+        return None;
+    }
+    match text.parse::<u64>() {
+        Ok(number) if least <= number && number <= most => Some(number),
+        Ok(_) => None,
+        Err(_) => None,
+    }
+}
+
+// Tells whether each byte is a decimal digit.
+fn is_digits(text: &str) -> bool
+    ensures { result ≡ list_all is_ascii_digit text.now }
+{
+    text.bytes().all(|byte| byte.is_ascii_digit())
+}
+
+// Returns the refusal for an error of the parser: the version if that is asked for, and else the parser's text, of which no
+// contract speaks.
+fn refusal(alloc: Global, error: &Error) -> LineFault
+    ensures memory { kind_of error.now ≡ ErrorKind.OutOfMemory → result ≡ LineFault.Memory }
+    ensures version { kind_of error.now ≡ ErrorKind.DisplayVersion → IsBadWith version_text result }
+{
+    if error.kind() == ErrorKind::OutOfMemory {
+        return LineFault::Memory;
+    }
+    if error.kind() == ErrorKind::DisplayVersion {
+        return version(alloc);
+    }
+    match error.to_string(alloc) {
+        Ok(text) => LineFault::Bad(text),
+        Err(_) => LineFault::Memory,
+    }
+}

@@ -1,0 +1,16 @@
+//! The words of the command line.
+ghost use Rattle.std.specs.Prelude.{◌≡◌, IfOk, map, string_bytes};
+ghost use Rattle.heapdbg_options.specs.CommandLine.{texts};
+
+use std::alloc::{AllocError, Global};
+
+/// Returns the words as text. Fails if an allocation fails.
+pub fn borrow_words<'a>(alloc: Global, words: &'a [String]) -> Result<Vec<&'a str>, AllocError>
+    ensures { IfOk result (λ line. texts line.items ≡ map string_bytes words.now) }
+{
+    let mut line = Vec::new(alloc);
+    for word in words {
+        line.push(word.as_str())?;
+    }
+    Ok(line)
+}

@@ -1,0 +1,116 @@
+//! The texts for command lines that the program refuses.
+ghost use Rattle.std.specs.Prelude.{◌≡◌, ◌++◌, IfOk, codes, string_bytes};
+ghost use Rattle.heapdbg_options.specs.CommandLine.{IsBadWith};
+ghost use Rattle.heapdbg_options.specs.Refusals.{mistake_of, text_of_mistake, version_text};
+
+use crate::settings::LineFault;
+use std::alloc::{AllocError, Global};
+
+// The program's version.
+pub(crate) const VERSION: &str = "1.0.0";
+
+// The hash of the logic in which the program is proved, as `rt version` prints it.
+const LOGIC: &str = "dac8208d650f15bf";
+
+/// The mistake in a command line whose words are all known: mostly the option with a value out of its range.
+#[derive(Clone, Copy, Debug, PartialEq, Eq)]
+pub enum Mistake {
+    /// There is no command.
+    Command,
+    /// `--regions` is out of its range.
+    Regions,
+    /// `--mutators` is out of its range.
+    Mutators,
+    /// `--keep` is out of its range.
+    Keep,
+    /// `--time` is out of its range.
+    Time,
+    /// `--ids` is neither 4 nor 8.
+    Ids,
+    /// `--port` is out of its range.
+    Port,
+    /// `--sessions` is out of its range.
+    Sessions,
+    /// `--workers` is out of its range.
+    Workers,
+    /// `--questions` is out of its range.
+    Questions,
+    /// `--roll` is out of its range.
+    Roll,
+    /// `--dumps` is out of its range, or the port of the sessions.
+    Dumps,
+    /// `--to` is out of its range.
+    To,
+    /// Both of `--out` and `--to` are given, or neither.
+    Place,
+    /// Both of `--from` and `--port` are given.
+    Source,
+}
+
+impl Mistake {
+    // Returns the text that says what has to be given instead.
+    fn text(self) -> &'static str
+        ensures { result.now ≡ mistake_of self }
+    {
+        match self {
+            Mistake::Command =>
+                "heapdbg takes one of run, explore, draw, save, serve, ask and fetch",
+            Mistake::Regions => "--regions takes 1 to 256",
+            Mistake::Mutators => "--mutators takes 1 to 16",
+            Mistake::Keep => "--keep takes 1 to 65536",
+            Mistake::Time => "--time takes 0 to 18446744073709551615",
+            Mistake::Ids => "--ids takes 4 or 8",
+            Mistake::Port => "--port takes 1 to 65535",
+            Mistake::Sessions => "--sessions takes 1 to 1000",
+            Mistake::Workers => "--workers takes 0 or 1",
+            Mistake::Questions => "--questions takes 0 or 1",
+            Mistake::Roll => "--roll takes 0 or 1",
+            Mistake::Dumps => "--dumps takes 1 to 65535, and not the number of --port",
+            Mistake::To => "--to takes 1 to 65535",
+            Mistake::Place => "save takes one of --out and --to",
+            Mistake::Source => "explore takes one of --from and --port, or neither",
+        }
+    }
+
+    // Returns the refusal of a command line with this mistake, or Memory if its text can't be allocated.
+    pub(crate) fn refusal(self, alloc: Global) -> LineFault
+        ensures { IsBadWith (text_of_mistake self) result }
+    {
+        match refusal_text(alloc, self.text()) {
+            Ok(text) => LineFault::Bad(text),
+            Err(_) => LineFault::Memory,
+        }
+    }
+}
+
+// Returns the text of a refusal that says this.
+fn refusal_text(alloc: Global, mistake: &str) -> Result<String, AllocError>
+    ensures { IfOk result
+        (λ s. string_bytes s
+        ≡ codes "error: "
+        ++ (mistake.now ++ codes "\n\nFor more information, try 'heapdbg --help'.\n")) }
+{
+    format!(in alloc; "error: {mistake}\n\nFor more information, try 'heapdbg --help'.\n")
+}
+
+// Returns the answer to `--version`: the program's version and the logic's hash; or Memory if it can't be allocated.
+pub(crate) fn version(alloc: Global) -> LineFault
+    ensures { IsBadWith version_text result }
+{
+    let version = VERSION;
+    let logic = LOGIC;
+    match format!(in alloc; "heapdbg {version} (logic {logic})\n") {
+        Ok(text) => LineFault::Bad(text),
+        Err(_) => LineFault::Memory,
+    }
+}
+
+/// Returns a refusal with this text, or Memory if it can't be allocated.
+pub fn bad(alloc: Global, text: &str) -> LineFault
+    ensures { IsBadWith text.now result }
+{
+    match String::from_str(alloc, text) {
+        Ok(text) => LineFault::Bad(text),
+        Err(_) => LineFault::Memory,
+    }
+}

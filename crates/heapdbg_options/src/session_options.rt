@@ -1,0 +1,94 @@
+//! The command lines of the tasks between standard input and standard output.
+ghost use Rattle.std.specs.Prelude.{◌≡◌, None, Some, codes, false, is_some, option_map, IfErr, IfOk};
+ghost use Rattle.clap.specs.Words.{app_of, found_of, rows_of};
+ghost use Rattle.clap.specs.declared.builder.Command.TheViews.{out-Command};
+ghost use Rattle.heapdbg_options.specs.CommandLine.{draw_line, explore_in, explore_line, explore_with, run_line};
+ghost use Rattle.heapdbg_options.specs.Refusals.{IsExploreMistake, IsMistakeIn};
+
+use crate::command_line::{path_arg, questions_arg, session_parser, value_arg};
+use crate::refusal::Mistake;
+use crate::settings::Task;
+use crate::socket_options::port_of;
+use clap::{ArgMatches, Command};
+use std::alloc::{AllocError, Global};
+
+// Creates the parser of the command `run`.
+pub(crate) fn run_parser<'a>(alloc: Global) -> Result<Command<'a>, AllocError>
+    ensures app { IfOk result (λ c. app_of c ≡ run_line) }
+    ensures local { IfOk result (λ c. (out-Command c).has_globals ≡ false) }
+{
+    let about = "Reads commands from standard input and writes replies to standard output";
+    session_parser(alloc, "run", about)?.arg(questions_arg(alloc))
+}
+
+// Creates the parser of the command `explore`.
+pub(crate) fn explore_parser<'a>(alloc: Global) -> Result<Command<'a>, AllocError>
+    ensures app { IfOk result (λ c. app_of c ≡ explore_line) }
+    ensures local { IfOk result (λ c. (out-Command c).has_globals ≡ false) }
+{
+    let about =
+        "Reads commands and questions from standard input and writes answers to standard output";
+    let from = path_arg(
+        alloc,
+        "from",
+        "File of lines that are run first; their replies are not shown",
+    );
+    let port = value_arg(
+        alloc,
+        "port",
+        "Port on 127.0.0.1 of a heap that is served, to ask about that, 1 to 65535; not with --from",
+    );
+    session_parser(alloc, "explore", about)?
+        .arg(from)?
+        .arg(port)
+}
+
+// Creates the parser of the command `draw`.
+pub(crate) fn draw_parser<'a>(alloc: Global) -> Result<Command<'a>, AllocError>
+    ensures app { IfOk result (λ c. app_of c ≡ draw_line) }
+    ensures local { IfOk result (λ c. (out-Command c).has_globals ≡ false) }
+{
+    let out = path_arg(alloc, "out", "File that the picture goes to, as SVG").required(true);
+    let about = "Runs a session, and draws the regions of the state that it leaves";
+    session_parser(alloc, "draw", about)?.arg(out)
+}
+
+// Returns the task of the options of `explore`, or the mistake in them: a file of lines is run first, or the questions are about
+// a heap that is served.
+pub(crate) fn explore_task(options: &ArgMatches<'_>) -> Result<Task, Mistake>
+    ensures ok { IfOk result (λ task. explore_in (rows_of (found_of options.now)) ≡ Some task) }
+    ensures none { IfErr result (λ m. explore_in (rows_of (found_of options.now)) ≡ None) }
+    ensures mistake { IfErr result (λ m. IsMistakeIn m (rows_of (found_of options.now))) }
+{
+    let from = options.get_str("from");
+    let port = options.get_str("port");
+    match choose_task(from, port) {
+        Ok(task) => Ok(task),
+        Err(mistake) => Err(mistake),
+    }
+}
+
+// Returns the task of `explore` to which this file or this port is given.
+fn choose_task(from: Option<&str>, port: Option<&str>) -> Result<Task, Mistake>
+    ensures ok { IfOk result
+        (λ t. explore_with (option_map (λ s. s.now) from.entry) (option_map (λ s. s.now) port.entry)
+        ≡ Some t) }
+    ensures none { IfErr result
+        (λ m. explore_with (option_map (λ s. s.now) from.entry) (option_map (λ s. s.now) port.entry)
+        ≡ None) }
+    ensures mistake { IfErr result
+        (λ m. IsExploreMistake m (option_map (λ s. s.now) from.entry)
+        (option_map (λ s. s.now) port.entry)) }
+{
+    let Some(text) = port else {
+        let from = from.is_some();
+        return Ok(Task::Explore { from });
+    };
+    if from.is_some() {
+        return Err(Mistake::Source);
+    }
+    match port_of(text) {
+        Some(port) => Ok(Task::Ask { port }),
+        None => Err(Mistake::Port),
+    }
+}

@@ -1,0 +1,103 @@
+//! The settings that a command line asks for.
+ghost use Rattle.std.specs.Prelude.{◌≡◌};
+ghost use Rattle.heap_world.specs.Limits.{AreHeapSettings};
+
+use heap_class::IdSize;
+use heap_world::Config;
+use std::fmt;
+use thiserror::Error;
+
+/// The place for the dump of a save.
+#[derive(Clone, Copy, Debug, PartialEq, Eq)]
+pub enum Target {
+    /// In the file that the command line names.
+    Out,
+    /// To a port of this computer, 1 to 65,535.
+    To(u16),
+}
+
+/// A task of the program.
+#[derive(Clone, Copy, Debug, PartialEq, Eq)]
+pub enum Task {
+    /// Runs one session between standard input and standard output.
+    Run,
+    /// Runs one session likewise, in which questions are answered.
+    Explore {
+        /// Whether the lines of a file that the command line names are read first.
+        from: bool,
+    },
+    /// Runs one session as `Run` does, and draws the state that it leaves.
+    Draw,
+    /// Runs one session as `Run` does, and dumps the state that it leaves.
+    Save(Target),
+    /// Serves sessions over one shared heap to clients of this computer.
+    Serve {
+        /// The port to listen on, 1 to 65,535.
+        port: u16,
+        /// The number of sessions, 1 to 1,000.
+        sessions: u64,
+        /// Whether two threads tend the collector, 0 or 1.
+        workers: u64,
+        /// The port to send dumps from, 1 to 65,535, or None if there is none.
+        dumps: Option<u16>,
+    },
+    /// Asks a session that is served: sends standard input, and copies what comes back to standard output.
+    Ask {
+        /// The port to connect to, 1 to 65,535.
+        port: u16,
+    },
+    /// Fetches a dump of a heap that is served, into the file that the command line names.
+    Fetch {
+        /// The port to connect to, 1 to 65,535.
+        port: u16,
+    },
+}
+
+/// The task, and the value of each option.
+#[derive(Clone, Copy, Debug, PartialEq, Eq)]
+pub struct Settings {
+    /// The task.
+    pub task: Task,
+    /// Regions of the heap, 1 to 256.
+    pub regions: u64,
+    /// Mutators of the heap, 1 to 16.
+    pub mutators: u64,
+    /// Steps that can be undone, 1 to 65,536.
+    pub keep: u64,
+    /// The time in the header of a dump, in milliseconds since 1970.
+    pub time: u64,
+    /// The size of an identifier in a dump.
+    pub ids: IdSize,
+    /// Whether the sessions of `run`, `save` and `serve` answer questions.
+    pub questions: bool,
+    /// Whether the chronicle of a heap that is served drops old entries in place of refusing new ones.
+    pub rolls: bool,
+}
+
+/// The reason why a command line gives no settings.
+#[derive(Debug, Drop, Error)]
+pub enum LineFault {
+    /// The words are no command line of this program, or ask for help. It holds a text for the user.
+    #[error("{0}")]
+    Bad(String),
+    /// Memory ran out while the words were read.
+    #[error("out of memory")]
+    Memory,
+}
+
+/// Returns the configuration of the heap that the settings ask for.
+pub fn config(settings: &Settings) -> Config
+    requires { AreHeapSettings settings.now.regions settings.now.mutators settings.now.keep }
+    ensures { result
+        ≡ record {
+          regions = settings.now.regions;
+          mutators = settings.now.mutators;
+          keep = settings.now.keep;
+          ids = settings.now.ids;
+        } }
+{
+    match Config::new(settings.regions, settings.mutators, settings.keep) {
+        Some(config) => config.with_ids(settings.ids),
+        None => unreachable!(),
+    }
+}

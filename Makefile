@@ -64,9 +64,10 @@ MANDIR = $(DESTDIR)$(PREFIX)/share/man/man1
 BASHDIR = $(DESTDIR)$(PREFIX)/share/bash-completion/completions
 DOCDIR = $(DESTDIR)$(PREFIX)/share/doc/heapdbg
 
-# Installs what `make build` left: the program, its manual page, completions for bash and the documents.
+# Installs what `make build` left: the program, the script beside it, its manual page, completions for bash and the documents.
 install:
 	install -D bin/heapdbg $(BINDIR)/heapdbg
+	install scripts/heapdbg-explore $(BINDIR)/heapdbg-explore
 	install -D -m 644 man/heapdbg.1 $(MANDIR)/heapdbg.1
 	install -D -m 644 completions/heapdbg.bash $(BASHDIR)/heapdbg
 	install -d $(DOCDIR)
@@ -74,7 +75,7 @@ install:
 	install -D -m 644 examples/leak.svg $(DOCDIR)/examples/leak.svg
 
 uninstall:
-	rm -f $(BINDIR)/heapdbg $(MANDIR)/heapdbg.1 $(BASHDIR)/heapdbg
+	rm -f $(BINDIR)/heapdbg $(BINDIR)/heapdbg-explore $(MANDIR)/heapdbg.1 $(BASHDIR)/heapdbg
 	rm -rf $(DOCDIR)
 
 # Packs the same, with an account of what proved it, into dist/.

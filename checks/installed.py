@@ -26,9 +26,9 @@ def make(folder, *words):
     return ran.returncode, ran.stderr.decode()
 
 
-def answered(program):
-    """Returns what a program answers the example."""
-    return subprocess.run([program, "run"], input=EXAMPLE.read_bytes(), capture_output=True).stdout
+def answered(*words):
+    """Returns what a program and its words answer the example."""
+    return subprocess.run(words, input=EXAMPLE.read_bytes(), capture_output=True).stdout
 
 
 def options_of(program, command):
@@ -59,8 +59,8 @@ def installed(folder, where):
         yield f"make install: status {status}, {said}"
         return
     program = where / "usr/bin/heapdbg"
-    if answered(program) != REPLIES:
-        yield "the installed program answers the example otherwise"
+    if answered(program, "run") != REPLIES or answered(where / "usr/bin/heapdbg-explore", "--keep", "4") != REPLIES:
+        yield "the installed program or script answers the example otherwise"
     yield from misses(program, where / "usr/share/man/man1/heapdbg.1", where / "usr/share/bash-completion/completions/heapdbg")
     status, said = make(folder, "uninstall", *words)
     left = [str(path) for path in where.rglob("*") if path.is_file()]
@@ -78,7 +78,7 @@ def packed(folder, where):
     shutil.unpack_archive(found[0], where)
     top = where / found[0].name.removesuffix(".tar.gz")
     program = top / "bin/heapdbg"
-    if answered(program) != REPLIES:
+    if answered(program, "run") != REPLIES:
         yield "the packed program answers the example otherwise"
     if hashlib.sha256(program.read_bytes()).hexdigest() not in (top / "PROVED").read_text():
         yield "PROVED names another program"

@@ -3,6 +3,7 @@ import os
 import pathlib
 import pty
 import select
+import shutil
 import signal
 import subprocess
 import tempfile
@@ -65,13 +66,11 @@ def shown_next(stream, seconds):
         return b""
 
 
-def typed(program, words, given, seconds=SECONDS, ignored=()):
+def typed(program, words, given, seconds=SECONDS):
     """Returns what a terminal shows of a program whose three streams it is, with its echo off, and the status. Types nothing more
-    once a prompt takes too long. Some signals may be ignored."""
+    once a prompt takes too long."""
     child, terminal = pty.fork()
     if child == 0:
-        for number in ignored:
-            signal.signal(number, signal.SIG_IGN)
         os.execv(program, ["heapdbg", *words])
     with os.fdopen(terminal, "r+b", buffering=0) as stream:
         subprocess.run(["stty", "-echo", "-onlcr"], stdin=stream, check=True, timeout=SECONDS)
@@ -123,8 +122,11 @@ heapdbg 1> |
 def at_a_terminal(program):
     """Yields what `explore` and `run` show at a terminal as (name, what happened, what must happen)."""
     yield "explore at a terminal", typed(program, ["explore"], TYPED), (SHOWN, 0)
-    interrupted = typed(program, ["explore"], [b"frobnic\x03pins\n", b"\x04"], ignored=[signal.SIGINT])
-    yield "an interrupt that is ignored", interrupted, (b"heapdbg 0> |ok 0\nheapdbg 0> |\n", 0)
+    with tempfile.TemporaryDirectory() as folder:
+        os.symlink(program, os.path.join(folder, "heapdbg"))
+        script = shutil.copy(TOP / "scripts/heapdbg-explore", folder)
+        interrupted = typed(script, [], [b"frobnic\x03pins\n", b"\x04"])
+        yield "an interrupt of heapdbg-explore", interrupted, (b"heapdbg 0> |ok 0\nheapdbg 0> |\n", 0)
     yield "an interrupt", typed(program, ["explore"], [b"frobnic\x03"])[1:], (-signal.SIGINT,)
 
 

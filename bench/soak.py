@@ -9,7 +9,7 @@ The program has its two workers, which mark and sweep the cycles that clients be
 from its second port, one after another. Prints a line for each reply that is not well formed, for a dump that can't be read or
 whose references name no object of it, for two whole dumps of one place that differ, and for a session that ended otherwise than
 by `end`; then how much was done, and the memory of the program after the first minute and at the end, with the acts done by
-then. Status 1 if anything was wrong. A fetched dump may be empty or cut: the clients' pins may be all that can be open, and
+then, but for `QUIET=1`. Status 1 if anything was wrong. A fetched dump may be empty or cut: the clients' pins may be all that can be open, and
 their rewinds lose others' pins.
 
 The clients pause between pages so that their acts last as long as they work. A heap that is served takes 1,000,000 acts in all,
@@ -38,10 +38,12 @@ DUMPERS = int(os.environ.get("DUMPERS") or 2)
 MUTATORS = 4
 # How many seconds a reply, or the program's end, may take.
 LIMIT = 300
-# How many acts the clients may do together, and how many lines are in a page.
+# How many acts clients may do together beside workers if the heap drops none, and how many they may do.
 SAFE_ACTS = 500_000
 ACTS = int(os.environ.get("ACTS") or SAFE_ACTS)
+# How many lines are in a page, and whether nothing is printed but what is wrong.
 PAGE = 40
+QUIET = os.environ.get("QUIET") == "1"
 # The last record of a dump.
 END = b"\x2c" + bytes(8)
 NUMBER = r"(0|[1-9][0-9]*)"
@@ -269,12 +271,18 @@ def main(program, seconds):
         wrong.append(f"the program ended with {child.returncode}, {out!r} and {error!r}")
     for text in wrong[:50]:
         print(text)
+    if not QUIET:
+        account(clients, dumpers, looks)
+    return 1 if wrong else 0
+
+
+def account(clients, dumpers, looks):
+    """Prints how much was done, and the memory of the program."""
     done = [total(clients, name) for name in ("lines", "dumps", "pairs", "lost", "bytes")]
     print("{} lines, {} whole dumps, {} pairs of equal dumps, {} pairs with a lost pin, {} bytes of dumps".format(*done))
     fetched = [total(dumpers, name) for name in ("whole", "cut", "empty")]
     print("{} dumps fetched whole, {} cut, {} empty".format(*fetched))
     print("memory: " + ", ".join("{1} KiB after {0:.0f} s and {2} acts".format(*look) for look in looks))
-    return 1 if wrong else 0
 
 
 if __name__ == "__main__":

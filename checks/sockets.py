@@ -335,8 +335,8 @@ def repeated(client, come, line, wanted):
 
 def workers(program):
     """Yields what a client has that says `snap` and waits for the workers' cycles, beside one that writes without a pause and one
-    that resets its connection in a cycle."""
-    with Server(program, 3, "--workers", "1") as server, server.client() as client, client.makefile("rb") as come:
+    that resets its connection in a cycle: of ten objects made in one register, the last alone stays."""
+    with Server(program, 3, "--workers", "1", "--questions", "1") as server, server.client() as client, client.makefile("rb") as come:
         writer = threading.Thread(target=exchanged, args=(server, b"clear 0 0\n" * 20_000 + b"end\n"))
         writer.start()
         client.sendall(b"class Point - x:int y:int\n" + b"new 1 1 0\n" * 10)
@@ -351,12 +351,13 @@ def workers(program):
         with server.client() as last:
             last.sendall(b"snap\n")
             last.setsockopt(socket.SOL_SOCKET, socket.SO_LINGER, RESET)
-        client.sendall(b"end\n")
+        client.sendall(b"histogram -\ngarbage -\nend\n")
         rest = all_of(client)
         status, words, error = server.ended()
+    left = b"row 1 8 Point\nok 1 8\nok 0 0\n"
     cycle = b"ok pushed 1\n", b"no 15 NotMarking\n", b"no 20 NothingToSweep 0\n"
     found = made[:3], found, rest, status, words[:2], error
-    yield "cycles by workers", found, (b"ok ", [cycle] * 20, b"", 0, ["quit", "quit"], b"")
+    yield "cycles by workers", found, (b"ok ", [cycle] * 20, left, 0, ["quit", "quit"], b"")
 
 
 def old_acts(program):

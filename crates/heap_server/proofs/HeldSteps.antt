@@ -1,6 +1,6 @@
 -- What an act under the lock is as a step of the machine.
 use Rattle.std.proofs.Common.{◌≡◌, ◌∙◌, ℕ, Bool, true, false, refl, sym, ap, subst, inl, inr, List, [], ◌∷◌, ◌++◌}
-use Rattle.std.specs.Prelude.{◌⊎◌, IfErr, IfOk, Result, Ok, Err, nat_le}
+use Rattle.std.specs.Prelude.{IfErr, IfOk, Result, Ok, Err, nat_le}
 use Rattle.std.proofs.lemmas.List.{append_assoc, append-nil}
 use Rattle.heap_class.specs.declared.Refusal.{Refusal}
 use Rattle.heap_class.specs.declared.Refusal.TheVariants.{NoMemory}

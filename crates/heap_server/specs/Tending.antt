@@ -1,5 +1,5 @@
 -- What the threads did that tend the collector of a served heap.
-use Rattle.std.specs.Prelude.{◌≡◌, ◌+◌, ℕ, List, [], ◌∷◌, length}
+use Rattle.std.specs.Prelude.{◌≡◌, ℕ, List, [], ◌∷◌, length}
 use Rattle.heap_world.specs.Limits.{HeapSettings}
 use Rattle.heap_lock.specs.declared.entry.Role.TheVariants.{Marker, Sweeper}
 use Rattle.heap_lock.specs.declared.stub.Stub.{Stub}

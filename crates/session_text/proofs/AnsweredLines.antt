@@ -157,7 +157,7 @@ pub keeps_same : (x : Option (List ℕ)) → Keeps x x
 keeps_same None = tt
 keeps_same (Some xs) = refl
 
-keeps_then : (x y z : Option (List ℕ)) → Keeps x y → Keeps y z → Keeps x z
+pub keeps_then : (x y z : Option (List ℕ)) → Keeps x y → Keeps y z → Keeps x z
 keeps_then None y z h k = tt
 keeps_then (Some a) None z h k = absurd h
 keeps_then (Some a) (Some b) None h k = absurd k

@@ -113,11 +113,16 @@ fn rolled<L: Heap, R: Wait>(rt: &R, blank: Blank) -> Option<(u64, u64, u64, usiz
     rolled_in(rt, &shared, &mut user)
 }
 
+// Does so with a heap of any settings.
+fn roll_blank<R: Wait>(rt: &R, blank: Blank) -> Option<(u64, u64, u64, usize, usize)> {
+    rolled::<Brand, R>(rt, blank)
+}
+
 fn rolled_once<R: Wait>(rt: &R, alloc: Global) -> Option<(u64, u64, u64, usize, usize)> {
     let config = Config::new(1, 1, 4)?;
     let mut blank = Blank::new(alloc, config, [Role::User].as_slice()).ok()?;
     blank.set_rolls(true);
-    rolled::<Brand, R>(rt, blank)
+    roll_blank(rt, blank)
 }
 
 #[test]

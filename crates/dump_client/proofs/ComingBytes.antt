@@ -10,6 +10,7 @@ use Rattle.dump_scan.specs.declared.scan.Scan.{Scan}
 use Rattle.dump_scan.specs.declared.scan.Scan.TheVariants.{Within}
 use Rattle.dump_client.specs.Fetches.{EndsFetch, IsFetched, HasCome, finish_of, told_limit}
 use Rattle.dump_client.specs.declared.intake.Finish.TheVariants.{Whole, Cut, WriteFault}
+use Rattle.session_text.proofs.AnsweredLines.{keeps_then}
 
 -- all that came is out, and the scan has followed it
 pub record IsComing (a b : Incoming) (w w' : Outgoing) (scan : Scan) (bytes : ℕ) : Type 0 where
@@ -25,12 +26,6 @@ pub record IsComing (a b : Incoming) (w w' : Outgoing) (scan : Scan) (bytes : �
 keeps_same : (x : Option (List ℕ)) → Keeps x x
 keeps_same None = tt
 keeps_same (Some xs) = refl
-
-keeps_then : (x y z : Option (List ℕ)) → Keeps x y → Keeps y z → Keeps x z
-keeps_then None y z p q = tt
-keeps_then (Some x) None z p q = absurd p
-keeps_then (Some x) (Some y) None p q = absurd q
-keeps_then (Some x) (Some y) (Some z) p q = q ∙ p
 
 first : (rest : List ℕ) → is_whole_dump rest ≡ completes (Within 31) rest
 unfolding completes

@@ -1,5 +1,5 @@
 //! The last line of a fetch.
-ghost use Rattle.std.specs.Prelude.{◌≡◌, ◌++◌, decimal};
+ghost use Rattle.std.specs.Prelude.{◌≡◌, decimal};
 ghost use Rattle.session_text.specs.Replies.{line};
 ghost use Rattle.session_text.specs.Writes.{IsTextWritten};
 ghost use Rattle.dump_client.specs.Fetches.{finish_word, fetch_line_of};

@@ -15,6 +15,7 @@ use Rattle.dump_pump.proofs.PumpSteps.{more_nil, more_more, joined_push, ends_pu
 use Rattle.dump_page.specs.declared.surplus.Surplus.{Surplus}
 use Rattle.dump_page.specs.Pages.{parts_left, supply_at, IsAhead, IsPaged, Pages}
 use Rattle.dump_page.specs.Sources.{paged_supply, pages_in, pages_with, ended_by_page, EndsAsSource, ArePages}
+use Rattle.dump_pump.proofs.JoinedPieces.{joined_append}
 
 -- ---- a page more
 
@@ -24,10 +25,6 @@ pages_push (e ∷ es) p = ap (λ l. e.0 ∷ l) (pages_push es p)
 
 pub are_none : (start : Option (List Piece)) (s : Supply) → s.told ≡ start → ArePages start s [] None None
 are_none start s told = record { parts = []; same = refl; ends = refl; ahead = told ∙ more_nil start; whole = tt }
-
-joined_append : (ps qs : List Piece) → joined (ps ++ qs) ≡ joined ps ++ joined qs
-joined_append [] qs = refl
-joined_append (p ∷ ps) qs = ap (λ l. p.bytes ++ l) (joined_append ps qs) ∙ sym (append_assoc p.bytes (joined ps) (joined qs))
 
 ends_append : (ps qs : List Piece) → 0 < length qs → ends (ps ++ qs) ≡ ends qs
 ends_append [] qs some = refl

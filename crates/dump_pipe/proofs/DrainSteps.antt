@@ -16,6 +16,7 @@ use Rattle.dump_pipe.specs.Pipes.{dump, weigh, byte_limit, list_of}
 use Rattle.dump_pipe.specs.Drains.{answer_to_ending, IsDrained, IsSkipped}
 use Rattle.dump_pipe.proofs.FeedSteps.{map_push}
 use Rattle.dump_pipe.proofs.PipeSteps.{weigh_append}
+use Rattle.dump_pump.proofs.JoinedPieces.{joined_append}
 
 -- parts alone so far
 pub record IsSkipping (got : List Message) (v : EndView) : Type 0 where
@@ -72,10 +73,6 @@ drain_more got v v2 w w' w2 total p k d is all out whole = record {
   whole = whole ∙ d.whole;
   counted = omega (arith, all, d.counted, ap length (joined_push d.parts p), length-append (joined d.parts) p.bytes);
 }
-
-joined_append : (ps qs : List Piece) → joined (ps ++ qs) ≡ joined ps ++ joined qs
-joined_append [] qs = refl
-joined_append (p ∷ ps) qs = ap (λ l. p.bytes ++ l) (joined_append ps qs) ∙ sym (append_assoc p.bytes (joined ps) (joined qs))
 
 map_append : (ps qs : List Piece) → map Part (ps ++ qs) ≡ map Part ps ++ map Part qs
 map_append [] qs = refl

@@ -1,5 +1,5 @@
 -- Each step keeps a pipe in order.
-use Rattle.std.proofs.Common.{◌≡◌, ◌≢◌, ◌⊎◌, ℕ, zero, suc, ◌+◌, ◌≤◌, List, [], ◌∷◌, ◌++◌, length, set, refl, sym, ap, ◌∙◌, subst, inl, inr, ⊎_elim, arith, append_assoc}
+use Rattle.std.proofs.Common.{◌≡◌, ◌≢◌, ◌⊎◌, ℕ, zero, suc, ◌+◌, ◌≤◌, List, [], ◌∷◌, ◌++◌, length, set, refl, sym, ap, ◌∙◌, subst, ⊎_elim, arith, append_assoc}
 use mathlib.Core.Option.{some, some-ne-none, some-injective}
 use lib.ListN.{get_elem?}
 use Rattle.crossbeam_channel.specs.Fifo.{Pushes, Pops, Forks, Merges, Learns}
@@ -8,12 +8,7 @@ use Rattle.dump_pipe.specs.declared.message.Message.{Message}
 use Rattle.dump_pipe.specs.declared.view.EndView.{EndView}
 use Rattle.dump_pipe.specs.declared.view.EndView.TheVariants.{Both, Sends, Gets, Spent}
 use Rattle.dump_pipe.specs.Pipes.{weigh, byte_limit, list_of, sends_of, gets_of, both_of, SitsAtEnd, IsInOrder, HasSent, HasGot, HasOrder}
-
-at_end : {A : Type 0} (l : List A) (a b : A) (j : ℕ) → get_elem? (l ++ a ∷ []) j ≡ some b → (get_elem? l j ≡ some b) ⊎ ((j ≡ length l) × (a ≡ b))
-at_end [] a b zero e = inr (refl, some-injective a b e)
-at_end [] a b (suc j) e = absurd (some-ne-none b (sym e))
-at_end (x ∷ xs) a b zero e = inl e
-at_end (x ∷ xs) a b (suc j) e = ⊎_elim (λ t. inl t) (λ t. inr (omega (arith, t.0), t.1)) (at_end xs a b j e)
+use Rattle.dump_pump.proofs.LongerLists.{at_end}
 
 pub weigh_append : (xs ys : List Message) → weigh (xs ++ ys) ≡ weigh xs + weigh ys
 weigh_append [] ys = omega arith

@@ -1,1 +1,3 @@
+pub mod LongerLists
+pub mod JoinedPieces
 pub mod PumpSteps

@@ -1,7 +1,6 @@
 //! One dump of the current state.
 ghost use Rattle.std.specs.Prelude.{◌≡◌, IfOk, IfErr};
 ghost use Rattle.heap_class.specs.declared.Refusal.TheVariants.{NoMemory};
-ghost use Rattle.heap_lock.specs.Calls.{IsLegalLedger};
 ghost use Rattle.dump_server.specs.Dumps.{IsDump, IsDumpRefused, PutsServedPin};
 
 use dump_meter::{Meter, NewMeter};

@@ -85,7 +85,8 @@ fn open<L: Heap + Send + Sync, W: Write + Drop, R: Threads + Wait + Sync>(
     blank: Blank,
     file: W,
 ) -> Option<Report<W>>
-    requires { (blank.config ≡ L.config) × (blank.tables ≡ L.tables) × (blank.ledger ≡ L.ledger) }
+    requires { (blank.config ≡ L.config) × (blank.tables ≡ L.tables)
+        × (blank.ledger ≡ L.ledger) × (blank.rolls ≡ L.rolls) }
 {
     let (shared, seats) = blank.open::<L>();
     run(Actors::new(rt, alloc, &shared, seats), file)

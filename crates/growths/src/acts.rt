@@ -76,7 +76,8 @@ fn act_all<L: Heap>(kept: &mut Kept<L>, seat: &mut Seat<L>) -> Option<usize> {
 }
 
 fn run_in<L: Heap, R: Wait>(rt: &R, blank: Blank) -> Option<usize>
-    requires { (blank.config ≡ L.config) × (blank.tables ≡ L.tables) × (blank.ledger ≡ L.ledger) }
+    requires { (blank.config ≡ L.config) × (blank.tables ≡ L.tables)
+        × (blank.ledger ≡ L.ledger) × (blank.rolls ≡ L.rolls) }
 {
     let (shared, mut seats) = blank.open::<L>();
     let mut user = seats.take()?;

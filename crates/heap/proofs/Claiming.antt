@@ -6,9 +6,9 @@ use Rattle.heap_step.specs.declared.Answer.{Answer}
 use Rattle.heap_step.specs.declared.Event.{Event}
 use Rattle.heap_trail.specs.declared.Action.{Action}
 use Rattle.heap_trail.specs.declared.Action.TheVariants.{Step}
-use Rattle.heap_lock.specs.declared.entry.Outcome.{Outcome}
-use Rattle.heap_lock.specs.declared.entry.Outcome.TheVariants.{Answered}
-use Rattle.heap_lock.specs.declared.entry.Receipt.{Receipt}
+use Rattle.heap_chronicle.specs.declared.entry.Outcome.{Outcome}
+use Rattle.heap_chronicle.specs.declared.entry.Outcome.TheVariants.{Answered}
+use Rattle.heap_lock.specs.declared.receipt.Receipt.{Receipt}
 use Rattle.heap_lock.specs.LockStates.{Chair, IsReceived, Stands}
 use Rattle.heap.specs.declared.actor.Denial.{Denial}
 use Rattle.heap.specs.Actors.{ActorState, IsClaimed, IsDenied, IsToldRefusal}

@@ -9,9 +9,9 @@ use Rattle.heap_trail.specs.declared.Action.TheVariants.{Step}
 use Rattle.heap_trail.specs.declared.Reply.TheVariants.{Place}
 use Rattle.heap_trail.specs.Trail.{Trail}
 use Rattle.heap_trail.specs.Machine.{Machine, acted, after_result, after_step_at}
-use Rattle.heap_lock.specs.declared.entry.Entry.{Entry}
-use Rattle.heap_lock.specs.declared.entry.Outcome.TheVariants.{Place as At}
-use Rattle.heap_lock.specs.History.{entry, opening, machine_at, reply_at, trail_after, IsDue, IsLegalHistory, history_trail}
+use Rattle.heap_chronicle.specs.declared.entry.Entry.{Entry}
+use Rattle.heap_chronicle.specs.declared.entry.Outcome.TheVariants.{Place as At}
+use Rattle.heap_chronicle.specs.History.{entry, opening, machine_at, reply_at, trail_after, IsDue, IsLegalHistory, history_trail}
 use Rattle.heap_lock.specs.LockStates.{Chair, Stands}
 
 -- the last entry of a legal history is due there

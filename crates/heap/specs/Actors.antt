@@ -7,15 +7,15 @@ use Rattle.heap_step.specs.declared.Event.{Event}
 use Rattle.heap_step.specs.declared.Event.TheVariants as Events
 use Rattle.heap_trail.specs.declared.Action.{Action}
 use Rattle.heap_trail.specs.declared.Action.TheVariants.{Step}
-use Rattle.heap_lock.specs.declared.entry.Entry.{Entry}
-use Rattle.heap_lock.specs.declared.entry.Outcome.{Outcome}
-use Rattle.heap_lock.specs.declared.entry.Outcome.TheVariants as Outcomes
-use Rattle.heap_lock.specs.declared.entry.Receipt.{Receipt}
-use Rattle.heap_lock.specs.declared.entry.Role.{Role}
+use Rattle.heap_chronicle.specs.declared.entry.Entry.{Entry}
+use Rattle.heap_chronicle.specs.declared.entry.Outcome.{Outcome}
+use Rattle.heap_chronicle.specs.declared.entry.Outcome.TheVariants as Outcomes
+use Rattle.heap_lock.specs.declared.receipt.Receipt.{Receipt}
+use Rattle.heap_lock.specs.declared.role.Role.{Role}
 use Rattle.heap_lock.specs.declared.audits.Verdict.{Verdict}
 use Rattle.heap_lock.specs.Audits.{IsVerdict}
-use Rattle.heap_lock.specs.Chronicles.{dropped_of}
-use Rattle.heap_lock.specs.History.{opening, IsLegalHistory}
+use Rattle.heap_chronicle.specs.Chronicles.{dropped_of}
+use Rattle.heap_chronicle.specs.History.{opening, IsLegalHistory}
 use Rattle.heap_lock.specs.LockStates.{Chair, Stands, IsNoEntry, with_entry}
 use Rattle.heap_lock.specs.Roles.{may}
 use Rattle.heap_work.specs.declared.MarkEnd.{MarkEnd}
@@ -63,8 +63,7 @@ end_claims (Finished r) = (Step Events.Finish, r) ∷ []
 end_claims end = []
 
 -- the verdict on claims over some legal history, whose oldest entries may have been dropped
-abbrev pub IsAudited : HeapSettings → List (Action × Receipt) → Verdict → Type 0
-IsAudited config claims verdict =
-    (history : List Entry) × (rolls : Bool)
-    × IsLegalHistory config.keep (opening config) history
+abbrev pub IsAudited : HeapSettings → Bool → List (Action × Receipt) → Verdict → Type 0
+IsAudited config rolls claims verdict =
+    (history : List Entry) × IsLegalHistory config.keep (opening config) history
     × IsVerdict (dropped_of rolls (length history)) history claims verdict

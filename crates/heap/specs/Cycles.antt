@@ -3,8 +3,8 @@ use Rattle.std.specs.Prelude.{◌≡◌, ℕ, suc, zero, ◌<◌, ◌-◌, ◌^�
 use Rattle.heap_world.specs.Limits.{HeapSettings}
 use Rattle.heap_step.specs.declared.Event.TheVariants as Events
 use Rattle.heap_trail.specs.declared.Action.TheVariants.{Step}
-use Rattle.heap_lock.specs.declared.entry.Receipt.{Receipt}
-use Rattle.heap_lock.specs.declared.entry.Role.TheVariants.{Marker, Sweeper}
+use Rattle.heap_lock.specs.declared.receipt.Receipt.{Receipt}
+use Rattle.heap_lock.specs.declared.role.Role.TheVariants.{Marker, Sweeper}
 use Rattle.heap_work.specs.declared.MarkEnd.TheVariants.{Finished}
 use Rattle.heap_work.specs.declared.SweepEnd.TheVariants.{Swept}
 use Rattle.heap_work.specs.Rule.{IsMarkWork, IsSweepWork}

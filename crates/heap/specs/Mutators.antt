@@ -4,9 +4,9 @@ use Rattle.heap_world.specs.Limits.{HeapSettings}
 use Rattle.heap_step.specs.declared.Answer.{Answer}
 use Rattle.heap_step.specs.declared.Event.{Event}
 use Rattle.heap_trail.specs.declared.Action.TheVariants.{Step}
-use Rattle.heap_lock.specs.declared.entry.Outcome.TheVariants.{Answered}
-use Rattle.heap_lock.specs.declared.entry.Role.{Role}
-use Rattle.heap_lock.specs.declared.entry.Role.TheVariants.{Mutator}
+use Rattle.heap_chronicle.specs.declared.entry.Outcome.TheVariants.{Answered}
+use Rattle.heap_lock.specs.declared.role.Role.{Role}
+use Rattle.heap_lock.specs.declared.role.Role.TheVariants.{Mutator}
 use Rattle.heap.specs.declared.actor.Denial.{Denial}
 use Rattle.heap.specs.declared.actor.Denial.TheVariants.{WrongRole}
 use Rattle.heap.specs.Actors.{ActorState, IsClaimed, IsDenied}

@@ -3,9 +3,9 @@ use Rattle.std.specs.Prelude.{◌≡◌, ℕ, ◌-◌, ◌^◌, Bool, true, fals
 use Rattle.heap_step.specs.declared.Event.TheVariants as Events
 use Rattle.heap_trail.specs.declared.Action.{Action}
 use Rattle.heap_trail.specs.declared.Action.TheVariants.{Step}
-use Rattle.heap_lock.specs.declared.entry.Outcome.{Outcome}
-use Rattle.heap_lock.specs.declared.entry.Outcome.TheVariants as Outcomes
-use Rattle.heap_lock.specs.declared.entry.Receipt.{Receipt}
+use Rattle.heap_chronicle.specs.declared.entry.Outcome.{Outcome}
+use Rattle.heap_chronicle.specs.declared.entry.Outcome.TheVariants as Outcomes
+use Rattle.heap_lock.specs.declared.receipt.Receipt.{Receipt}
 use Rattle.heap.specs.declared.totals.Totals.{Totals}
 use Rattle.heap.specs.Actors.{ActorState}
 

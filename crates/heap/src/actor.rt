@@ -1,8 +1,8 @@
 //! Those who act on a shared heap.
 ghost use Rattle.std.specs.Prelude.{◌≡◌, ◌≢◌, ◌++◌, ◌∷◌, [], true, IfOk, IfErr, OnErr};
 ghost use Rattle.heap_trail.specs.declared.Action.TheVariants.{Step};
-ghost use Rattle.heap_lock.specs.declared.entry.Outcome.TheVariants.{Answered, Place};
-ghost use Rattle.heap_lock.specs.declared.entry.Role.TheVariants.{Marker, Sweeper};
+ghost use Rattle.heap_chronicle.specs.declared.entry.Outcome.TheVariants.{Answered, Place};
+ghost use Rattle.heap_lock.specs.declared.role.Role.TheVariants.{Marker, Sweeper};
 ghost use Rattle.heap_lock.specs.LockStates.{IsNoEntry, IsReceived, Stands};
 ghost use Rattle.heap_lock.specs.Roles.{may};
 ghost use Rattle.heap_work.specs.Rule.{IsMarkWork, IsSweepWork};
@@ -193,7 +193,7 @@ impl<'a, L: Heap, R: Wait> Actor<'a, L, R> {
 
     /// Returns whether all claims stand in the history, as `audit_claims` says. May wait.
     pub fn audit(&self) -> Verdict
-        ensures { IsAudited L.config self.now.claims result }
+        ensures { IsAudited L.config L.rolls self.now.claims result }
     {
         audit_claims(self.rt, self.shared, self.claims())
     }

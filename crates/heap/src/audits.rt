@@ -12,7 +12,7 @@ pub type Claim = (Action, Receipt);
 /// its seat, its action and its answer; or that nothing can be said of some, whose entries were dropped. Takes no memory. May
 /// wait.
 pub fn audit_claims<L: Heap, R: Wait>(rt: &R, shared: &Shared<L>, claims: &[Claim]) -> Verdict
-    ensures { IsAudited L.config claims.now result }
+    ensures { IsAudited L.config L.rolls claims.now result }
 {
     let kept = shared.lock(rt);
     let _ = kept.chronicle();

@@ -1,6 +1,6 @@
 -- What holds of the first classes and of all alike.
 use Rattle.std.proofs.Common.{◌≡◌, ℕ, zero, suc, ◌+◌, ◌<◌, ◌≤◌, Bool, true, false, not, ◌||◌, cond, List, [], ◌∷◌, ◌++◌, length, map, filter, get_or, take, drop, refl, sym, ap, ap₂, subst, ◌∙◌, arith, append_assoc, length-append, true≢false, Option, Some, None}
-use Rattle.std.specs.Prelude.{flat_map, slice_get, unwrap_or, IfSome}
+use Rattle.std.specs.Prelude.{flat_map, slice_get, IfSome}
 use Rattle.std.specs.List.{list_any, position_or_len, sum_by}
 use Rattle.std.specs.Option.{option_map_or}
 use Rattle.std.specs.Str.{bytes_eq}

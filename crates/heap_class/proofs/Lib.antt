@@ -1,6 +1,7 @@
 pub mod Refusals
 pub mod Lists
 pub mod Slots
+pub mod FewSlots
 pub mod FirstUses
 pub mod Distinct
 pub mod Tables

@@ -1,11 +1,11 @@
 -- How many names there were before a class.
-use Rattle.std.proofs.Common.{◌≡◌, ℕ, ◌+◌, ◌<◌, ◌≤◌, List, [], ◌∷◌, ◌++◌, length, map, get_or, take, drop, reverse, refl, sym, ap, subst, ◌∙◌, arith, append_assoc}
+use Rattle.std.proofs.Common.{◌≡◌, ℕ, ◌+◌, ◌<◌, List, [], ◌∷◌, ◌++◌, length, map, get_or, take, drop, reverse, sym, ap, subst, ◌∙◌, arith, append_assoc}
 use Rattle.std.specs.List.{All}
 use Rattle.std.proofs.lemmas.List.{take-append-drop, take-map, drop_more, length-take, reverse-append, reverse-reverse}
 use Rattle.heap_class.specs.declared.class_table.ClassEntry.{ClassEntry}
 use Rattle.heap_class.specs.Classes.{Class, name_table}
 use Rattle.heap_class.specs.Entries.{class_of_entry, IsEntryWithin, IsPlaced, IsEntryTable}
-use Rattle.heap_class.proofs.Tables.{all_reversed, placed_within, within_more, classes_stay, names_of_placed, table_names}
+use Rattle.heap_class.proofs.Tables.{all_reversed, placed_within, within_more, classes_stay, names_of_placed}
 use Rattle.std.proofs.lemmas.List.Elements.{All-weaker, All-tail}
 
 all_turned : {X : Type 0} (P : X → Type 0) (xs : List X) → All P xs → All P (reverse xs)

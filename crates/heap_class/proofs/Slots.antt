@@ -28,7 +28,7 @@ slots_more cs c k h =
     ap (λ t. unwrap_or (slice_get t k) []) (table_more [] cs c)
     ∙ ap (λ p. unwrap_or p []) (get_append (slot_table_after [] cs) (slots_under (slot_table_after [] cs) c ∷ []) k (omega (arith, h, table_length [] cs)))
 
-found_within : (cs : List Class) (k : ℕ) (f : Class → Bool) → option_map_or f (slice_get cs k) false ≡ true → k < length cs
+pub found_within : (cs : List Class) (k : ℕ) (f : Class → Bool) → option_map_or f (slice_get cs k) false ≡ true → k < length cs
 found_within [] k f h = cc
 found_within (c ∷ cs) zero f h = omega arith
 found_within (c ∷ cs) (suc k) f h = let r : k < length cs = found_within cs k f h in omega (arith, r)

@@ -1,8 +1,7 @@
 -- A pin opened on the current state, and closed.
-use Rattle.std.proofs.Common.{◌≡◌, ◌≢◌, ℕ, ◌+◌, ◌-◌, ◌<◌, Bool, true, false, cond, List, [], ◌∷◌, ◌++◌, refl, sym, ap, subst, ◌∙◌, arith, Option, Some, None, Result, Ok, Err, IfOk, IfErr, append_assoc}
+use Rattle.std.proofs.Common.{◌≡◌, ◌≢◌, ℕ, ◌+◌, ◌-◌, ◌<◌, Bool, true, false, cond, List, [], ◌∷◌, ◌++◌, refl, sym, ap, subst, ◌∙◌, arith, Option, Some, None, Result, Ok, Err, IfOk, IfErr}
 use Rattle.std.specs.Prelude.{All, find, filter, not, nat_le, nat_lt, length, option_map, slice_index_or, ◌==◌, ◌||◌}
 use mathlib.Core.Logic.{inl, inr}
-use mathlib.Core.List.{IsPrefix}
 use Rattle.std.proofs.lemmas.Bool.{eq-eqb, ne_eqb}
 use Rattle.std.proofs.lemmas.List.Elements.{All-head, All-tail}
 use Rattle.heap_class.specs.declared.LostCause.{LostCause}
@@ -31,6 +30,7 @@ use Rattle.heap_dump.specs.Endings.{cause_of, may_lose}
 use Rattle.heap_dump.specs.PinDumps.{FitsPin, FitsText, DumpsUnless, IsPlaceDumped, PutsPin, PutsText, with_number_used}
 use Rattle.heap_dump.proofs.UngivenMachines.{state_in, zero_state, zero_alike, zero_some, others_ungiven}
 use Rattle.heap_dump.proofs.Texts.{are_text}
+use Rattle.dump_pump.proofs.LongerLists.{begins_then}
 
 -- ---- a pin behind those with smaller numbers
 
@@ -159,9 +159,6 @@ number_used m n k l pin r all o same is =
 
 -- ---- the text
 
-longer : (a b c : List ℕ) → IsPrefix a b → IsPrefix b c → IsPrefix a c
-longer a b c p q = (p.0 ++ q.0, sym (append_assoc a p.0 q.0) ∙ ap (λ l. l ++ q.0) p.1 ∙ q.1)
-
 lost_memory : (place given : ℕ) (image : Image) (cause : LostCause) → may_lose (Some (Kept place image given)) cause ≡ true → cause ≡ Memory
 lost_memory place given image Memory e = refl
 lost_memory place given image Rewound e = absurd (never e)
@@ -185,7 +182,7 @@ puts_text pin time place image m w w' r here p =
     record {
       out = p.out;
       grows = p.grows;
-      begins = longer p.out (joined (handed m pin time p.count)) (dump_text m.ids image time) p.begins t.0;
+      begins = begins_then p.out (joined (handed m pin time p.count)) (dump_text m.ids image time) p.begins t.0;
       counted = p.counted;
       fits = fits_text place image (dump_text m.ids image time) p.out (handed m pin time p.count) (pin_at pin m.pins) w.failures w'.failures r here t.1 p.fits;
     }

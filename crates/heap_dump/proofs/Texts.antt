@@ -14,6 +14,7 @@ use Rattle.heap_trail.specs.Pins.{Kept}
 use Rattle.heap_trail.specs.Machine.{Machine}
 use Rattle.heap_dump.specs.HandedPieces.{given_of, pieces_at, handed}
 use Rattle.heap_dump.specs.PinDumps.{AreText}
+use Rattle.heap_trail.proofs.GivenText.{none_left}
 
 abbrev nths : List (List ℕ) → ℕ → ℕ → List Piece
 nths ps first n = map (λ k. nth_piece k ps) (range_with_len first n)
@@ -24,12 +25,6 @@ one_more [] zero = refl
 one_more [] (suc g) = refl
 one_more (x ∷ xs) zero = refl
 one_more (x ∷ xs) (suc g) = one_more xs g
-
-none_left : (ps : List (List ℕ)) (g : ℕ) → length ps ≤ g → drop g ps ≡ []
-none_left [] zero le = refl
-none_left [] (suc g) le = refl
-none_left (x ∷ xs) zero le = absurd (omega (arith, le))
-none_left (x ∷ xs) (suc g) le = none_left xs g (omega (arith, le))
 
 -- pieces and those after them
 goes_on : (ps : List (List ℕ)) (first n : ℕ) → joined (nths ps first n) ++ concat (drop (first + n) ps) ≡ concat (drop first ps)

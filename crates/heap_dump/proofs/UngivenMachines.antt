@@ -5,10 +5,11 @@ use Rattle.std.proofs.lemmas.Bool.{eqb-true, eq-eqb}
 use Rattle.heap_class.specs.declared.IdSize.{IdSize}
 use Rattle.heap_class.specs.declared.LostCause.{LostCause}
 use Rattle.hprof_text.specs.Image.{Image}
-use Rattle.heap_trail.specs.Pins.{Pins, PinState, Kept, Gone, pin_at, without_pin, if_kept, each_kept, with_piece_given}
+use Rattle.heap_trail.specs.Pins.{PinState, Kept, Gone, pin_at, without_pin, if_kept, each_kept, with_piece_given}
 use Rattle.heap_trail.specs.Machine.{Machine, counted}
 use Rattle.heap_dump.specs.HandedPieces.{pieces_at, ungiven}
 use Rattle.heap_dump.specs.Endings.{may_lose}
+use Rattle.heap_trail.proofs.GivenText.{at_each}
 
 abbrev pub state_in : ℕ → List (ℕ × PinState) → Option PinState
 state_in pin xs = option_map (λ (e : ℕ × PinState). e.1) (find (λ e. e.0 == pin) xs)
@@ -36,10 +37,6 @@ in_changed f pin (x ∷ xs) = go (x.0 == pin) refl (in_changed f pin xs)
         → option_map (λ (e : ℕ × PinState). e.1) (cond b (Some (changed f x)) (find (λ e. e.0 == pin) (map {B = ℕ × PinState} (changed f) xs))) ≡ option_map (if_kept (f pin)) (option_map (λ (e : ℕ × PinState). e.1) (cond b (Some x) (find (λ e. e.0 == pin) xs)))
     go true e rest = ap (λ n. Some (if_kept (f n) x.1)) (eqb-true x.0 pin e)
     go false e rest = rest
-
-pub at_each : (f : ℕ → ℕ → Image → ℕ → PinState) (pin : ℕ) (ps : Pins) → pin_at pin (each_kept f ps) ≡ option_map (if_kept (f pin)) (pin_at pin ps)
-unfolding pin_at each_kept
-at_each f pin ps = in_changed f pin ps.open_pins
 
 own_raised : (pin place : ℕ) (image : Image) (g : ℕ) → option_map (if_kept (raised pin pin)) (Some (Kept place image g)) ≡ Some (Kept place image (g + 1))
 unfolding if_kept

@@ -1,8 +1,8 @@
 -- Audits of receipts whose entries are kept.
 use Rattle.std.proofs.Common.{ℕ, List, [], ◌∷◌}
 use Rattle.heap_trail.specs.declared.Action.{Action}
-use Rattle.heap_lock.specs.declared.entry.Entry.{Entry}
-use Rattle.heap_lock.specs.declared.entry.Receipt.{Receipt}
+use Rattle.heap_chronicle.specs.declared.entry.Entry.{Entry}
+use Rattle.heap_lock.specs.declared.receipt.Receipt.{Receipt}
 use Rattle.heap_lock.specs.Audits.{AllAreKept, Audits, AuditsKept}
 
 pub all_named : (dropped : ℕ) (es : List Entry) (last : ℕ) (claims : List (Action × Receipt)) → AuditsKept dropped es last claims → AllAreKept dropped claims → Audits es last claims

@@ -17,9 +17,9 @@ use Rattle.heap_class.specs.declared.IdSize.TheVariants.{Eight}
 use Rattle.heap_trail.specs.declared.Reply.{Reply}
 use Rattle.heap_trail.specs.Machine.{MayReply, Machine, is_dump_action}
 use Rattle.heap_lock.specs.declared.desk.Desk.{Desk}
-use Rattle.heap_lock.specs.declared.entry.Entry.{Entry}
-use Rattle.heap_lock.specs.declared.entry.Outcome.{Outcome}
-use Rattle.heap_lock.specs.History.{entry, reply_of, opening, machine_at, trail_after, reply_at, MayEnter, IsDue, IsLegalHistory, history_trail, tally}
+use Rattle.heap_chronicle.specs.declared.entry.Entry.{Entry}
+use Rattle.heap_chronicle.specs.declared.entry.Outcome.{Outcome}
+use Rattle.heap_chronicle.specs.History.{entry, reply_of, opening, machine_at, trail_after, reply_at, MayEnter, IsDue, IsLegalHistory, history_trail, tally}
 use Rattle.heap_lock.specs.LockStates.{AllSeated, table_at, IsDesk, IsUnderLock}
 use Rattle.heap_trail.proofs.ByTrail.{acts_alike, dumps_leave, place_after}
 

@@ -1,14 +1,7 @@
 pub mod Parts
-pub mod Spare
-pub mod Places
-pub mod Rolls
 pub mod AuditLaws
-pub mod Plain
 pub mod Histories
 pub mod SeatedHeaps
-pub mod Fields
-pub mod Refusals
-pub mod EventPacks
 pub mod DumperCalls
 pub mod PieceReplies
 pub mod SightSteps

@@ -1,5 +1,5 @@
 -- What a pin gives to all callers together is the text of its state.
-use Rattle.std.proofs.Common.{◌≡◌, ℕ, Bool, true, false, List, [], ◌∷◌, ◌++◌, map, append-nil, append_assoc, refl, sym, ap, ◌∙◌, subst, Option}
+use Rattle.std.proofs.Common.{◌≡◌, ℕ, Bool, true, false, List, [], ◌∷◌, ◌++◌, map, append-nil, refl, sym, ap, ◌∙◌, subst, Option}
 use Rattle.std.specs.Prelude.{◌==◌, ◌&&◌, ◌||◌, ◌-◌, if◌then◌else◌}
 use Rattle.std.specs.List.{list_any}
 use Rattle.std.proofs.lemmas.List.Folds.{list_any-append}
@@ -26,6 +26,7 @@ use Rattle.heap_lock.specs.Laws.{piece_replied, pieces_given, CallsAskAt, GiveTe
 use Rattle.heap_lock.proofs.CallLists.{Leads, leads_split, leads_head}
 use Rattle.heap_lock.proofs.NumberedPins.{numbered_after, opening_numbered}
 use Rattle.heap_lock.proofs.CallTrails.{trail_is}
+use Rattle.dump_pump.proofs.JoinedPieces.{joined_append}
 
 -- ---- one call
 
@@ -71,10 +72,6 @@ gives_one pin (ClosePin n) r = (refl, refl)
 
 -- ---- all calls
 
-joined_both : (xs ys : List Piece) → joined (xs ++ ys) ≡ joined xs ++ joined ys
-joined_both [] ys = refl
-joined_both (x ∷ xs) ys = ap (λ l. x.bytes ++ l) (joined_both xs ys) ∙ sym (append_assoc x.bytes (joined xs) (joined ys))
-
 abbrev GivesAll : ℕ → Machine → List (Action × Allocation) → List Call → Type 0
 GivesAll pin m marked cs = (bytes_given pin m marked ≡ joined (pieces_given pin cs)) × (gave_last pin m marked ≡ list_any (λ (q : Piece). q.last) (pieces_given pin cs))
 
@@ -96,7 +93,7 @@ gives_all pin m (x ∷ marked) (c ∷ cs) actions replies =
     let later : map (λ (y : Call). y.1) cs ≡ replies_of (acted_under m x).0 marked = cc replies in
     let more = gives_all pin (acted_under m x).0 marked cs rest later in
     let one = subst (λ (y : Action × Reply). (piece_given pin y.0 y.1 ≡ joined (piece_replied pin c)) × (last_given pin y.0 y.1 ≡ list_any (λ (q : Piece). q.last) (piece_replied pin c))) (λ i. (sym first i, reply i)) (gives_one pin c.0 c.1) in (
-      (λ i. one.0 i ++ more.0 i) ∙ sym (joined_both (piece_replied pin c) (pieces_given pin cs)),
+      (λ i. one.0 i ++ more.0 i) ∙ sym (joined_append (piece_replied pin c) (pieces_given pin cs)),
       (λ i. one.1 i || more.1 i) ∙ sym (list_any-append (λ (q : Piece). q.last) (piece_replied pin c) (pieces_given pin cs)),
     )
 

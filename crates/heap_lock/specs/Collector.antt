@@ -4,8 +4,8 @@ use Rattle.heap_mark.specs.declared.Phase.{Phase}
 use Rattle.heap_mark.specs.MarkSteps.{pending_regions}
 use Rattle.heap_world.specs.Limits.{HeapSettings}
 use Rattle.heap_world.specs.State.{HeapState}
-use Rattle.heap_lock.specs.declared.entry.Entry.{Entry}
-use Rattle.heap_lock.specs.History.{opening, IsLegalHistory, history_trail}
+use Rattle.heap_chronicle.specs.declared.entry.Entry.{Entry}
+use Rattle.heap_chronicle.specs.History.{opening, IsLegalHistory, history_trail}
 
 -- the state that a history leaves
 abbrev pub history_state : HeapSettings → List Entry → HeapState

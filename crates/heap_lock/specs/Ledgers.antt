@@ -4,7 +4,7 @@ use Rattle.atomic_table.specs.Seated.{TableId}
 use Rattle.atomic_table.specs.declared.badge.Badge.{Badge}
 use Rattle.heap_world.specs.Limits.{HeapSettings}
 use Rattle.heap_trail.specs.Machine.{Machine}
-use Rattle.heap_lock.specs.declared.entry.Entry.{Entry}
+use Rattle.heap_chronicle.specs.declared.entry.Entry.{Entry}
 use Rattle.heap_lock.specs.declared.ledger.Ledger.{Ledger}
 use Rattle.heap_lock.specs.declared.sight.Sight.{Sight}
 use Rattle.heap_lock.specs.declared.sight.Sight.TheVariants.{Full, Seen}

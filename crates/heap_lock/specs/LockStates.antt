@@ -11,15 +11,15 @@ use Rattle.heap_trail.specs.declared.Action.{Action}
 use Rattle.heap_trail.specs.declared.Reply.{Reply}
 use Rattle.heap_trail.specs.Machine.{MayReply, Machine}
 use Rattle.heap_lock.specs.declared.desk.Desk.{Desk}
-use Rattle.heap_lock.specs.declared.entry.Entry.{Entry}
-use Rattle.heap_lock.specs.declared.entry.Outcome.{Outcome}
-use Rattle.heap_lock.specs.declared.entry.Receipt.{Receipt}
-use Rattle.heap_lock.specs.declared.entry.Role.{Role}
+use Rattle.heap_chronicle.specs.declared.entry.Entry.{Entry}
+use Rattle.heap_chronicle.specs.declared.entry.Outcome.{Outcome}
+use Rattle.heap_lock.specs.declared.receipt.Receipt.{Receipt}
+use Rattle.heap_lock.specs.declared.role.Role.{Role}
 use Rattle.heap_lock.specs.declared.view.SeatView.{SeatView}
 use Rattle.heap_lock.specs.declared.view.SeatView.TheVariants.{Book, Share}
-use Rattle.heap_lock.specs.Limits.{entry_limit}
-use Rattle.heap_lock.specs.Chronicles.{ChronicleState}
-use Rattle.heap_lock.specs.History.{entry, reply_of, opening, trail_after, IsDue, IsLegalHistory, history_trail, tally}
+use Rattle.heap_chronicle.specs.Limits.{entry_limit}
+use Rattle.heap_chronicle.specs.Chronicles.{ChronicleState}
+use Rattle.heap_chronicle.specs.History.{entry, reply_of, opening, trail_after, IsDue, IsLegalHistory, history_trail, tally}
 use Rattle.heap_lock.specs.Tally.{tally_in}
 use Rattle.heap_lock.specs.Calls.{Call}
 

@@ -1,11 +1,11 @@
 //! Receipts against the chronicle.
 ghost use Rattle.std.specs.Prelude.{◌↔◌, ◌<◌, length, IsTrue};
-ghost use Rattle.heap_lock.specs.Chronicles.{dropped_of};
+ghost use Rattle.heap_chronicle.specs.Chronicles.{dropped_of};
 ghost use Rattle.heap_lock.specs.Audits.{AllAreKept, AuditsKept, IsVerdict, NamesEntry};
 
-use crate::chronicle::Chronicle;
-use crate::entry::Receipt;
 use crate::heap::{Heap, Kept};
+use crate::receipt::Receipt;
+use heap_chronicle::Chronicle;
 use heap_trail::Action;
 
 /// What an audit says of receipts.

@@ -4,12 +4,12 @@ ghost use Rattle.heap_class.specs.declared.Refusal.TheVariants.{NoMemory};
 ghost use Rattle.heap_lock.specs.Limits.{seat_limit};
 ghost use Rattle.heap_lock.specs.Blanks.{chairs, chair_of, tables_of, AllFresh, AllStubs};
 
-use crate::chronicle::Chronicle;
 use crate::desk::Desk;
-use crate::entry::Role;
 use crate::heap::{Heap, Kept, Seat, Shared};
 use crate::ledger::Ledger;
+use crate::role::Role;
 use crate::stub::Stub;
+use heap_chronicle::Chronicle;
 use heap_class::Refusal;
 use heap_trail::Machine;
 use heap_world::Config;
@@ -143,7 +143,8 @@ impl Blank {
 
     /// Returns the heap under its lock, and its seats in order. Takes no memory.
     pub fn open<L: Heap>(self) -> (Shared<L>, Seats<L>)
-        requires { (self.config ≡ L.config) × (self.tables ≡ L.tables) × (self.ledger ≡ L.ledger) }
+        requires { (self.config ≡ L.config) × (self.tables ≡ L.tables)
+            × (self.ledger ≡ L.ledger) × (self.rolls ≡ L.rolls) }
         ensures { result.1 ≡ self.seats }
     {
         let Blank {

@@ -3,16 +3,16 @@ ghost use Rattle.std.specs.Prelude.{◌≡◌, [], IfOk};
 ghost use Rattle.heap_lock.specs.Tally.{tally_of, tally_in};
 ghost use Rattle.heap_lock.specs.Desks.{table_of, IsUnsplit, HasBook, BooksAs, IsShare, book_with};
 
-use crate::entry::Entry;
 use crate::view::SeatView;
 use atomic_table::{Badge, Join, Play, Seat, Split, Table, TableRule};
+use heap_chronicle::Entry;
 use std::alloc::{AllocError, Global};
 use std::marker::Brand;
 
 /// The entry that a step adds.
 pub trait NotedEntry {
     ghost use Rattle.std.specs.Prelude.{ℕ};
-    ghost use Rattle.heap_lock.specs.declared.entry.Entry.{Entry};
+    ghost use Rattle.heap_chronicle.specs.declared.entry.Entry.{Entry};
 
     ghost mark: { ℕ × Entry };
 }

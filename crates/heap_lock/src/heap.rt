@@ -4,21 +4,22 @@ ghost use Rattle.heap_class.specs.declared.Refusal.TheVariants.{NoMemory, Chroni
 ghost use Rattle.heap_trail.specs.declared.Action.TheVariants.{Step, Rewind};
 ghost use Rattle.heap_trail.specs.Limits.{last_place};
 ghost use Rattle.heap_trail.specs.Machine.{is_dump_action};
-ghost use Rattle.heap_lock.specs.declared.entry.Role.TheVariants.{User};
+ghost use Rattle.heap_lock.specs.declared.role.Role.TheVariants.{User};
 ghost use Rattle.heap_lock.specs.Tally.{tally_in};
-ghost use Rattle.heap_lock.specs.History.{opening, Enters, IsLegalHistory};
+ghost use Rattle.heap_chronicle.specs.History.{opening, Enters, IsLegalHistory};
 ghost use Rattle.heap_lock.specs.Blanks.{chair_of};
 ghost use Rattle.heap_lock.specs.Roles.{is_of_mutator, is_of_marker, is_of_sweeper, may};
 ghost use Rattle.heap_lock.specs.Ledgers.{all_in, HasLedger};
 ghost use Rattle.heap_lock.specs.LockStates.{AllSeated, Folds, Stands, IsMoved, IsAct, IsReceived, IsRefused, IsNoEntry, IsChair, IsUnderLock, lock_state};
 
-use crate::chronicle::Chronicle;
 use crate::desk::Desk;
-use crate::entry::{Entry, Outcome, Receipt, Role};
 use crate::ledger::Ledger;
+use crate::receipt::Receipt;
+use crate::role::Role;
 use crate::stub::Stub;
 use crate::view::SeatView;
 use atomic_table::Badge;
+use heap_chronicle::{Chronicle, Entry, Outcome};
 use heap_class::Refusal;
 use heap_step::Event;
 use heap_trail::{Action, Machine};
@@ -27,13 +28,15 @@ use std::marker::{Brand, Model, PhantomData};
 use std::mem::replace;
 use std::sync::{Mutex, MutexGuard, Wait};
 
-/// Which heap it is: what it was made with, the table of each seat's tally, and that of the ledger.
+/// Which heap it is: what it was made with, whether its chronicle rolls, the table of each seat's tally, and that of the ledger.
 pub trait Heap {
-    ghost use Rattle.std.specs.Prelude.{List};
+    ghost use Rattle.std.specs.Prelude.{Bool, List};
     ghost use Rattle.atomic_table.specs.Seated.{TableId};
     ghost use Rattle.heap_world.specs.Limits.{HeapSettings};
 
     ghost config: { HeapSettings };
+
+    ghost rolls: { Bool };
 
     ghost tables: { List TableId };
 
@@ -41,11 +44,13 @@ pub trait Heap {
 }
 
 impl Heap for Brand {
-    ghost use Rattle.std.specs.Prelude.{[]};
+    ghost use Rattle.std.specs.Prelude.{false, []};
     ghost use Rattle.heap_class.specs.declared.IdSize.TheVariants.{Eight};
     ghost use Rattle.heap_lock.specs.LockStates.{no_table};
 
     ghost config = { record { regions = 1; mutators = 1; keep = 1; ids = Eight } };
+
+    ghost rolls = { false };
 
     ghost tables = { [] };
 
@@ -84,6 +89,7 @@ pub struct Kept<L: Heap> {
 }
 
 impl<L: Heap> Model for Kept<L> {
+    ghost use Rattle.std.specs.Prelude.{◌≡◌};
     ghost use Rattle.heap_lock.specs.LockStates.{LockState, IsUnderLock, lock_state};
     ghost use Rattle.heap_lock.specs.Ledgers.{all_in, HasLedger};
 
@@ -93,7 +99,8 @@ impl<L: Heap> Model for Kept<L> {
         lock_state k.machine k.chronicle (all_in k.ledger) };
 
     ghost invariant = { λ k. IsUnderLock L.config L.tables k.machine k.chronicle.entries
-        k.desks.items × HasLedger L.config L.ledger k.machine k.chronicle.entries k.ledger };
+        k.desks.items × HasLedger L.config L.ledger k.machine k.chronicle.entries k.ledger
+        × (k.chronicle.rolls ≡ L.rolls) };
 }
 
 // Returns whether the event is one of this mutator's own.
@@ -220,6 +227,7 @@ impl<L: Heap> Kept<L> {
     ) -> Kept<L>
         requires kept { IsUnderLock L.config L.tables machine chronicle.entries desks.items }
         requires ledger { HasLedger L.config L.ledger machine chronicle.entries ledger }
+        requires rolls { chronicle.rolls ≡ L.rolls }
         ensures { result ≡ lock_state machine chronicle (all_in ledger) }
     {
         Kept {
@@ -235,7 +243,7 @@ impl<L: Heap> Kept<L> {
     /// ids have the size that the heap was made with.
     pub fn chronicle(&self) -> &Chronicle
         ensures entries { result.now.entries ≡ self.now.chronicle }
-        ensures rolls { result.now.rolls ≡ self.now.rolls }
+        ensures rolls { (result.now.rolls ≡ L.rolls) × (self.now.rolls ≡ L.rolls) }
         ensures legal { IsLegalHistory L.config.keep (opening L.config) self.now.chronicle }
         ensures seated { AllSeated (length L.tables) self.now.chronicle }
         ensures folds { Folds L.config self.now }

@@ -1,5 +1,5 @@
 //! The list of all calls with their replies, which no code stores, and its beginnings, which go with those who saw them.
-ghost use Rattle.std.specs.Prelude.{◌≡◌, ◌∷◌, ◌++◌, [], IfOk};
+ghost use Rattle.std.specs.Prelude.{◌∷◌, ◌++◌, [], IfOk};
 ghost use mathlib.Core.List.{IsPrefix};
 ghost use Rattle.heap_lock.specs.Ledgers.{table_of, calls_in, all_in, HasCalls, IsSight, CallsAs};
 

@@ -1,5 +1,5 @@
 //! Seats of a heap that no type names yet.
-use crate::entry::Role;
+use crate::role::Role;
 use crate::view::SeatView;
 use atomic_table::Badge;
 

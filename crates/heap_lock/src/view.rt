@@ -1,5 +1,5 @@
 //! What the two sides of a tally know.
-use crate::entry::Entry;
+use heap_chronicle::Entry;
 use std::collections::LinkedList;
 
 /// The lists that a table's views have: of both sides, of the book, or of the share. No value of this type is made.

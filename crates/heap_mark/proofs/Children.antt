@@ -32,7 +32,7 @@ pub array_children : (classes : List Class) (regions : List Region) (x : ℕ) (o
 unfolding slot_kinds_of
 array_children classes regions x o k s e is = elements_shaded s o.words ∙ ap (fold shaded s) (ap (λ (kind : ObjKind). references_among (slot_kinds_of classes kind (length o.words)) o.words) is ∙ sym (among_slots classes o) ∙ sym (children_are classes regions x o e))
 
-no_reference : (k : Kind) → k ≢ Kind.Object → is_reference k ≡ false
+pub no_reference : (k : Kind) → k ≢ Kind.Object → is_reference k ≡ false
 no_reference Kind.Object h = absurd (h refl)
 no_reference Boolean h = refl
 no_reference Char h = refl

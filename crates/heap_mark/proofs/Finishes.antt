@@ -62,20 +62,20 @@ finish_free s h done is = when_done s h done ∙ go (pending_regions s.regions) 
 
 -- ---- taking back
 
-abbrev pending_in : Option Region → Bool
+abbrev pub pending_in : Option Region → Bool
 pending_in None = false
 pending_in (Some Empty) = false
 pending_in (Some (InUse u)) = u.pending
 
-abbrev pending_number : ℕ × Region → Option ℕ
+abbrev pub pending_number : ℕ × Region → Option ℕ
 pending_number p = option_map_or (λ u. if u.pending then Some p.0 else None) (used_part p.1) None
 
 -- where a list of those that are pending is empty, its first isn't and its others aren't
-peeled : (b : Bool) (n : ℕ) (rest : List ℕ) → nat_lt 0 (length (cons_option (if b then Some n else None) rest)) ≡ false → (b ≡ false) × (nat_lt 0 (length rest) ≡ false)
+pub peeled : (b : Bool) (n : ℕ) (rest : List ℕ) → nat_lt 0 (length (cons_option (if b then Some n else None) rest)) ≡ false → (b ≡ false) × (nat_lt 0 (length rest) ≡ false)
 peeled true n rest h = let t : nat_lt 0 (suc (length rest)) ≡ true = grind arith in cc
 peeled false n rest h = (refl, h)
 
-none_pending : (regions : List Region) (n : ℕ) → nat_lt 0 (length (filter_map pending_number (enumerate_from n regions))) ≡ false → (k : ℕ) → pending_in (slice_get regions k) ≡ false
+pub none_pending : (regions : List Region) (n : ℕ) → nat_lt 0 (length (filter_map pending_number (enumerate_from n regions))) ≡ false → (k : ℕ) → pending_in (slice_get regions k) ≡ false
 none_pending [] n h k = refl
 none_pending (Empty ∷ xs) n h zero = refl
 none_pending (Empty ∷ xs) n h (suc k) = none_pending xs (n + 1) h k
@@ -83,7 +83,7 @@ none_pending (InUse u ∷ xs) n h zero = (peeled u.pending n _ h).0
 none_pending (InUse u ∷ xs) n h (suc k) = none_pending xs (n + 1) (peeled u.pending n _ h).1 k
 
 -- f of each item, and then g, is nothing where g undoes f at each
-map_back : {A : Type 0} (f g : A → A) (xs : List A) → ((k : ℕ) (x : A) → slice_get xs k ≡ Some x → g (f x) ≡ x) → map g (map f xs) ≡ xs
+pub map_back : {A : Type 0} (f g : A → A) (xs : List A) → ((k : ℕ) (x : A) → slice_get xs k ≡ Some x → g (f x) ≡ x) → map g (map f xs) ≡ xs
 map_back f g [] h = refl
 map_back f g (x ∷ xs) h = λ i. h 0 x refl i ∷ map_back f g xs (λ k y e. h (suc k) y e) i
 
@@ -103,11 +103,11 @@ regions_back regions swept live = map_back _ _ regions back
     back r Empty e = refl
     back r (InUse u) e = λ i. InUse (record u { pending = (sym (swept r) ∙ ap pending_in e) i; cells = cells_back u.cells (λ c o there. live (record { region = r; cell = c }) o (object_found regions (record { region = r; cell = c }) u o (is_used regions r u e) there)) i })
 
-phase_is : (p : Phase) → not (is_marking p) ≡ false → Marking ≡ p
+pub phase_is : (p : Phase) → not (is_marking p) ≡ false → Marking ≡ p
 phase_is Idle h = cc
 phase_is Marking h = refl
 
-all_drained : (gray log drained : ℕ) → nat_lt 0 (gray + (log - drained)) ≡ false → drained ≤ log → log ≡ drained
+pub all_drained : (gray log drained : ℕ) → nat_lt 0 (gray + (log - drained)) ≡ false → drained ≤ log → log ≡ drained
 all_drained gray log drained h within = grind arith
 
 finish_undo : (s : MarkState) → finish_refusal s ≡ None → EachObject s.regions (λ at o. o.live ≡ true) → s.drained ≤ length s.log → unfinished s.log (finished s) ≡ s

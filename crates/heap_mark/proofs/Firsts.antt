@@ -47,10 +47,3 @@ unfolding firsts
 next_is n f [] d = refl
 next_is zero f (x ∷ xs) d = refl
 next_is (suc n) f (x ∷ xs) d = next_is n f xs d
-
--- changes that are equal at the item, where there is one
-pub updated_alike : {A : Type 0} (i : ℕ) (f g : A → A) (xs : List A) → ((x : A) → slice_get xs i ≡ Some x → f x ≡ g x) → updated i f xs ≡ updated i g xs
-unfolding updated firsts
-updated_alike i f g [] h = refl
-updated_alike zero f g (x ∷ xs) h = ap (λ y. y ∷ xs) (h x refl)
-updated_alike (suc i) f g (x ∷ xs) h = ap (λ ys. x ∷ ys) (updated_alike i f g xs h)

@@ -11,7 +11,8 @@ use Rattle.heap_region.proofs.ShownRegions.{object_of_used}
 use Rattle.heap_region.proofs.Lookups.{is_used, used_there, object_found, object_there}
 use Rattle.heap_mark.specs.MarkSteps.{each_object, each_region}
 use Rattle.heap_mark.specs.Finish.{finished_object, unfinished_object}
-use Rattle.heap_mark.proofs.Firsts.{firsts, no_first, next_first, next_same, next_as_was, next_is, all_firsts, updated_alike}
+use Rattle.heap_mark.proofs.Firsts.{firsts, no_first, next_first, next_same, next_as_was, next_is, all_firsts}
+use Rattle.heap_region.proofs.UpdatedLists.{updated_alike}
 
 -- one change after another at the object, where there is one, which are this change of it
 pub object_twice : (at : ObjRef) (f g h : Object → Object) (regions : List Region) → ((o : Object) → object_at regions at ≡ Some o → g (f o) ≡ h o) → with_object at g (with_object at f regions) ≡ with_object at h regions

@@ -1,10 +1,9 @@
 -- Paths in an image, and paths along references.
-use Rattle.std.proofs.Common.{◌≡◌, ◌≢◌, ◌⊎◌, ℕ, zero, suc, ◌+◌, ◌<◌, Bool, true, false, cond, List, [], ◌∷◌, ◌++◌, length, map, replicate, get_or, Option, Some, None, refl, sym, ap, ◌∙◌, subst, inl, inr, arith}
+use Rattle.std.proofs.Common.{◌≡◌, ◌≢◌, ◌⊎◌, ℕ, zero, suc, ◌+◌, ◌<◌, Bool, true, false, cond, List, [], ◌∷◌, ◌++◌, length, map, get_or, Option, Some, None, refl, sym, ap, ◌∙◌, subst, inl, inr, arith}
 use Rattle.std.specs.Prelude.{All, Contains, IsSome, filter, find, flat_map, option_and_then, option_map, slice_get, ◌==◌}
 use Rattle.std.specs.List.{enumerate_from, filter_map}
 use Rattle.std.specs.Option.{option_map_or}
 use Rattle.std.proofs.lemmas.Bool.{eq-eqb, eqb-true, false≢true, true≢false}
-use Rattle.std.proofs.lemmas.List.{get_or-replicate, length-replicate}
 use Rattle.std.proofs.lemmas.List.Elements.{All-cons, All-head, All-nil, All-tail, Contains-append_left, Contains-append_right}
 use Rattle.std.proofs.lemmas.Option.{none-some, same_Some, slice_get_within, slice_get-get_or}
 use Rattle.heap_class.specs.declared.Kind.{Kind}
@@ -13,7 +12,7 @@ use Rattle.heap_class.specs.declared.ObjKind.TheVariants.{Array, Instance, Prim}
 use Rattle.heap_class.specs.declared.ObjRef.{ObjRef}
 use Rattle.heap_class.specs.Classes.{Class, slot_kinds_of, slots_of}
 use Rattle.heap_class.specs.Kinds.{is_reference}
-use Rattle.heap_region.specs.Regions.{Empty, InUse, Object, Region, UsedRegion, id_of, live_objects, object_at, object_of, objects_in, objects_of_region, ref_of, references_of, slot_kinds, used_at, used_part}
+use Rattle.heap_region.specs.Regions.{InUse, Object, Region, UsedRegion, id_of, live_objects, object_at, object_of, objects_in, objects_of_region, ref_of, references_of, slot_kinds}
 use Rattle.heap_region.proofs.Ids.{ref_back, ref_is}
 use Rattle.heap_region.proofs.ChangedLookups.{null_names_none, object_at_ref, place_found}
 use Rattle.heap_region.proofs.References.{found_in, is_found_in, member_cases, member_head, member_none, member_tail, place_of_member, references_by_slots}
@@ -21,7 +20,7 @@ use Rattle.heap_world.specs.Legal.{IsLegal, IsLive}
 use Rattle.heap_world.specs.Reach.{IsObject, IsPath, Names, Reaches, end_of_path}
 use Rattle.heap_world.specs.State.{HeapState}
 use Rattle.heap_world.proofs.Registers.{namer, names_of, object_not_null}
-use Rattle.heap_world.proofs.Shelter.{reach_induction}
+use Rattle.heap_world.proofs.Shelter.{reach_induction, end_more}
 use Rattle.hprof_text.specs.Image.{DumpedObject}
 use Rattle.heap_pins.specs.Images.{dumped_objects, image_of}
 use Rattle.heap_pins.proofs.LiveCounts.{Stands, live_stand}
@@ -30,6 +29,9 @@ use Rattle.heap_questions.proofs.Reaching.{leads_more}
 use Rattle.heap_questions.proofs.TracedPaths.{first_object}
 use Rattle.heap_past.specs.Losses.{HasPath, PathIsReach}
 use Rattle.heap_past.proofs.Sizes.{table_of, used_of}
+use Rattle.heap_region.proofs.Laws.{cell_there}
+use Rattle.heap_region.proofs.Lookups.{used_is}
+use Rattle.heap_questions.proofs.NamedObjects.{element_kind}
 
 -- ---- what an image shows is there
 
@@ -60,19 +62,11 @@ first_is regions x (p ∷ ps) d s l e = go (id_of regions p.0 == x) refl e (firs
     go true h f rest = (p, All-head (Stands regions) p ps s, All-head IsLiveOne p ps l, same_Some (shown regions p) d f, eqb-true (id_of regions p.0) x h)
     go false h f rest = rest f
 
-cell_of : (regions : List Region) (at : ObjRef) (u : UsedRegion) (o : Object) → used_at regions at.region ≡ Some u → object_at regions at ≡ Some o → slice_get u.cells at.cell ≡ Some (Some o)
-unfolding object_at
-cell_of regions at u o e h = go (slice_get u.cells at.cell) refl (sym (ap (option_and_then (λ u. option_and_then (λ (o : Option Object). o) (slice_get u.cells at.cell))) e) ∙ h)
-  where
-    go : (x : Option (Option Object)) → slice_get u.cells at.cell ≡ x → option_and_then (λ (o : Option Object). o) x ≡ Some o → slice_get u.cells at.cell ≡ Some (Some o)
-    go None q f = absurd (none-some o f)
-    go (Some y) q f = q ∙ ap Some f
-
 -- the id of an object leads back to its place
 pub id_back : (w : HeapState) (at : ObjRef) (o : Object) → IsLegal w → object_at w.regions at ≡ Some o → ref_of w.regions (id_of w.regions at) ≡ Some at
 id_back w at o legal h =
     let u = used_of w.regions at (subst IsSome (sym h) refl) in
-    let l = slice_get_within u.0.cells at.cell (Some o) (cell_of w.regions at u.0 o u.1 h) in
+    let l = slice_get_within u.0.cells at.cell (Some o) (cell_there w.regions at u.0 o u.1 h) in
     ref_back w.regions at u.0 u.1 (omega (arith, l, (table_of w at.region u.0 legal u.1).cells))
 
 -- the object of the image is this one of the state
@@ -161,32 +155,20 @@ find_there regions x (p ∷ ps) q c e = go (id_of regions p.0 == x) refl (member
     go false h (inl m) rest = absurd (true≢false (sym (eq-eqb (id_of regions p.0) x (ap (λ (z : ObjRef × Object). id_of regions z.0) (sym m) ∙ e)) ∙ h))
     go false h (inr d) rest = rest d
 
-slot_of_used : (regions : List Region) (r : ℕ) (u : UsedRegion) → used_at regions r ≡ Some u → slice_get regions r ≡ Some (InUse u)
-unfolding used_at
-slot_of_used regions r u = go (slice_get regions r)
-  where
-    go : (x : Option Region) → option_and_then used_part x ≡ Some u → x ≡ Some (InUse u)
-    go None h = absurd (none-some u h)
-    go (Some Empty) h = absurd (none-some u h)
-    go (Some (InUse v)) h = ap (λ (z : UsedRegion). Some (InUse z)) (same_Some v u h)
-
 live_shown : (w : HeapState) (x : ℕ) → IsLive w x → HasId (image_of w) x
 unfolding object_with image_of dumped_objects live_objects objects_in
 live_shown w x l =
     let p = place_found w.regions x l.0 l.1 in
     let u = used_of w.regions p.0 (subst IsSome (sym p.2) refl) in
-    let c = region_there p.0.region u.0 p.0.cell l.0 (cell_of w.regions p.0 u.0 l.0 u.1 p.2) in
+    let c = region_there p.0.region u.0 p.0.cell l.0 (cell_there w.regions p.0 u.0 l.0 u.1 p.2) in
     let e : p.0.region ≡ 0 + p.0.region = omega arith in
-    let m = regions_there 0 p.0.region w.regions (InUse u.0) (p.0, l.0) (slot_of_used w.regions p.0.region u.0 u.1) (subst (λ r. Contains (objects_of_region (r, InUse u.0)) (p.0, l.0)) e c) in
+    let m = regions_there 0 p.0.region w.regions (InUse u.0) (p.0, l.0) (used_is w.regions p.0.region u.0 u.1) (subst (λ r. Contains (objects_of_region (r, InUse u.0)) (p.0, l.0)) e c) in
     find_there w.regions x (filter (λ p. p.1.live) (flat_map objects_of_region (enumerate_from 0 w.regions))) (p.0, l.0) (filter_there (flat_map objects_of_region (enumerate_from 0 w.regions)) (p.0, l.0) m l.2) (ref_is w.regions x p.0 p.1)
 
 -- ---- slots
 
 abbrev IsReferenceAt : List Class → ObjKind → ℕ → ℕ → Type 0
 IsReferenceAt classes kind n s = (k : Kind) × (slice_get (slot_kinds_of classes kind n) s ≡ Some k) × (is_reference k ≡ true)
-
-replicated : (n s : ℕ) (k : Kind) → s < n → slice_get (replicate n k) s ≡ Some k
-replicated n s k l = slice_get-get_or (replicate n k) s k (omega (arith, l, length-replicate n k)) ∙ ap Some (get_or-replicate n s k k l)
 
 reference_at : (classes : List Class) (kind : ObjKind) (n s : ℕ) → s < n → slot_refers classes kind s ≡ true → IsReferenceAt classes kind n s
 unfolding slot_refers slot_kinds_of
@@ -195,14 +177,14 @@ reference_at classes (Instance c) n s l h = go (slice_get (slots_of classes c) s
     go : (x : Option Kind) → slice_get (slots_of classes c) s ≡ x → option_map_or is_reference x false ≡ true → (k : Kind) × (slice_get (slots_of classes c) s ≡ Some k) × (is_reference k ≡ true)
     go None e f = absurd (false≢true f)
     go (Some k) e f = (k, e, f)
-reference_at classes (Array c) n s l h = (Kind.Object, replicated n s Kind.Object l, refl)
-reference_at classes (Prim kind) n s l h = (kind, replicated n s kind l, h)
+reference_at classes (Array c) n s l h = (Kind.Object, element_kind n s Kind.Object l, refl)
+reference_at classes (Prim kind) n s l h = (kind, element_kind n s kind l, h)
 
 at_reference : (classes : List Class) (kind : ObjKind) (n s : ℕ) (k : Kind) → s < n → slice_get (slot_kinds_of classes kind n) s ≡ Some k → is_reference k ≡ true → slot_refers classes kind s ≡ true
 unfolding slot_refers slot_kinds_of
 at_reference classes (Instance c) n s k l e h = ap (λ (x : Option Kind). option_map_or is_reference x false) e ∙ h
 at_reference classes (Array c) n s k l e h = refl
-at_reference classes (Prim kind) n s k l e h = ap is_reference (same_Some kind k (sym (replicated n s kind l) ∙ e)) ∙ h
+at_reference classes (Prim kind) n s k l e h = ap is_reference (same_Some kind k (sym (element_kind n s kind l) ∙ e)) ∙ h
 
 -- a slot of the image that names an object names it in the state
 names_there : (w : HeapState) (x s y : ℕ) (d : DumpedObject) → IsShownAs w x d → slot_names w.classes d s ≡ Some y → y ≢ 0 → Names w x y
@@ -236,10 +218,6 @@ slot_there w x y d i n =
 path_more : (w : HeapState) (x : ℕ) (ys : List ℕ) (z : ℕ) → IsPath w (IsObject w) x ys → Names w (end_of_path x ys) z → IsObject w z → IsPath w (IsObject w) x (ys ++ z ∷ [])
 path_more w x [] z p n o = (p, n, o)
 path_more w x (y ∷ ys) z p n o = (p.0, p.1, path_more w y ys z p.2 n o)
-
-end_more : (x : ℕ) (ys : List ℕ) (z : ℕ) → end_of_path x (ys ++ z ∷ []) ≡ z
-end_more x [] z = refl
-end_more x (y ∷ ys) z = end_more y ys z
 
 pub reaches_next : (w : HeapState) (x y : ℕ) → Reaches w x → Names w x y → IsObject w y → Reaches w y
 reaches_next w x y r n o = (r.0, r.1 ++ y ∷ [], r.2, path_more w r.0 r.1 y r.3 (subst (λ e. Names w e y) (sym r.4) n) o, end_more r.0 r.1 y)

@@ -8,9 +8,8 @@ use Rattle.std.proofs.lemmas.Option.{same_Some, slice_get_within}
 use Rattle.heap_class.specs.declared.ObjKind.{ObjKind}
 use Rattle.heap_class.specs.declared.ObjKind.TheVariants.{Array, Instance, Prim}
 use Rattle.heap_class.specs.declared.ObjRef.{ObjRef}
-use Rattle.heap_class.specs.Classes.{Class, array_class, instance_class, slot_kinds_of, slots_of}
+use Rattle.heap_class.specs.Classes.{Class, array_class, instance_class, slots_of}
 use Rattle.heap_class.proofs.Refusals.{none_holds}
-use Rattle.heap_class.proofs.Slots.{instance_within, slots_more}
 use Rattle.heap_region.specs.Regions.{Object, Region, UsedRegion, id_of, object_at, object_of, ref_of, references_of, slot_kinds, used_at, with_object, with_word}
 use Rattle.heap_region.specs.Pool.{RegionPool, allocated, new_place, taken}
 use Rattle.heap_region.proofs.AllocatedRegions.{IsNewCell, new_cell}
@@ -28,7 +27,7 @@ use Rattle.heap_world.specs.Legal.{HasKind, IsLegal, IsLive}
 use Rattle.heap_world.specs.Reach.{IsObject, Names, Reaches}
 use Rattle.heap_world.specs.State.{HeapState, pool_of, register, with_pool, with_register, word_of}
 use Rattle.heap_world.proofs.Clauses.{clauses_of}
-use Rattle.heap_world.proofs.Finish.{named_settled, settled}
+use Rattle.heap_world.proofs.Finish.{named_settled, settled, references_settled}
 use Rattle.heap_world.proofs.Marks.{begun, shaded_heap}
 use Rattle.heap_world.proofs.Registers.{member_set, namer, names_of, register_member, second_register, slot_names}
 use Rattle.heap_world.proofs.Shelter.{reach_induction}
@@ -40,6 +39,7 @@ use Rattle.heap_step.specs.Apply.{refusal_of, state_after}
 use Rattle.heap_step.proofs.CreationUndo.{head_empty, pool_empty}
 use Rattle.heap_past.specs.Losses.{StaysUnreached}
 use Rattle.heap_past.proofs.ImagePaths.{reaches_next}
+use Rattle.heap_world.proofs.Classes.{kinds_more}
 
 -- ---- from one state to another
 
@@ -80,12 +80,6 @@ same_names : (w v : HeapState) → ((x : ℕ) → children_of v.classes v.region
 same_names w v e x y n = inl (subst (λ l. Contains l y) (e x) n)
 
 -- ---- a class
-
-kinds_more : (cs : List Class) (c : Class) (kind : ObjKind) (n : ℕ) → HasKind cs kind n → slot_kinds_of (cs ++ c ∷ []) kind n ≡ slot_kinds_of cs kind n
-unfolding slot_kinds_of
-kinds_more cs c (Instance k) n h = slots_more cs c k (instance_within cs k h.0)
-kinds_more cs c (Array k) n h = refl
-kinds_more cs c (Prim kind) n h = refl
 
 references_more : (cs : List Class) (c : Class) (o : Object) → HasKind cs o.kind (length o.words) → references_of (cs ++ c ∷ []) o ≡ references_of cs o
 unfolding slot_kinds
@@ -157,17 +151,13 @@ drain_less : (w : HeapState) → ReachesLess w (after_drain w)
 unfolding after_drain drained_once
 drain_less w = shaded_less w w.gray (w.drained + 1) w.phase (slice_index w.log w.drained ∷ [])
 
-settled_references : (classes : List Class) (o : Object) → references_of classes (settled o) ≡ references_of classes o
-unfolding references_of slot_kinds
-settled_references classes o = refl
-
 settled_children : (classes : List Class) (w : HeapState) (x : ℕ) → children_of classes (each_region finished_region w.regions) x ≡ children_of classes w.regions x
 unfolding children_of
 settled_children classes w x = ap (λ (p : Option Object). option_map_or (references_of classes) p []) (named_settled w.regions x) ∙ go (object_of w.regions x)
   where
     go : (p : Option Object) → option_map_or (references_of classes) (option_map settled p) [] ≡ option_map_or (references_of classes) p []
     go None = refl
-    go (Some o) = settled_references classes o
+    go (Some o) = references_settled classes o
 
 finish_less : (w : HeapState) → ReachesLess w (after_finish w)
 unfolding after_finish finished

@@ -29,14 +29,6 @@ pub has_copy : (r : ℕ) (c x : Option Frozen) (p : PinContents) → r < length 
 unfolding kept_at
 has_copy r c x p lt e none = rw (copy_is p.copies r x lt e, none) refl
 
--- an object's region is in use
-pub region_used : (regions : List Region) (at : ObjRef) → IsSome (object_at regions at) → IsSome (used_at regions at.region)
-region_used regions at some = go (used_at regions at.region) (subst IsSome (object_of_used regions at) some)
-  where
-    go : (s : Option UsedRegion) → IsSome (slot_object s at.cell) → IsSome s
-    go None some = some
-    go (Some u) some = search
-
 -- the slot of an object is one of the copy's
 pub slot_copied : (regions : List Region) (at : ObjRef) (slot : ℕ) (f : Frozen) → region_frozen regions at.region ≡ Some f → IsSome (object_at regions at) → IfSome (object_at regions at) (λ o. slot < length o.words) → slot < length (frozen_words f at.cell)
 unfolding region_frozen

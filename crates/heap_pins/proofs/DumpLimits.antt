@@ -2,7 +2,6 @@
 use Rattle.std.proofs.Common.{◌≡◌, ℕ, zero, suc, ◌+◌, ◌<◌, ◌≤◌, Bool, true, false, not, cond, List, [], ◌∷◌, ◌++◌, length, map, refl, sym, ap, subst, ◌∙◌, Option, Some, None, arith, length-append}
 use Rattle.std.proofs.lemmas.List.{length-map}
 use Rattle.std.specs.Prelude.{slice_get, nat_le, Contains, All, is_some, IsSome, IfSome}
-use Rattle.std.specs.Option.{option_map_or}
 use Rattle.std.proofs.lemmas.List.Elements.{All-map, All-weaker, All-head, All-tail, All-contains}
 use Rattle.heap_class.specs.declared.ObjRef.{ObjRef}
 use Rattle.heap_class.specs.declared.ObjKind.{ObjKind}
@@ -16,6 +15,7 @@ use Rattle.heap_world.specs.Legal.{IsLegal, HasKind}
 use Rattle.hprof_text.specs.Image.{DumpedObject, IsDumpable, IsKnown}
 use Rattle.heap_pins.specs.Images.{dumped_objects, image_of}
 use Rattle.heap_pins.proofs.LiveCounts.{Stands, live_stand, few_live, small_object}
+use Rattle.heap_class.proofs.Slots.{found_within}
 
 -- ---- limits
 
@@ -36,11 +36,6 @@ few_classes_after before (c ∷ cs) t few =
     let e : length (before ++ c ∷ []) ≡ length before + 1 = length-append before (c ∷ []) in
     let more : length (before ++ c ∷ []) + length cs ≤ 256 = few_classes_after (before ++ c ∷ []) cs t.2 (omega (arith, under, e)) in
     omega (arith, more, e)
-
-found_within : (cs : List Class) (k : ℕ) (f : Class → Bool) → option_map_or f (slice_get cs k) false ≡ true → k < length cs
-found_within [] k f h = cc
-found_within (c ∷ cs) zero f h = omega arith
-found_within (c ∷ cs) (suc k) f h = let r : k < length cs = found_within cs k f h in omega (arith, r)
 
 known : (classes : List Class) (kind : ObjKind) (n : ℕ) → HasKind classes kind n → IsKnown classes kind n
 unfolding is_instance_class is_array_class

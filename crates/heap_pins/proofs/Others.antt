@@ -28,6 +28,7 @@ use Rattle.heap_step.specs.Apply.{state_after}
 use Rattle.heap_step.specs.Laws.{IsTakenBack}
 use Rattle.heap_pins.specs.Laws.{KeepsOthers, EventKeeps}
 use Rattle.heap_pins.proofs.CoveringCopies.{covers_same, covers_none, covers_then, covers_change}
+use Rattle.heap_world.proofs.KeptParts.{length_unallocated}
 
 -- ---- a region that isn't changed
 
@@ -143,7 +144,7 @@ freed_covers at s r = go (same_or_not at.region r)
     go (inr ne) = untouched s.regions (with_region at.region change s.regions) r (used_elsewhere at.region r change s.regions ne)
 
 -- a region that is released, or isn't there, has nothing
-emptied : (r : ℕ) (regions : List Region) → used_at (set regions r Empty) r ≡ None
+pub emptied : (r : ℕ) (regions : List Region) → used_at (set regions r Empty) r ≡ None
 unfolding used_at
 emptied r [] = refl
 emptied zero (x ∷ regions) = refl
@@ -220,18 +221,13 @@ marks_length : (xs : List ℕ) (regions : List Region) → length (fold (λ regi
 marks_length [] regions = refl
 marks_length (x ∷ xs) regions = marks_length xs (with_mark_of false x regions) ∙ length_marked false x regions
 
-unalloc_length : (at : ObjRef) (fresh : Bool) (s : RegionPool) → length (unallocated at fresh s).regions ≡ length s.regions
-unfolding unallocated released freed with_region
-unalloc_length at true s = length-set s.regions at.region Empty
-unalloc_length at false s = length_updated at.region _ s.regions
-
 -- as many after a step as before it
 pub length_undone : (left : Undo) (v : HeapState) → length v.regions ≡ length (undone left v).regions
 unfolding undone unsnapped unmarked undrained unshaded unfinished each_region unswept with_region restored
 length_undone (Put at slot old) v = sym (length_written v.regions at slot old)
 length_undone (Store at slot old logged) v = sym (length_written v.regions at slot old)
 length_undone (Reg m k old) v = refl
-length_undone (New at fresh m k old) v = sym (unalloc_length at fresh (pool_of v))
+length_undone (New at fresh m k old) v = sym (length_unallocated at fresh (pool_of v))
 length_undone Class v = refl
 length_undone Snap v = sym (length-map v.regions _)
 length_undone (Mark parent pushed) v = sym (marks_length (take pushed v.gray) v.regions)

@@ -41,7 +41,7 @@ opens p w past legal classes registers states copies =
 
 -- ---- one record
 
-some_same : {A : Type 0} {x y : A} → Some x ≡ Some y → x ≡ y
+pub some_same : {A : Type 0} {x y : A} → Some x ≡ Some y → x ≡ y
 some_same e = cc
 
 -- a record that names a region, of which the pin has a copy then

@@ -26,7 +26,7 @@ use Rattle.heap_step.proofs.Fits.{IsSwept}
 use Rattle.heap_step.proofs.Steps.{put_there, store_there, sweep_before, reclaim_head}
 use Rattle.heap_pins.specs.KeptCopies.{touched}
 use Rattle.heap_pins.specs.Shows.{AreFit, FitIn}
-use Rattle.heap_pins.proofs.AddedCopies.{region_used}
+use Rattle.heap_region.proofs.ShownRegions.{used_by_object}
 
 pub used_within : (regions : List Region) (r : ℕ) → IsSome (used_at regions r) → r < length regions
 unfolding used_at
@@ -36,7 +36,7 @@ used_within (x ∷ regions) (suc r) some = let l : r < length regions = used_wit
 
 -- the region of an object is one of the regions
 pub object_within : (regions : List Region) (at : ObjRef) → IsSome (object_at regions at) → at.region < length regions
-object_within regions at some = used_within regions at.region (region_used regions at some)
+object_within regions at some = used_within regions at.region (used_by_object regions at some)
 
 -- ---- what a sweep took out
 

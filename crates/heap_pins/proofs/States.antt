@@ -26,7 +26,7 @@ use Rattle.heap_region.specs.RegionCopies.{Frozen, frozen, region_frozen}
 use Rattle.heap_pins.specs.Shows.{AreFit, FitIn}
 use Rattle.heap_pins.proofs.RoomForCopies.{sweep_used, sweep_fit, reclaim_within}
 use Rattle.heap_pins.specs.Walk.{cell_state, same_place, dead_state, states_before, registers_before, classes_before, TellsBefore}
-use Rattle.heap_pins.proofs.Others.{keeps_others}
+use Rattle.heap_pins.proofs.Others.{keeps_others, emptied}
 use Rattle.heap_pins.proofs.WalkSteps.{walked_covers}
 
 -- ---- registers and classes
@@ -145,12 +145,6 @@ none_in regions b e = ap cell_state (object_of_used regions b ∙ ap (λ s. slot
 
 used_alike : (regions others : List Region) (b : ObjRef) → used_at regions b.region ≡ used_at others b.region → states_of regions b ≡ states_of others b
 used_alike regions others b e = ap cell_state (object_of_used regions b ∙ ap (λ s. slot_object s b.cell) e ∙ sym (object_of_used others b))
-
-emptied : (r : ℕ) (regions : List Region) → used_at (set regions r Empty) r ≡ None
-unfolding used_at
-emptied r [] = refl
-emptied zero (x ∷ regions) = refl
-emptied (suc r) (x ∷ regions) = emptied r regions
 
 release_state : (at : ObjRef) (s : RegionPool) (b : ObjRef) → states_of (released at.region s).regions b ≡ (if b.region == at.region then 0 else states_of s.regions b)
 unfolding released

@@ -8,6 +8,7 @@ use Rattle.heap_region.specs.Changes.{with_live, with_pending}
 use Rattle.heap_region.specs.Pool.{RegionPool, taken, freed, released, restored, cell_freed}
 use Rattle.heap_region.specs.Layout.{words_of, changed_at, cell_filled, word_set, mark_set, live_set, pending_set}
 use Rattle.heap_region.specs.Table.{shown_region}
+use Rattle.heap_region.proofs.Tables.{used_of_object}
 
 -- an item of a list, by either word
 pub get_joined : {X : Type 0} (xs : List (Option X)) (i : ℕ) → option_and_then (λ (x : Option X). x) (slice_get xs i) ≡ get_or xs i None
@@ -47,13 +48,9 @@ object_shown slots at = object_of_used (map shown_region slots) at ∙ ap (λ s.
 pub object_here : (regions : List Region) (at : ObjRef) (u : UsedRegion) → used_at regions at.region ≡ Some u → object_at regions at ≡ cell_object u at.cell
 object_here regions at u used = object_of_used regions at ∙ ap (λ s. slot_object s at.cell) used
 
-slot_is_used : (s : Option UsedRegion) (cell : ℕ) → IsSome (slot_object s cell) → IsSome s
-slot_is_used None cell some = some
-slot_is_used (Some u) cell some = search
-
 -- a region with an object is in use
 pub used_by_object : (regions : List Region) (at : ObjRef) → IsSome (object_at regions at) → IsSome (used_at regions at.region)
-used_by_object regions at some = slot_is_used (used_at regions at.region) at.cell (subst IsSome (object_of_used regions at) some)
+used_by_object regions at some = used_of_object (used_at regions at.region) at.cell (subst IsSome (object_of_used regions at) some)
 
 -- a region that is changed
 in_shown : (f : UsedRegion → UsedRegion) (s : Option UsedRegion) → in_used f (shown_region s) ≡ shown_region (option_map f s)

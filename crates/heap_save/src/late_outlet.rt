@@ -1,5 +1,5 @@
 //! Outlets that are made at their first put.
-ghost use Rattle.std.specs.Prelude.{◌≡◌, ◌+◌, ◌<◌, ◌++◌, [], length, option_map};
+ghost use Rattle.std.specs.Prelude.{◌≡◌, ◌+◌, ◌<◌, ◌++◌, length};
 ghost use Rattle.dump_pump.specs.Outlets.{bytes_of};
 ghost use Rattle.heap_save.specs.LateOutlets.{IsOutletAsked, IsPutThere, FitsLate, bytes_taken, failures_of, outlet_in, unasked, IsLate};
 

@@ -1,5 +1,5 @@
 //! The last line of a session that is saved.
-ghost use Rattle.std.specs.Prelude.{◌≡◌, ◌++◌, decimal};
+ghost use Rattle.std.specs.Prelude.{◌++◌, decimal};
 ghost use Rattle.session_text.specs.Replies.{line};
 ghost use Rattle.session_text.specs.Writes.{IsTextWritten};
 ghost use Rattle.heap_save.specs.Saves.{IsUncancelled, last_line};

@@ -4,7 +4,7 @@ use Rattle.heap_class.specs.declared.Refusal.{Refusal}
 use Rattle.heap_world.specs.Limits.{HeapSettings}
 use Rattle.heap_trail.specs.declared.Action.{Action}
 use Rattle.heap_trail.specs.declared.Reply.{Reply}
-use Rattle.heap_lock.specs.declared.entry.Receipt.{Receipt}
+use Rattle.heap_lock.specs.declared.receipt.Receipt.{Receipt}
 use Rattle.heap_lock.specs.LockStates.{Chair, IsReceived, IsNoEntry, Stands}
 use Rattle.heap_server.specs.JoinedActs.{IsReply, IsActed}
 

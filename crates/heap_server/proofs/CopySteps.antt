@@ -7,16 +7,11 @@ use Rattle.dump_pump.specs.Pumps.{PutsAll}
 use Rattle.session_text.specs.Inlets.{Incoming, NothingLeft, whole}
 use Rattle.heap_server.specs.declared.copy.Copied.TheVariants.{Whole, ReadFault, WriteFault}
 use Rattle.heap_server.specs.Copies.{IsGoing, Copies}
+use Rattle.session_text.proofs.AnsweredLines.{keeps_then}
 
 keeps_same : (x : Option (List ℕ)) → Keeps x x
 keeps_same None = tt
 keeps_same (Some xs) = refl
-
-keeps_then : (x y z : Option (List ℕ)) → Keeps x y → Keeps y z → Keeps x z
-keeps_then None y z p q = tt
-keeps_then (Some x) None z p q = absurd p
-keeps_then (Some x) (Some y) None p q = absurd q
-keeps_then (Some x) (Some y) (Some z) p q = q ∙ p
 
 pub going : (a : Incoming) (w : Outgoing) → IsGoing a a w w
 going a w = ([], (sym (append-nil a.taken), keeps_same (whole a)), sym (append-nil w.out), refl, refl)

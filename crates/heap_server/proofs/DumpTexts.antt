@@ -16,11 +16,11 @@ use Rattle.dump_pump.specs.Pumps.{joined}
 use Rattle.dump_pump.specs.Sources.{part_limit}
 use Rattle.heap_lock.specs.Calls.{Call, IsLegalLedger, Witnesses}
 use Rattle.heap_lock.specs.LockStates.{Chair}
-use Rattle.heap_lock.specs.Laws.{pieces_given, state_at}
+use Rattle.heap_lock.specs.Laws.{state_at}
 use Rattle.heap_lock.proofs.PinTexts.{give_text}
 use Rattle.session_text.specs.Replies.{data_lines, reply_text, piece_in, pin_in}
-use Rattle.session_text.specs.Dumps.{Dumps, DumpsOn, DumpsNow, ClosesAfter, total_line}
-use Rattle.heap_server.specs.DumpAnswers.{ActsJoined, lines_of_pieces, EndsData, Spells, AreAllGiven, IsDumpAnswer, IsUnopened, IsOpenedDump, AnswersPinDump, AnswersNewDump}
+use Rattle.session_text.specs.Dumps.{Dumps, DumpsOn, ClosesAfter, total_line}
+use Rattle.heap_server.specs.DumpAnswers.{ActsJoined, lines_of_pieces, EndsData, IsDumpAnswer, IsUnopened, IsOpenedDump, AnswersPinDump, AnswersNewDump}
 
 -- ---- what was seen
 

@@ -1,7 +1,7 @@
 -- Seats of users.
 use Rattle.std.proofs.Common.{◌≡◌, ℕ, zero, suc, ◌+◌, List, [], ◌∷◌, length, replicate, Result, Ok, Err, IfOk, refl, sym, ap, ◌∙◌, subst}
-use Rattle.heap_lock.specs.declared.entry.Role.{Role}
-use Rattle.heap_lock.specs.declared.entry.Role.TheVariants.{Marker, Sweeper, User}
+use Rattle.heap_lock.specs.declared.role.Role.{Role}
+use Rattle.heap_lock.specs.declared.role.Role.TheVariants.{Marker, Sweeper, User}
 use Rattle.heap_lock.specs.LockStates.{Chair}
 use Rattle.heap_lock.specs.Blanks.{chairs}
 use Rattle.heap_server.specs.SessionSeats.{AreUsers}

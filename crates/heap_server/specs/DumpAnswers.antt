@@ -1,6 +1,5 @@
 -- The answers to `dump` lines over a shared heap, as texts of states.
-use Rattle.std.specs.Prelude.{◌≡◌, ◌⊎◌, ℕ, ◌+◌, Bool, true, false, List, [], ◌∷◌, ◌++◌, length, flat_map, Option, Some, None}
-use Rattle.std.specs.List.{list_any}
+use Rattle.std.specs.Prelude.{◌≡◌, ◌⊎◌, ℕ, ◌+◌, Bool, true, false, List, [], ◌∷◌, ◌++◌, length, flat_map, Option, None}
 use mathlib.Core.List.{IsPrefix}
 use Rattle.heap_world.specs.Limits.{HeapSettings}
 use Rattle.hprof_text.specs.declared.Piece.{Piece}

@@ -8,10 +8,10 @@ use Rattle.heap_trail.specs.declared.Action.TheVariants.{Step, Rewind, OpenPin, 
 use Rattle.heap_trail.specs.declared.Reply.{Reply}
 use Rattle.heap_trail.specs.declared.Reply.TheVariants.{Answered, Place, Pinned, Part, Closed, Refused}
 use Rattle.heap_trail.specs.Laws.{IsPieceOfLegal}
-use Rattle.heap_lock.specs.declared.entry.Receipt.{Receipt}
+use Rattle.heap_lock.specs.declared.receipt.Receipt.{Receipt}
 use Rattle.heap_lock.specs.LockStates.{Chair, IsReceived, IsNoEntry, Stands}
 use Rattle.heap_lock.specs.Calls.{Call, Witnesses}
-use Rattle.heap_lock.specs.History.{reply_of}
+use Rattle.heap_chronicle.specs.History.{reply_of}
 
 -- the answer of a receipt, or a refusal that has none
 abbrev pub IsReply : Result Receipt Refusal → Reply → Type 0

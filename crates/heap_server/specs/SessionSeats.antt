@@ -1,6 +1,6 @@
 -- Seats for sessions.
 use Rattle.std.specs.Prelude.{◌≡◌, ◌≤◌, ℕ, false, List, [], ◌∷◌, ⊤, length}
-use Rattle.heap_lock.specs.declared.entry.Role.TheVariants.{User}
+use Rattle.heap_lock.specs.declared.role.Role.TheVariants.{User}
 use Rattle.heap_lock.specs.Blanks.{Maker}
 use Rattle.heap_lock.specs.LockStates.{Chair}
 use Rattle.heap_server.specs.declared.sessions.Served.{Served}

@@ -1,5 +1,5 @@
 //! The client of a session: what it sends, and what comes back.
-ghost use Rattle.std.specs.Prelude.{◌≡◌, length};
+ghost use Rattle.std.specs.Prelude.{◌≡◌};
 ghost use Rattle.heap_server.specs.ClientEndings.{AsksServer, Receives, Sends, asked_end};
 
 use crate::copy::{Copied, copy_all};

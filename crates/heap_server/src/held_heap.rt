@@ -1,7 +1,7 @@
 //! A shared heap as its holder has it, on which `collect` takes its steps.
 ghost use Rattle.std.specs.Prelude.{◌≡◌};
 ghost use Rattle.session_text.specs.Replies.{line_answer_text};
-ghost use Rattle.heap_lock.specs.declared.entry.Role.TheVariants.{User};
+ghost use Rattle.heap_lock.specs.declared.role.Role.TheVariants.{User};
 ghost use Rattle.heap_server.specs.JoinedAnswers.{IsCollectionOfHeap, IsSeatAfter, IsSeatSince, RunsCycleOfHeap};
 
 use heap_class::Refusal;

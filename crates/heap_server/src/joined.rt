@@ -1,10 +1,10 @@
 //! A user's seat at a shared heap, which acts on the lines of a session.
-ghost use Rattle.std.specs.Prelude.{◌≡◌, IfOk, IfErr};
+ghost use Rattle.std.specs.Prelude.{◌≡◌};
 ghost use Rattle.heap_trail.specs.declared.Action.TheVariants.{OpenPin, NextPiece, ClosePin};
 ghost use Rattle.heap_trail.specs.Machine.{IsSmall};
-ghost use Rattle.heap_lock.specs.declared.entry.Role.TheVariants.{User};
+ghost use Rattle.heap_lock.specs.declared.role.Role.TheVariants.{User};
 ghost use Rattle.heap_lock.specs.Calls.{Witnesses};
-ghost use Rattle.heap_lock.specs.History.{reply_of};
+ghost use Rattle.heap_chronicle.specs.History.{reply_of};
 ghost use Rattle.session_text.specs.Replies.{line_answer_text};
 ghost use Rattle.heap_server.specs.JoinedActs.{IsReply, IsLegalPart};
 ghost use Rattle.heap_server.specs.JoinedAnswers.{IsAnswerOfHeap, IsCollectionOfHeap, IsSeatAfter};

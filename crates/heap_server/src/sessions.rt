@@ -1,7 +1,7 @@
 //! Sessions over one shared heap.
 ghost use Rattle.std.specs.Prelude.{◌≡◌, ◌+◌, ◌≤◌, IfOk, IfErr, length, vec_len, vec_capacity};
 ghost use Rattle.heap_class.specs.declared.Refusal.TheVariants.{NoMemory};
-ghost use Rattle.heap_lock.specs.declared.entry.Role.TheVariants.{User};
+ghost use Rattle.heap_lock.specs.declared.role.Role.TheVariants.{User};
 ghost use Rattle.heap_server.specs.SessionSeats.{AreUsers, IsFor, IsOver, session_limit};
 
 use crate::asking::AskingSeat;
@@ -246,7 +246,7 @@ fn serve_opened<L: Heap + Send + Sync, R: Clock + Eprint + Threads + Wait + Sync
     terms: Terms,
 ) -> Result<ServedHeap, AllocError>
     requires named { (blank.config ≡ L.config) × (blank.tables ≡ L.tables)
-        × (blank.ledger ≡ L.ledger) }
+        × (blank.ledger ≡ L.ledger) × (blank.rolls ≡ L.rolls) }
     requires users { AreUsers blank.seats }
     requires most { length blank.seats ≡ most }
     ensures { IfOk result (IsOver blank terms most) }

@@ -1,7 +1,7 @@
 //! Sessions over one shared heap whose collector is tended in two threads.
-ghost use Rattle.std.specs.Prelude.{◌≡◌, ◌∷◌, ◌≤◌, IfOk, IfErr, length, replicate};
+ghost use Rattle.std.specs.Prelude.{◌≡◌, ◌∷◌, ◌≤◌, IfOk, IfErr, replicate};
 ghost use Rattle.heap_class.specs.declared.Refusal.TheVariants.{NoMemory};
-ghost use Rattle.heap_lock.specs.declared.entry.Role.TheVariants as role;
+ghost use Rattle.heap_lock.specs.declared.role.Role.TheVariants as role;
 ghost use Rattle.heap_server.specs.SessionSeats.{IsFor, session_limit};
 ghost use Rattle.heap_server.specs.Tending.{AreStaff, IsTendedOver, Marks, Sweeps};
 
@@ -241,7 +241,7 @@ fn serve_staffed<L: Heap + Send + Sync, R: Clock + Eprint + Threads + Wait + Syn
     terms: Terms,
 ) -> Result<TendedHeap, AllocError>
     requires named { (blank.config ≡ L.config) × (blank.tables ≡ L.tables)
-        × (blank.ledger ≡ L.ledger) }
+        × (blank.ledger ≡ L.ledger) × (blank.rolls ≡ L.rolls) }
     requires staff { AreStaff most blank.seats }
     ensures { IfOk result (IsTendedOver blank terms most) }
 {

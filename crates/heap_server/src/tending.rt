@@ -1,6 +1,6 @@
 //! Threads that tend the collector of a shared heap.
 ghost use Rattle.std.specs.Prelude.{◌≡◌};
-ghost use Rattle.heap_lock.specs.declared.entry.Role.TheVariants.{Marker, Sweeper};
+ghost use Rattle.heap_lock.specs.declared.role.Role.TheVariants.{Marker, Sweeper};
 ghost use Rattle.heap_server.specs.Tending.{Marks, Sweeps};
 
 use heap_lock::{Heap, Seat, Shared};

@@ -1,13 +1,9 @@
 -- A finish is taken back.
-use Rattle.std.proofs.Common.{◌≡◌, ℕ, zero, suc, ◌+◌, ◌-◌, ◌≤◌, Bool, true, false, not, List, [], ◌∷◌, length, refl, sym, ap, subst, ◌∙◌, Option, Some, None, map, arith}
-use Rattle.std.specs.Prelude.{nat_lt, slice_get, option_map, option_and_then, IfSome, if◌then◌else◌}
-use Rattle.std.specs.Option.{option_map_or}
-use Rattle.std.specs.List.{filter_map, cons_option, enumerate_from}
+use Rattle.std.proofs.Common.{◌≡◌, ℕ, true, false, List, refl, sym, ap, subst, ◌∙◌, Option, Some, None, map}
+use Rattle.std.specs.Prelude.{slice_get, option_map, option_and_then, IfSome}
 use Rattle.heap_class.proofs.Refusals.{none_holds}
 use Rattle.heap_region.specs.Regions.{Object, UsedRegion, Region, Empty, InUse, used_part, used_at, object_at, in_used}
-use Rattle.heap_mark.specs.declared.Phase.{Phase}
-use Rattle.heap_mark.specs.declared.Phase.TheVariants.{Idle, Marking}
-use Rattle.heap_mark.specs.MarkSteps.{is_marking, each_object, each_region, pending_regions, finish_refusal, finished_region, finished, unfinished_region, unfinished}
+use Rattle.heap_mark.specs.MarkSteps.{each_object, each_region, pending_regions, finish_refusal, finished_region, finished, unfinished_region, unfinished}
 use Rattle.heap_world.specs.State.{HeapState}
 use Rattle.heap_world.specs.Legal.{IsLegal}
 use Rattle.heap_world.specs.Events.{after_finish}
@@ -15,35 +11,11 @@ use Rattle.heap_step.specs.declared.Event.{Event}
 use Rattle.heap_step.specs.Apply.{state_after, refusal_of}
 use Rattle.heap_step.specs.Records.{undone, undo_record}
 use Rattle.heap_step.specs.Laws.{IsTakenBack}
-
--- f of each item, and then g, is nothing where g undoes f at each
-map_back : {A : Type 0} (f g : A → A) (xs : List A) → ((k : ℕ) (x : A) → slice_get xs k ≡ Some x → g (f x) ≡ x) → map g (map f xs) ≡ xs
-map_back f g [] h = refl
-map_back f g (x ∷ xs) h = λ i. h 0 x refl i ∷ map_back f g xs (λ k y e. h (suc k) y e) i
+use Rattle.heap_mark.proofs.Finishes.{none_pending, map_back, phase_is, all_drained, pending_in}
 
 -- a live object, finished and taken back
 object_back : (o : Object) → o.live ≡ true → record { kind = o.kind; words = o.words; live = true; mark = o.mark } ≡ o
 object_back o e = ap (λ b. record o { live = b }) (sym e)
-
-abbrev pending_in : Option Region → Bool
-pending_in None = false
-pending_in (Some Empty) = false
-pending_in (Some (InUse u)) = u.pending
-
-abbrev pending_number : ℕ × Region → Option ℕ
-pending_number p = option_map_or (λ u. if u.pending then Some p.0 else None) (used_part p.1) None
-
--- where a list of those that are pending is empty, its first isn't and its others aren't
-peeled : (b : Bool) (n : ℕ) (rest : List ℕ) → nat_lt 0 (length (cons_option (if b then Some n else None) rest)) ≡ false → (b ≡ false) × (nat_lt 0 (length rest) ≡ false)
-peeled true n rest h = let t : nat_lt 0 (suc (length rest)) ≡ true = grind arith in cc
-peeled false n rest h = (refl, h)
-
-none_pending : (regions : List Region) (n : ℕ) → nat_lt 0 (length (filter_map pending_number (enumerate_from n regions))) ≡ false → (k : ℕ) → pending_in (slice_get regions k) ≡ false
-none_pending [] n h k = refl
-none_pending (Empty ∷ xs) n h zero = refl
-none_pending (Empty ∷ xs) n h (suc k) = none_pending xs (n + 1) h k
-none_pending (InUse u ∷ xs) n h zero = (peeled u.pending n _ h).0
-none_pending (InUse u ∷ xs) n h (suc k) = none_pending xs (n + 1) (peeled u.pending n _ h).1 k
 
 -- the cells of a region whose objects are all live
 cells_back : (cells : List (Option Object)) → ((c : ℕ) (o : Object) → slice_get cells c ≡ Some (Some o) → o.live ≡ true)
@@ -62,13 +34,6 @@ regions_back regions swept live = map_back _ _ regions back
     back : (r : ℕ) (x : Region) → slice_get regions r ≡ Some x → in_used unfinished_region (in_used finished_region x) ≡ x
     back r Empty e = refl
     back r (InUse u) e = λ i. InUse (record u { pending = (sym (swept r) ∙ ap pending_in e) i; cells = cells_back u.cells (λ c o. live r c u o e) i })
-
-phase_is : (p : Phase) → not (is_marking p) ≡ false → Marking ≡ p
-phase_is Idle h = cc
-phase_is Marking h = refl
-
-all_drained : (gray log drained : ℕ) → nat_lt 0 (gray + (log - drained)) ≡ false → drained ≤ log → log ≡ drained
-all_drained gray log drained h within = grind arith
 
 -- an object that the rule speaks of, where its region isn't pending
 live_there : (w : HeapState) → IsLegal w → (r c : ℕ) (u : UsedRegion) (o : Object) → slice_get w.regions r ≡ Some (InUse u) → slice_get u.cells c ≡ Some (Some o) → u.pending ≡ false → o.live ≡ true

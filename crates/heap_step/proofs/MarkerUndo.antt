@@ -1,9 +1,8 @@
 -- The marker's steps are taken back.
-use Rattle.std.proofs.Common.{◌≡◌, false, refl, ap}
+use Rattle.std.proofs.Common.{◌≡◌, ap}
 use Rattle.heap_class.proofs.Refusals.{none_holds}
-use Rattle.heap_mark.specs.declared.Phase.{Phase}
-use Rattle.heap_mark.specs.declared.Phase.TheVariants.{Idle, Marking}
-use Rattle.heap_mark.specs.MarkSteps.{MarkState, is_marking, snap_refusal, mark_refusal}
+use Rattle.heap_mark.specs.declared.Phase.TheVariants.{Idle}
+use Rattle.heap_mark.specs.MarkSteps.{MarkState, snap_refusal, mark_refusal}
 use Rattle.heap_mark.proofs.UndoneSteps.{snap_undone, mark_undone, drain_undone}
 use Rattle.heap_world.specs.State.{HeapState, marking_of, with_marking}
 use Rattle.heap_world.specs.Events.{after_snap, after_mark, after_drain}
@@ -11,10 +10,7 @@ use Rattle.heap_step.specs.declared.Event.{Event}
 use Rattle.heap_step.specs.Apply.{state_after, refusal_of}
 use Rattle.heap_step.specs.Records.{undone, undo_record}
 use Rattle.heap_step.specs.Laws.{IsTakenBack}
-
-idle_is : (p : Phase) → is_marking p ≡ false → p ≡ Idle
-idle_is Idle h = refl
-idle_is Marking h = cc
+use Rattle.heap_world.proofs.Marks.{idle_is}
 
 pub snap_back : (w : HeapState) → IsTakenBack Event.Snap w
 unfolding undone undo_record state_after after_snap refusal_of snap_refusal

@@ -1,14 +1,12 @@
 -- Where the object stands that an event made or wrote to.
-use Rattle.std.proofs.Common.{◌≡◌, ℕ, ◌<◌, Bool, false, List, length, Option, Some, None, refl, sym, ap, subst, ◌∙◌}
-use Rattle.std.specs.Prelude.{slice_get, slice_set, option_map, unwrap_or, is_none}
+use Rattle.std.proofs.Common.{◌≡◌, ℕ, ◌<◌, Bool, false, length, Option, Some, None, sym, ap, subst, ◌∙◌}
+use Rattle.std.specs.Prelude.{slice_get, slice_set, option_map, unwrap_or}
 use Rattle.std.specs.Option.{option_map_or}
 use Rattle.std.proofs.lemmas.List.{length-replicate, length-set}
 use Rattle.std.proofs.lemmas.Option.{slice_get_within}
 use Rattle.heap_class.specs.declared.Kind.{Kind}
 use Rattle.heap_class.specs.declared.ObjRef.{ObjRef}
 use Rattle.heap_class.specs.declared.ObjKind.{ObjKind}
-use Rattle.heap_class.specs.declared.ObjKind.TheVariants.{Instance, Array, Prim}
-use Rattle.heap_class.specs.Classes.{Class, slot_kinds_of}
 use Rattle.heap_region.specs.Regions.{Object, id_of, object_at, object_of, ref_of, slot_kinds, with_word}
 use Rattle.heap_region.specs.Pool.{RegionPool, new_place, allocated}
 use Rattle.heap_region.proofs.AllocatedRegions.{IsNewCell, new_cell}
@@ -16,10 +14,11 @@ use Rattle.heap_region.proofs.FoundObjects.{taken_there}
 use Rattle.heap_region.proofs.ChangedLookups.{place_found}
 use Rattle.heap_region.proofs.Lookups.{object_there}
 use Rattle.heap_world.specs.State.{HeapState, pool_of, with_pool, with_register, place_of, slot_kind}
-use Rattle.heap_world.specs.Legal.{IsLegal, HasKind}
+use Rattle.heap_world.specs.Legal.{IsLegal}
 use Rattle.heap_world.specs.Events.{new_object, after_new, lacks_slot}
 use Rattle.heap_world.proofs.Registers.{slot_there}
 use Rattle.heap_step.proofs.CreationUndo.{head_empty, pool_empty}
+use Rattle.heap_world.proofs.Slot.{some_kind, kind_count}
 
 -- ---- a new object
 
@@ -49,17 +48,6 @@ new_registers w m r n kind at fresh place = ap (λ (v : HeapState). length v.reg
 
 -- ---- an object that is written to
 
--- an object has a word for each of its slots
-words_each : (classes : List Class) (kind : ObjKind) (n : ℕ) → HasKind classes kind n → length (slot_kinds_of classes kind n) ≡ n
-unfolding slot_kinds_of
-words_each classes (Instance k) n h = sym h.1
-words_each classes (Array k) n h = length-replicate n Kind.Object
-words_each classes (Prim kind) n h = length-replicate n kind
-
-some_kind : (p : Option Kind) → is_none p ≡ false → (k : Kind) × (p ≡ Some k)
-some_kind None h = cc
-some_kind (Some k) h = (k, refl)
-
 place_is : (w : HeapState) (x : ℕ) (at : ObjRef) → ref_of w.regions x ≡ Some at → at ≡ place_of w x
 unfolding place_of
 place_is w x at e = sym (ap (λ (p : Option ObjRef). unwrap_or p (record { region = 0; cell = 0 })) e)
@@ -87,7 +75,7 @@ slot_stands w x slot legal there = (o, here, within)
     within : slot < length o.words
     within =
         let few : slot < length (slot_kinds w.classes o) = slice_get_within (slot_kinds w.classes o) slot kind.0 named.2 in
-        subst (λ n. slot < n) (words_each w.classes o.kind (length o.words) (legal.objects (place_of w x) o here).kind) few
+        subst (λ n. slot < n) (kind_count w.classes o.kind (length o.words) (legal.objects (place_of w x) o here).kind) few
 
 -- and still stands there after a word of it is written
 pub written_stands : (w : HeapState) (x slot word : ℕ) → IsLegal w → lacks_slot w x slot ≡ false → (o : Object) × (object_at (with_word (place_of w x) slot word w.regions) (place_of w x) ≡ Some o) × (slot < length o.words)

@@ -19,6 +19,7 @@ use Rattle.heap_sweep.specs.Sweep.{live_part, dead_cells, has_live, dead_at}
 use Rattle.heap_sweep.specs.Cells.{cleared}
 use Rattle.heap_sweep.proofs.Cells.{place, dead_pairs}
 use Rattle.heap_sweep.proofs.Dead.{reverse_cons, live_found}
+use Rattle.heap_region.proofs.UpdatedLists.{updated_alike}
 
 -- ---- one region
 
@@ -160,7 +161,7 @@ used_after : (r c : ℕ) (s : RegionPool) (u : UsedRegion) → used_at s.regions
 unfolding freed
 used_after r c s u used = used_there r _ s.regions ∙ ap (option_map (λ (u : UsedRegion). cell_freed u c)) used
 
-is_there : {A : Type 0} (x : Option A) (y : A) → x ≡ Some y → IsSome x
+pub is_there : {A : Type 0} (x : Option A) (y : A) → x ≡ Some y → IsSome x
 is_there x y e = subst IsSome (sym e) (search)
 
 pub can_free : (r k : ℕ) (ds : List (ℕ × Object)) (s : RegionPool) (u : UsedRegion) (o : Object) → used_at s.regions r ≡ Some u → slice_get u.cells k ≡ Some (Some o) → AreHeld k ds u → CanFree r ds s
@@ -187,12 +188,6 @@ region_same r regions = updated_same r (in_used (λ u. u)) regions (λ x e. go x
     go : (x : Region) → in_used (λ u. u) x ≡ x
     go Empty = refl
     go (InUse u) = refl
-
-updated_alike : {A : Type 0} (i : ℕ) (f g : A → A) (xs : List A) → ((x : A) → slice_get xs i ≡ Some x → f x ≡ g x) → updated i f xs ≡ updated i g xs
-unfolding updated
-updated_alike i f g [] h = refl
-updated_alike zero f g (x ∷ xs) h = ap (λ y. y ∷ xs) (h x refl)
-updated_alike (suc i) f g (x ∷ xs) h = ap (λ ys. x ∷ ys) (updated_alike i f g xs h)
 
 pub region_alike : (r : ℕ) (f g : UsedRegion → UsedRegion) (regions : List Region) → ((u : UsedRegion) → used_at regions r ≡ Some u → f u ≡ g u) → with_region r f regions ≡ with_region r g regions
 unfolding with_region in_used

@@ -35,7 +35,7 @@ piece_first [] g lt = absurd (omega (arith, lt))
 piece_first (x ∷ xs) zero lt = refl
 piece_first (x ∷ xs) (suc g) lt = piece_first xs g (omega (arith, lt))
 
-none_left : (ps : List (List ℕ)) (g : ℕ) → length ps ≤ g → drop g ps ≡ []
+pub none_left : (ps : List (List ℕ)) (g : ℕ) → length ps ≤ g → drop g ps ≡ []
 none_left [] zero le = refl
 none_left [] (suc g) le = refl
 none_left (x ∷ xs) zero le = absurd (omega (arith, le))
@@ -66,7 +66,7 @@ each_list f pin (x ∷ xs) = go (x.0 == pin) refl (each_list f pin xs)
     go true e rest = ap (λ n. Some (if_kept (f n) x.1)) (eqb-true x.0 pin e)
     go false e rest = rest
 
-at_each : (f : ℕ → ℕ → Image → ℕ → PinState) (pin : ℕ) (ps : Pins) → pin_at pin (each_kept f ps) ≡ option_map (if_kept (f pin)) (pin_at pin ps)
+pub at_each : (f : ℕ → ℕ → Image → ℕ → PinState) (pin : ℕ) (ps : Pins) → pin_at pin (each_kept f ps) ≡ option_map (if_kept (f pin)) (pin_at pin ps)
 unfolding pin_at each_kept
 at_each f pin ps = each_list f pin ps.open_pins
 

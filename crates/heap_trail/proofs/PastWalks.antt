@@ -10,16 +10,13 @@ use Rattle.heap_pins.specs.Pin.{PinContents}
 use Rattle.heap_pins.specs.Shows.{ShowsState, Holds}
 use Rattle.heap_pins.specs.WalkedPins.{CanWalk, IsWalked, IsWalkedBack}
 use Rattle.heap_pins.proofs.HeldPins.{first_of}
-use Rattle.heap_pins.proofs.RecordWalks.{walked_on, walk_holds}
+use Rattle.heap_pins.proofs.RecordWalks.{walked_on, walk_holds, some_same}
 use Rattle.heap_trail.specs.Records.{past_of, AreRecorded}
 use Rattle.heap_trail.specs.Past.{HoldsPast}
 
 -- the pin was walked i records back
 abbrev pub IsWalkedTo : PinContents → HeapState → List Undo → ℕ → Type 0
 IsWalkedTo pin w records i = (x : HeapState) × IsWalked pin x i (w ∷ past_of w records)
-
-some_same : {A : Type 0} {x y : A} → Some x ≡ Some y → x ≡ y
-some_same e = cc
 
 -- the step that the i-th record is of
 record IsRecordOf (w : HeapState) (records : List Undo) (i : ℕ) (left : Undo) (x : HeapState) : Type 0 where

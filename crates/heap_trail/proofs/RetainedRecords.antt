@@ -1,5 +1,5 @@
 -- The record of a retained step.
-use Rattle.std.proofs.Common.{◌≡◌, ℕ, zero, suc, ◌+◌, List, [], ◌∷◌, Some, add-one, sym, ap, subst, ◌∙◌}
+use Rattle.std.proofs.Common.{◌≡◌, ℕ, zero, suc, List, [], ◌∷◌, Some, add-one, sym, subst}
 use Rattle.std.specs.Prelude.{slice_get, slice_index_or}
 use Rattle.circular_buffer.specs.Buffer.{Buffer}
 use Rattle.heap_class.specs.declared.IdSize.{IdSize}
@@ -12,9 +12,7 @@ use Rattle.heap_trail.specs.Records.{past_of, AreRecorded, machine_of}
 use Rattle.heap_trail.specs.Trail.{state_ago}
 use Rattle.heap_trail.specs.Views.{HasRecord}
 use Rattle.heap_trail.specs.declared.held.NumberedPin.{NumberedPin}
-
-some_same : {A : Type 0} {x y : A} → Some x ≡ Some y → x ≡ y
-some_same e = cc
+use Rattle.heap_pins.proofs.RecordWalks.{some_same}
 
 record_step : (w : HeapState) (rs : List Undo) (n : ℕ) (left : Undo) (d : HeapState) → AreRecorded w rs → slice_get rs n ≡ Some left → (e : Event) × IsStep e (slice_index_or (w ∷ past_of w rs) (suc n) d) (slice_index_or (w ∷ past_of w rs) n d) left
 record_step w [] n left d told there = cc

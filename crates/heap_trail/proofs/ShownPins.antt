@@ -1,5 +1,5 @@
 -- What pins show.
-use Rattle.std.proofs.Common.{◌≡◌, ℕ, List, ◌∷◌, Some, None, sym, ap, subst, ◌∙◌}
+use Rattle.std.proofs.Common.{◌≡◌, ℕ, List, Some, None, sym, ap, ◌∙◌}
 use Rattle.circular_buffer.specs.Buffer.{Buffer}
 use Rattle.heap_class.specs.declared.IdSize.{IdSize}
 use Rattle.heap_class.specs.declared.Refusal.{Refusal}
@@ -12,7 +12,7 @@ use Rattle.heap_pins.proofs.HeldPins.{first_of, held_image}
 use Rattle.heap_trail.specs.declared.held.Held.{Held}
 use Rattle.heap_trail.specs.declared.held.Held.TheVariants.{Kept, Lost}
 use Rattle.heap_trail.specs.declared.held.NumberedPin.{NumberedPin}
-use Rattle.heap_trail.specs.Pins.{PinState, pin_at}
+use Rattle.heap_trail.specs.Pins.{pin_at}
 use Rattle.heap_trail.specs.Pins.{Kept as KeptState}
 use Rattle.heap_trail.specs.Trail.{state_ago}
 use Rattle.heap_trail.specs.Machine.{Machine}

@@ -1,5 +1,5 @@
 -- How the pins are kept, and what a step and a rewind make of them.
-use Rattle.std.specs.Prelude.{Some, ◌≡◌, ◌⊎◌, ℕ, ◌+◌, ◌-◌, ◌<◌, ◌≤◌, Bool, true, false, nat_lt, List, [], ◌∷◌, length, map, slice_index_or, None, IsSome, is_some, if◌then◌else◌}
+use Rattle.std.specs.Prelude.{Some, ◌≡◌, ◌⊎◌, ℕ, ◌+◌, ◌-◌, ◌<◌, ◌≤◌, Bool, true, false, nat_lt, List, [], ◌∷◌, length, map, slice_index_or, None, is_some, if◌then◌else◌}
 use Rattle.heap_class.specs.declared.LostCause.{LostCause}
 use Rattle.heap_class.specs.declared.LostCause.TheVariants.{Rewound, Memory}
 use Rattle.heap_class.specs.declared.Refusal.{Refusal}

@@ -8,10 +8,10 @@ use Rattle.heap_step.specs.declared.Answer.{Answer}
 use Rattle.heap_step.specs.declared.Event.{Event}
 use Rattle.heap_trail.specs.declared.Action.{Action}
 use Rattle.heap_trail.specs.declared.Action.TheVariants.{Step}
-use Rattle.heap_lock.specs.declared.entry.Entry.{Entry}
-use Rattle.heap_lock.specs.declared.entry.Outcome.{Outcome}
-use Rattle.heap_lock.specs.declared.entry.Receipt.{Receipt}
-use Rattle.heap_lock.specs.History.{entry}
+use Rattle.heap_chronicle.specs.declared.entry.Entry.{Entry}
+use Rattle.heap_chronicle.specs.declared.entry.Outcome.{Outcome}
+use Rattle.heap_lock.specs.declared.receipt.Receipt.{Receipt}
+use Rattle.heap_chronicle.specs.History.{entry}
 use Rattle.heap_lock.specs.LockStates.{Chair, Stands, with_entry}
 use Rattle.heap_work.specs.declared.MarkEnd.{MarkEnd}
 use Rattle.heap_work.specs.declared.MarkEnd.TheVariants.{Finished, NotMarking, Pending}

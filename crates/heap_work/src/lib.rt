@@ -2,7 +2,7 @@
 #![tactic(auto)]
 
 ghost use Rattle.std.specs.Prelude.{◌≡◌};
-ghost use Rattle.heap_lock.specs.declared.entry.Role.TheVariants.{Marker, Sweeper};
+ghost use Rattle.heap_lock.specs.declared.role.Role.TheVariants.{Marker, Sweeper};
 ghost use Rattle.heap_work.specs.Rule.{mark_end_of, event_of, stage_after, IsMarkWork, IsSweepWork};
 
 use heap_class::Refusal;

@@ -20,7 +20,7 @@ use Rattle.heap_world.proofs.Tricolour.{Spares, spares_tricolour}
 use Rattle.heap_world.proofs.Registers.{namer, names_of}
 
 -- an object of a kind that exists has the same slots
-kinds_more : (cs : List Class) (c : Class) (kind : ObjKind) (n : ℕ) → HasKind cs kind n → slot_kinds_of (cs ++ c ∷ []) kind n ≡ slot_kinds_of cs kind n
+pub kinds_more : (cs : List Class) (c : Class) (kind : ObjKind) (n : ℕ) → HasKind cs kind n → slot_kinds_of (cs ++ c ∷ []) kind n ≡ slot_kinds_of cs kind n
 unfolding slot_kinds_of
 kinds_more cs c (Instance k) n h = slots_more cs c k (instance_within cs k h.0)
 kinds_more cs c (Array k) n h = refl

@@ -127,7 +127,7 @@ length_each rs = length-map rs (in_used finished_region)
 
 -- ---- nothing shelters at a finish
 
-nothing_left : (gray log drained : ℕ) → nat_lt 0 (gray + (log - drained)) ≡ false → (gray ≡ 0) × (log ≤ drained)
+pub nothing_left : (gray log drained : ℕ) → nat_lt 0 (gray + (log - drained)) ≡ false → (gray ≡ 0) × (log ≤ drained)
 nothing_left gray log drained h = (grind arith, grind arith)
 
 -- where no object is gray and the log is drained, none is sheltered
@@ -146,7 +146,7 @@ settled_fits : (classes : List Class) (o : Object) → IsObjectOf classes o → 
 unfolding slot_kinds
 settled_fits classes o f = record { kind = f.kind; values = f.values }
 
-references_settled : (classes : List Class) (o : Object) → references_of classes (settled o) ≡ references_of classes o
+pub references_settled : (classes : List Class) (o : Object) → references_of classes (settled o) ≡ references_of classes o
 unfolding references_of slot_kinds
 references_settled classes o = refl
 

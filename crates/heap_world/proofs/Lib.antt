@@ -4,7 +4,6 @@ pub mod Clauses
 pub mod NamedObjects
 pub mod Shelter
 pub mod Tricolour
-pub mod Distinct
 pub mod StoredObjects
 pub mod Registers
 pub mod WordWrites

@@ -16,13 +16,13 @@ use Rattle.heap_class.specs.Classes.{Class}
 use Rattle.heap_class.specs.Kinds.{value_limit}
 use Rattle.heap_region.specs.Regions.{Object, UsedRegion, Region, Empty, InUse, used_part, used_at, object_of, object_at, id_of, ref_of, with_region, references_of, slot_kinds, cell_size_for}
 use Rattle.heap_region.specs.Pool.{RegionPool, fresh_region, free_place, place_or_fresh, new_place, taken, restored, allocated}
-use Rattle.heap_region.proofs.ChangedLookups.{same_or_not, ref_same, size_at, number_of, region_of_ref}
+use Rattle.heap_region.proofs.ChangedLookups.{same_or_not, ref_same, number_of, region_of_ref}
 use Rattle.heap_region.proofs.PriorObjects.{same_place}
 use Rattle.heap_region.proofs.RoundTrip.{size_for, some_cell}
 use Rattle.heap_region.proofs.References.{member_head, member_tail, member_cases, get_set, get_set_other, length_set, get_within, found_in, references_by_slots}
 use Rattle.heap_mark.specs.declared.Phase.TheVariants.{Marking}
 use Rattle.heap_mark.specs.MarkSteps.{is_marking}
-use Rattle.heap_world.proofs.Distinct.{distinct_tail, distinct_head}
+use Rattle.heap_region.proofs.Distinct.{distinct_tail, distinct_head}
 use Rattle.heap_world.specs.State.{HeapState, pool_of, with_pool, with_register}
 use Rattle.heap_world.specs.Reach.{Names}
 use Rattle.heap_world.specs.Legal.{IsObjectOf, HasKind, IsMarked, IsUnmarked, IsLive, Sheltered}
@@ -34,7 +34,9 @@ use Rattle.heap_world.proofs.OpeningState.{range_distinct, range_index}
 use Rattle.heap_world.proofs.Shelter.{sheltered_unmarked}
 use Rattle.heap_world.proofs.Tricolour.{Spares, spares_tricolour, spares_sheltered}
 use Rattle.heap_world.proofs.Registers.{IsSafe, namer, names_of, write_legal}
-use Rattle.heap_world.proofs.TakenCells.{HasRoom, IsTaken, is_taken, filled, first_of}
+use Rattle.heap_world.proofs.TakenCells.{HasRoom, IsTaken, is_taken, filled, first_of, object_at_same, object_at_used, size_same}
+use Rattle.heap_region.proofs.FoundObjects.{bare_cells}
+use Rattle.heap_world.proofs.Sweep.{object_in_none}
 
 -- ---- a region with room
 
@@ -130,11 +132,6 @@ range_first : (n : ℕ) → 0 < n → slice_get (range_with_len 0 n) 0 ≡ Some 
 range_first zero h = absurd (omega (arith, h))
 range_first (suc n) h = refl
 
-nothing_in : (n c : ℕ) → option_and_then (λ (o : Option Object). o) (slice_get (replicate n None) c) ≡ None
-nothing_in zero c = refl
-nothing_in (suc n) zero = refl
-nothing_in (suc n) (suc c) = nothing_in n c
-
 used_set : (rs : List Region) (r : ℕ) (u : UsedRegion) → r < length rs → used_at (set rs r (InUse u)) r ≡ Some u
 unfolding used_at
 used_set rs r u h = ap (option_and_then used_part) (get_set rs r (InUse u) h)
@@ -146,18 +143,6 @@ used_set_other rs r k u n = ap (option_and_then used_part) (get_set_other rs r k
 unused : (rs : List Region) (r : ℕ) → slice_get rs r ≡ Some Empty → used_at rs r ≡ None
 unfolding used_at
 unused rs r e = ap (option_and_then used_part) e
-
-place_none : (rs : List Region) (b : ObjRef) → used_at rs b.region ≡ None → object_at rs b ≡ None
-unfolding object_at
-place_none rs b e = ap (option_and_then (λ (u : UsedRegion). option_and_then (λ (o : Option Object). o) (slice_get u.cells b.cell))) e
-
-place_in : (rs : List Region) (b : ObjRef) (u : UsedRegion) → used_at rs b.region ≡ Some u → object_at rs b ≡ option_and_then (λ (o : Option Object). o) (slice_get u.cells b.cell)
-unfolding object_at
-place_in rs b u e = ap (option_and_then (λ (u : UsedRegion). option_and_then (λ (o : Option Object). o) (slice_get u.cells b.cell))) e
-
-place_by : (rs ts : List Region) (b : ObjRef) → used_at ts b.region ≡ used_at rs b.region → object_at ts b ≡ object_at rs b
-unfolding object_at
-place_by rs ts b e = ap (option_and_then (λ (u : UsedRegion). option_and_then (λ (o : Option Object). o) (slice_get u.cells b.cell))) e
 
 -- an id in a region without objects names none
 none_named : (rs : List Region) (r x : ℕ) → ((b : ObjRef) → b.region ≡ r → object_at rs b ≡ None) → number_of x ≡ r → object_of rs x ≡ None
@@ -175,10 +160,6 @@ names_by rs ts x e h = ap (option_and_then (object_at ts)) e ∙ go (ref_of rs x
     go : (p : Option ObjRef) → option_and_then (object_at ts) p ≡ option_and_then (object_at rs) p
     go None = refl
     go (Some b) = h b
-
-size_by : (rs ts : List Region) (k d : ℕ) → used_at ts k ≡ used_at rs k → size_at ts k d ≡ size_at rs k d
-unfolding size_at
-size_by rs ts k d e = ap (λ (p : Option UsedRegion). option_map_or (λ (u : UsedRegion). u.cell_size) p d) e
 
 opened_fresh : (rs : List Region) (ps : List ℕ) (n r : ℕ) → NamesEach ps (λ k. slice_get rs k ≡ Some Empty) → slice_get ps 0 ≡ Some r
     → IsOpened rs (set rs r (InUse (fresh_region (cell_size_for n)))) ps (drop 1 ps) (record { region = r; cell = 0 }) (cell_size_for n)
@@ -216,20 +197,20 @@ opened_fresh rs ps n r pools h = record {
     still k u e (inr m) = used_set_other rs r k fresh m ∙ e
 
     none_there : (b : ObjRef) → b.region ≡ r → object_at (set rs r (InUse fresh)) b ≡ None
-    none_there b e = place_in (set rs r (InUse fresh)) b fresh (ap (used_at (set rs r (InUse fresh))) e ∙ used) ∙ nothing_in (1024 / cell_size_for n) b.cell
+    none_there b e = object_at_used (set rs r (InUse fresh)) b fresh (ap (used_at (set rs r (InUse fresh))) e ∙ used) ∙ bare_cells (1024 / cell_size_for n) b.cell
 
     none_before : (b : ObjRef) → b.region ≡ r → object_at rs b ≡ None
-    none_before b e = place_none rs b (ap (used_at rs) e ∙ unused rs r empty)
+    none_before b e = object_in_none rs b (ap (used_at rs) e ∙ unused rs r empty)
 
     places : (b : ObjRef) → object_at (set rs r (InUse fresh)) b ≡ object_at rs b
     places b = elim (same_or_not b.region r) [
       | inl e ↦ none_there b e ∙ sym (none_before b e)
-      | inr m ↦ place_by rs (set rs r (InUse fresh)) b (used_set_other rs r b.region fresh m)
+      | inr m ↦ object_at_same rs (set rs r (InUse fresh)) b (used_set_other rs r b.region fresh m)
     ]
 
     names : (x : ℕ) → (number_of x ≡ r) ⊎ (number_of x ≢ r) → object_of (set rs r (InUse fresh)) x ≡ object_of rs x
     names x (inl e) = none_named (set rs r (InUse fresh)) r x none_there e ∙ sym (none_named rs r x none_before e)
-    names x (inr m) = names_by rs (set rs r (InUse fresh)) x (ref_same (set rs r (InUse fresh)) rs x (λ d. size_by rs (set rs r (InUse fresh)) (number_of x) d (used_set_other rs r (number_of x) fresh m))) places
+    names x (inr m) = names_by rs (set rs r (InUse fresh)) x (ref_same (set rs r (InUse fresh)) rs x (λ d. size_same rs (set rs r (InUse fresh)) (number_of x) d (used_set_other rs r (number_of x) fresh m))) places
 
     to : (k : ℕ) → Contains (drop 1 ps) k → slice_get (set rs r (InUse fresh)) k ≡ Some Empty
     to k m = get_set_other rs r k (InUse fresh) (λ e. distinct_head r (drop 1 ps) distinct k m (sym e)) ∙ (pools.each k).0 (subst (λ l. Contains l k) (sym list) (member_tail r (drop 1 ps) k m))

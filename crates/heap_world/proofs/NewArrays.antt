@@ -1,10 +1,9 @@
 -- Which refusal a call for a new array answers.
-use Rattle.std.proofs.Common.{◌≡◌, ◌≢◌, ℕ, ◌<◌, ◌≤◌, true, false, List, [], ◌∷◌, ◌++◌, Option, Some, None, Result, Ok, Err, length, refl, sym, ap, ◌∙◌, inl, inr, arith}
+use Rattle.std.proofs.Common.{◌≡◌, ℕ, ◌<◌, ◌≤◌, true, false, List, [], ◌∷◌, ◌++◌, Option, Some, None, Result, Ok, Err, length, refl, sym, ap, ◌∙◌, inl, inr, arith}
 use Rattle.std.specs.Prelude.{not, nat_lt, nat_le, slice_get, OnOk, IfErr, OnErr}
 use Rattle.std.specs.Option.{option_map_or}
 use Rattle.std.proofs.lemmas.Option.{slice_get_within}
 use Rattle.heap_class.specs.declared.Kind.{Kind}
-use Rattle.heap_class.specs.declared.Kind.TheVariants.{Boolean, Char, Float, Double, Byte, Short, Int, Long}
 use Rattle.heap_class.specs.declared.ObjKind.TheVariants.{Array, Prim}
 use Rattle.heap_class.specs.declared.Refusal.{Refusal}
 use Rattle.heap_class.specs.declared.Refusal.TheVariants.{BadRegister, NoClass, WrongKind, TooLarge, HeapFull}
@@ -19,6 +18,7 @@ use Rattle.heap_world.specs.HeapParts.{IsSoundHeap}
 use Rattle.heap_world.specs.Events.{is_full, new_array_refusal, new_prim_refusal}
 use Rattle.heap_world.proofs.KeptParts.{class_held}
 use Rattle.heap_world.proofs.FirstRefusals.{IsRefusedRoom, here, later, none_left, fresh_room}
+use Rattle.heap_mark.proofs.Children.{no_reference}
 
 -- a class of object arrays is defined
 pub array_class_held : (w : HeapState) (room : ℕ) (name : List ℕ) (cs : List Class) (result : Result ℕ Refusal) → IsSoundHeap w room
@@ -82,17 +82,6 @@ prim_by_size m r kind len w x e k f = later _ _ _ _ (ap not e) (later _ _ _ _ k 
 
 pub prim_too_large : (m r : ℕ) (kind : Kind) (len : ℕ) (w : HeapState) → is_register w m r ≡ true → is_reference kind ≡ false → array_limit < len → new_prim_refusal m r kind len w ≡ Some TooLarge
 prim_too_large m r kind len w e k h = prim_by_size m r kind len w (Some TooLarge) e k (here _ _ _ (grind arith))
-
-no_reference : (k : Kind) → k ≢ Kind.Object → is_reference k ≡ false
-no_reference Kind.Object n = absurd (n refl)
-no_reference Boolean n = refl
-no_reference Char n = refl
-no_reference Float n = refl
-no_reference Double n = refl
-no_reference Byte n = refl
-no_reference Short n = refl
-no_reference Int n = refl
-no_reference Long n = refl
 
 prim_by_room : (m r : ℕ) (kind : Kind) (len : ℕ) (w : HeapState) → is_register w m r ≡ true → HasKind w.classes (Prim kind) len → (x : Option Refusal) → first_refusal ((is_full len w, HeapFull) ∷ []) ≡ x → new_prim_refusal m r kind len w ≡ x
 prim_by_room m r kind len w e k x f = prim_by_size m r kind len w x e (no_reference kind k.0) (later _ _ _ _ (within len k.1) f)

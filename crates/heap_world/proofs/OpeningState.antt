@@ -1,6 +1,6 @@
 -- A heap is legal as it begins.
 use Rattle.std.proofs.Common.{◌≡◌, ℕ, zero, suc, ◌+◌, ◌*◌, ◌≤◌, ◌<◌, false, List, [], replicate, refl, sym, ap, subst, ◌∙◌, Option, Some, None, arith}
-use Rattle.std.specs.Prelude.{slice_get, slice_index_or, option_and_then, Contains, nat_eq}
+use Rattle.std.specs.Prelude.{slice_get, slice_index_or, option_and_then, nat_eq}
 use Rattle.std.specs.List.{range_with_len, IsDistinct, AllByRecursion}
 use Rattle.heap_class.specs.declared.ObjRef.{ObjRef}
 use Rattle.heap_region.specs.Regions.{Object, UsedRegion, Empty, used_part, used_at, object_at}
@@ -17,6 +17,7 @@ use Rattle.heap_world.specs.Limits.{mutator_limit}
 use Rattle.heap_world.specs.Legal.{IsLegal}
 use Rattle.std.proofs.lemmas.List.FromFn.{length-range_with_len}
 use Rattle.std.proofs.lemmas.List.{length-replicate}
+use Rattle.heap_region.proofs.References.{member_none}
 
 none_used : (n r : ℕ) → option_and_then used_part (slice_get (replicate n Empty) r) ≡ None
 none_used zero r = refl
@@ -36,9 +37,6 @@ all_zero : (n k d : ℕ) → k < n → slice_index_or (replicate n 0) k d ≡ 0
 all_zero zero k d h = absurd (omega arith)
 all_zero (suc n) zero d h = refl
 all_zero (suc n) (suc k) d h = all_zero n k d (omega arith)
-
-in_nothing : {A : Type 0} (x : A) → Contains [] x → ⊥
-in_nothing x c = absurd (omega (arith, c.1))
 
 -- what a range has, and nothing twice
 pub range_index : (a n k d : ℕ) → k < n → slice_index_or (range_with_len a n) k d ≡ a + k
@@ -92,10 +90,10 @@ begins_legal n m n1 n_few m1 m_few = record {
   objects = λ at o h. absurd (no_object n at o h);
   registers_live = λ x c other. absurd (other (sym c.2 ∙ all_zero (8 * m) c.0 x (omega (arith, c.1, length-replicate {A = ℕ} (8 * m) 0))));
   slots_live = λ x y live names. absurd (nobody n x live.0 live.1);
-  gray_live = λ x c. absurd (in_nothing x c);
-  log_live = λ x c. absurd (in_nothing x c);
+  gray_live = λ x c. absurd (member_none x c);
+  log_live = λ x c. absurd (member_none x c);
   gray_distinct = tt;
-  gray_marked = λ x c. absurd (in_nothing x c);
+  gray_marked = λ x c. absurd (member_none x c);
   marked_live = λ at o h. absurd (no_object n at o h);
   drained_within = omega arith;
   swept_live = λ at o h. absurd (no_object n at o h);

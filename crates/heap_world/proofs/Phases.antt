@@ -1,6 +1,6 @@
 -- The phase after each event that may have several forms, and what an accepted finish says of the heap.
-use Rattle.std.proofs.Common.{◌≡◌, ℕ, ◌+◌, ◌-◌, ◌≤◌, Bool, true, false, List, [], ◌∷◌, ◌++◌, length, drop, refl, Option, Some, None, arith}
-use Rattle.std.specs.Prelude.{slice_index, nat_lt, ◌==◌, if◌then◌else◌}
+use Rattle.std.proofs.Common.{◌≡◌, ℕ, ◌+◌, ◌≤◌, Bool, true, false, List, [], ◌∷◌, ◌++◌, length, drop, refl, Option, Some, None}
+use Rattle.std.specs.Prelude.{slice_index, ◌==◌, if◌then◌else◌}
 use Rattle.std.specs.Option.{option_map_or}
 use Rattle.heap_class.proofs.Refusals.{none_holds}
 use Rattle.heap_class.specs.declared.ObjRef.{ObjRef}
@@ -14,6 +14,7 @@ use Rattle.heap_mark.proofs.Shades.{shades_all}
 use Rattle.heap_world.specs.State.{HeapState, pool_of, with_pool, marking_of, register, with_register, word_of}
 use Rattle.heap_world.specs.Events.{new_object, after_new, is_reference_slot, after_load, with_slot, after_store, after_put, after_mark, after_drain}
 use Rattle.heap_world.proofs.Marks.{begun, shaded_heap, marking_is}
+use Rattle.heap_world.proofs.Finish.{nothing_left}
 
 pub new_phase : (w : HeapState) (m r : ℕ) (kind : ObjKind) (n : ℕ) → (after_new m r kind n w).phase ≡ w.phase
 unfolding after_new
@@ -58,9 +59,6 @@ mark_phase w = shaded_phase w (drop 1 w.gray) w.drained w.phase (children_of w.c
 pub drain_phase : (w : HeapState) → (after_drain w).phase ≡ w.phase
 unfolding after_drain drained_once
 drain_phase w = shaded_phase w w.gray (w.drained + 1) w.phase (slice_index w.log w.drained ∷ [])
-
-nothing_left : (gray log drained : ℕ) → nat_lt 0 (gray + (log - drained)) ≡ false → (gray ≡ 0) × (log ≤ drained)
-nothing_left gray log drained h = (grind arith, grind arith)
 
 -- where a finish is accepted, a cycle runs and nothing is left to do
 pub finish_due : (w : HeapState) → finish_refusal (marking_of w) ≡ None → (w.phase ≡ Marking) × (length w.gray ≡ 0) × (length w.log ≤ w.drained)

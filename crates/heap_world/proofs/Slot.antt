@@ -1,6 +1,6 @@
 -- The slots of the object that a register names.
 use Rattle.std.proofs.Common.{◌≡◌, ◌≢◌, ℕ, ◌<◌, true, false, List, length, replicate, Option, Some, None, refl, sym, ap, subst, ◌∙◌, arith}
-use Rattle.std.specs.Prelude.{slice_get, slice_index, Contains, is_none, is_some, IsSome, IfSome, option_and_then}
+use Rattle.std.specs.Prelude.{slice_get, slice_index, Contains, is_none, IsSome, IfSome, option_and_then}
 use Rattle.std.proofs.lemmas.Option.{slice_get_within}
 use Rattle.std.proofs.lemmas.List.{length-replicate}
 use Rattle.heap_class.specs.declared.Kind.{Kind}
@@ -18,13 +18,11 @@ use Rattle.heap_class.proofs.Refusals.{none_holds}
 use Rattle.heap_world.specs.Events.{put_refusal, lacks_slot}
 use Rattle.heap_world.proofs.Registers.{slot_there, word_there}
 use Rattle.heap_world.proofs.Words.{words_few}
-
-some_is : {A : Type 0} (p : Option A) (x : A) → p ≡ Some x → IsSome p
-some_is p x e = ap is_some e
+use Rattle.heap_sweep.proofs.FreedCells.{is_there}
 
 -- what a register holds, but null, names an object
 register_names : (w : HeapState) (x : ℕ) → IsLegal w → Contains w.registers x → x ≢ 0 → IsSome (object_of w.regions x)
-register_names w x l c n = let live = l.registers_live x c n in some_is (object_of w.regions x) live.0 live.1
+register_names w x l c n = let live = l.registers_live x c n in is_there (object_of w.regions x) live.0 live.1
 
 place_has : (w : HeapState) (x : ℕ) (at : ObjRef) → IsSome (object_of w.regions x) → ref_of w.regions x ≡ Some at → IsSome (object_at w.regions at)
 place_has w x at h e = subst IsSome (object_at_ref w.regions x at e) h
@@ -44,7 +42,7 @@ slot_kind_is w x slot at k e there is_kind = ap (option_and_then (λ (o : Object
 
 -- ---- the kinds of an object's slots
 
-kind_count : (classes : List Class) (kind : ObjKind) (n : ℕ) → HasKind classes kind n → length (slot_kinds_of classes kind n) ≡ n
+pub kind_count : (classes : List Class) (kind : ObjKind) (n : ℕ) → HasKind classes kind n → length (slot_kinds_of classes kind n) ≡ n
 unfolding slot_kinds_of
 kind_count classes (Instance k) n h = sym h.1
 kind_count classes (Array k) n h = length-replicate n Kind.Object
@@ -91,7 +89,7 @@ pub record HasSlot (w : HeapState) (x slot : ℕ) (at : ObjRef) : Type 0 where
 has_slot : (w : HeapState) (x slot : ℕ) (at : ObjRef) (k : Kind) → IsLegal w → ref_of w.regions x ≡ Some at → slot_kind w x slot ≡ Some k → HasSlot w x slot at
 unfolding slot_kinds
 has_slot w x slot at k l e f = record {
-  there = some_is (object_at w.regions at) s.0 here;
+  there = is_there (object_at w.regions at) s.0 here;
   within = subst (λ p. IfSome p (λ (o : Object). slot < length o.words)) (sym here) within;
   few = omega (arith, within, words_few w l.classes l.objects at s.0 here);
   word = λ y h. subst (λ p. IfSome p (λ (o : Object). y ≡ slice_index o.words slot)) here h ∙ sym (word_there w x slot s.0 s.1);

@@ -6,11 +6,11 @@ use Rattle.std.specs.Option.{option_map_or}
 use Rattle.std.specs.List.{IsDistinct}
 use Rattle.heap_class.specs.declared.ObjRef.{ObjRef}
 use Rattle.heap_region.specs.Regions.{Object, UsedRegion, Region, Empty, used_at, object_of, object_at, id_of, ref_of, in_used, with_region}
-use Rattle.heap_region.proofs.ChangedLookups.{same_or_not, length_updated, used_with_region, used_with_region_other, ref_same, size_at, number_of, id_of_ref}
+use Rattle.heap_region.proofs.ChangedLookups.{same_or_not, length_updated, used_with_region, used_with_region_other, ref_same, size_at, number_of, id_of_ref, object_at_ref}
 use Rattle.heap_region.proofs.PriorObjects.{used_was_region, empty_with_region}
 use Rattle.heap_region.proofs.RoundTrip.{IsSize, ref_of_id}
 use Rattle.heap_region.proofs.References.{member_head, member_tail, member_cases, get_set, get_set_other, length_set, get_within}
-use Rattle.heap_world.proofs.Distinct.{distinct_tail, distinct_head}
+use Rattle.heap_region.proofs.Distinct.{distinct_tail, distinct_head}
 use Rattle.heap_region.proofs.Clauses.{IsPartition}
 use Rattle.heap_region.specs.Legal.{NamesEach}
 
@@ -45,17 +45,13 @@ pub first_of : (xs : List ℕ) (c : ℕ) → slice_get xs 0 ≡ Some c → xs �
 first_of [] c e = cc
 first_of (x ∷ xs) c e = let s : x ≡ c = cc in ap (λ z. z ∷ xs) s
 
-object_at_used : (rs : List Region) (b : ObjRef) (u : UsedRegion) → used_at rs b.region ≡ Some u → object_at rs b ≡ option_and_then (λ (o : Option Object). o) (slice_get u.cells b.cell)
+pub object_at_used : (rs : List Region) (b : ObjRef) (u : UsedRegion) → used_at rs b.region ≡ Some u → object_at rs b ≡ option_and_then (λ (o : Option Object). o) (slice_get u.cells b.cell)
 unfolding object_at
 object_at_used rs b u e = ap (option_and_then (λ (u : UsedRegion). option_and_then (λ (o : Option Object). o) (slice_get u.cells b.cell))) e
 
-object_at_same : (rs ts : List Region) (b : ObjRef) → used_at ts b.region ≡ used_at rs b.region → object_at ts b ≡ object_at rs b
+pub object_at_same : (rs ts : List Region) (b : ObjRef) → used_at ts b.region ≡ used_at rs b.region → object_at ts b ≡ object_at rs b
 unfolding object_at
 object_at_same rs ts b e = ap (option_and_then (λ (u : UsedRegion). option_and_then (λ (o : Option Object). o) (slice_get u.cells b.cell))) e
-
-object_at_found : (rs : List Region) (x : ℕ) (at : ObjRef) → ref_of rs x ≡ Some at → object_of rs x ≡ object_at rs at
-unfolding object_of
-object_at_found rs x at e = ap (option_and_then (object_at rs)) e
 
 length_with : (f : UsedRegion → UsedRegion) (r : ℕ) (rs : List Region) → length (with_region r f rs) ≡ length rs
 unfolding with_region
@@ -73,7 +69,7 @@ size_some : (rs : List Region) (k : ℕ) (u : UsedRegion) (s d : ℕ) → used_a
 unfolding size_at
 size_some rs k u s d e f = ap (λ (p : Option UsedRegion). option_map_or (λ (u : UsedRegion). u.cell_size) p d) e ∙ f
 
-size_same : (rs ts : List Region) (k d : ℕ) → used_at ts k ≡ used_at rs k → size_at ts k d ≡ size_at rs k d
+pub size_same : (rs ts : List Region) (k d : ℕ) → used_at ts k ≡ used_at rs k → size_at ts k d ≡ size_at rs k d
 unfolding size_at
 size_same rs ts k d e = ap (λ (p : Option UsedRegion). option_map_or (λ (u : UsedRegion). u.cell_size) p d) e
 
@@ -109,8 +105,8 @@ is_taken rs at o s h = record {
   count = length_with (filled at.cell o) at.region rs;
   here = here;
   others = λ b n. others b n (same_or_not b.region at.region);
-  named = object_at_found ts (id_of ts at) at ref ∙ here;
-  was_none = object_at_found rs (id_of ts at) at (sym (ref_same_all (id_of ts at)) ∙ ref) ∙ object_at_used rs at h.region h.used ∙ ap (option_and_then (λ (o : Option Object). o)) is_free;
+  named = object_at_ref ts (id_of ts at) at ref ∙ here;
+  was_none = object_at_ref rs (id_of ts at) at (sym (ref_same_all (id_of ts at)) ∙ ref) ∙ object_at_used rs at h.region h.used ∙ ap (option_and_then (λ (o : Option Object). o)) is_free;
   still_named = λ x n. named_same rs ts x (ref_same_all x) (λ b f. others b (λ e. n (sym (id_of_ref ts x at (ref_same_all x ∙ f ∙ ap Some e)))) (same_or_not b.region at.region));
   sizes = λ k u e. sizes k u e (same_or_not k at.region);
   size = (filled at.cell o h.region, used, h.size);

@@ -1,7 +1,7 @@
 -- Legality where a word of an object is written, and perhaps the log: a store and a put.
 use Rattle.std.proofs.Common.{◌≡◌, ◌≢◌, ◌⊎◌, ℕ, zero, suc, ◌<◌, ◌≤◌, Bool, true, false, not, List, [], ◌∷◌, ◌++◌, length, drop, set, zip, refl, sym, ap, subst, ◌∙◌, Option, Some, None, All, Contains, arith, length-append}
 use mathlib.Core.Logic.{inl, inr}
-use Rattle.std.specs.Prelude.{slice_get, slice_index, slice_set, option_map, unwrap_or, is_none, nat_le, ◌==◌, if◌then◌else◌}
+use Rattle.std.specs.Prelude.{slice_get, slice_index, slice_set, option_map, unwrap_or, nat_le, ◌==◌, if◌then◌else◌}
 use Rattle.std.specs.Option.{option_map_or}
 use Rattle.std.proofs.lemmas.Bool.{eqb-true, eqb-false}
 use Rattle.std.proofs.lemmas.List.Elements.{All-head, All-tail, All-cons, Contains-append_left, Contains-append_right, Contains-push_cases}
@@ -26,6 +26,7 @@ use Rattle.heap_world.specs.Events.{after_store, store_refusal, after_put, put_r
 use Rattle.heap_world.proofs.Tricolour.{Rewires, rewires_tricolour}
 use Rattle.heap_world.proofs.StoredObjects.{IsStored, Keeps, stored_of, stored_with_object}
 use Rattle.heap_world.proofs.Registers.{object_not_null, both_registers, namer, names_of, register_member, slot_there, reference_slot, word_there, slot_names}
+use Rattle.heap_world.proofs.Slot.{some_kind}
 
 -- the object with the word in a slot
 abbrev pub with_object_word : ℕ → ℕ → Object → Object
@@ -344,10 +345,6 @@ store_legal w m target slot source l accepted = form_legal w (after_store m targ
 
 above : (n v : ℕ) → nat_le n v ≡ false → v < n
 above n v h = grind arith
-
-some_kind : (p : Option Kind) → is_none p ≡ false → (k : Kind) × (p ≡ Some k)
-some_kind None h = cc
-some_kind (Some k) h = (k, refl)
 
 pub put_form : (w : HeapState) (m target slot value : ℕ) → HasClauses w → put_refusal m target slot value w ≡ None → WriteForm w (register w m target) slot value (after_put m target slot value w)
 unfolding put_refusal after_put with_slot lacks_slot is_reference_slot

@@ -5,7 +5,6 @@ use Rattle.heap_class.specs.declared.Kind.{Kind}
 use Rattle.heap_class.specs.declared.Refusal.{Refusal}
 use Rattle.heap_class.specs.declared.Refusal.TheVariants.{NoClass, BadRegister, NullRegister, BadSlot, WrongKind, OutOfRange, TooLarge, HeapFull}
 use Rattle.heap_class.specs.declared.ObjKind.{ObjKind}
-use Rattle.heap_class.specs.declared.ObjKind.TheVariants.{Prim}
 use Rattle.heap_class.specs.Kinds.{is_reference, value_limit}
 use Rattle.heap_class.specs.Limits.{array_limit}
 use Rattle.heap_class.specs.Refusals.{first_refusal}

@@ -1,5 +1,5 @@
 //! A session with questions.
-ghost use Rattle.std.specs.Prelude.{◌≡◌, false, true, IfErr, IfOk};
+ghost use Rattle.std.specs.Prelude.{◌≡◌, true, IfErr, IfOk};
 ghost use Rattle.heap_world.specs.Limits.{AreHeapSettings};
 ghost use Rattle.heapdbg.specs.Explorations.{IsSessionBegun, IsExplored, IsHindrance, IsOpening};
 

@@ -1,5 +1,5 @@
 //! A session whose last state is dumped to a file or a socket.
-ghost use Rattle.std.specs.Prelude.{◌≡◌, false, option_map, true};
+ghost use Rattle.std.specs.Prelude.{◌≡◌, false, true};
 ghost use Rattle.heap_world.specs.Limits.{AreHeapSettings};
 ghost use Rattle.heapdbg.specs.SaveOutcomes.{IsSavedAs, IsSavedTo, save_outcome};
 

@@ -1,5 +1,5 @@
 //! The command lines of the tasks between standard input and standard output.
-ghost use Rattle.std.specs.Prelude.{◌≡◌, None, Some, codes, false, is_some, option_map, IfErr, IfOk};
+ghost use Rattle.std.specs.Prelude.{◌≡◌, None, Some, false, is_some, option_map, IfErr, IfOk};
 ghost use Rattle.clap.specs.Words.{app_of, found_of, rows_of};
 ghost use Rattle.clap.specs.declared.builder.Command.TheViews.{out-Command};
 ghost use Rattle.heapdbg_options.specs.CommandLine.{draw_line, explore_in, explore_line, explore_with, run_line};

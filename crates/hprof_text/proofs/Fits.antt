@@ -25,7 +25,8 @@ use Rattle.hprof_text.specs.Fits.{FitsBytes, FitsId, Utf8Fits, LoadClassFits, Fi
 use Rattle.hprof_text.proofs.Bounds.{width_small, instance_small, class_size_small, id_small}
 use Rattle.hprof_text.proofs.Lengths.{utf8_length, load_length, trace_length, values_length, sub_lengths}
 use Rattle.hprof_text.proofs.SegmentSizes.{are_sizes}
-use Rattle.hprof_text.proofs.Tables.{IsShort, IsSmall, slots_few, classes_small, table_short, table_names_few}
+use Rattle.heap_class.proofs.FewSlots.{slots_few}
+use Rattle.hprof_text.proofs.Tables.{IsShort, IsSmall, classes_small, table_short, table_names_few}
 
 -- ---- single numbers
 

@@ -4,7 +4,7 @@ use Rattle.std.specs.Prelude.{flat_map, zip}
 use Rattle.std.specs.Option.{option_map_or}
 use Rattle.heap_class.specs.declared.IdSize.{IdSize}
 use Rattle.heap_class.specs.declared.Kind.{Kind}
-use Rattle.heap_class.specs.declared.ObjKind.TheVariants.{Instance, Prim}
+use Rattle.heap_class.specs.declared.ObjKind.TheVariants.{Instance}
 use Rattle.heap_class.specs.Kinds.{id_bytes}
 use Rattle.heap_class.specs.Classes.{Class, slots_of, sup_of, fields_of, name_of, name_id, instance_size}
 use Rattle.hprof_text.specs.Records.{class_at, record_head, class_ids, class_counts}

@@ -3,22 +3,19 @@ use Rattle.std.proofs.Common.{◌≡◌, ℕ, Bool, true, false, List, [], ◌�
 use Rattle.std.specs.Prelude.{◌||◌}
 use Rattle.std.specs.List.{list_any}
 use mathlib.Core.List.{IsPrefix}
-use Rattle.heap_class.specs.declared.LostCause.{LostCause}
 use Rattle.heap_world.specs.Limits.{HeapSettings}
 use Rattle.hprof_text.specs.declared.Piece.{Piece}
 use Rattle.hprof_text.specs.Segments.{dump_text}
 use Rattle.heap_pins.specs.Images.{image_of}
-use Rattle.heap_trail.specs.declared.Action.TheVariants.{OpenPin}
-use Rattle.heap_trail.specs.declared.Reply.TheVariants.{Pinned}
 use Rattle.dump_pump.specs.declared.transfer.Pumped.{Pumped}
 use Rattle.dump_pump.specs.declared.transfer.Pumped.TheVariants.{Done, OutletFailed, Lost, Cancelled}
 use Rattle.dump_pump.specs.Outlets.{Outgoing}
 use Rattle.dump_pump.specs.Pumps.{joined, ends}
 use Rattle.heap_lock.specs.Calls.{Call, IsLegalLedger}
-use Rattle.heap_lock.specs.Laws.{pieces_given, state_at}
+use Rattle.heap_lock.specs.Laws.{state_at}
 use Rattle.heap_lock.proofs.PinTexts.{give_text}
-use Rattle.live_dump.specs.Streams.{TellsStream, PutsLive}
-use Rattle.live_dump.specs.StreamTexts.{IsAlone, PutsBeginning, StreamsText}
+use Rattle.live_dump.specs.Streams.{TellsStream}
+use Rattle.live_dump.specs.StreamTexts.{StreamsText}
 
 or_true : (b : Bool) → (b || true) ≡ true
 or_true true = refl

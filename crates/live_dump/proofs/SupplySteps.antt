@@ -12,7 +12,7 @@ use Rattle.dump_pump.specs.declared.source.Ending.{Ending}
 use Rattle.dump_pump.specs.declared.source.Ending.TheVariants as End
 use Rattle.dump_pump.specs.declared.source.Next.{Next}
 use Rattle.dump_pump.specs.declared.source.Next.TheVariants.{Part, Lost, Cancelled}
-use Rattle.dump_pump.specs.Sources.{IsNextPart, part_limit}
+use Rattle.dump_pump.specs.Sources.{IsNextPart}
 use Rattle.heap_lock.specs.Calls.{Call, Witnesses}
 use Rattle.heap_lock.specs.Sources.{Supplies, count_after, locked_supply as untold}
 use Rattle.live_dump.specs.Supplies.{ToldSupply, AreGiven, AllLegal, WasReplied, MayEnd, IsSupplied, told_supply, pieces_in, pieces_with, ended_with}

@@ -1,5 +1,5 @@
 -- What a stream of a told source puts out.
-use Rattle.std.proofs.Common.{◌≡◌, ℕ, Bool, true, false, List, [], ◌++◌, Option, Some, if◌then◌else◌, refl, ap, ◌∙◌, subst}
+use Rattle.std.proofs.Common.{◌≡◌, ℕ, Bool, true, false, List, ◌++◌, Option, Some, if◌then◌else◌, refl, ap, ◌∙◌, subst}
 use Rattle.heap_class.specs.declared.LostCause.{LostCause}
 use Rattle.heap_world.specs.Limits.{HeapSettings}
 use Rattle.hprof_text.specs.declared.Piece.{Piece}

@@ -3,8 +3,8 @@ use Rattle.std.proofs.Common.{◌≡◌, ◌∙◌, ap, ap₂, ℕ, Bool, true, 
 use Rattle.std.specs.Prelude.{Option, codes, slice_index, take}
 use Rattle.std.specs.Str.{bytes_eq}
 use Rattle.std.proofs.lemmas.Slice.Eq.{bytes_eq-Decides}
-use Rattle.session_text.specs.declared.command.Command.TheVariants.{Bad}
-use Rattle.session_text.specs.Grammar.{access_rules, all_rules, by_rule, class_rules, command_of_text, command_of_words, is_plain, making_rules, marking_rules, session_rules, words_of_line}
+use Rattle.session_grammar.specs.declared.command.Command.TheVariants.{Bad}
+use Rattle.session_grammar.specs.Grammar.{access_rules, all_rules, by_rule, class_rules, command_of_text, command_of_words, is_plain, making_rules, marking_rules, session_rules, words_of_line}
 use Rattle.session_text.specs.declared.commands.Local.{Local}
 use Rattle.question_text.specs.declared.asking.Asking.{Asking}
 use Rattle.question_text.specs.declared.question.Question.{Question}

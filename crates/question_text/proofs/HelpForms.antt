@@ -2,7 +2,7 @@
 use Rattle.std.proofs.Common.{refl}
 use Rattle.std.specs.List.{AllByRecursion}
 use Rattle.std.specs.Prelude.{codes}
-use Rattle.session_text.specs.Grammar.{Rule, access_rules, all_rules, class_rules, making_rules, marking_rules, session_rules}
+use Rattle.session_grammar.specs.Grammar.{Rule, access_rules, all_rules, class_rules, making_rules, marking_rules, session_rules}
 use Rattle.question_text.specs.Help.{HasForm, access_forms, cycle_forms, form_with, image_forms, making_forms, past_forms, pin_forms}
 use Rattle.question_text.specs.Questions.{QuestionRule, past_rules, question_rules}
 

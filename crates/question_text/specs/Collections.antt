@@ -10,7 +10,7 @@ use Rattle.heap_step.specs.declared.Event.TheVariants.{Snap, Mark, Drain, Finish
 use Rattle.heap_trail.specs.declared.Action.TheVariants.{Step}
 use Rattle.heap_trail.specs.declared.Reply.TheVariants.{Answered}
 use Rattle.heap_trail.specs.Machine.{Machine, MayDrive, MayFail, MayReply}
-use Rattle.session_text.specs.Grammar.{words_of_line}
+use Rattle.session_grammar.specs.Grammar.{words_of_line}
 use Rattle.session_text.specs.Replies.{and_number, line}
 use Rattle.question_text.specs.declared.cycle.CycleCounts.{CycleCounts}
 use Rattle.question_text.specs.Moments.{refused_text}

@@ -1,7 +1,7 @@
 -- Comments.
 use Rattle.std.specs.Prelude.{ℕ, List, [], ◌∷◌, Bool, false, take, codes, if◌then◌else◌}
 use Rattle.std.specs.Str.{bytes_eq}
-use Rattle.session_text.specs.Grammar.{words_of_line}
+use Rattle.session_grammar.specs.Grammar.{words_of_line}
 use Rattle.question_text.specs.Help.{help_or_bad}
 
 -- the first of these words begins with `#`

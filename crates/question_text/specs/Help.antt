@@ -1,7 +1,7 @@
 -- The answers of `help`.
 use Rattle.std.specs.Prelude.{ℕ, List, [], ◌∷◌, ◌++◌, codes, find, flat_map, IsSome, Option, Some, None, option_map, unwrap_or, if◌then◌else◌}
 use Rattle.std.specs.Str.{bytes_eq}
-use Rattle.session_text.specs.Grammar.{words_of_line}
+use Rattle.session_grammar.specs.Grammar.{words_of_line}
 use Rattle.session_text.specs.Replies.{line}
 
 -- how a line is written: its keyword, its form and an example

@@ -7,7 +7,7 @@ use Rattle.heap_class.specs.declared.ObjKind.TheVariants.{Instance, Array, Prim}
 use Rattle.heap_class.specs.Kinds.{kind_word, type_code}
 use Rattle.heap_class.specs.Classes.{Class, name_of}
 use Rattle.heap_questions.specs.Histogram.{class_rows}
-use Rattle.session_text.specs.Grammar.{all_kinds}
+use Rattle.session_grammar.specs.Grammar.{all_kinds}
 
 -- the name of the arrays of values of a kind
 abbrev pub kind_array_name : Kind → List ℕ

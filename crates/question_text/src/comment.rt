@@ -4,8 +4,8 @@ ghost use Rattle.session_text.specs.Replies.{line_answer_text};
 ghost use Rattle.question_text.specs.Comments.{is_comment, unasked_text};
 
 use crate::help::help_answer;
+use session_grammar::words::Words;
 use session_text::LineAnswer;
-use session_text::words::Words;
 
 // Tells whether the first word of a line begins with `#`.
 fn is_comment(line: &[u8]) -> bool

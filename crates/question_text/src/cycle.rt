@@ -10,8 +10,8 @@ use crate::steps::Steps;
 use heap_class::Refusal;
 use heap_step::{Answer, Event};
 use heap_trail::{Machine, Reply};
+use session_grammar::words::Words;
 use session_text::LineAnswer;
-use session_text::words::Words;
 use std::alloc::Global;
 
 /// Tells whether a line is `collect`.

@@ -1,9 +1,9 @@
 //! The answer of `growth`.
-ghost use Rattle.std.specs.Prelude.{◌≡◌, ◌++◌, ◌<◌, ◌+◌, ◌≤◌, IsTrue, All, length, count_by, IfErr, IfOk, OnOk};
+ghost use Rattle.std.specs.Prelude.{◌≡◌, ◌++◌, ◌<◌, ◌+◌, ◌≤◌, length, count_by, IfErr, IfOk, OnOk};
 ghost use Rattle.heap_class.specs.declared.Refusal.TheVariants.{NoMemory};
 ghost use Rattle.heap_questions.specs.Histogram.{class_rows};
 ghost use Rattle.question_text.specs.Referrers.{count_text};
-ghost use Rattle.question_text.specs.Growths.{IsGrowthText, changed_text, changed_texts, differs, more_classes};
+ghost use Rattle.question_text.specs.Growths.{IsGrowthText, changed_text, changed_texts, differs};
 
 use crate::histogram::push_counts;
 use crate::names::push_row_name;

@@ -1,13 +1,13 @@
 //! The answers of `help`.
 ghost use Rattle.std.specs.Prelude.{◌≡◌};
 ghost use Rattle.std.specs.Option.{option_map};
-ghost use Rattle.session_text.specs.Grammar.{words_of_line};
+ghost use Rattle.session_grammar.specs.Grammar.{words_of_line};
 ghost use Rattle.session_text.specs.Replies.{line_answer_text};
 ghost use Rattle.question_text.specs.Help.{access_forms, all_forms, cycle_forms, form_with, help_about, help_of, help_or_bad, help_text, image_forms, making_forms, past_forms, pin_forms};
 
 use crate::id::is_word;
+use session_grammar::words::Words;
 use session_text::LineAnswer;
-use session_text::words::Words;
 
 // Returns what `help` answers about a keyword of a question about the past or about pins, `collect` or `help`.
 #[tactic(auto, unfolding(crate::specs::Help::form_text, crate::specs::Help::form_with, crate::specs::Help::past_forms))]

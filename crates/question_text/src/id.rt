@@ -1,9 +1,7 @@
 //! Ids, as lines have them.
-ghost use Rattle.std.specs.Prelude.{◌≡◌, ◌++◌, ◌<◌, ◌^◌, length, drop, option_and_then, IfErr, IfSome, OnOk};
+ghost use Rattle.std.specs.Prelude.{◌≡◌, ◌++◌, ◌<◌, ◌^◌, option_and_then, IfErr, OnOk};
 ghost use Rattle.std.specs.Str.{bytes_eq};
-ghost use Rattle.byteorder.specs.Endian.{big_bytes};
 ghost use Rattle.heap_class.specs.declared.Refusal.TheVariants.{NoMemory};
-ghost use Rattle.hex.specs.Hex.{encode_lower};
 ghost use Rattle.question_text.specs.Ids.{and_id, and_reference, hex_digit, hex_from, id_of_word, with_hex};
 
 use crate::rows::push_words;

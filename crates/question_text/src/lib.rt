@@ -2,9 +2,9 @@
 #![tactic(auto)]
 
 ghost use Rattle.std.specs.Prelude.{◌≡◌, ℕ, List, [], Some, codes, true};
-ghost use Rattle.session_text.specs.declared.command.Command.TheVariants.{Bad};
+ghost use Rattle.session_grammar.specs.declared.command.Command.TheVariants.{Bad};
 ghost use Rattle.std.specs.List.{AllByRecursion};
-ghost use Rattle.session_text.specs.Grammar.{Rule, all_rules, command_of_text};
+ghost use Rattle.session_grammar.specs.Grammar.{Rule, all_rules, command_of_text};
 ghost use Rattle.question_text.specs.declared.question.Question.{Question};
 ghost use Rattle.question_text.specs.declared.asking.Asking.{Asking};
 ghost use Rattle.question_text.specs.Collections.{is_collect};

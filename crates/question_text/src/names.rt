@@ -3,7 +3,7 @@ ghost use Rattle.std.specs.Prelude.{◌≡◌, ◌++◌, ◌==◌, ◌<◌, ◌+
 ghost use Rattle.heap_class.specs.declared.Refusal.TheVariants.{NoMemory};
 ghost use Rattle.heap_class.specs.Kinds.{type_code};
 ghost use Rattle.heap_questions.specs.Histogram.{class_rows};
-ghost use Rattle.session_text.specs.Grammar.{all_kinds};
+ghost use Rattle.session_grammar.specs.Grammar.{all_kinds};
 ghost use Rattle.question_text.specs.Names.{IsClassThere, array_name, class_name, kind_array_name, row_name};
 
 use crate::rows::push_words;

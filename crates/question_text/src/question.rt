@@ -1,12 +1,12 @@
 //! The grammar of questions.
 ghost use Rattle.std.specs.Prelude.{◌≡◌};
-ghost use Rattle.session_text.specs.Grammar.{at_end, next_number, one_number, words_of_line};
-ghost use Rattle.session_text.specs.Reads.{IsNextWord};
+ghost use Rattle.session_grammar.specs.Grammar.{at_end, next_number, one_number, words_of_line};
+ghost use Rattle.session_grammar.specs.Reads.{IsNextWord};
 ghost use Rattle.question_text.specs.Questions.{at_and_id, at_of_word, born_line, classes_line, dropped_line, garbage_line, growth_line, histogram_line, history_line, id_and_number, next_at, next_id, one_at, one_id, past_rules, path_line, pins_line, question_by, question_of, referrers_line, registers_line, show_line, two_ats, wrote_line};
 
 use crate::id::{id_of, is_word};
-use session_text::number::number_of;
-use session_text::words::Words;
+use session_grammar::number::number_of;
+use session_grammar::words::Words;
 
 /// The state that a question is about.
 #[derive(Clone, Copy, PartialEq, Eq, Debug)]

@@ -1,7 +1,6 @@
 //! The answer of `registers`.
-ghost use Rattle.std.specs.Prelude.{◌≡◌, ◌++◌, ◌<◌, length, All, map, IfErr, IfOk, OnOk};
+ghost use Rattle.std.specs.Prelude.{◌≡◌, ◌++◌, ◌<◌, All, IfErr, IfOk, OnOk};
 ghost use Rattle.heap_class.specs.declared.Refusal.TheVariants.{NoMemory};
-ghost use Rattle.heap_questions.specs.Registers.{object_named};
 ghost use Rattle.question_text.specs.Registers.{IsRegistersText, NamesKnown, named_words, register_text, register_texts};
 
 use crate::id::push_id;

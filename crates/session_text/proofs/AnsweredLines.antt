@@ -13,15 +13,15 @@ use Rattle.session_text.specs.declared.Ended.{Ended}
 use Rattle.session_text.specs.declared.Ended.TheVariants.{Quit, Eof, CutLine, TooLong, ReadFault, TooManyReads, WriteFault, NoMemory}
 use Rattle.session_text.specs.declared.answer.Step.{Step}
 use Rattle.session_text.specs.declared.answer.Step.TheVariants.{Next}
-use Rattle.session_text.specs.declared.command.Command.{Command}
-use Rattle.session_text.specs.declared.command.Command.TheVariants.{Blank, Bad, Ask, Piece, Dump, DumpNow, End}
+use Rattle.session_grammar.specs.declared.command.Command.{Command}
+use Rattle.session_grammar.specs.declared.command.Command.TheVariants.{Blank, Bad, Ask, Piece, Dump, DumpNow, End}
 use Rattle.session_text.specs.Answers.{Reaction, AnswerRelation, AnswersTo, BeginsTo}
 use Rattle.session_text.specs.Dumps.{Acts, DumpsPin, DumpsNow, WritesDump}
 use Rattle.session_text.specs.Endings.{EndsSession, ended_of, step_of}
-use Rattle.session_text.specs.Grammar.{command_of}
+use Rattle.session_grammar.specs.Grammar.{command_of}
 use Rattle.session_text.specs.Inlets.{Incoming, whole}
-use Rattle.session_text.specs.Lines.{NoLf, IsLineAt}
-use Rattle.session_text.specs.Reads.{TakesMemory}
+use Rattle.session_grammar.specs.Lines.{NoLf, IsLineAt}
+use Rattle.session_grammar.specs.Reads.{TakesMemory}
 use Rattle.session_text.specs.Replies.{reply_text}
 use Rattle.session_text.specs.Talks.{IsFirst, IsLine, IsLong, AnswersAll, stream, IsTalk, BeginsWith, IsQuit, IsBrokenOff, IsSessionStep, EndsCleanly, FailsWhileWriting, IsTruncatedRun, IsLastRead, IsSessionServed, Serves}
 use Rattle.session_text.specs.Writes.{IsCutShort, IsTextWritten, IsTextAdded}
@@ -157,7 +157,7 @@ pub keeps_same : (x : Option (List ℕ)) → Keeps x x
 keeps_same None = tt
 keeps_same (Some xs) = refl
 
-keeps_then : (x y z : Option (List ℕ)) → Keeps x y → Keeps y z → Keeps x z
+pub keeps_then : (x y z : Option (List ℕ)) → Keeps x y → Keeps y z → Keeps x z
 keeps_then None y z h k = tt
 keeps_then (Some a) None z h k = absurd h
 keeps_then (Some a) (Some b) None h k = absurd k

@@ -12,16 +12,17 @@ use Rattle.hprof_text.specs.declared.Piece.{Piece as GivenPiece}
 use Rattle.session_text.specs.declared.Ended.{Ended}
 use Rattle.session_text.specs.declared.ReadEnd.{ReadEnd}
 use Rattle.session_text.specs.declared.ReadEnd.TheVariants.{Over, Failed, Spent}
-use Rattle.session_text.specs.declared.command.Command.{Command}
-use Rattle.session_text.specs.declared.command.Command.TheVariants.{Blank, Bad, Ask, Piece, Dump, DumpNow, End}
+use Rattle.session_grammar.specs.declared.command.Command.{Command}
+use Rattle.session_grammar.specs.declared.command.Command.TheVariants.{Blank, Bad, Ask, Piece, Dump, DumpNow, End}
 use Rattle.session_text.specs.declared.commands.Local.{Local}
 use Rattle.session_text.specs.Answers.{AnswersTo, BeginsTo, IsBadCommand}
 use Rattle.session_text.specs.Dumps.{Dumps, ClosesAfter, total_line}
 use Rattle.dump_pump.specs.Sources.{part_limit}
-use Rattle.session_text.specs.Grammar.{command_of}
+use Rattle.session_grammar.specs.Grammar.{command_of}
 use Rattle.session_text.specs.Replies.{reply_text, data_lines, piece_in, pin_in}
 use Rattle.session_text.specs.Session.{Talk, wrote, allocation_of, allocations_after, done_quietly, done, after_reply, pieces_dumped, closed, after_open_reply, after_up_to, after_command, go_on, FitsAction, FitsRest, FitsDump, FitsOpen, FitsCommand, FitLines, at_end, at_long, talked}
 use Rattle.session_text.proofs.SessionCommands.{talk, acts, done_so, moved, dumps_so, close_so, closed_at, goes_on, follows}
+use Rattle.dump_pump.proofs.LongerLists.{begins_then}
 
 -- ---- with no marks all is fine
 
@@ -94,9 +95,6 @@ begins_more w s z p = (s ++ p.0, sym (append_assoc w s p.0) ∙ p.1)
 
 pub begins_itself : (w : List ℕ) → IsPrefix w w
 begins_itself w = ([], append-nil w)
-
-begins_then : (x y z : List ℕ) → IsPrefix x y → IsPrefix y z → IsPrefix x z
-begins_then x y z p q = begins_more x p.0 z (subst (λ l. IsPrefix l z) (sym p.1) q)
 
 either_begins : (b : Bool) (t u : Talk) (w : List ℕ) → IsPrefix w t.written → IsPrefix w u.written → IsPrefix w (if b then t else u).written
 either_begins true t u w p q = p

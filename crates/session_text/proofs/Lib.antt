@@ -1,14 +1,7 @@
 pub mod Lists
 pub mod LineSearch
 pub mod PageTexts
-pub mod Firsts
-pub mod TextWords
-pub mod Plain
-pub mod NameBytes
 pub mod Sizes
-pub mod Numbers
-pub mod WholeWords
-pub mod FieldSpans
 pub mod AnsweredLines
 pub mod SessionCommands
 pub mod SessionLines
@@ -16,6 +9,5 @@ pub mod CutAnswers
 pub mod Sessions
 pub mod KeptNumbers
 pub mod DumpLines
-pub mod NumberDigits
 pub mod QuickLines
 pub mod ActionLists

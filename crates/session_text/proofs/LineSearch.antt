@@ -6,7 +6,7 @@ use Rattle.std.proofs.lemmas.Bool.{false_from_ne_true, eqb-true}
 use Rattle.std.proofs.lemmas.List.{take-append-drop, take_all, length-drop, length-take-le, get_or-drop, get_or-take}
 use Rattle.std.proofs.lemmas.List.Elements.{All-append, All-from_get_or}
 use Rattle.memchr.specs.Find.{IsFirstByte, Nowhere, Passes, is_byte}
-use Rattle.session_text.specs.Lines.{NoLf, IsLineAt}
+use Rattle.session_grammar.specs.Lines.{NoLf, IsLineAt}
 use Rattle.session_text.proofs.Lists.{split_at}
 
 -- bytes among which a search found none

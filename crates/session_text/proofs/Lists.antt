@@ -9,7 +9,7 @@ use Rattle.std.proofs.lemmas.Slice.{take-put_mid_below}
 use borrow.Rule.Slice.PartMut.{put_mid, post_of}
 use Rattle.session_text.specs.declared.inlet.Take.{Take}
 use Rattle.session_text.specs.Inlets.{Incoming, IsTake, IsInletRead, count_of}
-use Rattle.session_text.specs.Lines.{NoLf}
+use Rattle.session_grammar.specs.Lines.{NoLf}
 
 pub split_at : (xs : List ℕ) (n : ℕ) → n < length xs → get_or xs n 0 ≡ 10 → xs ≡ take n xs ++ 10 ∷ drop (n + 1) xs
 split_at xs n lt is =

@@ -4,11 +4,11 @@ use Rattle.std.specs.Prelude.{◌==◌, suc, unwrap_or, option_map, option_and_t
 use Rattle.std.proofs.lemmas.List.{drop_all, length-take-le, get_or-take}
 use Rattle.heap_step.specs.declared.Event.TheVariants.{Load, Store, Put, Move, Clear, New, Mark}
 use Rattle.heap_trail.specs.declared.Action.TheVariants.{Step}
-use Rattle.session_text.specs.declared.command.Command.{Command}
-use Rattle.session_text.specs.declared.command.Command.TheVariants.{Bad, Ask}
-use Rattle.session_text.specs.Grammar.{words_of_line, next_number, at_end, two_numbers, three_numbers, four_numbers, new_line, load_line, store_line, put_line, move_line, clear_line, step_line, making_rules, access_rules, marking_rules, session_rules, by_rule, without_cr, command_of_text, command_of}
-use Rattle.session_text.specs.Reads.{IsNumberFrom, IsNumberThen, plain_class_rules, plain_rules}
-use Rattle.session_text.specs.Lines.{NoLf}
+use Rattle.session_grammar.specs.declared.command.Command.{Command}
+use Rattle.session_grammar.specs.declared.command.Command.TheVariants.{Bad, Ask}
+use Rattle.session_grammar.specs.Grammar.{words_of_line, next_number, at_end, two_numbers, three_numbers, four_numbers, new_line, load_line, store_line, put_line, move_line, clear_line, step_line, making_rules, access_rules, marking_rules, session_rules, by_rule, without_cr, command_of_text, command_of}
+use Rattle.session_grammar.specs.Reads.{IsNumberFrom, IsNumberThen, plain_class_rules, plain_rules}
+use Rattle.session_grammar.specs.Lines.{NoLf}
 use Rattle.session_text.specs.Mutators.{Follows, FollowsIn, IsEventAsked, IsPassed, IsQuickIn, IsShortLine}
 use Rattle.session_text.specs.declared.mutator.Quick.{Quick}
 use Rattle.session_text.specs.declared.mutator.Quick.TheVariants.{No, Next, Fault}
@@ -21,10 +21,10 @@ use Rattle.session_text.specs.Endings.{step_of}
 use Rattle.session_text.specs.Replies.{reply_text}
 use Rattle.session_text.specs.Talks.{IsSessionStep}
 use Rattle.session_text.proofs.AnsweredLines.{step_added}
-use Rattle.session_text.proofs.Plain.{text_read}
-use Rattle.session_text.proofs.Firsts.{cut}
+use Rattle.session_grammar.proofs.Plain.{text_read}
+use Rattle.session_grammar.proofs.Firsts.{cut}
 use Rattle.session_text.proofs.Lists.{split_at}
-use Rattle.session_text.proofs.NumberDigits.{none_yet, no_lf_more}
+use Rattle.session_grammar.proofs.NumberDigits.{none_yet, no_lf_more}
 
 -- a text whose first word is a keyword
 pub asks : (t key : List ℕ) (ws : List (List ℕ)) (k : Command) → words_of_line t ≡ key ∷ ws → by_rule plain_rules key ws ≡ Some k → command_of_text t ≡ k

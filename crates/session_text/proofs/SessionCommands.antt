@@ -13,8 +13,8 @@ use Rattle.heap_trail.specs.Machine.{Machine, Allocation, Granted, Denied, Loses
 use Rattle.hprof_text.specs.declared.Piece.{Piece as GivenPiece}
 use Rattle.session_text.specs.declared.Ended.{Ended}
 use Rattle.session_text.specs.declared.Ended.TheVariants.{Quit}
-use Rattle.session_text.specs.declared.command.Command.{Command}
-use Rattle.session_text.specs.declared.command.Command.TheVariants.{Blank, Bad, Ask, Piece, Dump, DumpNow, End}
+use Rattle.session_grammar.specs.declared.command.Command.{Command}
+use Rattle.session_grammar.specs.declared.command.Command.TheVariants.{Blank, Bad, Ask, Piece, Dump, DumpNow, End}
 use Rattle.session_text.specs.declared.commands.Local.{Local}
 use Rattle.session_text.specs.Answers.{AnswersTo, IsBadCommand}
 use Rattle.session_text.specs.Dumps.{DumpsOn, Dumps, ClosesAfter, total_line}

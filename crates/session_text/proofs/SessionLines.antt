@@ -14,9 +14,9 @@ use Rattle.session_text.specs.declared.ReadEnd.{ReadEnd}
 use Rattle.session_text.specs.declared.ReadEnd.TheVariants.{Over, Failed, Spent}
 use Rattle.session_text.specs.declared.commands.Local.{Local}
 use Rattle.session_text.specs.Answers.{AnswersCommand, all_bad}
-use Rattle.session_text.specs.Grammar.{command_of}
+use Rattle.session_grammar.specs.Grammar.{command_of}
 use Rattle.session_text.specs.Inlets.{Incoming}
-use Rattle.session_text.specs.Lines.{NoLf}
+use Rattle.session_grammar.specs.Lines.{NoLf}
 use Rattle.session_text.specs.Session.{Talk, after_command, go_on, FitsCommand, FitLines, at_end, at_long, talked}
 use Rattle.session_text.specs.Talks.{IsLine, IsLong, AnswersAll, stream, IsQuit, EndsCleanly}
 use Rattle.session_text.proofs.SessionCommands.{is_lf, parts, talk, acts, goes_on, follows}

@@ -11,7 +11,7 @@ use Rattle.session_text.specs.declared.ReadEnd.{ReadEnd}
 use Rattle.session_text.specs.declared.ReadEnd.TheVariants.{Over, Failed, Spent}
 use Rattle.session_text.specs.declared.commands.Local.{Local}
 use Rattle.session_text.specs.Answers.{AnswersCommand, Begins, all_bad}
-use Rattle.session_text.specs.Grammar.{command_of}
+use Rattle.session_grammar.specs.Grammar.{command_of}
 use Rattle.session_text.specs.Inlets.{Incoming, whole}
 use Rattle.session_text.specs.Session.{Talk, after_up_to, after_command, FitLines, AllocationsFit, talked, session_of, ShowsSession, CutsLine, CutsEnd, CutsPage, IsSession}
 use Rattle.session_text.specs.Talks.{stream, IsTalk, EndsCleanly, FailsWhileWriting, IsTruncatedRun, Serves}

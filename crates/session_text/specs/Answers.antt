@@ -5,12 +5,12 @@ use Rattle.heap_trail.specs.declared.Action.{Action}
 use Rattle.heap_trail.specs.declared.Action.TheVariants.{NextPiece}
 use Rattle.heap_trail.specs.declared.Reply.{Reply}
 use Rattle.heap_trail.specs.declared.Reply.TheVariants.{Refused}
-use Rattle.session_text.specs.declared.command.Command.{Command}
-use Rattle.session_text.specs.declared.command.Command.TheVariants.{Blank, Bad, Ask, Piece, Dump, DumpNow, End}
-use Rattle.session_text.specs.Grammar.{command_of, without_cr}
+use Rattle.session_grammar.specs.declared.command.Command.{Command}
+use Rattle.session_grammar.specs.declared.command.Command.TheVariants.{Blank, Bad, Ask, Piece, Dump, DumpNow, End}
+use Rattle.session_grammar.specs.Grammar.{command_of, without_cr}
 use Rattle.session_text.specs.Dumps.{Acts, DumpsPin, DumpsNow}
 use Rattle.dump_pump.specs.Sources.{part_limit}
-use Rattle.session_text.specs.Reads.{ActionTakesMemory}
+use Rattle.session_grammar.specs.Reads.{ActionTakesMemory}
 use Rattle.session_text.specs.Replies.{reply_text}
 
 -- a relation between the commands before, the text of an answer and the commands after

@@ -1,11 +1,8 @@
 pub mod Limits
 pub mod Inlets
 pub mod Local
-pub mod Grammar
-pub mod Reads
 pub mod Replies
 pub mod Writes
-pub mod Lines
 pub mod Dumps
 pub mod Mutators
 pub mod Answers

@@ -4,16 +4,16 @@ use Rattle.dump_pump.specs.Outlets.{Outgoing}
 use Rattle.heap_step.specs.declared.Event.{Event}
 use Rattle.heap_trail.specs.declared.Action.TheVariants.{Step}
 use Rattle.heap_trail.specs.declared.Reply.{Reply}
-use Rattle.session_text.specs.declared.TheConstants.{LINE_LIMIT}
-use Rattle.session_text.specs.declared.command.Command.{Command}
-use Rattle.session_text.specs.declared.command.Command.TheVariants.{Ask}
+use Rattle.session_grammar.specs.declared.TheConstants.{LINE_LIMIT}
+use Rattle.session_grammar.specs.declared.command.Command.{Command}
+use Rattle.session_grammar.specs.declared.command.Command.TheVariants.{Ask}
 use Rattle.session_text.specs.declared.mutator.Quick.{Quick}
 use Rattle.session_text.specs.declared.mutator.Quick.TheVariants.{No, Next, Fault}
 use Rattle.session_text.specs.declared.mutator.Verb.{Verb}
 use Rattle.session_text.specs.declared.mutator.Verb.TheVariants.{Load, Store, Put, Move, Clear, New, Mark, Other}
 use Rattle.session_text.specs.Dumps.{Acts}
-use Rattle.session_text.specs.Grammar.{words_of_line, command_of_text, without_cr}
-use Rattle.session_text.specs.Lines.{NoLf, IsLineAt}
+use Rattle.session_grammar.specs.Grammar.{words_of_line, command_of_text, without_cr}
+use Rattle.session_grammar.specs.Lines.{NoLf, IsLineAt}
 use Rattle.session_text.specs.Replies.{reply_text}
 use Rattle.session_text.specs.Writes.{IsTextAdded}
 

@@ -12,14 +12,14 @@ use Rattle.session_text.specs.declared.Ended.{Ended}
 use Rattle.session_text.specs.declared.Ended.TheVariants.{Quit, Eof, CutLine, TooLong, ReadFault, TooManyReads, WriteFault, NoMemory as NoRoom}
 use Rattle.session_text.specs.declared.ReadEnd.{ReadEnd}
 use Rattle.session_text.specs.declared.ReadEnd.TheVariants.{Over, Failed, Spent}
-use Rattle.session_text.specs.declared.TheConstants.{LINE_LIMIT}
-use Rattle.session_text.specs.declared.command.Command.{Command}
-use Rattle.session_text.specs.declared.command.Command.TheVariants.{Blank, Bad, Ask, Piece, Dump, DumpNow, End}
+use Rattle.session_grammar.specs.declared.TheConstants.{LINE_LIMIT}
+use Rattle.session_grammar.specs.declared.command.Command.{Command}
+use Rattle.session_grammar.specs.declared.command.Command.TheVariants.{Blank, Bad, Ask, Piece, Dump, DumpNow, End}
 use Rattle.session_text.specs.Dumps.{total_line}
 use Rattle.dump_pump.specs.Sources.{part_limit}
-use Rattle.session_text.specs.Grammar.{command_of}
+use Rattle.session_grammar.specs.Grammar.{command_of}
 use Rattle.session_text.specs.Inlets.{Incoming, whole}
-use Rattle.session_text.specs.Reads.{ActionTakesMemory}
+use Rattle.session_grammar.specs.Reads.{ActionTakesMemory}
 use Rattle.session_text.specs.Replies.{reply_text, data_lines, piece_in, pin_in}
 use Rattle.session_text.specs.Talks.{IsLine, BeginsWith}
 use Rattle.session_text.specs.Writes.{IsCutShort}

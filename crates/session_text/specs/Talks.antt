@@ -4,15 +4,16 @@ use Rattle.std.specs.Io.KnownBytes.{Keeps}
 use Rattle.dump_pump.specs.Outlets.{Outgoing}
 use Rattle.session_text.specs.declared.Ended.{Ended}
 use Rattle.session_text.specs.declared.Ended.TheVariants.{Quit, Eof, CutLine, TooLong, ReadFault, TooManyReads, WriteFault, NoMemory}
-use Rattle.session_text.specs.declared.TheConstants.{LINE_LIMIT, READ_LIMIT}
+use Rattle.session_grammar.specs.declared.TheConstants.{LINE_LIMIT}
+use Rattle.session_text.specs.declared.TheConstants.{READ_LIMIT}
 use Rattle.session_text.specs.declared.answer.Step.{Step}
 use Rattle.session_text.specs.declared.answer.Step.TheVariants.{Next, Quit as Stop, Long, Fault}
-use Rattle.session_text.specs.declared.command.Command.{Command}
-use Rattle.session_text.specs.declared.command.Command.TheVariants.{End}
+use Rattle.session_grammar.specs.declared.command.Command.{Command}
+use Rattle.session_grammar.specs.declared.command.Command.TheVariants.{End}
 use Rattle.session_text.specs.Answers.{Reaction, AnswerRelation}
-use Rattle.session_text.specs.Grammar.{command_of}
+use Rattle.session_grammar.specs.Grammar.{command_of}
 use Rattle.session_text.specs.Inlets.{Incoming, NothingLeft, whole}
-use Rattle.session_text.specs.Lines.{NoLf}
+use Rattle.session_grammar.specs.Lines.{NoLf}
 use Rattle.session_text.specs.Writes.{IsTextWritten, IsTextAdded}
 
 -- a line without its LF, or the beginning of one

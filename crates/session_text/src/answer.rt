@@ -4,27 +4,27 @@ ghost use Rattle.heap_step.specs.declared.Answer.TheVariants.{Done};
 ghost use Rattle.heap_trail.specs.declared.Reply.TheVariants.{Answered};
 ghost use Rattle.session_text.specs.Answers.{AnswersCommand, Begins, AnswersTo, BeginsTo};
 ghost use Rattle.session_text.specs.Endings.{step_of};
-ghost use Rattle.session_text.specs.Grammar.{command_of, command_of_text};
+ghost use Rattle.session_grammar.specs.Grammar.{command_of, command_of_text};
 ghost use Rattle.heap_trail.specs.declared.Reply.{Reply};
 ghost use Rattle.session_text.specs.Replies.{line_answer_text, reply_text};
 ghost use Rattle.session_text.specs.Talks.{IsFirst, IsSessionStep, AreLinesAnswered};
 ghost use Rattle.session_text.specs.Writes.{IsTextAdded};
-ghost use Rattle.session_text.specs.declared.TheConstants.{LINE_LIMIT};
+ghost use Rattle.session_grammar.specs.declared.TheConstants.{LINE_LIMIT};
 
-use crate::LINE_LIMIT;
 use crate::buffer::Buffer;
-use crate::command::{Command, command_of_text, without_cr};
 use crate::commands::{Commands, LineAnswer};
 use crate::dump::{write_dump, write_dump_now};
 use crate::mutator::{Quick, answer_mutator};
 use crate::page::Page;
 use crate::reply::{write_answer, write_reply};
-use crate::spans::FieldSpans;
 use crate::write::{write_long, write_number_line, write_text};
 use dump_pump::Outlet;
 use heap_class::Refusal;
 use heap_step::Answer;
 use heap_trail::{Action, Reply};
+use session_grammar::LINE_LIMIT;
+use session_grammar::command::{Command, command_of_text, without_cr};
+use session_grammar::spans::FieldSpans;
 use std::alloc::Global;
 
 /// Whether a session goes on after a line.

@@ -2,8 +2,8 @@
 ghost use Rattle.std.specs.Prelude.{◌≡◌, ◌+◌, ◌-◌, ◌≤◌, ◌<◌, [], take, drop, length, IfOk, MatchOption};
 ghost use Rattle.session_text.specs.Inlets.{IsInletRead, count_of};
 ghost use Rattle.session_text.specs.Limits.{buffer_limit};
-ghost use Rattle.session_text.specs.Lines.{NoLf, IsLineAt};
-ghost use Rattle.session_text.specs.declared.TheConstants.{LINE_LIMIT};
+ghost use Rattle.session_grammar.specs.Lines.{NoLf, IsLineAt};
+ghost use Rattle.session_grammar.specs.declared.TheConstants.{LINE_LIMIT};
 
 use crate::inlet::{Inlet, Take, count_of};
 use memchr::memchr;
@@ -28,7 +28,7 @@ pub struct Buffer {
 impl Model for Buffer {
     ghost use Rattle.std.specs.Prelude.{◌≡◌, ℕ, ◌+◌, ◌-◌, ◌≤◌, List, take, drop, length};
     ghost use Rattle.session_text.specs.Limits.{buffer_limit};
-    ghost use Rattle.session_text.specs.Lines.{NoLf};
+    ghost use Rattle.session_grammar.specs.Lines.{NoLf};
 
     ghost Value = { List ℕ };
 

@@ -9,21 +9,16 @@ ghost use Rattle.session_text.specs.Limits.{is_whole_session};
 
 mod answer;
 mod buffer;
-mod command;
 pub mod commands;
 mod data;
 mod digits;
 mod dump;
-mod fields;
 pub mod inlet;
 mod mutator;
-pub mod number;
 mod page;
 pub mod read_inlet;
 mod reply;
-mod spans;
 mod talk;
-pub mod words;
 mod write;
 
 pub use commands::{Commands, LineAnswer, Local};
@@ -31,9 +26,6 @@ pub use inlet::{Inlet, Take};
 pub use read_inlet::ReadInlet;
 pub use talk::{serve, serve_local};
 pub use write::write_all;
-
-/// The largest number of bytes of a line, without its LF.
-pub const LINE_LIMIT: usize = 4096;
 
 /// The largest number of reads of a session.
 pub const READ_LIMIT: u64 = 1_000_000;

@@ -1,20 +1,20 @@
 //! A fast reading of mutators' lines, in one pass that finds their end too.
 ghost use Rattle.std.specs.Prelude.{◌≡◌, ◌≤◌, Some, codes, length, take, drop, IfSome};
 ghost use Rattle.heap_trail.specs.declared.Action.TheVariants.{Step};
-ghost use Rattle.session_text.specs.declared.command.Command.TheVariants.{Ask};
-ghost use Rattle.session_text.specs.Grammar.{words_of_line, two_numbers, three_numbers, four_numbers, command_of_text};
-ghost use Rattle.session_text.specs.Lines.{NoLf};
+ghost use Rattle.session_grammar.specs.declared.command.Command.TheVariants.{Ask};
+ghost use Rattle.session_grammar.specs.Grammar.{words_of_line, two_numbers, three_numbers, four_numbers, command_of_text};
+ghost use Rattle.session_grammar.specs.Lines.{NoLf};
 ghost use Rattle.session_text.specs.Mutators.{FollowsIn, IsVerb, IsQuick, IsQuickIn, IsShortLine};
 
 use crate::answer::answer_action;
 use crate::buffer::LF;
 use crate::commands::Commands;
-use crate::number::number_then;
 use crate::page::Page;
-use crate::words::SPACE;
 use dump_pump::Outlet;
 use heap_step::Event;
 use heap_trail::Action;
+use session_grammar::number::number_then;
+use session_grammar::words::SPACE;
 
 // The beginning of a line that may be answered at once.
 #[derive(Clone, Copy, PartialEq, Eq, Debug)]

@@ -1,5 +1,5 @@
 //! Pages: text that isn't written yet.
-ghost use Rattle.std.specs.Prelude.{◌≡◌, ◌+◌, ◌*◌, ◌≤◌, ◌++◌, [], ◌∷◌, take, decimal, length, IfOk};
+ghost use Rattle.std.specs.Prelude.{◌≡◌, ◌+◌, ◌*◌, ◌≤◌, ◌++◌, [], take, length, IfOk};
 ghost use Rattle.hex.specs.Hex.{encode_lower};
 ghost use Rattle.session_text.specs.Replies.{and_number};
 ghost use Rattle.session_text.specs.declared.page.TheConstants.{PAGE_LIMIT};

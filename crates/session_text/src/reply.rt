@@ -1,5 +1,5 @@
 //! The lines of replies.
-ghost use Rattle.std.specs.Prelude.{◌≡◌, ◌+◌, ◌≤◌, ◌++◌, ◌∷◌, codes, length, Some, None, MatchOption};
+ghost use Rattle.std.specs.Prelude.{◌≡◌, ◌+◌, ◌≤◌, ◌++◌, length, Some, None, MatchOption};
 ghost use Rattle.heap_class.specs.Table.{refusal_name};
 ghost use Rattle.heap_step.specs.declared.Answer.TheVariants.{Object, Swept};
 ghost use Rattle.heap_trail.specs.declared.Reply.TheVariants.{Answered, Pinned};

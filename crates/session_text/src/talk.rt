@@ -11,10 +11,10 @@ use crate::buffer::Buffer;
 use crate::commands::{Commands, Local};
 use crate::inlet::{Inlet, Take};
 use crate::page::Page;
-use crate::spans::FieldSpans;
 use crate::write::{flush, write_text};
 use crate::{Ended, READ_LIMIT};
 use dump_pump::Outlet;
+use session_grammar::spans::FieldSpans;
 use std::alloc::Global;
 
 // Puts out a page and the line of an ending.

@@ -124,7 +124,8 @@ fn all_told<L: Heap, R: Wait>(
 }
 
 fn refused<L: Heap, R: Wait>(rt: &R, alloc: Global, blank: Blank) -> Option<bool>
-    requires { (blank.config ≡ L.config) × (blank.tables ≡ L.tables) × (blank.ledger ≡ L.ledger) }
+    requires { (blank.config ≡ L.config) × (blank.tables ≡ L.tables)
+        × (blank.ledger ≡ L.ledger) × (blank.rolls ≡ L.rolls) }
 {
     let (shared, mut seats) = blank.open::<L>();
     let mut user = seats.take()?;
@@ -203,7 +204,8 @@ fn between_in<L: Heap, R: Wait>(
 }
 
 fn between<L: Heap, R: Wait>(rt: &R, blank: Blank) -> Option<bool>
-    requires { (blank.config ≡ L.config) × (blank.tables ≡ L.tables) × (blank.ledger ≡ L.ledger) }
+    requires { (blank.config ≡ L.config) × (blank.tables ≡ L.tables)
+        × (blank.ledger ≡ L.ledger) × (blank.rolls ≡ L.rolls) }
 {
     let (shared, mut seats) = blank.open::<L>();
     let mut one = seats.take()?;
@@ -269,7 +271,8 @@ fn all_held<L: Heap>(kept: &mut Kept<L>, seat: &mut Seat<L>) -> bool {
 }
 
 fn held<L: Heap, R: Wait>(rt: &R, blank: Blank) -> Option<bool>
-    requires { (blank.config ≡ L.config) × (blank.tables ≡ L.tables) × (blank.ledger ≡ L.ledger) }
+    requires { (blank.config ≡ L.config) × (blank.tables ≡ L.tables)
+        × (blank.ledger ≡ L.ledger) × (blank.rolls ≡ L.rolls) }
 {
     let (shared, mut seats) = blank.open::<L>();
     let mut user = seats.take()?;
@@ -320,7 +323,8 @@ fn filled_in<L: Heap, R: Wait>(
 }
 
 fn filled<L: Heap, R: Wait>(rt: &R, blank: Blank) -> Option<(u64, bool, usize, u64)>
-    requires { (blank.config ≡ L.config) × (blank.tables ≡ L.tables) × (blank.ledger ≡ L.ledger) }
+    requires { (blank.config ≡ L.config) × (blank.tables ≡ L.tables)
+        × (blank.ledger ≡ L.ledger) × (blank.rolls ≡ L.rolls) }
 {
     let (shared, mut seats) = blank.open::<L>();
     let mut user = seats.take()?;

@@ -115,7 +115,8 @@ fn both_watched<L: Heap + Send + Sync, R: Threads + Wait + Sync>(
     class: Event,
     blank: Blank,
 ) -> Option<((bool, bool), (bool, bool))>
-    requires { (blank.config ≡ L.config) × (blank.tables ≡ L.tables) × (blank.ledger ≡ L.ledger) }
+    requires { (blank.config ≡ L.config) × (blank.tables ≡ L.tables)
+        × (blank.ledger ≡ L.ledger) × (blank.rolls ≡ L.rolls) }
 {
     let (shared, mut seats) = blank.open::<L>();
     let mut user = seats.take()?;

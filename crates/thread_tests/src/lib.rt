@@ -7,8 +7,6 @@ mod acts;
 #[cfg(test)]
 mod cancelling;
 #[cfg(test)]
-mod cycles;
-#[cfg(test)]
 mod ends;
 #[cfg(test)]
 mod gates;
@@ -24,10 +22,6 @@ mod meters;
 mod parts;
 #[cfg(test)]
 mod pumps;
-#[cfg(test)]
-mod receipts;
-#[cfg(test)]
-mod rolls;
 #[cfg(test)]
 mod shared;
 #[cfg(test)]

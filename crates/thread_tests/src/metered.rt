@@ -143,7 +143,8 @@ fn opened<L: Heap + Send + Sync, R: Threads + Wait + Sync>(
     alloc: Global,
     blank: Blank,
 ) -> Result<bool, Fail>
-    requires { (blank.config ≡ L.config) × (blank.tables ≡ L.tables) × (blank.ledger ≡ L.ledger) }
+    requires { (blank.config ≡ L.config) × (blank.tables ≡ L.tables)
+        × (blank.ledger ≡ L.ledger) × (blank.rolls ≡ L.rolls) }
 {
     let (shared, mut seats) = blank.open::<L>();
     let Some(mut user) = seats.take() else {

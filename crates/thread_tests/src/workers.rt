@@ -151,7 +151,8 @@ fn worked_in<L: Heap, R: Wait>(
 
 // Creates two objects, and runs the workers.
 fn worked<L: Heap, R: Wait>(rt: &R, class: Event, blank: Blank, turns: (u64, u64)) -> Option<Ends>
-    requires { (blank.config ≡ L.config) × (blank.tables ≡ L.tables) × (blank.ledger ≡ L.ledger) }
+    requires { (blank.config ≡ L.config) × (blank.tables ≡ L.tables)
+        × (blank.ledger ≡ L.ledger) × (blank.rolls ≡ L.rolls) }
 {
     let (shared, mut seats) = blank.open::<L>();
     let mut user = seats.take()?;
@@ -221,7 +222,8 @@ impl Gate for Closing {
 // Runs the marker at a gate that closes before its third act, and the sweeper at one that closes before its second, after three
 // entries. Returns whether both ended there.
 fn stopped<L: Heap, R: Wait>(rt: &R, class: Event, blank: Blank) -> Option<bool>
-    requires { (blank.config ≡ L.config) × (blank.tables ≡ L.tables) × (blank.ledger ≡ L.ledger) }
+    requires { (blank.config ≡ L.config) × (blank.tables ≡ L.tables)
+        × (blank.ledger ≡ L.ledger) × (blank.rolls ≡ L.rolls) }
 {
     let (shared, mut seats) = blank.open::<L>();
     let mut user = seats.take()?;
@@ -329,7 +331,8 @@ fn held<L: Heap + Send + Sync, R: Threads + Wait + Sync>(
     class: Event,
     blank: Blank,
 ) -> Option<(bool, bool, u64)>
-    requires { (blank.config ≡ L.config) × (blank.tables ≡ L.tables) × (blank.ledger ≡ L.ledger) }
+    requires { (blank.config ≡ L.config) × (blank.tables ≡ L.tables)
+        × (blank.ledger ≡ L.ledger) × (blank.rolls ≡ L.rolls) }
 {
     let (shared, mut seats) = blank.open::<L>();
     let mut user = seats.take()?;

@@ -1,4 +1,4 @@
-use Rattle.heap_lock.proofs.EventPacks.{numbers_there}
+use Rattle.heap_chronicle.proofs.EventPacks.{numbers_there}
 use Rattle.heap.proofs.copies.copy_definition.Goals as goal
 
 pub unreachable-requires : goal.unreachable-requires

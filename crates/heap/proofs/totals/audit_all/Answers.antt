@@ -20,8 +20,8 @@ loop-actor-preserved g c =
       claims = capped_more claim_count xs i a (length c.claims-own.result.now) c.loop-actor.claims _ below at (ap length own) was.claims c.saturating_add-claims.ensures;
       made = capped_more made_count xs i a c.count_made.result c.loop-actor.made _ below at (c.count_made.ensures ∙ ap (count_by is_making) own) was.made c.saturating_add-made.ensures;
       finished = capped_more finished_count xs i a c.count_finished.result c.loop-actor.finished _ below at (c.count_finished.ensures ∙ ap (count_by is_finishing) own) was.finished c.saturating_add-finished.ensures;
-      stand = all_more (λ b. IsAudited g.L.Heap.config b.claims Holds) xs i a below at was.stand (subst (IsAudited g.L.Heap.config a.claims) stands c.audit-verdict.ensures);
+      stand = all_more (λ b. IsAudited g.L.Heap.config g.L.Heap.rolls b.claims Holds) xs i a below at was.stand (subst (IsAudited g.L.Heap.config g.L.Heap.rolls a.claims) stands c.audit-verdict.ensures);
     }
 
 pub returns-clause-stand : goal.returns-clause-stand
-returns-clause-stand g c = subst (All (λ a. IsAudited g.L.Heap.config a.claims Holds)) (take_all c.loop-actor.actor-index c.args.actors.now c.loop-actor-test.false) c.loop-actor.invariant.stand
+returns-clause-stand g c = subst (All (λ a. IsAudited g.L.Heap.config g.L.Heap.rolls a.claims Holds)) (take_all c.loop-actor.actor-index c.args.actors.now c.loop-actor-test.false) c.loop-actor.invariant.stand

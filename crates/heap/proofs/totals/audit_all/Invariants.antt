@@ -9,5 +9,5 @@ invariant-loop-actor g l = record {
   claims : l.claims ≡ capped_sum claim_count (take l.actor-index l.actors);
   made : l.made ≡ capped_sum made_count (take l.actor-index l.actors);
   finished : l.finished ≡ capped_sum finished_count (take l.actor-index l.actors);
-  stand : All (λ a. IsAudited g.L.Heap.config a.claims Holds) (take l.actor-index l.actors);
+  stand : All (λ a. IsAudited g.L.Heap.config g.L.Heap.rolls a.claims Holds) (take l.actor-index l.actors);
 }

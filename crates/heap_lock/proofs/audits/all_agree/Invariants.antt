@@ -1,5 +1,5 @@
 use Rattle.std.proofs.Common.{drop, length}
-use Rattle.heap_lock.specs.Chronicles.{dropped_of}
+use Rattle.heap_chronicle.specs.Chronicles.{dropped_of}
 use Rattle.heap_lock.specs.Audits.{AuditsKept}
 use Rattle.heap_lock.proofs.audits.all_agree.Given as goal
 

@@ -1,7 +1,7 @@
 use Rattle.std.proofs.Common.{refl}
 use Rattle.heap_trail.specs.declared.Action.TheVariants.{Step, Rewind}
 use Rattle.heap_trail.specs.declared.Reply.TheVariants.{Place, Refused}
-use Rattle.heap_lock.proofs.Plain.{answer_enters, fine_enters, refused_enters}
+use Rattle.heap_chronicle.proofs.Plain.{answer_enters, fine_enters, refused_enters}
 use Rattle.heap_lock.proofs.heap.take_step.Goals as goal
 
 pub returns-else-wants_memory : goal.returns-else-wants_memory

@@ -6,10 +6,10 @@ use Rattle.heap_world.specs.State.{HeapState}
 use Rattle.heap_trail.specs.Trail.{state_ago}
 use Rattle.heap_past.specs.declared.steps.PastStep.{PastStep}
 use Rattle.heap_past.specs.Newest.{AreCellSizes, IsPastStep, event_with, id_by, written_at}
-use Rattle.heap_past.proofs.PushedItems.{pushed_cases}
 use Rattle.heap_past.proofs.Sizes.{ids_are, reclaimed_within, sizes_step, written_within}
 use Rattle.heap_past.proofs.Walk.{now_is}
 use Rattle.heap_past.proofs.steps.history.Goals as goal
+use Rattle.heap_questions.proofs.LongerLists.{got_cases}
 
 pub loop-n-init : goal.loop-n-init
 loop-n-init c =
@@ -58,7 +58,7 @@ loop-n-preserved c =
     record {
       sizes = subst (AreCellSizes (state_ago (n + 1) t)) (sym c.undo_size.ensures) (sizes_step left r.0 (state_ago (n + 1) t) (state_ago n t) sizes r.1 i.sizes);
       many = ap length c.in_ok-push.ensures.items ∙ length_push steps x ∙ ap (λ k. k + 1) i.many;
-      each = λ k s h. elim (pushed_cases steps x k s (ap (λ (xs : List PastStep). slice_get xs k) (sym c.in_ok-push.ensures.items) ∙ h)) [
+      each = λ k s h. elim (got_cases steps x k s (ap (λ (xs : List PastStep). slice_get xs k) (sym c.in_ok-push.ensures.items) ∙ h)) [
         | inl e ↦ i.each k s e
         | inr e ↦ subst (λ (p : PastStep). IsPastStep t k p) (sym e.1) (subst (λ j. IsPastStep t j x) (sym (e.0 ∙ i.many)) one)
       ];

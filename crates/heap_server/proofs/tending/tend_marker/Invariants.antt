@@ -1,5 +1,5 @@
 use Rattle.std.proofs.Common.{◌≡◌}
-use Rattle.heap_lock.specs.declared.entry.Role.TheVariants.{Marker}
+use Rattle.heap_lock.specs.declared.role.Role.TheVariants.{Marker}
 use Rattle.heap_server.specs.Tending.{Marks}
 use Rattle.heap_server.proofs.tending.tend_marker.Given as goal
 

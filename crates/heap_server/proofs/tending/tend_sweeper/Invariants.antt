@@ -1,5 +1,5 @@
 use Rattle.std.proofs.Common.{◌≡◌}
-use Rattle.heap_lock.specs.declared.entry.Role.TheVariants.{Sweeper}
+use Rattle.heap_lock.specs.declared.role.Role.TheVariants.{Sweeper}
 use Rattle.heap_server.specs.Tending.{Sweeps}
 use Rattle.heap_server.proofs.tending.tend_sweeper.Given as goal
 

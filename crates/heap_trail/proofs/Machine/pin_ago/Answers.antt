@@ -1,4 +1,4 @@
-use Rattle.std.proofs.Common.{◌≤◌, length, IfOk, sym, subst, arith}
+use Rattle.std.proofs.Common.{◌≤◌, IfOk, sym, subst, arith}
 use Rattle.std.proofs.lemmas.Result.{IfOk-weaker}
 use Rattle.heap_trail.specs.Machine.{Machine}
 use Rattle.heap_trail.specs.Past.{HoldsPast}

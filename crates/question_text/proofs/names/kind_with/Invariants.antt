@@ -1,7 +1,7 @@
 use Rattle.std.proofs.Common.{◌≡◌, drop}
 use Rattle.std.specs.Prelude.{find, ◌==◌}
 use Rattle.heap_class.specs.Kinds.{type_code}
-use Rattle.session_text.specs.Grammar.{all_kinds}
+use Rattle.session_grammar.specs.Grammar.{all_kinds}
 use Rattle.question_text.proofs.names.kind_with.Given as goal
 
 abbrev pub invariant-loop-kind : goal.invariant-loop-kind

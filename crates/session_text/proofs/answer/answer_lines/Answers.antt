@@ -2,7 +2,7 @@ use Rattle.std.proofs.Common.{◌++◌, [], Some, true, false, subst}
 use Rattle.session_text.specs.declared.answer.Step.{Step}
 use Rattle.session_text.specs.declared.answer.Step.TheVariants.{Next, Fault}
 use Rattle.session_text.specs.Answers.{AnswersCommand, Begins}
-use Rattle.session_text.specs.Lines.{IsLineAt}
+use Rattle.session_grammar.specs.Lines.{IsLineAt}
 use Rattle.session_text.specs.Talks.{IsFirst}
 use Rattle.session_text.proofs.QuickLines.{quick_next, quick_fault, quick_left}
 use Rattle.session_text.proofs.AnsweredLines.{talk_none, talk_then, first_left, line_answered, line_broken}

@@ -1,5 +1,5 @@
 use Rattle.std.proofs.Common.{◌∙◌, sym}
-use Rattle.session_text.specs.Grammar.{command_of_text}
+use Rattle.session_grammar.specs.Grammar.{command_of_text}
 use Rattle.session_text.proofs.AnsweredLines.{step_unread, step_blank, step_dumped}
 use Rattle.session_text.proofs.answer.answer_text.Goals as goal
 

@@ -1,8 +1,8 @@
 use Rattle.std.proofs.Common.{◌∙◌, [], ap, codes, take}
 use Rattle.heap_step.specs.declared.Event.TheVariants.{Mark}
 use Rattle.heap_trail.specs.declared.Action.TheVariants.{Step}
-use Rattle.session_text.specs.declared.command.Command.TheVariants.{Ask}
-use Rattle.session_text.specs.Grammar.{words_of_line}
+use Rattle.session_grammar.specs.declared.command.Command.TheVariants.{Ask}
+use Rattle.session_grammar.specs.Grammar.{words_of_line}
 use Rattle.session_text.proofs.QuickLines.{asks, mark_rule, mark_word, passed}
 use Rattle.session_text.proofs.mutator.answer_mark.Goals as goal
 

@@ -1,6 +1,6 @@
 use Rattle.std.proofs.Common.{subst}
 use Rattle.heap_trail.specs.declared.Action.TheVariants.{Step}
-use Rattle.heap_lock.specs.declared.entry.Outcome.{Outcome}
+use Rattle.heap_chronicle.specs.declared.entry.Outcome.{Outcome}
 use Rattle.heap_lock.specs.LockStates.{Stands}
 use Rattle.heap.specs.Actors.{ActorState, IsClaimed}
 use Rattle.heap.proofs.Claiming.{claimed, done, denied}

@@ -1,4 +1,4 @@
-use Rattle.std.proofs.Common.{◌≡◌, ◌+◌, ◌≤◌, arith, length, length-append, map, ◌∙◌, ◌∷◌, ◌++◌, [], None, ap, sym, subst, refl}
+use Rattle.std.proofs.Common.{◌≡◌, ◌+◌, arith, length, length-append, map, ◌∙◌, ◌∷◌, ◌++◌, [], None, ap, sym, subst, refl}
 use Rattle.std.proofs.lemmas.List.{length-map}
 use Rattle.heap_class.specs.declared.Field.{Field}
 use Rattle.heap_class.specs.declared.class_table.ClassEntry.{ClassEntry}

@@ -1,18 +1,18 @@
 use Rattle.std.proofs.Common.{◌≡◌, ◌+◌, ◌<◌, List, [], ◌∷◌, ◌++◌, length, set, refl, sym, ap, ◌∙◌, subst, arith}
 use Rattle.atomic_table.specs.Seated.{TableId}
 use Rattle.atomic_table.specs.declared.badge.Badge.{Badge}
-use Rattle.heap_lock.specs.declared.entry.Entry.{Entry}
-use Rattle.heap_lock.specs.declared.entry.Receipt.{Receipt}
+use Rattle.heap_chronicle.specs.declared.entry.Entry.{Entry}
+use Rattle.heap_lock.specs.declared.receipt.Receipt.{Receipt}
 use Rattle.heap_lock.specs.declared.view.SeatView.{SeatView}
 use Rattle.heap_lock.specs.declared.view.SeatView.TheVariants.{Book, Share}
 use Rattle.heap_lock.specs.Tally.{tally_of, tally_in}
-use Rattle.heap_lock.specs.History.{entry, opening, tally}
+use Rattle.heap_chronicle.specs.History.{entry, opening, tally}
 use Rattle.heap_lock.specs.LockStates.{LockState, lock_state, IsMoved, table_at, IsDesk, IsUnderLock}
-use Rattle.heap_lock.specs.Chronicles.{ChronicleState}
+use Rattle.heap_chronicle.specs.Chronicles.{ChronicleState}
 use Rattle.heap_lock.specs.Ledgers.{all_in, HasLedger}
 use Rattle.heap_lock.proofs.DumperCalls.{own_table, acted_has}
 use Rattle.heap_lock.proofs.Histories.{goes_on, tally_here, desk_of, not_last, is_due, moved_as, kept_more}
-use Rattle.heap_lock.proofs.Rolls.{limit_within}
+use Rattle.heap_chronicle.proofs.Rolls.{limit_within}
 use Rattle.std.proofs.lemmas.Bool.{MatchBool-at_false}
 use Rattle.heap_trail.specs.Limits.{last_place}
 use Rattle.heap_lock.proofs.heap.Kept.do_held.Goals as goal
@@ -47,10 +47,11 @@ invariant_of-self-2 g c =
       t.1 ∙ d.2,
       t.2 ∙ (λ i. (Book (tally_of (d.3 i).0 ++ (sym turn i, e) ∷ []), [])) ∙ ap (λ l. (Book l, [])) (sym (tally_here n es e refl)),
     ) in
-    subst (λ (l : List Entry). IsUnderLock g.L.Heap.config g.L.Heap.tables c.take_step.new.machine l (set c.self.inside.desks.items n c.gain.new.self) × HasLedger g.L.Heap.config g.L.Heap.ledger c.take_step.new.machine l c.note.new.self) (sym (c.push.ensures.entries ∙ ap (λ l. l ++ e ∷ []) (ap (λ (x : ChronicleState). x.entries) c.reserve.ensures.entries))) (
+    let both = subst (λ (l : List Entry). IsUnderLock g.L.Heap.config g.L.Heap.tables c.take_step.new.machine l (set c.self.inside.desks.items n c.gain.new.self) × HasLedger g.L.Heap.config g.L.Heap.ledger c.take_step.new.machine l c.note.new.self) (sym (c.push.ensures.entries ∙ ap (λ l. l ++ e ∷ []) (ap (λ (x : ChronicleState). x.entries) c.reserve.ensures.entries))) (
       kept_more _ _ _ _ es _ e c.gain.new.self c.self.invariant.0 c.seat.invariant.0 c.requires c.in-Some.ensures.0 c.in-Some.ensures.1 desk,
       acted_has g.L.Heap.config g.L.Heap.ledger c.self.inside.machine c.take_step.new.machine es c.self.inside.ledger c.note.new.self e c.self.invariant.1 c.requires c.in-Some.ensures.0 c.note.ensures,
-    )
+    ) in
+    (both.0, both.1, c.push.ensures.rolls ∙ ap (λ (x : ChronicleState). x.rolls) c.reserve.ensures.entries ∙ c.self.invariant.2)
 
 pub returns-clause-moves : goal.returns-clause-moves
 returns-clause-moves g c =

@@ -1,4 +1,4 @@
-use Rattle.heap_lock.specs.History.{reply_of}
+use Rattle.heap_chronicle.specs.History.{reply_of}
 use Rattle.heap_lock.proofs.heap.Kept.do_held.Given as goal
 
 abbrev pub ghosts-note : goal.ghosts-note

@@ -14,6 +14,7 @@ invariant_of-self g c =
     let may = may_reply c.self.inside.machine c.open_pin-done.new.self (OpenPin c.args.at) (λ p. Pinned p.pin p.at) c.open_pin-done.result c.open_pin-done.ensures.done c.open_pin-done.ensures.refused c.open_pin-done.ensures.unchanged in (
       kept_dumped g.L.Heap.config g.L.Heap.tables c.self.inside.machine c.open_pin-done.new.self c.self.inside.chronicle.entries c.self.inside.desks.items (OpenPin c.args.at) reply c.self.invariant.0 refl may,
       dumped_has g.L.Heap.config g.L.Heap.ledger c.self.inside.machine c.open_pin-done.new.self c.self.inside.chronicle.entries c.self.inside.ledger c.note.new.self (OpenPin c.args.at, reply) c.self.invariant.1 refl may c.note.ensures,
+      c.self.invariant.2,
     )
 
 pub returns-clause-done : goal.returns-clause-done

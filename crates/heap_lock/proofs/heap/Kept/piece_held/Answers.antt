@@ -15,6 +15,7 @@ invariant_of-self g c =
     let may = may_reply c.self.inside.machine c.piece-done.new.self (NextPiece c.args.pin c.args.time) (λ p. Part p) c.piece-done.result c.piece-done.ensures.done c.piece-done.ensures.refused c.piece-done.ensures.unchanged in (
       kept_dumped g.L.Heap.config g.L.Heap.tables c.self.inside.machine c.piece-done.new.self c.self.inside.chronicle.entries c.self.inside.desks.items (NextPiece c.args.pin c.args.time) reply c.self.invariant.0 refl may,
       dumped_has g.L.Heap.config g.L.Heap.ledger c.self.inside.machine c.piece-done.new.self c.self.inside.chronicle.entries c.self.inside.ledger c.note.new.self (NextPiece c.args.pin c.args.time, reply) c.self.invariant.1 refl may c.note.ensures,
+      c.self.invariant.2,
     )
 
 pub returns-clause-done : goal.returns-clause-done

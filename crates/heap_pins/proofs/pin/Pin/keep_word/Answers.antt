@@ -4,8 +4,9 @@ use Rattle.heap_region.specs.Pool.{RegionPool}
 use Rattle.heap_region.specs.Regions.{used_at}
 use Rattle.heap_region.specs.RegionCopies.{frozen_word_set, region_frozen}
 use Rattle.heap_pins.specs.Pin.{PinContents}
-use Rattle.heap_pins.proofs.AddedCopies.{had_copy, has_copy, region_used, slot_copied}
+use Rattle.heap_pins.proofs.AddedCopies.{had_copy, has_copy, slot_copied}
 use Rattle.heap_pins.proofs.pin.Pin.keep_word.Goals as goal
+use Rattle.heap_region.proofs.ShownRegions.{used_by_object}
 
 pub returns-then-is_some-clause-kept : goal.returns-then-is_some-clause-kept
 returns-then-is_some-clause-kept c =
@@ -14,7 +15,7 @@ returns-then-is_some-clause-kept c =
     (sym c.is_some.ensures ∙ c.if-is_some.true)
 
 pub freeze-requires : goal.freeze-requires
-freeze-requires c = subst (λ (s : RegionPool). IsSome (used_at s.regions c.args.at.region)) (sym c.regions.ensures) (region_used c.args.world.now.regions c.args.at c.requires.there)
+freeze-requires c = subst (λ (s : RegionPool). IsSome (used_at s.regions c.args.at.region)) (sym c.regions.ensures) (used_by_object c.args.world.now.regions c.args.at c.requires.there)
 
 pub set_word-requires : goal.set_word-requires
 set_word-requires c = slot_copied c.args.world.now.regions c.args.at c.args.slot c.in_ok-copy.copy (ap (λ (s : RegionPool). region_frozen s.regions c.args.at.region) (sym c.regions.ensures) ∙ c.in_ok-copy.ensures.copied) c.requires.there c.requires.within

@@ -1,4 +1,4 @@
-use Rattle.std.proofs.Common.{sym, subst}
+use Rattle.std.proofs.Common.{subst}
 use Rattle.live_dump.specs.Supplies.{ToldSupply, IsSupplied}
 use Rattle.live_dump.proofs.source.ToldSource.into_witness.Goals as goal
 

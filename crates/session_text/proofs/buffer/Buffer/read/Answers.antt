@@ -1,5 +1,5 @@
 use Rattle.std.proofs.Common.{◌≡◌, ◌∙◌, ap, sym, subst, arith, ◌-◌, length, take, drop}
-use Rattle.session_text.specs.Lines.{NoLf}
+use Rattle.session_grammar.specs.Lines.{NoLf}
 use Rattle.session_text.proofs.Lists.{moved_none, kept_whole}
 use Rattle.session_text.proofs.buffer.Buffer.read.Goals as goal
 

@@ -1,0 +1,6 @@
+pub mod Limits
+pub mod History
+pub mod Packs
+pub mod Blocks
+pub mod Chronicles
+pub mod Details

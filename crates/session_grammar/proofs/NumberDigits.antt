@@ -1,0 +1,130 @@
+-- Digits that stand in a text, and the numbers that they are in its beginnings.
+use Rattle.std.proofs.Common.{◌≡◌, refl, ℕ, ◌+◌, ◌-◌, ◌*◌, ◌^◌, ◌<◌, ◌≤◌, ◌⊎◌, inl, inr, Bool, true, false, cond, List, [], ◌∷◌, ◌++◌, take, drop, length, get_or, Some, None, nat_lt, ap, sym, subst, ◌∙◌, arith, leb-true, le-leb, ne_eqb, lt-ltb}
+use Rattle.std.specs.Prelude.{◌==◌, suc}
+use Rattle.std.proofs.Math.Seq.{take-add}
+use Rattle.std.proofs.lemmas.Bool.{and_from, and_parts}
+use Rattle.std.proofs.lemmas.List.{length-drop, length-take-le, get_or-drop, get_or-take}
+use Rattle.std.proofs.lemmas.List.Elements.{All-nil, All-cons, All-append}
+use Rattle.std.specs.Char.{is_ascii_digit}
+use Rattle.session_grammar.specs.Lines.{NoLf}
+use Rattle.session_grammar.specs.Reads.{with_digit, IsReadTo, IsReadIn, IsNumberAt, IsNumberThen}
+use Rattle.session_grammar.proofs.Firsts.{cut}
+use Rattle.session_grammar.proofs.Numbers.{read_none, read_digit, sure_more, read_to_space, read_to_end, number_next}
+
+-- ---- bytes that are no LF
+
+pub none_yet : (t : List ℕ) → NoLf (take 0 t)
+none_yet t = All-nil (λ b. (b == 10) ≡ false)
+
+-- one more byte
+pub no_lf_more : (t : List ℕ) (i : ℕ) → i < length t → (get_or t i 0 == 10) ≡ false → NoLf (take i t) → NoLf (take (i + 1) t)
+no_lf_more t i lt other before =
+    let b = get_or t i 0 in
+    let e : take (i + 1) t ≡ take i t ++ (b ∷ []) = take-add i 1 t ∙ ap (λ l. take i t ++ take 1 l) (cut t i lt) in
+    subst (λ l. NoLf l) (sym e) (All-append (λ x. (x == 10) ≡ false) (take i t) (b ∷ []) before (All-cons (λ x. (x == 10) ≡ false) b [] other (All-nil (λ x. (x == 10) ≡ false))))
+
+no_lf_digit : (b : ℕ) → 48 ≤ b → (b == 10) ≡ false
+no_lf_digit b low = ne_eqb b 10 (λ e. omega (arith, low, e))
+
+-- ---- in a beginning of the text
+
+get_in : (t : List ℕ) (n at i : ℕ) → at + i < n → get_or (drop at (take n t)) i 0 ≡ get_or t (at + i) 0
+get_in t n at i lt = get_or-drop at (take n t) i 0 ∙ get_or-take n t (at + i) 0 lt
+
+long_in : (t : List ℕ) (n at i : ℕ) → n ≤ length t → at + i < n → i < length (drop at (take n t))
+long_in t n at i most lt = omega (arith, length-drop at (take n t), length-take-le n t most, lt)
+
+-- ---- digits
+
+pub read_in_none : (t : List ℕ) (at : ℕ) → at ≤ length t → IsReadIn t at 0 0
+read_in_none t at le =
+    let same : at ≡ at + 0 = omega arith in
+    (omega (arith, le), omega arith, λ s e. absurd (omega (arith, e)), λ none. subst (λ n. NoLf (take n t)) same none, λ n low most. read_none (drop at (take n t)))
+
+read_in_more : (t : List ℕ) (at size value whole : ℕ) → at + size < length t → size < 20 → Some whole ≡ with_digit value (get_or t (at + size) 0) → 48 ≤ get_or t (at + size) 0 → IsReadIn t at value size → IsReadIn t at whole (size + 1)
+read_in_more t at size value whole lt few digit low h = (
+  omega (arith, lt),
+  omega (arith, few),
+  λ s e. let same : size ≡ s = omega (arith, e) in subst (λ k. 48 ≤ get_or t (at + k) 0) same low,
+  λ none. subst (λ k. NoLf (take k t)) next (no_lf_more t (at + size) lt (no_lf_digit (get_or t (at + size) 0) low) (h.3 none)),
+  in_each,
+)
+  where
+    next : at + size + 1 ≡ at + (size + 1)
+    next = omega arith
+
+    in_each : (n : ℕ) → at + (size + 1) ≤ n → n ≤ length t → IsReadTo (drop at (take n t)) (drop (size + 1) (drop at (take n t))) (size + 1) whole
+    in_each n le most =
+        let less : at + size < n = omega (arith, le) in
+        let get = get_in t n at size less in
+        read_digit (drop at (take n t)) size value whole (long_in t n at size most less) (λ e. omega (arith, low, e, get)) (digit ∙ ap (λ b. with_digit value b) (sym get)) (h.4 n (omega (arith, le)) most)
+
+-- one of the first 19 digits
+pub read_in_sure : (t : List ℕ) (at size value : ℕ) → at + size < length t → size < 19 → 48 ≤ get_or t (at + size) 0 → get_or t (at + size) 0 ≤ 57 → IsReadIn t at value size → value < 10 ^ size
+    → IsReadIn t at (value * 10 + (get_or t (at + size) 0 - 48)) (size + 1) × (value * 10 + (get_or t (at + size) 0 - 48) < 10 ^ (size + 1))
+read_in_sure t at size value lt few low high h less =
+    let b = get_or t (at + size) 0 in
+    let digit : is_ascii_digit b ≡ true = and_from _ _ (le-leb 48 b low) (le-leb b 57 high) in
+    let sure = sure_more size value (b - 48) few less (omega (arith, low, high)) in
+    let is : Some (value * 10 + (b - 48)) ≡ with_digit value b = sym (ap (λ v. cond v (cond (nat_lt (value * 10 + (b - 48)) (2 ^ 64)) (Some (value * 10 + (b - 48))) None) None) digit ∙ ap (λ v. cond v (Some (value * 10 + (b - 48))) None) (lt-ltb _ _ sure.0)) in
+    (read_in_more t at size value (value * 10 + (b - 48)) lt (omega (arith, few)) is low h, sure.1)
+
+-- two digits
+pub read_in_pair : (t : List ℕ) (at size value : ℕ) → at + size + 1 < length t → size < 18 → 48 ≤ get_or t (at + size) 0 → get_or t (at + size) 0 ≤ 57 → 48 ≤ get_or t (at + size + 1) 0 → get_or t (at + size + 1) 0 ≤ 57 → IsReadIn t at value size → value < 10 ^ size
+    → IsReadIn t at ((value * 10 + (get_or t (at + size) 0 - 48)) * 10 + (get_or t (at + size + 1) 0 - 48)) (size + 2) × ((value * 10 + (get_or t (at + size) 0 - 48)) * 10 + (get_or t (at + size + 1) 0 - 48) < 10 ^ (size + 2))
+read_in_pair t at size value lt few low high low2 high2 h less =
+    let first = read_in_sure t at size value (omega (arith, lt)) (omega (arith, few)) low high h less in
+    let v = value * 10 + (get_or t (at + size) 0 - 48) in
+    let here : at + (size + 1) ≡ at + size + 1 = omega arith in
+    let two : size + 1 + 1 ≡ size + 2 = omega arith in
+    let second = read_in_sure t at (size + 1) v (omega (arith, lt)) (omega (arith, few)) (subst (λ k. 48 ≤ get_or t k 0) (sym here) low2) (subst (λ k. get_or t k 0 ≤ 57) (sym here) high2) first.0 first.1 in (
+      subst (λ n. IsReadIn t at (v * 10 + (get_or t (at + size + 1) 0 - 48)) n) two (subst (λ k. IsReadIn t at (v * 10 + (get_or t k 0 - 48)) (size + 1 + 1)) here second.0),
+      subst (λ n. v * 10 + (get_or t (at + size + 1) 0 - 48) < 10 ^ n) two (subst (λ k. v * 10 + (get_or t k 0 - 48) < 10 ^ (size + 1 + 1)) here second.1),
+    )
+
+digit_low : (value b whole : ℕ) → Some whole ≡ with_digit value b → 48 ≤ b
+digit_low value b whole h = go (is_ascii_digit b) refl (h)
+  where
+    go : (v : Bool) → is_ascii_digit b ≡ v → Some whole ≡ cond v (cond (nat_lt (value * 10 + (b - 48)) (2 ^ 64)) (Some (value * 10 + (b - 48))) None) None → 48 ≤ b
+    go true e h = let both = and_parts _ _ e in leb-true 48 b both.0
+    go false e h = cc
+
+-- the 20th
+pub read_in_last : (t : List ℕ) (at size value whole : ℕ) → at + size < length t → size ≤ 19 → Some whole ≡ with_digit value (get_or t (at + size) 0) → IsReadIn t at value size → IsReadIn t at whole (size + 1)
+read_in_last t at size value whole lt few digit h = read_in_more t at size value whole lt (omega (arith, few)) digit (digit_low value (get_or t (at + size) 0) whole digit) h
+
+-- one digit
+pub read_in_one : (t : List ℕ) (at : ℕ) → at < length t → is_ascii_digit (get_or t at 0) ≡ true → IsReadIn t at (get_or t at 0 - 48) 1
+read_in_one t at lt digit =
+    let here : at + 0 ≡ at = omega arith in
+    let get : get_or t (at + 0) 0 ≡ get_or t at 0 = ap (λ n. get_or t n 0) here in
+    let both = and_parts _ _ digit in
+    let low : 48 ≤ get_or t at 0 = leb-true _ _ both.0 in
+    let high : get_or t at 0 ≤ 57 = leb-true _ _ both.1 in
+    let read = read_in_sure t at 0 0 (omega (arith, lt)) (omega arith) (omega (arith, low, get)) (omega (arith, high, get)) (read_in_none t at (omega (arith, lt))) (omega arith) in
+    let value : 0 * 10 + (get_or t (at + 0) 0 - 48) ≡ get_or t at 0 - 48 = omega (arith, get) in
+    let one : 0 + 1 ≡ 1 = omega arith in
+    subst (λ v. IsReadIn t at v 1) value (subst (λ n. IsReadIn t at (0 * 10 + (get_or t (at + 0) 0 - 48)) n) one read.0)
+
+-- ---- a number
+
+-- the number that the digits are, in a beginning of the text that ends behind them or that has a space there
+numbered : (t : List ℕ) (at ender value size n : ℕ) → IsReadIn t at value size → get_or t (at + size) 0 ≡ ender → n ≤ length t → (n ≡ at + size) ⊎ ((at + size < n) × (ender ≡ 32)) → IsNumberAt (drop at (take n t)) value size
+numbered t at ender value size n h is most (inl e) =
+    read_to_end (drop at (take n t)) size value (omega (arith, length-drop at (take n t), length-take-le n t most, e)) h.1 (h.4 n (omega (arith, e)) most)
+numbered t at ender value size n h is most (inr p) =
+    read_to_space (drop at (take n t)) size value (long_in t n at size most p.0) h.1 (get_in t n at size p.0 ∙ is ∙ p.1) (h.4 n (omega (arith, p.0)) most)
+
+pub then_of : (t : List ℕ) (at ender value size : ℕ) → IsReadIn t at value size → (size ≡ 0 → ⊥) → get_or t (at + size) 0 ≡ ender → IsNumberThen t at ender value (at + size)
+then_of t at ender value size h some is lt = (
+  omega (arith, some),
+  omega (arith, h.1),
+  is,
+  λ s e. let last : size ≡ suc (size - 1) = omega (arith, some) in let same : at + (size - 1) ≡ s = omega (arith, e, some) in subst (λ k. 48 ≤ get_or t k 0) same (h.2 (size - 1) last),
+  h.3,
+  λ n most way le. (omega (arith, reaches n way, some, length-take-le n t most), number_next (take n t) at value size (numbered t at ender value size n h is most way) some),
+)
+  where
+    reaches : (n : ℕ) → (n ≡ at + size) ⊎ ((at + size < n) × (ender ≡ 32)) → at + size ≤ n
+    reaches n (inl e) = omega (arith, e)
+    reaches n (inr p) = omega (arith, p.0)

@@ -1,0 +1,6 @@
+use Rattle.std.proofs.Common.{◌≡◌, take, map}
+use Rattle.session_grammar.specs.Reads.{field_of_span}
+use Rattle.session_grammar.proofs.fields.copied_all.Given as goal
+
+abbrev pub invariant-loop-mark : goal.invariant-loop-mark
+invariant-loop-mark l = l.copies.items ≡ map (field_of_span l.text) (take l.mark-index l.marks)

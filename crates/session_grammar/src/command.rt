@@ -1,0 +1,476 @@
+//! Commands: the requests of lines.
+ghost use Rattle.std.specs.Prelude.{◌≡◌, ◌≤◌, ◌++◌, length, option_map, MatchResult};
+ghost use Rattle.std.specs.Str.{bytes_eq};
+ghost use Rattle.session_grammar.specs.Grammar.{words_of_line, next_number, next_number_or_dash, next_kind, at_end, one_number, one_number_or_dash, three_numbers, two_numbers, four_numbers, new_line, newarray_line, newprim_line, load_line, store_line, put_line, move_line, clear_line, step_line, sweep_line, rewind_line, open_line, piece_line, dump_line, close_line, end_line, making_rules, access_rules, marking_rules, session_rules, by_rule, without_cr, command_of_text, command_of};
+ghost use Rattle.session_grammar.specs.Reads.{TakesMemory, MayTakeMemory, IsNextWord, next_name, plain_class, plain_array, plain_rules};
+ghost use Rattle.session_grammar.specs.declared.TheConstants.{LINE_LIMIT};
+
+use crate::fields::{copied_all, kind_at, name_at, read_fields};
+use crate::number::{number_at, number_or_dash_at};
+use crate::spans::FieldSpans;
+use crate::words::Words;
+use heap_class::{Kind, Name};
+use heap_step::Event;
+use heap_trail::Action;
+use std::alloc::{AllocError, Global};
+
+/// The request of a line.
+#[derive(Drop)]
+pub enum Command {
+    /// The line has no words, and asks for nothing.
+    Blank,
+    /// The line is none of the grammar's.
+    Bad,
+    /// An action, and its reply.
+    Ask(Action),
+    /// The next piece of a pin.
+    Piece(u64),
+    /// A dump of a pin.
+    Dump(u64),
+    /// A dump of the current state.
+    DumpNow,
+    /// The end of the session.
+    End,
+}
+
+// Tells whether a word is this one.
+fn is_word(word: &[u8], name: &[u8]) -> bool
+    ensures { result ≡ bytes_eq word.now name.now }
+{
+    word == name
+}
+
+// Reads the number that the next word holds. Returns None if it holds none.
+fn next_number(words: &mut Words) -> Option<u64>
+    ensures { IsNextWord (next_number (words_of_line words.old)) (words_of_line words.new) result }
+{
+    let (value, size) = number_at(words.front()?);
+    if size == 0 {
+        return None;
+    }
+    words.pass(size);
+    Some(value)
+}
+
+// Reads the number that the next word holds, or None from a `-`. Returns None if it holds neither.
+fn next_number_or_dash(words: &mut Words) -> Option<Option<u64>>
+    ensures next { IsNextWord (next_number_or_dash (words_of_line words.old))
+        (words_of_line words.new) result }
+    ensures shorter { length words.new ≤ length words.old }
+{
+    let (value, size) = number_or_dash_at(words.front()?)?;
+    words.pass(size);
+    Some(value)
+}
+
+// Reads the kind that the next word names. Returns None if it names none.
+fn next_kind(words: &mut Words) -> Option<Kind>
+    ensures { IsNextWord (next_kind (words_of_line words.old)) (words_of_line words.new) result }
+{
+    let (kind, size) = kind_at(words.front()?)?;
+    words.pass(size);
+    Some(kind)
+}
+
+// Reads the next word as a name. Returns None if one of its bytes is bad.
+fn next_name<'a>(words: &mut Words<'a>) -> Option<&'a [u8]>
+    ensures next { IsNextWord (next_name (words_of_line words.old)) (words_of_line words.new)
+        (option_map (λ w. w.now) result) }
+    ensures shorter { length words.new ≤ length words.old }
+{
+    let text = words.front()?;
+    let size = name_at(text)?;
+    words.pass(size);
+    Some(&text[..size])
+}
+
+// Returns a value if no word is left.
+fn at_end<T: Drop>(value: T, mut words: Words) -> Option<T>
+    ensures { result ≡ at_end value (words_of_line words.entry) }
+{
+    if words.front().is_some() {
+        return None;
+    }
+    Some(value)
+}
+
+// Returns the one number that the words are.
+fn one_number(mut words: Words) -> Option<u64>
+    ensures { result ≡ one_number (words_of_line words.entry) }
+{
+    let a = next_number(&mut words)?;
+    at_end(a, words)
+}
+
+// Returns the one number that the words are, or None from a `-`.
+fn one_number_or_dash(mut words: Words) -> Option<Option<u64>>
+    ensures { result ≡ one_number_or_dash (words_of_line words.entry) }
+{
+    let a = next_number_or_dash(&mut words)?;
+    at_end(a, words)
+}
+
+// Returns the two numbers that the words are.
+fn two_numbers(mut words: Words) -> Option<(u64, u64)>
+    ensures { result ≡ two_numbers (words_of_line words.entry) }
+{
+    let a = next_number(&mut words)?;
+    let b = next_number(&mut words)?;
+    at_end((a, b), words)
+}
+
+// Returns the three numbers that the words are.
+fn three_numbers(mut words: Words) -> Option<(u64, u64, u64)>
+    ensures { result ≡ three_numbers (words_of_line words.entry) }
+{
+    let a = next_number(&mut words)?;
+    let b = next_number(&mut words)?;
+    let c = next_number(&mut words)?;
+    at_end((a, b, c), words)
+}
+
+// Returns the four numbers that the words are.
+fn four_numbers(mut words: Words) -> Option<(u64, u64, u64, u64)>
+    ensures { result ≡ four_numbers (words_of_line words.entry) }
+{
+    let a = next_number(&mut words)?;
+    let b = next_number(&mut words)?;
+    let c = next_number(&mut words)?;
+    let d = next_number(&mut words)?;
+    at_end((a, b, c, d), words)
+}
+
+// Reads the words of `class NAME SUPER FIELD ..`. Returns None, and allocates nothing, if they don't fit. Fails if an
+// allocation fails.
+fn class_line(
+    alloc: Global,
+    marks: &mut FieldSpans,
+    mut words: Words,
+) -> Result<Option<Command>, AllocError>
+    requires { length words ≤ LINE_LIMIT }
+    ensures { MatchResult result (λ c. c ≡ plain_class (words_of_line words.entry))
+        (λ _. MayTakeMemory (plain_class (words_of_line words.entry))) }
+{
+    let Some(name) = next_name(&mut words) else {
+        return Ok(None);
+    };
+    let Some(sup) = next_number_or_dash(&mut words) else {
+        return Ok(None);
+    };
+    let text = words.rest();
+    if !read_fields(words, marks) {
+        return Ok(None);
+    }
+    let name = Name::new(alloc, name)?;
+    let fields = copied_all(alloc, text, marks.as_slice())?;
+    Ok(Some(Command::Ask(Action::Step(Event::Class { name, sup, fields }))))
+}
+
+// Reads the words of `array NAME`. Returns None, and allocates nothing, if they don't fit. Fails if an allocation fails.
+fn array_line(alloc: Global, mut words: Words) -> Result<Option<Command>, AllocError>
+    ensures { MatchResult result (λ c. c ≡ plain_array (words_of_line words.entry))
+        (λ _. MayTakeMemory (plain_array (words_of_line words.entry))) }
+{
+    let Some(name) = next_name(&mut words) else {
+        return Ok(None);
+    };
+    if words.front().is_some() {
+        return Ok(None);
+    }
+    let name = Name::new(alloc, name)?;
+    Ok(Some(Command::Ask(Action::Step(Event::ArrayClass { name }))))
+}
+
+// Reads the words of `new M R CLASS`.
+fn new_line(words: Words) -> Option<Command>
+    ensures { result ≡ new_line (words_of_line words.entry) }
+{
+    let (m, r, class) = three_numbers(words)?;
+    Some(Command::Ask(Action::Step(Event::New { m, r, class })))
+}
+
+// Reads the words of `newarray M R CLASS LEN`.
+fn newarray_line(words: Words) -> Option<Command>
+    ensures { result ≡ newarray_line (words_of_line words.entry) }
+{
+    let (m, r, class, len) = four_numbers(words)?;
+    Some(Command::Ask(Action::Step(Event::NewArray { m, r, class, len })))
+}
+
+// Reads the words of `newprim M R KIND LEN`.
+fn newprim_line(mut words: Words) -> Option<Command>
+    ensures { result ≡ newprim_line (words_of_line words.entry) }
+{
+    let m = next_number(&mut words)?;
+    let r = next_number(&mut words)?;
+    let kind = next_kind(&mut words)?;
+    let len = next_number(&mut words)?;
+    at_end(
+        Command::Ask(Action::Step(Event::NewPrim { m, r, kind, len })),
+        words,
+    )
+}
+
+// Reads the words of `load M TO FROM SLOT`.
+fn load_line(words: Words) -> Option<Command>
+    ensures { result ≡ load_line (words_of_line words.entry) }
+{
+    let (m, to, from, slot) = four_numbers(words)?;
+    Some(Command::Ask(Action::Step(Event::Load { m, to, from, slot })))
+}
+
+// Reads the words of `store M TARGET SLOT SOURCE`.
+fn store_line(words: Words) -> Option<Command>
+    ensures { result ≡ store_line (words_of_line words.entry) }
+{
+    let (m, target, slot, source) = four_numbers(words)?;
+    Some(Command::Ask(Action::Step(Event::Store {
+        m,
+        target,
+        slot,
+        source,
+    })))
+}
+
+// Reads the words of `put M TARGET SLOT VALUE`.
+fn put_line(words: Words) -> Option<Command>
+    ensures { result ≡ put_line (words_of_line words.entry) }
+{
+    let (m, target, slot, value) = four_numbers(words)?;
+    Some(Command::Ask(Action::Step(Event::Put {
+        m,
+        target,
+        slot,
+        value,
+    })))
+}
+
+// Reads the words of `move M TO FROM_M FROM`.
+fn move_line(words: Words) -> Option<Command>
+    ensures { result ≡ move_line (words_of_line words.entry) }
+{
+    let (m, to, from_m, from) = four_numbers(words)?;
+    Some(Command::Ask(Action::Step(Event::Move {
+        m,
+        to,
+        from_m,
+        from,
+    })))
+}
+
+// Reads the words of `clear M R`.
+fn clear_line(words: Words) -> Option<Command>
+    ensures { result ≡ clear_line (words_of_line words.entry) }
+{
+    let (m, r) = two_numbers(words)?;
+    Some(Command::Ask(Action::Step(Event::Clear { m, r })))
+}
+
+// Returns a step that takes no words, if there are none.
+fn step_line(event: Event, words: Words) -> Option<Command>
+    ensures { result ≡ step_line event (words_of_line words.entry) }
+{
+    at_end(Command::Ask(Action::Step(event)), words)
+}
+
+// Reads the words of `sweep REGION`.
+fn sweep_line(words: Words) -> Option<Command>
+    ensures { result ≡ sweep_line (words_of_line words.entry) }
+{
+    let region = one_number(words)?;
+    Some(Command::Ask(Action::Step(Event::Sweep { region })))
+}
+
+// Reads the words of `rewind N`.
+fn rewind_line(words: Words) -> Option<Command>
+    ensures { result ≡ rewind_line (words_of_line words.entry) }
+{
+    let n = one_number(words)?;
+    Some(Command::Ask(Action::Rewind(n)))
+}
+
+// Reads the words of `open AT`.
+fn open_line(words: Words) -> Option<Command>
+    ensures { result ≡ open_line (words_of_line words.entry) }
+{
+    let at = one_number_or_dash(words)?;
+    Some(Command::Ask(Action::OpenPin(at)))
+}
+
+// Reads the words of `piece PIN`.
+fn piece_line(words: Words) -> Option<Command>
+    ensures { result ≡ piece_line (words_of_line words.entry) }
+{
+    let pin = one_number(words)?;
+    Some(Command::Piece(pin))
+}
+
+// Reads the words of `dump PIN` or `dump -`.
+fn dump_line(words: Words) -> Option<Command>
+    ensures { result ≡ dump_line (words_of_line words.entry) }
+{
+    match one_number_or_dash(words)? {
+        Some(pin) => Some(Command::Dump(pin)),
+        None => Some(Command::DumpNow),
+    }
+}
+
+// Reads the words of `close PIN`.
+fn close_line(words: Words) -> Option<Command>
+    ensures { result ≡ close_line (words_of_line words.entry) }
+{
+    let pin = one_number(words)?;
+    Some(Command::Ask(Action::ClosePin(pin)))
+}
+
+// Reads the words of `end`, of which there must be none.
+fn end_line(words: Words) -> Option<Command>
+    ensures { result ≡ end_line (words_of_line words.entry) }
+{
+    at_end(Command::End, words)
+}
+
+// Reads a line by its first word, if that makes an object or `access_line` knows it.
+#[tactic(auto, unfolding(crate::specs::Grammar::by_rule, crate::specs::Grammar::making_rules))]
+fn making_line(word: &[u8], words: Words) -> Option<Command>
+    ensures { result
+        ≡ by_rule (making_rules ++ (access_rules ++ (marking_rules ++ session_rules))) word.now
+        (words_of_line words.entry) }
+{
+    if is_word(word, b"new") {
+        return new_line(words);
+    }
+    if is_word(word, b"newarray") {
+        return newarray_line(words);
+    }
+    if is_word(word, b"newprim") {
+        return newprim_line(words);
+    }
+    access_line(word, words)
+}
+
+// Reads a line by its first word, if that reads or writes a slot or a register or `marking_line` knows it.
+#[tactic(auto, unfolding(crate::specs::Grammar::by_rule, crate::specs::Grammar::access_rules))]
+fn access_line(word: &[u8], words: Words) -> Option<Command>
+    ensures { result
+        ≡ by_rule (access_rules ++ (marking_rules ++ session_rules)) word.now
+        (words_of_line words.entry) }
+{
+    if is_word(word, b"load") {
+        return load_line(words);
+    }
+    if is_word(word, b"store") {
+        return store_line(words);
+    }
+    if is_word(word, b"put") {
+        return put_line(words);
+    }
+    if is_word(word, b"move") {
+        return move_line(words);
+    }
+    if is_word(word, b"clear") {
+        return clear_line(words);
+    }
+    marking_line(word, words)
+}
+
+// Reads a line by its first word, if that marks or sweeps or `session_line` knows it.
+#[tactic(auto, unfolding(crate::specs::Grammar::by_rule, crate::specs::Grammar::marking_rules))]
+fn marking_line(word: &[u8], words: Words) -> Option<Command>
+    ensures { result
+        ≡ by_rule (marking_rules ++ session_rules) word.now (words_of_line words.entry) }
+{
+    if is_word(word, b"snap") {
+        return step_line(Event::Snap, words);
+    }
+    if is_word(word, b"mark") {
+        return step_line(Event::Mark, words);
+    }
+    if is_word(word, b"drain") {
+        return step_line(Event::Drain, words);
+    }
+    if is_word(word, b"finish") {
+        return step_line(Event::Finish, words);
+    }
+    if is_word(word, b"sweep") {
+        return sweep_line(words);
+    }
+    session_line(word, words)
+}
+
+// Reads a line by its first word, if that asks the machine or the session for something.
+#[tactic(auto, unfolding(crate::specs::Grammar::by_rule, crate::specs::Grammar::session_rules))]
+fn session_line(word: &[u8], words: Words) -> Option<Command>
+    ensures { result ≡ by_rule session_rules word.now (words_of_line words.entry) }
+{
+    if is_word(word, b"rewind") {
+        return rewind_line(words);
+    }
+    if is_word(word, b"open") {
+        return open_line(words);
+    }
+    if is_word(word, b"piece") {
+        return piece_line(words);
+    }
+    if is_word(word, b"dump") {
+        return dump_line(words);
+    }
+    if is_word(word, b"close") {
+        return close_line(words);
+    }
+    if is_word(word, b"end") {
+        return end_line(words);
+    }
+    None
+}
+
+// Reads a line from its first word and the words after it. Returns None if it is none of the grammar's. Fails if an
+// allocation fails.
+#[tactic(auto, unfolding(crate::specs::Grammar::by_rule, crate::specs::Reads::plain_class_rules))]
+fn line_after(
+    alloc: Global,
+    marks: &mut FieldSpans,
+    word: &[u8],
+    words: Words,
+) -> Result<Option<Command>, AllocError>
+    requires { length words ≤ LINE_LIMIT }
+    ensures { MatchResult result (λ c. c ≡ by_rule plain_rules word.now (words_of_line words.entry))
+        (λ _. MayTakeMemory (by_rule plain_rules word.now (words_of_line words.entry))) }
+{
+    if is_word(word, b"class") {
+        return class_line(alloc, marks, words);
+    }
+    if is_word(word, b"array") {
+        return array_line(alloc, words);
+    }
+    Ok(making_line(word, words))
+}
+
+/// Returns the line without a CR at its end.
+pub fn without_cr(line: &[u8]) -> &[u8]
+    ensures { result.now ≡ without_cr line.now }
+{
+    let size = line.len();
+    if size > 0 && line[size - 1] == 13 {
+        &line[..size - 1]
+    } else {
+        line
+    }
+}
+
+/// Returns the command of a line without its CR. Fails if an allocation for a class fails.
+pub fn command_of_text(
+    alloc: Global,
+    marks: &mut FieldSpans,
+    text: &[u8],
+) -> Result<Command, AllocError>
+    requires { length text.now ≤ LINE_LIMIT }
+    ensures { MatchResult result (λ c. c ≡ command_of_text text.now)
+        (λ _. TakesMemory (command_of_text text.now)) }
+{
+    let mut words = Words::new(text);
+    let Some(word) = words.next_word() else {
+        return Ok(Command::Blank);
+    };
+    Ok(line_after(alloc, marks, word, words)?.unwrap_or(Command::Bad))
+}

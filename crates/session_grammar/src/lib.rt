@@ -1,0 +1,11 @@
+//! The grammar of sessions: words, numbers, fields, and the command that a line asks for.
+#![tactic(auto)]
+
+pub mod command;
+mod fields;
+pub mod number;
+pub mod spans;
+pub mod words;
+
+/// The largest number of bytes of a line, without its LF.
+pub const LINE_LIMIT: usize = 4096;

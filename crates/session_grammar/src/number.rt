@@ -1,0 +1,175 @@
+//! Numbers in decimal.
+ghost use Rattle.std.specs.Prelude.{◌≡◌, ◌+◌, ◌^◌, ◌≤◌, ◌<◌, length, drop, codes, IfSome};
+ghost use Rattle.std.specs.Str.{bytes_eq};
+ghost use Rattle.session_grammar.specs.Grammar.{number_of_word, number_or_dash};
+ghost use Rattle.session_grammar.specs.Reads.{first_word, with_digit, with_size, IsReadTo, IsReadIn, IsNumberAt, IsNumberThen};
+
+use crate::words::SPACE;
+
+// The largest number of digits of a number, leading zeros included.
+const DIGIT_LIMIT: usize = 20;
+
+// The largest number of digits that always make a number below 2^64.
+const SURE_DIGITS: usize = 19;
+
+// Returns a number with one more digit, or None if `b` is no digit or the number comes to 2^64.
+fn with_digit(value: u64, b: u8) -> Option<u64>
+    ensures { result ≡ with_digit value b }
+{
+    if !b.is_ascii_digit() {
+        return None;
+    }
+    value.checked_mul(10)?.checked_add(u64::from(b - b'0'))
+}
+
+// Returns the number that the text's first word holds, given the value of its first 19 digits, and its size, or size 0 if it
+// holds no number.
+#[inline(never)]
+fn last_digit(text: &[u8], value: u64) -> (u64, usize)
+    requires { (19 < length text.now) × IsReadTo text.now (drop 19 text.now) 19 value }
+    ensures value { IsNumberAt text.now result.0 result.1 }
+    ensures within { result.1 ≤ length text.now }
+{
+    if text[SURE_DIGITS] == SPACE {
+        return (value, SURE_DIGITS);
+    }
+    let Some(whole) = with_digit(value, text[SURE_DIGITS]) else {
+        return (0, 0);
+    };
+    if text.len() > DIGIT_LIMIT && text[DIGIT_LIMIT] != SPACE {
+        return (0, 0);
+    }
+    (whole, DIGIT_LIMIT)
+}
+
+/// Returns the number that the text's first word holds, 1 to 20 digits below 2^64, and its size, or size 0 if it holds no
+/// number.
+pub fn number_at(text: &[u8]) -> (u64, usize)
+    ensures value { IsNumberAt text.now result.0 result.1 }
+    ensures within { result.1 ≤ length text.now }
+{
+    let mut value: u64 = 0;
+    let mut size = 0;
+    let sure = text.len().min(SURE_DIGITS);
+    while size < sure {
+        let b = text[size];
+        if !b.is_ascii_digit() {
+            if b == SPACE {
+                return (value, size);
+            }
+            return (0, 0);
+        }
+        value = value * 10 + u64::from(b - b'0');
+        size += 1;
+    }
+    if size == text.len() {
+        return (value, size);
+    }
+    last_digit(text, value)
+}
+
+/// Returns the number that a word is: 1 to 20 digits below 2^64, or None if it is no number.
+pub fn number_of(word: &[u8]) -> Option<u64>
+    ensures { result ≡ number_of_word word.now }
+{
+    let (value, size) = number_at(word);
+    if size == 0 || size < word.len() {
+        return None;
+    }
+    Some(value)
+}
+
+// Returns the value of the digits at a place, read two by two while both are digits, and their number: at most `sure`.
+#[inline(always)]
+fn pairs_in(text: &[u8], at: usize, sure: usize) -> (u64, usize)
+    requires within { at + sure ≤ length text.now }
+    requires sure { sure ≤ 19 }
+    ensures read { IsReadIn text.now at result.0 result.1 }
+    ensures most { result.1 ≤ sure }
+    ensures small { result.0 < 10 ^ result.1 }
+{
+    let mut value: u64 = 0;
+    let mut size = 0;
+    while size + 2 <= sure {
+        let a = u64::from(text[at + size]);
+        let b = u64::from(text[at + size + 1]);
+        if a < 48 || a > 57 || b < 48 || b > 57 {
+            return (value, size);
+        }
+        value = (value * 10 + (a - 48)) * 10 + (b - 48);
+        size += 2;
+    }
+    (value, size)
+}
+
+// Returns the value of the digits at a place, and their number: at most 20, with a value below 2^64.
+fn digits_in(text: &[u8], at: usize) -> (u64, usize)
+    requires { at ≤ length text.now }
+    ensures { IsReadIn text.now at result.0 result.1 }
+{
+    let sure = (text.len() - at).min(SURE_DIGITS);
+    let (mut value, mut size) = pairs_in(text, at, sure);
+    while size < sure {
+        let b = u64::from(text[at + size]);
+        if b < 48 || b > 57 {
+            return (value, size);
+        }
+        value = value * 10 + (b - 48);
+        size += 1;
+    }
+    if at + size == text.len() {
+        return (value, size);
+    }
+    match with_digit(value, text[at + size]) {
+        Some(whole) => (whole, size + 1),
+        None => (value, size),
+    }
+}
+
+/// Returns the number at a place of a text, if this byte ends it, and that byte's place; or the text's end if there is no
+/// such number.
+#[inline(always)]
+pub fn number_then(text: &[u8], at: usize, ender: u8) -> (u64, usize)
+    requires { at ≤ length text.now + 1 }
+    ensures number { IsNumberThen text.now at ender result.0 result.1 }
+    ensures within { result.1 ≤ length text.now }
+{
+    if at + 1 >= text.len() {
+        return (0, text.len());
+    }
+    if text[at].is_ascii_digit() && text[at + 1] == ender {
+        return (u64::from(text[at]) - 48, at + 1);
+    }
+    let (value, size) = digits_in(text, at);
+    let end = at + size;
+    if size == 0 || end == text.len() || text[end] != ender {
+        return (0, text.len());
+    }
+    (value, end)
+}
+
+// Tells whether the text's first word is `-`.
+fn is_dash_at(text: &[u8]) -> bool
+    ensures { result ≡ bytes_eq (first_word text.now) (codes "-") }
+{
+    match text {
+        [b'-'] => true,
+        [b'-', next, ..] => *next == SPACE,
+        _ => false,
+    }
+}
+
+/// Returns the number that the text's first word holds, or None from a `-`, and its size. Returns None if it holds neither.
+pub fn number_or_dash_at(text: &[u8]) -> Option<(Option<u64>, usize)>
+    ensures value { result ≡ with_size text.now (number_or_dash (first_word text.now)) }
+    ensures within { IfSome result (λ r. r.1 ≤ length text.now) }
+{
+    if is_dash_at(text) {
+        return Some((None, 1));
+    }
+    let (value, size) = number_at(text);
+    if size == 0 {
+        return None;
+    }
+    Some((Some(value), size))
+}

@@ -4,6 +4,7 @@
 Usage: checks/sockets.py [--step N] PROGRAM ..
 A connection is closed after each N bytes, 1 if that isn't given. Nothing may hang: each wait has a limit. Prints a line for each
 difference and ends with status 1 if there is one. Prints nothing where all is well."""
+import concurrent.futures
 import contextlib
 import os
 import pathlib
@@ -360,6 +361,66 @@ def workers(program):
     yield "cycles by workers", found, (b"ok ", [cycle] * 20, left, 0, ["quit", "quit"], b"")
 
 
+def replies_to(client, come, lines):
+    """Sends lines at once, and returns their replies."""
+    client.sendall(b"".join(line + b"\n" for line in lines))
+    return [come.readline() for _ in lines]
+
+
+def read_list(done):
+    """Returns the numbers of the nodes of the list that register 0 names."""
+    found, value = [], done(b"move M 3 M 0", b"load M 4 3 1")[1]
+    while value.startswith(b"ok value"):
+        found.append(int(value.split()[2]))
+        value = done(b"load M 3 3 0", b"load M 4 3 1")[1]
+    return found
+
+
+def changed_lists(server, mutator, is_over):
+    """Changes a list that register 0 of a mutator names until the cycles are over: adds a node behind the first one, takes the
+    second one out, or reads the list and forgets it. Returns the numbers of its nodes each time, and those that were read."""
+    nodes, wanted, found, number = [], [], [], 0
+    with server.client() as client, client.makefile("rb") as come:
+        def done(*lines):
+            return replies_to(client, come, [line.replace(b"M", b"%d" % mutator) for line in lines])
+
+        while not is_over():
+            number += 1
+            if len(nodes) == 60:
+                wanted.append(nodes)
+                found.append(read_list(done))
+                done(b"clear M 0", b"clear M 3")
+                nodes = []
+            elif number % 3 == 0 and len(nodes) > 1:
+                done(b"load M 2 0 0", b"load M 2 2 0", b"store M 0 0 2", b"clear M 2")
+                del nodes[1]
+            elif done(b"new M 1 0")[0].startswith(b"ok"):
+                done(b"put M 1 1 %d" % number, b"load M 2 0 0", b"store M 1 0 2")
+                done(*((b"store M 0 0 1",) if nodes else (b"move M 0 M 1",)), b"clear M 1", b"clear M 2")
+                nodes.insert(1, number)
+        done(b"end")
+    return wanted, found
+
+
+def lists_beside_cycles(program):
+    """Yields whether two clients read the lists that they changed beside 30 of the workers' cycles, for which a third one asks."""
+    with Server(program, 3, "--workers", "1", "--mutators", "2", "--regions", "4") as server, server.client() as client:
+        over = threading.Event()
+        with client.makefile("rb") as come, concurrent.futures.ThreadPoolExecutor(2) as pool:
+            replies_to(client, come, [b"class Node - next:object number:long"])
+            lists = [pool.submit(changed_lists, server, mutator, over.is_set) for mutator in (0, 1)]
+            for _ in range(30):
+                found = replies_to(client, come, [b"snap"])
+                found.append(repeated(client, come, b"finish\n", b"no 15 NotMarking\n"))
+                found.append(repeated(client, come, b"sweep 0\n", b"no 20 NothingToSweep 0\n"))
+            over.set()
+            found += [len(wanted) > 1 and wanted == read for wanted, read in (each.result(LIMIT) for each in lists)]
+            replies_to(client, come, [b"end"])
+        found[0] = found[0][:10]
+        wanted = [b"ok pushed ", b"no 15 NotMarking\n", b"no 20 NothingToSweep 0\n", True, True], (0, ["quit"] * 3, b"")
+        yield "lists beside cycles", (found, server.ended()), wanted
+
+
 def old_acts(program):
     """Yields what a client has of more acts than a heap keeps, of a heap that drops old ones and of one that doesn't."""
     lines = b"clear 0 0\n" * 1_000_001 + b"rewind 2\nend\n"
@@ -536,7 +597,7 @@ def cut_dumps(program):
 
 
 HOSTILE = closing_clients, resetting_clients, silent_reader, endless_line, many_sessions, taken_port, closing_servers
-OTHERS = other_addresses, answers_one_by_one, lines_in_parts, open_input, full_output, one_client_more, workers, old_acts
+OTHERS = other_addresses, answers_one_by_one, lines_in_parts, open_input, full_output, one_client_more, workers, lists_beside_cycles, old_acts
 DUMPS = served_dumps, unread_dump, resetting_dumps, cut_dumps
 CASES = (*HOSTILE, *OTHERS, *DUMPS)
 

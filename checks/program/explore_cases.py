@@ -71,6 +71,8 @@ def typed(program, words, given, seconds=SECONDS):
     once a prompt takes too long."""
     child, terminal = pty.fork()
     if child == 0:
+        # (what a shell starts in the background ignores interrupts)
+        signal.signal(signal.SIGINT, signal.SIG_DFL)
         os.execv(program, ["heapdbg", *words])
     with os.fdopen(terminal, "r+b", buffering=0) as stream:
         subprocess.run(["stty", "-echo", "-onlcr"], stdin=stream, check=True, timeout=SECONDS)

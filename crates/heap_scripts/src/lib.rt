@@ -3,8 +3,7 @@
 
 ghost use Rattle.std.specs.Prelude.{◌≡◌, OnOk};
 
-use heap_class::{Field, Fields, Kind, Name, ObjRef};
-use heap_region::Regions;
+use heap_class::{Field, Fields, Kind, Name};
 use heap_step::step::undo;
 use heap_step::{Event, apply};
 use heap_trail::Machine;
@@ -82,8 +81,8 @@ pub fn take(machine: &mut Machine, events: &[Event]) -> Result<(), Fail> {
     Ok(())
 }
 
-/// Applies the events in turn, all of which have to be accepted.
-pub fn apply_all(world: &mut World, events: &[Event]) -> Result<(), Fail> {
+// Applies the events in turn, all of which have to be accepted.
+fn apply_all(world: &mut World, events: &[Event]) -> Result<(), Fail> {
     for event in events {
         apply(world, event)?;
     }
@@ -144,13 +143,4 @@ pub fn there_and_back<S: Drop, L: Fn(&World) -> Result<S, Fail>>(
     undo(world, left);
     seen.push(look(world)?)?;
     Ok(())
-}
-
-/// Returns the bits `live` and `mark` of the object in a cell, or None if it has none.
-pub fn bits(regions: &Regions, at: ObjRef) -> Option<(bool, bool)> {
-    if regions.has_object(at) {
-        Some(regions.bits(at))
-    } else {
-        None
-    }
 }

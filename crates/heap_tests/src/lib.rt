@@ -1,4 +1,4 @@
-//! The calls of each crate from classes to the machine, and events that are taken back.
+//! Calls of heap_class, hprof_text, heap_world and heap_trail, and a worked example of the barrier.
 #![tactic(auto)]
 
 #[cfg(test)]
@@ -7,12 +7,6 @@ mod barrier;
 mod classes;
 #[cfg(test)]
 mod dump_text;
-#[cfg(test)]
-mod events;
-#[cfg(test)]
-mod marker;
-#[cfg(test)]
-mod sweeper;
 #[cfg(test)]
 mod trail;
 #[cfg(test)]

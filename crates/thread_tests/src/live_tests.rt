@@ -3,9 +3,7 @@ ghost use Rattle.std.specs.Prelude.{◌≡◌, All, false};
 ghost use Rattle.dump_meter.specs.Seats.{sum, cancel_asked, cancel_found};
 
 use crate::live::{pumped_beside, streamed_beside, streamed_cancelled};
-use crate::parts::{one_point, points, text_of};
-use crate::shared::{has_points, pumped_now, streamed};
-use crate::sinks::Sink;
+use crate::shared::{has_points, pumped_now};
 use dump_meter::{Meter, NewMeter};
 use dump_pump::Pumped;
 use heap_lock::{Blank, Heap, Role, Seat, Shared};
@@ -38,9 +36,7 @@ ff0000000010000000\
 enum Case {
     PumpedBeside,
     StreamedBeside,
-    Whole,
     Cancelled,
-    Failing,
 }
 
 // Returns whether all of the dump of one point is out.
@@ -82,49 +78,6 @@ fn is_streamed_of_its_pin<L: Heap + Send + Sync, R: Threads + Wait + Sync>(
         rt, alloc, shared, pinned.pin, mutator, &meter, out, feed,
     );
     Ok(written && is_of_one_point(alloc, pumped, text.as_slice())?)
-}
-
-// Streams the dump of a new pin into a sink. Returns how it went, and what is out.
-fn into_sink<L: Heap + Send + Sync, R: Threads + Wait + Sync>(
-    rt: &R,
-    alloc: Global,
-    shared: &Shared<L>,
-    size: usize,
-    most: usize,
-) -> Result<(Pumped, Vec<u8>), Fail> {
-    let sink = Sink {
-        taken: Vec::new(alloc),
-        size,
-        most,
-    };
-    let NewMeter {
-        meter,
-        out,
-        readers: _,
-        askers: _,
-        feed,
-    } = Meter::new(alloc, 0, 0)?;
-    let mut witness = shared.witness(rt);
-    let pinned = shared.open_pin(rt, &mut witness, None)?;
-    let (pumped, sink) = streamed(rt, alloc, shared, pinned.pin, sink, &meter, out, feed);
-    shared.close_pin(rt, &mut witness, pinned.pin)?;
-    Ok((pumped, sink.taken))
-}
-
-// Returns whether the dump of 2,000 points is streamed whole.
-fn is_whole<L: Heap + Send + Sync, R: Threads + Wait + Sync>(
-    rt: &R,
-    alloc: Global,
-    shared: &Shared<L>,
-) -> Result<bool, Fail> {
-    let (pumped, text) = into_sink(rt, alloc, shared, usize::MAX, usize::MAX)?;
-    let (again, whole) = pumped_now(rt, alloc, shared)?;
-    Ok(
-        pumped == Pumped::Done { bytes: 66412 }
-            && again == pumped
-            && text.len() == 66412
-            && text.as_slice() == whole.as_slice(),
-    )
 }
 
 // Streams with the seats of a new meter, and has it cancelled in the middle. None if it has no asker.
@@ -172,70 +125,6 @@ fn is_beginning<L: Heap + Send + Sync, R: Threads + Wait + Sync>(
     )
 }
 
-// Returns what the readers of a heap tell of its history, its first register and its marker.
-fn told<L: Heap, R: Wait>(rt: &R, alloc: Global, shared: &Shared<L>) -> Result<String, Fail> {
-    let kept = shared.lock(rt);
-    let machine = kept.machine();
-    let world = machine.world();
-    let text = format!(in alloc;
-        "{} {} {} {:?} {:?} {:?} {}",
-        kept.chronicle().len(),
-        machine.place(),
-        machine.retained_count(),
-        world.registers().first(),
-        world.gray(),
-        world.log(),
-        world.phase().is_marking()
-    )?;
-    Ok(text)
-}
-
-// Returns whether a stream into a sink of `size` bytes a write, which fails once it has `most`, ends as it must, and the heap is
-// then as before.
-fn fails_as_told<L: Heap + Send + Sync, R: Threads + Wait + Sync>(
-    rt: &R,
-    alloc: Global,
-    shared: &Shared<L>,
-    text: &[u8],
-    size: usize,
-    most: usize,
-) -> Result<bool, Fail> {
-    let before = told(rt, alloc, shared)?;
-    let (pumped, out) = into_sink(rt, alloc, shared, size, most)?;
-    let after = told(rt, alloc, shared)?;
-    let (again, whole) = pumped_now(rt, alloc, shared)?;
-    let wanted = if most < 301 {
-        Pumped::OutletFailed { bytes: most as u64 }
-    } else {
-        Pumped::Done { bytes: 301 }
-    };
-    Ok(
-        pumped == wanted
-            && text.get(..most) == Some(out.as_slice())
-            && before.as_str() == after.as_str()
-            && again == Pumped::Done { bytes: 301 }
-            && whole.as_slice() == text,
-    )
-}
-
-// Returns whether sinks of one byte a write and of any number, which fail once they have 0 to 300 bytes, and one of either sort that
-// doesn't fail, end the stream of one point as they must.
-fn each_fails_as_told<L: Heap + Send + Sync, R: Threads + Wait + Sync>(
-    rt: &R,
-    alloc: Global,
-    shared: &Shared<L>,
-) -> Result<bool, Fail> {
-    let text = text_of(alloc, one_point(alloc)?)?;
-    for most in 0..302usize {
-        if !fails_as_told(rt, alloc, shared, text.as_slice(), 1, most)?
-            || !fails_as_told(rt, alloc, shared, text.as_slice(), usize::MAX, most)?
-        {
-            return Ok(false);
-        }
-    }
-    Ok(true)
-}
-
 // Returns whether a case goes as it must, over a heap with its points.
 fn goes<L: Heap + Send + Sync, R: Threads + Wait + Sync>(
     rt: &R,
@@ -247,9 +136,7 @@ fn goes<L: Heap + Send + Sync, R: Threads + Wait + Sync>(
     match case {
         Case::PumpedBeside => is_pumped_of_its_pin(rt, alloc, shared, mutator),
         Case::StreamedBeside => is_streamed_of_its_pin(rt, alloc, shared, mutator),
-        Case::Whole => is_whole(rt, alloc, shared),
         Case::Cancelled => is_beginning(rt, alloc, shared),
-        Case::Failing => each_fails_as_told(rt, alloc, shared),
     }
 }
 
@@ -302,22 +189,8 @@ fn gate_outlet_first_put_of_a_stream(rt: HostRuntime) -> Result<(), Fail> {
 }
 
 #[test]
-fn segments_of_many_points_live(rt: HostRuntime) -> Result<(), Fail> {
-    let went = done(&rt, rt.alloc(), 2000, Case::Whole)?;
-    assert!(rt; went);
-    Ok(())
-}
-
-#[test]
 fn stream_cancelled_by_a_third_thread(rt: HostRuntime) -> Result<(), Fail> {
     let went = done(&rt, rt.alloc(), 2000, Case::Cancelled)?;
-    assert!(rt; went);
-    Ok(())
-}
-
-#[test]
-fn outlets_that_fail_live(rt: HostRuntime) -> Result<(), Fail> {
-    let went = done(&rt, rt.alloc(), 1, Case::Failing)?;
     assert!(rt; went);
     Ok(())
 }

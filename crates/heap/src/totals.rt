@@ -74,7 +74,8 @@ fn count_finished(claims: &[Claim]) -> usize
 /// other verdict. Takes no memory. May wait.
 pub fn audit_all<L: Heap, R: Wait>(actors: &[Actor<'_, L, R>]) -> Result<Totals, Verdict>
     ensures totals { IfOk result (IsTotal actors.now) }
-    ensures stand { IfOk result (λ _. All (λ a. IsAudited L.config L.rolls a.claims Holds) actors.now) }
+    ensures stand { IfOk result
+        (λ _. All (λ a. IsAudited L.config L.rolls a.claims Holds) actors.now) }
     ensures refused { IfErr result
         (λ v. (v ≢ Holds) × (a : _) × Contains actors.now a × IsAudited L.config L.rolls a.claims v) }
 {

@@ -376,10 +376,10 @@ def read_list(done):
     return found
 
 
-def changed_lists(server, mutator, is_over):
+def change_lists(server, mutator, is_over, read):
     """Changes a list that register 0 of a mutator names until the cycles are over: adds a node behind the first one, takes the
-    second one out, or reads the list and forgets it. Returns the numbers of its nodes each time, and those that were read."""
-    nodes, wanted, found, number = [], [], [], 0
+    second one out, or reads the list and forgets it. Adds to `read` whether it had just its nodes, each time."""
+    nodes, number = [], 0
     with server.client() as client, client.makefile("rb") as come:
         def done(*lines):
             return replies_to(client, come, [line.replace(b"M", b"%d" % mutator) for line in lines])
@@ -387,8 +387,7 @@ def changed_lists(server, mutator, is_over):
         while not is_over():
             number += 1
             if len(nodes) == 60:
-                wanted.append(nodes)
-                found.append(read_list(done))
+                read.append(read_list(done) == nodes)
                 done(b"clear M 0", b"clear M 3")
                 nodes = []
             elif number % 3 == 0 and len(nodes) > 1:
@@ -399,22 +398,26 @@ def changed_lists(server, mutator, is_over):
                 done(*((b"store M 0 0 1",) if nodes else (b"move M 0 M 1",)), b"clear M 1", b"clear M 2")
                 nodes.insert(1, number)
         done(b"end")
-    return wanted, found
 
 
 def lists_beside_cycles(program):
-    """Yields whether two clients read the lists that they changed beside 30 of the workers' cycles, for which a third one asks."""
+    """Yields whether two clients read the lists that they changed, two or more each, beside 30 or more of the workers'
+    cycles, for which a third one asks."""
     with Server(program, 3, "--workers", "1", "--mutators", "2", "--regions", "4") as server, server.client() as client:
-        over = threading.Event()
+        over, read = threading.Event(), ([], [])
         with client.makefile("rb") as come, concurrent.futures.ThreadPoolExecutor(2) as pool:
             replies_to(client, come, [b"class Node - next:object number:long"])
-            lists = [pool.submit(changed_lists, server, mutator, over.is_set) for mutator in (0, 1)]
-            for _ in range(30):
+            changing = [pool.submit(change_lists, server, mutator, over.is_set, read[mutator]) for mutator in (0, 1)]
+            for cycle in range(3000):
+                if cycle >= 30 and min(map(len, read)) > 1:
+                    break
                 found = replies_to(client, come, [b"snap"])
                 found.append(repeated(client, come, b"finish\n", b"no 15 NotMarking\n"))
                 found.append(repeated(client, come, b"sweep 0\n", b"no 20 NothingToSweep 0\n"))
             over.set()
-            found += [len(wanted) > 1 and wanted == read for wanted, read in (each.result(LIMIT) for each in lists)]
+            for each in changing:
+                each.result(LIMIT)
+            found += [len(lists) > 1 and all(lists) for lists in read]
             replies_to(client, come, [b"end"])
         found[0] = found[0][:10]
         wanted = [b"ok pushed ", b"no 15 NotMarking\n", b"no 20 NothingToSweep 0\n", True, True], (0, ["quit"] * 3, b"")

@@ -5,36 +5,58 @@ use std::mem::size_of;
 /// The sort of a deed that is told by at most four numbers and a kind.
 #[derive(Clone, Copy, PartialEq, Eq)]
 pub enum Deed {
+    /// A mutator, a register and a class.
     New,
+    /// A mutator, a register, an array class and a length.
     NewArray,
+    /// A mutator, a register, a kind and a length.
     NewPrim,
+    /// A mutator, two registers and a slot.
     Load,
+    /// A mutator, a register, a slot and the register whose word is stored.
     Store,
+    /// A mutator, a register, a slot and a value.
     Put,
+    /// A mutator, a register, and the mutator and register that it is copied from.
     Move,
+    /// A mutator and a register.
     Clear,
+    /// The begin of a cycle.
     Snap,
+    /// A mark of the object on top of the gray stack.
     Mark,
+    /// A look at an entry of the log.
     Drain,
+    /// The end of marking.
     Finish,
+    /// A region.
     Sweep,
+    /// A number of steps.
     Rewind,
 }
 
 /// The sort of an answer.
 #[derive(Clone, Copy)]
 pub enum Told {
+    /// The number of a class.
     Class,
+    /// The id of an object.
     Object,
+    /// A load of null.
     Null,
+    /// A value that was loaded.
     Value,
+    /// No number.
     Done,
+    /// How many objects were pushed.
     Pushed,
+    /// How many objects were condemned.
     Condemned,
     /// A sweep that left objects in its region.
     Swept,
     /// A sweep that left its region empty.
     Emptied,
+    /// The place after a rewind.
     Place,
     /// A refusal with at most one number.
     Refused,

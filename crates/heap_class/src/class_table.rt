@@ -13,7 +13,7 @@ ghost use Rattle.heap_class.specs.Classes.{IsClassTable, all_distinct, class_ref
 use crate::names::{are_distinct, are_valid_names, name_in, place_names, slots_over, total_width};
 use crate::{CLASS_LIMIT, ClassNo, Field, Fields, IdSize, Kind, Name, Refusal, SLOT_LIMIT};
 use indexmap::IndexSet;
-use std::alloc::{AllocError, AllocFailed, Global};
+use std::alloc::Global;
 use std::marker::Model;
 
 // An own field of a class. Its name is kept as a place among the names.

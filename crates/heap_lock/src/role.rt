@@ -1,10 +1,14 @@
 //! Who acts.
 
-/// Who acts: a mutator, with its number, on its own registers; the marker; the sweeper; or a user, who may do all.
+/// Who acts.
 #[derive(Clone, Copy, PartialEq, Eq, Debug)]
 pub enum Role {
+    /// The mutator of this number, for its own events from New to Clear.
     Mutator(u64),
+    /// The marker, for Snap, Mark, Drain and Finish.
     Marker,
+    /// The sweeper, for Sweep.
     Sweeper,
+    /// One who may do every event, and rewind.
     User,
 }

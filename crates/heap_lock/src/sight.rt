@@ -2,11 +2,14 @@
 use heap_trail::{Action, Reply};
 use std::collections::LinkedList;
 
-/// The lists that a ledger's views have: all calls, some first ones, both while they are compared, or none. No value of this
-/// type is made.
+/// The lists of calls that a ledger's views have. No value of this type is made.
 pub enum Sight {
+    /// All calls.
     Full(LinkedList<(Action, Reply)>),
+    /// The first calls, which a witness saw.
     Seen(LinkedList<(Action, Reply)>),
+    /// All calls and the first ones, while they are compared.
     Both(LinkedList<(Action, Reply)>, LinkedList<(Action, Reply)>),
+    /// None.
     Blind,
 }

@@ -1,7 +1,6 @@
 //! The end of a cycle, as it changes the bits of every object, and its undoing.
-ghost use Rattle.std.specs.Prelude.{◌≡◌, ◌≤◌, length, IsSome, slice_get};
+ghost use Rattle.std.specs.Prelude.{◌≡◌, ◌≤◌, IsSome, slice_get};
 ghost use Rattle.heap_region.specs.Regions.{object_at, used_at, with_object, with_region};
-ghost use Rattle.heap_region.specs.Live.{cells_of};
 ghost use Rattle.heap_mark.specs.MarkSteps.{pending_regions, dead_count, each_region, finished_region, unfinished_region};
 ghost use Rattle.heap_mark.specs.Marker.{cells_each};
 ghost use Rattle.heap_mark.specs.Finish.{finished_object, unfinished_object, is_unmarked, unmarked_in};

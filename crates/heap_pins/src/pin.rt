@@ -15,7 +15,7 @@ ghost use Rattle.hprof_text.specs.Image.{object_limit};
 
 use crate::cells::cell_states;
 use heap_class::{ObjKind, ObjRef, Refusal};
-use heap_region::{FrozenRegion, OBJECT_BASE, ObjectCopy, REGION_WORDS, Regions, Storage};
+use heap_region::{FrozenRegion, OBJECT_BASE, ObjectCopy, REGION_WORDS, Storage};
 use heap_step::Undo;
 use heap_sweep::DeadCells;
 use heap_world::World;

@@ -1,6 +1,6 @@
 //! How many objects there are of each class.
 ghost use Rattle.std.specs.Prelude.{◌≡◌, ◌+◌, ◌<◌, ◌≤◌, ◌^◌, length, slice_index_or, false, IfOk, IfErr};
-ghost use Rattle.heap_class.specs.Limits.{array_limit, class_limit};
+ghost use Rattle.heap_class.specs.Limits.{array_limit};
 ghost use Rattle.heap_class.specs.declared.Refusal.TheVariants.{NoMemory};
 ghost use Rattle.hprof_text.specs.Image.{IsKnown};
 ghost use Rattle.heap_questions.specs.Histogram.{class_rows, counted_unless, histogram_of, row_at, row_number, rows_of, without_marked, value_size};

@@ -1,5 +1,5 @@
 //! A search for all that the registers reach, breadth first.
-ghost use Rattle.std.specs.Prelude.{◌≡◌, ◌+◌, ◌<◌, ◌≤◌, ℕ, length, Some, IfOk, IfErr, OnOk, slice_get};
+ghost use Rattle.std.specs.Prelude.{◌≡◌, ◌+◌, ◌<◌, ◌≤◌, length, Some, IfOk, IfErr, OnOk, slice_get};
 ghost use Rattle.heap_class.specs.declared.Refusal.TheVariants.{NoMemory};
 ghost use Rattle.heap_questions.specs.Search.{AreNodes, AreSeen, HasAllRoots, HasSearchOrder, IsNear, IsOfferedTo, IsOrdered, IsSearched, IsSearching, IsWithin, KeepsRoots};
 ghost use Rattle.heap_questions.specs.declared.search.Via.TheVariants.{Register, Slot};

@@ -1,7 +1,6 @@
 //! A copy of a region, to be read after the region was overwritten.
 ghost use Rattle.std.specs.Prelude.{◌≡◌, ◌*◌, ◌+◌, ◌<◌, ◌≤◌, length, IfOk, IsSome, IfSome, Some};
 ghost use Rattle.heap_region.specs.Regions.{FitsWords};
-ghost use Rattle.heap_region.specs.Layout.{IsCellSize};
 ghost use Rattle.heap_region.specs.RegionCopies.{frozen, frozen_object, frozen_with, frozen_word_set, frozen_words};
 ghost use Rattle.heap_region.specs.Limits.{region_words};
 

@@ -1,7 +1,7 @@
 //! Regions of equal size, the objects in their cells, free lists and the pool.
 #![tactic(auto)]
 
-ghost use Rattle.std.specs.Prelude.{◌≡◌, ◌≢◌, ◌+◌, ◌<◌, ◌≤◌, ℕ, [], length, Some, None, true, false, IsTrue, IsSome, IfSome, IfOk, IfErr, OnErr, is_some, option_map, Bool, Contains, slice_get, slice_index, slice_index_or, reverse, MatchOption, IsSomeAnd};
+ghost use Rattle.std.specs.Prelude.{◌≡◌, ◌≢◌, ◌+◌, ◌<◌, ◌≤◌, ℕ, length, Some, None, true, false, IsSome, IfSome, IfOk, IfErr, OnErr, is_some, option_map, Bool, slice_get, slice_index, reverse, MatchOption, IsSomeAnd};
 ghost use Rattle.std.specs.List.{enumerate_from, filter_map};
 ghost use Rattle.std.specs.Option.{option_map_or};
 ghost use Rattle.heap_class.specs.Refusals.{IsAnswered};
@@ -9,7 +9,7 @@ ghost use Rattle.heap_class.specs.declared.ObjRef.{ObjRef};
 ghost use Rattle.heap_class.specs.declared.Refusal.TheVariants.{NoMemory};
 ghost use Rattle.heap_region.specs.Limits.{region_limit, region_words, cell_limit};
 ghost use Rattle.heap_region.specs.RegionCopies.{region_frozen};
-ghost use Rattle.heap_region.specs.Regions.{FitsWords, Object, UsedRegion, Region, object_at, object_of, used_at, id_of, ref_of, with_mark, with_word, live_places};
+ghost use Rattle.heap_region.specs.Regions.{FitsWords, Object, UsedRegion, object_at, object_of, used_at, id_of, ref_of, with_mark, with_word, live_places};
 ghost use Rattle.heap_region.specs.Pool.{RegionPool, opening_pool, alloc_refusal, is_fresh, free_place, new_place, taken, freed, released, restored, allocated, unallocated, blank_object};
 ghost use Rattle.heap_region.specs.Legal.{IsCellTable, IsRegionPool};
 ghost use Rattle.heap_region.specs.Layout.{IsCellSize};

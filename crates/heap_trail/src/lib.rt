@@ -1,7 +1,7 @@
 //! The machine: the current state, the retained past, and the pins on it.
 #![tactic(auto)]
 
-ghost use Rattle.std.specs.Prelude.{◌≡◌, ◌⊎◌, ◌<◌, ◌≤◌, ◌+◌, ◌-◌, ◌^◌, ℕ, List, length, map, None, Some, IfOk, IfErr, OnOk, OnErr};
+ghost use Rattle.std.specs.Prelude.{◌≡◌, ◌<◌, ◌≤◌, ◌+◌, ◌-◌, ◌^◌, ℕ, List, length, map, None, Some, IfOk, IfErr, OnOk, OnErr};
 ghost use Rattle.heap_class.specs.declared.IdSize.{IdSize};
 ghost use Rattle.heap_class.specs.declared.Refusal.TheVariants.{NoMemory};
 ghost use Rattle.heap_step.specs.declared.Event.{Event};
@@ -38,7 +38,7 @@ use heap_step::step::undo;
 use heap_step::{Answer, Event, Undo, apply, undo_takes_back};
 use heap_world::{Config, World};
 use held::NumberedPin;
-use hprof_text::{Cursor, Piece, piece_from};
+use hprof_text::Piece;
 pub use listing::{ListedPin, PinStatus};
 use std::alloc::Global;
 use std::marker::Model;

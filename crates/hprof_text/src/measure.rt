@@ -1,5 +1,5 @@
 //! The length of a dump, added up from the sizes of its sub-records.
-ghost use Rattle.std.specs.Prelude.{◌≡◌, ◌+◌, ◌*◌, ◌<◌, ◌≤◌, ◌^◌, ℕ, List, [], ◌∷◌, ◌++◌, length, map, replicate};
+ghost use Rattle.std.specs.Prelude.{◌≡◌, ◌+◌, ◌*◌, ◌<◌, ◌≤◌, ◌^◌, [], ◌∷◌, length, map, replicate};
 ghost use Rattle.heap_class.specs.Limits.{class_limit};
 ghost use Rattle.hprof_text.specs.Image.{object_limit};
 ghost use Rattle.hprof_text.specs.SizeSums.{IsMeasured, total};

@@ -1,9 +1,9 @@
 //! The parts of a dump: each writes the records of one list, in order.
-ghost use Rattle.std.specs.Prelude.{◌≡◌, ◌≢◌, ◌<◌, ◌≤◌, ◌++◌, length, flat_map, zip};
+ghost use Rattle.std.specs.Prelude.{◌≡◌, ◌<◌, ◌≤◌, ◌++◌, length, flat_map, zip};
 ghost use Rattle.std.specs.List.{enumerate_from};
 ghost use Rattle.byteorder.specs.Endian.{big_bytes};
 ghost use Rattle.heap_class.specs.Classes.{fields_of, name_table};
-ghost use Rattle.heap_class.specs.Limits.{class_limit, array_limit};
+ghost use Rattle.heap_class.specs.Limits.{array_limit};
 ghost use Rattle.hprof_text.specs.SegmentContents.{HasRoom};
 ghost use Rattle.hprof_text.specs.Image.{IsKnown};
 ghost use Rattle.hprof_text.specs.Records.{opening_of};

@@ -2,7 +2,7 @@
 ghost use Rattle.std.specs.Prelude.{◌≡◌, ◌<◌, ◌≤◌, ◌++◌, [], length};
 ghost use Rattle.std.specs.Option.{option_map_or};
 ghost use Rattle.heap_class.specs.Classes.{sup_of};
-ghost use Rattle.heap_class.specs.Limits.{class_limit, name_limit, slot_limit, array_limit};
+ghost use Rattle.heap_class.specs.Limits.{class_limit, name_limit, array_limit};
 ghost use Rattle.hprof_text.specs.SegmentContents.{HasRoom};
 ghost use Rattle.hprof_text.specs.Image.{IsKnown};
 ghost use Rattle.hprof_text.specs.Records.{class_at, record_head, field_bytes, class_ids, class_counts, instance_head, sticky_root};

@@ -1,7 +1,7 @@
 //! Commands: the requests of lines.
 ghost use Rattle.std.specs.Prelude.{◌≡◌, ◌≤◌, ◌++◌, length, option_map, MatchResult};
 ghost use Rattle.std.specs.Str.{bytes_eq};
-ghost use Rattle.session_grammar.specs.Grammar.{words_of_line, next_number, next_number_or_dash, next_kind, at_end, one_number, one_number_or_dash, three_numbers, two_numbers, four_numbers, new_line, newarray_line, newprim_line, load_line, store_line, put_line, move_line, clear_line, step_line, sweep_line, rewind_line, open_line, piece_line, dump_line, close_line, end_line, making_rules, access_rules, marking_rules, session_rules, by_rule, without_cr, command_of_text, command_of};
+ghost use Rattle.session_grammar.specs.Grammar.{words_of_line, next_number, next_number_or_dash, next_kind, at_end, one_number, one_number_or_dash, three_numbers, two_numbers, four_numbers, new_line, newarray_line, newprim_line, load_line, store_line, put_line, move_line, clear_line, step_line, sweep_line, rewind_line, open_line, piece_line, dump_line, close_line, end_line, making_rules, access_rules, marking_rules, session_rules, by_rule, without_cr, command_of_text};
 ghost use Rattle.session_grammar.specs.Reads.{TakesMemory, MayTakeMemory, IsNextWord, next_name, plain_class, plain_array, plain_rules};
 ghost use Rattle.session_grammar.specs.declared.TheConstants.{LINE_LIMIT};
 

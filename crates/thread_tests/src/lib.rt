@@ -23,6 +23,8 @@ mod parts;
 #[cfg(test)]
 mod pumps;
 #[cfg(test)]
+mod rolls;
+#[cfg(test)]
 mod shared;
 #[cfg(test)]
 mod sinks;

@@ -11,19 +11,19 @@ use Rattle.heap_class.specs.declared.Refusal.TheVariants.{NoMemory as NoRoom}
 use Rattle.heap_trail.specs.declared.Reply.TheVariants.{Refused}
 use Rattle.session_text.specs.declared.Ended.{Ended}
 use Rattle.session_text.specs.declared.Ended.TheVariants.{Quit, Eof, CutLine, TooLong, ReadFault, TooManyReads, WriteFault, NoMemory}
-use Rattle.session_text.specs.declared.answer.Step.{Step}
-use Rattle.session_text.specs.declared.answer.Step.TheVariants.{Next}
+use Rattle.session_text.specs.declared.answer.Flow.{Flow}
+use Rattle.session_text.specs.declared.answer.Flow.TheVariants.{Next}
 use Rattle.session_grammar.specs.declared.command.Command.{Command}
 use Rattle.session_grammar.specs.declared.command.Command.TheVariants.{Blank, Bad, Ask, Piece, Dump, DumpNow, End}
 use Rattle.session_text.specs.Answers.{Reaction, AnswerRelation, AnswersTo, BeginsTo}
 use Rattle.session_text.specs.Dumps.{Acts, DumpsPin, DumpsNow, WritesDump}
-use Rattle.session_text.specs.Endings.{EndsSession, ended_of, step_of}
+use Rattle.session_text.specs.Endings.{EndsSession, ended_of, flow_of}
 use Rattle.session_grammar.specs.Grammar.{command_of}
 use Rattle.session_text.specs.Inlets.{Incoming, whole}
 use Rattle.session_grammar.specs.Lines.{NoLf, IsLineAt}
 use Rattle.session_grammar.specs.Reads.{TakesMemory}
 use Rattle.session_text.specs.Replies.{reply_text}
-use Rattle.session_text.specs.Talks.{IsFirst, IsLine, IsLong, AnswersAll, stream, IsTalk, BeginsWith, IsQuit, IsBrokenOff, IsSessionStep, EndsCleanly, FailsWhileWriting, IsTruncatedRun, IsLastRead, IsSessionServed, Serves}
+use Rattle.session_text.specs.Talks.{IsFirst, IsLine, IsLong, AnswersAll, stream, IsTalk, BeginsWith, IsQuit, IsBrokenOff, IsLineFlow, EndsCleanly, FailsWhileWriting, IsTruncatedRun, IsLastRead, IsSessionServed, Serves}
 use Rattle.session_text.specs.Writes.{IsCutShort, IsTextWritten, IsTextAdded}
 use Rattle.session_text.proofs.PageTexts.{added_here}
 
@@ -48,23 +48,23 @@ written_more xs ys a b c false h k = (
 -- ---- one line
 
 -- the answer's text was added, or a write failed
-pub step_added : {S : Type 0} (says begins : Reaction S) (k : Command) (c : S) (page : List ℕ) (w : Outgoing) (c' : S) (page' : List ℕ) (w' : Outgoing) (text : List ℕ) (r : Bool)
-    → says c text c' → begins c text c' → IsTextAdded text page w page' w' r → IsSessionStep says begins k c page w c' page' w' (step_of r)
-step_added says begins k c page w c' page' w' text true s b h = (text, s, h)
-step_added says begins k c page w c' page' w' text false s b h = (text, b, h)
+pub flow_added : {S : Type 0} (says begins : Reaction S) (k : Command) (c : S) (page : List ℕ) (w : Outgoing) (c' : S) (page' : List ℕ) (w' : Outgoing) (text : List ℕ) (r : Bool)
+    → says c text c' → begins c text c' → IsTextAdded text page w page' w' r → IsLineFlow says begins k c page w c' page' w' (flow_of r)
+flow_added says begins k c page w c' page' w' text true s b h = (text, s, h)
+flow_added says begins k c page w c' page' w' text false s b h = (text, b, h)
 
-pub step_blank : {S : Type 0} (acts : Acts S) (unknown : Reaction S) (time : ℕ) (k : Command) (c : S) (page : List ℕ) (w : Outgoing) → Blank ≡ k → IsSessionStep (AnswersTo acts unknown time k) (BeginsTo acts unknown time k) k c page w c page w Next
-step_blank acts unknown time k c page w e = subst (λ x. IsSessionStep (AnswersTo acts unknown time x) (BeginsTo acts unknown time x) x c page w c page w Next) e ([], (refl, refl), added_here [] page w page (sym (append-nil page)))
+pub flow_blank : {S : Type 0} (acts : Acts S) (unknown : Reaction S) (time : ℕ) (k : Command) (c : S) (page : List ℕ) (w : Outgoing) → Blank ≡ k → IsLineFlow (AnswersTo acts unknown time k) (BeginsTo acts unknown time k) k c page w c page w Next
+flow_blank acts unknown time k c page w e = subst (λ x. IsLineFlow (AnswersTo acts unknown time x) (BeginsTo acts unknown time x) x c page w c page w Next) e ([], (refl, refl), added_here [] page w page (sym (append-nil page)))
 
-pub step_dumped : {S : Type 0} (acts : Acts S) (unknown : Reaction S) (time pin : ℕ) (k : Command) (c : S) (page : List ℕ) (w : Outgoing) (c' : S) (page' : List ℕ) (w' : Outgoing) (r : Bool)
-    → Dump pin ≡ k → WritesDump (DumpsPin acts pin time) c c' page w page' w' r → IsSessionStep (AnswersTo acts unknown time k) (BeginsTo acts unknown time k) k c page w c' page' w' (step_of r)
-step_dumped acts unknown time pin k c page w c' page' w' true e h = subst (λ x. IsSessionStep (AnswersTo acts unknown time x) (BeginsTo acts unknown time x) x c page w c' page' w' (step_of true)) e (h.0, h.1, h.2)
-step_dumped acts unknown time pin k c page w c' page' w' false e h = subst (λ x. IsSessionStep (AnswersTo acts unknown time x) (BeginsTo acts unknown time x) x c page w c' page' w' (step_of false)) e (h.1, (h.0, h.2, h.3), h.4)
+pub flow_dumped : {S : Type 0} (acts : Acts S) (unknown : Reaction S) (time pin : ℕ) (k : Command) (c : S) (page : List ℕ) (w : Outgoing) (c' : S) (page' : List ℕ) (w' : Outgoing) (r : Bool)
+    → Dump pin ≡ k → WritesDump (DumpsPin acts pin time) c c' page w page' w' r → IsLineFlow (AnswersTo acts unknown time k) (BeginsTo acts unknown time k) k c page w c' page' w' (flow_of r)
+flow_dumped acts unknown time pin k c page w c' page' w' true e h = subst (λ x. IsLineFlow (AnswersTo acts unknown time x) (BeginsTo acts unknown time x) x c page w c' page' w' (flow_of true)) e (h.0, h.1, h.2)
+flow_dumped acts unknown time pin k c page w c' page' w' false e h = subst (λ x. IsLineFlow (AnswersTo acts unknown time x) (BeginsTo acts unknown time x) x c page w c' page' w' (flow_of false)) e (h.1, (h.0, h.2, h.3), h.4)
 
-pub step_dumped_now : {S : Type 0} (acts : Acts S) (unknown : Reaction S) (time : ℕ) (k : Command) (c : S) (page : List ℕ) (w : Outgoing) (c' : S) (page' : List ℕ) (w' : Outgoing) (r : Bool)
-    → DumpNow ≡ k → WritesDump (DumpsNow acts time) c c' page w page' w' r → IsSessionStep (AnswersTo acts unknown time k) (BeginsTo acts unknown time k) k c page w c' page' w' (step_of r)
-step_dumped_now acts unknown time k c page w c' page' w' true e h = subst (λ x. IsSessionStep (AnswersTo acts unknown time x) (BeginsTo acts unknown time x) x c page w c' page' w' (step_of true)) e (h.0, h.1, h.2)
-step_dumped_now acts unknown time k c page w c' page' w' false e h = subst (λ x. IsSessionStep (AnswersTo acts unknown time x) (BeginsTo acts unknown time x) x c page w c' page' w' (step_of false)) e (h.1, (h.0, h.2, h.3), h.4)
+pub flow_dumped_now : {S : Type 0} (acts : Acts S) (unknown : Reaction S) (time : ℕ) (k : Command) (c : S) (page : List ℕ) (w : Outgoing) (c' : S) (page' : List ℕ) (w' : Outgoing) (r : Bool)
+    → DumpNow ≡ k → WritesDump (DumpsNow acts time) c c' page w page' w' r → IsLineFlow (AnswersTo acts unknown time k) (BeginsTo acts unknown time k) k c page w c' page' w' (flow_of r)
+flow_dumped_now acts unknown time k c page w c' page' w' true e h = subst (λ x. IsLineFlow (AnswersTo acts unknown time x) (BeginsTo acts unknown time x) x c page w c' page' w' (flow_of true)) e (h.0, h.1, h.2)
+flow_dumped_now acts unknown time k c page w c' page' w' false e h = subst (λ x. IsLineFlow (AnswersTo acts unknown time x) (BeginsTo acts unknown time x) x c page w c' page' w' (flow_of false)) e (h.1, (h.0, h.2, h.3), h.4)
 
 -- a line found no memory for its reading
 unread : {S : Type 0} (acts : Acts S) (unknown : Reaction S) (time : ℕ) (k : Command) (c : S) → TakesMemory k → AnswersTo acts unknown time k c (reply_text (Refused NoRoom)) c × BeginsTo acts unknown time k c (reply_text (Refused NoRoom)) c
@@ -76,11 +76,11 @@ unread acts unknown time (Dump pin) c h = absurd h
 unread acts unknown time DumpNow c h = absurd h
 unread acts unknown time End c h = absurd h
 
-pub step_unread : {S : Type 0} (acts : Acts S) (unknown : Reaction S) (time : ℕ) (k : Command) (c : S) (page : List ℕ) (w : Outgoing) (page' : List ℕ) (w' : Outgoing) (r : Bool)
-    → TakesMemory k → IsTextAdded (reply_text (Refused NoRoom)) page w page' w' r → IsSessionStep (AnswersTo acts unknown time k) (BeginsTo acts unknown time k) k c page w c page' w' (step_of r)
-step_unread acts unknown time k c page w page' w' r h added =
+pub flow_unread : {S : Type 0} (acts : Acts S) (unknown : Reaction S) (time : ℕ) (k : Command) (c : S) (page : List ℕ) (w : Outgoing) (page' : List ℕ) (w' : Outgoing) (r : Bool)
+    → TakesMemory k → IsTextAdded (reply_text (Refused NoRoom)) page w page' w' r → IsLineFlow (AnswersTo acts unknown time k) (BeginsTo acts unknown time k) k c page w c page' w' (flow_of r)
+flow_unread acts unknown time k c page w page' w' r h added =
     let u = unread acts unknown time k c h in
-    step_added (AnswersTo acts unknown time k) (BeginsTo acts unknown time k) k c page w c page' w' (reply_text (Refused NoRoom)) r u.0 u.1 added
+    flow_added (AnswersTo acts unknown time k) (BeginsTo acts unknown time k) k c page w c page' w' (reply_text (Refused NoRoom)) r u.0 u.1 added
 
 -- ---- lines
 
@@ -144,7 +144,7 @@ long_rest bytes more none = (more, All-take (λ b. (b == 10) ≡ false) 4097 byt
 -- ---- the first line of a buffer
 
 -- what comes of it, after it was left once
-pub first_left : {S : Type 0} (says begins : AnswerRelation S) (bytes : List ℕ) (c : S) (page : List ℕ) (w : Outgoing) (c1 : S) (page1 : List ℕ) (w1 : Outgoing) (rest : List ℕ) (c' : S) (page' : List ℕ) (w' : Outgoing) (o : Option Step)
+pub first_left : {S : Type 0} (says begins : AnswerRelation S) (bytes : List ℕ) (c : S) (page : List ℕ) (w : Outgoing) (c1 : S) (page1 : List ℕ) (w1 : Outgoing) (rest : List ℕ) (c' : S) (page' : List ℕ) (w' : Outgoing) (o : Option Flow)
     → (c1 ≡ c) × (page1 ≡ page) × (w1 ≡ w) → IsFirst says begins bytes c1 page1 w1 rest c' page' w' o → IsFirst says begins bytes c page w rest c' page' w' o
 first_left says begins bytes c page w c1 page1 w1 rest c' page' w' o same h =
     let a = subst (λ x. IsFirst says begins bytes x page1 w1 rest c' page' w' o) same.0 h in

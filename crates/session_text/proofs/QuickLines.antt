@@ -13,14 +13,14 @@ use Rattle.session_text.specs.Mutators.{Follows, FollowsIn, IsEventAsked, IsPass
 use Rattle.session_text.specs.declared.mutator.Quick.{Quick}
 use Rattle.session_text.specs.declared.mutator.Quick.TheVariants.{No, Next, Fault}
 use Rattle.dump_pump.specs.Outlets.{Outgoing}
-use Rattle.session_text.specs.declared.answer.Step.{Step as Outcome}
-use Rattle.session_text.specs.declared.answer.Step.TheVariants.{Next as Goes, Fault as Fails}
+use Rattle.session_text.specs.declared.answer.Flow.{Flow as Outcome}
+use Rattle.session_text.specs.declared.answer.Flow.TheVariants.{Next as Goes, Fault as Fails}
 use Rattle.session_text.specs.Answers.{Reaction, AnswerRelation, AnswersCommand, Begins, AnswersTo, BeginsTo}
 use Rattle.session_text.specs.Dumps.{Acts}
-use Rattle.session_text.specs.Endings.{step_of}
+use Rattle.session_text.specs.Endings.{flow_of}
 use Rattle.session_text.specs.Replies.{reply_text}
-use Rattle.session_text.specs.Talks.{IsSessionStep}
-use Rattle.session_text.proofs.AnsweredLines.{step_added}
+use Rattle.session_text.specs.Talks.{IsLineFlow}
+use Rattle.session_text.proofs.AnsweredLines.{flow_added}
 use Rattle.session_grammar.proofs.Plain.{text_read}
 use Rattle.session_grammar.proofs.Firsts.{cut}
 use Rattle.session_text.proofs.Lists.{split_at}
@@ -372,24 +372,24 @@ asks_new t a b c key has = asks t (codes "new") (words_of_line (drop 4 t)) (Ask 
 
 -- ---- the answer of a line
 
-step_asked : {S : Type 0} (acts : Acts S) (unknown : Reaction S) (time : ℕ) (k : Command) (c : S) (page : List ℕ) (w : Outgoing) (c' : S) (page' : List ℕ) (w' : Outgoing) (r : Bool)
-    → IsEventAsked acts k c page w c' page' w' r → IsSessionStep (AnswersTo acts unknown time k) (BeginsTo acts unknown time k) k c page w c' page' w' (step_of r)
-step_asked acts unknown time k c page w c' page' w' r h =
+flow_asked : {S : Type 0} (acts : Acts S) (unknown : Reaction S) (time : ℕ) (k : Command) (c : S) (page : List ℕ) (w : Outgoing) (c' : S) (page' : List ℕ) (w' : Outgoing) (r : Bool)
+    → IsEventAsked acts k c page w c' page' w' r → IsLineFlow (AnswersTo acts unknown time k) (BeginsTo acts unknown time k) k c page w c' page' w' (flow_of r)
+flow_asked acts unknown time k c page w c' page' w' r h =
     let says : AnswersTo acts unknown time (Ask (Step h.0)) c (reply_text h.2.0) c' = (h.2.0, inl h.2.1, refl) in
-    subst (λ x. IsSessionStep (AnswersTo acts unknown time x) (BeginsTo acts unknown time x) x c page w c' page' w' (step_of r)) (sym h.1) (step_added (AnswersTo acts unknown time (Ask (Step h.0))) (BeginsTo acts unknown time (Ask (Step h.0))) (Ask (Step h.0)) c page w c' page' w' (reply_text h.2.0) r says says h.2.2)
+    subst (λ x. IsLineFlow (AnswersTo acts unknown time x) (BeginsTo acts unknown time x) x c page w c' page' w' (flow_of r)) (sym h.1) (flow_added (AnswersTo acts unknown time (Ask (Step h.0))) (BeginsTo acts unknown time (Ask (Step h.0))) (Ask (Step h.0)) c page w c' page' w' (reply_text h.2.0) r says says h.2.2)
 
 -- the first line of a text, which was answered at once
 pub step_quick : {S : Type 0} (acts : Acts S) (unknown : AnswerRelation S) (time : ℕ) (line : List ℕ) (c : S) (page : List ℕ) (w : Outgoing) (c' : S) (page' : List ℕ) (w' : Outgoing) (r : Bool)
-    → line ≡ without_cr line → IsEventAsked acts (command_of_text line) c page w c' page' w' r → IsSessionStep (AnswersCommand acts unknown time line) (Begins acts unknown time line) (command_of line) c page w c' page' w' (step_of r)
+    → line ≡ without_cr line → IsEventAsked acts (command_of_text line) c page w c' page' w' r → IsLineFlow (AnswersCommand acts unknown time line) (Begins acts unknown time line) (command_of line) c page w c' page' w' (flow_of r)
 unfolding command_of
 step_quick acts unknown time line c page w c' page' w' r is h =
-    subst (λ t. IsSessionStep (AnswersTo acts (unknown t) time (command_of_text t)) (BeginsTo acts (unknown t) time (command_of_text t)) (command_of_text t) c page w c' page' w' (step_of r)) is (step_asked acts (unknown line) time (command_of_text line) c page w c' page' w' r h)
+    subst (λ t. IsLineFlow (AnswersTo acts (unknown t) time (command_of_text t)) (BeginsTo acts (unknown t) time (command_of_text t)) (command_of_text t) c page w c' page' w' (flow_of r)) is (flow_asked acts (unknown line) time (command_of_text line) c page w c' page' w' r h)
 
 -- a line that is read without the CR at its end
-pub step_read : {S : Type 0} (acts : Acts S) (unknown : AnswerRelation S) (time : ℕ) (line text : List ℕ) (c : S) (page : List ℕ) (w : Outgoing) (c' : S) (page' : List ℕ) (w' : Outgoing) (step : Outcome)
-    → text ≡ without_cr line → IsSessionStep (AnswersTo acts (unknown text) time (command_of_text text)) (BeginsTo acts (unknown text) time (command_of_text text)) (command_of_text text) c page w c' page' w' step → IsSessionStep (AnswersCommand acts unknown time line) (Begins acts unknown time line) (command_of line) c page w c' page' w' step
+pub flow_read : {S : Type 0} (acts : Acts S) (unknown : AnswerRelation S) (time : ℕ) (line text : List ℕ) (c : S) (page : List ℕ) (w : Outgoing) (c' : S) (page' : List ℕ) (w' : Outgoing) (flow : Outcome)
+    → text ≡ without_cr line → IsLineFlow (AnswersTo acts (unknown text) time (command_of_text text)) (BeginsTo acts (unknown text) time (command_of_text text)) (command_of_text text) c page w c' page' w' flow → IsLineFlow (AnswersCommand acts unknown time line) (Begins acts unknown time line) (command_of line) c page w c' page' w' flow
 unfolding command_of
-step_read acts unknown time line text c page w c' page' w' step is h = subst (λ t. IsSessionStep (AnswersTo acts (unknown t) time (command_of_text t)) (BeginsTo acts (unknown t) time (command_of_text t)) (command_of_text t) c page w c' page' w' step) is h
+flow_read acts unknown time line text c page w c' page' w' flow is h = subst (λ t. IsLineFlow (AnswersTo acts (unknown t) time (command_of_text t)) (BeginsTo acts (unknown t) time (command_of_text t)) (command_of_text t) c page w c' page' w' flow) is h
 
 pub passed : (t : List ℕ) (q : Quick) (n : ℕ) → IsShortLine n t → IsPassed t q n
 passed t No n h = tt
@@ -398,13 +398,13 @@ passed t Fault n h = h
 
 -- the first line of a text, by what has come of it
 pub quick_next : {S : Type 0} (acts : Acts S) (unknown : AnswerRelation S) (time : ℕ) (text : List ℕ) (q : Quick) (n : ℕ) (c : S) (page : List ℕ) (w : Outgoing) (c' : S) (page' : List ℕ) (w' : Outgoing)
-    → q ≡ Next → IsQuickIn acts text c page w c' page' w' (q, n) → IsShortLine n text × IsSessionStep (AnswersCommand acts unknown time (take n text)) (Begins acts unknown time (take n text)) (command_of (take n text)) c page w c' page' w' Goes
+    → q ≡ Next → IsQuickIn acts text c page w c' page' w' (q, n) → IsShortLine n text × IsLineFlow (AnswersCommand acts unknown time (take n text)) (Begins acts unknown time (take n text)) (command_of (take n text)) c page w c' page' w' Goes
 quick_next acts unknown time text No n c page w c' page' w' e h = cc
 quick_next acts unknown time text Next n c page w c' page' w' e h = (h.0, step_quick acts unknown time (take n text) c page w c' page' w' true h.0.2 h.1)
 quick_next acts unknown time text Fault n c page w c' page' w' e h = cc
 
 pub quick_fault : {S : Type 0} (acts : Acts S) (unknown : AnswerRelation S) (time : ℕ) (text : List ℕ) (q : Quick) (n : ℕ) (c : S) (page : List ℕ) (w : Outgoing) (c' : S) (page' : List ℕ) (w' : Outgoing)
-    → q ≡ Fault → IsQuickIn acts text c page w c' page' w' (q, n) → IsShortLine n text × IsSessionStep (AnswersCommand acts unknown time (take n text)) (Begins acts unknown time (take n text)) (command_of (take n text)) c page w c' page' w' Fails
+    → q ≡ Fault → IsQuickIn acts text c page w c' page' w' (q, n) → IsShortLine n text × IsLineFlow (AnswersCommand acts unknown time (take n text)) (Begins acts unknown time (take n text)) (command_of (take n text)) c page w c' page' w' Fails
 quick_fault acts unknown time text No n c page w c' page' w' e h = cc
 quick_fault acts unknown time text Next n c page w c' page' w' e h = cc
 quick_fault acts unknown time text Fault n c page w c' page' w' e h = (h.0, step_quick acts unknown time (take n text) c page w c' page' w' false h.0.2 h.1)

@@ -4,15 +4,15 @@ use Rattle.dump_pump.specs.Outlets.{Outgoing}
 use Rattle.session_text.specs.declared.Ended.{Ended}
 use Rattle.session_text.specs.declared.Ended.TheVariants.{Quit, Eof, CutLine, TooLong, ReadFault, TooManyReads, WriteFault, NoMemory}
 use Rattle.session_text.specs.declared.TheConstants.{READ_LIMIT}
-use Rattle.session_text.specs.declared.answer.Step.{Step}
-use Rattle.session_text.specs.declared.answer.Step.TheVariants.{Next, Fault}
+use Rattle.session_text.specs.declared.answer.Flow.{Flow}
+use Rattle.session_text.specs.declared.answer.Flow.TheVariants.{Next, Fault}
 use Rattle.session_text.specs.Inlets.{Incoming, NothingLeft}
 use Rattle.session_text.specs.Writes.{IsTextWritten}
 
 -- the next line comes, unless a write failed
-abbrev pub step_of : Bool → Step
-step_of true = Next
-step_of false = Fault
+abbrev pub flow_of : Bool → Flow
+flow_of true = Next
+flow_of false = Fault
 
 -- the ending, unless a write failed
 abbrev pub ended_of : Ended → Bool → Ended

@@ -6,8 +6,8 @@ use Rattle.session_text.specs.declared.Ended.{Ended}
 use Rattle.session_text.specs.declared.Ended.TheVariants.{Quit, Eof, CutLine, TooLong, ReadFault, TooManyReads, WriteFault, NoMemory}
 use Rattle.session_grammar.specs.declared.TheConstants.{LINE_LIMIT}
 use Rattle.session_text.specs.declared.TheConstants.{READ_LIMIT}
-use Rattle.session_text.specs.declared.answer.Step.{Step}
-use Rattle.session_text.specs.declared.answer.Step.TheVariants.{Next, Quit as Stop, Long, Fault}
+use Rattle.session_text.specs.declared.answer.Flow.{Flow}
+use Rattle.session_text.specs.declared.answer.Flow.TheVariants.{Next, Quit as Stop, Long, Fault}
 use Rattle.session_grammar.specs.declared.command.Command.{Command}
 use Rattle.session_grammar.specs.declared.command.Command.TheVariants.{End}
 use Rattle.session_text.specs.Answers.{Reaction, AnswerRelation}
@@ -65,21 +65,21 @@ IsBrokenOff begins text rest c w c' w' =
 -- ---- one line, and all whole lines of a buffer
 
 -- a line's command was answered, and the answer added to a page
-abbrev pub IsSessionStep : {S : Type 0} → Reaction S → Reaction S → Command → S → List ℕ → Outgoing
+abbrev pub IsLineFlow : {S : Type 0} → Reaction S → Reaction S → Command → S → List ℕ → Outgoing
     → S
-    → List ℕ → Outgoing → Step → Type 0
-IsSessionStep says begins k c page w c' page' w' Next =
+    → List ℕ → Outgoing → Flow → Type 0
+IsLineFlow says begins k c page w c' page' w' Next =
     (text : List ℕ) × says c text c' × IsTextAdded text page w page' w' true
-IsSessionStep says begins k c page w c' page' w' Stop =
+IsLineFlow says begins k c page w c' page' w' Stop =
     (k ≡ End) × (c' ≡ c) × (page' ≡ page) × (w' ≡ w)
-IsSessionStep says begins k c page w c' page' w' Long = ⊥
-IsSessionStep says begins k c page w c' page' w' Fault =
+IsLineFlow says begins k c page w c' page' w' Long = ⊥
+IsLineFlow says begins k c page w c' page' w' Fault =
     (text : List ℕ) × begins c text c' × IsTextAdded text page w page' w' false
 
 -- all whole lines of a buffer were answered up to a stop, over an empty page
 abbrev pub AreLinesAnswered : {S : Type 0} → AnswerRelation S → AnswerRelation S → List ℕ → S
     → Outgoing → List ℕ → S → List ℕ
-    → Outgoing → Step → Type 0
+    → Outgoing → Flow → Type 0
 AreLinesAnswered says begins bytes c w rest c' page' w' Next =
     (text : List ℕ) × IsTalk says bytes c rest text c' × IsLine rest
     × IsTextAdded text [] w page' w' true
@@ -96,7 +96,7 @@ AreLinesAnswered {S} says begins bytes c w rest c' page' w' Fault =
 -- the first line of some bytes, if it is whole: it is answered, or it is left and nothing has changed
 abbrev pub IsFirst : {S : Type 0} → AnswerRelation S → AnswerRelation S → List ℕ → S → List ℕ
     → Outgoing → List ℕ → S
-    → List ℕ → Outgoing → Option Step → Type 0
+    → List ℕ → Outgoing → Option Flow → Type 0
 IsFirst says begins bytes c page w rest c' page' w' None =
     (rest ≡ bytes) × IsLine rest × (c' ≡ c) × (page' ≡ page) × (w' ≡ w)
 IsFirst says begins bytes c page w rest c' page' w' (Some Next) =

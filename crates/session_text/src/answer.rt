@@ -1,26 +1,26 @@
 //! Lines and their answers.
-ghost use Rattle.std.specs.Prelude.{◌≡◌, ◌≤◌, ℕ, List, length, [], true};
+ghost use Rattle.std.specs.Prelude.{◌≡◌, ◌≤◌, ℕ, List, length, []};
 ghost use Rattle.heap_step.specs.declared.Answer.TheVariants.{Done};
 ghost use Rattle.heap_trail.specs.declared.Reply.TheVariants.{Answered};
 ghost use Rattle.session_text.specs.Answers.{AnswersCommand, Begins, AnswersTo, BeginsTo};
-ghost use Rattle.session_text.specs.Endings.{step_of};
+ghost use Rattle.session_text.specs.Endings.{flow_of};
 ghost use Rattle.session_grammar.specs.Grammar.{command_of, command_of_text};
-ghost use Rattle.heap_trail.specs.declared.Reply.{Reply};
-ghost use Rattle.session_text.specs.Replies.{line_answer_text, reply_text};
-ghost use Rattle.session_text.specs.Talks.{IsFirst, IsSessionStep, AreLinesAnswered};
+ghost use Rattle.session_text.specs.Replies.{line_answer_text};
+ghost use Rattle.session_text.specs.Talks.{IsFirst, IsLineFlow, AreLinesAnswered};
 ghost use Rattle.session_text.specs.Writes.{IsTextAdded};
 ghost use Rattle.session_grammar.specs.declared.TheConstants.{LINE_LIMIT};
 
+use crate::act::answer_action;
 use crate::buffer::Buffer;
 use crate::commands::{Commands, LineAnswer};
 use crate::dump::{write_dump, write_dump_now};
 use crate::mutator::{Quick, answer_mutator};
 use crate::page::Page;
-use crate::reply::{write_answer, write_reply};
+use crate::reply::write_reply;
+use crate::terms::Terms;
 use crate::write::{write_long, write_number_line, write_text};
 use dump_pump::Outlet;
 use heap_class::Refusal;
-use heap_step::Answer;
 use heap_trail::{Action, Reply};
 use session_grammar::LINE_LIMIT;
 use session_grammar::command::{Command, command_of_text, without_cr};
@@ -29,7 +29,7 @@ use std::alloc::Global;
 
 /// Whether a session goes on after a line.
 #[derive(Clone, Copy, PartialEq, Eq, Debug)]
-pub enum Step {
+pub enum Flow {
     /// The next line comes.
     Next,
     /// The line is `end`.
@@ -41,49 +41,10 @@ pub enum Step {
 }
 
 // Returns Next, or Fault if a write failed.
-fn next_unless(written: bool) -> Step
-    ensures { result ≡ step_of written }
+fn next_unless(written: bool) -> Flow
+    ensures { result ≡ flow_of written }
 {
-    if written { Step::Next } else { Step::Fault }
-}
-
-// Tells whether a reply prints no more than that an event was done.
-#[inline(always)]
-fn is_done(reply: &Reply) -> bool
-    ensures { result ≡ true → reply.now ≡ Answered Done }
-{
-    matches!(reply, Reply::Answered(Answer::Done))
-}
-
-/// Does an action and adds its reply to a page. Returns false if a write failed.
-#[inline(always)]
-pub fn answer_action<O: Outlet, C: Commands>(
-    action: Action,
-    page: &mut Page,
-    writer: &mut O,
-    commands: &mut C,
-) -> bool
-    ensures { (r : Reply) × C.acts commands.old action r commands.new
-        × IsTextAdded (reply_text r) page.old (O.seen writer.old) page.new (O.seen writer.new)
-        result }
-{
-    let reply = commands.act(action);
-    if is_done(&reply) {
-        return write_text(page, writer, b"ok\n");
-    }
-    match reply {
-        Reply::Answered(answer) => write_answer(page, writer, answer),
-        other => write_other(page, writer, other),
-    }
-}
-
-// Adds a reply to a page, which is flushed whenever it is full.
-#[inline(never)]
-fn write_other<O: Outlet>(page: &mut Page, writer: &mut O, reply: Reply) -> bool
-    ensures { IsTextAdded (reply_text reply) page.old (O.seen writer.old) page.new
-        (O.seen writer.new) result }
-{
-    write_reply(page, writer, &reply)
+    if written { Flow::Next } else { Flow::Fault }
 }
 
 // Adds the answer of a line that the grammar doesn't know to a page, which is flushed whenever it is full.
@@ -122,115 +83,114 @@ fn answer_unknown<O: Outlet, C: Commands>(
 // Adds the answer to a line without its CR to a page, which is flushed whenever it is full.
 #[inline(never)]
 fn answer_text<O: Outlet, C: Commands>(
-    alloc: Global,
+    terms: Terms,
     marks: &mut FieldSpans,
     text: &[u8],
-    time: u64,
     page: &mut Page,
     writer: &mut O,
     commands: &mut C,
-) -> Step
+) -> Flow
     requires { length text.now ≤ LINE_LIMIT }
-    ensures { IsSessionStep (AnswersTo C.acts (C.unknown text.now) time (command_of_text text.now))
-        (BeginsTo C.acts (C.unknown text.now) time (command_of_text text.now))
+    ensures { IsLineFlow (AnswersTo C.acts (C.unknown text.now) terms.time (command_of_text text.now))
+        (BeginsTo C.acts (C.unknown text.now) terms.time (command_of_text text.now))
         (command_of_text text.now) commands.old page.old (O.seen writer.old) commands.new page.new
         (O.seen writer.new) result }
 {
-    match command_of_text(alloc, marks, text) {
+    match command_of_text(terms.alloc, marks, text) {
         Err(_) => next_unless(write_reply(page, writer, &Reply::Refused(Refusal::NoMemory))),
-        Ok(Command::Blank) => Step::Next,
-        Ok(Command::Bad) => next_unless(answer_unknown(alloc, text, page, writer, commands)),
+        Ok(Command::Blank) => Flow::Next,
+        Ok(Command::Bad) => next_unless(answer_unknown(terms.alloc, text, page, writer, commands)),
         Ok(Command::Ask(action)) => next_unless(answer_action(action, page, writer, commands)),
         Ok(Command::Piece(pin)) => {
-            let action = Action::NextPiece { pin, time };
+            let action = Action::NextPiece {
+                pin,
+                time: terms.time,
+            };
             next_unless(answer_action(action, page, writer, commands))
         }
-        Ok(Command::Dump(pin)) => next_unless(write_dump(page, writer, commands, pin, time)),
-        Ok(Command::DumpNow) => next_unless(write_dump_now(page, writer, commands, time)),
-        Ok(Command::End) => Step::Quit,
+        Ok(Command::Dump(pin)) => next_unless(write_dump(page, writer, commands, pin, terms.time)),
+        Ok(Command::DumpNow) => next_unless(write_dump_now(page, writer, commands, terms.time)),
+        Ok(Command::End) => Flow::Quit,
     }
 }
 
 // Adds the answer to a line to a page, which is flushed whenever it is full.
 fn answer_line<O: Outlet, C: Commands>(
-    alloc: Global,
+    terms: Terms,
     marks: &mut FieldSpans,
     line: &[u8],
-    time: u64,
     page: &mut Page,
     writer: &mut O,
     commands: &mut C,
-) -> Step
+) -> Flow
     requires { length line.now ≤ LINE_LIMIT }
-    ensures { IsSessionStep (AnswersCommand C.acts C.unknown time line.now)
-        (Begins C.acts C.unknown time line.now) (command_of line.now) commands.old page.old
+    ensures { IsLineFlow (AnswersCommand C.acts C.unknown terms.time line.now)
+        (Begins C.acts C.unknown terms.time line.now) (command_of line.now) commands.old page.old
         (O.seen writer.old) commands.new page.new (O.seen writer.new) result }
 {
-    answer_text(alloc, marks, without_cr(line), time, page, writer, commands)
+    answer_text(terms, marks, without_cr(line), page, writer, commands)
 }
 
 // Answers the first line of a buffer if it is whole, and adds the answer to a page, which is flushed whenever it is full.
 // Returns None if no line is whole.
 #[inline(never)]
 fn answer_first<O: Outlet, C: Commands>(
-    alloc: Global,
+    terms: Terms,
     marks: &mut FieldSpans,
-    time: u64,
     buffer: &mut Buffer,
     page: &mut Page,
     writer: &mut O,
     commands: &mut C,
-) -> Option<Step>
-    ensures { IsFirst (AnswersCommand C.acts C.unknown time) (Begins C.acts C.unknown time)
+) -> Option<Flow>
+    ensures { IsFirst (AnswersCommand C.acts C.unknown terms.time) (Begins C.acts C.unknown terms.time)
         buffer.old commands.old page.old (O.seen writer.old) buffer.new commands.new page.new
         (O.seen writer.new) result }
 {
     let Some(n) = buffer.line_end() else {
         if buffer.as_slice().len() > LINE_LIMIT {
-            return Some(Step::Long);
+            return Some(Flow::Long);
         }
         return None;
     };
     if n > LINE_LIMIT {
-        return Some(Step::Long);
+        return Some(Flow::Long);
     }
     let line = &buffer.as_slice()[..n];
-    match answer_line(alloc, marks, line, time, page, writer, commands) {
-        Step::Next => buffer.pass(n + 1),
-        Step::Quit => return Some(Step::Quit),
-        Step::Long => return Some(Step::Long),
-        Step::Fault => return Some(Step::Fault),
+    match answer_line(terms, marks, line, page, writer, commands) {
+        Flow::Next => buffer.pass(n + 1),
+        Flow::Quit => return Some(Flow::Quit),
+        Flow::Long => return Some(Flow::Long),
+        Flow::Fault => return Some(Flow::Fault),
     }
-    Some(Step::Next)
+    Some(Flow::Next)
 }
 
 /// Answers the whole lines of a buffer, up to the first that is too long, and adds their answers to an empty page, which is
 /// flushed whenever it is full.
 pub fn answer_lines<O: Outlet, C: Commands>(
-    alloc: Global,
+    terms: Terms,
     marks: &mut FieldSpans,
-    time: u64,
     buffer: &mut Buffer,
     page: &mut Page,
     writer: &mut O,
     commands: &mut C,
-) -> Step
+) -> Flow
     requires { page.old ≡ [] }
-    ensures { AreLinesAnswered (AnswersCommand C.acts C.unknown time) (Begins C.acts C.unknown time)
+    ensures { AreLinesAnswered (AnswersCommand C.acts C.unknown terms.time) (Begins C.acts C.unknown terms.time)
         buffer.old commands.old (O.seen writer.old) buffer.new commands.new page.new
         (O.seen writer.new) result }
 {
     loop {
         match answer_mutator(buffer.as_slice(), page, writer, commands) {
             (Quick::Next, n) => buffer.pass(n + 1),
-            (Quick::Fault, _) => return Step::Fault,
+            (Quick::Fault, _) => return Flow::Fault,
             (Quick::No, _) => {
-                match answer_first(alloc, marks, time, buffer, page, writer, commands) {
-                    None => return Step::Next,
-                    Some(Step::Next) => {}
-                    Some(Step::Quit) => return Step::Quit,
-                    Some(Step::Long) => return Step::Long,
-                    Some(Step::Fault) => return Step::Fault,
+                match answer_first(terms, marks, buffer, page, writer, commands) {
+                    None => return Flow::Next,
+                    Some(Flow::Next) => {}
+                    Some(Flow::Quit) => return Flow::Quit,
+                    Some(Flow::Long) => return Flow::Long,
+                    Some(Flow::Fault) => return Flow::Fault,
                 }
             }
         }

@@ -7,6 +7,7 @@ ghost use Rattle.session_text.specs.declared.ReadEnd.{ReadEnd};
 ghost use Rattle.session_text.specs.Laws.{IsListed, IsCutListed};
 ghost use Rattle.session_text.specs.Limits.{is_whole_session};
 
+mod act;
 mod answer;
 mod buffer;
 pub mod commands;
@@ -19,6 +20,7 @@ mod page;
 pub mod read_inlet;
 mod reply;
 mod talk;
+mod terms;
 mod write;
 
 pub use commands::{Commands, LineAnswer, Local};

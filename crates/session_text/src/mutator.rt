@@ -6,7 +6,7 @@ ghost use Rattle.session_grammar.specs.Grammar.{words_of_line, two_numbers, thre
 ghost use Rattle.session_grammar.specs.Lines.{NoLf};
 ghost use Rattle.session_text.specs.Mutators.{FollowsIn, IsVerb, IsQuick, IsQuickIn, IsShortLine};
 
-use crate::answer::answer_action;
+use crate::act::answer_action;
 use crate::buffer::LF;
 use crate::commands::Commands;
 use crate::page::Page;

@@ -6,11 +6,12 @@ ghost use Rattle.session_text.specs.Session.{IsSession};
 ghost use Rattle.session_text.specs.Talks.{Serves};
 ghost use Rattle.session_text.specs.declared.write.TheConstants.{TEXT_LIMIT};
 
-use crate::answer::{Step, answer_lines};
+use crate::answer::{Flow, answer_lines};
 use crate::buffer::Buffer;
 use crate::commands::{Commands, Local};
 use crate::inlet::{Inlet, Take};
 use crate::page::Page;
+use crate::terms::Terms;
 use crate::write::{flush, write_text};
 use crate::{Ended, READ_LIMIT};
 use dump_pump::Outlet;
@@ -33,9 +34,8 @@ fn end_with<O: Outlet>(page: &mut Page, outlet: &mut O, ended: Ended, line: &[u8
 
 // Reads and answers lines until an ending, with an empty buffer and an empty page.
 fn talk<I: Inlet, O: Outlet, C: Commands>(
-    alloc: Global,
+    terms: Terms,
     marks: &mut FieldSpans,
-    time: u64,
     buffer: &mut Buffer,
     page: &mut Page,
     reader: &mut I,
@@ -43,17 +43,17 @@ fn talk<I: Inlet, O: Outlet, C: Commands>(
     commands: &mut C,
 ) -> Ended
     requires { (buffer.old ≡ []) × (page.old ≡ []) }
-    ensures { Serves (AnswersCommand C.acts C.unknown time) (Begins C.acts C.unknown time)
+    ensures { Serves (AnswersCommand C.acts C.unknown terms.time) (Begins C.acts C.unknown terms.time)
         (I.seen reader.old) (I.seen reader.new) commands.old (O.seen writer.old) commands.new
         (O.seen writer.new) result }
 {
     let mut reads: u64 = 0;
     loop {
-        match answer_lines(alloc, marks, time, buffer, page, writer, commands) {
-            Step::Next => {}
-            Step::Quit => return end_with(page, writer, Ended::Quit, b""),
-            Step::Long => return end_with(page, writer, Ended::TooLong, b"bad long\n"),
-            Step::Fault => return Ended::WriteFault,
+        match answer_lines(terms, marks, buffer, page, writer, commands) {
+            Flow::Next => {}
+            Flow::Quit => return end_with(page, writer, Ended::Quit, b""),
+            Flow::Long => return end_with(page, writer, Ended::TooLong, b"bad long\n"),
+            Flow::Fault => return Ended::WriteFault,
         }
         if reads == READ_LIMIT {
             return end_with(page, writer, Ended::TooManyReads, b"bad reads\n");
@@ -96,9 +96,8 @@ pub fn serve<I: Inlet, O: Outlet, C: Commands>(
     match (Buffer::new(alloc), Page::new(alloc), FieldSpans::new(alloc)) {
         (Ok(mut buffer), Ok(mut page), Ok(mut marks)) => {
             talk(
-                alloc,
+                Terms { alloc, time },
                 &mut marks,
-                time,
                 &mut buffer,
                 &mut page,
                 reader,

@@ -3,7 +3,7 @@ use Rattle.heap_step.specs.declared.Answer.TheVariants.{Done}
 use Rattle.heap_trail.specs.declared.Reply.TheVariants.{Answered}
 use Rattle.session_text.specs.Replies.{reply_text}
 use Rattle.session_text.proofs.PageTexts.{added_as}
-use Rattle.session_text.proofs.answer.answer_action.Goals as goal
+use Rattle.session_text.proofs.act.answer_action.Goals as goal
 
 pub returns-then-is_done : goal.returns-then-is_done
 returns-then-is_done g c =

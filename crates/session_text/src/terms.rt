@@ -1,0 +1,9 @@
+//! What stays the same in a session.
+use std::alloc::Global;
+
+/// The allocator of a session, and the time that stands in the header of each dump, in milliseconds.
+#[derive(Clone, Copy)]
+pub struct Terms {
+    pub alloc: Global,
+    pub time: u64,
+}

@@ -80,6 +80,13 @@ impl<L: Heap> Seats<L> {
         } = self.stubs.pop_front()?;
         Some(Seat::of(number, role, share))
     }
+
+    /// Returns the number of seats.
+    pub fn count(&self) -> usize
+        ensures { result ≡ length self.now }
+    {
+        self.stubs.len()
+    }
 }
 
 // Creates a desk and a stub for each role.

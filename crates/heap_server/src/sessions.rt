@@ -112,25 +112,23 @@ fn serve_seats<L: Heap + Send + Sync, R: Threads + Wait + Sync>(
     alloc: Global,
     shared: &Shared<L>,
     seats: Seats<L>,
-    most: usize,
     listener: TcpListener,
     terms: Terms,
 ) -> Result<Served, AllocError>
-    requires users { AreUsers seats }
-    requires most { length seats ≡ most }
-    ensures { IfOk result (IsFor most) }
+    requires { AreUsers seats }
+    ensures { IfOk result (IsFor (length seats)) }
 {
     thread::scope(
         thread::scope_env(),
         rt,
         move |scope| -> Result<Served, AllocError>
-            requires { AreUsers seats × (length seats ≡ most) }
-            ensures { IfOk result (IsFor most) }
+            requires { AreUsers seats }
+            ensures { IfOk result (IsFor (length seats)) }
         {
-            let _most = most;
             let mut seats = seats;
-            let mut running = Vec::with_capacity(alloc, most)?;
-            let mut ends = Vec::with_capacity(alloc, most)?;
+            let count = seats.count();
+            let mut running = Vec::with_capacity(alloc, count)?;
+            let mut ends = Vec::with_capacity(alloc, count)?;
             let listener = listener;
             let mut refused = false;
             while let Some(seat) = seats.take() {
@@ -168,13 +166,11 @@ fn serve_beside_dumps<L: Heap + Send + Sync, R: Clock + Eprint + Threads + Wait 
     alloc: Global,
     shared: &Shared<L>,
     seats: Seats<L>,
-    most: usize,
     ports: (TcpListener, DumpListener),
     terms: Terms,
 ) -> Result<Served, AllocError>
-    requires users { AreUsers seats }
-    requires most { length seats ≡ most }
-    ensures { IfOk result (IsFor most) }
+    requires { AreUsers seats }
+    ensures { IfOk result (IsFor (length seats)) }
 {
     let word = AtomicBool::new(false);
     let stop = &word;
@@ -183,11 +179,11 @@ fn serve_beside_dumps<L: Heap + Send + Sync, R: Clock + Eprint + Threads + Wait 
         thread::scope_env(),
         rt,
         move |scope| -> Result<Served, AllocError>
-            requires { AreUsers seats × (length seats ≡ most) }
-            ensures { IfOk result (IsFor most) }
+            requires { AreUsers seats }
+            ensures { IfOk result (IsFor (length seats)) }
         {
             let dumping = begin_dumps(scope, rt, alloc, shared, dumps, terms.time, stop)?;
-            let served = serve_seats(rt, alloc, shared, seats, most, listener, terms);
+            let served = serve_seats(rt, alloc, shared, seats, listener, terms);
             stop.store(true, Ordering::SeqCst);
             dumping.join(rt);
             served
@@ -199,24 +195,22 @@ fn serve_beside_dumps<L: Heap + Send + Sync, R: Clock + Eprint + Threads + Wait 
 /// an accept that failed, it stops listening, so that a further client is refused at once. Returns once all sessions have ended;
 /// that of a client for which no thread could be had ends by NoMemory. If the ports have a listener for dumps, one more thread
 /// sends a dump to each of its clients, from before the first accept until the last session has ended. Fails if that thread can't
-/// be had, or there is no memory for `most` endings, and accepts nothing. May wait.
+/// be had, or there is no memory for their endings, and accepts nothing. May wait.
 pub fn serve_clients<L: Heap + Send + Sync, R: Clock + Eprint + Threads + Wait + Sync>(
     rt: &R,
     alloc: Global,
     shared: &Shared<L>,
     seats: Seats<L>,
-    most: usize,
     ports: Ports,
     terms: Terms,
 ) -> Result<Served, AllocError>
-    requires users { AreUsers seats }
-    requires most { length seats ≡ most }
-    ensures { IfOk result (IsFor most) }
+    requires { AreUsers seats }
+    ensures { IfOk result (IsFor (length seats)) }
 {
     let Ports { sessions, dumps } = ports;
     match dumps {
-        Some(dumps) => serve_beside_dumps(rt, alloc, shared, seats, most, (sessions, dumps), terms),
-        None => serve_seats(rt, alloc, shared, seats, most, sessions, terms),
+        Some(dumps) => serve_beside_dumps(rt, alloc, shared, seats, (sessions, dumps), terms),
+        None => serve_seats(rt, alloc, shared, seats, sessions, terms),
     }
 }
 
@@ -253,7 +247,7 @@ fn serve_opened<L: Heap + Send + Sync, R: Clock + Eprint + Threads + Wait + Sync
 {
     let made = Snapshot::of(&blank);
     let (shared, seats) = blank.open::<L>();
-    let served = serve_clients(rt, alloc, &shared, seats, most, ports, terms)?;
+    let served = serve_clients(rt, alloc, &shared, seats, ports, terms)?;
     Ok(ServedHeap {
         served,
         made,

@@ -1,5 +1,5 @@
 //! Sessions over one shared heap whose collector is tended in two threads.
-ghost use Rattle.std.specs.Prelude.{◌≡◌, ◌∷◌, ◌≤◌, IfOk, IfErr, replicate};
+ghost use Rattle.std.specs.Prelude.{◌≡◌, ◌∷◌, ◌≤◌, IfOk, IfErr, length, replicate};
 ghost use Rattle.heap_class.specs.declared.Refusal.TheVariants.{NoMemory};
 ghost use Rattle.heap_lock.specs.declared.role.Role.TheVariants as role;
 ghost use Rattle.heap_server.specs.SessionSeats.{IsFor, session_limit};
@@ -153,19 +153,18 @@ fn begin_workers<'s, E, L: Heap + Send + Sync, R: Clock + Threads + Wait + Sync>
 }
 
 /// Serves clients as `serve_clients` does, while two threads tend the collector. They begin before the first accept, and are
-/// told to stop and joined after the last session. Fails if a thread for them can't be had, or there is no memory for `most`
+/// told to stop and joined after the last session. Fails if a thread for them can't be had, or there is no memory for the
 /// endings, and accepts nothing. May wait.
 pub fn serve_tended<L: Heap + Send + Sync, R: Clock + Eprint + Threads + Wait + Sync>(
     rt: &R,
     alloc: Global,
     shared: &Shared<L>,
     staff: Staff<L>,
-    most: usize,
     ports: Ports,
     terms: Terms,
 ) -> Result<Tended<L>, AllocError>
-    requires { AreStaff most (staff.marker ∷ staff.sweeper ∷ staff.users) }
-    ensures served { IfOk result (λ t. IsFor most t.served) }
+    requires { AreStaff (length staff.users) (staff.marker ∷ staff.sweeper ∷ staff.users) }
+    ensures served { IfOk result (λ t. IsFor (length staff.users) t.served) }
     ensures marks { IfOk result (λ t. Marks L.config staff.marker t.marker) }
     ensures sweeps { IfOk result (λ t. Sweeps L.config staff.sweeper t.sweeper) }
 {
@@ -175,13 +174,14 @@ pub fn serve_tended<L: Heap + Send + Sync, R: Clock + Eprint + Threads + Wait + 
         thread::scope_env(),
         rt,
         move |scope| -> Result<Tended<L>, AllocError>
-            requires { AreStaff most (staff.marker ∷ staff.sweeper ∷ staff.users) }
-            ensures served { IfOk result (λ t. IsFor most t.served) }
+            requires { AreStaff (length staff.users)
+                (staff.marker ∷ staff.sweeper ∷ staff.users) }
+            ensures served { IfOk result (λ t. IsFor (length staff.users) t.served) }
             ensures marks { IfOk result (λ t. Marks L.config staff.marker t.marker) }
             ensures sweeps { IfOk result (λ t. Sweeps L.config staff.sweeper t.sweeper) }
         {
             let workers = begin_workers(scope, rt, shared, staff.marker, staff.sweeper, stop)?;
-            let served = serve_clients(rt, alloc, shared, staff.users, most, ports, terms);
+            let served = serve_clients(rt, alloc, shared, staff.users, ports, terms);
             stop.store(true, Ordering::SeqCst);
             let marker = workers.marking.join(rt);
             let sweeper = workers.sweeping.join(rt);
@@ -252,7 +252,7 @@ fn serve_staffed<L: Heap + Send + Sync, R: Clock + Eprint + Threads + Wait + Syn
         served,
         marker,
         sweeper,
-    } = serve_tended(rt, alloc, &shared, staff, most, ports, terms)?;
+    } = serve_tended(rt, alloc, &shared, staff, ports, terms)?;
     Ok(TendedHeap {
         heap: ServedHeap {
             served,

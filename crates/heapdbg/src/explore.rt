@@ -19,9 +19,8 @@ use std::fs::Files;
 /// Runs one session, in which questions are answered, over a heap of its own. If `from` says so, the lines of the file that
 /// the words name are run first; their answers are not shown, and each line that is refused is reported on standard error.
 /// Fails as a session does, with Memory if the heap can't be allocated, and with From if the file can't be opened.
-pub fn explore<R: Eprint + Files, I: Inlet, O: Outlet>(
+pub fn explore<R: AllocGlobal + Eprint + Files, I: Inlet, O: Outlet>(
     rt: &R,
-    alloc: Global,
     words: &[String],
     settings: &Settings,
     from: bool,
@@ -33,16 +32,18 @@ pub fn explore<R: Eprint + Files, I: Inlet, O: Outlet>(
     ensures { IsExplored from settings.now (I.seen reader.old) (I.seen reader.new)
         (O.seen writer.old) (O.seen writer.new) result }
 {
-    match begin(rt, alloc, words, settings, from, watch) {
-        Ok(mut asking) => outcome(serve_asking(alloc, reader, writer, &mut asking, settings.time)),
+    match begin(rt, words, settings, from, watch) {
+        Ok(mut asking) => {
+            let ended = serve_asking(rt.alloc(), reader, writer, &mut asking, settings.time);
+            outcome(ended)
+        }
         Err(fault) => Err(fault),
     }
 }
 
 // Opens the heap, and runs the lines of the file that the words name if `from` says so.
-fn begin<'a, R: Eprint + Files>(
+fn begin<'a, R: AllocGlobal + Eprint + Files>(
     rt: &R,
-    alloc: Global,
     words: &[String],
     settings: &Settings,
     from: bool,
@@ -52,9 +53,9 @@ fn begin<'a, R: Eprint + Files>(
     ensures begun { IfOk result (IsSessionBegun from settings.now) }
     ensures hindrance { IfErr result (IsHindrance from) }
 {
-    let asking = open(alloc, settings, watch)?;
+    let asking = open(rt.alloc(), settings, watch)?;
     if from {
-        load(rt, alloc, words, settings, asking)
+        load(rt, words, settings, asking)
     } else {
         Ok(asking)
     }
@@ -81,9 +82,8 @@ pub(crate) fn open<'a>(
 }
 
 // Runs the lines of the file that the words name.
-fn load<'a, R: Eprint + Files>(
+fn load<'a, R: AllocGlobal + Eprint + Files>(
     rt: &R,
-    alloc: Global,
     words: &[String],
     settings: &Settings,
     mut asking: Asking<'a>,
@@ -92,6 +92,7 @@ fn load<'a, R: Eprint + Files>(
     ensures begun { IfOk result (IsSessionBegun true settings.now) }
     ensures hindrance { IfErr result (IsHindrance true) }
 {
+    let alloc = rt.alloc();
     let Ok(line) = borrow_words(alloc, words) else {
         return Err(Fault::Memory);
     };

@@ -13,7 +13,6 @@ use heapdbg_options::settings::{Settings, config};
 use pin_stream::Gauge;
 use question_text::{Watch, serve_asking};
 use session_text::{Ended, Inlet, Local};
-use std::alloc::Global;
 use std::fs;
 use std::fs::Files;
 use std::net::{Ipv4Addr, Net, TcpStream};
@@ -61,12 +60,18 @@ impl<R: Net> Outlets for Peer<'_, R> {
     }
 }
 
+// Where a dump goes, and the fault of a session whose dump can't go there.
+#[derive(Drop)]
+struct Destination<P> {
+    place: P,
+    unmade: Fault,
+}
+
 /// Runs a session and dumps the state that it leaves to a file. Shows the progress of the dump on standard error if that is a
 /// terminal. Fails as a session does, with Out if the file can't be made or a write to it fails, and with Lost if the dump is
 /// lost. May wait.
 pub fn save_out<R, I: Inlet, O: Outlet>(
     rt: &R,
-    alloc: Global,
     settings: &Settings,
     path: &str,
     reader: &mut I,
@@ -74,23 +79,17 @@ pub fn save_out<R, I: Inlet, O: Outlet>(
     is_terminal: bool,
 ) -> Result<(), Fault>
 where
-    R: Clock + Eprint + Files + Threads + Wait + Sync,
+    R: AllocGlobal + Clock + Eprint + Files + Threads + Wait + Sync,
     requires { AreHeapSettings settings.now.regions settings.now.mutators settings.now.keep }
     ensures { IsSavedTo Fault.Out settings.now (I.seen reader.old) (I.seen reader.new)
         (O.seen writer.old) (O.seen writer.new) result }
 {
-    let place = OutFile { rt, path };
-    let mut gauge = TerminalGauge::new(rt, alloc, settings.ids, is_terminal);
-    save(
-        rt,
-        alloc,
-        settings,
-        reader,
-        writer,
-        place,
-        &mut gauge,
-        Fault::Out,
-    )
+    let to = Destination {
+        place: OutFile { rt, path },
+        unmade: Fault::Out,
+    };
+    let mut gauge = TerminalGauge::new(rt, rt.alloc(), settings.ids, is_terminal);
+    save(rt, settings, reader, writer, to, &mut gauge)
 }
 
 /// Runs a session and dumps the state that it leaves to a port. Shows the progress of the dump on standard error if that is a
@@ -98,7 +97,6 @@ where
 /// Lost if the dump is lost. May wait.
 pub fn save_to<R, I: Inlet, O: Outlet>(
     rt: &R,
-    alloc: Global,
     settings: &Settings,
     port: u16,
     reader: &mut I,
@@ -106,65 +104,63 @@ pub fn save_to<R, I: Inlet, O: Outlet>(
     is_terminal: bool,
 ) -> Result<(), Fault>
 where
-    R: Clock + Eprint + Net + Threads + Wait + Sync,
+    R: AllocGlobal + Clock + Eprint + Net + Threads + Wait + Sync,
     requires { AreHeapSettings settings.now.regions settings.now.mutators settings.now.keep }
     ensures { IsSavedTo Fault.Connect settings.now (I.seen reader.old) (I.seen reader.new)
         (O.seen writer.old) (O.seen writer.new) result }
 {
-    let place = Peer { rt, port };
-    let mut gauge = TerminalGauge::new(rt, alloc, settings.ids, is_terminal);
-    save(
-        rt,
-        alloc,
-        settings,
-        reader,
-        writer,
-        place,
-        &mut gauge,
-        Fault::Connect,
-    )
+    let to = Destination {
+        place: Peer { rt, port },
+        unmade: Fault::Connect,
+    };
+    let mut gauge = TerminalGauge::new(rt, rt.alloc(), settings.ids, is_terminal);
+    save(rt, settings, reader, writer, to, &mut gauge)
 }
 
 // Runs a session, in which questions are answered if the settings say so, and dumps the state that it leaves into the outlet of
 // a place. Fails with `unmade` if none can be made.
-fn save<I: Inlet, O: Outlet, P: Outlets + Drop, G: Gauge, R: Threads + Wait + Sync>(
+fn save<I: Inlet, O: Outlet, P: Outlets + Drop, G: Gauge, R: AllocGlobal + Threads + Wait + Sync>(
     rt: &R,
-    alloc: Global,
     settings: &Settings,
     reader: &mut I,
     writer: &mut O,
-    place: P,
+    to: Destination<P>,
     gauge: &mut G,
-    unmade: Fault,
 ) -> Result<(), Fault>
     requires { AreHeapSettings settings.now.regions settings.now.mutators settings.now.keep }
-    ensures { IsSavedTo unmade settings.now (I.seen reader.old) (I.seen reader.new)
+    ensures { IsSavedTo to.unmade settings.now (I.seen reader.old) (I.seen reader.new)
         (O.seen writer.old) (O.seen writer.new) result }
 {
     if settings.questions {
-        save_asking(rt, alloc, settings, reader, writer, place, gauge, unmade)
+        save_asking(rt, settings, reader, writer, to, gauge)
     } else {
-        save_session(rt, alloc, settings, reader, writer, place, gauge, unmade)
+        save_session(rt, settings, reader, writer, to, gauge)
     }
 }
 
 // Runs a session without questions, and dumps the state that it leaves.
-fn save_session<I: Inlet, O: Outlet, P: Outlets + Drop, G: Gauge, R: Threads + Wait + Sync>(
+fn save_session<
+    I: Inlet,
+    O: Outlet,
+    P: Outlets + Drop,
+    G: Gauge,
+    R: AllocGlobal + Threads + Wait + Sync,
+>(
     rt: &R,
-    alloc: Global,
     settings: &Settings,
     reader: &mut I,
     writer: &mut O,
-    place: P,
+    to: Destination<P>,
     gauge: &mut G,
-    unmade: Fault,
 ) -> Result<(), Fault>
     requires { AreHeapSettings settings.now.regions settings.now.mutators settings.now.keep }
-    ensures { IsSavedAs false unmade settings.now (I.seen reader.old) (I.seen reader.new)
+    ensures { IsSavedAs false to.unmade settings.now (I.seen reader.old) (I.seen reader.new)
         (O.seen writer.old) (O.seen writer.new) result }
 {
+    let alloc = rt.alloc();
     match Machine::new(alloc, config(settings)) {
         Ok(machine) => {
+            let Destination { place, unmade } = to;
             let mut local = Local::new(machine);
             let time = settings.time;
             let saved = save_into(rt, alloc, &mut local, reader, writer, place, gauge, time);
@@ -175,23 +171,29 @@ fn save_session<I: Inlet, O: Outlet, P: Outlets + Drop, G: Gauge, R: Threads + W
 }
 
 // Runs a session with questions, and dumps the state that it leaves.
-fn save_asking<I: Inlet, O: Outlet, P: Outlets + Drop, G: Gauge, R: Threads + Wait + Sync>(
+fn save_asking<
+    I: Inlet,
+    O: Outlet,
+    P: Outlets + Drop,
+    G: Gauge,
+    R: AllocGlobal + Threads + Wait + Sync,
+>(
     rt: &R,
-    alloc: Global,
     settings: &Settings,
     reader: &mut I,
     writer: &mut O,
-    place: P,
+    to: Destination<P>,
     gauge: &mut G,
-    unmade: Fault,
 ) -> Result<(), Fault>
     requires { AreHeapSettings settings.now.regions settings.now.mutators settings.now.keep }
-    ensures { IsSavedAs true unmade settings.now (I.seen reader.old) (I.seen reader.new)
+    ensures { IsSavedAs true to.unmade settings.now (I.seen reader.old) (I.seen reader.new)
         (O.seen writer.old) (O.seen writer.new) result }
 {
+    let alloc = rt.alloc();
     let watch = Watch::new();
     match open(alloc, settings, &watch) {
         Ok(mut asking) => {
+            let Destination { place, unmade } = to;
             let time = settings.time;
             let ended = serve_asking(alloc, reader, writer, &mut asking, time);
             let local = &mut asking.local;

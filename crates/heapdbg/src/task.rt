@@ -87,15 +87,14 @@ where
     R: Copy + Send + Sync + Drop + 'static,
     R::Reader: Send + 'static,
 {
-    let alloc = rt.alloc();
     let input = ReadInlet::new(rt.reader());
     let writer = WriteOutlet::new(io::writer(rt));
     if shows {
-        let mut writer = ColumnOutlet::new(alloc, writer);
-        perform_words(rt, alloc, words, reader, input, &mut writer, screen)
+        let mut writer = ColumnOutlet::new(rt.alloc(), writer);
+        perform_words(rt, words, reader, input, &mut writer, screen)
     } else {
         let mut writer = writer;
-        perform_words(rt, alloc, words, reader, input, &mut writer, screen)
+        perform_words(rt, words, reader, input, &mut writer, screen)
     }
 }
 
@@ -104,7 +103,6 @@ where
 // nothing is read or written.
 fn perform_words<R, I: Inlet + Send, J: Inlet + Send + Drop + 'static, O: Outlet>(
     rt: &R,
-    alloc: Global,
     words: &[String],
     reader: &mut I,
     input: J,
@@ -113,19 +111,18 @@ fn perform_words<R, I: Inlet + Send, J: Inlet + Send + Drop + 'static, O: Outlet
 ) -> Result<(), Failure>
 where
     R: Net<Listener = TcpListener, Stream = TcpStream> + Threads + Wait,
-    R: Clock + Eprint + Files + Copy + Send + Sync + Drop + 'static,
+    R: AllocGlobal + Clock + Eprint + Files + Copy + Send + Sync + Drop + 'static,
     ensures { IsPerformed (map string_bytes words.now) (I.seen reader.old) (I.seen reader.new)
         (O.seen writer.old) (O.seen writer.new) result }
 {
-    let asked = settings_of_words(alloc, words)?;
-    work(rt, alloc, words, &asked, reader, input, writer, screen)?;
+    let asked = settings_of_words(rt.alloc(), words)?;
+    work(rt, words, &asked, reader, input, writer, screen)?;
     Ok(())
 }
 
 // Does the task of the settings, which the words ask for.
 fn work<R, I: Inlet + Send, J: Inlet + Send + Drop + 'static, O: Outlet>(
     rt: &R,
-    alloc: Global,
     words: &[String],
     asked: &Settings,
     reader: &mut I,
@@ -135,20 +132,19 @@ fn work<R, I: Inlet + Send, J: Inlet + Send + Drop + 'static, O: Outlet>(
 ) -> Result<(), Fault>
 where
     R: Net<Listener = TcpListener, Stream = TcpStream> + Threads + Wait,
-    R: Clock + Eprint + Files + Copy + Send + Sync + Drop + 'static,
+    R: AllocGlobal + Clock + Eprint + Files + Copy + Send + Sync + Drop + 'static,
     requires { AreSettingsWithin asked.now }
     ensures { IsTaskDone asked.now.task asked.now (I.seen reader.old) (I.seen reader.new)
         (O.seen writer.old) (O.seen writer.new) result }
 {
+    let alloc = rt.alloc();
     let is_terminal = screen.is_terminal;
     match asked.task {
-        Task::Run => run(rt, alloc, words, asked, screen.watch, reader, writer),
-        Task::Explore { from } => {
-            explore(rt, alloc, words, asked, from, screen.watch, reader, writer)
-        }
+        Task::Run => run(rt, words, asked, screen.watch, reader, writer),
+        Task::Explore { from } => { explore(rt, words, asked, from, screen.watch, reader, writer) }
         Task::Draw => draw(rt, alloc, words, asked, reader, writer),
-        Task::Save(Target::Out) => save_named(rt, alloc, words, asked, reader, writer, is_terminal),
-        Task::Save(Target::To(to)) => save_to(rt, alloc, asked, to, reader, writer, is_terminal),
+        Task::Save(Target::Out) => save_named(rt, words, asked, reader, writer, is_terminal),
+        Task::Save(Target::To(to)) => save_to(rt, asked, to, reader, writer, is_terminal),
         Task::Serve {
             port,
             sessions,
@@ -190,9 +186,8 @@ fn settings_of_words(alloc: Global, words: &[String]) -> Result<Settings, LineFa
 }
 
 // Runs one session over a private heap, in which questions are answered if the settings say so.
-fn run<R: Eprint + Files, I: Inlet, O: Outlet>(
+fn run<R: AllocGlobal + Eprint + Files, I: Inlet, O: Outlet>(
     rt: &R,
-    alloc: Global,
     words: &[String],
     settings: &Settings,
     watch: &Watch,
@@ -204,9 +199,9 @@ fn run<R: Eprint + Files, I: Inlet, O: Outlet>(
         (O.seen writer.old) (O.seen writer.new) result }
 {
     if settings.questions {
-        explore(rt, alloc, words, settings, false, watch, reader, writer)
+        explore(rt, words, settings, false, watch, reader, writer)
     } else {
-        session(alloc, settings, reader, writer)
+        session(rt.alloc(), settings, reader, writer)
     }
 }
 
@@ -234,7 +229,6 @@ fn session<I: Inlet, O: Outlet>(
 // session, if the folder of that file is not there.
 fn save_named<R, I: Inlet, O: Outlet>(
     rt: &R,
-    alloc: Global,
     words: &[String],
     settings: &Settings,
     reader: &mut I,
@@ -242,24 +236,19 @@ fn save_named<R, I: Inlet, O: Outlet>(
     is_terminal: bool,
 ) -> Result<(), Fault>
 where
-    R: Clock + Eprint + Files + Threads + Wait + Sync,
+    R: AllocGlobal + Clock + Eprint + Files + Threads + Wait + Sync,
     requires { AreHeapSettings settings.now.regions settings.now.mutators settings.now.keep }
     ensures { IsSavedOut settings.now (I.seen reader.old) (I.seen reader.new) (O.seen writer.old)
         (O.seen writer.new) result }
 {
+    let alloc = rt.alloc();
     let Ok(line) = borrow_words(alloc, words) else {
         return Err(Fault::Memory);
     };
     match path_option(alloc, line.as_slice(), "out") {
-        Some(path) if has_folder(rt, path) => save_out(
-            rt,
-            alloc,
-            settings,
-            path,
-            reader,
-            writer,
-            is_terminal,
-        ),
+        Some(path) if has_folder(rt, path) => {
+            save_out(rt, settings, path, reader, writer, is_terminal)
+        }
         Some(_) => Err(Fault::Out),
         None => Err(Fault::Memory),
     }

@@ -4,8 +4,8 @@ use Rattle.heap_server.proofs.sessions.fn.serve_seats.scope.Given as goal
 
 abbrev pub invariant-loop-seat : goal.invariant-loop-seat
 invariant-loop-seat g l =
-    AreUsers l.seats × (vec_len l.running + length l.seats ≡ l._most) × (l._most ≤ vec_capacity l.running) × (vec_len l.ends ≡ 0)
-    × (l._most ≤ vec_capacity l.ends) × (l.refused ≡ false)
+    AreUsers l.seats × (vec_len l.running + length l.seats ≡ l.count) × (l.count ≤ vec_capacity l.running) × (vec_len l.ends ≡ 0)
+    × (l.count ≤ vec_capacity l.ends) × (l.refused ≡ false)
 
 abbrev pub decreases-loop-seat : goal.decreases-loop-seat
 decreases-loop-seat g l = length l.seats

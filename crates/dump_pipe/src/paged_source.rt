@@ -4,9 +4,8 @@ ghost use Rattle.dump_pipe.specs.PagedSources.{ArePages, ended_by_page, pages_wi
 
 use crate::page::next_page;
 use crate::surplus::Surplus;
-use dump_pump::{Ending, Next, Source};
+use dump_pump::{Ending, Log, Next, Source};
 use hprof_text::Piece;
-use http_server::Log;
 use std::alloc::Global;
 use std::marker::{Brand, Model, PhantomData};
 

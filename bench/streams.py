@@ -12,7 +12,7 @@ import tempfile
 from programs import built
 
 RUNS = 7
-LIBRARIES = "live_dump dump_meter dump_pipe dump_pump crossbeam_channel http_server"
+LIBRARIES = "live_dump dump_pipe dump_pump crossbeam_channel"
 
 
 def times(program, count, streams):

@@ -10,8 +10,8 @@ use Rattle.dump_pump.specs.Pumps.{joined}
 use Rattle.dump_pump.proofs.PumpSteps.{joined_push}
 use Rattle.dump_pipe.specs.declared.message.Message.{Message}
 use Rattle.dump_pipe.specs.declared.message.Message.TheVariants.{Part, End}
-use Rattle.dump_pipe.specs.declared.view.EndView.{EndView}
-use Rattle.dump_pipe.specs.declared.view.EndView.TheVariants.{Gets}
+use Rattle.dump_pipe.specs.declared.end_view.EndView.{EndView}
+use Rattle.dump_pipe.specs.declared.end_view.EndView.TheVariants.{Gets}
 use Rattle.dump_pipe.specs.Pipes.{dump, weigh, byte_limit, list_of}
 use Rattle.dump_pipe.specs.Drains.{answer_to_ending, IsDrained, IsSkipped}
 use Rattle.dump_pipe.proofs.FeedSteps.{map_push}

@@ -7,8 +7,8 @@ use Rattle.dump_pump.specs.Sources.{Supply, more, part_limit, part_size_limit}
 use Rattle.dump_pump.proofs.PumpSteps.{more_nil, more_more, ends_push}
 use Rattle.dump_pipe.specs.declared.message.Message.{Message}
 use Rattle.dump_pipe.specs.declared.message.Message.TheVariants.{Part, End}
-use Rattle.dump_pipe.specs.declared.view.EndView.{EndView}
-use Rattle.dump_pipe.specs.declared.view.EndView.TheVariants.{Sends}
+use Rattle.dump_pipe.specs.declared.end_view.EndView.{EndView}
+use Rattle.dump_pipe.specs.declared.end_view.EndView.TheVariants.{Sends}
 use Rattle.dump_pipe.specs.Pipes.{weigh, byte_limit, list_of}
 use Rattle.dump_pipe.specs.Feeds.{IsFed}
 use Rattle.dump_pipe.proofs.PipeSteps.{weigh_append}

@@ -5,8 +5,8 @@ use lib.ListN.{get_elem?}
 use Rattle.crossbeam_channel.specs.Fifo.{Pushes, Pops, Forks, Merges, Learns}
 use Rattle.atomic_table.proofs.Lists.{at_set, set_else}
 use Rattle.dump_pipe.specs.declared.message.Message.{Message}
-use Rattle.dump_pipe.specs.declared.view.EndView.{EndView}
-use Rattle.dump_pipe.specs.declared.view.EndView.TheVariants.{Both, Sends, Gets, Spent}
+use Rattle.dump_pipe.specs.declared.end_view.EndView.{EndView}
+use Rattle.dump_pipe.specs.declared.end_view.EndView.TheVariants.{Both, Sends, Gets, Spent}
 use Rattle.dump_pipe.specs.Pipes.{weigh, byte_limit, list_of, sends_of, gets_of, both_of, SitsAtEnd, IsInOrder, HasSent, HasGot, HasOrder}
 use Rattle.dump_pump.proofs.LongerLists.{at_end}
 

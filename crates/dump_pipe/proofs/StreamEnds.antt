@@ -10,8 +10,8 @@ use Rattle.dump_pump.specs.Outlets.{Outgoing}
 use Rattle.dump_pump.specs.Sources.{Supply}
 use Rattle.dump_pump.specs.Pumps.{joined, ends, FitsPump, IsPumped}
 use Rattle.dump_pipe.specs.declared.message.Message.{Message}
-use Rattle.dump_pipe.specs.declared.view.EndView.{EndView}
-use Rattle.dump_pipe.specs.declared.view.EndView.TheVariants.{Sends, Gets}
+use Rattle.dump_pipe.specs.declared.end_view.EndView.{EndView}
+use Rattle.dump_pipe.specs.declared.end_view.EndView.TheVariants.{Sends, Gets}
 use Rattle.dump_pipe.specs.Pipes.{dump, list_of, both_of, HasOrder}
 use Rattle.dump_pipe.specs.Feeds.{IsFed}
 use Rattle.dump_pipe.specs.Drains.{AnswersDrain, IsDrained}

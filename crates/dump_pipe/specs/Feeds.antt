@@ -5,8 +5,8 @@ use Rattle.dump_pump.specs.declared.source.Ending.{Ending}
 use Rattle.dump_pump.specs.declared.source.Ending.TheVariants.{Whole}
 use Rattle.dump_pump.specs.Sources.{Supply, more}
 use Rattle.dump_pump.specs.Pumps.{ends}
-use Rattle.dump_pipe.specs.declared.view.EndView.{EndView}
-use Rattle.dump_pipe.specs.declared.view.EndView.TheVariants.{Sends}
+use Rattle.dump_pipe.specs.declared.end_view.EndView.{EndView}
+use Rattle.dump_pipe.specs.declared.end_view.EndView.TheVariants.{Sends}
 use Rattle.dump_pipe.specs.Pipes.{dump}
 
 -- the parts that the source gave were sent, and then how it ended

@@ -1,5 +1,9 @@
+pub mod Meters
+pub mod Seats
 pub mod Pipes
 pub mod Feeds
 pub mod Drains
 pub mod Streams
 pub mod Watches
+pub mod Pages
+pub mod PagedSources

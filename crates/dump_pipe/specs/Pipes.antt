@@ -7,8 +7,8 @@ use Rattle.dump_pump.specs.declared.source.Ending.{Ending}
 use Rattle.dump_pump.specs.Sources.{part_limit, part_size_limit}
 use Rattle.dump_pipe.specs.declared.message.Message.{Message}
 use Rattle.dump_pipe.specs.declared.message.Message.TheVariants.{Part, End}
-use Rattle.dump_pipe.specs.declared.view.EndView.{EndView}
-use Rattle.dump_pipe.specs.declared.view.EndView.TheVariants.{Both, Sends, Gets, Spent}
+use Rattle.dump_pipe.specs.declared.end_view.EndView.{EndView}
+use Rattle.dump_pipe.specs.declared.end_view.EndView.TheVariants.{Both, Sends, Gets, Spent}
 
 -- parts, and then an ending
 abbrev pub dump : List Piece → Ending → List Message

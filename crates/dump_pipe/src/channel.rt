@@ -2,11 +2,11 @@
 ghost use Rattle.std.specs.Prelude.{◌≡◌, ◌≤◌, ◌∷◌, ◌++◌, [], IfOk};
 ghost use Rattle.crossbeam_channel.specs.Claims.{view, IsSeatAt};
 ghost use Rattle.crossbeam_channel.specs.Ends.{sends_on, receives_on};
-ghost use Rattle.dump_pipe.specs.declared.view.EndView.TheVariants.{Sends, Gets};
+ghost use Rattle.dump_pipe.specs.declared.end_view.EndView.TheVariants.{Sends, Gets};
 ghost use Rattle.dump_pipe.specs.Pipes.{weigh, list_of, byte_limit, IsSending, IsReceiving};
 
+use crate::end_view::EndView;
 use crate::message::Message;
-use crate::view::EndView;
 use crossbeam_channel::protocol::{Join, Lesson, Outcome, Protocol, Split};
 use crossbeam_channel::{Pass, RuledReceiver, RuledSender, bounded_with};
 use std::alloc::{AllocError, Global};
@@ -20,7 +20,7 @@ pub struct InOrder;
 
 impl Protocol<Message, EndView> for InOrder {
     ghost use Rattle.std.specs.Prelude.{[]};
-    ghost use Rattle.dump_pipe.specs.declared.view.EndView.TheVariants.{Both};
+    ghost use Rattle.dump_pipe.specs.declared.end_view.EndView.TheVariants.{Both};
     ghost use Rattle.dump_pipe.specs.Pipes.{IsInOrder};
 
     ghost holds = { IsInOrder };
@@ -40,7 +40,7 @@ impl Split<EndView> for Ends {
 }
 
 impl Join<EndView> for Ends {
-    ghost use Rattle.dump_pipe.specs.declared.view.EndView.TheVariants.{Spent};
+    ghost use Rattle.dump_pipe.specs.declared.end_view.EndView.TheVariants.{Spent};
     ghost use Rattle.dump_pipe.specs.Pipes.{both_of};
 
     ghost both = { both_of };

@@ -8,7 +8,8 @@ ghost use Rattle.dump_pipe.specs.Drains.{IsDrained, IsSkipped, answer_to_ending}
 
 use crate::channel::{End, Receiver, receive};
 use crate::message::Message;
-use dump_meter::{OutSeat, Progress};
+use crate::progress::Progress;
+use crate::seats::OutSeat;
 use dump_pump::transfer::put_all;
 use dump_pump::{Ending, Outlet, Pumped};
 use std::sync::Wait;

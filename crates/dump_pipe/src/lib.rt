@@ -1,20 +1,37 @@
-//! Dumps through a pipe: one thread asks a source for the parts, another puts them out.
+//! Dumps through a pipe: one thread asks a source for the parts, another puts them out, one by one or joined to pages. Two
+//! words that no lock guards say how far a dump has come, and whether it is cancelled.
 #![tactic(auto)]
 
+pub mod cancel;
 pub mod channel;
 pub mod drainer;
+pub mod end_view;
 pub mod feeder;
 pub mod message;
+pub mod meter;
+pub mod meter_view;
+pub mod page;
+pub mod page_streams;
+pub mod paged_source;
+pub mod progress;
 pub mod pumps;
+pub mod rule;
+pub mod seats;
 pub mod start;
 pub mod streams;
-pub mod view;
+pub mod surplus;
 pub mod watched;
 
+pub use cancel::Cancel;
 pub use channel::{End, Receiver, Sender, pipe};
 pub use drainer::drain_pipe;
 pub use feeder::feed;
 pub use message::Message;
+pub use meter::{Meter, NewMeter};
+pub use page::PAGE_ROOM;
+pub use page_streams::stream_paged;
+pub use progress::Progress;
 pub use pumps::pump_counted;
+pub use seats::{AskSeat, FeedSeat, OutSeat, ReadSeat};
 pub use streams::stream_parts;
 pub use watched::Watched;

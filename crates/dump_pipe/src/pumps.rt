@@ -3,7 +3,8 @@ ghost use Rattle.std.specs.Prelude.{◌≡◌, ◌+◌, ◌<◌, ◌^◌};
 ghost use Rattle.dump_pump.specs.Pumps.{IsPumped, bytes_of};
 ghost use Rattle.dump_pipe.specs.Pipes.{byte_limit};
 
-use dump_meter::{OutSeat, Progress};
+use crate::progress::Progress;
+use crate::seats::OutSeat;
 use dump_pump::transfer::put_all;
 use dump_pump::{Next, Outlet, Pumped, Source};
 

@@ -1,7 +1,8 @@
 //! Sources that can be cancelled.
 ghost use Rattle.std.specs.Prelude.{◌≡◌};
 
-use dump_meter::{Cancel, FeedSeat};
+use crate::cancel::Cancel;
+use crate::seats::FeedSeat;
 use dump_pump::{Next, Source};
 
 /// A source that looks before each part whether anybody asked to cancel. It gives Cancelled if so, else the answer of its own

@@ -2,7 +2,7 @@
 ghost use Rattle.std.specs.Prelude.{◌≡◌, ◌++◌};
 ghost use Rattle.dump_pump.specs.Outlets.{bytes_of};
 
-use http_server::Log;
+use crate::Log;
 
 /// Appends bytes to a ghost log. Does nothing at run time. Takes no memory.
 pub fn note_bytes(log: &mut Log<u8, ()>, bytes: &[u8])

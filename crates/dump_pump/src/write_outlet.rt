@@ -4,8 +4,7 @@ ghost use Rattle.std.specs.Io.KnownBytes.{Appends};
 ghost use Rattle.dump_pump.specs.Outlets.{IsTriedWrite};
 
 use crate::ledger::note_bytes;
-use crate::{Outlet, Put};
-use http_server::Log;
+use crate::{Log, Outlet, Put};
 use std::io::{ErrorKind, Write};
 use std::marker::Model;
 use std::snapshot::Snapshot;

@@ -3,7 +3,7 @@ ghost use Rattle.std.specs.Prelude.{◌≡◌, IfOk, IfErr};
 ghost use Rattle.heap_class.specs.declared.Refusal.TheVariants.{NoMemory};
 ghost use Rattle.dump_server.specs.Dumps.{IsDump, IsDumpRefused, PutsServedPin};
 
-use dump_meter::{Meter, NewMeter};
+use dump_pipe::{Meter, NewMeter};
 use dump_pump::{Outlet, Pumped};
 use heap_class::Refusal;
 use heap_lock::{Heap, Shared, Witness};

@@ -1,10 +1,10 @@
 //! Streams of a shared heap's dump, one of which may be lost for want of memory.
 ghost use Rattle.std.specs.Prelude.{◌≡◌, IfSome, false};
-ghost use Rattle.dump_meter.specs.Seats.{sum, cancel_found};
+ghost use Rattle.dump_pipe.specs.Seats.{sum, cancel_found};
 
 use crate::digest::Digest;
 use crate::states::digest_of;
-use dump_meter::{Meter, NewMeter};
+use dump_pipe::{Meter, NewMeter};
 use dump_pump::{Pumped, WriteOutlet};
 use heap_class::{Kind, LostCause, Refusal};
 use heap_lock::{Blank, Heap, Role, Seat, Shared, Witness};

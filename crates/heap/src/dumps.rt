@@ -1,10 +1,10 @@
 //! Dumps of the current state in one call, watched from another thread.
 ghost use Rattle.std.specs.Prelude.{◌≡◌};
 ghost use denote.Param.Send.{IsSync};
-ghost use Rattle.dump_meter.specs.Seats.{sum};
+ghost use Rattle.dump_pipe.specs.Seats.{sum};
 ghost use Rattle.heap.specs.Dumps.{IsClosing, IsDumped};
 
-use dump_meter::{AskSeat, FeedSeat, Meter, NewMeter, OutSeat, ReadSeat};
+use dump_pipe::{AskSeat, FeedSeat, Meter, NewMeter, OutSeat, ReadSeat};
 use dump_pump::{Outlet, Pumped};
 use heap_class::Refusal;
 use heap_lock::{Heap, Shared, Witness};

@@ -19,7 +19,7 @@ pub use audits::{Claim, audit_claims};
 pub use classes::{define_array_class, define_class};
 pub use count::Count;
 pub use cycles::Halt;
-pub use dump_meter::{AskSeat, FeedSeat, Meter, NewMeter, OutSeat, ReadSeat};
+pub use dump_pipe::{AskSeat, FeedSeat, Meter, NewMeter, OutSeat, ReadSeat};
 pub use dump_pump::{Outlet, Pumped, WriteOutlet};
 pub use dumps::{DumpWatcher, Dumped, LastSeen, dump};
 pub use heap_class::{Field, Fields, Kind, Name, Refusal};

@@ -2,8 +2,7 @@
 ghost use Rattle.std.specs.Prelude.{◌≡◌, ◌<◌, [], length};
 
 use dump_pump::ledger::note_bytes;
-use dump_pump::{Outlet, Put};
-use http_server::Log;
+use dump_pump::{Log, Outlet, Put};
 use session_text::write_all;
 use std::alloc::{AllocError, Global};
 use std::marker::Model;

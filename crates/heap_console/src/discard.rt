@@ -2,8 +2,7 @@
 ghost use Rattle.std.specs.Prelude.{◌≡◌, []};
 
 use dump_pump::ledger::note_bytes;
-use dump_pump::{Outlet, Put};
-use http_server::Log;
+use dump_pump::{Log, Outlet, Put};
 use std::marker::Model;
 
 // An outlet that takes all that it is given and keeps nothing. Contracts see the bytes that it took.

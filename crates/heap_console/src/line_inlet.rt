@@ -3,8 +3,8 @@ ghost use Rattle.std.specs.Prelude.{◌≡◌, ◌<◌, ◌≤◌, length};
 ghost use Rattle.heap_console.specs.Lines.{IsLineGiven};
 
 use crate::columns::LINE_END;
+use dump_pump::Log;
 use dump_pump::ledger::note_bytes;
-use http_server::Log;
 use question_text::{BAD_COMMAND, Watch};
 use session_text::inlet::count_of;
 use session_text::{Inlet, Take};

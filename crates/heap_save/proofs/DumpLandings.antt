@@ -19,7 +19,7 @@ use Rattle.dump_pump.specs.declared.transfer.Pumped.{Pumped}
 use Rattle.dump_pump.specs.declared.transfer.Pumped.TheVariants.{Done, OutletFailed, Lost, Cancelled}
 use Rattle.dump_pump.specs.Outlets.{Outgoing}
 use Rattle.dump_pump.specs.Pumps.{bytes_of}
-use Rattle.heap_dump.specs.PinDumps.{FitsText, PutsText, DumpsUnless, IsPlaceDumped, with_number_used}
+use Rattle.pin_dump.specs.PinDumps.{FitsText, PutsText, DumpsUnless, IsPlaceDumped, with_number_used}
 use Rattle.heap_save.specs.declared.late_outlet.Opening.{Opening}
 use Rattle.heap_save.specs.declared.late_outlet.Opening.TheVariants.{Unasked, Made, Refused}
 use Rattle.heap_save.specs.LateOutlets.{Since, IsLate, outlet_in}

@@ -6,7 +6,7 @@ use Rattle.dump_pump.specs.declared.transfer.Pumped.TheVariants.{Done, OutletFai
 use Rattle.dump_pump.specs.Outlets.{Outgoing}
 use Rattle.dump_pump.specs.Pumps.{bytes_of}
 use Rattle.heap_trail.specs.Machine.{Machine}
-use Rattle.heap_dump.specs.PinDumps.{IsPlaceDumped, with_number_used}
+use Rattle.pin_dump.specs.PinDumps.{IsPlaceDumped, with_number_used}
 use Rattle.session_text.specs.declared.Ended.{Ended}
 use Rattle.session_text.specs.Endings.{EndsSession, EndsWith}
 use Rattle.session_text.specs.Inlets.{Incoming}

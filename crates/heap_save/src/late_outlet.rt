@@ -5,8 +5,7 @@ ghost use Rattle.heap_save.specs.LateOutlets.{IsOutletAsked, IsPutThere, FitsLat
 
 use crate::outlets::Outlets;
 use dump_pump::ledger::note_bytes;
-use dump_pump::{Outlet, Put};
-use http_server::Log;
+use dump_pump::{Log, Outlet, Put};
 use std::marker::{Brand, Model, PhantomData};
 
 // A fact about a place before it was asked. Each call picks it.

@@ -10,7 +10,7 @@ use crate::line::write_last;
 use crate::outlets::Outlets;
 use dump_pump::{Outlet, Pumped};
 use heap_trail::Machine;
-use pin_stream::{Gauge, stream_place};
+use pin_dump::{Gauge, stream_place};
 use session_text::{Ended, Inlet, Local, serve_local};
 use std::alloc::Global;
 use std::marker::Brand;

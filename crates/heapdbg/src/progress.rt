@@ -2,7 +2,7 @@
 use dump_client::Watcher;
 use heap_class::IdSize;
 use heap_trail::Machine;
-use pin_stream::{Gauge, dump_size};
+use pin_dump::{Gauge, dump_size};
 use std::alloc::Global;
 use std::time::{Clock, Duration, Instant};
 

@@ -10,7 +10,7 @@ use dump_pump::{Outlet, Pumped, WriteOutlet};
 use heap_save::{Outlets, save_after, save_into};
 use heap_trail::Machine;
 use heapdbg_options::settings::{Settings, config};
-use pin_stream::Gauge;
+use pin_dump::Gauge;
 use question_text::{Watch, serve_asking};
 use session_text::{Ended, Inlet, Local};
 use std::fs;

@@ -4,10 +4,9 @@ ghost use Rattle.heap_lock.specs.Calls.{IsLegalLedger};
 ghost use Rattle.live_dump.specs.Supplies.{IsSupplied, pieces_in, ended_with, pieces_with, nothing_of};
 
 use dump_pump::source::PART_LIMIT;
-use dump_pump::{Ending, Next, Source};
+use dump_pump::{Ending, Log, Next, Source};
 use heap_lock::{Heap, LockedSource, Shared, Witness};
 use hprof_text::Piece;
-use http_server::Log;
 use std::marker::Model;
 use std::sync::Wait;
 

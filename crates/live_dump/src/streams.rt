@@ -1,14 +1,13 @@
 //! Dumps of a shared heap's pins through a pipe.
 ghost use Rattle.std.specs.Prelude.{◌≡◌, ◌+◌, ◌<◌, ◌^◌};
 ghost use Rattle.dump_pump.specs.Pumps.{bytes_of};
-ghost use Rattle.dump_meter.specs.Seats.{sum};
+ghost use Rattle.dump_pipe.specs.Seats.{sum};
 ghost use Rattle.dump_pipe.specs.Pipes.{byte_limit};
 ghost use Rattle.heap_lock.specs.Calls.{IsLegalLedger};
 ghost use Rattle.live_dump.specs.Streams.{PutsLive};
 
 use crate::source::ToldSource;
-use dump_meter::{FeedSeat, Meter, OutSeat};
-use dump_pipe::{Watched, stream_parts};
+use dump_pipe::{FeedSeat, Meter, OutSeat, Watched, stream_parts};
 use dump_pump::{Outlet, Pumped};
 use heap_lock::{Heap, Shared, Witness};
 use std::alloc::Global;

@@ -1,7 +1,7 @@
 //! Pins of others.
 use crate::saves::saved;
 use crate::sessions::local;
-use pin_stream::Silent;
+use pin_dump::Silent;
 use session_text::Local;
 use std::alloc::Global;
 use std::sync::Wait;

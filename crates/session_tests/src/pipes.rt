@@ -4,7 +4,7 @@ use crate::saves::saved;
 use crate::sessions::local;
 use dump_pump::{Pumped, WriteOutlet};
 use heap_trail::Machine;
-use pin_stream::Gauge;
+use pin_dump::Gauge;
 use session_text::{Local, ReadInlet};
 use std::alloc::Global;
 use std::sync::Wait;

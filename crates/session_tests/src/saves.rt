@@ -3,7 +3,7 @@ use crate::examples::{DUMP_OF_ONE_POINT, POINT, POINT_MADE};
 use crate::sessions::local;
 use dump_pump::{Pumped, WriteOutlet};
 use heap_save::{Outlets, Saved, save_into};
-use pin_stream::{Gauge, Silent};
+use pin_dump::{Gauge, Silent};
 use session_text::{Ended, Local, ReadInlet};
 use std::alloc::Global;
 use std::sync::Wait;

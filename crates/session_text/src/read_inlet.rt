@@ -3,9 +3,9 @@ ghost use Rattle.std.specs.Prelude.{◌≡◌, ◌<◌, [], length};
 ghost use Rattle.session_text.specs.Inlets.{IsTriedRead};
 
 use crate::inlet::{Inlet, Take, count_of};
+use dump_pump::Log;
 use dump_pump::ledger::note_bytes;
 use dump_pump::write_outlet::INTERRUPT_LIMIT;
-use http_server::Log;
 use std::io::{ErrorKind, Read};
 use std::marker::Model;
 

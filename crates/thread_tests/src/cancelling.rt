@@ -1,13 +1,12 @@
 //! Sources that are watched: asked before, between two parts, and by another thread in the middle of a stream.
 ghost use Rattle.std.specs.Prelude.{◌≡◌, ◌<◌, All, false};
 ghost use denote.Param.Send.{IsSync};
-ghost use Rattle.dump_meter.specs.Seats.{sum, cancel_asked, cancel_found};
+ghost use Rattle.dump_pipe.specs.Seats.{sum, cancel_asked, cancel_found};
 
 use crate::parts::{Asking, PinParts, one_point, points, text_of};
 use crate::sinks::{Gated, reaches};
 use crate::streaming::{into_writer, stream_whole};
-use dump_meter::{AskSeat, Cancel, FeedSeat, Meter, NewMeter, OutSeat};
-use dump_pipe::Watched;
+use dump_pipe::{AskSeat, Cancel, FeedSeat, Meter, NewMeter, OutSeat, Watched};
 use dump_pump::{Pumped, WriteOutlet, pump};
 use std::alloc::Global;
 use std::sync::Wait;

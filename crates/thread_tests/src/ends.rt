@@ -2,14 +2,13 @@
 ghost use Rattle.std.specs.Prelude.{◌≡◌, ◌<◌, []};
 ghost use Rattle.crossbeam_channel.specs.Claims.{view, IsSeatAt};
 ghost use Rattle.crossbeam_channel.specs.Ends.{sends_on, receives_on};
-ghost use Rattle.dump_meter.specs.Seats.{sum};
-ghost use Rattle.dump_pipe.specs.declared.view.EndView.TheVariants.{Sends, Gets};
+ghost use Rattle.dump_pipe.specs.Seats.{sum};
+ghost use Rattle.dump_pipe.specs.declared.end_view.EndView.TheVariants.{Sends, Gets};
 
 use crate::parts::{Counted, PinParts, one_point, points};
 use crate::sinks::{Sink, reaches};
-use dump_meter::{Meter, NewMeter, OutSeat};
 use dump_pipe::start::Start;
-use dump_pipe::{End, Receiver, Sender, drain_pipe, feed, pipe};
+use dump_pipe::{End, Meter, NewMeter, OutSeat, Receiver, Sender, drain_pipe, feed, pipe};
 use dump_pump::{Ending, Pumped, WriteOutlet};
 use std::alloc::{AllocError, Global};
 use std::sync::Wait;

@@ -1,12 +1,12 @@
 //! Streams of a shared heap's pin: beside a mutator, and cancelled by a third thread.
 ghost use Rattle.std.specs.Prelude.{◌≡◌};
 ghost use denote.Param.Send.{IsSync};
-ghost use Rattle.dump_meter.specs.Seats.{sum};
+ghost use Rattle.dump_pipe.specs.Seats.{sum};
 
 use crate::cancelling::ask_once_held;
 use crate::shared::{acts, pumped, put_x, streamed};
 use crate::sinks::{Gated, reaches};
-use dump_meter::{AskSeat, FeedSeat, Meter, OutSeat};
+use dump_pipe::{AskSeat, FeedSeat, Meter, OutSeat};
 use dump_pump::Pumped;
 use heap_lock::{Heap, Seat, Shared};
 use std::alloc::Global;

@@ -1,10 +1,10 @@
 //! Dumps of a shared heap's pin, by `pump` and by `stream`.
 ghost use Rattle.std.specs.Prelude.{◌≡◌, All, false};
-ghost use Rattle.dump_meter.specs.Seats.{sum, cancel_asked, cancel_found};
+ghost use Rattle.dump_pipe.specs.Seats.{sum, cancel_asked, cancel_found};
 
 use crate::live::{pumped_beside, streamed_beside, streamed_cancelled};
 use crate::shared::{has_points, pumped_now};
-use dump_meter::{Meter, NewMeter};
+use dump_pipe::{Meter, NewMeter};
 use dump_pump::Pumped;
 use heap_lock::{Blank, Heap, Role, Seat, Shared};
 use heap_world::Config;

@@ -1,11 +1,11 @@
 //! Streams of a shared heap's pin with a meter's seats: one that reads beside the stream, and one that asked before it.
 ghost use Rattle.std.specs.Prelude.{◌≡◌, All, false};
 ghost use denote.Param.Send.{IsSync};
-ghost use Rattle.dump_meter.specs.Seats.{sum, sum_read, cancel_asked, cancel_found};
+ghost use Rattle.dump_pipe.specs.Seats.{sum, sum_read, cancel_asked, cancel_found};
 
 use crate::shared::{has_points, pumped_now, streamed};
 use crate::streaming::read_along;
-use dump_meter::{FeedSeat, Meter, NewMeter, OutSeat, ReadSeat};
+use dump_pipe::{FeedSeat, Meter, NewMeter, OutSeat, ReadSeat};
 use dump_pump::Pumped;
 use heap_lock::{Blank, Heap, Role, Shared};
 use heap_world::Config;

@@ -1,13 +1,12 @@
 //! What a meter's reader sees: of a stream that is held, and of a dump in one thread.
 ghost use Rattle.std.specs.Prelude.{◌≡◌, ◌<◌, All};
 ghost use denote.Param.Send.{IsSync};
-ghost use Rattle.dump_meter.specs.Seats.{sum, sum_read};
+ghost use Rattle.dump_pipe.specs.Seats.{sum, sum_read};
 
 use crate::parts::{PinParts, points};
 use crate::sinks::{Gated, Sink, reaches};
 use crate::streaming::stream_whole;
-use dump_meter::{Meter, NewMeter, OutSeat, ReadSeat};
-use dump_pipe::pump_counted;
+use dump_pipe::{Meter, NewMeter, OutSeat, ReadSeat, pump_counted};
 use dump_pump::{Pumped, WriteOutlet};
 use std::alloc::Global;
 use std::sync::Wait;

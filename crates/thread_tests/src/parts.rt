@@ -2,7 +2,7 @@
 ghost use Rattle.std.specs.Prelude.{◌≡◌, ◌<◌, ◌≤◌, IfOk};
 ghost use Rattle.dump_pump.specs.Sources.{part_limit};
 
-use dump_meter::{AskSeat, Cancel};
+use dump_pipe::{AskSeat, Cancel};
 use dump_pump::source::PART_LIMIT;
 use dump_pump::{Ending, Next, Pumped, Source, WriteOutlet, pump};
 use heap_class::LostCause;

@@ -1,8 +1,8 @@
 //! Heaps under a lock, and what their dumps put out.
 ghost use Rattle.std.specs.Prelude.{◌≡◌};
-ghost use Rattle.dump_meter.specs.Seats.{sum};
+ghost use Rattle.dump_pipe.specs.Seats.{sum};
 
-use dump_meter::{FeedSeat, Meter, OutSeat};
+use dump_pipe::{FeedSeat, Meter, OutSeat};
 use dump_pump::{Pumped, WriteOutlet, pump};
 use heap_lock::{Heap, LockedSource, Seat, Shared};
 use heap_scripts::{new, point};

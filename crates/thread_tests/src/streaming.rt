@@ -1,14 +1,13 @@
 //! Streams: worked examples.
 ghost use Rattle.std.specs.Prelude.{◌≡◌, ◌+◌, ◌<◌, ◌^◌, All};
 ghost use denote.Param.Send.{IsSync};
-ghost use Rattle.dump_meter.specs.Seats.{sum, sum_read};
+ghost use Rattle.dump_pipe.specs.Seats.{sum, sum_read};
 ghost use Rattle.dump_pipe.specs.Pipes.{byte_limit};
 
 use crate::cancelling::cancelled_before;
 use crate::parts::{PinParts, points};
 use crate::sinks::{Sink, TURNS};
-use dump_meter::{Meter, NewMeter, OutSeat, Progress, ReadSeat};
-use dump_pipe::stream_parts;
+use dump_pipe::{Meter, NewMeter, OutSeat, Progress, ReadSeat, stream_parts};
 use dump_pump::{Pumped, Source, WriteOutlet};
 use std::alloc::Global;
 use std::io::Write;

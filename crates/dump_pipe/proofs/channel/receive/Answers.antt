@@ -1,7 +1,7 @@
 use Rattle.std.proofs.Common.{sym, ap, ◌∙◌}
 use Rattle.crossbeam_channel.specs.Claims.{view}
-use Rattle.dump_pipe.specs.declared.view.EndView.{EndView}
-use Rattle.dump_pipe.specs.declared.view.EndView.TheVariants.{Gets}
+use Rattle.dump_pipe.specs.declared.end_view.EndView.{EndView}
+use Rattle.dump_pipe.specs.declared.end_view.EndView.TheVariants.{Gets}
 use Rattle.dump_pipe.specs.Pipes.{list_of}
 use Rattle.dump_pipe.proofs.PipeSteps.{gets_as}
 use Rattle.dump_pipe.proofs.channel.receive.Goals as goal

@@ -1,8 +1,8 @@
 use Rattle.std.proofs.Common.{◌≤◌, [], ◌∷◌, ◌++◌, sym, ap, ◌∙◌, subst}
 use Rattle.crossbeam_channel.specs.Claims.{view}
 use Rattle.dump_pipe.specs.declared.message.Message.{Message}
-use Rattle.dump_pipe.specs.declared.view.EndView.{EndView}
-use Rattle.dump_pipe.specs.declared.view.EndView.TheVariants.{Sends}
+use Rattle.dump_pipe.specs.declared.end_view.EndView.{EndView}
+use Rattle.dump_pipe.specs.declared.end_view.EndView.TheVariants.{Sends}
 use Rattle.dump_pipe.specs.Pipes.{weigh, list_of, byte_limit}
 use Rattle.dump_pipe.proofs.PipeSteps.{sends_as}
 use Rattle.dump_pipe.proofs.channel.send.Goals as goal

@@ -1,5 +1,5 @@
 use Rattle.std.proofs.Common.{◌≡◌, ◌++◌, List, ℕ, take, length, sym, ap, ◌∙◌, arith}
-use Rattle.dump_meter.specs.Seats.{Sum}
+use Rattle.dump_pipe.specs.Seats.{Sum}
 use Rattle.dump_pipe.proofs.DrainSteps.{room, drain_more, drain_failed}
 use Rattle.dump_pipe.proofs.drainer.drain_pipe.Goals as goal
 

@@ -1,5 +1,5 @@
 use Rattle.std.proofs.Common.{◌≡◌, ◌++◌, ℕ, List, take, length, sym, ap, ◌∙◌, arith}
-use Rattle.dump_meter.specs.Seats.{Sum}
+use Rattle.dump_pipe.specs.Seats.{Sum}
 use Rattle.dump_pump.proofs.PumpSteps.{opened, done, failed_at}
 use Rattle.dump_pipe.proofs.pumps.pump_counted.Goals as goal
 

@@ -1,5 +1,5 @@
 use Rattle.std.proofs.Common.{ap, ◌∙◌}
-use Rattle.dump_meter.specs.Seats.{FeedSeatState}
+use Rattle.dump_pipe.specs.Seats.{FeedSeatState}
 use Rattle.dump_pipe.proofs.WatchedSources.{passed, stopped}
 use Rattle.dump_pipe.proofs.watched.WatchedSource.next.Goals as goal
 

@@ -1,2 +1,0 @@
-pub mod PageFilling
-pub mod PageStreams

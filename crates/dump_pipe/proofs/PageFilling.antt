@@ -1,0 +1,140 @@
+-- A page that is being filled.
+use Rattle.std.proofs.Common.{◌≡◌, ℕ, ◌<◌, ◌≤◌, Bool, true, false, List, [], ◌∷◌, ◌++◌, length, Option, Some, None, refl, ap, sym, ◌∙◌, subst, arith, append_assoc}
+use Rattle.std.proofs.lemmas.List.{append-nil}
+use Rattle.heap_class.specs.declared.LostCause.{LostCause}
+use Rattle.hprof_text.specs.declared.Piece.{Piece}
+use Rattle.dump_pump.specs.declared.source.Ending.TheVariants as End
+use Rattle.dump_pump.specs.declared.source.Next.{Next}
+use Rattle.dump_pump.specs.declared.source.Next.TheVariants.{Part, Lost, Cancelled}
+use Rattle.dump_pump.specs.Sources.{Supply, IsNextPart, more, part_limit, part_size_limit}
+use Rattle.dump_pump.specs.Pumps.{joined, ends}
+use Rattle.dump_pump.proofs.PumpSteps.{more_nil, more_more, joined_push, ends_push}
+use Rattle.dump_pipe.specs.declared.surplus.Surplus.{Surplus}
+use Rattle.dump_pipe.specs.Pages.{page_room, supply_at, IsAhead, IsAppended, IsFilled, IsPage, Pages}
+
+-- parts were appended to a page, and there may be more
+pub record IsFilling (a b : Supply) (page page' : List ℕ) : Type 0 where
+  pub parts : List Piece
+  pub bytes : page' ≡ page ++ joined parts
+  pub room : length page' ≤ page_room
+  pub ends : ends parts ≡ false
+  pub told : b.told ≡ more a.told parts
+  pub left : 0 < b.left
+  pub less : b.left ≤ a.left
+
+pub fill_begins : (a : Supply) (page : List ℕ) → 0 < a.left → length page ≤ page_room → IsFilling a a page page
+fill_begins a page left room = record {
+  parts = [];
+  bytes = sym (append-nil page);
+  room = room;
+  ends = refl;
+  told = more_nil a.told;
+  left = left;
+  less = omega arith;
+}
+
+-- a part more
+pub filled_more : (a b c : Supply) (page page1 page2 : List ℕ) (r : Next) (last : Bool) → last ≡ false → IsFilling a b page page1 → IsNextPart b c r → IsAppended page1 page2 r (Some last) → IsFilling a c page page2
+filled_more a b c page page1 page2 (Part p) last here f n is = record {
+  parts = f.parts ++ p ∷ [];
+  bytes = is.0 ∙ ap (λ l. l ++ p.bytes) f.bytes ∙ append_assoc page (joined f.parts) p.bytes ∙ ap (λ l. page ++ l) (sym (joined_push f.parts p));
+  room = is.1;
+  ends = ends_push f.parts p ∙ sym is.2 ∙ here;
+  told = n.0 ∙ ap (λ t. more t (p ∷ [])) f.told ∙ more_more a.told f.parts (p ∷ []);
+  left = n.3 (sym is.2 ∙ here);
+  less = omega (arith, n.2, f.less);
+}
+filled_more a b c page page1 page2 (Lost cause) last here f n is = absurd is
+filled_more a b c page page1 page2 Cancelled last here f n is = absurd is
+
+-- the last part
+pub filled_last : (a b c : Supply) (page page1 page2 : List ℕ) (r : Next) (last : Bool) → last ≡ true → IsFilling a b page page1 → IsNextPart b c r → IsAppended page1 page2 r (Some last) → IsFilled a c page page2 None true
+filled_last a b c page page1 page2 (Part p) last here f n is = record {
+  parts = f.parts ++ p ∷ [];
+  bytes = is.0 ∙ ap (λ l. l ++ p.bytes) f.bytes ∙ append_assoc page (joined f.parts) p.bytes ∙ ap (λ l. page ++ l) (sym (joined_push f.parts p));
+  room = is.1;
+  ends = ends_push f.parts p ∙ sym is.2 ∙ here;
+  rest = record {
+    ahead = n.0 ∙ ap (λ t. more t (p ∷ [])) f.told ∙ more_more a.told f.parts (p ∷ []);
+    less = omega (arith, n.2, f.less);
+    some = λ e. absurd cc;
+    whole = λ e. (refl, n.4 (sym is.2 ∙ here));
+  };
+}
+filled_last a b c page page1 page2 (Lost cause) last here f n is = absurd is
+filled_last a b c page page1 page2 Cancelled last here f n is = absurd is
+
+next_at : (b c : Supply) (told : _) (left : ℕ) (r : Next) → b.told ≡ told → left ≡ b.left → IsNextPart b c r → IsNextPart (supply_at told left) c r
+next_at b c told left (Part p) is at n = (n.0 ∙ ap (λ t. more t (p ∷ [])) is, n.1, omega (arith, n.2, at), n.3, n.4)
+next_at b c told left (Lost cause) is at n = (n.0 ∙ is, n.1)
+next_at b c told left Cancelled is at n = (n.0 ∙ is, n.1)
+
+-- nothing more, and a surplus
+pub filled_up : (a b c : Supply) (page page1 page2 : List ℕ) (left : ℕ) (r : Next) → IsFilling a b page page1 → IsNextPart b c r → left ≡ b.left → left ≤ part_limit → page2 ≡ page1
+    → IsFilled a c page page2 (Some (record { next = r; left = left })) false
+filled_up a b c page page1 page2 left r f n at most same = record {
+  parts = f.parts;
+  bytes = same ∙ f.bytes;
+  room = omega (arith, ap length same, f.room);
+  ends = f.ends;
+  rest = record {
+    ahead = (next_at b c (more a.told f.parts) left r f.told at n, most);
+    less = omega (arith, at, f.less);
+    some = λ e. omega (arith, at, f.left);
+    whole = λ e. absurd cc;
+  };
+}
+
+-- ---- a page
+
+-- a part alone
+pub alone : (a : Supply) (first : Piece) → length first.bytes ≤ part_size_limit → (first.last ≡ false → 0 < a.left) → (first.last ≡ true → a.ended ≡ Some End.Whole) → IsPage a a first first None
+alone a first small left whole = record {
+  parts = [];
+  bytes = sym (append-nil first.bytes);
+  last = refl;
+  small = small;
+  rest = record {
+    ahead = more_nil a.told;
+    less = omega arith;
+    some = left;
+    whole = λ e. (refl, whole e);
+  };
+}
+
+ends_after : (first : Piece) (parts : List Piece) (last : Bool) → first.last ≡ false → ends parts ≡ last → last ≡ ends (first ∷ parts)
+ends_after first [] last other is = sym is ∙ sym other
+ends_after first (p ∷ parts) last other is = sym is
+
+-- a part and others after it
+pub page_is : (a b : Supply) (first page : Piece) (start bytes : List ℕ) (surplus : Option Surplus) → first.last ≡ false → start ≡ first.bytes → page.bytes ≡ bytes → IsFilled a b start bytes surplus page.last → IsPage a b first page surplus
+page_is a b first page start bytes surplus other begins is f = record {
+  parts = f.parts;
+  bytes = is ∙ f.bytes ∙ ap (λ l. l ++ joined f.parts) begins;
+  last = ends_after first f.parts page.last other f.ends;
+  small = omega (arith, ap length is, f.room);
+  rest = f.rest;
+}
+
+-- the page that begins with the part that was drawn
+pub paged_so : (told : Option (List Piece)) (left : ℕ) (a b : Supply) (first page : Piece) (surplus : Option Surplus) → IsNextPart (supply_at told left) a (Part first) → IsPage a b first page surplus → Pages told left b surplus (Part page)
+paged_so told left a b first page surplus n p = record {
+  parts = first ∷ p.parts;
+  ahead = subst (λ t. IsAhead t b surplus) (ap (λ t. more t p.parts) n.0 ∙ more_more told (first ∷ []) p.parts) p.rest.ahead;
+  says = (p.bytes, p.last, omega arith, p.small, omega (arith, p.rest.less, n.2), p.rest.some, p.rest.whole);
+}
+
+-- no page
+pub lost_so : (told : Option (List Piece)) (left : ℕ) (b : Supply) (cause : LostCause) (surplus : Option Surplus) → surplus ≡ None → IsNextPart (supply_at told left) b (Lost cause) → Pages told left b surplus (Lost cause)
+lost_so told left b cause surplus none n = record {
+  parts = [];
+  ahead = subst (λ x. IsAhead (more told []) b x) (sym none) (n.0 ∙ more_nil told);
+  says = (refl, none, n.1);
+}
+
+pub cancelled_so : (told : Option (List Piece)) (left : ℕ) (b : Supply) (surplus : Option Surplus) → surplus ≡ None → IsNextPart (supply_at told left) b Cancelled → Pages told left b surplus Cancelled
+cancelled_so told left b surplus none n = record {
+  parts = [];
+  ahead = subst (λ x. IsAhead (more told []) b x) (sym none) (n.0 ∙ more_nil told);
+  says = (refl, none, n.1);
+}

@@ -1,0 +1,57 @@
+-- Sources whose parts are pages.
+use Rattle.std.specs.Prelude.{◌≡◌, ℕ, List, [], ◌∷◌, ◌++◌, map, Option, Some, None, if◌then◌else◌}
+use Rattle.hprof_text.specs.declared.Piece.{Piece}
+use Rattle.dump_pump.specs.declared.source.Ending.{Ending}
+use Rattle.dump_pump.specs.declared.source.Ending.TheVariants as End
+use Rattle.dump_pump.specs.declared.source.Next.{Next}
+use Rattle.dump_pump.specs.declared.source.Next.TheVariants.{Part, Lost, Cancelled}
+use Rattle.dump_pump.specs.Pumps.{joined, ends}
+use Rattle.dump_pump.specs.Sources.{Supply, more}
+use Rattle.dump_pipe.specs.declared.surplus.Surplus.{Surplus}
+use Rattle.dump_pipe.specs.Pages.{IsAhead, parts_left}
+
+-- a source, the pages given of it, how that ended, and the surplus
+pub record PagingState (S : Type 0) : Type 0 where
+  pub source : S
+  pub given : List Piece
+  pub ended : Option Ending
+  pub surplus : Option Surplus
+
+-- no page was given
+abbrev pub unpaged : {S : Type 0} → S → PagingState S
+unpaged source = record { source = source; given = []; ended = None; surplus = None }
+
+-- the supply by pages of a source that has this number of parts left
+abbrev pub paged_supply : List Piece → Option Ending → Option Surplus → ℕ → Supply
+paged_supply given ended surplus left =
+    record { told = Some given; ended = ended; left = parts_left surplus left }
+
+-- the pages of a ledger
+abbrev pub pages_in : List (Piece × Unit {0}) → List Piece
+pages_in entries = map (λ e. e.0) entries
+
+-- the pages given, with the next answer's
+abbrev pub pages_with : List Piece → Next → List Piece
+pages_with given (Part page) = given ++ page ∷ []
+pages_with given (Lost cause) = given
+pages_with given Cancelled = given
+
+-- the ending of a source whose last answer this is
+abbrev pub ended_by_page : Next → Option Ending
+ended_by_page (Part page) = if page.last then Some End.Whole else None
+ended_by_page (Lost cause) = Some (End.Lost cause)
+ended_by_page Cancelled = Some End.Cancelled
+
+-- the pages ended as their source did, and nothing is left over
+abbrev pub EndsAsSource : Supply → Option Surplus → Option Ending → Type 0
+EndsAsSource s surplus None = Unit {0}
+EndsAsSource s surplus (Some e) = (surplus ≡ None) × (s.ended ≡ Some e)
+
+-- the pages that were given are the parts, joined, that the source told since it had told `start`, but for the surplus
+pub record ArePages (start : Option (List Piece)) (s : Supply) (given : List Piece)
+    (ended : Option Ending) (surplus : Option Surplus) : Type 0 where
+  pub parts : List Piece
+  pub same : joined parts ≡ joined given
+  pub ends : ends parts ≡ ends given
+  pub ahead : IsAhead (more start parts) s surplus
+  pub whole : EndsAsSource s surplus ended

@@ -1,0 +1,47 @@
+//! The cancel word of a meter.
+ghost use Rattle.std.specs.Prelude.{◌≡◌, true};
+ghost use Rattle.dump_pipe.specs.Seats.{cancel_asked, cancel_found};
+
+use crate::meter_view::MeterView;
+use crate::rule::{Asks, Counts, Looks};
+use crate::seats::{AskSeat, FeedSeat};
+use atomic_table::Shared;
+use std::marker::Model;
+
+/// The cancel word of a meter: whether one of its askers asked. Contracts see the meter.
+#[derive(Drop)]
+pub struct Cancel<'a> {
+    pub(crate) table: &'a Shared<(), MeterView, (), Counts>,
+}
+
+impl<'a> Model for Cancel<'a> {
+    ghost use Rattle.std.specs.Prelude.{◌≡◌};
+    ghost use Rattle.atomic_table.specs.Seated.{TableId, table_id_coded};
+
+    ghost Value = { TableId };
+
+    ghost coded = { table_id_coded };
+
+    ghost view = { λ c. c.table.now.table_id };
+
+    ghost invariant = { λ c. c.table.now.table_id.words ≡ 2 };
+}
+
+impl<'a> Cancel<'a> {
+    /// Asks to cancel, by a seat of this meter. The request can't be withdrawn. Waits for nothing.
+    pub fn ask(&self, seat: &mut AskSeat)
+        requires { seat.old.meter ≡ self.now }
+        ensures { seat.new ≡ cancel_asked self.now true }
+    {
+        let _ = self.table.fetch_or::<Asks>(&mut seat.seat, 1, 1);
+    }
+
+    /// Tells whether anybody asked, by a seat of this meter. Once it is true it stays so. Waits for nothing.
+    pub fn is_asked(&self, seat: &mut FeedSeat) -> bool
+        requires { seat.old.meter ≡ self.now }
+        ensures found { seat.new ≡ cancel_found self.now result }
+        ensures lasting { seat.old.found ≡ true → result ≡ true }
+    {
+        self.table.load::<Looks>(&mut seat.seat, 1) == 1
+    }
+}

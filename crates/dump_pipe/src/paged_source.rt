@@ -1,0 +1,128 @@
+//! Sources whose parts are pages.
+ghost use Rattle.std.specs.Prelude.{◌≡◌};
+ghost use Rattle.dump_pipe.specs.PagedSources.{ArePages, ended_by_page, pages_with, pages_in, unpaged};
+
+use crate::page::next_page;
+use crate::surplus::Surplus;
+use dump_pump::{Ending, Log, Next, Source};
+use hprof_text::Piece;
+use std::alloc::Global;
+use std::marker::{Brand, Model, PhantomData};
+
+/// The parts that a source had told when its pages began. Each call of a stream picks them.
+pub trait PartsBefore {
+    ghost use Rattle.std.specs.Prelude.{List, Option};
+    ghost use Rattle.hprof_text.specs.declared.Piece.{Piece};
+
+    ghost told: { Option (List Piece) };
+}
+
+impl PartsBefore for Brand {
+    ghost use Rattle.std.specs.Prelude.{None};
+
+    ghost told = { None };
+}
+
+// A source that gives the parts of its own source by pages: the bytes of several parts, joined. Contracts see its own source,
+// the pages that it gave, how it ended, and the surplus.
+#[derive(Drop)]
+pub(crate) struct PagedSource<S: Source, B: PartsBefore> {
+    source: S,
+    alloc: Global,
+    surplus: Option<Surplus>,
+    given: Log<Piece, ()>,
+    ended: Option<Ending>,
+    of: PhantomData<B>,
+}
+
+impl<S: Source, B: PartsBefore> Model for PagedSource<S, B> {
+    ghost use Rattle.dump_pipe.specs.PagedSources.{PagingState, ArePages, pages_in};
+
+    ghost Value = { PagingState S };
+
+    ghost view = { λ p.
+        record {
+          source = p.source;
+          given = pages_in p.given.items;
+          ended = p.ended;
+          surplus = p.surplus;
+        } };
+
+    ghost invariant = { λ p. ArePages B.told (S.seen p.source) (pages_in p.given.items) p.ended
+        p.surplus };
+}
+
+// Notes a page that was given. Returns how the source ended, if it did.
+fn note(given: &mut Log<Piece, ()>, next: &Next) -> Option<Ending>
+    ensures given { pages_in given.new.items ≡ pages_with (pages_in given.old.items) next.now }
+    ensures ended { result ≡ ended_by_page next.now }
+{
+    match next {
+        Next::Part(piece) => {
+            *given = given.and(piece, &());
+            if piece.last {
+                Some(Ending::Whole)
+            } else {
+                None
+            }
+        }
+        Next::Lost(cause) => Some(Ending::Lost(*cause)),
+        Next::Cancelled => Some(Ending::Cancelled),
+    }
+}
+
+impl<S: Source, B: PartsBefore> PagedSource<S, B> {
+    // Creates a source that has given no page. Takes no memory yet.
+    pub(crate) fn new(alloc: Global, source: S) -> PagedSource<S, B>
+        requires { (S.seen source).told ≡ B.told }
+        ensures { result ≡ unpaged source }
+    {
+        PagedSource {
+            source,
+            alloc,
+            surplus: None,
+            given: Log::new(),
+            ended: None,
+            of: PhantomData,
+        }
+    }
+
+    // Returns the source of the parts. The contract says what the pages that were given are.
+    pub(crate) fn into_source(self) -> S
+        ensures source { result ≡ self.source }
+        ensures pages { ArePages B.told (S.seen self.source) self.given self.ended self.surplus }
+    {
+        let PagedSource {
+            source,
+            alloc: _,
+            surplus: _,
+            given: _,
+            ended: _,
+            of: _,
+        } = self;
+        source
+    }
+}
+
+impl<S: Source, B: PartsBefore> Source for PagedSource<S, B> {
+    ghost use Rattle.dump_pipe.specs.PagedSources.{paged_supply};
+
+    ghost Kept = { S.Kept };
+
+    ghost kept = { λ p. S.kept p.source };
+
+    ghost seen = { λ p. paged_supply p.given p.ended p.surplus (S.seen p.source).left };
+
+    fn next(&mut self) -> Next {
+        let next = next_page(self.alloc, &mut self.source, &mut self.surplus);
+        self.ended = note(&mut self.given, &next);
+        next
+    }
+
+    fn parts_left(&self) -> u64 {
+        match &self.surplus {
+            Some(surplus) => surplus.left,
+            None => self.source.parts_left(),
+        }
+    }
+}

@@ -1,5 +1,0 @@
-pub mod UngivenMachines
-pub mod PieceGiving
-pub mod Texts
-pub mod DumpPins
-pub mod PumpedPins

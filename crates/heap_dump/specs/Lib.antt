@@ -1,4 +1,0 @@
-pub mod HandedPieces
-pub mod Endings
-pub mod PinSupplies
-pub mod PinDumps

@@ -1,0 +1,6 @@
+pub mod UngivenMachines
+pub mod PieceGiving
+pub mod Texts
+pub mod DumpPins
+pub mod PumpedPins
+pub mod SourceStreams

@@ -1,0 +1,6 @@
+pub mod HandedPieces
+pub mod Endings
+pub mod PinSupplies
+pub mod PinDumps
+pub mod FreshSupplies
+pub mod Streams

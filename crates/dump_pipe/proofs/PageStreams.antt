@@ -82,7 +82,7 @@ next_as start a b given given2 ended ended2 x x2 r gives ends h p =
 
 -- ---- a stream
 
-from_some : (a b : List Piece) → Some a ≡ Some b → a ≡ b
+pub from_some : (a b : List Piece) → Some a ≡ Some b → a ≡ b
 from_some a b h = cc
 
 -- what is said of pages is said of their parts

@@ -11,6 +11,7 @@ use Rattle.dump_pump.specs.Outlets.{Outgoing}
 use Rattle.dump_pump.specs.Pumps.{FitsPump}
 use Rattle.dump_pipe.specs.Watches.{watched}
 use Rattle.dump_pipe.specs.Streams.{IsStreamed}
+use Rattle.dump_pipe.proofs.PageStreams.{from_some}
 use Rattle.heap_lock.specs.Calls.{Call}
 use Rattle.live_dump.specs.Supplies.{ToldSupply, nothing_of, AreGiven, AllLegal, MayEnd, IsSupplied, told_supply}
 use Rattle.live_dump.specs.Streams.{TellsStream, PutsLive}
@@ -29,9 +30,6 @@ tells pin time start seen given out found e failures failures2 (Done n) may h = 
 tells pin time start seen given out found e failures failures2 (OutletFailed n) may h = h
 tells pin time start seen given out found e failures failures2 (Lost cause n) may h = (h.0, subst (MayEnd pin time start given seen) (lost_so found e cause h.1) may, h.2)
 tells pin time start seen given out found e failures failures2 (Cancelled n) may h = (h.0, found_so pin time start given seen found e may h.1, h.2)
-
-from_some : (a b : List Piece) → Some a ≡ Some b → a ≡ b
-from_some a b h = cc
 
 -- from a source that gave nothing
 pub puts : (config : HeapSettings) (pin time : ℕ) (calls : List Call) (a t : ToldSupply) (was found : Bool) (w w2 : Outgoing) (r : Pumped) → a ≡ nothing_of pin time calls → t.pin ≡ a.pin → t.time ≡ a.time → t.start ≡ a.start → IsSupplied config t

@@ -22,6 +22,7 @@ mod talk;
 mod write;
 
 pub use commands::{Commands, LineAnswer, Local};
+pub use heap_trail::Machine;
 pub use inlet::{Inlet, Take};
 pub use read_inlet::ReadInlet;
 pub use talk::{serve, serve_local};

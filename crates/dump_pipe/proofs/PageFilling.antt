@@ -1,7 +1,7 @@
 -- A page that is being filled.
 use Rattle.std.proofs.Common.{◌≡◌, ℕ, ◌<◌, ◌≤◌, Bool, true, false, List, [], ◌∷◌, ◌++◌, length, Option, Some, None, refl, ap, sym, ◌∙◌, subst, arith, append_assoc}
 use Rattle.std.proofs.lemmas.List.{append-nil}
-use Rattle.heap_class.specs.declared.LostCause.{LostCause}
+use Rattle.dump_pump.specs.LostCause.{LostCause}
 use Rattle.hprof_text.specs.declared.Piece.{Piece}
 use Rattle.dump_pump.specs.declared.source.Ending.TheVariants as End
 use Rattle.dump_pump.specs.declared.source.Next.{Next}

@@ -7,3 +7,7 @@ pub mod Streams
 pub mod Watches
 pub mod Pages
 pub mod PagedSources
+-- What clauses here, and proofs above, cite of the crates below.
+pub use Rattle.atomic_table.specs.Seated
+pub use Rattle.crossbeam_channel.specs.Claims
+pub use Rattle.crossbeam_channel.specs.Ends

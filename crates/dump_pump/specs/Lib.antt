@@ -1,3 +1,6 @@
 pub mod Outlets
 pub mod Sources
 pub mod Pumps
+-- What clauses here, and proofs above, cite of the crates below.
+pub use Rattle.heap_class.specs.declared.LostCause
+pub use Rattle.hprof_text.specs.declared.Piece

@@ -1,10 +1,10 @@
 -- Dumps of a pin that was opened on the current state.
 use Rattle.std.proofs.Common.{◌≡◌, ℕ, List, [], ◌∷◌, ◌++◌, None, sym, ap, ◌∙◌, subst, inr, append_assoc, Result, Ok, Err, IfOk, IfErr}
-use Rattle.heap_class.specs.declared.Refusal.{Refusal}
-use Rattle.heap_class.specs.declared.Refusal.TheVariants.{NoMemory}
-use Rattle.heap_world.specs.Limits.{HeapSettings}
-use Rattle.heap_trail.specs.declared.Action.TheVariants.{OpenPin, ClosePin}
-use Rattle.heap_trail.specs.declared.Reply.TheVariants.{Pinned, Closed, Refused}
+use Rattle.heap_lock.specs.Refusal.{Refusal}
+use Rattle.heap_lock.specs.Refusal.TheVariants.{NoMemory}
+use Rattle.heap_lock.specs.HeapLimits.{HeapSettings}
+use Rattle.heap_lock.specs.Action.TheVariants.{OpenPin, ClosePin}
+use Rattle.heap_lock.specs.Reply.TheVariants.{Pinned, Closed, Refused}
 use Rattle.dump_pump.specs.declared.transfer.Pumped.{Pumped}
 use Rattle.dump_pump.specs.Outlets.{Outgoing}
 use Rattle.heap_lock.specs.Calls.{Call, IsLegalLedger, Witnesses}

@@ -1,14 +1,14 @@
 -- What is put out of a dump of the current state.
 use Rattle.std.specs.Prelude.{◌≡◌, ◌⊎◌, ℕ, Bool, List, [], ◌∷◌, ◌++◌, None}
-use Rattle.heap_class.specs.declared.Refusal.{Refusal}
-use Rattle.heap_class.specs.declared.Refusal.TheVariants.{NoMemory}
-use Rattle.heap_world.specs.Limits.{HeapSettings}
-use Rattle.hprof_text.specs.declared.Piece.{Piece}
-use Rattle.hprof_text.specs.Segments.{dump_text}
-use Rattle.heap_pins.specs.Images.{image_of}
-use Rattle.heap_trail.specs.declared.Action.TheVariants.{OpenPin, ClosePin}
-use Rattle.heap_trail.specs.declared.Reply.{Reply}
-use Rattle.heap_trail.specs.declared.Reply.TheVariants.{Pinned, Refused}
+use Rattle.heap_lock.specs.Refusal.{Refusal}
+use Rattle.heap_lock.specs.Refusal.TheVariants.{NoMemory}
+use Rattle.heap_lock.specs.HeapLimits.{HeapSettings}
+use Rattle.heap_lock.specs.Piece.{Piece}
+use Rattle.heap_lock.specs.Segments.{dump_text}
+use Rattle.heap_lock.specs.Images.{image_of}
+use Rattle.heap_lock.specs.Action.TheVariants.{OpenPin, ClosePin}
+use Rattle.heap_lock.specs.Reply.{Reply}
+use Rattle.heap_lock.specs.Reply.TheVariants.{Pinned, Refused}
 use Rattle.dump_pump.specs.declared.transfer.Pumped.{Pumped}
 use Rattle.dump_pump.specs.Outlets.{Outgoing}
 use Rattle.heap_lock.specs.Calls.{Call, IsLegalLedger, Witnesses}

@@ -1,9 +1,9 @@
 -- How dumps ended, in words.
 use Rattle.std.specs.Prelude.{ℕ, List, Option, Some, None, Result, Ok, Err, codes}
-use Rattle.heap_class.specs.declared.LostCause.{LostCause}
-use Rattle.heap_class.specs.declared.LostCause.TheVariants as cause
-use Rattle.heap_class.specs.declared.Refusal.{Refusal}
-use Rattle.heap_class.specs.Table.{refusal_name}
+use Rattle.heap_lock.specs.LostCause.{LostCause}
+use Rattle.heap_lock.specs.LostCause.TheVariants as cause
+use Rattle.heap_lock.specs.Refusal.{Refusal}
+use Rattle.heap_lock.specs.RefusalTable.{refusal_name}
 use Rattle.dump_pump.specs.declared.transfer.Pumped.{Pumped}
 use Rattle.dump_pump.specs.declared.transfer.Pumped.TheVariants.{Done, OutletFailed, Lost, Cancelled}
 

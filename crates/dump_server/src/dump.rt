@@ -1,13 +1,11 @@
 //! One dump of the current state.
 ghost use Rattle.std.specs.Prelude.{◌≡◌, IfOk, IfErr};
-ghost use Rattle.heap_class.specs.declared.Refusal.TheVariants.{NoMemory};
+ghost use Rattle.heap_lock.specs.Refusal.TheVariants.{NoMemory};
 ghost use Rattle.dump_server.specs.Dumps.{IsDump, IsDumpRefused, PutsServedPin};
 
-use dump_pipe::{Meter, NewMeter};
 use dump_pump::{Outlet, Pumped};
-use heap_class::Refusal;
-use heap_lock::{Heap, Shared, Witness};
-use live_dump::stream;
+use heap_lock::{Heap, Refusal, Shared, Witness};
+use live_dump::{Meter, NewMeter, stream};
 use std::alloc::Global;
 use std::sync::Wait;
 use std::thread::Threads;

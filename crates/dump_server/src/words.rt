@@ -3,7 +3,7 @@ ghost use Rattle.std.specs.Prelude.{◌≡◌, option_map};
 ghost use Rattle.dump_server.specs.Words.{word_of_cause, word_of_dump};
 
 use dump_pump::Pumped;
-use heap_class::{LostCause, Refusal};
+use heap_lock::{LostCause, Refusal};
 
 /// Returns the word for a dump that was refused or lost: the refusal's name, or the cause of the loss. Returns None if the dump
 /// is whole, if the client left, or if it was stopped.

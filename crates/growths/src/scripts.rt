@@ -1,10 +1,7 @@
 //! Scripts of actions on a machine.
 use crate::actions::{ActionReport, act_all};
 use heap_class::{Kind, Name, Refusal};
-use heap_scripts::{new, node, point, store};
-use heap_step::Event;
-use heap_trail::{Action, Machine};
-use heap_world::Config;
+use heap_scripts::{Action, Config, Event, Machine, new, node, point, store};
 use std::alloc::{AllocError, Global};
 
 // Returns what defines a class. If memory is refused, asks once more.

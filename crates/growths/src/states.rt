@@ -5,8 +5,7 @@ ghost use Rattle.heap_region.specs.Regions.{used_at};
 use crate::digest::Digest;
 use heap_class::{ObjKind, ObjRef};
 use heap_region::Regions;
-use heap_trail::Machine;
-use heap_world::World;
+use heap_scripts::{Machine, World};
 
 // Cells of a region, at the most.
 const CELLS: u16 = 256;

@@ -1,16 +1,14 @@
 //! Streams of a shared heap's dump, one of which may be lost for want of memory.
 ghost use Rattle.std.specs.Prelude.{◌≡◌, IfSome, false};
-ghost use Rattle.dump_pipe.specs.Seats.{sum, cancel_found};
+ghost use Rattle.live_dump.specs.Seats.{sum, cancel_found};
 
 use crate::digest::Digest;
 use crate::states::digest_of;
-use dump_pipe::{Meter, NewMeter};
 use dump_pump::{Pumped, WriteOutlet};
 use heap_class::{Kind, LostCause, Refusal};
 use heap_lock::{Blank, Heap, Role, Seat, Shared, Witness};
-use heap_step::Event;
-use heap_world::Config;
-use live_dump::stream;
+use heap_scripts::{Config, Event};
+use live_dump::{Meter, NewMeter, stream};
 use std::alloc::Global;
 use std::marker::Brand;
 use std::sync::Wait;

@@ -1,11 +1,11 @@
 -- What an actor gains by an act.
 use Rattle.std.proofs.Common.{◌≡◌, ℕ, List, [], ◌∷◌, ◌++◌, Result, Ok, Err, ap, ◌∙◌, subst, sym, inr}
 use Rattle.std.specs.Prelude.{IfOk, IfErr}
-use Rattle.heap_world.specs.Limits.{HeapSettings}
-use Rattle.heap_step.specs.declared.Answer.{Answer}
-use Rattle.heap_step.specs.declared.Event.{Event}
-use Rattle.heap_trail.specs.declared.Action.{Action}
-use Rattle.heap_trail.specs.declared.Action.TheVariants.{Step}
+use Rattle.heap_lock.specs.HeapLimits.{HeapSettings}
+use Rattle.heap_lock.specs.Answer.{Answer}
+use Rattle.heap_lock.specs.Event.{Event}
+use Rattle.heap_lock.specs.Action.{Action}
+use Rattle.heap_lock.specs.Action.TheVariants.{Step}
 use Rattle.heap_chronicle.specs.declared.entry.Outcome.{Outcome}
 use Rattle.heap_chronicle.specs.declared.entry.Outcome.TheVariants.{Answered}
 use Rattle.heap_lock.specs.declared.receipt.Receipt.{Receipt}

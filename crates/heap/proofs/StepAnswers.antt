@@ -1,14 +1,14 @@
 -- A step is never answered with a place.
 use Rattle.std.proofs.Common.{◌≡◌, ℕ, Bool, true, false, List, [], ◌∷◌, ◌++◌, Result, Ok, Err, sym}
 use Rattle.heap_class.specs.declared.Refusal.{Refusal}
-use Rattle.heap_world.specs.Limits.{HeapSettings}
-use Rattle.heap_world.specs.State.{HeapState}
-use Rattle.heap_step.specs.declared.Answer.{Answer}
-use Rattle.heap_step.specs.declared.Event.{Event}
-use Rattle.heap_trail.specs.declared.Action.TheVariants.{Step}
-use Rattle.heap_trail.specs.declared.Reply.TheVariants.{Place}
-use Rattle.heap_trail.specs.Trail.{Trail}
-use Rattle.heap_trail.specs.Machine.{Machine, acted, after_result, after_step_at}
+use Rattle.heap_lock.specs.HeapLimits.{HeapSettings}
+use Rattle.heap_lock.specs.State.{HeapState}
+use Rattle.heap_lock.specs.Answer.{Answer}
+use Rattle.heap_lock.specs.Event.{Event}
+use Rattle.heap_lock.specs.Action.TheVariants.{Step}
+use Rattle.heap_lock.specs.Reply.TheVariants.{Place}
+use Rattle.heap_lock.specs.Trail.{Trail}
+use Rattle.heap_lock.specs.Machine.{Machine, acted, after_result, after_step_at}
 use Rattle.heap_chronicle.specs.declared.entry.Entry.{Entry}
 use Rattle.heap_chronicle.specs.declared.entry.Outcome.TheVariants.{Place as At}
 use Rattle.heap_chronicle.specs.History.{entry, opening, machine_at, reply_at, trail_after, IsDue, IsLegalHistory, history_trail}

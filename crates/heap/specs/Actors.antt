@@ -2,11 +2,11 @@
 use Rattle.std.specs.Prelude.{◌≡◌, ◌≢◌, ◌⊎◌, ℕ, false, List, [], ◌∷◌, ◌++◌, length, Bool}
 use Rattle.heap_class.specs.declared.Refusal.{Refusal}
 use Rattle.heap_class.specs.declared.Refusal.TheVariants.{NoMemory}
-use Rattle.heap_world.specs.Limits.{HeapSettings}
-use Rattle.heap_step.specs.declared.Event.{Event}
-use Rattle.heap_step.specs.declared.Event.TheVariants as Events
-use Rattle.heap_trail.specs.declared.Action.{Action}
-use Rattle.heap_trail.specs.declared.Action.TheVariants.{Step}
+use Rattle.heap_lock.specs.HeapLimits.{HeapSettings}
+use Rattle.heap_lock.specs.Event.{Event}
+use Rattle.heap_lock.specs.Event.TheVariants as Events
+use Rattle.heap_lock.specs.Action.{Action}
+use Rattle.heap_lock.specs.Action.TheVariants.{Step}
 use Rattle.heap_chronicle.specs.declared.entry.Entry.{Entry}
 use Rattle.heap_chronicle.specs.declared.entry.Outcome.{Outcome}
 use Rattle.heap_chronicle.specs.declared.entry.Outcome.TheVariants as Outcomes

@@ -1,8 +1,8 @@
 -- Cycles, one after another.
 use Rattle.std.specs.Prelude.{◌≡◌, ℕ, suc, zero, ◌<◌, ◌-◌, ◌^◌, [], ◌∷◌, ◌++◌}
-use Rattle.heap_world.specs.Limits.{HeapSettings}
-use Rattle.heap_step.specs.declared.Event.TheVariants as Events
-use Rattle.heap_trail.specs.declared.Action.TheVariants.{Step}
+use Rattle.heap_lock.specs.HeapLimits.{HeapSettings}
+use Rattle.heap_lock.specs.Event.TheVariants as Events
+use Rattle.heap_lock.specs.Action.TheVariants.{Step}
 use Rattle.heap_lock.specs.declared.receipt.Receipt.{Receipt}
 use Rattle.heap_lock.specs.declared.role.Role.TheVariants.{Marker, Sweeper}
 use Rattle.heap_work.specs.declared.MarkEnd.TheVariants.{Finished}

@@ -1,9 +1,9 @@
 -- What mutators do.
 use Rattle.std.specs.Prelude.{◌≡◌, ℕ, Result, Ok, Err}
-use Rattle.heap_world.specs.Limits.{HeapSettings}
-use Rattle.heap_step.specs.declared.Answer.{Answer}
-use Rattle.heap_step.specs.declared.Event.{Event}
-use Rattle.heap_trail.specs.declared.Action.TheVariants.{Step}
+use Rattle.heap_lock.specs.HeapLimits.{HeapSettings}
+use Rattle.heap_lock.specs.Answer.{Answer}
+use Rattle.heap_lock.specs.Event.{Event}
+use Rattle.heap_lock.specs.Action.TheVariants.{Step}
 use Rattle.heap_chronicle.specs.declared.entry.Outcome.TheVariants.{Answered}
 use Rattle.heap_lock.specs.declared.role.Role.{Role}
 use Rattle.heap_lock.specs.declared.role.Role.TheVariants.{Mutator}

@@ -1,8 +1,8 @@
 -- What several actors did, by their claims.
 use Rattle.std.specs.Prelude.{◌≡◌, ℕ, ◌-◌, ◌^◌, Bool, true, false, ◌&&◌, List, count_by, length, min, sum_by}
-use Rattle.heap_step.specs.declared.Event.TheVariants as Events
-use Rattle.heap_trail.specs.declared.Action.{Action}
-use Rattle.heap_trail.specs.declared.Action.TheVariants.{Step}
+use Rattle.heap_lock.specs.Event.TheVariants as Events
+use Rattle.heap_lock.specs.Action.{Action}
+use Rattle.heap_lock.specs.Action.TheVariants.{Step}
 use Rattle.heap_chronicle.specs.declared.entry.Outcome.{Outcome}
 use Rattle.heap_chronicle.specs.declared.entry.Outcome.TheVariants as Outcomes
 use Rattle.heap_lock.specs.declared.receipt.Receipt.{Receipt}

@@ -1,6 +1,6 @@
 //! Those who act on a shared heap.
 ghost use Rattle.std.specs.Prelude.{◌≡◌, ◌≢◌, ◌++◌, ◌∷◌, [], true, IfOk, IfErr, OnErr};
-ghost use Rattle.heap_trail.specs.declared.Action.TheVariants.{Step};
+ghost use Rattle.heap_lock.specs.Action.TheVariants.{Step};
 ghost use Rattle.heap_chronicle.specs.declared.entry.Outcome.TheVariants.{Answered, Place};
 ghost use Rattle.heap_lock.specs.declared.role.Role.TheVariants.{Marker, Sweeper};
 ghost use Rattle.heap_lock.specs.LockStates.{IsNoEntry, IsReceived, Stands};
@@ -11,9 +11,7 @@ ghost use Rattle.heap.specs.Actors.{end_claims, IsAudited, IsClaimed, IsDenied, 
 use crate::audits::{Claim, audit_claims};
 use crate::copies::step_of;
 use heap_class::Refusal;
-use heap_lock::{Heap, Outcome, Receipt, Role, Seat, Shared, Verdict};
-use heap_step::{Answer, Event};
-use heap_trail::Action;
+use heap_lock::{Action, Answer, Event, Heap, Outcome, Receipt, Role, Seat, Shared, Verdict};
 use heap_work::{Gate, MarkEnd, SweepEnd, mark_worker, sweep_worker};
 use std::alloc::{AllocError, Global};
 use std::marker::Model;

@@ -1,8 +1,7 @@
 //! Audits of claims, under the lock.
 ghost use Rattle.heap.specs.Actors.{IsAudited};
 
-use heap_lock::{Heap, Receipt, Shared, Verdict, audit};
-use heap_trail::Action;
+use heap_lock::{Action, Heap, Receipt, Shared, Verdict, audit};
 use std::sync::Wait;
 
 /// An action with the receipt that it was given.

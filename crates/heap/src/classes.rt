@@ -1,9 +1,9 @@
 //! Definitions of classes.
 ghost use Rattle.std.specs.Prelude.{◌≡◌, IfOk, map};
-ghost use Rattle.heap_step.specs.declared.Event.TheVariants.{ArrayClass, Class};
+ghost use Rattle.heap_lock.specs.Event.TheVariants.{ArrayClass, Class};
 
 use heap_class::{ClassNo, Field, Fields, Kind, Name};
-use heap_step::Event;
+use heap_lock::Event;
 use std::alloc::{AllocError, Global};
 
 /// Creates the event that defines a class with this name, this superclass, if any, and own fields of these names and kinds. Fails

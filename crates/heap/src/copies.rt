@@ -1,13 +1,12 @@
 //! Copies of events.
 ghost use Rattle.std.specs.Prelude.{◌≡◌, IfOk, None};
 ghost use Rattle.heap_chronicle.specs.Packs.{event_pack};
-ghost use Rattle.heap_trail.specs.declared.Action.TheVariants.{Step};
+ghost use Rattle.heap_lock.specs.Action.TheVariants.{Step};
 
 use heap_chronicle::packing::pack_event;
 use heap_chronicle::unpacking::action_in;
 use heap_class::{Field, Fields};
-use heap_step::Event;
-use heap_trail::Action;
+use heap_lock::{Action, Event};
 use std::alloc::{AllocError, Global};
 
 // Returns a copy of fields. Fails if an allocation fails.

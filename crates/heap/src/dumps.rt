@@ -1,14 +1,13 @@
 //! Dumps of the current state in one call, watched from another thread.
 ghost use Rattle.std.specs.Prelude.{◌≡◌};
 ghost use denote.Param.Send.{IsSync};
-ghost use Rattle.dump_pipe.specs.Seats.{sum};
+ghost use Rattle.live_dump.specs.Seats.{sum};
 ghost use Rattle.heap.specs.Dumps.{IsClosing, IsDumped};
 
-use dump_pipe::{AskSeat, FeedSeat, Meter, NewMeter, OutSeat, ReadSeat};
 use dump_pump::{Outlet, Pumped};
 use heap_class::Refusal;
 use heap_lock::{Heap, Shared, Witness};
-use live_dump::stream;
+use live_dump::{AskSeat, FeedSeat, Meter, NewMeter, OutSeat, ReadSeat, stream};
 use std::alloc::Global;
 use std::sync::Wait;
 use std::sync::atomic::{AtomicU64, Ordering};

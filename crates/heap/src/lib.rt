@@ -19,17 +19,14 @@ pub use audits::{Claim, audit_claims};
 pub use classes::{define_array_class, define_class};
 pub use count::Count;
 pub use cycles::Halt;
-pub use dump_pipe::{AskSeat, FeedSeat, Meter, NewMeter, OutSeat, ReadSeat};
 pub use dump_pump::{Outlet, Pumped, WriteOutlet};
 pub use dumps::{DumpWatcher, Dumped, LastSeen, dump};
 pub use heap_class::{Field, Fields, Kind, Name, Refusal};
 pub use heap_lock::{
-    Blank, Heap, Outcome, Receipt, Role, Seat, Seats, Shared, Verdict, Witness, audit,
+    Action, Answer, Blank, Config, Event, Heap, Machine, Outcome, Receipt, Role, Seat, Seats,
+    Shared, Verdict, Witness, audit,
 };
-pub use heap_step::{Answer, Event};
-pub use heap_trail::{Action, Machine};
 pub use heap_work::{Gate, MarkEnd, Open, SweepEnd, mark_worker, sweep_worker};
-pub use heap_world::Config;
-pub use live_dump::stream;
+pub use live_dump::{AskSeat, FeedSeat, Meter, NewMeter, OutSeat, ReadSeat, stream};
 pub use pace::Pace;
 pub use totals::{Totals, audit_all};

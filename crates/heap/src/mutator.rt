@@ -1,12 +1,11 @@
 //! What mutators do, each on its own registers.
 ghost use Rattle.std.specs.Prelude.{◌≡◌};
-ghost use Rattle.heap_step.specs.declared.Event.TheVariants.{New, NewArray, NewPrim, Load, Store, Put, Move, Clear};
+ghost use Rattle.heap_lock.specs.Event.TheVariants.{New, NewArray, NewPrim, Load, Store, Put, Move, Clear};
 ghost use Rattle.heap.specs.Mutators.{mutator_of, IsMutation};
 
 use crate::actor::{Actor, Denial};
 use heap_class::{ClassNo, Kind};
-use heap_lock::{Heap, Role};
-use heap_step::{Answer, Event};
+use heap_lock::{Answer, Event, Heap, Role};
 use std::sync::Wait;
 
 // Returns the number of the mutator of a role. Fails with WrongRole if the role is no mutator's.

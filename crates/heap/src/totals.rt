@@ -6,9 +6,7 @@ ghost use Rattle.heap.specs.Totals.{IsTotal, is_finishing, is_making};
 
 use crate::actor::Actor;
 use crate::audits::Claim;
-use heap_lock::{Heap, Outcome, Verdict};
-use heap_step::Event;
-use heap_trail::Action;
+use heap_lock::{Action, Event, Heap, Outcome, Verdict};
 use std::sync::Wait;
 
 /// What several actors did, by their claims. A number that doesn't fit is `usize::MAX`.

@@ -11,3 +11,26 @@ pub mod Blanks
 pub mod Audits
 pub mod Sources
 pub mod Laws
+-- What clauses here, and proofs above, cite of the crates below.
+pub use Rattle.heap_class.specs.Table as RefusalTable
+pub use Rattle.heap_class.specs.declared.IdSize
+pub use Rattle.heap_class.specs.declared.LostCause
+pub use Rattle.heap_class.specs.declared.Refusal
+pub use Rattle.heap_world.specs.Limits as HeapLimits
+pub use Rattle.heap_world.specs.State
+pub use Rattle.heap_step.specs.Apply
+pub use Rattle.heap_step.specs.declared.Answer
+pub use Rattle.heap_step.specs.declared.Event
+pub use Rattle.hprof_text.specs.Segments
+pub use Rattle.hprof_text.specs.declared.Piece
+pub use Rattle.heap_pins.specs.Images
+pub use Rattle.heap_trail.specs.Laws as TrailLaws
+pub use Rattle.heap_trail.specs.Limits as TrailLimits
+pub use Rattle.heap_trail.specs.Machine
+pub use Rattle.heap_trail.specs.Trail
+pub use Rattle.heap_trail.specs.declared.Action
+pub use Rattle.heap_trail.specs.declared.Reply
+pub use Rattle.heap_chronicle.specs.History
+pub use Rattle.heap_chronicle.specs.Limits as ChronicleLimits
+pub use Rattle.heap_chronicle.specs.declared.entry.Entry
+pub use Rattle.heap_chronicle.specs.declared.entry.Outcome

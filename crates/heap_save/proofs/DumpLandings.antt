@@ -4,17 +4,17 @@ use Rattle.std.specs.List.{concat}
 use Rattle.std.proofs.lemmas.Bool.Decides.{nat_tests}
 use Rattle.std.proofs.lemmas.List.{append-nil}
 use Rattle.std.specs.Bool.{◌==◌}
-use Rattle.heap_class.specs.declared.IdSize.{IdSize}
-use Rattle.heap_class.specs.declared.LostCause.{LostCause}
-use Rattle.heap_class.specs.declared.LostCause.TheVariants.{Memory, Closed}
-use Rattle.heap_class.specs.declared.Refusal.{Refusal}
-use Rattle.hprof_text.specs.Image.{Image}
-use Rattle.hprof_text.specs.Segments.{dump_text, segment_records, end_record}
-use Rattle.hprof_text.specs.Text.{opening_records, sub_records}
-use Rattle.hprof_text.proofs.Lengths.{length-record_of}
-use Rattle.heap_pins.specs.Images.{image_of}
-use Rattle.heap_trail.specs.Pins.{open_refusal}
-use Rattle.heap_trail.specs.Machine.{Machine}
+use Rattle.pin_dump.specs.IdSize.{IdSize}
+use Rattle.pin_dump.specs.LostCause.{LostCause}
+use Rattle.pin_dump.specs.LostCause.TheVariants.{Memory, Closed}
+use Rattle.pin_dump.specs.Refusal.{Refusal}
+use Rattle.pin_dump.specs.Image.{Image}
+use Rattle.pin_dump.specs.Segments.{dump_text, segment_records, end_record}
+use Rattle.pin_dump.specs.Text.{opening_records, sub_records}
+use Rattle.pin_dump.proofs.Lengths.{length-record_of}
+use Rattle.pin_dump.specs.Images.{image_of}
+use Rattle.pin_dump.specs.Pins.{open_refusal}
+use Rattle.pin_dump.specs.Machine.{Machine}
 use Rattle.dump_pump.specs.declared.transfer.Pumped.{Pumped}
 use Rattle.dump_pump.specs.declared.transfer.Pumped.TheVariants.{Done, OutletFailed, Lost, Cancelled}
 use Rattle.dump_pump.specs.Outlets.{Outgoing}

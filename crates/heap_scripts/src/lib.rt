@@ -4,10 +4,11 @@
 ghost use Rattle.std.specs.Prelude.{◌≡◌, OnOk};
 
 use heap_class::{Field, Fields, Kind, Name};
+use heap_step::apply;
 use heap_step::step::undo;
-use heap_step::{Event, apply};
-use heap_trail::Machine;
-use heap_world::{Config, World};
+pub use heap_step::{Answer, Event};
+pub use heap_trail::{Action, Machine, PinAt, Reply};
+pub use heap_world::{Config, World};
 use std::alloc::{AllocError, Global};
 use std::test::Fail;
 

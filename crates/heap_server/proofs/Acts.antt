@@ -1,9 +1,9 @@
 -- What an act and its reply say.
 use Rattle.std.proofs.Common.{◌≡◌, Result, Ok, Err, IfOk, IfErr, inl, inr}
-use Rattle.heap_class.specs.declared.Refusal.{Refusal}
-use Rattle.heap_world.specs.Limits.{HeapSettings}
-use Rattle.heap_trail.specs.declared.Action.{Action}
-use Rattle.heap_trail.specs.declared.Reply.{Reply}
+use Rattle.heap_lock.specs.Refusal.{Refusal}
+use Rattle.heap_lock.specs.HeapLimits.{HeapSettings}
+use Rattle.heap_lock.specs.Action.{Action}
+use Rattle.heap_lock.specs.Reply.{Reply}
 use Rattle.heap_lock.specs.declared.receipt.Receipt.{Receipt}
 use Rattle.heap_lock.specs.LockStates.{Chair, IsReceived, IsNoEntry, Stands}
 use Rattle.heap_server.specs.JoinedActs.{IsReply, IsActed}

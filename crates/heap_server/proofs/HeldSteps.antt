@@ -2,23 +2,23 @@
 use Rattle.std.proofs.Common.{◌≡◌, ◌∙◌, ℕ, Bool, true, false, refl, sym, ap, subst, inl, inr, List, [], ◌∷◌, ◌++◌}
 use Rattle.std.specs.Prelude.{IfErr, IfOk, Result, Ok, Err, nat_le}
 use Rattle.std.proofs.lemmas.List.{append_assoc, append-nil}
-use Rattle.heap_class.specs.declared.Refusal.{Refusal}
-use Rattle.heap_class.specs.declared.Refusal.TheVariants.{NoMemory}
-use Rattle.heap_world.specs.Limits.{HeapSettings}
-use Rattle.heap_world.specs.State.{HeapState}
-use Rattle.heap_step.specs.Apply.{applied}
-use Rattle.heap_step.specs.declared.Answer.{Answer}
-use Rattle.heap_step.specs.declared.Event.{Event}
-use Rattle.heap_trail.specs.declared.Action.{Action}
-use Rattle.heap_trail.specs.declared.Action.TheVariants.{Step}
-use Rattle.heap_trail.specs.declared.Reply.{Reply}
-use Rattle.heap_trail.specs.declared.Reply.TheVariants.{Answered, Refused, Place}
-use Rattle.heap_trail.specs.Limits.{last_place}
-use Rattle.heap_trail.specs.Machine.{Machine, Allocation, Granted, Denied, LosesPins, MayFail, MayReply, MayStand, acted, acted_under, after_result, after_step_at, is_accepted}
-use Rattle.heap_chronicle.specs.declared.entry.Outcome.{Outcome}
-use Rattle.heap_chronicle.specs.declared.entry.Entry.{Entry}
-use Rattle.heap_chronicle.specs.declared.entry.Outcome.TheVariants as outcome
-use Rattle.heap_chronicle.specs.History.{entry, opening, reply_of, IsLegalHistory}
+use Rattle.heap_lock.specs.Refusal.{Refusal}
+use Rattle.heap_lock.specs.Refusal.TheVariants.{NoMemory}
+use Rattle.heap_lock.specs.HeapLimits.{HeapSettings}
+use Rattle.heap_lock.specs.State.{HeapState}
+use Rattle.heap_lock.specs.Apply.{applied}
+use Rattle.heap_lock.specs.Answer.{Answer}
+use Rattle.heap_lock.specs.Event.{Event}
+use Rattle.heap_lock.specs.Action.{Action}
+use Rattle.heap_lock.specs.Action.TheVariants.{Step}
+use Rattle.heap_lock.specs.Reply.{Reply}
+use Rattle.heap_lock.specs.Reply.TheVariants.{Answered, Refused, Place}
+use Rattle.heap_lock.specs.TrailLimits.{last_place}
+use Rattle.heap_lock.specs.Machine.{Machine, Allocation, Granted, Denied, LosesPins, MayFail, MayReply, MayStand, acted, acted_under, after_result, after_step_at, is_accepted}
+use Rattle.heap_lock.specs.Outcome.{Outcome}
+use Rattle.heap_lock.specs.Entry.{Entry}
+use Rattle.heap_lock.specs.Outcome.TheVariants as outcome
+use Rattle.heap_lock.specs.History.{entry, opening, reply_of, IsLegalHistory}
 use Rattle.heap_lock.specs.LockStates.{Chair, Folds, IsNoEntry, IsRefused, LockState, with_entry}
 use Rattle.question_text.specs.declared.cycle.CycleCounts.{CycleCounts}
 use Rattle.question_text.specs.Collections.{IsCycleStep, IsWholeCycle, StopsAt}

@@ -1,13 +1,13 @@
 -- The answers to `dump` lines over a shared heap, as texts of states.
 use Rattle.std.specs.Prelude.{◌≡◌, ◌⊎◌, ℕ, ◌+◌, Bool, true, false, List, [], ◌∷◌, ◌++◌, length, flat_map, Option, None}
 use mathlib.Core.List.{IsPrefix}
-use Rattle.heap_world.specs.Limits.{HeapSettings}
-use Rattle.hprof_text.specs.declared.Piece.{Piece}
-use Rattle.hprof_text.specs.Segments.{dump_text}
-use Rattle.heap_pins.specs.Images.{image_of}
-use Rattle.heap_trail.specs.declared.Action.TheVariants.{OpenPin}
-use Rattle.heap_trail.specs.declared.Reply.{Reply}
-use Rattle.heap_trail.specs.declared.Reply.TheVariants.{Pinned}
+use Rattle.heap_lock.specs.HeapLimits.{HeapSettings}
+use Rattle.heap_lock.specs.Piece.{Piece}
+use Rattle.heap_lock.specs.Segments.{dump_text}
+use Rattle.heap_lock.specs.Images.{image_of}
+use Rattle.heap_lock.specs.Action.TheVariants.{OpenPin}
+use Rattle.heap_lock.specs.Reply.{Reply}
+use Rattle.heap_lock.specs.Reply.TheVariants.{Pinned}
 use Rattle.dump_pump.specs.Pumps.{joined}
 use Rattle.dump_pump.specs.Sources.{part_limit}
 use Rattle.heap_lock.specs.Calls.{Call}

@@ -1,17 +1,17 @@
 -- What a seat at a shared heap answers.
 use Rattle.std.specs.Prelude.{◌≡◌, ◌⊎◌, ℕ, List, Result, Ok, Err, ⊤}
-use Rattle.heap_class.specs.declared.IdSize.{IdSize}
-use Rattle.heap_class.specs.declared.Refusal.{Refusal}
-use Rattle.heap_world.specs.Limits.{HeapSettings}
-use Rattle.heap_trail.specs.declared.Action.{Action}
-use Rattle.heap_trail.specs.declared.Action.TheVariants.{Step, Rewind, OpenPin, NextPiece, ClosePin}
-use Rattle.heap_trail.specs.declared.Reply.{Reply}
-use Rattle.heap_trail.specs.declared.Reply.TheVariants.{Answered, Place, Pinned, Part, Closed, Refused}
-use Rattle.heap_trail.specs.Laws.{IsPieceOfLegal}
+use Rattle.heap_lock.specs.IdSize.{IdSize}
+use Rattle.heap_lock.specs.Refusal.{Refusal}
+use Rattle.heap_lock.specs.HeapLimits.{HeapSettings}
+use Rattle.heap_lock.specs.Action.{Action}
+use Rattle.heap_lock.specs.Action.TheVariants.{Step, Rewind, OpenPin, NextPiece, ClosePin}
+use Rattle.heap_lock.specs.Reply.{Reply}
+use Rattle.heap_lock.specs.Reply.TheVariants.{Answered, Place, Pinned, Part, Closed, Refused}
+use Rattle.heap_lock.specs.TrailLaws.{IsPieceOfLegal}
 use Rattle.heap_lock.specs.declared.receipt.Receipt.{Receipt}
 use Rattle.heap_lock.specs.LockStates.{Chair, IsReceived, IsNoEntry, Stands}
 use Rattle.heap_lock.specs.Calls.{Call, Witnesses}
-use Rattle.heap_chronicle.specs.History.{reply_of}
+use Rattle.heap_lock.specs.History.{reply_of}
 
 -- the answer of a receipt, or a refusal that has none
 abbrev pub IsReply : Result Receipt Refusal → Reply → Type 0

@@ -1,11 +1,11 @@
 -- What a seat at a shared heap answers a question, and `collect`.
 use Rattle.std.specs.Prelude.{◌≡◌, ℕ, ◌++◌, Bool, true, false, List, Result}
-use Rattle.heap_class.specs.declared.Refusal.{Refusal}
-use Rattle.heap_world.specs.Limits.{HeapSettings}
-use Rattle.heap_trail.specs.Machine.{Machine}
-use Rattle.heap_chronicle.specs.declared.entry.Entry.{Entry}
+use Rattle.heap_lock.specs.Refusal.{Refusal}
+use Rattle.heap_lock.specs.HeapLimits.{HeapSettings}
+use Rattle.heap_lock.specs.Machine.{Machine}
+use Rattle.heap_lock.specs.Entry.{Entry}
 use Rattle.heap_lock.specs.declared.role.Role.TheVariants.{User}
-use Rattle.heap_chronicle.specs.History.{opening, IsLegalHistory, history_trail}
+use Rattle.heap_lock.specs.History.{opening, IsLegalHistory, history_trail}
 use Rattle.heap_lock.specs.LockStates.{Chair, IsNoEntry}
 use Rattle.question_text.specs.Answers.{IsAnswerOfLine}
 use Rattle.question_text.specs.declared.cycle.CycleCounts.{CycleCounts}

@@ -6,3 +6,5 @@ pub mod SessionSeats
 pub mod Reports
 pub mod DumpAnswers
 pub mod Tending
+-- What clauses here, and proofs above, cite of the crates below.
+pub use Rattle.heap_lock.specs.Blanks

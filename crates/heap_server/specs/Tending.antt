@@ -1,9 +1,9 @@
 -- What the threads did that tend the collector of a served heap.
 use Rattle.std.specs.Prelude.{◌≡◌, ℕ, List, [], ◌∷◌, length}
-use Rattle.heap_world.specs.Limits.{HeapSettings}
+use Rattle.heap_lock.specs.HeapLimits.{HeapSettings}
 use Rattle.heap_lock.specs.declared.role.Role.TheVariants.{Marker, Sweeper}
 use Rattle.heap_lock.specs.declared.stub.Stub.{Stub}
-use Rattle.heap_chronicle.specs.Limits.{chronicle_limit}
+use Rattle.heap_lock.specs.ChronicleLimits.{chronicle_limit}
 use Rattle.heap_lock.specs.Blanks.{Maker, chair_of}
 use Rattle.heap_lock.specs.LockStates.{Chair}
 use Rattle.heap_work.specs.declared.MarkEnd.{MarkEnd}

@@ -2,8 +2,7 @@
 ghost use Rattle.std.specs.Prelude.{◌≡◌};
 
 use crate::joined::Joined;
-use heap_lock::Heap;
-use heap_trail::{Action, Reply};
+use heap_lock::{Action, Heap, Reply};
 use question_text::is_collect;
 use session_text::{Commands, LineAnswer};
 use std::alloc::Global;

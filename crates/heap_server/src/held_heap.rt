@@ -4,10 +4,7 @@ ghost use Rattle.session_text.specs.Replies.{line_answer_text};
 ghost use Rattle.heap_lock.specs.declared.role.Role.TheVariants.{User};
 ghost use Rattle.heap_server.specs.JoinedAnswers.{IsCollectionOfHeap, IsSeatAfter, IsSeatSince, RunsCycleOfHeap};
 
-use heap_class::Refusal;
-use heap_lock::{Heap, Kept, Outcome, Seat};
-use heap_step::{Answer, Event};
-use heap_trail::Machine;
+use heap_lock::{Answer, Event, Heap, Kept, Machine, Outcome, Refusal, Seat};
 use question_text::{CycleCounts, Steps, collect_answer, run_cycle};
 use session_text::LineAnswer;
 use std::alloc::Global;

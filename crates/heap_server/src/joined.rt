@@ -1,18 +1,16 @@
 //! A user's seat at a shared heap, which acts on the lines of a session.
 ghost use Rattle.std.specs.Prelude.{◌≡◌};
-ghost use Rattle.heap_trail.specs.declared.Action.TheVariants.{OpenPin, NextPiece, ClosePin};
-ghost use Rattle.heap_trail.specs.Machine.{IsSmall};
+ghost use Rattle.heap_lock.specs.Action.TheVariants.{OpenPin, NextPiece, ClosePin};
+ghost use Rattle.heap_lock.specs.Machine.{IsSmall};
 ghost use Rattle.heap_lock.specs.declared.role.Role.TheVariants.{User};
 ghost use Rattle.heap_lock.specs.Calls.{Witnesses};
-ghost use Rattle.heap_chronicle.specs.History.{reply_of};
+ghost use Rattle.heap_lock.specs.History.{reply_of};
 ghost use Rattle.session_text.specs.Replies.{line_answer_text};
 ghost use Rattle.heap_server.specs.JoinedActs.{IsReply, IsLegalPart};
 ghost use Rattle.heap_server.specs.JoinedAnswers.{IsAnswerOfHeap, IsCollectionOfHeap, IsSeatAfter};
 
 use crate::held_heap::collect_held;
-use heap_class::Refusal;
-use heap_lock::{Heap, Outcome, Receipt, Seat, Shared, Witness};
-use heap_trail::{Action, Reply};
+use heap_lock::{Action, Heap, Outcome, Receipt, Refusal, Reply, Seat, Shared, Witness};
 use question_text::answer_line;
 use session_text::{Commands, LineAnswer};
 use std::alloc::Global;

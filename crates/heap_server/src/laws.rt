@@ -1,6 +1,6 @@
 //! What holds of all `dump` lines over a shared heap.
 ghost use Rattle.std.specs.Prelude.{ℕ, List};
-ghost use Rattle.heap_world.specs.Limits.{HeapSettings};
+ghost use Rattle.heap_lock.specs.HeapLimits.{HeapSettings};
 ghost use Rattle.heap_lock.specs.Calls.{Call};
 ghost use Rattle.heap_lock.specs.LockStates.{Chair};
 ghost use Rattle.heap_server.specs.DumpAnswers.{AnswersPinDump, AnswersNewDump};

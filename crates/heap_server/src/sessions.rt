@@ -1,6 +1,6 @@
 //! Sessions over one shared heap.
 ghost use Rattle.std.specs.Prelude.{◌≡◌, ◌+◌, ◌≤◌, IfOk, IfErr, length, vec_len, vec_capacity};
-ghost use Rattle.heap_class.specs.declared.Refusal.TheVariants.{NoMemory};
+ghost use Rattle.heap_lock.specs.Refusal.TheVariants.{NoMemory};
 ghost use Rattle.heap_lock.specs.declared.role.Role.TheVariants.{User};
 ghost use Rattle.heap_server.specs.SessionSeats.{AreUsers, IsFor, IsOver, session_limit};
 
@@ -8,9 +8,7 @@ use crate::asking::AskingSeat;
 use crate::joined::Joined;
 use dump_pump::WriteOutlet;
 use dump_server::{DumpListener, tend_dumps};
-use heap_class::Refusal;
-use heap_lock::{Blank, Heap, Role, Seat, Seats, Shared};
-use heap_world::Config;
+use heap_lock::{Blank, Config, Heap, Refusal, Role, Seat, Seats, Shared};
 use session_text::{Ended, ReadInlet, serve};
 use std::alloc::{AllocError, Global};
 use std::marker::Brand;

@@ -1,15 +1,13 @@
 //! Sessions over one shared heap whose collector is tended in two threads.
 ghost use Rattle.std.specs.Prelude.{◌≡◌, ◌∷◌, ◌≤◌, IfOk, IfErr, length, replicate};
-ghost use Rattle.heap_class.specs.declared.Refusal.TheVariants.{NoMemory};
+ghost use Rattle.heap_lock.specs.Refusal.TheVariants.{NoMemory};
 ghost use Rattle.heap_lock.specs.declared.role.Role.TheVariants as role;
 ghost use Rattle.heap_server.specs.SessionSeats.{IsFor, session_limit};
 ghost use Rattle.heap_server.specs.Tending.{AreStaff, IsTendedOver, Marks, Sweeps};
 
 use crate::sessions::{Ports, Served, ServedHeap, Terms, serve_clients};
 use crate::tending::{tend_marker, tend_sweeper};
-use heap_class::Refusal;
-use heap_lock::{Blank, Heap, Role, Seat, Seats, Shared, Stub};
-use heap_world::Config;
+use heap_lock::{Blank, Config, Heap, Refusal, Role, Seat, Seats, Shared, Stub};
 use std::alloc::{AllocError, Global};
 use std::marker::Brand;
 use std::snapshot::Snapshot;

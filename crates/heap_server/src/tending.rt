@@ -3,8 +3,7 @@ ghost use Rattle.std.specs.Prelude.{◌≡◌};
 ghost use Rattle.heap_lock.specs.declared.role.Role.TheVariants.{Marker, Sweeper};
 ghost use Rattle.heap_server.specs.Tending.{Marks, Sweeps};
 
-use heap_lock::{Heap, Seat, Shared};
-use heap_mark::Phase;
+use heap_lock::{Heap, Phase, Seat, Shared};
 use heap_work::{Gate, MarkEnd, SweepEnd, mark_worker, sweep_worker};
 use std::sync::Wait;
 use std::sync::atomic::{AtomicBool, Ordering};

@@ -2,16 +2,16 @@
 use Rattle.std.proofs.Common.{◌≡◌, ◌⊎◌, ℕ, ◌+◌, ◌<◌, ◌≤◌, List, [], ◌∷◌, ◌++◌, length, Option, Some, None, refl, sym, ap, ◌∙◌, subst, append-nil, append_assoc, length-append, arith}
 use Rattle.std.proofs.lemmas.Option.{none-some}
 use Rattle.std.specs.Prelude.{unwrap_or}
-use Rattle.heap_class.specs.declared.Refusal.{Refusal}
-use Rattle.heap_world.specs.Limits.{HeapSettings}
-use Rattle.heap_step.specs.declared.Answer.{Answer}
-use Rattle.heap_step.specs.declared.Event.{Event}
-use Rattle.heap_trail.specs.declared.Action.{Action}
-use Rattle.heap_trail.specs.declared.Action.TheVariants.{Step}
-use Rattle.heap_chronicle.specs.declared.entry.Entry.{Entry}
-use Rattle.heap_chronicle.specs.declared.entry.Outcome.{Outcome}
+use Rattle.heap_lock.specs.Refusal.{Refusal}
+use Rattle.heap_lock.specs.HeapLimits.{HeapSettings}
+use Rattle.heap_lock.specs.Answer.{Answer}
+use Rattle.heap_lock.specs.Event.{Event}
+use Rattle.heap_lock.specs.Action.{Action}
+use Rattle.heap_lock.specs.Action.TheVariants.{Step}
+use Rattle.heap_lock.specs.Entry.{Entry}
+use Rattle.heap_lock.specs.Outcome.{Outcome}
 use Rattle.heap_lock.specs.declared.receipt.Receipt.{Receipt}
-use Rattle.heap_chronicle.specs.History.{entry}
+use Rattle.heap_lock.specs.History.{entry}
 use Rattle.heap_lock.specs.LockStates.{Chair, Stands, with_entry}
 use Rattle.heap_work.specs.declared.MarkEnd.{MarkEnd}
 use Rattle.heap_work.specs.declared.MarkEnd.TheVariants.{Finished, NotMarking, Pending}

@@ -5,9 +5,7 @@ ghost use Rattle.std.specs.Prelude.{◌≡◌};
 ghost use Rattle.heap_lock.specs.declared.role.Role.TheVariants.{Marker, Sweeper};
 ghost use Rattle.heap_work.specs.Rule.{mark_end_of, event_of, stage_after, IsMarkWork, IsSweepWork};
 
-use heap_class::Refusal;
-use heap_lock::{Heap, Outcome, Receipt, Seat, Shared};
-use heap_step::{Answer, Event};
+use heap_lock::{Answer, Event, Heap, Outcome, Receipt, Refusal, Seat, Shared};
 use std::sync::Wait;
 
 /// What a worker passes before each act, without the lock.

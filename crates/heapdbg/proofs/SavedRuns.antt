@@ -3,8 +3,8 @@ use Rattle.std.proofs.Common.{◌≡◌, ℕ, inl, refl, ap, ◌∙◌, subst, B
 use Rattle.std.specs.Prelude.{is_some, option_map}
 use Rattle.dump_pump.specs.declared.transfer.Pumped.{Pumped}
 use Rattle.dump_pump.specs.Outlets.{Outgoing}
-use Rattle.heap_class.specs.declared.IdSize.{IdSize}
-use Rattle.heap_trail.specs.Machine.{Machine, opening_machine}
+use Rattle.heapdbg_options.specs.IdSize.{IdSize}
+use Rattle.session_text.specs.Machine.{Machine, opening_machine}
 use Rattle.session_text.specs.declared.Ended.{Ended}
 use Rattle.session_text.specs.Inlets.{Incoming}
 use Rattle.session_text.specs.Endings.{EndsSession}

@@ -1,7 +1,7 @@
 -- A run of the program between its reader and its writer.
 use Rattle.std.specs.Prelude.{◌≡◌, ℕ, ◌⊎◌, Bool, true, false, List, Result, Some, Ok, Err}
 use Rattle.dump_pump.specs.Outlets.{Outgoing}
-use Rattle.heap_trail.specs.Machine.{Machine, opening_machine}
+use Rattle.session_text.specs.Machine.{Machine, opening_machine}
 use Rattle.session_text.specs.declared.Ended.{Ended}
 use Rattle.session_text.specs.Endings.{EndsSession}
 use Rattle.session_text.specs.Inlets.{Incoming}

@@ -1,16 +1,15 @@
 //! A session, and a picture of the regions of the state that it leaves.
 ghost use Rattle.std.specs.Prelude.{◌≡◌, ◌⊎◌, Ok, Err};
-ghost use Rattle.heap_world.specs.Limits.{AreHeapSettings};
+ghost use Rattle.heapdbg_options.specs.HeapLimits.{AreHeapSettings};
 ghost use Rattle.heapdbg.specs.Runs.{IsDrawingOutcome, IsSessionDrawn};
 
 use crate::failure::{Fault, outcome};
 use dump_pump::{Outlet, WriteOutlet};
-use heap_trail::Machine;
 use heapdbg_options::command_line::path_option;
 use heapdbg_options::line_words::borrow_words;
 use heapdbg_options::settings::{Settings, config};
 use region_picture::picture_of;
-use session_text::{Inlet, Local, serve_local, write_all};
+use session_text::{Inlet, Local, Machine, serve_local, write_all};
 use std::alloc::Global;
 use std::fs;
 use std::fs::Files;

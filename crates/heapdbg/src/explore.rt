@@ -1,17 +1,16 @@
 //! A session with questions.
 ghost use Rattle.std.specs.Prelude.{◌≡◌, true, IfErr, IfOk};
-ghost use Rattle.heap_world.specs.Limits.{AreHeapSettings};
+ghost use Rattle.heapdbg_options.specs.HeapLimits.{AreHeapSettings};
 ghost use Rattle.heapdbg.specs.Explorations.{IsSessionBegun, IsExplored, IsHindrance, IsOpening};
 
 use crate::failure::{Fault, outcome};
 use dump_pump::Outlet;
 use heap_console::load_lines;
-use heap_trail::Machine;
 use heapdbg_options::command_line::path_option;
 use heapdbg_options::line_words::borrow_words;
 use heapdbg_options::settings::{Settings, config};
 use question_text::{Asking, Watch, serve_asking};
-use session_text::{Inlet, Local};
+use session_text::{Inlet, Local, Machine};
 use std::alloc::Global;
 use std::fs;
 use std::fs::Files;

@@ -1,8 +1,8 @@
 //! The progress of a dump, on a terminal.
 use dump_client::Watcher;
-use heap_class::IdSize;
-use heap_trail::Machine;
+use heapdbg_options::IdSize;
 use pin_dump::{Gauge, dump_size};
+use session_text::Machine;
 use std::alloc::Global;
 use std::time::{Clock, Duration, Instant};
 

@@ -1,6 +1,6 @@
 //! A session whose last state is dumped to a file or a socket.
 ghost use Rattle.std.specs.Prelude.{◌≡◌, false, true};
-ghost use Rattle.heap_world.specs.Limits.{AreHeapSettings};
+ghost use Rattle.heapdbg_options.specs.HeapLimits.{AreHeapSettings};
 ghost use Rattle.heapdbg.specs.SaveOutcomes.{IsSavedAs, IsSavedTo, save_outcome};
 
 use crate::explore::open;
@@ -8,11 +8,10 @@ use crate::failure::{Fault, outcome};
 use crate::progress::TerminalGauge;
 use dump_pump::{Outlet, Pumped, WriteOutlet};
 use heap_save::{Outlets, save_after, save_into};
-use heap_trail::Machine;
 use heapdbg_options::settings::{Settings, config};
 use pin_dump::Gauge;
 use question_text::{Watch, serve_asking};
-use session_text::{Ended, Inlet, Local};
+use session_text::{Ended, Inlet, Local, Machine};
 use std::fs;
 use std::fs::Files;
 use std::net::{Ipv4Addr, Net, TcpStream};

@@ -1,15 +1,15 @@
 //! Sessions over one shared heap, for clients of this computer.
 ghost use Rattle.std.specs.Prelude.{◌≡◌, ◌⊎◌, ◌≤◌, [], IfErr, IfOk};
 ghost use Rattle.heap_server.specs.SessionSeats.{session_limit};
-ghost use Rattle.heap_world.specs.Limits.{AreHeapSettings};
+ghost use Rattle.heapdbg_options.specs.HeapLimits.{AreHeapSettings};
 ghost use Rattle.heapdbg.specs.declared.failure.Fault.TheVariants.{Listen, Memory};
 ghost use Rattle.heapdbg.specs.ServeOutcomes.{IsHeapServed, IsReportTold, IsServed, IsTendedServed, served_outcome, terms_of};
 
 use crate::failure::Fault;
 use dump_pump::Outlet;
-use dump_server::DumpListener;
 use heap_server::{
-    Ports, Served, Terms, serve_heap, serve_tended_heap, tell_sessions, users, workers_and_users,
+    DumpListener, Ports, Served, Terms, serve_heap, serve_tended_heap, tell_sessions, users,
+    workers_and_users,
 };
 use heapdbg_options::settings::{Settings, config};
 use session_text::write_all;

@@ -5,7 +5,7 @@ ghost use Rattle.heapdbg_options.specs.CommandLine.{AreSettingsWithin, IsBadWith
 ghost use Rattle.heapdbg.specs.FetchOutcomes.{IsDumpFetched};
 ghost use Rattle.heapdbg_options.specs.Refusals.{IsRefusalOf};
 ghost use Rattle.heapdbg.specs.Runs.{IsTaskDone, IsRun, IsRunWith, IsPerformed, IsSavedOut};
-ghost use Rattle.heap_world.specs.Limits.{AreHeapSettings};
+ghost use Rattle.heapdbg_options.specs.HeapLimits.{AreHeapSettings};
 
 use crate::ask::ask_port;
 use crate::draw::draw;
@@ -18,13 +18,12 @@ use crate::serve::{Service, serve_port};
 use crate::terminals::{Screen, Terminals};
 use dump_pump::{Outlet, WriteOutlet};
 use heap_console::{ColumnOutlet, PromptInlet};
-use heap_trail::Machine;
 use heapdbg_options::command_line::{path_option, settings};
 use heapdbg_options::line_words::borrow_words;
 use heapdbg_options::refusal::bad;
 use heapdbg_options::settings::{LineFault, Settings, Target, Task, config};
 use question_text::Watch;
-use session_text::{Inlet, Local, ReadInlet, serve_local};
+use session_text::{Inlet, Local, Machine, ReadInlet, serve_local};
 use std::alloc::Global;
 use std::fs::Files;
 use std::io::{Error, ErrorKind};

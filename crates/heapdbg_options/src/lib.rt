@@ -8,3 +8,5 @@ mod save_options;
 mod session_options;
 pub mod settings;
 mod socket_options;
+
+pub use heap_class::IdSize;

@@ -1,13 +1,13 @@
 -- A source with what it gives next.
 use Rattle.std.proofs.Common.{◌≡◌, ◌≤◌, ◌+◌, ℕ, Bool, true, false, List, [], ◌∷◌, ◌++◌, length, Option, Some, None, if◌then◌else◌, refl, ap, sym, ◌∙◌, subst, inl, inr, arith, append_assoc, append-nil, length-append}
 use mathlib.Core.List.{IsPrefix}
-use Rattle.heap_class.specs.declared.IdSize.{IdSize}
-use Rattle.heap_world.specs.Limits.{HeapSettings}
-use Rattle.heap_trail.specs.declared.Action.TheVariants.{NextPiece}
-use Rattle.heap_trail.specs.declared.Reply.{Reply}
-use Rattle.heap_trail.specs.declared.Reply.TheVariants as Said
-use Rattle.heap_trail.specs.Laws.{IsPieceOfLegal}
-use Rattle.hprof_text.specs.declared.Piece.{Piece}
+use Rattle.heap_lock.specs.IdSize.{IdSize}
+use Rattle.heap_lock.specs.HeapLimits.{HeapSettings}
+use Rattle.heap_lock.specs.Action.TheVariants.{NextPiece}
+use Rattle.heap_lock.specs.Reply.{Reply}
+use Rattle.heap_lock.specs.Reply.TheVariants as Said
+use Rattle.heap_lock.specs.TrailLaws.{IsPieceOfLegal}
+use Rattle.heap_lock.specs.Piece.{Piece}
 use Rattle.dump_pump.specs.declared.source.Ending.{Ending}
 use Rattle.dump_pump.specs.declared.source.Ending.TheVariants as End
 use Rattle.dump_pump.specs.declared.source.Next.{Next}

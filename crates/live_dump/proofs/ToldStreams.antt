@@ -1,8 +1,8 @@
 -- What a stream of a told source puts out.
 use Rattle.std.proofs.Common.{◌≡◌, ℕ, Bool, true, false, List, ◌++◌, Option, Some, if◌then◌else◌, refl, ap, ◌∙◌, subst}
-use Rattle.heap_class.specs.declared.LostCause.{LostCause}
-use Rattle.heap_world.specs.Limits.{HeapSettings}
-use Rattle.hprof_text.specs.declared.Piece.{Piece}
+use Rattle.heap_lock.specs.LostCause.{LostCause}
+use Rattle.heap_lock.specs.HeapLimits.{HeapSettings}
+use Rattle.heap_lock.specs.Piece.{Piece}
 use Rattle.dump_pump.specs.declared.source.Ending.{Ending}
 use Rattle.dump_pump.specs.declared.source.Ending.TheVariants as End
 use Rattle.dump_pump.specs.declared.transfer.Pumped.{Pumped}

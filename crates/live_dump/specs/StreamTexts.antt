@@ -1,11 +1,11 @@
 -- Finished streams as texts.
 use Rattle.std.specs.Prelude.{◌≡◌, ℕ, List, [], ◌∷◌, ◌++◌, Bool, Option}
-use Rattle.heap_world.specs.Limits.{HeapSettings}
-use Rattle.hprof_text.specs.declared.Piece.{Piece}
-use Rattle.hprof_text.specs.Segments.{dump_text}
-use Rattle.heap_pins.specs.Images.{image_of}
-use Rattle.heap_trail.specs.declared.Action.TheVariants.{OpenPin}
-use Rattle.heap_trail.specs.declared.Reply.TheVariants.{Pinned}
+use Rattle.heap_lock.specs.HeapLimits.{HeapSettings}
+use Rattle.heap_lock.specs.Piece.{Piece}
+use Rattle.heap_lock.specs.Segments.{dump_text}
+use Rattle.heap_lock.specs.Images.{image_of}
+use Rattle.heap_lock.specs.Action.TheVariants.{OpenPin}
+use Rattle.heap_lock.specs.Reply.TheVariants.{Pinned}
 use Rattle.dump_pump.specs.declared.transfer.Pumped.{Pumped}
 use Rattle.dump_pump.specs.declared.transfer.Pumped.TheVariants.{Done}
 use Rattle.dump_pump.specs.Outlets.{Outgoing}

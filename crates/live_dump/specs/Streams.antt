@@ -1,8 +1,8 @@
 -- What a stream of a pin puts out.
 use Rattle.std.specs.Prelude.{◌≡◌, ℕ, ◌+◌, Bool, true, List, ◌++◌, length}
 use mathlib.Core.List.{IsPrefix}
-use Rattle.heap_world.specs.Limits.{HeapSettings}
-use Rattle.hprof_text.specs.declared.Piece.{Piece}
+use Rattle.heap_lock.specs.HeapLimits.{HeapSettings}
+use Rattle.heap_lock.specs.Piece.{Piece}
 use Rattle.dump_pump.specs.declared.transfer.Pumped.{Pumped}
 use Rattle.dump_pump.specs.declared.transfer.Pumped.TheVariants.{Done, OutletFailed, Lost, Cancelled}
 use Rattle.dump_pump.specs.Outlets.{Outgoing}

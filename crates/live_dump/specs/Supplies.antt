@@ -1,16 +1,16 @@
 -- What a source over the lock gave, and how it ended.
 use Rattle.std.specs.Prelude.{◌≡◌, ℕ, ◌+◌, ◌-◌, ◌≤◌, ◌⊎◌, false, List, [], ◌∷◌, ◌++◌, map, length, Option, Some, None, if◌then◌else◌}
 use mathlib.Core.List.{IsPrefix}
-use Rattle.heap_class.specs.declared.IdSize.{IdSize}
-use Rattle.heap_class.specs.declared.LostCause.{LostCause}
-use Rattle.heap_class.specs.declared.LostCause.TheVariants.{Closed}
-use Rattle.heap_class.specs.declared.Refusal.{Refusal}
-use Rattle.heap_world.specs.Limits.{HeapSettings}
-use Rattle.heap_trail.specs.declared.Action.TheVariants.{NextPiece}
-use Rattle.heap_trail.specs.declared.Reply.{Reply}
-use Rattle.heap_trail.specs.declared.Reply.TheVariants as Said
-use Rattle.heap_trail.specs.Laws.{IsPieceOfLegal}
-use Rattle.hprof_text.specs.declared.Piece.{Piece}
+use Rattle.heap_lock.specs.IdSize.{IdSize}
+use Rattle.heap_lock.specs.LostCause.{LostCause}
+use Rattle.heap_lock.specs.LostCause.TheVariants.{Closed}
+use Rattle.heap_lock.specs.Refusal.{Refusal}
+use Rattle.heap_lock.specs.HeapLimits.{HeapSettings}
+use Rattle.heap_lock.specs.Action.TheVariants.{NextPiece}
+use Rattle.heap_lock.specs.Reply.{Reply}
+use Rattle.heap_lock.specs.Reply.TheVariants as Said
+use Rattle.heap_lock.specs.TrailLaws.{IsPieceOfLegal}
+use Rattle.heap_lock.specs.Piece.{Piece}
 use Rattle.dump_pump.specs.declared.source.Ending.{Ending}
 use Rattle.dump_pump.specs.declared.source.Ending.TheVariants as End
 use Rattle.dump_pump.specs.declared.source.Next.{Next}

@@ -1,6 +1,6 @@
 //! What holds of all streams.
 ghost use Rattle.std.specs.Prelude.{ℕ, Bool, List};
-ghost use Rattle.heap_world.specs.Limits.{HeapSettings};
+ghost use Rattle.heap_lock.specs.HeapLimits.{HeapSettings};
 ghost use Rattle.dump_pump.specs.declared.transfer.Pumped.{Pumped};
 ghost use Rattle.dump_pump.specs.Outlets.{Outgoing};
 ghost use Rattle.heap_lock.specs.Calls.{Call};

@@ -5,6 +5,7 @@ pub mod laws;
 pub mod source;
 pub mod streams;
 
+pub use dump_pipe::{AskSeat, FeedSeat, Meter, NewMeter, OutSeat, ReadSeat};
 pub use laws::streams_are_text;
 pub use source::ToldSource;
 pub use streams::stream;

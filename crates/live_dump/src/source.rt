@@ -4,9 +4,8 @@ ghost use Rattle.heap_lock.specs.Calls.{IsLegalLedger};
 ghost use Rattle.live_dump.specs.Supplies.{IsSupplied, pieces_in, ended_with, pieces_with, nothing_of};
 
 use dump_pump::source::PART_LIMIT;
-use dump_pump::{Ending, Log, Next, Source};
+use dump_pump::{Ending, Log, Next, Piece, Source};
 use heap_lock::{Heap, LockedSource, Shared, Witness};
-use hprof_text::Piece;
 use std::marker::Model;
 use std::sync::Wait;
 

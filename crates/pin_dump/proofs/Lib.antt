@@ -4,3 +4,4 @@ pub mod Texts
 pub mod DumpPins
 pub mod PumpedPins
 pub mod SourceStreams
+pub use Rattle.hprof_text.proofs.Lengths

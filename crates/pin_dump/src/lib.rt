@@ -12,6 +12,8 @@ mod text;
 
 pub use fresh_source::FreshSource;
 pub use gauge::{Gauge, Silent};
+pub use heap_class::LostCause;
+pub use heap_trail::Machine;
 pub use pin_source::{PinSource, cause_of, hand_out, parts_left};
 pub use places::stream_place;
 pub use size::dump_size;

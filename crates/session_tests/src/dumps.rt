@@ -2,11 +2,8 @@
 use crate::examples::DUMP_OF_ONE_POINT;
 use crate::streams::Sips;
 use dump_pump::{Outlet, Pumped, WriteOutlet, pump};
-use heap_class::LostCause;
-use heap_scripts::{new, point, settings, take};
-use heap_step::Event;
-use heap_trail::Machine;
-use pin_dump::PinSource;
+use heap_scripts::{Event, Machine, new, point, settings, take};
+use pin_dump::{LostCause, PinSource};
 use std::alloc::Global;
 use std::test::Fail;
 

@@ -3,8 +3,7 @@ use crate::dumps::{pump_state, with_point};
 use crate::examples::DUMP_OF_ONE_POINT;
 use crate::streams::{Sips, byte_writer};
 use dump_pump::{Pumped, WriteOutlet};
-use heap_step::Event;
-use heap_trail::Machine;
+use heap_scripts::{Event, Machine};
 use std::alloc::Global;
 use std::test::Fail;
 

@@ -3,7 +3,7 @@ use crate::dumps::pump_state;
 use crate::saves::saved;
 use crate::sessions::local;
 use dump_pump::{Pumped, WriteOutlet};
-use heap_trail::Machine;
+use heap_scripts::Machine;
 use pin_dump::Gauge;
 use session_text::{Local, ReadInlet};
 use std::alloc::Global;

@@ -1,7 +1,6 @@
 //! Playing sessions.
 use dump_pump::WriteOutlet;
-use heap_trail::Machine;
-use heap_world::Config;
+use heap_scripts::{Config, Machine};
 use session_text::{Ended, Local, ReadInlet, serve};
 use std::alloc::Global;
 use std::io::{Read, Write};

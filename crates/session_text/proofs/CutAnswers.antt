@@ -8,7 +8,7 @@ use Rattle.heap_trail.specs.declared.Action.{Action}
 use Rattle.heap_trail.specs.declared.Action.TheVariants.{OpenPin, NextPiece}
 use Rattle.heap_trail.specs.declared.Reply.{Reply}
 use Rattle.heap_trail.specs.Machine.{Machine, Allocation, MayStand}
-use Rattle.hprof_text.specs.declared.Piece.{Piece as GivenPiece}
+use Rattle.dump_pump.specs.Piece.{Piece as GivenPiece}
 use Rattle.session_text.specs.declared.Ended.{Ended}
 use Rattle.session_text.specs.declared.ReadEnd.{ReadEnd}
 use Rattle.session_text.specs.declared.ReadEnd.TheVariants.{Over, Failed, Spent}

@@ -7,7 +7,7 @@ use Rattle.heap_trail.specs.declared.Action.TheVariants.{OpenPin, NextPiece, Clo
 use Rattle.heap_trail.specs.declared.Reply.{Reply}
 use Rattle.heap_trail.specs.declared.Reply.TheVariants.{Answered, Place, Pinned, Part, Closed, Refused}
 use Rattle.heap_trail.specs.Machine.{IsSmall}
-use Rattle.hprof_text.specs.declared.Piece.{Piece}
+use Rattle.dump_pump.specs.Piece.{Piece}
 use Rattle.session_text.specs.Replies.{reply_text, data_line, data_lines, chunks_of_64, piece_in, pin_in}
 use Rattle.session_text.specs.Writes.{IsTextAdded}
 use Rattle.session_text.specs.Dumps.{Acts, DumpsOn, Dumps, DumpText, DumpsPin, ClosesAfter, DumpsNow, WritesDump, total_line}

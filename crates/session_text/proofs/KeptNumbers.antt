@@ -1,7 +1,7 @@
 -- A number that no action and no line that the grammar doesn't know changes is changed by no session.
 use Rattle.std.proofs.Common.{◌≡◌, ℕ, zero, suc, inl, inr, List, [], ◌∷◌, ap, ◌∙◌, Option, Some, None}
 use Rattle.dump_pump.specs.Outlets.{Outgoing}
-use Rattle.hprof_text.specs.declared.Piece.{Piece as GivenPiece}
+use Rattle.dump_pump.specs.Piece.{Piece as GivenPiece}
 use Rattle.heap_trail.specs.declared.Action.{Action}
 use Rattle.heap_trail.specs.declared.Reply.{Reply}
 use Rattle.session_text.specs.declared.Ended.{Ended}

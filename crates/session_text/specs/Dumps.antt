@@ -5,7 +5,7 @@ use Rattle.dump_pump.specs.Outlets.{Outgoing}
 use Rattle.heap_trail.specs.declared.Action.{Action}
 use Rattle.heap_trail.specs.declared.Action.TheVariants.{OpenPin, NextPiece, ClosePin}
 use Rattle.heap_trail.specs.declared.Reply.{Reply}
-use Rattle.hprof_text.specs.declared.Piece.{Piece}
+use Rattle.dump_pump.specs.Piece.{Piece}
 use Rattle.session_text.specs.Replies.{line, and_number, reply_text, data_lines, piece_in, pin_in}
 use Rattle.session_text.specs.Writes.{IsTextAdded}
 

@@ -10,3 +10,6 @@ pub mod Talks
 pub mod Endings
 pub mod Session
 pub mod Laws
+-- What clauses here, and proofs above, cite of the crates below.
+pub use Rattle.heap_trail.specs.Machine
+pub use Rattle.byteorder.specs.Endian

@@ -24,6 +24,7 @@ mod terms;
 mod write;
 
 pub use commands::{Commands, LineAnswer, Local};
+pub use heap_trail::Machine;
 pub use inlet::{Inlet, Take};
 pub use read_inlet::ReadInlet;
 pub use talk::{serve, serve_local};

@@ -11,11 +11,10 @@ ghost use Rattle.session_text.specs.declared.write.TheConstants.{LINE_START};
 use crate::data::write_data;
 use crate::page::Page;
 use crate::write::make_room;
-use dump_pump::Outlet;
+use dump_pump::{Outlet, Piece};
 use heap_class::{LostCause, Refusal};
 use heap_step::Answer;
 use heap_trail::Reply;
-use hprof_text::Piece;
 
 // Adds the answer of an event that made or loaded an object.
 fn add_object(page: &mut Page, id: u64)

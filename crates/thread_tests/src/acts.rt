@@ -4,10 +4,7 @@ ghost use Rattle.heap_lock.specs.Limits.{seat_limit};
 
 use heap_class::{Field, Fields, Kind, LostCause, Name, Refusal};
 use heap_lock::{Blank, Heap, Kept, Outcome, Receipt, Role, Seat, Shared, Verdict, audit};
-use heap_scripts::{FIRST, point};
-use heap_step::{Answer, Event};
-use heap_trail::{Action, PinAt};
-use heap_world::Config;
+use heap_scripts::{Action, Answer, Config, Event, FIRST, PinAt, point};
 use std::alloc::{AllocError, Global};
 use std::marker::Brand;
 use std::sync::Wait;

@@ -1,7 +1,7 @@
 //! The two ends of a pipe, each in a thread of its own.
 ghost use Rattle.std.specs.Prelude.{◌≡◌, ◌<◌, []};
-ghost use Rattle.crossbeam_channel.specs.Claims.{view, IsSeatAt};
-ghost use Rattle.crossbeam_channel.specs.Ends.{sends_on, receives_on};
+ghost use Rattle.dump_pipe.specs.Claims.{view, IsSeatAt};
+ghost use Rattle.dump_pipe.specs.Ends.{sends_on, receives_on};
 ghost use Rattle.dump_pipe.specs.Seats.{sum};
 ghost use Rattle.dump_pipe.specs.declared.end_view.EndView.TheVariants.{Sends, Gets};
 

@@ -7,7 +7,7 @@ use crate::shared::{has_points, pumped_now};
 use dump_pipe::{Meter, NewMeter};
 use dump_pump::Pumped;
 use heap_lock::{Blank, Heap, Role, Seat, Shared};
-use heap_world::Config;
+use heap_scripts::Config;
 use std::alloc::Global;
 use std::marker::Brand;
 use std::sync::Wait;

@@ -8,7 +8,7 @@ use crate::streaming::read_along;
 use dump_pipe::{FeedSeat, Meter, NewMeter, OutSeat, ReadSeat};
 use dump_pump::Pumped;
 use heap_lock::{Blank, Heap, Role, Shared};
-use heap_world::Config;
+use heap_scripts::Config;
 use std::alloc::Global;
 use std::marker::Brand;
 use std::sync::Wait;

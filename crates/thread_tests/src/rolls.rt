@@ -2,9 +2,7 @@
 ghost use Rattle.std.specs.Prelude.{◌≡◌};
 
 use heap_lock::{Blank, Heap, Kept, Outcome, Receipt, Role, Seat, Shared, Verdict, audit};
-use heap_step::{Answer, Event};
-use heap_trail::Action;
-use heap_world::Config;
+use heap_scripts::{Action, Answer, Config, Event};
 use std::alloc::Global;
 use std::marker::Brand;
 use std::sync::Wait;

@@ -3,9 +3,7 @@ ghost use Rattle.std.specs.Prelude.{◌≡◌};
 
 use heap_class::Kind;
 use heap_lock::{Blank, Heap, Kept, Outcome, Receipt, Role, Seat, Shared, Verdict, audit};
-use heap_step::Event;
-use heap_trail::Action;
-use heap_world::Config;
+use heap_scripts::{Action, Config, Event};
 use std::alloc::{AllocError, Global};
 use std::marker::Brand;
 use std::sync::Wait;

@@ -1,6 +1,6 @@
 use Rattle.std.proofs.Common.{◌≡◌, Option, sym, ◌∙◌, subst}
 use Rattle.std.specs.Prelude.{IfSome}
-use Rattle.heap_trail.specs.declared.Action.TheVariants.{Step}
+use Rattle.heap_lock.specs.Action.TheVariants.{Step}
 use Rattle.heap_chronicle.specs.declared.pack.DeedPack.{DeedPack}
 use Rattle.heap_chronicle.specs.Packs.{action_by}
 use Rattle.heap_chronicle.proofs.EventPacks.{pack_tells}

@@ -1,5 +1,5 @@
 use Rattle.std.proofs.Common.{◌≡◌, ◌∙◌, Result, ap, subst, inl}
-use Rattle.heap_trail.specs.Machine.{Machine, opening_machine}
+use Rattle.session_text.specs.Machine.{Machine, opening_machine}
 use Rattle.session_text.specs.declared.commands.Local.{Local}
 use Rattle.session_text.specs.Session.{IsSession}
 use Rattle.heapdbg.specs.declared.failure.Fault.{Fault}

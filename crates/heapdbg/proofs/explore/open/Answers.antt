@@ -1,5 +1,5 @@
 use Rattle.std.proofs.Common.{◌∙◌, ap}
-use Rattle.heap_trail.specs.Machine.{Machine, opening_machine}
+use Rattle.session_text.specs.Machine.{Machine, opening_machine}
 use Rattle.session_text.specs.declared.commands.Local.{Local}
 use Rattle.heapdbg.proofs.SavedRuns.{first_is}
 use Rattle.heapdbg.proofs.explore.open.Goals as goal

@@ -1,5 +1,5 @@
 use Rattle.std.proofs.Common.{◌≡◌, ◌∙◌, ap, sym}
-use Rattle.heap_trail.specs.Machine.{opening_machine}
+use Rattle.session_text.specs.Machine.{opening_machine}
 use Rattle.session_text.specs.declared.commands.Local.{Local}
 use Rattle.heapdbg.proofs.SavedRuns.{saved_to, still_some}
 use Rattle.heapdbg.proofs.save.save_session.Goals as goal

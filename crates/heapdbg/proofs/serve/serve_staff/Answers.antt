@@ -1,5 +1,5 @@
 use Rattle.std.proofs.Common.{sym, ◌∙◌, ap, inl, subst}
-use Rattle.heap_lock.specs.Blanks.{Maker}
+use Rattle.heap_server.specs.Blanks.{Maker}
 use Rattle.heap_server.specs.Tending.{AreStaff, AreTended}
 use Rattle.heapdbg.proofs.serve.serve_staff.Goals as goal
 

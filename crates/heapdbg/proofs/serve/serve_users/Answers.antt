@@ -1,6 +1,6 @@
 use Rattle.std.proofs.Common.{◌∙◌, ap, inl}
 use Rattle.std.specs.Prelude.{length}
-use Rattle.heap_lock.specs.Blanks.{Maker}
+use Rattle.heap_server.specs.Blanks.{Maker}
 use Rattle.heapdbg.proofs.serve.serve_users.Goals as goal
 
 pub returns-in-Ok-serve_heap : goal.returns-in-Ok-serve_heap

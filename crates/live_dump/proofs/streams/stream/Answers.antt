@@ -1,5 +1,5 @@
 use Rattle.std.proofs.Common.{ℕ, List, sym, ap, subst}
-use Rattle.atomic_table.specs.Seated.{TableId}
+use Rattle.dump_pipe.specs.Seated.{TableId}
 use Rattle.heap_lock.specs.Calls.{Call, IsLegalLedger}
 use Rattle.live_dump.specs.Streams.{PutsLive}
 use Rattle.live_dump.proofs.ToldStreams.{puts}

@@ -1,5 +1,5 @@
 use Rattle.std.proofs.Common.{refl, subst, sym}
-use Rattle.heap_trail.specs.declared.Action.TheVariants.{Step}
+use Rattle.heap_lock.specs.Action.TheVariants.{Step}
 use Rattle.heap_server.specs.JoinedActs.{IsJoined}
 use Rattle.heap_server.proofs.Acts.{acted}
 use Rattle.heap_server.proofs.joined.JoinedCommands.act.Goals as goal

@@ -4,6 +4,7 @@ pub mod Histories
 pub mod SeatedHeaps
 pub mod DumperCalls
 pub mod PieceReplies
+pub mod StepReplies
 pub mod SightSteps
 pub mod CallLists
 pub mod NumberedPins

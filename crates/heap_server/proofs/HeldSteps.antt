@@ -20,6 +20,7 @@ use Rattle.heap_lock.specs.Entry.{Entry}
 use Rattle.heap_lock.specs.Outcome.TheVariants as outcome
 use Rattle.heap_lock.specs.History.{entry, opening, reply_of, IsLegalHistory}
 use Rattle.heap_lock.specs.LockStates.{Chair, Folds, IsNoEntry, IsRefused, LockState, with_entry}
+use Rattle.heap_lock.proofs.StepReplies.{no_place}
 use Rattle.question_text.specs.declared.cycle.CycleCounts.{CycleCounts}
 use Rattle.question_text.specs.Collections.{IsCycleStep, IsWholeCycle, StopsAt}
 use Rattle.question_text.proofs.CycleSteps.{runs_cycle}
@@ -52,19 +53,6 @@ refused_stays m n e r h = go h.0 h.1 h.2
         let told : (acted m (Step e)).1 ≡ Refused r = ap (λ (x : Machine × Reply). x.1) is in
         let clash : false ≡ true = sym (ap is_accepted told) ∙ s.1 in
         absurd (cc clash)
-
--- no step is answered with a place
-no_place : (m : Machine) (e : Event) (p : ℕ) → (acted m (Step e)).1 ≡ Place p → ⊥
-unfolding acted after_result after_step_at
-no_place m e p is = at (nat_le last_place m.trail.place) is
-  where
-    of : (x : Result (HeapState × Answer) Refusal) → (after_result m x).1 ≡ Place p → ⊥
-    of (Ok v) h = cc h
-    of (Err x) h = cc h
-
-    at : (b : Bool) → (after_step_at b e m).1 ≡ Place p → ⊥
-    at true h = cc h
-    at false h = of (applied e m.trail.current) h
 
 pub not_at_place : (m n : Machine) (e : Event) (p : ℕ) → MayReply m (Step e) n (Place p) → ⊥
 unfolding acted_under

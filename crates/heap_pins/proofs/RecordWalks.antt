@@ -14,7 +14,7 @@ use Rattle.heap_step.specs.declared.Undo.{Undo}
 use Rattle.heap_step.specs.declared.Undo.TheVariants.{Put, Store, Reg, New, Class, Snap, Mark, Drain, Finish, Sweep, Reclaim}
 use Rattle.heap_step.specs.Laws.{IsStep}
 use Rattle.heap_step.specs.Records.{undone}
-use Rattle.heap_step.proofs.UndoOfEach.{undo_takes_back}
+use Rattle.heap_step.proofs.EventLaws.{undo_takes_back}
 use Rattle.heap_pins.specs.KeptCopies.{touched, patched}
 use Rattle.heap_pins.specs.Pin.{PinContents, place, places_from, region_seen}
 use Rattle.heap_pins.specs.Shows.{ShowsState, OfFirst, Holds}

@@ -21,7 +21,7 @@ use Rattle.heap_step.specs.declared.Undo.{Undo}
 use Rattle.heap_step.specs.declared.Undo.TheVariants.{Put, Store, Reg, New, Class, Snap, Mark, Drain, Finish, Sweep, Reclaim}
 use Rattle.heap_step.specs.Laws.{IsStep}
 use Rattle.heap_step.proofs.CreationUndo.{pool_empty}
-use Rattle.heap_step.proofs.Legal.{keeps_legal}
+use Rattle.heap_step.proofs.EventLaws.{keeps_legal}
 use Rattle.heap_step.proofs.Fits.{IsSwept}
 use Rattle.heap_step.proofs.Steps.{put_there, store_there, sweep_before, reclaim_head}
 use Rattle.heap_pins.specs.KeptCopies.{touched}

@@ -20,7 +20,8 @@ use Rattle.heap_step.specs.declared.Event.{Event}
 use Rattle.heap_step.specs.declared.Undo.{Undo}
 use Rattle.heap_step.specs.declared.Undo.TheVariants.{Sweep, Reclaim, New, Reg}
 use Rattle.heap_step.specs.Laws.{IsStep}
-use Rattle.heap_step.specs.Records.{undo_record, reg_record, new_record, sweep_record}
+use Rattle.heap_step.specs.Apply.{reg_record, new_record, sweep_record}
+use Rattle.heap_step.specs.Records.{undo_record}
 use Rattle.heap_pins.specs.Covers.{HasAll, Covers}
 use Rattle.heap_pins.specs.Pin.{PinContents, region_seen}
 use Rattle.heap_pins.specs.Shows.{ShowsState, AreFit, FitIn}

@@ -21,7 +21,7 @@ use Rattle.heap_step.specs.declared.Undo.{Undo}
 use Rattle.heap_step.specs.declared.Undo.TheVariants.{Put, Store, Reg, New, Class, Snap, Mark, Drain, Finish, Sweep, Reclaim}
 use Rattle.heap_step.specs.Laws.{IsStep}
 use Rattle.heap_step.specs.Records.{undone}
-use Rattle.heap_step.proofs.UndoOfEach.{undo_takes_back}
+use Rattle.heap_step.proofs.EventLaws.{undo_takes_back}
 use Rattle.heap_step.proofs.Steps.{new_there, put_there, reclaim_inhabited, store_there}
 use Rattle.heap_pins.specs.Covers.{Covers}
 use Rattle.heap_pins.specs.KeptCopies.{patched, touched, with_dead}

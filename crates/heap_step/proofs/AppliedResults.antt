@@ -18,11 +18,10 @@ use Rattle.heap_step.specs.declared.Answer.{Answer}
 use Rattle.heap_step.specs.declared.Answer.TheVariants.{Value}
 use Rattle.heap_step.specs.declared.Event.{Event}
 use Rattle.heap_step.specs.declared.Undo.{Undo}
-use Rattle.heap_step.specs.Apply.{refusal_of, state_after, object_or_null, answer_of, applied_unless, applied, event_may_grow}
-use Rattle.heap_step.specs.Records.{reg_record, new_record, sweep_record, undo_record}
+use Rattle.heap_step.specs.Apply.{object_or_null, reg_record, new_record, sweep_record, refusal_of, state_after, answer_of, applied_unless, applied, event_may_grow}
+use Rattle.heap_step.specs.Records.{undo_record}
 use Rattle.heap_step.specs.Laws.{IsApplied, StaysFound}
-use Rattle.heap_step.proofs.Legal.{keeps_legal}
-use Rattle.heap_step.proofs.CycleGuards.{stays_found}
+use Rattle.heap_step.proofs.EventLaws.{keeps_legal, stays_found}
 
 -- a refusal
 pub refused_is : (e : Event) (before after : HeapState) (r : Refusal) → IsAnswered {A = Answer × Undo} (refusal_of e before) (event_may_grow e before) (Err r) → after ≡ before → IsApplied e before after (Err r)

@@ -1,27 +1,20 @@
 -- A new object is taken back.
-use Rattle.std.proofs.Common.{◌≡◌, ℕ, ◌+◌, ◌*◌, Bool, false, length, Option, Some, None, refl, ◌∙◌}
-use Rattle.std.specs.Prelude.{is_none}
+use Rattle.std.proofs.Common.{Bool, None, Option, Some, false, refl, ℕ, ◌*◌, ◌+◌, ◌∙◌, ◌≡◌}
+use Rattle.std.proofs.lemmas.List.{set-get_or, set-set}
 use Rattle.std.specs.Option.{option_map_or}
-use Rattle.std.proofs.lemmas.List.{set-set, set-get_or}
+use Rattle.std.specs.Prelude.{is_none}
 use Rattle.heap_class.proofs.Lists.{got_is_in}
-use Rattle.heap_class.specs.declared.Kind.{Kind}
-use Rattle.heap_class.specs.declared.ObjRef.{ObjRef}
 use Rattle.heap_class.specs.declared.ObjKind.{ObjKind}
-use Rattle.heap_class.specs.declared.ObjKind.TheVariants.{Instance, Array, Prim}
-use Rattle.heap_class.specs.Classes.{slots_of}
-use Rattle.heap_class.proofs.Refusals.{none_holds}
-use Rattle.heap_region.specs.Regions.{Object, id_of}
-use Rattle.heap_region.specs.Pool.{RegionPool, new_place, allocated, unallocated}
+use Rattle.heap_class.specs.declared.ObjRef.{ObjRef}
 use Rattle.heap_region.proofs.Places.{HeadIsEmpty, PoolIsEmpty, allocated_back}
-use Rattle.heap_world.specs.State.{HeapState, pool_of, with_pool, register, with_register}
+use Rattle.heap_region.specs.Pool.{RegionPool, allocated, new_place, unallocated}
+use Rattle.heap_region.specs.Regions.{Object, id_of}
+use Rattle.heap_world.specs.Events.{after_new, is_full, new_object}
 use Rattle.heap_world.specs.Legal.{IsLegal}
-use Rattle.heap_world.specs.Events.{new_object, after_new, is_full, new_refusal, new_array_refusal, new_prim_refusal}
-use Rattle.heap_step.specs.declared.Event.{Event}
-use Rattle.heap_step.specs.declared.Event.TheVariants.{NewArray, NewPrim}
+use Rattle.heap_world.specs.State.{HeapState, pool_of, register, with_pool, with_register}
+use Rattle.heap_step.specs.Apply.{new_record, reg_record}
+use Rattle.heap_step.specs.Records.{undone}
 use Rattle.heap_step.specs.declared.Undo.{Undo}
-use Rattle.heap_step.specs.Apply.{state_after, refusal_of}
-use Rattle.heap_step.specs.Records.{undone, undo_record, reg_record, new_record}
-use Rattle.heap_step.specs.Laws.{IsTakenBack}
 
 -- the cell at the head of a free list of a legal heap is empty
 pub head_empty : (w : HeapState) → IsLegal w → (at : ObjRef) → HeadIsEmpty (pool_of w) at
@@ -36,7 +29,7 @@ pool_back : (w : HeapState) → IsLegal w → (n : ℕ) (at : ObjRef) (fresh : B
 pool_back w legal n at fresh o place = allocated_back at fresh o (pool_of w) n place (head_empty w legal at) (pool_empty w legal at)
 
 -- whatever its kind and its number of slots
-created_back : (w : HeapState) (m r n : ℕ) (kind : ObjKind) → IsLegal w → is_full n w ≡ false → undone (new_record m r n w) (after_new m r kind n w) ≡ w
+pub created_back : (w : HeapState) (m r n : ℕ) (kind : ObjKind) → IsLegal w → is_full n w ≡ false → undone (new_record m r n w) (after_new m r kind n w) ≡ w
 unfolding undone new_record reg_record after_new is_full
 created_back w m r n kind legal room = go (new_place n (pool_of w)) (pool_back w legal n) room
   where
@@ -46,15 +39,3 @@ created_back w m r n kind legal room = go (new_place n (pool_of w)) (pool_back w
     go (Some p) back h =
         let e : unallocated p.0 p.1 (allocated p.0 p.1 (new_object kind n w) (pool_of w)) ≡ pool_of w = back p.0 p.1 (new_object kind n w) refl in
         λ i. record w { regions = (e i).regions; pool = (e i).pool; registers = (set-set w.registers (8 * m + r) (id_of (allocated p.0 p.1 (new_object kind n w) (pool_of w)).regions p.0) (register w m r) ∙ set-get_or w.registers (8 * m + r) 0) i }
-
-pub new_back : (w : HeapState) (m r class : ℕ) → IsTakenBack (Event.New m r class) w
-unfolding undo_record state_after refusal_of new_refusal
-new_back w m r class legal accepted = created_back w m r (length (slots_of w.classes class)) (Instance class) legal (none_holds _ accepted).1.1.1.0
-
-pub new_array_back : (w : HeapState) (m r class len : ℕ) → IsTakenBack (NewArray m r class len) w
-unfolding undo_record state_after refusal_of new_array_refusal
-new_array_back w m r class len legal accepted = created_back w m r len (Array class) legal (none_holds _ accepted).1.1.1.1.0
-
-pub new_prim_back : (w : HeapState) (m r : ℕ) (kind : Kind) (len : ℕ) → IsTakenBack (NewPrim m r kind len) w
-unfolding undo_record state_after refusal_of new_prim_refusal
-new_prim_back w m r kind len legal accepted = created_back w m r len (Prim kind) legal (none_holds _ accepted).1.1.1.0

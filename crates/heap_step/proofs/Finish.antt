@@ -1,16 +1,20 @@
--- A finish is taken back.
+-- A finish is sound.
 use Rattle.std.proofs.Common.{◌≡◌, ℕ, true, false, List, refl, sym, ap, subst, ◌∙◌, Option, Some, None, map}
 use Rattle.std.specs.Prelude.{slice_get, option_map, option_and_then, IfSome}
 use Rattle.heap_class.proofs.Refusals.{none_holds}
 use Rattle.heap_region.specs.Regions.{Object, UsedRegion, Region, Empty, InUse, used_part, used_at, object_at, in_used}
 use Rattle.heap_mark.specs.MarkSteps.{each_object, each_region, pending_regions, finish_refusal, finished_region, finished, unfinished_region, unfinished}
+use Rattle.heap_mark.specs.declared.Phase.TheVariants.{Idle, Marking}
+use Rattle.heap_world.proofs.Finish.{finish_legal}
+use Rattle.heap_world.proofs.Shapes.{finish_shape}
 use Rattle.heap_world.specs.State.{HeapState}
 use Rattle.heap_world.specs.Legal.{IsLegal}
 use Rattle.heap_world.specs.Events.{after_finish}
 use Rattle.heap_step.specs.declared.Event.{Event}
 use Rattle.heap_step.specs.Apply.{state_after, refusal_of}
 use Rattle.heap_step.specs.Records.{undone, undo_record}
-use Rattle.heap_step.specs.Laws.{IsTakenBack}
+use Rattle.heap_step.specs.Laws.{IsTakenBack, StaysFound}
+use Rattle.heap_step.proofs.Soundness.{IsSound}
 use Rattle.heap_mark.proofs.Finishes.{none_pending, map_back, phase_is, all_drained, pending_in}
 
 -- a live object, finished and taken back
@@ -43,10 +47,33 @@ live_there w legal r c u o here there swept =
     let found : object_at w.regions (record { region = r; cell = c }) ≡ Some o = ap (option_and_then (λ (v : UsedRegion). option_and_then (λ (x : Option Object). x) (slice_get v.cells c))) used ∙ ap (option_and_then (λ (x : Option Object). x)) there in
     subst (λ (v : Option UsedRegion). IfSome v (λ v. v.pending ≡ false → o.live ≡ true)) used (legal.swept_live (record { region = r; cell = c }) o found) swept
 
-pub finish_back : (w : HeapState) → IsTakenBack Event.Finish w
+finish_back : (w : HeapState) → IsTakenBack Event.Finish w
 unfolding undone undo_record state_after after_finish refusal_of finish_refusal finished unfinished pending_regions
 finish_back w legal accepted =
     let swept : (r : ℕ) → pending_in (slice_get w.regions r) ≡ false = none_pending w.regions 0 (none_holds _ accepted).1.1.0 in
     let regions : each_region unfinished_region (each_region finished_region w.regions) ≡ w.regions
     = regions_back w.regions swept (λ r c u o here there. live_there w legal r c u o here there (sym (ap pending_in here) ∙ swept r)) in
     λ i. record w { regions = regions i; drained = all_drained _ _ _ (none_holds _ accepted).1.0 legal.drained_within i; phase = phase_is w.phase (none_holds _ accepted).0 i }
+
+finish_phase : (w : HeapState) → (after_finish w).phase ≡ Idle
+unfolding after_finish finished
+finish_phase w = refl
+
+-- a finish ends the cycle
+finish_stays : (w : HeapState) → StaysFound w (after_finish w)
+unfolding after_finish finished
+finish_stays w i j x h = absurd (clash j)
+  where
+    clash : Idle ≡ Marking → ⊥
+    clash e = cc
+
+pub finish_sound : IsSound Event.Finish
+unfolding refusal_of state_after undo_record undone
+finish_sound = record {
+  legal = finish_legal;
+  back = finish_back;
+  fits = λ w legal accepted. tt;
+  found = λ w l accepted. finish_stays w;
+  shape = λ w l accepted x live. finish_shape w x;
+  run = λ w i. let c : Idle ≡ Marking = sym (finish_phase w) ∙ i in cc;
+}

@@ -13,13 +13,13 @@ use Rattle.heap_step.specs.declared.Event.{Event}
 use Rattle.heap_step.specs.declared.Undo.{Undo}
 use Rattle.heap_step.specs.Records.{undone, undo_record}
 use Rattle.heap_step.specs.Laws.{IsStep}
-use Rattle.heap_step.proofs.UndoOfEach.{undo_takes_back}
-use Rattle.heap_step.proofs.Fits.{HasSlot, IsHeld, IsSnapped, IsSwept, IsInhabited, Fits, record_fits}
+use Rattle.heap_step.proofs.EventLaws.{sound, undo_takes_back}
+use Rattle.heap_step.proofs.Fits.{HasSlot, IsHeld, IsSnapped, IsSwept, IsInhabited, IsLifeless, Fits}
 
 -- ---- what holds of the state that a step gave, where the record is `was`
 
 fits : (e : Event) (before after : HeapState) (left was : Undo) → IsStep e before after left → left ≡ was → Fits was after
-fits e before after left was s is = subst (λ u. Fits u after) (sym s.recorded ∙ is) (subst (Fits (undo_record e before)) (sym s.gave) (record_fits e before s.legal s.accepted))
+fits e before after left was s is = subst (λ u. Fits u after) (sym s.recorded ∙ is) (subst (Fits (undo_record e before)) (sym s.gave) ((sound e).fits before s.legal s.accepted))
 
 back_is : (e : Event) (before after : HeapState) (left was : Undo) → IsStep e before after left → left ≡ was → undone was after ≡ before
 back_is e before after left was s is = (λ i. undone ((sym is ∙ s.recorded) i) (s.gave i)) ∙ undo_takes_back e before s.legal s.accepted
@@ -172,6 +172,9 @@ reclaim_head e before after left s region storage is = (fits e before after left
 
 pub reclaim_inhabited : (e : Event) (before after : HeapState) (left : Undo) → IsStep e before after left → (region : ℕ) (storage : UsedRegion) → left ≡ Undo.Reclaim region storage → IsInhabited storage
 reclaim_inhabited e before after left s region storage is = (fits e before after left (Undo.Reclaim region storage) s is).1
+
+pub reclaim_lifeless : (e : Event) (before after : HeapState) (left : Undo) → IsStep e before after left → (region : ℕ) (storage : UsedRegion) → left ≡ Undo.Reclaim region storage → IsLifeless storage
+reclaim_lifeless e before after left s region storage is = (fits e before after left (Undo.Reclaim region storage) s is).2
 
 pub reclaim_legal : (e : Event) (before after : HeapState) (left : Undo) → IsStep e before after left → (region : ℕ) (storage : UsedRegion) → left ≡ Undo.Reclaim region storage → IsLegal (with_pool (restored region storage (pool_of after)) after)
 unfolding undone

@@ -18,6 +18,7 @@ use heap_world::{Created, Loaded, World};
 /// Applies an event by the function of its kind. `load` and `store` are never inlined: with them the function would be too
 /// large for the compiler to inline it into each caller, which knows the kind.
 #[inline(always)]
+#[tactic(auto, using(crate::proofs::AppliedResults::as_event))]
 pub fn dispatch(world: &mut World, event: &Event) -> Result<(Answer, Undo), Refusal>
     requires { IsLegal world.old }
     ensures { IsApplied event.now world.old world.new result }

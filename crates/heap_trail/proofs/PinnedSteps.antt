@@ -12,8 +12,8 @@ use Rattle.heap_step.specs.declared.Event.{Event}
 use Rattle.heap_step.specs.declared.Event.TheVariants.{ArrayClass, New, NewArray, NewPrim, Load, Store, Put, Move, Clear, Snap, Mark as MarkEvent, Drain, Finish, Sweep}
 use Rattle.heap_step.specs.declared.Answer.{Answer}
 use Rattle.heap_step.specs.declared.Undo.{Undo}
-use Rattle.heap_step.specs.Apply.{applied}
-use Rattle.heap_step.specs.Records.{undone, undo_record, reg_record, new_record}
+use Rattle.heap_step.specs.Apply.{applied, reg_record, new_record}
+use Rattle.heap_step.specs.Records.{undone, undo_record}
 use Rattle.heap_pins.specs.KeptCopies.{touched}
 use Rattle.heap_trail.specs.declared.Action.TheVariants.{Step}
 use Rattle.heap_trail.specs.declared.Reply.{Reply}

@@ -8,7 +8,7 @@ use Rattle.heap_step.specs.declared.Event.{Event}
 use Rattle.heap_step.specs.declared.Event.TheVariants.{Finish, Sweep}
 use Rattle.heap_step.specs.declared.Undo.{Undo}
 use Rattle.heap_step.specs.Apply.{refusal_of, state_after}
-use Rattle.heap_step.proofs.Legal.{sweep_spares, finish_spares}
+use Rattle.heap_step.proofs.EventLaws.{sweep_spares, finish_spares}
 use Rattle.heap_trail.specs.Laws.{SparesReached, ReachesLive, FindsSnapshot}
 use Rattle.heap_trail.specs.Records.{past_of, IsRetaining}
 use Rattle.heap_trail.proofs.RecordedPast.{steps_told}

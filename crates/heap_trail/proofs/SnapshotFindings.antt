@@ -17,9 +17,7 @@ use Rattle.heap_world.proofs.Phases.{finish_due}
 use Rattle.heap_step.specs.declared.Event.{Event}
 use Rattle.heap_step.specs.declared.Event.TheVariants.{Snap, Finish}
 use Rattle.heap_step.specs.Apply.{refusal_of, state_after}
-use Rattle.heap_step.proofs.Legal.{keeps_legal}
-use Rattle.heap_step.proofs.CycleGuards.{stays_found}
-use Rattle.heap_step.proofs.KeptShapes.{keeps_shape, has_run}
+use Rattle.heap_step.proofs.EventLaws.{keeps_legal, stays_found, keeps_shape, has_run}
 use Rattle.heap_trail.specs.Laws.{AreSteps, FindsSnapshot}
 use Rattle.heap_trail.proofs.RetainedStates.{steps_legal}
 

@@ -1,4 +1,4 @@
-use Rattle.heap_step.proofs.CycleGuards.{stays_found}
+use Rattle.heap_step.proofs.EventLaws.{stays_found}
 use Rattle.heap_step.proofs.stays_found.Goals as goal
 
 pub returns : goal.returns

@@ -9,9 +9,10 @@ use Rattle.heap_region.proofs.ShownRegions.{object_of_used}
 use Rattle.heap_pins.specs.Pin.{PinContents}
 use Rattle.heap_world.specs.State.{HeapState}
 use Rattle.heap_step.specs.declared.Undo.{Undo}
-use Rattle.heap_step.specs.declared.Undo.TheVariants.{Put, Store, Reg, New, Class, Snap, Mark, Drain, Finish, Sweep, Reclaim}
-use Rattle.heap_pins.specs.KeptCopies.{kept_at, with_dead, touched, kept_if, kept}
+use Rattle.heap_step.specs.declared.Undo.TheVariants.{Put, Store, Sweep, Reclaim}
+use Rattle.heap_pins.specs.KeptCopies.{kept_at, with_dead, kept_if, kept}
 use Rattle.heap_pins.specs.Shows.{AreFit}
+use Rattle.heap_pins.proofs.RecordCases.{by_region}
 
 -- an item of the copies that is known to be there
 pub copy_is : (copies : List (Option Frozen)) (r : ℕ) (x : Option Frozen) → r < length copies → x ≡ slice_index_or copies r x → slice_index_or copies r None ≡ x
@@ -72,18 +73,14 @@ puts_next dead i d f g lt e fit is =
 
 pub kept_other : (left : Undo) (v : HeapState) (p : PinContents) → ((at : ObjRef) (slot old : ℕ) → left ≢ Put at slot old) → ((at : ObjRef) (slot old : ℕ) (logged : Bool) → left ≢ Store at slot old logged)
     → ((region : ℕ) (dead : List (ℕ × Object)) → left ≢ Sweep region dead) → ((region : ℕ) (storage : UsedRegion) → left ≢ Reclaim region storage) → p ≡ kept left v p
-unfolding kept kept_if touched
-kept_other (Put at slot old) v p a b c d = absurd (a at slot old refl)
-kept_other (Store at slot old logged) v p a b c d = absurd (b at slot old logged refl)
-kept_other (Reg m k old) v p a b c d = refl
-kept_other (New at fresh m k old) v p a b c d = refl
-kept_other Class v p a b c d = refl
-kept_other Snap v p a b c d = refl
-kept_other (Mark parent pushed) v p a b c d = refl
-kept_other (Drain pushed) v p a b c d = refl
-kept_other (Finish log) v p a b c d = refl
-kept_other (Sweep region dead) v p a b c d = absurd (c region dead refl)
-kept_other (Reclaim region storage) v p a b c d = absurd (d region storage refl)
+unfolding kept kept_if
+kept_other left v p a b c d = by_region (λ u. left ≡ u → p ≡ kept u v p)
+    (λ at slot old e. absurd (a at slot old e))
+    (λ at slot old logged e. absurd (b at slot old logged e))
+    (λ region dead e. absurd (c region dead e))
+    (λ region storage e. absurd (d region storage e))
+    (λ u n e. ap (λ x. kept_if x u v p) (sym n.none))
+    left refl
 
 -- what holds anyhow holds at a refusal
 pub on_err : {A E P : Type 0} (r : Result A E) → P → OnErr r P

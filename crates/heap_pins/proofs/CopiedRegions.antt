@@ -15,13 +15,13 @@ use Rattle.heap_region.proofs.ShownRegions.{updated_cells}
 use Rattle.heap_sweep.specs.Sweep.{unswept, unswept_region}
 use Rattle.heap_world.specs.State.{HeapState, pool_of}
 use Rattle.heap_step.specs.declared.Undo.{Undo}
-use Rattle.heap_step.specs.declared.Undo.TheVariants.{Put, Store, Reg, New, Class, Snap, Mark, Drain, Finish, Sweep, Reclaim}
 use Rattle.heap_step.specs.Records.{undone}
 use Rattle.heap_pins.specs.Covers.{Covers}
 use Rattle.heap_pins.specs.Pin.{PinContents}
 use Rattle.heap_pins.specs.KeptCopies.{touched, with_dead, patched, copy_for, kept_at, kept_if, kept}
 use Rattle.heap_pins.specs.Shows.{KeepsRegion, KeepsFor}
 use Rattle.heap_pins.proofs.CoveringCopies.{covers_same, covers_none, none_left}
+use Rattle.heap_pins.proofs.RecordCases.{by_region, named, none_named, touches_none}
 
 -- ---- the touched region
 
@@ -59,29 +59,19 @@ reclaim_copied region storage s = elim (put_back region storage s.regions) [
   | inr e ↦ covers_same _ _ (sym (ap (option_map frozen) e))
 ]
 
-named : (q r : ℕ) → Some q ≡ Some r → q ≡ r
-named q r e = cc
-
-none_named : (r : ℕ) (P : Type 0) → None ≡ Some r → P
-none_named r P e = absurd (clash e)
-  where
-    clash : None ≡ Some r → ⊥
-    clash e = cc
-
 -- the copy has all of the region before the step
 pub copy_covers : (left : Undo) (v : HeapState) (r : ℕ) → touched left ≡ Some r → Covers (region_frozen (undone left v).regions r) (copy_for left v r)
 unfolding touched undone copy_for patched
-copy_covers (Put at slot old) v r t = subst (λ q. Covers (region_frozen (with_word at slot old v.regions) q) (option_map (frozen_word_set at.cell slot old) (region_frozen v.regions q))) (named at.region r t) (covers_same _ _ (sym (word_copied at slot old v.regions)))
-copy_covers (Store at slot old logged) v r t = subst (λ q. Covers (region_frozen (with_word at slot old v.regions) q) (option_map (frozen_word_set at.cell slot old) (region_frozen v.regions q))) (named at.region r t) (covers_same _ _ (sym (word_copied at slot old v.regions)))
-copy_covers (Reg m k old) v r t = none_named r _ t
-copy_covers (New at fresh m k old) v r t = none_named r _ t
-copy_covers Class v r t = none_named r _ t
-copy_covers Snap v r t = none_named r _ t
-copy_covers (Mark parent pushed) v r t = none_named r _ t
-copy_covers (Drain pushed) v r t = none_named r _ t
-copy_covers (Finish log) v r t = none_named r _ t
-copy_covers (Sweep region dead) v r t = subst (λ q. Covers (region_frozen (unswept region dead (pool_of v)).regions q) (option_map (with_dead dead) (region_frozen v.regions q))) (named region r t) (covers_same _ _ (sym (sweep_copied region dead (pool_of v))))
-copy_covers (Reclaim region storage) v r t = subst (λ q. Covers (region_frozen (restored region storage (pool_of v)).regions q) (Some (frozen storage))) (named region r t) (reclaim_copied region storage (pool_of v))
+copy_covers left v r = by_region (λ u. touched u ≡ Some r → Covers (region_frozen (undone u v).regions r) (copy_for u v r))
+    (λ at slot old. word at slot old)
+    (λ at slot old logged. word at slot old)
+    (λ region dead t. subst (λ q. Covers (region_frozen (unswept region dead (pool_of v)).regions q) (option_map (with_dead dead) (region_frozen v.regions q))) (named region r t) (covers_same _ _ (sym (sweep_copied region dead (pool_of v)))))
+    (λ region storage t. subst (λ q. Covers (region_frozen (restored region storage (pool_of v)).regions q) (Some (frozen storage))) (named region r t) (reclaim_copied region storage (pool_of v)))
+    (λ u n. touches_none u n r _)
+    left
+  where
+    word : (at : ObjRef) (slot old : ℕ) → Some at.region ≡ Some r → Covers (region_frozen (with_word at slot old v.regions) r) (option_map (frozen_word_set at.cell slot old) (region_frozen v.regions r))
+    word at slot old t = subst (λ q. Covers (region_frozen (with_word at slot old v.regions) q) (option_map (frozen_word_set at.cell slot old) (region_frozen v.regions q))) (named at.region r t) (covers_same _ _ (sym (word_copied at slot old v.regions)))
 
 -- ---- the pin with it
 

@@ -1,3 +1,4 @@
+pub mod RecordCases
 pub mod CoveringCopies
 pub mod Others
 pub mod Classes

@@ -19,7 +19,7 @@ use Rattle.heap_pins.specs.KeptCopies.{touched, patched}
 use Rattle.heap_pins.specs.Pin.{PinContents, place, places_from, region_seen}
 use Rattle.heap_pins.specs.Shows.{ShowsState, OfFirst, Holds}
 use Rattle.heap_pins.specs.States.{AreStates, HasBytesBefore, byte_before}
-use Rattle.heap_pins.specs.Walk.{TellsBefore, cell_state, states_before, registers_before, classes_before, walked_copy}
+use Rattle.heap_pins.specs.Walk.{TellsBefore, cell_state, state_before, states_before, registers_before, classes_before, walked_copy}
 use Rattle.heap_pins.specs.WalkedPins.{IsPinAt, IsWalked, IsWalkedBack, IsUnswept, IsUnreclaimed, with_copy, with_old_register, with_old_word}
 use Rattle.heap_pins.proofs.HeldPins.{first_of}
 use Rattle.heap_pins.proofs.LiveBytes.{live_byte, bytes_from, live_bytes, bytes_place, length_bytes}
@@ -160,18 +160,7 @@ on_ok (Err e) f h = tt
 -- what a place had follows from what it has
 before_at : (left : Undo) (f g : ObjRef → ℕ) (at : ObjRef) → f at ≡ g at → states_before left f at ≡ states_before left g at
 unfolding states_before
-before_at (Put to slot old) f g at e = e
-before_at (Store to slot old logged) f g at e = e
-before_at (Reg m r old) f g at e = e
-before_at (New to true m r old) f g at e = ap (λ b. if at.region == to.region then 0 else b) e
-before_at (New to false m r old) f g at e = ap (λ b. states_before (New to false m r old) (λ x. b) at) e
-before_at Class f g at e = e
-before_at Snap f g at e = e
-before_at (Mark parent pushed) f g at e = e
-before_at (Drain pushed) f g at e = e
-before_at (Finish log) f g at e = ap (λ b. if b == 0 then 0 else 1) e
-before_at (Sweep region dead) f g at e = ap (λ b. states_before (Sweep region dead) (λ x. b) at) e
-before_at (Reclaim region storage) f g at e = ap (λ b. states_before (Reclaim region storage) (λ x. b) at) e
+before_at left f g at e = ap (λ now. state_before left now at) e
 
 pin_before : (left : Undo) (e : Event) (x w : HeapState) (p q : PinContents) → IsStep e (undone left x) x left → IsWalkedBack left w p q → IsPinAt p x → IsPinAt q (undone left x)
 pin_before left e x w p q s b h = record {

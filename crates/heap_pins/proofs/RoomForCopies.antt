@@ -18,13 +18,13 @@ use Rattle.heap_world.specs.Legal.{IsLegal}
 use Rattle.heap_world.specs.Events.{after_sweep}
 use Rattle.heap_step.specs.declared.Event.{Event}
 use Rattle.heap_step.specs.declared.Undo.{Undo}
-use Rattle.heap_step.specs.declared.Undo.TheVariants.{Put, Store, Reg, New, Class, Snap, Mark, Drain, Finish, Sweep, Reclaim}
 use Rattle.heap_step.specs.Laws.{IsStep}
 use Rattle.heap_step.proofs.CreationUndo.{pool_empty}
 use Rattle.heap_step.proofs.EventLaws.{keeps_legal}
 use Rattle.heap_step.proofs.Fits.{IsSwept}
 use Rattle.heap_step.proofs.Steps.{put_there, store_there, sweep_before, reclaim_head}
 use Rattle.heap_pins.specs.KeptCopies.{touched}
+use Rattle.heap_pins.proofs.RecordCases.{by_region, named, touches_none}
 use Rattle.heap_pins.specs.Shows.{AreFit, FitIn}
 use Rattle.heap_region.proofs.ShownRegions.{used_by_object}
 
@@ -101,23 +101,13 @@ reclaim_within e before after left s region storage is =
 
 pub touched_within : (e : Event) (before after : HeapState) (left : Undo) → IsStep e before after left → (region : ℕ) → touched left ≡ Some region → region < length after.regions
 unfolding touched
-touched_within e before after left s region t = go left refl t
+touched_within e before after left s region = by_region (λ u. left ≡ u → touched u ≡ Some region → region < length after.regions)
+    (λ at slot old is t. within at.region t (object_within after.regions at (put_there e before after left s at slot old is)))
+    (λ at slot old logged is t. within at.region t (object_within after.regions at (store_there e before after left s at slot old logged is)))
+    (λ r dead is t. within r t (used_within after.regions r (sweep_used e before after left s r dead is)))
+    (λ r storage is t. within r t (reclaim_within e before after left s r storage is))
+    (λ u n is. touches_none u n region _)
+    left refl
   where
-    same : {x y : ℕ} → Some x ≡ Some y → x ≡ y
-    same e = cc
-
     within : (x : ℕ) → Some x ≡ Some region → x < length after.regions → region < length after.regions
-    within x is lt = subst (λ n. n < length after.regions) (same is) lt
-
-    go : (l : Undo) → left ≡ l → touched l ≡ Some region → region < length after.regions
-    go (Put at slot old) is t = within at.region t (object_within after.regions at (put_there e before after left s at slot old is))
-    go (Store at slot old logged) is t = within at.region t (object_within after.regions at (store_there e before after left s at slot old logged is))
-    go (Reg m r old) is t = absurd (cc)
-    go (New at fresh m r old) is t = absurd (cc)
-    go Class is t = absurd (cc)
-    go Snap is t = absurd (cc)
-    go (Mark parent pushed) is t = absurd (cc)
-    go (Drain pushed) is t = absurd (cc)
-    go (Finish log) is t = absurd (cc)
-    go (Sweep r dead) is t = within r t (used_within after.regions r (sweep_used e before after left s r dead is))
-    go (Reclaim r storage) is t = within r t (reclaim_within e before after left s r storage is)
+    within x is lt = subst (λ n. n < length after.regions) (named x region is) lt

@@ -27,37 +27,28 @@ use Rattle.heap_pins.specs.Shows.{AreFit, FitIn}
 use Rattle.heap_pins.proofs.RoomForCopies.{sweep_used, sweep_fit, reclaim_within}
 use Rattle.heap_pins.specs.Walk.{cell_state, same_place, dead_state, states_before, registers_before, classes_before, TellsBefore}
 use Rattle.heap_pins.proofs.Others.{keeps_others, emptied}
+use Rattle.heap_pins.proofs.RecordCases.{by_lists}
 use Rattle.heap_pins.proofs.WalkSteps.{walked_covers}
 
 -- ---- registers and classes
 
 pub registers_are : (left : Undo) (x : HeapState) → (undone left x).registers ≡ registers_before left x.registers
 unfolding undone registers_before
-registers_are (Put at slot old) x = refl
-registers_are (Store at slot old logged) x = refl
-registers_are (Reg m k old) x = refl
-registers_are (New at fresh m k old) x = refl
-registers_are Class x = refl
-registers_are Snap x = refl
-registers_are (Mark parent pushed) x = refl
-registers_are (Drain pushed) x = refl
-registers_are (Finish log) x = refl
-registers_are (Sweep region dead) x = refl
-registers_are (Reclaim region storage) x = refl
+registers_are left x = by_lists (λ u. (undone u x).registers ≡ registers_before u x.registers)
+    (λ m k old. refl)
+    (λ at fresh m k old. refl)
+    refl
+    (λ u k. k.registers x ∙ sym (k.words x.registers))
+    left
 
 pub classes_are : (left : Undo) (x : HeapState) → length (undone left x).classes ≡ classes_before left (length x.classes)
 unfolding undone classes_before
-classes_are (Put at slot old) x = refl
-classes_are (Store at slot old logged) x = refl
-classes_are (Reg m k old) x = refl
-classes_are (New at fresh m k old) x = refl
-classes_are Class x = omega (arith, length-take (length x.classes - 1) x.classes)
-classes_are Snap x = refl
-classes_are (Mark parent pushed) x = refl
-classes_are (Drain pushed) x = refl
-classes_are (Finish log) x = refl
-classes_are (Sweep region dead) x = refl
-classes_are (Reclaim region storage) x = refl
+classes_are left x = by_lists (λ u. length (undone u x).classes ≡ classes_before u (length x.classes))
+    (λ m k old. refl)
+    (λ at fresh m k old. refl)
+    (omega (arith, length-take (length x.classes - 1) x.classes))
+    (λ u k. ap length (k.classes x) ∙ sym (k.count (length x.classes)))
+    left
 
 -- ---- what is there
 

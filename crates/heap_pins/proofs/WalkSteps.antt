@@ -6,13 +6,14 @@ use Rattle.heap_region.specs.Layout.{word_set}
 use Rattle.heap_region.specs.RegionCopies.{Frozen, frozen_object, frozen_with, frozen_word_set, region_frozen}
 use Rattle.heap_world.specs.State.{HeapState}
 use Rattle.heap_step.specs.declared.Undo.{Undo}
-use Rattle.heap_step.specs.declared.Undo.TheVariants.{Put, Store, Reg, New, Class, Snap, Mark, Drain, Finish, Sweep, Reclaim}
+use Rattle.heap_step.specs.declared.Undo.TheVariants.{Put, Store, Sweep, Reclaim}
 use Rattle.heap_step.specs.Records.{undone}
 use Rattle.heap_pins.specs.Covers.{HasAll, Covers}
 use Rattle.heap_pins.specs.KeptCopies.{touched, with_dead, patched, copy_for}
 use Rattle.heap_pins.specs.Walk.{walked_copy}
 use Rattle.heap_pins.proofs.CoveringCopies.{covers_then}
 use Rattle.heap_pins.proofs.CopiedRegions.{copy_covers}
+use Rattle.heap_pins.proofs.RecordCases.{by_region, touches_none}
 
 -- what stands in a cell of both stands so after both are written there
 abbrev Stands : List (Option Object) → List (Option Object) → Type 0
@@ -57,20 +58,16 @@ dead_at (d ∷ dead) f g h = dead_at dead (frozen_with d.0 (Some d.1) f) (frozen
   objects = written f.cells g.cells d.0 (Some d.1) (Some d.1) h.count h.objects (λ o e. (o, e, refl, refl));
 })
 
--- of a record that has no region of its own
+-- both patched by one record
 has_patched : (left : Undo) (f g : Frozen) → HasAll f g → HasAll (patched left f) (patched left g)
 unfolding patched
-has_patched (Put at slot old) f g h = word_at f g at.cell slot old h
-has_patched (Store at slot old logged) f g h = word_at f g at.cell slot old h
-has_patched (Sweep region dead) f g h = dead_at dead f g h
-has_patched (Reg m k old) f g h = h
-has_patched (New at fresh m k old) f g h = h
-has_patched Class f g h = h
-has_patched Snap f g h = h
-has_patched (Mark parent pushed) f g h = h
-has_patched (Drain pushed) f g h = h
-has_patched (Finish log) f g h = h
-has_patched (Reclaim region storage) f g h = h
+has_patched left f g h = by_region (λ u. HasAll (patched u f) (patched u g))
+    (λ at slot old. word_at f g at.cell slot old h)
+    (λ at slot old logged. word_at f g at.cell slot old h)
+    (λ region dead. dead_at dead f g h)
+    (λ region storage. h)
+    (λ u n. rw (n.patch f, n.patch g) h)
+    left
 
 patched_covers : (left : Undo) (a b : Option Frozen) → Covers a b → Covers (option_map (patched left) a) (option_map (patched left) b)
 patched_covers left None b h f e = absurd (clash e)
@@ -85,14 +82,13 @@ patched_covers left (Some x) b h f e =
 -- the pin's part of the touched region, of which it had all after the step, has all before it once patched
 pub walked_covers : (left : Undo) (x : HeapState) (r : ℕ) (g : Option Frozen) → touched left ≡ Some r → Covers (region_frozen x.regions r) g → Covers (region_frozen (undone left x).regions r) (walked_copy left g)
 unfolding walked_copy copy_for
-walked_covers (Reclaim region storage) x r g t h = copy_covers (Reclaim region storage) x r t
-walked_covers (Put at slot old) x r g t h = covers_then _ _ _ (copy_covers (Put at slot old) x r t) (patched_covers (Put at slot old) (region_frozen x.regions r) g h)
-walked_covers (Store at slot old logged) x r g t h = covers_then _ _ _ (copy_covers (Store at slot old logged) x r t) (patched_covers (Store at slot old logged) (region_frozen x.regions r) g h)
-walked_covers (Sweep region dead) x r g t h = covers_then _ _ _ (copy_covers (Sweep region dead) x r t) (patched_covers (Sweep region dead) (region_frozen x.regions r) g h)
-walked_covers (Reg m k old) x r g t h = covers_then _ _ _ (copy_covers (Reg m k old) x r t) (patched_covers (Reg m k old) (region_frozen x.regions r) g h)
-walked_covers (New at fresh m k old) x r g t h = covers_then _ _ _ (copy_covers (New at fresh m k old) x r t) (patched_covers (New at fresh m k old) (region_frozen x.regions r) g h)
-walked_covers Class x r g t h = covers_then _ _ _ (copy_covers Class x r t) (patched_covers Class (region_frozen x.regions r) g h)
-walked_covers Snap x r g t h = covers_then _ _ _ (copy_covers Snap x r t) (patched_covers Snap (region_frozen x.regions r) g h)
-walked_covers (Mark parent pushed) x r g t h = covers_then _ _ _ (copy_covers (Mark parent pushed) x r t) (patched_covers (Mark parent pushed) (region_frozen x.regions r) g h)
-walked_covers (Drain pushed) x r g t h = covers_then _ _ _ (copy_covers (Drain pushed) x r t) (patched_covers (Drain pushed) (region_frozen x.regions r) g h)
-walked_covers (Finish log) x r g t h = covers_then _ _ _ (copy_covers (Finish log) x r t) (patched_covers (Finish log) (region_frozen x.regions r) g h)
+walked_covers left x r g = by_region (λ u. touched u ≡ Some r → Covers (region_frozen x.regions r) g → Covers (region_frozen (undone u x).regions r) (walked_copy u g))
+    (λ at slot old t. patch (Put at slot old) (copy_covers (Put at slot old) x r t))
+    (λ at slot old logged t. patch (Store at slot old logged) (copy_covers (Store at slot old logged) x r t))
+    (λ region dead t. patch (Sweep region dead) (copy_covers (Sweep region dead) x r t))
+    (λ region storage t h. copy_covers (Reclaim region storage) x r t)
+    (λ u n. touches_none u n r _)
+    left
+  where
+    patch : (u : Undo) → Covers (region_frozen (undone u x).regions r) (option_map (patched u) (region_frozen x.regions r)) → Covers (region_frozen x.regions r) g → Covers (region_frozen (undone u x).regions r) (option_map (patched u) g)
+    patch u c h = covers_then _ _ _ c (patched_covers u (region_frozen x.regions r) g h)

@@ -1,31 +1,19 @@
 -- What a step's record and the pin have for the walk back.
-use Rattle.std.proofs.Common.{◌≡◌, ℕ, zero, suc, ◌<◌, ◌≤◌, Bool, true, false, not, ◌&&◌, ◌||◌, List, [], ◌∷◌, length, All, Option, Some, None, IsSome, IfSome, refl, sym, subst, ◌∙◌, arith}
-use Rattle.std.specs.Prelude.{nat_lt, slice_index_or, option_map, unwrap_or, if◌then◌else◌}
-use Rattle.std.specs.Option.{option_map_or}
-use Rattle.std.specs.List.{list_any}
+use Rattle.std.proofs.Common.{◌≡◌, ℕ, zero, suc, ◌<◌, ◌≤◌, Bool, true, false, ◌&&◌, List, [], ◌∷◌, length, All, Option, Some, None, IsSome, IfSome, refl, sym, subst, arith}
+use Rattle.std.specs.Prelude.{nat_lt, slice_index_or, option_map}
 use Rattle.std.proofs.lemmas.Bool.{ltb-true}
 use Rattle.std.proofs.lemmas.Option.{slice_get_within}
 use Rattle.heap_class.specs.declared.ObjRef.{ObjRef}
 use Rattle.heap_region.specs.Regions.{Object, UsedRegion, Region, used_at, object_at, cell_object, slot_object}
 use Rattle.heap_region.specs.Layout.{words_of}
-use Rattle.heap_region.specs.Live.{is_live}
-use Rattle.heap_region.specs.Pool.{fresh_region, new_place}
 use Rattle.heap_region.specs.RegionCopies.{Frozen, frozen, frozen_words, region_frozen}
 use Rattle.heap_region.proofs.ShownRegions.{object_of_used}
-use Rattle.heap_class.specs.Classes.{slots_of}
-use Rattle.heap_sweep.specs.Sweep.{has_live, is_emptied, dead_at}
-use Rattle.heap_world.specs.State.{HeapState, pool_of, is_register, register, register_index}
+use Rattle.heap_world.specs.State.{HeapState, is_register, register_index}
 use Rattle.heap_world.specs.Legal.{IsLegal}
-use Rattle.heap_step.specs.declared.Event.{Event}
-use Rattle.heap_step.specs.declared.Undo.{Undo}
-use Rattle.heap_step.specs.declared.Undo.TheVariants.{Sweep, Reclaim, New, Reg}
-use Rattle.heap_step.specs.Laws.{IsStep}
-use Rattle.heap_step.specs.Apply.{reg_record, new_record, sweep_record}
-use Rattle.heap_step.specs.Records.{undo_record}
 use Rattle.heap_pins.specs.Covers.{HasAll, Covers}
 use Rattle.heap_pins.specs.Pin.{PinContents, region_seen}
 use Rattle.heap_pins.specs.Shows.{ShowsState, AreFit, FitIn}
-use Rattle.heap_pins.specs.States.{AreStates, HasNoLive, HasRegion}
+use Rattle.heap_pins.specs.States.{AreStates, HasRegion}
 use Rattle.heap_pins.specs.WalkedPins.{SeesSlot, SeesRoom}
 use Rattle.heap_pins.proofs.LiveCounts.{few_cells, stands_in}
 
@@ -92,68 +80,3 @@ register_within x m r h = ltb-true (register_index m r) (length x.registers) (go
     go : (a b : Bool) → (a && b) ≡ true → b ≡ true
     go true b h = h
     go false b h = cc
-
--- ---- a region that was moved out
-
-or_false : (a b : Bool) → (a || b) ≡ false → (a ≡ false) × (b ≡ false)
-or_false true b e = cc
-or_false false b e = (refl, e)
-
-live_is : (o : Option Object) → option_map_or (λ (o : Object). o.live) o false ≡ is_live o
-live_is None = refl
-live_is (Some o) = refl
-
-none_live : (cells : List (Option Object)) → list_any (λ c. option_map_or (λ o. o.live) c false) cells ≡ false → (cell : ℕ) → is_live (slice_index_or cells cell None) ≡ false
-none_live [] e cell = refl
-none_live (o ∷ cells) e zero = sym (live_is o) ∙ (or_false (option_map_or (λ o. o.live) o false) _ e).0
-none_live (o ∷ cells) e (suc cell) = none_live cells (or_false (option_map_or (λ o. o.live) o false) _ e).1 cell
-
--- no object of a region that a record has is live
-abbrev IsLifeless : Undo → Type 0
-IsLifeless (Reclaim region storage) = HasNoLive storage
-IsLifeless left = Unit {0}
-
-swept_lifeless : (region : ℕ) (w : HeapState) → IsLifeless (sweep_record region w)
-unfolding sweep_record is_emptied has_live
-swept_lifeless region w = go (used_at w.regions region) (option_map_or (λ u. not (has_live u)) (used_at w.regions region) false) refl
-  where
-    lifeless : (b : Bool) → not b ≡ true → b ≡ false
-    lifeless true e = cc
-    lifeless false e = refl
-
-    go : (s : Option UsedRegion) (b : Bool) → option_map_or (λ u. not (has_live u)) s false ≡ b → IsLifeless (if b then Reclaim region (unwrap_or s (fresh_region 4)) else Sweep region (dead_at region (pool_of w)))
-    go None true e = absurd (clash e)
-      where
-        clash : false ≡ true → ⊥
-        clash e = cc
-    go (Some u) true e = none_live u.cells (lifeless (has_live u) e)
-    go s false e = tt
-
-new_lifeless : (m r n : ℕ) (w : HeapState) → IsLifeless (new_record m r n w)
-unfolding new_record reg_record
-new_lifeless m r n w = go (new_place n (pool_of w))
-  where
-    go : (s : Option (ObjRef × Bool)) → IsLifeless (option_map_or (λ p. New p.0 p.1 m r (register w m r)) s (Reg m r (register w m r)))
-    go None = tt
-    go (Some p) = tt
-
-record_lifeless : (e : Event) (w : HeapState) → IsLifeless (undo_record e w)
-unfolding undo_record reg_record
-record_lifeless (Event.Class name sup fields) w = tt
-record_lifeless (Event.ArrayClass name) w = tt
-record_lifeless (Event.New m r class) w = new_lifeless m r (length (slots_of w.classes class)) w
-record_lifeless (Event.NewArray m r class len) w = new_lifeless m r len w
-record_lifeless (Event.NewPrim m r kind len) w = new_lifeless m r len w
-record_lifeless (Event.Load m to from slot) w = tt
-record_lifeless (Event.Store m target slot source) w = tt
-record_lifeless (Event.Put m target slot value) w = tt
-record_lifeless (Event.Move m to from_m from) w = tt
-record_lifeless (Event.Clear m r) w = tt
-record_lifeless Event.Snap w = tt
-record_lifeless Event.Mark w = tt
-record_lifeless Event.Drain w = tt
-record_lifeless Event.Finish w = tt
-record_lifeless (Event.Sweep region) w = swept_lifeless region w
-
-pub reclaim_lifeless : (e : Event) (before after : HeapState) (left : Undo) → IsStep e before after left → (region : ℕ) (storage : UsedRegion) → left ≡ Reclaim region storage → HasNoLive storage
-reclaim_lifeless e before after left s region storage is = subst IsLifeless (sym s.recorded ∙ is) (record_lifeless e before)

@@ -5,22 +5,16 @@ use Rattle.heap_region.specs.RegionCopies.{Frozen, frozen, frozen_with, frozen_w
 use Rattle.heap_class.specs.declared.ObjRef.{ObjRef}
 use Rattle.heap_world.specs.State.{HeapState}
 use Rattle.heap_step.specs.declared.Undo.{Undo}
-use Rattle.heap_step.specs.declared.Undo.TheVariants.{Put, Store, Reg, New, Class, Snap, Mark, Drain, Finish, Sweep, Reclaim}
+use Rattle.heap_step.specs.declared.Undo.TheVariants.{Put, Store, Sweep, Reclaim}
 use Rattle.heap_pins.specs.Pin.{PinContents}
 
 -- the region of which a step with this record overwrote a word or reclaimed an object
 unfoldable pub touched : Undo → Option ℕ
 touched (Put at slot old) = Some at.region
 touched (Store at slot old logged) = Some at.region
-touched (Reg m r old) = None
-touched (New at fresh m r old) = None
-touched Class = None
-touched Snap = None
-touched (Mark parent pushed) = None
-touched (Drain pushed) = None
-touched (Finish log) = None
 touched (Sweep region dead) = Some region
 touched (Reclaim region storage) = Some region
+touched left = None
 
 -- the copy with the dead objects back in their cells
 unfoldable pub with_dead : List (ℕ × Object) → Frozen → Frozen

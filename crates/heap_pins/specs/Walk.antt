@@ -25,16 +25,20 @@ dead_state [] cell old = old
 dead_state (d ∷ dead) cell old =
     dead_state dead cell (if d.0 == cell then cell_state (Some d.1) else old)
 
+-- the state of a cell before the step, from its state after it
+abbrev pub state_before : Undo → ℕ → ObjRef → ℕ
+state_before (New at true m r old) now b = if b.region == at.region then 0 else now
+state_before (New at false m r old) now b = if same_place b at then 0 else now
+state_before (Finish log) now b = if now == 0 then 0 else 1
+state_before (Sweep region dead) now b =
+    if b.region == region then dead_state dead b.cell now else now
+state_before (Reclaim region storage) now b =
+    if b.region == region then cell_state (cell_object storage b.cell) else now
+state_before left now b = now
+
 -- the state of each cell before the step, from the states of all cells after it
 unfoldable pub states_before : Undo → (ObjRef → ℕ) → ObjRef → ℕ
-states_before (New at true m r old) f b = if b.region == at.region then 0 else f b
-states_before (New at false m r old) f b = if same_place b at then 0 else f b
-states_before (Finish log) f b = if f b == 0 then 0 else 1
-states_before (Sweep region dead) f b =
-    if b.region == region then dead_state dead b.cell (f b) else f b
-states_before (Reclaim region storage) f b =
-    if b.region == region then cell_state (cell_object storage b.cell) else f b
-states_before left f b = f b
+states_before left f b = state_before left (f b) b
 
 -- the registers before the step, from those after it
 unfoldable pub registers_before : Undo → List ℕ → List ℕ

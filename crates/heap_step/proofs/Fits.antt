@@ -2,7 +2,8 @@
 use Rattle.std.proofs.Common.{Bool, List, None, Some, false, length, not, refl, true, ℕ, ◌<◌, ◌≡◌, ◌≤◌}
 use Rattle.std.specs.Prelude.{slice_get}
 use Rattle.heap_class.specs.declared.ObjRef.{ObjRef}
-use Rattle.heap_region.specs.Regions.{Object, UsedRegion, object_at}
+use Rattle.heap_region.specs.Live.{is_live}
+use Rattle.heap_region.specs.Regions.{Object, UsedRegion, cell_object, object_at}
 use Rattle.heap_mark.specs.MarkSteps.{logged, snap_refusal}
 use Rattle.heap_sweep.specs.Sweep.{dead_at, is_emptied, sweep_refusal}
 use Rattle.heap_world.specs.Events.{after_snap, after_sweep}
@@ -30,6 +31,10 @@ IsSwept region dead w = (before : HeapState) × IsLegal before × (sweep_refusal
 abbrev pub IsInhabited : UsedRegion → Type 0
 IsInhabited u = (cell : ℕ) × (o : Object) × (slice_get u.cells cell ≡ Some (Some o))
 
+-- none of the objects is live
+abbrev pub IsLifeless : UsedRegion → Type 0
+IsLifeless u = (cell : ℕ) → is_live (cell_object u cell) ≡ false
+
 -- what the state has that the record needs
 abbrev pub Fits : Undo → HeapState → Type 0
 Fits (Undo.Put at slot old) w = HasSlot w at slot
@@ -42,7 +47,7 @@ Fits (Undo.Mark parent pushed) w = pushed ≤ length w.gray
 Fits (Undo.Drain pushed) w = (pushed ≤ length w.gray) × (0 < w.drained)
 Fits (Undo.Finish log) w = Unit {0}
 Fits (Undo.Sweep region dead) w = IsSwept region dead w
-Fits (Undo.Reclaim region storage) w = (slice_get w.pool 0 ≡ Some region) × IsInhabited storage
+Fits (Undo.Reclaim region storage) w = (slice_get w.pool 0 ≡ Some region) × IsInhabited storage × IsLifeless storage
 
 pub not_false : (b : Bool) → not b ≡ false → b ≡ true
 not_false true h = refl

@@ -14,7 +14,7 @@ use Rattle.heap_step.specs.declared.Undo.{Undo}
 use Rattle.heap_step.specs.Records.{undone, undo_record}
 use Rattle.heap_step.specs.Laws.{IsStep}
 use Rattle.heap_step.proofs.EventLaws.{sound, undo_takes_back}
-use Rattle.heap_step.proofs.Fits.{HasSlot, IsHeld, IsSnapped, IsSwept, IsInhabited, Fits}
+use Rattle.heap_step.proofs.Fits.{HasSlot, IsHeld, IsSnapped, IsSwept, IsInhabited, IsLifeless, Fits}
 
 -- ---- what holds of the state that a step gave, where the record is `was`
 
@@ -172,6 +172,9 @@ reclaim_head e before after left s region storage is = (fits e before after left
 
 pub reclaim_inhabited : (e : Event) (before after : HeapState) (left : Undo) → IsStep e before after left → (region : ℕ) (storage : UsedRegion) → left ≡ Undo.Reclaim region storage → IsInhabited storage
 reclaim_inhabited e before after left s region storage is = (fits e before after left (Undo.Reclaim region storage) s is).1
+
+pub reclaim_lifeless : (e : Event) (before after : HeapState) (left : Undo) → IsStep e before after left → (region : ℕ) (storage : UsedRegion) → left ≡ Undo.Reclaim region storage → IsLifeless storage
+reclaim_lifeless e before after left s region storage is = (fits e before after left (Undo.Reclaim region storage) s is).2
 
 pub reclaim_legal : (e : Event) (before after : HeapState) (left : Undo) → IsStep e before after left → (region : ℕ) (storage : UsedRegion) → left ≡ Undo.Reclaim region storage → IsLegal (with_pool (restored region storage (pool_of after)) after)
 unfolding undone

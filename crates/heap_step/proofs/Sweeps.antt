@@ -1,13 +1,15 @@
 -- A sweep is sound.
-use Rattle.std.proofs.Common.{Bool, None, Option, Some, [], ap, false, refl, subst, sym, true, ℕ, ◌∙◌, ◌≡◌}
+use Rattle.std.proofs.Common.{Bool, List, None, Option, Some, [], ap, false, not, refl, subst, suc, sym, true, zero, ℕ, ◌∙◌, ◌∷◌, ◌≡◌, ◌||◌}
+use Rattle.std.specs.List.{list_any}
 use Rattle.std.specs.Option.{option_map_or}
-use Rattle.std.specs.Prelude.{if◌then◌else◌, slice_get, unwrap_or}
+use Rattle.std.specs.Prelude.{if◌then◌else◌, slice_get, slice_index_or, unwrap_or}
 use mathlib.Core.Logic.{inl, inr}
 use Rattle.heap_class.proofs.Refusals.{none_holds}
 use Rattle.heap_region.specs.Pool.{RegionPool, fresh_region, released, restored}
-use Rattle.heap_region.specs.Regions.{UsedRegion, used_at, with_region}
+use Rattle.heap_region.specs.Live.{is_live}
+use Rattle.heap_region.specs.Regions.{Object, UsedRegion, used_at, with_region}
 use Rattle.heap_sweep.proofs.SweepUndo.{emptied_back, pending_is, swept_back}
-use Rattle.heap_sweep.specs.Sweep.{dead_at, dead_cells, is_emptied, sweep_refusal, swept, swept_region, unswept}
+use Rattle.heap_sweep.specs.Sweep.{dead_at, dead_cells, has_live, is_emptied, sweep_refusal, swept, swept_region, unswept}
 use Rattle.heap_world.proofs.Clauses.{HasClauses}
 use Rattle.heap_world.proofs.Finish.{marked_object_live}
 use Rattle.heap_world.proofs.Shapes.{same_shape}
@@ -21,7 +23,7 @@ use Rattle.heap_step.specs.Laws.{IsTakenBack, StaysFound}
 use Rattle.heap_step.specs.Records.{undo_record, undone}
 use Rattle.heap_step.specs.declared.Event.{Event}
 use Rattle.heap_step.specs.declared.Undo.{Undo}
-use Rattle.heap_step.proofs.Fits.{Fits, IsInhabited}
+use Rattle.heap_step.proofs.Fits.{Fits, IsInhabited, IsLifeless}
 use Rattle.heap_step.proofs.Soundness.{IsSound}
 
 sweep_back : (w : HeapState) (region : ℕ) → IsTakenBack (Event.Sweep region) w
@@ -38,6 +40,28 @@ sweep_back w region legal accepted = go (is_emptied region (pool_of w)) refl
     go true e = ap (λ (s : RegionPool). with_pool s w) (ap (λ (x : Option UsedRegion). restored region (unwrap_or x (fresh_region 4)) (swept region (pool_of w))) found.1 ∙ emptied_back region (pool_of w) found.0 found.1 e)
     go false e = ap (λ (s : RegionPool). with_pool s w) (ap (λ (x : Option UsedRegion). unswept region (option_map_or dead_cells x []) (swept region (pool_of w))) found.1 ∙ swept_back region (pool_of w) found.0 found.1 found.2 e)
 
+or_false : (a b : Bool) → (a || b) ≡ false → (a ≡ false) × (b ≡ false)
+or_false true b e = cc
+or_false false b e = (refl, e)
+
+not_true : (b : Bool) → not b ≡ true → b ≡ false
+not_true true e = cc
+not_true false e = refl
+
+live_is : (o : Option Object) → option_map_or (λ (o : Object). o.live) o false ≡ is_live o
+live_is None = refl
+live_is (Some o) = refl
+
+none_live : (cells : List (Option Object)) → list_any (λ c. option_map_or (λ o. o.live) c false) cells ≡ false → (cell : ℕ) → is_live (slice_index_or cells cell None) ≡ false
+none_live [] e cell = refl
+none_live (o ∷ cells) e zero = sym (live_is o) ∙ (or_false (option_map_or (λ o. o.live) o false) _ e).0
+none_live (o ∷ cells) e (suc cell) = none_live cells (or_false (option_map_or (λ o. o.live) o false) _ e).1 cell
+
+-- a region that is emptied had no live object
+emptied_lifeless : (w : HeapState) (region : ℕ) (u : UsedRegion) → used_at w.regions region ≡ Some u → is_emptied region (pool_of w) ≡ true → IsLifeless u
+unfolding is_emptied has_live
+emptied_lifeless w region u used emptied = none_live u.cells (not_true _ (ap (λ (x : Option UsedRegion). option_map_or (λ u. not (has_live u)) x false) (sym used) ∙ emptied))
+
 -- a region without live objects heads the pool
 emptied_heads : (w : HeapState) (region : ℕ) → is_emptied region (pool_of w) ≡ true → slice_get (after_sweep region w).pool 0 ≡ Some region
 unfolding after_sweep swept released
@@ -51,7 +75,11 @@ sweep_fits w region legal accepted = go (is_emptied region (pool_of w)) refl
     found = pending_is w.regions region (none_holds _ accepted).0
 
     go : (b : Bool) → is_emptied region (pool_of w) ≡ b → Fits (if b then Undo.Reclaim region (unwrap_or (used_at w.regions region) (fresh_region 4)) else Undo.Sweep region (dead_at region (pool_of w))) (after_sweep region w)
-    go true e = (emptied_heads w region e, subst (λ (p : Option UsedRegion). IsInhabited (unwrap_or p (fresh_region 4))) (sym found.1) (legal.regions.tables region found.0 found.1).inhabited)
+    go true e = (
+      emptied_heads w region e,
+      subst (λ (p : Option UsedRegion). IsInhabited (unwrap_or p (fresh_region 4))) (sym found.1) (legal.regions.tables region found.0 found.1).inhabited,
+      subst (λ (p : Option UsedRegion). IsLifeless (unwrap_or p (fresh_region 4))) (sym found.1) (emptied_lifeless w region found.0 found.1 e),
+    )
     go false e = (w, legal, accepted, e, refl, refl)
 
 sweep_stays : (w : HeapState) (region : ℕ) → HasClauses w → sweep_refusal region (pool_of w) ≡ None → StaysFound w (after_sweep region w)

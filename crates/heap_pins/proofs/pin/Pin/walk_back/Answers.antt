@@ -2,9 +2,9 @@ use Rattle.std.proofs.Common.{◌<◌, ℕ, List, length, sym, subst, ap, arith}
 use Rattle.heap_world.specs.State.{register_index}
 use Rattle.heap_pins.specs.Pin.{PinContents}
 use Rattle.heap_pins.specs.States.{HasRegion}
-use Rattle.heap_step.proofs.Steps.{put_there, put_within, store_there, store_within, reg_register, new_there, new_register, class_there}
+use Rattle.heap_step.proofs.Steps.{put_there, put_within, store_there, store_within, reg_register, new_there, new_register, class_there, reclaim_lifeless}
 use Rattle.heap_pins.proofs.RoomForCopies.{object_within, used_within, sweep_used, sweep_fit, reclaim_within}
-use Rattle.heap_pins.proofs.Walkable.{sees_slot, sees_room, dead_within, region_bytes, cell_within, register_within, reclaim_lifeless}
+use Rattle.heap_pins.proofs.Walkable.{sees_slot, sees_room, dead_within, region_bytes, cell_within, register_within}
 use Rattle.heap_pins.proofs.RecordWalks.{put_back, store_back, reg_back, new_back, class_back, finish_back, sweep_back, reclaim_back, quiet_back, on_ok}
 use Rattle.heap_pins.proofs.pin.Pin.walk_back.Goals as goal
 

@@ -1,0 +1,71 @@
+-- The records by what they change: a region, the registers or the classes. What holds of the others holds by one case.
+use Rattle.std.proofs.Common.{◌≡◌, ℕ, Bool, List, Some, None, refl, sym, ◌∙◌}
+use Rattle.heap_class.specs.declared.ObjRef.{ObjRef}
+use Rattle.heap_region.specs.Regions.{Object, UsedRegion}
+use Rattle.heap_region.specs.RegionCopies.{Frozen}
+use Rattle.heap_world.specs.State.{HeapState}
+use Rattle.heap_step.specs.declared.Undo.{Undo}
+use Rattle.heap_step.specs.declared.Undo.TheVariants.{Put, Store, Reg, New, Class, Snap, Mark, Drain, Finish, Sweep, Reclaim}
+use Rattle.heap_step.specs.Records.{undone}
+use Rattle.heap_pins.specs.KeptCopies.{touched, patched}
+use Rattle.heap_pins.specs.Walk.{registers_before, classes_before}
+
+pub named : (q r : ℕ) → Some q ≡ Some r → q ≡ r
+named q r e = cc
+
+pub none_named : (r : ℕ) (P : Type 0) → None ≡ Some r → P
+none_named r P e = absurd (clash e)
+  where
+    clash : None ≡ Some r → ⊥
+    clash e = cc
+
+-- ---- the touched region
+
+-- the record touches no region
+pub record TouchesNone (left : Undo) : Type 0 where
+  pub none : touched left ≡ None
+  pub patch : (f : Frozen) → patched left f ≡ f
+
+-- so it touches none that is named
+pub touches_none : (left : Undo) → TouchesNone left → (r : ℕ) (P : Type 0) → touched left ≡ Some r → P
+touches_none left n r P t = none_named r P (sym n.none ∙ t)
+
+-- each record that touches a region, and the others
+pub by_region : (P : Undo → Type 0) → ((at : ObjRef) (slot old : ℕ) → P (Put at slot old)) → ((at : ObjRef) (slot old : ℕ) (logged : Bool) → P (Store at slot old logged)) → ((region : ℕ) (dead : List (ℕ × Object)) → P (Sweep region dead))
+    → ((region : ℕ) (storage : UsedRegion) → P (Reclaim region storage)) → ((left : Undo) → TouchesNone left → P left) → (left : Undo) → P left
+unfolding touched patched
+by_region P put store sweep reclaim other (Put at slot old) = put at slot old
+by_region P put store sweep reclaim other (Store at slot old logged) = store at slot old logged
+by_region P put store sweep reclaim other (Sweep region dead) = sweep region dead
+by_region P put store sweep reclaim other (Reclaim region storage) = reclaim region storage
+by_region P put store sweep reclaim other (Reg m r old) = other (Reg m r old) (record { none = refl; patch = λ f. refl })
+by_region P put store sweep reclaim other (New at fresh m r old) = other (New at fresh m r old) (record { none = refl; patch = λ f. refl })
+by_region P put store sweep reclaim other Class = other Class (record { none = refl; patch = λ f. refl })
+by_region P put store sweep reclaim other Snap = other Snap (record { none = refl; patch = λ f. refl })
+by_region P put store sweep reclaim other (Mark parent pushed) = other (Mark parent pushed) (record { none = refl; patch = λ f. refl })
+by_region P put store sweep reclaim other (Drain pushed) = other (Drain pushed) (record { none = refl; patch = λ f. refl })
+by_region P put store sweep reclaim other (Finish log) = other (Finish log) (record { none = refl; patch = λ f. refl })
+
+-- ---- registers and classes
+
+-- the step left the registers and the classes
+pub record KeepsLists (left : Undo) : Type 0 where
+  pub registers : (v : HeapState) → (undone left v).registers ≡ v.registers
+  pub classes : (v : HeapState) → (undone left v).classes ≡ v.classes
+  pub words : (rs : List ℕ) → registers_before left rs ≡ rs
+  pub count : (n : ℕ) → classes_before left n ≡ n
+
+-- each record that changes registers or classes, and the others
+pub by_lists : (P : Undo → Type 0) → ((m r old : ℕ) → P (Reg m r old)) → ((at : ObjRef) (fresh : Bool) (m r old : ℕ) → P (New at fresh m r old)) → P Class → ((left : Undo) → KeepsLists left → P left) → (left : Undo) → P left
+unfolding undone registers_before classes_before
+by_lists P reg new class other (Reg m r old) = reg m r old
+by_lists P reg new class other (New at fresh m r old) = new at fresh m r old
+by_lists P reg new class other Class = class
+by_lists P reg new class other (Put at slot old) = other (Put at slot old) (record { registers = λ v. refl; classes = λ v. refl; words = λ rs. refl; count = λ n. refl })
+by_lists P reg new class other (Store at slot old logged) = other (Store at slot old logged) (record { registers = λ v. refl; classes = λ v. refl; words = λ rs. refl; count = λ n. refl })
+by_lists P reg new class other Snap = other Snap (record { registers = λ v. refl; classes = λ v. refl; words = λ rs. refl; count = λ n. refl })
+by_lists P reg new class other (Mark parent pushed) = other (Mark parent pushed) (record { registers = λ v. refl; classes = λ v. refl; words = λ rs. refl; count = λ n. refl })
+by_lists P reg new class other (Drain pushed) = other (Drain pushed) (record { registers = λ v. refl; classes = λ v. refl; words = λ rs. refl; count = λ n. refl })
+by_lists P reg new class other (Finish log) = other (Finish log) (record { registers = λ v. refl; classes = λ v. refl; words = λ rs. refl; count = λ n. refl })
+by_lists P reg new class other (Sweep region dead) = other (Sweep region dead) (record { registers = λ v. refl; classes = λ v. refl; words = λ rs. refl; count = λ n. refl })
+by_lists P reg new class other (Reclaim region storage) = other (Reclaim region storage) (record { registers = λ v. refl; classes = λ v. refl; words = λ rs. refl; count = λ n. refl })

@@ -13,13 +13,14 @@ use Rattle.heap_world.specs.Reach.{IsObject, Reaches}
 use Rattle.heap_world.specs.State.{HeapState}
 use Rattle.heap_step.specs.declared.Event.{Event}
 use Rattle.heap_step.specs.declared.Undo.{Undo}
-use Rattle.heap_step.specs.declared.Undo.TheVariants.{Put, Store, Reg, New, Class, Snap, Mark, Drain, Finish, Sweep, Reclaim}
+use Rattle.heap_step.specs.declared.Undo.TheVariants.{Put, Store, Sweep, Reclaim}
 use Rattle.heap_step.specs.Apply.{refusal_of, state_after}
 use Rattle.heap_step.specs.Laws.{IsStep}
 use Rattle.heap_step.specs.Records.{undo_record}
 use Rattle.heap_pins.specs.KeptCopies.{patched, touched, with_dead}
 use Rattle.heap_pins.specs.Walk.{TellsBefore, walked_copy}
 use Rattle.heap_pins.proofs.CoveringCopies.{covers_same}
+use Rattle.heap_pins.proofs.RecordCases.{by_region}
 use Rattle.heap_trail.specs.Laws.{AreSteps, IsTrail}
 use Rattle.heap_trail.specs.Trail.{Trail, retained, state_ago}
 use Rattle.heap_trail.proofs.RetainedStates.{steps_legal}
@@ -45,29 +46,25 @@ none_touched left before after r u n t e = untouched_sized left before after r u
 
 sized : (left : Undo) (before after : HeapState) (r : ℕ) (u : UsedRegion) → TellsBefore left before after → ((storage : UsedRegion) → left ≡ Reclaim r storage → ⊥) → used_at before.regions r ≡ Some u → StaysSized after r u
 unfolding touched walked_copy patched region_frozen
-sized (Put at slot old) before after r u t n e = elim (cases_eq r at.region) [
-  | inl q ↦ patched_size (frozen_word_set at.cell slot old) (word_size at.cell slot old) (used_at before.regions r) (used_at after.regions r) u (t.touched_region r (region_frozen after.regions r) (ap Some (sym q)) (covers_same _ _ refl)) e
-  | inr q ↦ untouched_sized (Put at slot old) before after r u t (λ z. q (sym (same_Some at.region r z))) e
-]
-sized (Store at slot old logged) before after r u t n e = elim (cases_eq r at.region) [
-  | inl q ↦ patched_size (frozen_word_set at.cell slot old) (word_size at.cell slot old) (used_at before.regions r) (used_at after.regions r) u (t.touched_region r (region_frozen after.regions r) (ap Some (sym q)) (covers_same _ _ refl)) e
-  | inr q ↦ untouched_sized (Store at slot old logged) before after r u t (λ z. q (sym (same_Some at.region r z))) e
-]
-sized (Sweep region dead) before after r u t n e = elim (cases_eq r region) [
-  | inl q ↦ patched_size (with_dead dead) (dead_size dead) (used_at before.regions r) (used_at after.regions r) u (t.touched_region r (region_frozen after.regions r) (ap Some (sym q)) (covers_same _ _ refl)) e
-  | inr q ↦ untouched_sized (Sweep region dead) before after r u t (λ z. q (sym (same_Some region r z))) e
-]
-sized (Reclaim region storage) before after r u t n e = elim (cases_eq r region) [
-  | inl q ↦ absurd (n storage (ap (λ k. Reclaim k storage) (sym q)))
-  | inr q ↦ untouched_sized (Reclaim region storage) before after r u t (λ z. q (sym (same_Some region r z))) e
-]
-sized (Reg m k old) before after r u t n e = none_touched (Reg m k old) before after r u refl t e
-sized (New at fresh m k old) before after r u t n e = none_touched (New at fresh m k old) before after r u refl t e
-sized Class before after r u t n e = none_touched Class before after r u refl t e
-sized Snap before after r u t n e = none_touched Snap before after r u refl t e
-sized (Mark parent pushed) before after r u t n e = none_touched (Mark parent pushed) before after r u refl t e
-sized (Drain pushed) before after r u t n e = none_touched (Drain pushed) before after r u refl t e
-sized (Finish log) before after r u t n e = none_touched (Finish log) before after r u refl t e
+sized left before after r u t n e = by_region (λ k. TellsBefore k before after → left ≡ k → StaysSized after r u)
+    (λ at slot old t is. elim (cases_eq r at.region) [
+      | inl q ↦ patched_size (frozen_word_set at.cell slot old) (word_size at.cell slot old) (used_at before.regions r) (used_at after.regions r) u (t.touched_region r (region_frozen after.regions r) (ap Some (sym q)) (covers_same _ _ refl)) e
+      | inr q ↦ untouched_sized (Put at slot old) before after r u t (λ z. q (sym (same_Some at.region r z))) e
+    ])
+    (λ at slot old logged t is. elim (cases_eq r at.region) [
+      | inl q ↦ patched_size (frozen_word_set at.cell slot old) (word_size at.cell slot old) (used_at before.regions r) (used_at after.regions r) u (t.touched_region r (region_frozen after.regions r) (ap Some (sym q)) (covers_same _ _ refl)) e
+      | inr q ↦ untouched_sized (Store at slot old logged) before after r u t (λ z. q (sym (same_Some at.region r z))) e
+    ])
+    (λ region dead t is. elim (cases_eq r region) [
+      | inl q ↦ patched_size (with_dead dead) (dead_size dead) (used_at before.regions r) (used_at after.regions r) u (t.touched_region r (region_frozen after.regions r) (ap Some (sym q)) (covers_same _ _ refl)) e
+      | inr q ↦ untouched_sized (Sweep region dead) before after r u t (λ z. q (sym (same_Some region r z))) e
+    ])
+    (λ region storage t is. elim (cases_eq r region) [
+      | inl q ↦ absurd (n storage (is ∙ ap (λ k. Reclaim k storage) (sym q)))
+      | inr q ↦ untouched_sized (Reclaim region storage) before after r u t (λ z. q (sym (same_Some region r z))) e
+    ])
+    (λ k m t is. none_touched k before after r u m.none t e)
+    left t refl
 
 there_is : (regions : List Region) (at : ObjRef) → IsSome (object_at regions at) → (o : Object) × (object_at regions at ≡ Some o)
 there_is regions at h = go (object_at regions at) refl h

@@ -27,6 +27,7 @@ use Rattle.heap_pins.specs.Covers.{Covers}
 use Rattle.heap_pins.specs.KeptCopies.{patched, touched, with_dead}
 use Rattle.heap_pins.specs.Walk.{TellsBefore, walked_copy}
 use Rattle.heap_pins.proofs.CoveringCopies.{covers_same}
+use Rattle.heap_pins.proofs.RecordCases.{by_region}
 use Rattle.heap_pins.proofs.RoomForCopies.{object_within, reclaim_within, used_within}
 use Rattle.heap_pins.proofs.Others.{length_undone}
 use Rattle.heap_past.specs.Newest.{AreCellSizes, id_by, storage_cell_size, sizes_before, written_at}
@@ -125,54 +126,57 @@ reclaim_tells region storage before after sizes r u t s l whole e = elim (cases_
 plain_tells : (left : Undo) (before after : HeapState) (sizes : List ℕ) (r : ℕ) (u : UsedRegion) → touched left ≡ None → TellsBefore left before after → AreCellSizes after sizes → used_at before.regions r ≡ Some u → get_or sizes r 0 ≡ u.cell_size
 plain_tells left before after sizes r u n t s e = others_tell left before after sizes r u t s (λ z. none-some r (sym n ∙ z)) e
 
+-- the record of a region that was taken whole, and the others, which leave the sizes
+by_reclaim : (P : Undo → Type 0) → ((region : ℕ) (storage : UsedRegion) → P (Reclaim region storage)) → ((left : Undo) → ((sizes : List ℕ) → sizes_before left sizes ≡ sizes) → P left) → (left : Undo) → P left
+by_reclaim P reclaim other (Reclaim region storage) = reclaim region storage
+by_reclaim P reclaim other (Put at slot old) = other (Put at slot old) (λ sizes. refl)
+by_reclaim P reclaim other (Store at slot old logged) = other (Store at slot old logged) (λ sizes. refl)
+by_reclaim P reclaim other (Sweep region dead) = other (Sweep region dead) (λ sizes. refl)
+by_reclaim P reclaim other (Reg m k old) = other (Reg m k old) (λ sizes. refl)
+by_reclaim P reclaim other (New at fresh m k old) = other (New at fresh m k old) (λ sizes. refl)
+by_reclaim P reclaim other Class = other Class (λ sizes. refl)
+by_reclaim P reclaim other Snap = other Snap (λ sizes. refl)
+by_reclaim P reclaim other (Mark parent pushed) = other (Mark parent pushed) (λ sizes. refl)
+by_reclaim P reclaim other (Drain pushed) = other (Drain pushed) (λ sizes. refl)
+by_reclaim P reclaim other (Finish log) = other (Finish log) (λ sizes. refl)
+
+sizes_stay : (left : Undo) → touched left ≡ None → (sizes : List ℕ) → sizes_before left sizes ≡ sizes
+unfolding touched
+sizes_stay left n sizes = by_reclaim (λ k. touched k ≡ None → sizes_before k sizes ≡ sizes)
+    (λ region storage n. absurd (none-some region (sym n)))
+    (λ k same n. same sizes)
+    left n
+
 tells : (left : Undo) (before after : HeapState) (sizes : List ℕ) (r : ℕ) (u : UsedRegion) → TellsBefore left before after → AreCellSizes after sizes → ((region : ℕ) (storage : UsedRegion) → left ≡ Reclaim region storage → region < length sizes) → IsCellTable u → used_at before.regions r ≡ Some u → Tells left sizes r u
 unfolding touched walked_copy patched
-tells (Put at slot old) before after sizes r u t s l whole e = elim (cases_eq r at.region) [
-  | inl q ↦ patch_tells (Put at slot old) (frozen_word_set at.cell slot old) (word_size at.cell slot old) before after sizes r u (t.touched_region r (region_frozen after.regions r) (ap Some (sym q)) (covers_same _ _ refl)) s e
-  | inr q ↦ others_tell (Put at slot old) before after sizes r u t s (λ z. q (sym (same_Some at.region r z))) e
-]
-tells (Store at slot old logged) before after sizes r u t s l whole e = elim (cases_eq r at.region) [
-  | inl q ↦ patch_tells (Store at slot old logged) (frozen_word_set at.cell slot old) (word_size at.cell slot old) before after sizes r u (t.touched_region r (region_frozen after.regions r) (ap Some (sym q)) (covers_same _ _ refl)) s e
-  | inr q ↦ others_tell (Store at slot old logged) before after sizes r u t s (λ z. q (sym (same_Some at.region r z))) e
-]
-tells (Sweep region dead) before after sizes r u t s l whole e = elim (cases_eq r region) [
-  | inl q ↦ patch_tells (Sweep region dead) (with_dead dead) (dead_size dead) before after sizes r u (t.touched_region r (region_frozen after.regions r) (ap Some (sym q)) (covers_same _ _ refl)) s e
-  | inr q ↦ others_tell (Sweep region dead) before after sizes r u t s (λ z. q (sym (same_Some region r z))) e
-]
-tells (Reclaim region storage) before after sizes r u t s l whole e = reclaim_tells region storage before after sizes r u t s (l region storage refl) whole e
-tells (Reg m k old) before after sizes r u t s l whole e = plain_tells (Reg m k old) before after sizes r u refl t s e
-tells (New at fresh m k old) before after sizes r u t s l whole e = plain_tells (New at fresh m k old) before after sizes r u refl t s e
-tells Class before after sizes r u t s l whole e = plain_tells Class before after sizes r u refl t s e
-tells Snap before after sizes r u t s l whole e = plain_tells Snap before after sizes r u refl t s e
-tells (Mark parent pushed) before after sizes r u t s l whole e = plain_tells (Mark parent pushed) before after sizes r u refl t s e
-tells (Drain pushed) before after sizes r u t s l whole e = plain_tells (Drain pushed) before after sizes r u refl t s e
-tells (Finish log) before after sizes r u t s l whole e = plain_tells (Finish log) before after sizes r u refl t s e
+tells left before after sizes r u t s l whole e = by_region (λ k. TellsBefore k before after → left ≡ k → Tells k sizes r u)
+    (λ at slot old t is. elim (cases_eq r at.region) [
+      | inl q ↦ patch_tells (Put at slot old) (frozen_word_set at.cell slot old) (word_size at.cell slot old) before after sizes r u (t.touched_region r (region_frozen after.regions r) (ap Some (sym q)) (covers_same _ _ refl)) s e
+      | inr q ↦ others_tell (Put at slot old) before after sizes r u t s (λ z. q (sym (same_Some at.region r z))) e
+    ])
+    (λ at slot old logged t is. elim (cases_eq r at.region) [
+      | inl q ↦ patch_tells (Store at slot old logged) (frozen_word_set at.cell slot old) (word_size at.cell slot old) before after sizes r u (t.touched_region r (region_frozen after.regions r) (ap Some (sym q)) (covers_same _ _ refl)) s e
+      | inr q ↦ others_tell (Store at slot old logged) before after sizes r u t s (λ z. q (sym (same_Some at.region r z))) e
+    ])
+    (λ region dead t is. elim (cases_eq r region) [
+      | inl q ↦ patch_tells (Sweep region dead) (with_dead dead) (dead_size dead) before after sizes r u (t.touched_region r (region_frozen after.regions r) (ap Some (sym q)) (covers_same _ _ refl)) s e
+      | inr q ↦ others_tell (Sweep region dead) before after sizes r u t s (λ z. q (sym (same_Some region r z))) e
+    ])
+    (λ region storage t is. reclaim_tells region storage before after sizes r u t s (l region storage is) whole e)
+    (λ k n t is. ap (λ xs. get_or xs r 0) (sizes_stay k n.none sizes) ∙ plain_tells k before after sizes r u n.none t s e)
+    left t refl
 
 same_many : (left : Undo) (sizes : List ℕ) → length (sizes_before left sizes) ≡ length sizes
-same_many (Put at slot old) sizes = refl
-same_many (Store at slot old logged) sizes = refl
-same_many (Sweep region dead) sizes = refl
-same_many (Reclaim region storage) sizes = length-set sizes region (storage_cell_size storage)
-same_many (Reg m k old) sizes = refl
-same_many (New at fresh m k old) sizes = refl
-same_many Class sizes = refl
-same_many Snap sizes = refl
-same_many (Mark parent pushed) sizes = refl
-same_many (Drain pushed) sizes = refl
-same_many (Finish log) sizes = refl
+same_many left sizes = by_reclaim (λ k. length (sizes_before k sizes) ≡ length sizes)
+    (λ region storage. length-set sizes region (storage_cell_size storage))
+    (λ k same. ap length (same sizes))
+    left
 
 still_small : (left : Undo) (sizes : List ℕ) → All (λ s. s ≤ region_words) sizes → ((region : ℕ) (storage : UsedRegion) → left ≡ Reclaim region storage → storage_cell_size storage ≤ region_words) → All (λ s. s ≤ region_words) (sizes_before left sizes)
-still_small (Put at slot old) sizes a b = a
-still_small (Store at slot old logged) sizes a b = a
-still_small (Sweep region dead) sizes a b = a
-still_small (Reclaim region storage) sizes a b = All-set (λ s. s ≤ region_words) sizes region (storage_cell_size storage) (b region storage refl) a
-still_small (Reg m k old) sizes a b = a
-still_small (New at fresh m k old) sizes a b = a
-still_small Class sizes a b = a
-still_small Snap sizes a b = a
-still_small (Mark parent pushed) sizes a b = a
-still_small (Drain pushed) sizes a b = a
-still_small (Finish log) sizes a b = a
+still_small left sizes a b = by_reclaim (λ k. left ≡ k → All (λ s. s ≤ region_words) (sizes_before k sizes))
+    (λ region storage is. All-set (λ s. s ≤ region_words) sizes region (storage_cell_size storage) (b region storage is) a)
+    (λ k same is. subst (All (λ s. s ≤ region_words)) (sym (same sizes)) a)
+    left refl
 
 -- ---- regions of a legal heap
 

@@ -24,10 +24,9 @@ unfolding opening_machine
 first_is ids regions mutators keep = refl
 
 pub saved_to : (unmade : Fault) (s : Settings) (makes : Option Outgoing → Type 0) (first : ℕ) (m left : Machine) (a b : Incoming) (w w' : Outgoing) (outlet : Option Outgoing) (made : Bool) (ended : Ended) (pumped : Option Pumped) (result : Result (Unit {0}) Fault)
-    → m ≡ opening_machine s.ids s.regions s.mutators s.keep → first ≡ m.pins.next → made ≡ is_some outlet
+    → m ≡ opening_machine s.ids s.regions s.mutators s.keep → first ≡ 1 → made ≡ is_some outlet
     → IsSaved makes first s.time m left a b w w' outlet ended pumped → result ≡ save_outcome unmade made ended pumped → IsSavedAs false unmade s a b w w' result
-saved_to unmade s makes first m left a b w w' outlet made ended pumped result opening is there saved so =
-    let one : first ≡ 1 = is ∙ ap (λ (n : Machine). n.pins.next) opening ∙ first_is s.ids s.regions s.mutators s.keep in
+saved_to unmade s makes first m left a b w w' outlet made ended pumped result opening one there saved so =
     let here : IsSaved makes 1 s.time (opening_machine s.ids s.regions s.mutators s.keep) left a b w w' outlet ended pumped = subst (λ n. IsSaved makes n s.time (opening_machine s.ids s.regions s.mutators s.keep) left a b w w' outlet ended pumped) one (subst (λ n. IsSaved makes first s.time n left a b w w' outlet ended pumped) opening saved) in
     inl (left, outlet, ended, pumped, saved_anywhere makes any_outlet 1 s.time (opening_machine s.ids s.regions s.mutators s.keep) left a b w w' outlet ended pumped (λ o h. tt) here, so ∙ ap (λ k. save_outcome unmade k ended pumped) there)
 

@@ -4,12 +4,13 @@ ghost use Rattle.heapdbg_options.specs.HeapLimits.{AreHeapSettings};
 ghost use Rattle.heapdbg.specs.Runs.{IsDrawingOutcome, IsSessionDrawn};
 
 use crate::failure::{Fault, outcome};
+use crate::opening::open_local;
 use dump_pump::{Outlet, WriteOutlet};
 use heapdbg_options::command_line::path_option;
 use heapdbg_options::line_words::borrow_words;
-use heapdbg_options::settings::{Settings, config};
+use heapdbg_options::settings::Settings;
 use region_picture::picture_of;
-use session_text::{Inlet, Local, Machine, serve_local, write_all};
+use session_text::{Inlet, Machine, serve_local, write_all};
 use std::alloc::Global;
 use std::fs;
 use std::fs::Files;
@@ -28,13 +29,12 @@ pub fn draw<R: Files, I: Inlet, O: Outlet>(
     ensures { IsSessionDrawn settings.now (I.seen reader.old) (I.seen reader.new)
         (O.seen writer.old) (O.seen writer.new) result }
 {
-    match Machine::new(alloc, config(settings)) {
-        Ok(machine) => {
-            let mut local = Local::new(machine);
+    match open_local(alloc, settings) {
+        Ok(mut local) => {
             let ended = serve_local(alloc, reader, writer, &mut local, settings.time);
             draw_after(rt, alloc, words, outcome(ended), &local.machine)
         }
-        Err(_) => Err(Fault::Memory),
+        Err(fault) => Err(fault),
     }
 }
 

@@ -4,13 +4,14 @@ ghost use Rattle.heapdbg_options.specs.HeapLimits.{AreHeapSettings};
 ghost use Rattle.heapdbg.specs.Explorations.{IsSessionBegun, IsExplored, IsHindrance, IsOpening};
 
 use crate::failure::{Fault, outcome};
+use crate::opening::open_local;
 use dump_pump::Outlet;
 use heap_console::load_lines;
 use heapdbg_options::command_line::path_option;
 use heapdbg_options::line_words::borrow_words;
-use heapdbg_options::settings::{Settings, config};
+use heapdbg_options::settings::Settings;
 use question_text::{Asking, Watch, serve_asking};
-use session_text::{Inlet, Local, Machine};
+use session_text::Inlet;
 use std::alloc::Global;
 use std::fs;
 use std::fs::Files;
@@ -71,12 +72,9 @@ pub(crate) fn open<'a>(
     ensures first { IfOk result (λ c. c.local.first_pin ≡ 1) }
     ensures fault { IfErr result (λ f. f ≡ Fault.Memory) }
 {
-    match Machine::new(alloc, config(settings)) {
-        Ok(machine) => {
-            let local = Local::new(machine);
-            Ok(Asking { local, watch })
-        }
-        Err(_) => Err(Fault::Memory),
+    match open_local(alloc, settings) {
+        Ok(local) => Ok(Asking { local, watch }),
+        Err(fault) => Err(fault),
     }
 }
 

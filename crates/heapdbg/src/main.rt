@@ -9,6 +9,7 @@ mod explore;
 mod failure;
 mod fetch;
 mod folder;
+mod opening;
 mod progress;
 mod save;
 mod serve;

@@ -5,13 +5,14 @@ ghost use Rattle.heapdbg.specs.SaveOutcomes.{IsSavedAs, IsSavedTo, save_outcome}
 
 use crate::explore::open;
 use crate::failure::{Fault, outcome};
+use crate::opening::open_local;
 use crate::progress::TerminalGauge;
 use dump_pump::{Outlet, Pumped, WriteOutlet};
 use heap_save::{Outlets, save_after, save_into};
-use heapdbg_options::settings::{Settings, config};
+use heapdbg_options::settings::Settings;
 use pin_dump::Gauge;
 use question_text::{Watch, serve_asking};
-use session_text::{Ended, Inlet, Local, Machine};
+use session_text::{Ended, Inlet};
 use std::fs;
 use std::fs::Files;
 use std::net::{Ipv4Addr, Net, TcpStream};
@@ -157,15 +158,14 @@ fn save_session<
         (O.seen writer.old) (O.seen writer.new) result }
 {
     let alloc = rt.alloc();
-    match Machine::new(alloc, config(settings)) {
-        Ok(machine) => {
+    match open_local(alloc, settings) {
+        Ok(mut local) => {
             let Destination { place, unmade } = to;
-            let mut local = Local::new(machine);
             let time = settings.time;
             let saved = save_into(rt, alloc, &mut local, reader, writer, place, gauge, time);
             save_outcome(unmade, saved.outlet.is_some(), saved.ended, saved.pumped)
         }
-        Err(_) => Err(Fault::Memory),
+        Err(fault) => Err(fault),
     }
 }
 

@@ -13,6 +13,7 @@ use crate::explore::explore;
 use crate::failure::{Failure, Fault, outcome};
 use crate::fetch::fetch_port;
 use crate::folder::has_folder;
+use crate::opening::open_local;
 use crate::save::{save_out, save_to};
 use crate::serve::{Service, serve_port};
 use crate::terminals::{Screen, Terminals};
@@ -21,9 +22,9 @@ use heap_console::{ColumnOutlet, PromptInlet};
 use heapdbg_options::command_line::{path_option, settings};
 use heapdbg_options::line_words::borrow_words;
 use heapdbg_options::refusal::bad;
-use heapdbg_options::settings::{LineFault, Settings, Target, Task, config};
+use heapdbg_options::settings::{LineFault, Settings, Target, Task};
 use question_text::Watch;
-use session_text::{Inlet, Local, Machine, ReadInlet, serve_local};
+use session_text::{Inlet, ReadInlet, serve_local};
 use std::alloc::Global;
 use std::fs::Files;
 use std::io::{Error, ErrorKind};
@@ -215,12 +216,9 @@ fn session<I: Inlet, O: Outlet>(
     ensures { IsRun settings.now (I.seen reader.old) (I.seen reader.new) (O.seen writer.old)
         (O.seen writer.new) result }
 {
-    match Machine::new(alloc, config(settings)) {
-        Ok(machine) => {
-            let mut local = Local::new(machine);
-            outcome(serve_local(alloc, reader, writer, &mut local, settings.time))
-        }
-        Err(_) => Err(Fault::Memory),
+    match open_local(alloc, settings) {
+        Ok(mut local) => outcome(serve_local(alloc, reader, writer, &mut local, settings.time)),
+        Err(fault) => Err(fault),
     }
 }
 

@@ -2,7 +2,7 @@ use Rattle.std.proofs.Common.{◌∙◌, ap}
 use Rattle.session_text.specs.Machine.{Machine, opening_machine}
 use Rattle.session_text.specs.declared.commands.Local.{Local}
 use Rattle.heapdbg.proofs.SavedRuns.{first_is}
-use Rattle.heapdbg.proofs.explore.open.Goals as goal
+use Rattle.heapdbg.proofs.opening.open_local.Goals as goal
 
 pub returns-in-Ok-clause-opening : goal.returns-in-Ok-clause-opening
 returns-in-Ok-clause-opening c =

@@ -3,7 +3,7 @@
 /// Who acts.
 #[derive(Clone, Copy, PartialEq, Eq, Debug)]
 pub enum Role {
-    /// The mutator of this number, for its own events from New to Clear.
+    /// The mutator of this number, for the events that name it.
     Mutator(u64),
     /// The marker, for Snap, Mark, Drain and Finish.
     Marker,

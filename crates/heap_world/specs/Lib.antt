@@ -7,6 +7,7 @@ pub mod Functions
 pub mod HeapParts
 -- What clauses here, and proofs above, cite of the crates below.
 pub use Rattle.heap_region.specs.Limits as RegionLimits
+pub use Rattle.heap_region.specs.Live
 pub use Rattle.heap_region.specs.Pool
 pub use Rattle.heap_region.specs.Regions
 pub use Rattle.heap_mark.specs.Functions as MarkFunctions

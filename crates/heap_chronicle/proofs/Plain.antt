@@ -5,10 +5,10 @@ use Rattle.heap_class.specs.declared.Refusal.{Refusal}
 use Rattle.heap_class.specs.declared.Refusal.TheVariants.{NoMemory, ChronicleFull}
 use Rattle.heap_class.specs.Classes.{class_refusal}
 use Rattle.heap_class.specs.Refusals.{first_refusal}
-use Rattle.heap_mark.specs.MarkSteps.{snap_refusal, mark_refusal, drain_refusal, finish_refusal}
-use Rattle.heap_sweep.specs.Sweep.{sweep_refusal}
-use Rattle.heap_world.specs.State.{HeapState}
-use Rattle.heap_world.specs.Events.{new_refusal, new_array_refusal, new_prim_refusal, load_refusal, store_refusal, put_refusal, move_refusal, clear_refusal}
+use Rattle.heap_trail.specs.MarkSteps.{snap_refusal, mark_refusal, drain_refusal, finish_refusal}
+use Rattle.heap_trail.specs.Sweep.{sweep_refusal}
+use Rattle.heap_trail.specs.State.{HeapState}
+use Rattle.heap_trail.specs.HeapEvents.{new_refusal, new_array_refusal, new_prim_refusal, load_refusal, store_refusal, put_refusal, move_refusal, clear_refusal}
 use Rattle.heap_step.specs.declared.Answer.{Answer}
 use Rattle.heap_step.specs.declared.Event.{Event}
 use Rattle.heap_step.specs.declared.Event.TheVariants.{Class, ArrayClass, New, NewArray, NewPrim, Load, Store, Put, Move, Clear, Snap, Mark, Drain, Finish, Sweep}

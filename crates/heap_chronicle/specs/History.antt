@@ -3,8 +3,8 @@ use Rattle.std.specs.Prelude.{◌≡◌, ◌≢◌, ℕ, ◌==◌, false, List, 
 use Rattle.std.specs.List.{enumerate_from}
 use Rattle.heap_class.specs.declared.IdSize.TheVariants.{Eight}
 use Rattle.heap_class.specs.declared.Refusal.TheVariants.{NoMemory, ChronicleFull}
-use Rattle.heap_world.specs.Limits.{HeapSettings}
-use Rattle.heap_world.specs.State.{opening_state}
+use Rattle.heap_trail.specs.HeapLimits.{HeapSettings}
+use Rattle.heap_trail.specs.State.{opening_state}
 use Rattle.heap_trail.specs.declared.Action.{Action}
 use Rattle.heap_trail.specs.declared.Reply.{Reply}
 use Rattle.heap_trail.specs.declared.Reply.TheVariants.{Answered, Place, Refused}

@@ -5,7 +5,7 @@ use Rattle.heap_world.specs.Limits.{HeapSettings}
 use Rattle.heap_world.specs.State.{HeapState}
 use Rattle.hprof_text.specs.declared.Piece.{Piece}
 use Rattle.hprof_text.specs.Segments.{dump_text}
-use Rattle.heap_pins.specs.Images.{image_of}
+use Rattle.heap_trail.specs.Images.{image_of}
 use Rattle.heap_trail.specs.declared.Action.TheVariants.{NextPiece, OpenPin}
 use Rattle.heap_trail.specs.declared.Reply.TheVariants.{Part, Pinned}
 use Rattle.heap_trail.specs.Laws.{AsksAt}

@@ -23,7 +23,7 @@ pub use Rattle.heap_step.specs.declared.Answer
 pub use Rattle.heap_step.specs.declared.Event
 pub use Rattle.hprof_text.specs.Segments
 pub use Rattle.hprof_text.specs.declared.Piece
-pub use Rattle.heap_pins.specs.Images
+pub use Rattle.heap_trail.specs.Images
 pub use Rattle.heap_trail.specs.Laws as TrailLaws
 pub use Rattle.heap_trail.specs.Limits as TrailLimits
 pub use Rattle.heap_trail.specs.Machine

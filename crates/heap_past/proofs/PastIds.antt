@@ -17,10 +17,10 @@ use Rattle.heap_step.specs.declared.Undo.TheVariants.{Put, Store, Sweep, Reclaim
 use Rattle.heap_step.specs.Apply.{refusal_of, state_after}
 use Rattle.heap_step.specs.Laws.{IsStep}
 use Rattle.heap_step.specs.Records.{undo_record}
-use Rattle.heap_pins.specs.KeptCopies.{patched, touched, with_dead}
-use Rattle.heap_pins.specs.Walk.{TellsBefore, walked_copy}
-use Rattle.heap_pins.proofs.CoveringCopies.{covers_same}
-use Rattle.heap_pins.proofs.RecordCases.{by_region}
+use Rattle.heap_trail.specs.KeptCopies.{patched, touched, with_dead}
+use Rattle.heap_trail.specs.Walk.{TellsBefore, walked_copy}
+use Rattle.heap_trail.proofs.CoveringCopies.{covers_same}
+use Rattle.heap_trail.proofs.RecordCases.{by_region}
 use Rattle.heap_trail.specs.Laws.{AreSteps, IsTrail}
 use Rattle.heap_trail.specs.Trail.{Trail, retained, state_ago}
 use Rattle.heap_trail.proofs.RetainedStates.{steps_legal}

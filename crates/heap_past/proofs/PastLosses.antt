@@ -2,13 +2,13 @@
 use Rattle.std.proofs.Common.{◌≡◌, ℕ, ◌+◌, ◌-◌, ◌<◌, ◌≤◌, Option, Some, None, IsSome, refl, sym, ap, ◌∙◌, subst, inl, inr, arith}
 use Rattle.std.specs.Prelude.{◌↔◌, IfSome, IfNone, IsTrue, is_some}
 use Rattle.std.proofs.lemmas.Bool.{cases_lt, false≢true}
-use Rattle.hprof_text.specs.Image.{Image}
+use Rattle.heap_trail.specs.Image.{Image}
 use Rattle.heap_class.specs.declared.ObjRef.{ObjRef}
 use Rattle.heap_region.specs.Regions.{object_at}
 use Rattle.heap_world.specs.Legal.{IsLegal}
 use Rattle.heap_world.specs.Reach.{Reaches}
 use Rattle.heap_world.specs.State.{HeapState}
-use Rattle.heap_pins.specs.Images.{image_of}
+use Rattle.heap_trail.specs.Images.{image_of}
 use Rattle.heap_questions.specs.Graph.{IsPathTo, IsUnreached}
 use Rattle.heap_questions.specs.declared.paths.Path.{Path}
 use Rattle.heap_trail.specs.Laws.{IsTrail}

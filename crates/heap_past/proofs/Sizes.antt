@@ -23,13 +23,13 @@ use Rattle.heap_step.specs.Laws.{IsStep}
 use Rattle.heap_step.specs.Records.{undone}
 use Rattle.heap_step.proofs.EventLaws.{undo_takes_back}
 use Rattle.heap_step.proofs.Steps.{new_there, put_there, reclaim_inhabited, store_there}
-use Rattle.heap_pins.specs.Covers.{Covers}
-use Rattle.heap_pins.specs.KeptCopies.{patched, touched, with_dead}
-use Rattle.heap_pins.specs.Walk.{TellsBefore, walked_copy}
-use Rattle.heap_pins.proofs.CoveringCopies.{covers_same}
-use Rattle.heap_pins.proofs.RecordCases.{by_region}
-use Rattle.heap_pins.proofs.RoomForCopies.{object_within, reclaim_within, used_within}
-use Rattle.heap_pins.proofs.Others.{length_undone}
+use Rattle.heap_trail.specs.Covers.{Covers}
+use Rattle.heap_trail.specs.KeptCopies.{patched, touched, with_dead}
+use Rattle.heap_trail.specs.Walk.{TellsBefore, walked_copy}
+use Rattle.heap_trail.proofs.CoveringCopies.{covers_same}
+use Rattle.heap_trail.proofs.RecordCases.{by_region}
+use Rattle.heap_trail.proofs.RoomForCopies.{object_within, reclaim_within, used_within}
+use Rattle.heap_trail.proofs.Others.{length_undone}
 use Rattle.heap_past.specs.Newest.{AreCellSizes, id_by, storage_cell_size, sizes_before, written_at}
 use Rattle.heap_past.proofs.ToldObjects.{told}
 

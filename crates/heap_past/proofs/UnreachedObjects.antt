@@ -18,10 +18,10 @@ use Rattle.heap_region.proofs.FoundObjects.{ref_taken, taken_elsewhere, taken_th
 use Rattle.heap_region.proofs.Ids.{ref_back}
 use Rattle.heap_region.proofs.Lookups.{used_there}
 use Rattle.heap_region.proofs.References.{found_in, reference_was, references_by_slots, references_in}
-use Rattle.heap_mark.specs.declared.Phase.{Phase}
-use Rattle.heap_mark.specs.declared.Phase.TheVariants.{Marking}
-use Rattle.heap_mark.specs.MarkSteps.{children_of, drained_once, each_region, finished, finished_region, marked, snapped}
-use Rattle.heap_mark.proofs.Shades.{children_same, shades_all}
+use Rattle.heap_world.specs.Phase.{Phase}
+use Rattle.heap_world.specs.Phase.TheVariants.{Marking}
+use Rattle.heap_world.specs.MarkSteps.{children_of, drained_once, each_region, finished, finished_region, marked, snapped}
+use Rattle.heap_world.proofs.Shades.{children_same, shades_all}
 use Rattle.heap_world.specs.Events.{after_class, after_drain, after_finish, after_load, after_mark, after_move, after_new, after_snap, after_sweep, is_reference_slot, load_refusal, move_refusal, new_object}
 use Rattle.heap_world.specs.Legal.{HasKind, IsLegal, IsLive}
 use Rattle.heap_world.specs.Reach.{IsObject, Names, Reaches}

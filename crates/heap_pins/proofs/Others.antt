@@ -9,9 +9,9 @@ use Rattle.heap_region.specs.Pool.{RegionPool, unallocated, freed, released, res
 use Rattle.heap_region.proofs.Lookups.{used_there, used_elsewhere}
 use Rattle.heap_region.proofs.ChangedLookups.{same_or_not}
 use Rattle.heap_region.proofs.FoundObjects.{restored_elsewhere, released_elsewhere}
-use Rattle.heap_mark.specs.MarkSteps.{MarkState, each_object, each_region, with_mark_of, unsnapped, unshaded, unmarked, undrained, unfinished, unfinished_region}
-use Rattle.heap_mark.proofs.Each.{used_each}
-use Rattle.heap_mark.proofs.Shades.{length_marked}
+use Rattle.heap_world.specs.MarkSteps.{MarkState, each_object, each_region, with_mark_of, unsnapped, unshaded, unmarked, undrained, unfinished, unfinished_region}
+use Rattle.heap_world.proofs.Each.{used_each}
+use Rattle.heap_world.proofs.Shades.{length_marked}
 use Rattle.heap_world.proofs.WordWrites.{length_written}
 use Rattle.heap_sweep.specs.Sweep.{unswept}
 use Rattle.heap_world.specs.State.{HeapState, pool_of}

@@ -13,8 +13,8 @@ use Rattle.heap_region.proofs.ChangedLookups.{same_or_not, object_with_object, o
 use Rattle.heap_region.proofs.Lookups.{used_there, used_elsewhere}
 use Rattle.heap_region.proofs.ShownRegions.{object_of_used}
 use Rattle.heap_region.proofs.FoundObjects.{restored_elsewhere, released_elsewhere, freed_elsewhere}
-use Rattle.heap_mark.specs.MarkSteps.{each_object, each_region, with_mark_of, unsnapped, unshaded, unmarked, undrained, unfinished, unfinished_region}
-use Rattle.heap_mark.proofs.Each.{used_each}
+use Rattle.heap_world.specs.MarkSteps.{each_object, each_region, with_mark_of, unsnapped, unshaded, unmarked, undrained, unfinished, unfinished_region}
+use Rattle.heap_world.proofs.Each.{used_each}
 use Rattle.heap_sweep.specs.Sweep.{unswept, unswept_region}
 use Rattle.heap_world.specs.State.{HeapState, pool_of}
 use Rattle.heap_step.specs.declared.Undo.{Undo}

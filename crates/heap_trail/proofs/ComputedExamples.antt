@@ -1,10 +1,10 @@
 -- The worked examples, by computation.
 use Rattle.std.proofs.Common.{refl}
 use Rattle.heap_class.specs.Functions.{class_functions as open_heap_class}
-use Rattle.heap_region.specs.Regions.{used_at, object_at, objects_of_region, objects_in, id_of, cell_around, ref_of, object_of, slot_kinds, references_of, updated, in_used, with_region, with_object, with_word, with_mark, cell_size_for}
-use Rattle.heap_region.specs.Pool.{fresh_region, opening_pool, blank_object, free_place, place_or_fresh, new_place, is_fresh, taken, restored, allocated, freed, released, unallocated}
-use Rattle.heap_mark.specs.Functions.{mark_functions as open_heap_mark}
-use Rattle.heap_sweep.specs.Functions.{sweep_functions as open_heap_sweep}
+use Rattle.heap_world.specs.Regions.{used_at, object_at, objects_of_region, objects_in, id_of, cell_around, ref_of, object_of, slot_kinds, references_of, updated, in_used, with_region, with_object, with_word, with_mark, cell_size_for}
+use Rattle.heap_world.specs.Pool.{fresh_region, opening_pool, blank_object, free_place, place_or_fresh, new_place, is_fresh, taken, restored, allocated, freed, released, unallocated}
+use Rattle.heap_world.specs.MarkFunctions.{mark_functions as open_heap_mark}
+use Rattle.heap_world.specs.SweepFunctions.{sweep_functions as open_heap_sweep}
 use Rattle.heap_world.specs.Functions.{world_functions as open_heap_world}
 use Rattle.heap_step.specs.Functions.{step_functions as open_heap_step}
 use Rattle.heap_trail.specs.Functions.{trail_functions as open_heap_trail}

@@ -4,7 +4,7 @@ use Rattle.std.specs.Prelude.{nat_le, nat_lt, not, unwrap_or, find, filter, opti
 use Rattle.std.specs.List.{list_any}
 use mathlib.Core.Logic.{inl, inr}
 use Rattle.std.proofs.lemmas.Bool.{eqb-true}
-use Rattle.heap_region.proofs.ChangedLookups.{same_or_not}
+use Rattle.heap_world.proofs.ChangedLookups.{same_or_not}
 use Rattle.heap_class.specs.declared.LostCause.{LostCause}
 use Rattle.heap_class.specs.declared.LostCause.TheVariants.{Rewound, Memory}
 use Rattle.heap_class.specs.declared.Refusal.{Refusal}

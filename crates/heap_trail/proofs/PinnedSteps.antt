@@ -6,7 +6,7 @@ use Rattle.std.specs.Option.{option_map_or}
 use Rattle.circular_buffer.specs.Buffer.{Buffer}
 use Rattle.heap_class.specs.declared.ObjRef.{ObjRef}
 use Rattle.heap_class.specs.Classes.{slots_of}
-use Rattle.heap_region.specs.Pool.{new_place}
+use Rattle.heap_world.specs.Pool.{new_place}
 use Rattle.heap_world.specs.State.{HeapState, pool_of, register}
 use Rattle.heap_step.specs.declared.Event.{Event}
 use Rattle.heap_step.specs.declared.Event.TheVariants.{ArrayClass, New, NewArray, NewPrim, Load, Store, Put, Move, Clear, Snap, Mark as MarkEvent, Drain, Finish, Sweep}

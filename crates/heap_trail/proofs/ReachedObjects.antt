@@ -1,7 +1,7 @@
 -- What a sweep and a finish leave of what the registers reach.
 use Rattle.std.proofs.Common.{◌≡◌, ℕ, sym, ap, subst, ◌∙◌, None}
 use Rattle.circular_buffer.specs.Buffer.{Buffer}
-use Rattle.heap_region.specs.Regions.{object_of}
+use Rattle.heap_world.specs.Regions.{object_of}
 use Rattle.heap_world.specs.State.{HeapState}
 use Rattle.heap_world.specs.Legal.{IsLegal}
 use Rattle.heap_step.specs.declared.Event.{Event}

@@ -2,10 +2,10 @@
 use Rattle.std.proofs.Common.{◌≡◌, ◌⊎◌, ℕ, ◌≤◌, List, [], ◌∷◌, length, refl, sym, ap, subst, ◌∙◌, Option, Some, None, true, not}
 use mathlib.Core.Logic.{inl, inr}
 use Rattle.std.specs.Prelude.{find, cond}
-use Rattle.heap_region.specs.Regions.{Object, object_of}
-use Rattle.heap_mark.specs.declared.Phase.{Phase}
-use Rattle.heap_mark.specs.declared.Phase.TheVariants.{Idle, Marking}
-use Rattle.heap_mark.specs.MarkSteps.{is_marking}
+use Rattle.heap_world.specs.Regions.{Object, object_of}
+use Rattle.heap_world.specs.Phase.{Phase}
+use Rattle.heap_world.specs.Phase.TheVariants.{Idle, Marking}
+use Rattle.heap_world.specs.MarkSteps.{is_marking}
 use Rattle.heap_world.specs.State.{HeapState}
 use Rattle.heap_world.specs.Reach.{Reaches}
 use Rattle.heap_world.specs.Legal.{IsLegal, IsMarked, Sheltered}

@@ -9,8 +9,8 @@ use Rattle.heap_class.specs.declared.Kind.TheVariants.{Boolean, Char, Float, Dou
 use Rattle.heap_class.specs.declared.ObjRef.{ObjRef}
 use Rattle.heap_class.specs.Kinds.{width_of, value_limit}
 use Rattle.heap_class.specs.Classes.{slot_kinds_of}
-use Rattle.heap_region.specs.Regions.{Object, id_of, object_of, slot_kinds, live_objects, objects_in}
-use Rattle.heap_region.proofs.References.{slot_is_reference}
+use Rattle.heap_world.specs.Regions.{Object, id_of, object_of, slot_kinds, live_objects, objects_in}
+use Rattle.heap_world.proofs.References.{slot_is_reference}
 use Rattle.heap_world.specs.State.{HeapState}
 use Rattle.heap_world.specs.Legal.{IsLegal}
 use Rattle.heap_world.proofs.NamedObjects.{object_named}

@@ -9,8 +9,8 @@ use Rattle.heap_class.specs.declared.Field.{Field}
 use Rattle.heap_class.specs.declared.Refusal.{Refusal}
 use Rattle.heap_class.specs.declared.Refusal.TheVariants.{NoClass, BadName, DuplicateName, NullRegister, BadSlot, WrongKind, OutOfRange, TooLarge, HeapFull, AlreadyMarking, NothingToMark, NothingToDrain, NotDone, SweepPending, NothingToSweep, TooFar}
 use Rattle.heap_class.specs.Classes.{instance_class}
-use Rattle.heap_region.specs.Regions.{InUse, object_of}
-use Rattle.heap_mark.specs.declared.Phase.TheVariants.{Idle}
+use Rattle.heap_world.specs.Regions.{InUse, object_of}
+use Rattle.heap_world.specs.Phase.TheVariants.{Idle}
 use Rattle.heap_world.specs.State.{HeapState}
 use Rattle.heap_step.specs.declared.Event.{Event}
 use Rattle.heap_step.specs.declared.Event.TheVariants.{New, NewPrim, Load, Store, Put, Clear, Snap, Mark, Drain, Finish, Sweep}

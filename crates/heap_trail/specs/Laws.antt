@@ -1,8 +1,8 @@
 -- What holds of a trail.
 use Rattle.std.specs.Prelude.{◌≡◌, ℕ, ◌<◌, ◌≤◌, ◌^◌, Bool, true, false, not, ◌&&◌, ◌||◌, ◌==◌, List, [], ◌∷◌, ◌++◌, length, find, Some, None, if◌then◌else◌}
 use Rattle.heap_class.specs.declared.IdSize.{IdSize}
-use Rattle.heap_region.specs.Regions.{Object, object_of}
-use Rattle.heap_mark.specs.MarkSteps.{is_marking}
+use Rattle.heap_world.specs.Regions.{Object, object_of}
+use Rattle.heap_world.specs.MarkSteps.{is_marking}
 use Rattle.heap_world.specs.State.{HeapState}
 use Rattle.heap_world.specs.Reach.{Reaches}
 use Rattle.heap_world.specs.Legal.{IsLegal, IsLive, NamesOne}

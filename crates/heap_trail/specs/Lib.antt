@@ -11,3 +11,16 @@ pub mod Functions
 pub mod Headline
 pub mod Views
 pub mod Listings
+-- What clauses here, and proofs above, cite of the crates below.
+pub use Rattle.heap_world.specs.Events as HeapEvents
+pub use Rattle.heap_world.specs.Limits as HeapLimits
+pub use Rattle.heap_world.specs.MarkSteps
+pub use Rattle.heap_world.specs.State
+pub use Rattle.heap_world.specs.Sweep
+pub use Rattle.heap_pins.specs.Images
+pub use Rattle.heap_pins.specs.Covers
+pub use Rattle.heap_pins.specs.KeptCopies
+pub use Rattle.heap_pins.specs.Pin
+pub use Rattle.heap_pins.specs.View
+pub use Rattle.heap_pins.specs.Walk
+pub use Rattle.hprof_text.specs.Image

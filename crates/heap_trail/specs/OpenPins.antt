@@ -6,7 +6,7 @@ use Rattle.heap_class.specs.declared.Refusal.{Refusal}
 use Rattle.heap_class.specs.declared.Refusal.TheVariants.{NoMemory}
 use Rattle.heap_class.specs.declared.Refusal.TheVariants.{Lost as IsLost}
 use Rattle.heap_class.specs.declared.ObjRef.{ObjRef}
-use Rattle.heap_region.specs.Regions.{live_places}
+use Rattle.heap_world.specs.Regions.{live_places}
 use Rattle.heap_world.specs.State.{HeapState}
 use Rattle.heap_step.specs.declared.Undo.{Undo}
 use Rattle.heap_class.specs.declared.IdSize.{IdSize}

@@ -25,3 +25,8 @@ pub mod CycleFindings
 pub mod Shapes
 pub mod Phases
 pub mod SweepSteps
+pub use Rattle.heap_region.proofs.ChangedLookups
+pub use Rattle.heap_region.proofs.References
+pub use Rattle.heap_mark.proofs.Each
+pub use Rattle.heap_mark.proofs.Shades
+pub use Rattle.heap_sweep.proofs.Cells as SweptCells

@@ -3,7 +3,7 @@ use Rattle.std.specs.Prelude.{◌≡◌, ◌⊎◌, ◌++◌, ℕ, List, Option,
 use Rattle.std.specs.Option.{option_map_or}
 use Rattle.clap.specs.Words.{Row, Text, fault_of, first_of, subcommand_of}
 use Rattle.clap.specs.declared.error.kind.ErrorKind.TheVariants.{DisplayVersion}
-use Rattle.heap_region.specs.Limits.{region_limit}
+use Rattle.heap_world.specs.RegionLimits.{region_limit}
 use Rattle.heap_world.specs.Limits.{keep_limit, mutator_limit}
 use Rattle.heapdbg_options.specs.CommandLine.{dumps_with, heapdbg_line, id_size_in, is_task, keep_default, number_in, port_in, port_limit, questions_in, rolls_in, sessions_in, settings_of, option_value, time_limit, workers_in}
 use Rattle.heapdbg_options.specs.declared.refusal.Mistake.{Mistake}

@@ -7,12 +7,12 @@ use Rattle.std.proofs.lemmas.List.{map-append}
 use Rattle.std.proofs.lemmas.List.FromFn.{length-enumerate_from}
 use Rattle.std.proofs.lemmas.List.Sums.{sum_by-append}
 use Rattle.heap_class.specs.declared.Refusal.{Refusal}
-use Rattle.heap_region.specs.Live.{cells_of}
-use Rattle.heap_region.specs.Regions.{UsedRegion, used_at}
+use Rattle.heap_world.specs.Live.{cells_of}
+use Rattle.heap_world.specs.Regions.{UsedRegion, used_at}
 use Rattle.heap_world.specs.Legal.{IsLegal}
 use Rattle.heap_world.specs.State.{HeapState, pool_of}
-use Rattle.heap_sweep.specs.Sweep.{dead_at}
-use Rattle.heap_sweep.proofs.Cells.{dead_in, dead_one, dead_pairs, table_few}
+use Rattle.heap_world.specs.Sweep.{dead_at}
+use Rattle.heap_world.proofs.SweptCells.{dead_in, dead_one, dead_pairs, table_few}
 use Rattle.heap_pins.proofs.LiveCounts.{length-filter_map}
 use Rattle.heap_past.proofs.Sizes.{table_of}
 use Rattle.heap_step.specs.Apply.{answer_of, applied, applied_unless, refusal_of, state_after}

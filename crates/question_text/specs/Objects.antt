@@ -7,7 +7,7 @@ use Rattle.heap_class.specs.declared.ObjKind.{ObjKind}
 use Rattle.heap_class.specs.declared.ObjKind.TheVariants.{Instance, Array, Prim}
 use Rattle.heap_class.specs.Kinds.{is_reference, kind_word}
 use Rattle.heap_class.specs.Classes.{Class, fields_of, sup_of}
-use Rattle.heap_region.specs.Regions.{object_of}
+use Rattle.heap_world.specs.Regions.{object_of}
 use Rattle.heap_world.specs.State.{HeapState}
 use Rattle.heap_trail.specs.Machine.{Machine}
 use Rattle.hprof_text.specs.Image.{DumpedObject, Image}

@@ -2,7 +2,7 @@
 use Rattle.std.specs.Prelude.{◌≡◌, ◌⊎◌, ℕ, ◌-◌, List, ◌++◌, codes, Some, None, IsSome}
 use Rattle.heap_class.specs.declared.ObjRef.{ObjRef}
 use Rattle.heap_class.specs.declared.Refusal.TheVariants.{NoMemory}
-use Rattle.heap_region.specs.Regions.{object_at, object_of, ref_of}
+use Rattle.heap_world.specs.Regions.{object_at, object_of, ref_of}
 use Rattle.heap_world.specs.State.{HeapState}
 use Rattle.heap_trail.specs.Trail.{Trail, retained}
 use Rattle.session_text.specs.Replies.{and_number, line}

@@ -1,6 +1,6 @@
 //! The answer of `born`.
 ghost use Rattle.std.specs.Prelude.{IsSome};
-ghost use Rattle.heap_region.specs.Regions.{object_at};
+ghost use Rattle.heap_world.specs.Regions.{object_at};
 ghost use Rattle.session_text.specs.Replies.{line_answer_text};
 ghost use Rattle.question_text.specs.Births.{IsBirthText, IsBornText};
 

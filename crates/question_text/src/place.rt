@@ -1,6 +1,6 @@
 //! Answers that name a place.
 ghost use Rattle.std.specs.Prelude.{◌≡◌, None, MatchOption};
-ghost use Rattle.heap_region.specs.Regions.{object_of};
+ghost use Rattle.heap_world.specs.Regions.{object_of};
 ghost use Rattle.session_text.specs.Replies.{line_answer_text};
 ghost use Rattle.question_text.specs.Places.{StandsAt, older_text, place_text};
 

@@ -1,7 +1,7 @@
 //! The answer of `wrote`.
 ghost use Rattle.std.specs.Prelude.{◌≡◌, IsSome};
 ghost use Rattle.std.specs.Option.{is_some};
-ghost use Rattle.heap_region.specs.Regions.{object_at};
+ghost use Rattle.heap_world.specs.Regions.{object_at};
 ghost use Rattle.heap_past.specs.Changes.{slot_word};
 ghost use Rattle.session_text.specs.Replies.{line_answer_text};
 ghost use Rattle.question_text.specs.Writes.{IsSlotText, IsWriteText, IsWroteText};

@@ -1,7 +1,7 @@
 use Rattle.std.proofs.Common.{◌≡◌, ◌∙◌, List, Some, None, ap, subst}
 use Rattle.std.specs.Prelude.{IsSome, MatchOption}
-use Rattle.heap_region.specs.Pool.{RegionPool}
-use Rattle.heap_region.specs.Regions.{Region, object_at, object_of, ref_of}
+use Rattle.heap_world.specs.Pool.{RegionPool}
+use Rattle.heap_world.specs.Regions.{Region, object_at, object_of, ref_of}
 use Rattle.heap_world.specs.State.{HeapState}
 use Rattle.question_text.proofs.place.place_of_object.Goals as goal
 

@@ -1,7 +1,7 @@
 use Rattle.std.proofs.Common.{◌≡◌, ◌∙◌, List, ap, subst, sym}
 use Rattle.std.specs.Prelude.{IfSome, IsSome}
-use Rattle.heap_region.specs.Pool.{RegionPool}
-use Rattle.heap_region.specs.Regions.{Region, object_at}
+use Rattle.heap_world.specs.Pool.{RegionPool}
+use Rattle.heap_world.specs.Regions.{Region, object_at}
 use Rattle.heap_world.specs.State.{HeapState}
 use Rattle.question_text.proofs.Slots.{mark_there, mark_none}
 use Rattle.question_text.proofs.show.is_marked.Goals as goal

@@ -1,7 +1,7 @@
 use Rattle.std.proofs.Common.{◌≡◌, ◌∙◌, List, length, ap, subst, sym}
 use Rattle.std.specs.Prelude.{IfSome, IsSome}
-use Rattle.heap_region.specs.Pool.{RegionPool}
-use Rattle.heap_region.specs.Regions.{Region, object_at}
+use Rattle.heap_world.specs.Pool.{RegionPool}
+use Rattle.heap_world.specs.Regions.{Region, object_at}
 use Rattle.heap_world.specs.State.{HeapState}
 use Rattle.question_text.proofs.Slots.{slot_there}
 use Rattle.question_text.proofs.write.has_slot.Goals as goal

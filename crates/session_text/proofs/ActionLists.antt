@@ -26,7 +26,7 @@ use Rattle.session_grammar.specs.Grammar.{command_of}
 use Rattle.session_text.specs.Laws.{InTurn, IsStop, ending_line, IsBegun, IsListed, IsCutListed}
 use Rattle.session_grammar.specs.Lines.{NoLf}
 use Rattle.session_text.specs.Replies.{reply_text, data_lines, piece_in, pin_in}
-use Rattle.session_text.specs.Session.{Talk, wrote, allocation_of, done_quietly, after_reply, pieces_dumped, after_open_reply, after_up_to, after_command, is_end, FitsRest, FitsDump, FitsOpen, FitsCommand, FitLines, at_end, at_long, talked, session_of, CutsLine, CutsEnd, CutsPage}
+use Rattle.session_text.specs.Session.{Talk, wrote, allocation_of, done_quietly, after_reply, pieces_dumped, after_open_reply, after_up_to, after_command, is_end, FitsRest, FitsDump, FitsOpen, FitsCommand, FitLines, at_read_end, at_long, talked, session_of, CutsLine, CutsEnd, CutsPage}
 use Rattle.session_text.specs.Talks.{IsLine, IsLong, AnswersAll, stream, IsQuit, BeginsWith}
 use Rattle.session_text.proofs.SessionCommands.{parts, talk, is_refused}
 use Rattle.session_text.proofs.SessionLines.{not_zero, line_then, alone, too_long, quits}
@@ -325,11 +325,11 @@ stop_listed time bytes m before t s stop l same is = record {
   written = is;
 }
 
-at_end_text : (e : ReadEnd) (b : Bool) (t : Talk) → ((at_end e b t).0.machine ≡ t.machine) × ((at_end e b t).0.written ≡ t.written ++ ending_line (at_end e b t).1)
-at_end_text Over true t = (refl, sym (append-nil t.written))
-at_end_text Over false t = (refl, refl)
-at_end_text Failed b t = (refl, refl)
-at_end_text Spent b t = (refl, refl)
+at_read_end_text : (e : ReadEnd) (b : Bool) (t : Talk) → ((at_read_end e b t).0.machine ≡ t.machine) × ((at_read_end e b t).0.written ≡ t.written ++ ending_line (at_read_end e b t).1)
+at_read_end_text Over true t = (refl, sym (append-nil t.written))
+at_read_end_text Over false t = (refl, refl)
+at_read_end_text Failed b t = (refl, refl)
+at_read_end_text Spent b t = (refl, refl)
 
 rest_stops : (time : ℕ) (e : ReadEnd) (rest : List ℕ) (m : Machine) (before : List (Action × Allocation)) (t : Talk) → NoLf rest → Leads m t.machine before → (b : Bool) → nat_lt 4096 (length rest) ≡ b → LinesListed time rest m before t (talked time e (parts rest) t)
 rest_stops time e rest m before t none l true h =
@@ -337,8 +337,8 @@ rest_stops time e rest m before t none l true h =
     subst (λ s. LinesListed time rest m before t s) (sym (too_long time e rest t long)) (stop_listed time rest m before t (at_long t) (inr (inr long)) l refl refl)
 rest_stops time e rest m before t none l false h =
     let line : IsLine rest = record { most = is_short (length rest) h; no_lf = none } in
-    let s = at_end e (length rest == 0) t in
-    let is = at_end_text e (length rest == 0) t in
+    let s = at_read_end e (length rest == 0) t in
+    let is = at_read_end_text e (length rest == 0) t in
     subst (λ s. LinesListed time rest m before t s) (sym (alone time e rest t line)) (stop_listed time rest m before t s (inl line) l is.0 is.1)
 
 -- the first line is answered, and then the others
@@ -421,11 +421,11 @@ record WholeListed (time : ℕ) (bytes rest : List ℕ) (m : Machine) (before : 
   fit : FitLines time (parts rest) t
 
 -- nothing is left before the rest
-end_whole : (time : ℕ) (left rest : List ℕ) (m : Machine) (before : List (Action × Allocation)) (u t : Talk) → Leads m u.machine before → FitLines time (parts (left ++ rest)) u → at_end Over (length left == 0) u ≡ (t, Eof) → WholeListed time left rest m before t
+end_whole : (time : ℕ) (left rest : List ℕ) (m : Machine) (before : List (Action × Allocation)) (u t : Talk) → Leads m u.machine before → FitLines time (parts (left ++ rest)) u → at_read_end Over (length left == 0) u ≡ (t, Eof) → WholeListed time left rest m before t
 end_whole time [] rest m before u t lead h eof =
     let same : u ≡ t = ap (λ (x : Talk × Ended). x.0) eof in
     record { lines = []; text = []; after = before; are = refl; talks = (refl, refl); leads = subst (λ (x : Talk). Leads m x.machine before) same lead; fit = subst (λ x. FitLines time (parts rest) x) same h }
-end_whole time (b ∷ bs) rest m before u t lead h eof = other_end t (at_end Over (length (b ∷ bs) == 0) u) eof (ap (λ x. is_eof (at_end Over x u).1) (not_zero (length (b ∷ bs)) (omega arith)))
+end_whole time (b ∷ bs) rest m before u t lead h eof = other_end t (at_read_end Over (length (b ∷ bs) == 0) u) eof (ap (λ x. is_eof (at_read_end Over x u).1) (not_zero (length (b ∷ bs)) (omega arith)))
 
 rest_whole : (time : ℕ) (left rest : List ℕ) (m : Machine) (before : List (Action × Allocation)) (u t : Talk) → NoLf left → Leads m u.machine before → FitLines time (parts (left ++ rest)) u → talked time Over (parts left) u ≡ (t, Eof) → (b : Bool) → nat_lt 4096 (length left) ≡ b
     → WholeListed time left rest m before t

@@ -20,7 +20,7 @@ use Rattle.session_text.specs.Dumps.{Dumps, ClosesAfter, total_line}
 use Rattle.dump_pump.specs.Sources.{part_limit}
 use Rattle.session_grammar.specs.Grammar.{command_of}
 use Rattle.session_text.specs.Replies.{reply_text, data_lines, piece_in, pin_in}
-use Rattle.session_text.specs.Session.{Talk, wrote, allocation_of, allocations_after, done_quietly, done, after_reply, pieces_dumped, closed, after_open_reply, after_up_to, after_command, go_on, FitsAction, FitsRest, FitsDump, FitsOpen, FitsCommand, FitLines, at_end, at_long, talked}
+use Rattle.session_text.specs.Session.{Talk, wrote, allocation_of, allocations_after, done_quietly, done, after_reply, pieces_dumped, closed, after_open_reply, after_up_to, after_command, go_on, FitsAction, FitsRest, FitsDump, FitsOpen, FitsCommand, FitLines, at_read_end, at_long, talked}
 use Rattle.session_text.proofs.SessionCommands.{talk, acts, done_so, moved, dumps_so, close_so, closed_at, goes_on, follows}
 use Rattle.dump_pump.proofs.LongerLists.{begins_then}
 
@@ -116,7 +116,7 @@ open_stays : (time : ℕ) (r : Reply) (o : Option ℕ) (t : Talk) → IsPrefix t
 open_stays time r None t = (reply_text r, refl)
 open_stays time r (Some pin) t = dump_stays part_limit pin time t 0
 
-end_stays : (e : ReadEnd) (b : Bool) (t : Talk) → IsPrefix t.written (at_end e b t).0.written
+end_stays : (e : ReadEnd) (b : Bool) (t : Talk) → IsPrefix t.written (at_read_end e b t).0.written
 end_stays Over true t = begins_itself t.written
 end_stays Over false t = (codes "bad cut\n", refl)
 end_stays Failed b t = (codes "bad read\n", refl)
@@ -137,7 +137,7 @@ on_stays more ih time End t = begins_itself t.written
 
 pub stays : (time : ℕ) (e : ReadEnd) (ls : List (List ℕ)) (t : Talk) → IsPrefix t.written (talked time e ls t).0.written
 stays time e [] t = end_stays e true t
-stays time e (l ∷ []) t = either_stays (nat_lt 4096 (length l)) t (at_end e (length l == 0) t) (end_stays e (length l == 0) t)
+stays time e (l ∷ []) t = either_stays (nat_lt 4096 (length l)) t (at_read_end e (length l == 0) t) (end_stays e (length l == 0) t)
 stays time e (l ∷ m ∷ ms) t = either_stays (nat_lt 4096 (length l)) t (go_on (talked time e (m ∷ ms)) time (command_of l) t) (on_stays (talked time e (m ∷ ms)) (λ u. stays time e (m ∷ ms) u) time (command_of l) t)
 
 -- ---- a dump of fewer pieces

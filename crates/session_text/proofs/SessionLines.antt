@@ -17,7 +17,7 @@ use Rattle.session_text.specs.Answers.{AnswersCommand, all_bad}
 use Rattle.session_grammar.specs.Grammar.{command_of}
 use Rattle.session_text.specs.Inlets.{Incoming}
 use Rattle.session_grammar.specs.Lines.{NoLf}
-use Rattle.session_text.specs.Session.{Talk, after_command, go_on, FitsCommand, FitLines, at_end, at_long, talked}
+use Rattle.session_text.specs.Session.{Talk, after_command, go_on, FitsCommand, FitLines, at_read_end, at_long, talked}
 use Rattle.session_text.specs.Talks.{IsLine, IsLong, AnswersAll, stream, IsQuit, EndsCleanly}
 use Rattle.session_text.proofs.SessionCommands.{is_lf, parts, talk, acts, goes_on, follows}
 
@@ -80,8 +80,8 @@ passes time (l ∷ ls) c text d t =
 
 -- ---- endings
 
-pub alone : (time : ℕ) (e : ReadEnd) (rest : List ℕ) (t : Talk) → IsLine rest → talked time e (parts rest) t ≡ at_end e (length rest == 0) t
-alone time e rest t h = ap (λ ls. talked time e ls t) (slice_split_none is_lf rest h.no_lf) ∙ ap (λ b. if b then at_long t else at_end e (length rest == 0) t) (not_long (length rest) h.most)
+pub alone : (time : ℕ) (e : ReadEnd) (rest : List ℕ) (t : Talk) → IsLine rest → talked time e (parts rest) t ≡ at_read_end e (length rest == 0) t
+alone time e rest t h = ap (λ ls. talked time e ls t) (slice_split_none is_lf rest h.no_lf) ∙ ap (λ b. if b then at_long t else at_read_end e (length rest == 0) t) (not_long (length rest) h.most)
 
 -- the first part, and the others
 record HasFirst (ls : List (List ℕ)) (n : ℕ) : Type 0 where
@@ -108,7 +108,7 @@ first_part (suc n) (x ∷ xs) h none =
     }
 
 long_first : (time : ℕ) (e : ReadEnd) (l : List ℕ) (ls : List (List ℕ)) (t : Talk) → 4096 < length l → talked time e (l ∷ ls) t ≡ at_long t
-long_first time e l [] t h = ap (λ b. if b then at_long t else at_end e (length l == 0) t) (long (length l) h)
+long_first time e l [] t h = ap (λ b. if b then at_long t else at_read_end e (length l == 0) t) (long (length l) h)
 long_first time e l (m ∷ ms) t h = ap (λ b. if b then at_long t else go_on (talked time e (m ∷ ms)) time (command_of l) t) (long (length l) h)
 
 pub too_long : (time : ℕ) (e : ReadEnd) (rest : List ℕ) (t : Talk) → IsLong rest → talked time e (parts rest) t ≡ at_long t
@@ -134,9 +134,9 @@ pub closes_so : (time : ℕ) (e : ReadEnd) (rest : List ℕ) (a b : Incoming) (e
     → talked time e (parts rest) (talk m ms w) ≡ (talk m ms (w ++ tail), ended)
 closes_so time e rest a b Quit tail m ms w f h = quits time e rest (talk m ms w) h.0 ∙ ap (λ l. (talk m ms l, Quit)) (sym (append-nil w) ∙ ap (λ l. w ++ l) (sym h.1))
 closes_so time e rest a b Eof tail m ms w f h = (λ i. talked time (f i) (parts (h.0 i)) (talk m ms w)) ∙ ap (λ l. (talk m ms l, Eof)) (sym (append-nil w) ∙ ap (λ l. w ++ l) (sym h.2))
-closes_so time e rest a b CutLine tail m ms w f h = alone time e rest (talk m ms w) h.0 ∙ (let z = not_zero (length rest) h.1 in λ i. at_end (f i) (z i) (talk m ms w)) ∙ ap (λ l. (talk m ms (w ++ l), CutLine)) (sym h.3)
+closes_so time e rest a b CutLine tail m ms w f h = alone time e rest (talk m ms w) h.0 ∙ (let z = not_zero (length rest) h.1 in λ i. at_read_end (f i) (z i) (talk m ms w)) ∙ ap (λ l. (talk m ms (w ++ l), CutLine)) (sym h.3)
 closes_so time e rest a b TooLong tail m ms w f h = too_long time e rest (talk m ms w) h.0 ∙ ap (λ l. (talk m ms (w ++ l), TooLong)) (sym h.1)
-closes_so time e rest a b ReadFault tail m ms w f h = alone time e rest (talk m ms w) h.0 ∙ ap (λ x. at_end x (length rest == 0) (talk m ms w)) f ∙ ap (λ l. (talk m ms (w ++ l), ReadFault)) (sym h.1)
-closes_so time e rest a b TooManyReads tail m ms w f h = alone time e rest (talk m ms w) h.0 ∙ ap (λ x. at_end x (length rest == 0) (talk m ms w)) f ∙ ap (λ l. (talk m ms (w ++ l), TooManyReads)) (sym h.2)
+closes_so time e rest a b ReadFault tail m ms w f h = alone time e rest (talk m ms w) h.0 ∙ ap (λ x. at_read_end x (length rest == 0) (talk m ms w)) f ∙ ap (λ l. (talk m ms (w ++ l), ReadFault)) (sym h.1)
+closes_so time e rest a b TooManyReads tail m ms w f h = alone time e rest (talk m ms w) h.0 ∙ ap (λ x. at_read_end x (length rest == 0) (talk m ms w)) f ∙ ap (λ l. (talk m ms (w ++ l), TooManyReads)) (sym h.2)
 closes_so time e rest a b WriteFault tail m ms w f h = absurd h
 closes_so time e rest a b NoRoom tail m ms w f h = absurd h

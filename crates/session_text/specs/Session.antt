@@ -114,11 +114,11 @@ abbrev pub go_on : (Talk → Talk × Ended) → ℕ → Command → Talk → Tal
 go_on more time k t = if is_end k then (t, Quit) else more (after_command time k t)
 
 -- after the last LF: how reading ended, and whether no bytes are left
-abbrev pub at_end : ReadEnd → Bool → Talk → Talk × Ended
-at_end Over true t = (t, Eof)
-at_end Over false t = (wrote (codes "bad cut\n") t, CutLine)
-at_end Failed none t = (wrote (codes "bad read\n") t, ReadFault)
-at_end Spent none t = (wrote (codes "bad reads\n") t, TooManyReads)
+abbrev pub at_read_end : ReadEnd → Bool → Talk → Talk × Ended
+at_read_end Over true t = (t, Eof)
+at_read_end Over false t = (wrote (codes "bad cut\n") t, CutLine)
+at_read_end Failed none t = (wrote (codes "bad read\n") t, ReadFault)
+at_read_end Spent none t = (wrote (codes "bad reads\n") t, TooManyReads)
 
 -- after a line that is too long
 abbrev pub at_long : Talk → Talk × Ended
@@ -126,9 +126,9 @@ at_long t = (wrote (codes "bad long\n") t, TooLong)
 
 -- the lines, of which the last has no LF
 abbrev pub talked : ℕ → ReadEnd → List (List ℕ) → Talk → Talk × Ended
-talked time e [] t = at_end e true t
+talked time e [] t = at_read_end e true t
 talked time e (rest ∷ []) t =
-    if nat_lt LINE_LIMIT (length rest) then at_long t else at_end e (length rest == 0) t
+    if nat_lt LINE_LIMIT (length rest) then at_long t else at_read_end e (length rest == 0) t
 talked time e (l ∷ m ∷ more) t =
     if nat_lt LINE_LIMIT (length l) then at_long t
     else go_on (talked time e (m ∷ more)) time (command_of l) t

@@ -13,11 +13,11 @@ ghost use Rattle.session_grammar.specs.declared.TheConstants.{LINE_LIMIT};
 use crate::act::answer_action;
 use crate::buffer::Buffer;
 use crate::commands::{Commands, LineAnswer};
+use crate::context::Context;
 use crate::dump::{write_dump, write_dump_now};
 use crate::mutator::{Quick, answer_mutator};
 use crate::page::Page;
 use crate::reply::write_reply;
-use crate::terms::Terms;
 use crate::write::{write_long, write_number_line, write_text};
 use dump_pump::Outlet;
 use heap_class::Refusal;
@@ -83,7 +83,7 @@ fn answer_unknown<O: Outlet, C: Commands>(
 // Adds the answer to a line without its CR to a page, which is flushed whenever it is full.
 #[inline(never)]
 fn answer_text<O: Outlet, C: Commands>(
-    terms: Terms,
+    context: Context,
     marks: &mut FieldSpans,
     text: &[u8],
     page: &mut Page,
@@ -91,32 +91,45 @@ fn answer_text<O: Outlet, C: Commands>(
     commands: &mut C,
 ) -> Flow
     requires { length text.now ≤ LINE_LIMIT }
-    ensures { IsLineFlow (AnswersTo C.acts (C.unknown text.now) terms.time (command_of_text text.now))
-        (BeginsTo C.acts (C.unknown text.now) terms.time (command_of_text text.now))
+    ensures { IsLineFlow
+        (AnswersTo C.acts (C.unknown text.now) context.time (command_of_text text.now))
+        (BeginsTo C.acts (C.unknown text.now) context.time (command_of_text text.now))
         (command_of_text text.now) commands.old page.old (O.seen writer.old) commands.new page.new
         (O.seen writer.new) result }
 {
-    match command_of_text(terms.alloc, marks, text) {
+    match command_of_text(context.alloc, marks, text) {
         Err(_) => next_unless(write_reply(page, writer, &Reply::Refused(Refusal::NoMemory))),
         Ok(Command::Blank) => Flow::Next,
-        Ok(Command::Bad) => next_unless(answer_unknown(terms.alloc, text, page, writer, commands)),
+        Ok(Command::Bad) => next_unless(answer_unknown(
+            context.alloc,
+            text,
+            page,
+            writer,
+            commands,
+        )),
         Ok(Command::Ask(action)) => next_unless(answer_action(action, page, writer, commands)),
         Ok(Command::Piece(pin)) => {
             let action = Action::NextPiece {
                 pin,
-                time: terms.time,
+                time: context.time,
             };
             next_unless(answer_action(action, page, writer, commands))
         }
-        Ok(Command::Dump(pin)) => next_unless(write_dump(page, writer, commands, pin, terms.time)),
-        Ok(Command::DumpNow) => next_unless(write_dump_now(page, writer, commands, terms.time)),
+        Ok(Command::Dump(pin)) => next_unless(write_dump(
+            page,
+            writer,
+            commands,
+            pin,
+            context.time,
+        )),
+        Ok(Command::DumpNow) => next_unless(write_dump_now(page, writer, commands, context.time)),
         Ok(Command::End) => Flow::Quit,
     }
 }
 
 // Adds the answer to a line to a page, which is flushed whenever it is full.
 fn answer_line<O: Outlet, C: Commands>(
-    terms: Terms,
+    context: Context,
     marks: &mut FieldSpans,
     line: &[u8],
     page: &mut Page,
@@ -124,25 +137,26 @@ fn answer_line<O: Outlet, C: Commands>(
     commands: &mut C,
 ) -> Flow
     requires { length line.now ≤ LINE_LIMIT }
-    ensures { IsLineFlow (AnswersCommand C.acts C.unknown terms.time line.now)
-        (Begins C.acts C.unknown terms.time line.now) (command_of line.now) commands.old page.old
+    ensures { IsLineFlow (AnswersCommand C.acts C.unknown context.time line.now)
+        (Begins C.acts C.unknown context.time line.now) (command_of line.now) commands.old page.old
         (O.seen writer.old) commands.new page.new (O.seen writer.new) result }
 {
-    answer_text(terms, marks, without_cr(line), page, writer, commands)
+    answer_text(context, marks, without_cr(line), page, writer, commands)
 }
 
 // Answers the first line of a buffer if it is whole, and adds the answer to a page, which is flushed whenever it is full.
 // Returns None if no line is whole.
 #[inline(never)]
 fn answer_first<O: Outlet, C: Commands>(
-    terms: Terms,
+    context: Context,
     marks: &mut FieldSpans,
     buffer: &mut Buffer,
     page: &mut Page,
     writer: &mut O,
     commands: &mut C,
 ) -> Option<Flow>
-    ensures { IsFirst (AnswersCommand C.acts C.unknown terms.time) (Begins C.acts C.unknown terms.time)
+    ensures { IsFirst (AnswersCommand C.acts C.unknown context.time)
+        (Begins C.acts C.unknown context.time)
         buffer.old commands.old page.old (O.seen writer.old) buffer.new commands.new page.new
         (O.seen writer.new) result }
 {
@@ -156,7 +170,7 @@ fn answer_first<O: Outlet, C: Commands>(
         return Some(Flow::Long);
     }
     let line = &buffer.as_slice()[..n];
-    match answer_line(terms, marks, line, page, writer, commands) {
+    match answer_line(context, marks, line, page, writer, commands) {
         Flow::Next => buffer.pass(n + 1),
         Flow::Quit => return Some(Flow::Quit),
         Flow::Long => return Some(Flow::Long),
@@ -168,7 +182,7 @@ fn answer_first<O: Outlet, C: Commands>(
 /// Answers the whole lines of a buffer, up to the first that is too long, and adds their answers to an empty page, which is
 /// flushed whenever it is full.
 pub fn answer_lines<O: Outlet, C: Commands>(
-    terms: Terms,
+    context: Context,
     marks: &mut FieldSpans,
     buffer: &mut Buffer,
     page: &mut Page,
@@ -176,7 +190,8 @@ pub fn answer_lines<O: Outlet, C: Commands>(
     commands: &mut C,
 ) -> Flow
     requires { page.old ≡ [] }
-    ensures { AreLinesAnswered (AnswersCommand C.acts C.unknown terms.time) (Begins C.acts C.unknown terms.time)
+    ensures { AreLinesAnswered (AnswersCommand C.acts C.unknown context.time)
+        (Begins C.acts C.unknown context.time)
         buffer.old commands.old (O.seen writer.old) buffer.new commands.new page.new
         (O.seen writer.new) result }
 {
@@ -185,7 +200,7 @@ pub fn answer_lines<O: Outlet, C: Commands>(
             (Quick::Next, n) => buffer.pass(n + 1),
             (Quick::Fault, _) => return Flow::Fault,
             (Quick::No, _) => {
-                match answer_first(terms, marks, buffer, page, writer, commands) {
+                match answer_first(context, marks, buffer, page, writer, commands) {
                     None => return Flow::Next,
                     Some(Flow::Next) => {}
                     Some(Flow::Quit) => return Flow::Quit,

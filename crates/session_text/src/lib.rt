@@ -11,6 +11,7 @@ mod act;
 mod answer;
 mod buffer;
 pub mod commands;
+mod context;
 mod data;
 mod digits;
 mod dump;
@@ -20,7 +21,6 @@ mod page;
 pub mod read_inlet;
 mod reply;
 mod talk;
-mod terms;
 mod write;
 
 pub use commands::{Commands, LineAnswer, Local};

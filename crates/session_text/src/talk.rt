@@ -9,9 +9,9 @@ ghost use Rattle.session_text.specs.declared.write.TheConstants.{TEXT_LIMIT};
 use crate::answer::{Flow, answer_lines};
 use crate::buffer::Buffer;
 use crate::commands::{Commands, Local};
+use crate::context::Context;
 use crate::inlet::{Inlet, Take};
 use crate::page::Page;
-use crate::terms::Terms;
 use crate::write::{flush, write_text};
 use crate::{Ended, READ_LIMIT};
 use dump_pump::Outlet;
@@ -34,7 +34,7 @@ fn end_with<O: Outlet>(page: &mut Page, outlet: &mut O, ended: Ended, line: &[u8
 
 // Reads and answers lines until an ending, with an empty buffer and an empty page.
 fn talk<I: Inlet, O: Outlet, C: Commands>(
-    terms: Terms,
+    context: Context,
     marks: &mut FieldSpans,
     buffer: &mut Buffer,
     page: &mut Page,
@@ -43,13 +43,14 @@ fn talk<I: Inlet, O: Outlet, C: Commands>(
     commands: &mut C,
 ) -> Ended
     requires { (buffer.old ≡ []) × (page.old ≡ []) }
-    ensures { Serves (AnswersCommand C.acts C.unknown terms.time) (Begins C.acts C.unknown terms.time)
+    ensures { Serves (AnswersCommand C.acts C.unknown context.time)
+        (Begins C.acts C.unknown context.time)
         (I.seen reader.old) (I.seen reader.new) commands.old (O.seen writer.old) commands.new
         (O.seen writer.new) result }
 {
     let mut reads: u64 = 0;
     loop {
-        match answer_lines(terms, marks, buffer, page, writer, commands) {
+        match answer_lines(context, marks, buffer, page, writer, commands) {
             Flow::Next => {}
             Flow::Quit => return end_with(page, writer, Ended::Quit, b""),
             Flow::Long => return end_with(page, writer, Ended::TooLong, b"bad long\n"),
@@ -96,7 +97,7 @@ pub fn serve<I: Inlet, O: Outlet, C: Commands>(
     match (Buffer::new(alloc), Page::new(alloc), FieldSpans::new(alloc)) {
         (Ok(mut buffer), Ok(mut page), Ok(mut marks)) => {
             talk(
-                Terms { alloc, time },
+                Context { alloc, time },
                 &mut marks,
                 &mut buffer,
                 &mut page,

@@ -30,6 +30,6 @@ returns g c =
     let less : length c.pass.new.self < length bytes = omega (arith, ap (λ l. length l) rest, length-drop (n + 1) bytes, at.0) in (
       less,
       e.0,
-      line_answered (AnswersCommand g.C.Commands.acts g.C.Commands.unknown c.args.terms.time) bytes c.as_slice-2.result.now c.pass.new.self n c.args.commands.now e.0 c.answer_line.new.commands (c.as_slice-2.ensures ∙ same) rest most at e.1,
+      line_answered (AnswersCommand g.C.Commands.acts g.C.Commands.unknown c.args.context.time) bytes c.as_slice-2.result.now c.pass.new.self n c.args.commands.now e.0 c.answer_line.new.commands (c.as_slice-2.ensures ∙ same) rest most at e.1,
       e.2,
     )

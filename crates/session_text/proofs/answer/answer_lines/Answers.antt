@@ -11,12 +11,12 @@ use Rattle.session_text.proofs.answer.answer_lines.Goals as goal
 
 pub loop-n-init : goal.loop-n-init
 loop-n-init g c =
-    ([], talk_none (AnswersCommand g.C.Commands.acts g.C.Commands.unknown c.args.terms.time) c.args.buffer.now c.args.commands.now, added_here [] [] (g.O.Outlet.seen c.args.writer.now) c.args.page.now c.requires)
+    ([], talk_none (AnswersCommand g.C.Commands.acts g.C.Commands.unknown c.args.context.time) c.args.buffer.now c.args.commands.now, added_here [] [] (g.O.Outlet.seen c.args.writer.now) c.args.page.now c.requires)
 
 pub loop-n-preserved-in-Next-default : goal.loop-n-preserved-in-Next-default
 loop-n-preserved-in-Next-default g c =
     let i = c.loop-n.invariant in
-    let says = AnswersCommand g.C.Commands.acts g.C.Commands.unknown c.args.terms.time in
+    let says = AnswersCommand g.C.Commands.acts g.C.Commands.unknown c.args.context.time in
     let bytes = c.loop-n.buffer in
     let s = c.as_slice.result.now in
     let n = c.answer_mutator.result.1 in
@@ -25,7 +25,7 @@ loop-n-preserved-in-Next-default g c =
     let w0 = g.O.Outlet.seen c.args.writer.now in
     let w1 = g.O.Outlet.seen c.loop-n.writer in
     let w2 = g.O.Outlet.seen c.answer_mutator.new.writer in
-    let q = quick_next g.C.Commands.acts g.C.Commands.unknown c.args.terms.time s c.answer_mutator.result.0 n before c.loop-n.page w1 after c.answer_mutator.new.page w2 c.in-Next-default.is-0 c.answer_mutator.ensures in
+    let q = quick_next g.C.Commands.acts g.C.Commands.unknown c.args.context.time s c.answer_mutator.result.0 n before c.loop-n.page w1 after c.answer_mutator.new.page w2 c.in-Next-default.is-0 c.answer_mutator.ensures in
     let e = q.1 in
     let at = subst (λ l. IsLineAt n l) c.as_slice.ensures q.0.0 in
     let t = line_answered says bytes s c.pass.new.self n before e.0 after c.as_slice.ensures c.pass.ensures q.0.1 at e.1 in (
@@ -44,7 +44,7 @@ returns-in-Fault-default g c =
     let w0 = g.O.Outlet.seen c.args.writer.now in
     let w1 = g.O.Outlet.seen c.loop-n.writer in
     let w2 = g.O.Outlet.seen c.answer_mutator.new.writer in
-    let q = quick_fault g.C.Commands.acts g.C.Commands.unknown c.args.terms.time s c.answer_mutator.result.0 n before c.loop-n.page w1 after c.answer_mutator.new.page w2 c.in-Fault-default.is-0 c.answer_mutator.ensures in
+    let q = quick_fault g.C.Commands.acts g.C.Commands.unknown c.args.context.time s c.answer_mutator.result.0 n before c.loop-n.page w1 after c.answer_mutator.new.page w2 c.in-Fault-default.is-0 c.answer_mutator.ensures in
     let e = q.1 in
     let at = subst (λ l. IsLineAt n l) c.as_slice.ensures q.0.0 in
     let cut = added_more i.0 e.0 [] w0 c.loop-n.page w1 c.answer_mutator.new.page w2 false i.2 e.2 in (
@@ -52,15 +52,15 @@ returns-in-Fault-default g c =
       i.0,
       before,
       i.1,
-      line_broken (Begins g.C.Commands.acts g.C.Commands.unknown c.args.terms.time) i.0 c.loop-n.buffer s n before e.0 after w0 w2 c.as_slice.ensures q.0.1 at e.1 cut,
+      line_broken (Begins g.C.Commands.acts g.C.Commands.unknown c.args.context.time) i.0 c.loop-n.buffer s n before e.0 after w0 w2 c.as_slice.ensures q.0.1 at e.1 cut,
     )
 
 pub loop-n-preserved : goal.loop-n-preserved
 loop-n-preserved g c =
     let i = c.loop-n.invariant in
     let acts = g.C.Commands.acts in
-    let says = AnswersCommand acts g.C.Commands.unknown c.args.terms.time in
-    let begins = Begins acts g.C.Commands.unknown c.args.terms.time in
+    let says = AnswersCommand acts g.C.Commands.unknown c.args.context.time in
+    let begins = Begins acts g.C.Commands.unknown c.args.context.time in
     let bytes = c.loop-n.buffer in
     let rest = c.answer_first.new.buffer in
     let before = c.loop-n.commands in
@@ -81,8 +81,8 @@ pub returns-in-Some-Fault : goal.returns-in-Some-Fault
 returns-in-Some-Fault g c =
     let i = c.loop-n.invariant in
     let acts = g.C.Commands.acts in
-    let says = AnswersCommand acts g.C.Commands.unknown c.args.terms.time in
-    let begins = Begins acts g.C.Commands.unknown c.args.terms.time in
+    let says = AnswersCommand acts g.C.Commands.unknown c.args.context.time in
+    let begins = Begins acts g.C.Commands.unknown c.args.context.time in
     let bytes = c.loop-n.buffer in
     let rest = c.answer_first.new.buffer in
     let before = c.loop-n.commands in

@@ -6,7 +6,7 @@ use Rattle.session_text.proofs.answer.answer_lines.Given as goal
 
 abbrev pub invariant-loop-n : goal.invariant-loop-n
 invariant-loop-n g l =
-    (text : List ℕ) × IsTalk (AnswersCommand g.C.Commands.acts g.C.Commands.unknown l.terms.time) l.initial.buffer l.initial.commands l.buffer text l.commands
+    (text : List ℕ) × IsTalk (AnswersCommand g.C.Commands.acts g.C.Commands.unknown l.context.time) l.initial.buffer l.initial.commands l.buffer text l.commands
     × IsTextAdded text [] (g.O.Outlet.seen l.initial.writer) l.page (g.O.Outlet.seen l.writer) true
 
 abbrev pub decreases-loop-n : goal.decreases-loop-n

@@ -13,7 +13,7 @@ use Rattle.session_text.proofs.talk.talk.Goals as goal
 pub loop-page-init : goal.loop-page-init
 loop-page-init g c = (
   c.requires.1,
-  open_none (AnswersCommand g.C.Commands.acts g.C.Commands.unknown c.args.terms.time) (g.I.Inlet.seen c.args.reader.now) c.args.buffer.now c.args.commands.now (g.O.Outlet.seen c.args.writer.now) c.requires.0,
+  open_none (AnswersCommand g.C.Commands.acts g.C.Commands.unknown c.args.context.time) (g.I.Inlet.seen c.args.reader.now) c.args.buffer.now c.args.commands.now (g.O.Outlet.seen c.args.writer.now) c.requires.0,
   inl (c.requires.0, refl),
 )
 
@@ -21,16 +21,16 @@ pub returns-in-Fault : goal.returns-in-Fault
 returns-in-Fault g c =
     let e = c.in-Fault.ensures in
     let i = c.loop-page.invariant in
-    let says = AnswersCommand g.C.Commands.acts g.C.Commands.unknown c.args.terms.time in
-    let begins = Begins g.C.Commands.acts g.C.Commands.unknown c.args.terms.time in
+    let says = AnswersCommand g.C.Commands.acts g.C.Commands.unknown c.args.context.time in
+    let begins = Begins g.C.Commands.acts g.C.Commands.unknown c.args.context.time in
     ends_failing says begins _ _ _ _ _ _ _ _ c.answer_lines.new.commands (g.O.Outlet.seen c.answer_lines.new.writer) i.1 i.2 (e.0, e.1, e.2, e.3, inl (e.4, i.1.no_fault))
 
 pub returns-in-Quit : goal.returns-in-Quit
 returns-in-Quit g c =
     let e = c.in-Quit.ensures in
     let i = c.loop-page.invariant in
-    let says = AnswersCommand g.C.Commands.acts g.C.Commands.unknown c.args.terms.time in
-    let begins = Begins g.C.Commands.acts g.C.Commands.unknown c.args.terms.time in
+    let says = AnswersCommand g.C.Commands.acts g.C.Commands.unknown c.args.context.time in
+    let begins = Begins g.C.Commands.acts g.C.Commands.unknown c.args.context.time in
     let first = g.I.Inlet.seen c.args.reader.now in
     let a = g.I.Inlet.seen c.loop-page.reader in
     let left = c.answer_lines.new.buffer in
@@ -47,8 +47,8 @@ pub returns-in-Long : goal.returns-in-Long
 returns-in-Long g c =
     let e = c.in-Long.ensures in
     let i = c.loop-page.invariant in
-    let says = AnswersCommand g.C.Commands.acts g.C.Commands.unknown c.args.terms.time in
-    let begins = Begins g.C.Commands.acts g.C.Commands.unknown c.args.terms.time in
+    let says = AnswersCommand g.C.Commands.acts g.C.Commands.unknown c.args.context.time in
+    let begins = Begins g.C.Commands.acts g.C.Commands.unknown c.args.context.time in
     let first = g.I.Inlet.seen c.args.reader.now in
     let a = g.I.Inlet.seen c.loop-page.reader in
     let left = c.answer_lines.new.buffer in
@@ -65,8 +65,8 @@ pub returns-then-reads-eq-READ_LIMIT : goal.returns-then-reads-eq-READ_LIMIT
 returns-then-reads-eq-READ_LIMIT g c =
     let e = c.in-Next.ensures in
     let i = c.loop-page.invariant in
-    let says = AnswersCommand g.C.Commands.acts g.C.Commands.unknown c.args.terms.time in
-    let begins = Begins g.C.Commands.acts g.C.Commands.unknown c.args.terms.time in
+    let says = AnswersCommand g.C.Commands.acts g.C.Commands.unknown c.args.context.time in
+    let begins = Begins g.C.Commands.acts g.C.Commands.unknown c.args.context.time in
     let first = g.I.Inlet.seen c.args.reader.now in
     let a = g.I.Inlet.seen c.loop-page.reader in
     let left = c.answer_lines.new.buffer in
@@ -84,8 +84,8 @@ pub returns-then-not-flush : goal.returns-then-not-flush
 returns-then-not-flush g c =
     let e = c.in-Next.ensures in
     let i = c.loop-page.invariant in
-    let says = AnswersCommand g.C.Commands.acts g.C.Commands.unknown c.args.terms.time in
-    let begins = Begins g.C.Commands.acts g.C.Commands.unknown c.args.terms.time in
+    let says = AnswersCommand g.C.Commands.acts g.C.Commands.unknown c.args.context.time in
+    let begins = Begins g.C.Commands.acts g.C.Commands.unknown c.args.context.time in
     let f = c.if-not-flush.ensures in
     let w0 = g.O.Outlet.seen c.loop-page.writer in
     let w2 = g.O.Outlet.seen c.flush.new.outlet in
@@ -97,7 +97,7 @@ loop-page-preserved g c =
     let e = c.in-Next.ensures in
     let i = c.loop-page.invariant in
     let r = c.in-Got.ensures in
-    let says = AnswersCommand g.C.Commands.acts g.C.Commands.unknown c.args.terms.time in
+    let says = AnswersCommand g.C.Commands.acts g.C.Commands.unknown c.args.context.time in
     let f = c.if-not-flush.ensures in
     let w0 = g.O.Outlet.seen c.loop-page.writer in
     let w1 = g.O.Outlet.seen c.flush.new.outlet in
@@ -115,8 +115,8 @@ returns-in-End g c =
     let e = c.in-Next.ensures in
     let i = c.loop-page.invariant in
     let r = c.in-End.ensures in
-    let says = AnswersCommand g.C.Commands.acts g.C.Commands.unknown c.args.terms.time in
-    let begins = Begins g.C.Commands.acts g.C.Commands.unknown c.args.terms.time in
+    let says = AnswersCommand g.C.Commands.acts g.C.Commands.unknown c.args.context.time in
+    let begins = Begins g.C.Commands.acts g.C.Commands.unknown c.args.context.time in
     let f = c.if-not-flush.ensures in
     let w0 = g.O.Outlet.seen c.loop-page.writer in
     let w1 = g.O.Outlet.seen c.flush.new.outlet in
@@ -130,8 +130,8 @@ returns-in-End-2 g c =
     let e = c.in-Next.ensures in
     let i = c.loop-page.invariant in
     let r = c.in-End.ensures in
-    let says = AnswersCommand g.C.Commands.acts g.C.Commands.unknown c.args.terms.time in
-    let begins = Begins g.C.Commands.acts g.C.Commands.unknown c.args.terms.time in
+    let says = AnswersCommand g.C.Commands.acts g.C.Commands.unknown c.args.context.time in
+    let begins = Begins g.C.Commands.acts g.C.Commands.unknown c.args.context.time in
     let f = c.if-not-flush.ensures in
     let w0 = g.O.Outlet.seen c.loop-page.writer in
     let w1 = g.O.Outlet.seen c.flush.new.outlet in
@@ -154,8 +154,8 @@ returns-in-Failed g c =
     let e = c.in-Next.ensures in
     let i = c.loop-page.invariant in
     let r = c.in-Failed.ensures in
-    let says = AnswersCommand g.C.Commands.acts g.C.Commands.unknown c.args.terms.time in
-    let begins = Begins g.C.Commands.acts g.C.Commands.unknown c.args.terms.time in
+    let says = AnswersCommand g.C.Commands.acts g.C.Commands.unknown c.args.context.time in
+    let begins = Begins g.C.Commands.acts g.C.Commands.unknown c.args.context.time in
     let f = c.if-not-flush.ensures in
     let w0 = g.O.Outlet.seen c.loop-page.writer in
     let w1 = g.O.Outlet.seen c.flush.new.outlet in

@@ -21,71 +21,12 @@ TOP = pathlib.Path(__file__).resolve().parent.parent
 sys.path.append(str(TOP / "clients/python"))
 
 from heapdbg import Refused, Session  # noqa: E402
+from served import LIMIT, Server, all_of, exchanged, free_port  # noqa: E402
 
 EXAMPLE = (TOP / "examples/point.session").read_bytes()
-LIMIT = 20
 STEP = 1
 RESET = struct.pack("ii", 1, 0)
 ENDINGS = {"quit", "eof", "cut", "read", "write"}
-
-
-def free_port():
-    """Returns a port that was free."""
-    with socket.create_server(("127.0.0.1", 0)) as found:
-        return found.getsockname()[1]
-
-
-class Server:
-    """A `serve` of the program, with so many sessions, on a port that was free."""
-
-    def __init__(self, program, sessions, *options):
-        self.port = free_port()
-        words = ["heapdbg", "serve", "--port", str(self.port), "--sessions", str(sessions), *options]
-        self.run = subprocess.Popen(words, executable=program, stdout=subprocess.PIPE, stderr=subprocess.PIPE)
-
-    def client(self):
-        """Returns a connection, once the server listens."""
-        for _ in range(LIMIT * 100):
-            with contextlib.suppress(ConnectionRefusedError):
-                return socket.create_connection(("127.0.0.1", self.port), LIMIT)
-            with contextlib.suppress(subprocess.TimeoutExpired):
-                self.run.wait(0.01)
-                break
-        raise TimeoutError("the server doesn't listen")
-
-    def session(self):
-        """Returns a session of a client."""
-        client = self.client()
-        return Session(client.makefile("rb"), client.makefile("wb"), client.close)
-
-    def ended(self):
-        """Returns status, the words of the sessions in order, and standard error, once all sessions have ended."""
-        out, error = self.run.communicate(timeout=LIMIT)
-        lines = [line.split(" ") for line in out.decode().splitlines()]
-        numbers = [line[:-1] for line in lines]
-        assert numbers == [["session", str(n + 1)] for n in range(len(lines))], out
-        return self.run.returncode, [line[-1] for line in lines], error
-
-    def __enter__(self):
-        return self
-
-    def __exit__(self, *_):
-        self.run.kill()
-        self.run.communicate()
-
-
-def all_of(client):
-    """Returns all that comes until the other side closes."""
-    with client.makefile("rb") as come:
-        return come.read()
-
-
-def exchanged(server, given):
-    """Sends bytes from a new client, which then reads all answers."""
-    with server.client() as client:
-        client.sendall(given)
-        client.shutdown(socket.SHUT_WR)
-        return all_of(client)
 
 
 def replies(program, given):

@@ -21,7 +21,7 @@ pub enum Deed {
     Move,
     /// A mutator and a register.
     Clear,
-    /// The begin of a cycle.
+    /// The beginning of a cycle.
     Snap,
     /// A mark of the object on top of the gray stack.
     Mark,

@@ -10,6 +10,6 @@ pub enum Sight {
     Seen(LinkedList<(Action, Reply)>),
     /// All calls and the first ones, while they are compared.
     Both(LinkedList<(Action, Reply)>, LinkedList<(Action, Reply)>),
-    /// None.
+    /// No calls.
     Blind,
 }

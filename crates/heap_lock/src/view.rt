@@ -4,12 +4,12 @@ use std::collections::LinkedList;
 
 /// The lists that a table's views have. No value of this type is made.
 pub enum SeatView {
-    /// Those of both sides.
+    /// The lists of the book and of the share.
     Whole(LinkedList<(u64, Entry)>, LinkedList<(u64, Entry)>),
-    /// That of the book.
+    /// The list of the book.
     Book(LinkedList<(u64, Entry)>),
-    /// That of the share.
+    /// The list of the share.
     Share(LinkedList<(u64, Entry)>),
-    /// None.
+    /// No list.
     Spent,
 }

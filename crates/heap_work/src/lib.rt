@@ -58,13 +58,13 @@ pub enum SweepEnd {
 /// What a mark worker does next.
 #[derive(Clone, Copy, PartialEq, Eq, Debug)]
 pub enum Stage {
-    /// It begins a cycle.
+    /// Begins a cycle.
     Snap,
-    /// It looks into the object on top of the gray stack.
+    /// Looks into the object on top of the gray stack.
     Mark,
-    /// It looks at the next entry of the log.
+    /// Looks at the next entry of the log.
     Drain,
-    /// It ends the cycle.
+    /// Ends the cycle.
     Finish,
 }
 

@@ -75,7 +75,8 @@ pub fn audit_all<L: Heap, R: Wait>(actors: &[Actor<'_, L, R>]) -> Result<Totals,
     ensures stand { IfOk result
         (λ _. All (λ a. IsAudited L.config L.rolls a.claims Holds) actors.now) }
     ensures refused { IfErr result
-        (λ v. (v ≢ Holds) × (a : _) × Contains actors.now a × IsAudited L.config L.rolls a.claims v) }
+        (λ v. (v ≢ Holds) × (a : _) × Contains actors.now a
+        × IsAudited L.config L.rolls a.claims v) }
 {
     let mut claims = 0usize;
     let mut made = 0usize;

@@ -111,7 +111,7 @@ impl Chronicle {
     }
 
     /// Returns how many of the first entries were dropped.
-    pub fn dropped(&self) -> usize
+    pub fn dropped_count(&self) -> usize
         ensures { result ≡ dropped_of self.now.rolls (length self.now.entries) }
     {
         self.dropped

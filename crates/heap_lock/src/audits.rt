@@ -71,7 +71,7 @@ pub fn audit<L: Heap>(kept: &Kept<L>, claims: &[(Action, Receipt)]) -> Verdict
     if !all_agree(chronicle, claims) {
         return Verdict::Fails;
     }
-    if are_kept(chronicle.dropped(), claims) {
+    if are_kept(chronicle.dropped_count(), claims) {
         Verdict::Holds
     } else {
         Verdict::Dropped

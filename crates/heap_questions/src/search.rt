@@ -13,7 +13,9 @@ use std::alloc::Global;
 // How an object was found: by a register, or by a slot of an object that was found before.
 #[derive(Clone, Copy)]
 pub(crate) enum Via {
+    // This register held its id.
     Register(u64),
+    // This slot of this node held its id.
     Slot { parent: usize, slot: u64 },
 }
 

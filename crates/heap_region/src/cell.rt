@@ -19,9 +19,13 @@ pub(crate) struct Header {
 // The sort of a cell: free, or the sort of the object in it.
 #[derive(Clone, Copy)]
 pub(crate) enum Sort {
+    // No object.
     Free,
+    // An instance of a class.
     Instance,
+    // An array of references.
     Array,
+    // An array of values.
     Prim,
 }
 

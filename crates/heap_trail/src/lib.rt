@@ -112,7 +112,6 @@ impl Model for Machine {
 
     ghost use Rattle.std.specs.Prelude.{◌≤◌};
     ghost use Rattle.std.specs.Vec.{vec_capacity};
-    ghost use Rattle.heap_trail.specs.Limits.{pin_limit};
 
     ghost invariant = { λ m. IsWholeMachine m.ids m.world m.records m.place m.keep m.next
         m.pins.items (vec_capacity m.pins) };

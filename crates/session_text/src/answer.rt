@@ -1,7 +1,5 @@
 //! Lines and their answers.
 ghost use Rattle.std.specs.Prelude.{◌≡◌, ◌≤◌, ℕ, List, length, []};
-ghost use Rattle.heap_step.specs.declared.Answer.TheVariants.{Done};
-ghost use Rattle.heap_trail.specs.declared.Reply.TheVariants.{Answered};
 ghost use Rattle.session_text.specs.Answers.{AnswersCommand, Begins, AnswersTo, BeginsTo};
 ghost use Rattle.session_text.specs.Endings.{flow_of};
 ghost use Rattle.session_grammar.specs.Grammar.{command_of, command_of_text};
@@ -97,32 +95,18 @@ fn answer_text<O: Outlet, C: Commands>(
         (command_of_text text.now) commands.old page.old (O.seen writer.old) commands.new page.new
         (O.seen writer.new) result }
 {
-    match command_of_text(context.alloc, marks, text) {
+    let Context { alloc, time } = context;
+    match command_of_text(alloc, marks, text) {
         Err(_) => next_unless(write_reply(page, writer, &Reply::Refused(Refusal::NoMemory))),
         Ok(Command::Blank) => Flow::Next,
-        Ok(Command::Bad) => next_unless(answer_unknown(
-            context.alloc,
-            text,
-            page,
-            writer,
-            commands,
-        )),
+        Ok(Command::Bad) => next_unless(answer_unknown(alloc, text, page, writer, commands)),
         Ok(Command::Ask(action)) => next_unless(answer_action(action, page, writer, commands)),
         Ok(Command::Piece(pin)) => {
-            let action = Action::NextPiece {
-                pin,
-                time: context.time,
-            };
+            let action = Action::NextPiece { pin, time };
             next_unless(answer_action(action, page, writer, commands))
         }
-        Ok(Command::Dump(pin)) => next_unless(write_dump(
-            page,
-            writer,
-            commands,
-            pin,
-            context.time,
-        )),
-        Ok(Command::DumpNow) => next_unless(write_dump_now(page, writer, commands, context.time)),
+        Ok(Command::Dump(pin)) => next_unless(write_dump(page, writer, commands, pin, time)),
+        Ok(Command::DumpNow) => next_unless(write_dump_now(page, writer, commands, time)),
         Ok(Command::End) => Flow::Quit,
     }
 }

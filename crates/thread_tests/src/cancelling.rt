@@ -1,18 +1,15 @@
-//! Sources that are watched: asked before, between two parts, and by another thread in the middle of a stream.
-ghost use Rattle.std.specs.Prelude.{◌≡◌, ◌<◌, All, false};
-ghost use denote.Param.Send.{IsSync};
-ghost use Rattle.dump_pipe.specs.Seats.{sum, cancel_asked, cancel_found};
+//! Sources that are watched: asked before a stream, and between two parts.
+ghost use Rattle.std.specs.Prelude.{◌≡◌, ◌<◌};
 
 use crate::parts::{Asking, PinParts, one_point, points, text_of};
-use crate::sinks::{Gated, reaches};
-use crate::streaming::{into_writer, stream_whole};
-use dump_pipe::{AskSeat, Cancel, FeedSeat, Meter, NewMeter, OutSeat, Watched};
+use crate::sinks::reaches;
+use crate::streaming::into_writer;
+use dump_pipe::{AskSeat, Cancel, FeedSeat, Meter, NewMeter, Watched};
 use dump_pump::{Pumped, WriteOutlet, pump};
 use std::alloc::Global;
 use std::sync::Wait;
 use std::sync::atomic::{AtomicU64, Ordering};
 use std::test::*;
-use std::thread;
 use std::thread::Threads;
 
 // Pumps parts, watched, from a source that is taken to have given `turn` of them: it asks to cancel before the second, if that is
@@ -120,95 +117,4 @@ pub fn ask_once_held(
     cancel.ask(seat);
     gate.store(1, Ordering::SeqCst);
     held
-}
-
-// Streams into an outlet that is held at 8,000 bytes, and has another thread ask meanwhile. Returns whether it was held, how the
-// stream went, and what is out.
-fn cancelled_by_two<R: Threads + Wait + Sync>(
-    rt: &R,
-    alloc: Global,
-    parts: PinParts,
-    meter: &Meter,
-    out: OutSeat,
-    asker: AskSeat,
-    feed: FeedSeat,
-) -> (bool, Pumped, Vec<u8>)
-    requires parts { 0 < parts.left }
-    requires out { out ≡ sum meter.now 0 }
-    requires asker { asker.meter ≡ meter.now }
-    requires feed { feed.meter ≡ meter.now }
-{
-    let (here, gate) = (AtomicU64::new(0), AtomicU64::new(0));
-    let (here_now, gate_now) = (&here, &gate);
-    let (held, (pumped, text)) = thread::join(
-        rt,
-        move || -> bool
-            requires { asker.meter ≡ meter.now }
-        {
-            let mut seat = asker;
-            ask_once_held(&meter.cancel(), &mut seat, here_now, gate_now)
-        },
-        move || -> (Pumped, Vec<u8>)
-            requires { IsSync R.row × (0 < parts.left) × (out ≡ sum meter.now 0)
-                × (feed.meter ≡ meter.now) }
-        {
-            let source = Watched {
-                source: parts,
-                cancel: meter.cancel(),
-                seat: feed,
-            };
-            let writer = Gated::new(alloc, 8000, here_now, gate_now);
-            let (pumped, writer) = stream_whole(rt, alloc, source, writer, meter, out);
-            (pumped, writer.taken)
-        },
-    );
-    (held, pumped, text)
-}
-
-// Streams so with the seats of a new meter. None if it has no asker.
-fn cancelled_meanwhile<R: Threads + Wait + Sync>(
-    rt: &R,
-    alloc: Global,
-    parts: PinParts,
-    made: NewMeter,
-) -> Option<(bool, Pumped, Vec<u8>)>
-    requires parts { 0 < parts.left }
-    requires out { made.out ≡ sum made.meter 0 }
-    requires askers { All (λ s. s ≡ cancel_asked made.meter false) made.askers.items }
-    requires feed { made.feed ≡ cancel_found made.meter false }
-{
-    let NewMeter {
-        meter,
-        out,
-        readers: _,
-        mut askers,
-        feed,
-    } = made;
-    let asker = askers.pop()?;
-    Some(cancelled_by_two(rt, alloc, parts, &meter, out, asker, feed))
-}
-
-// Streams the dump of 2,000 points and has it cancelled in the middle. Returns whether the outlet was held, the answer is a
-// cancelling after the bytes that are out, and these are a beginning of the text, but not all of it.
-fn cancelled_in_the_middle<R: Threads + Wait + Sync>(rt: &R, alloc: Global) -> Result<bool, Fail> {
-    let whole = text_of(alloc, points(alloc, 2000)?)?;
-    let parts = PinParts::open(points(alloc, 2000)?)?;
-    let made = Meter::new(alloc, 0, 1)?;
-    let Some((held, pumped, text)) = cancelled_meanwhile(rt, alloc, parts, made) else {
-        return Ok(false);
-    };
-    let bytes = text.len() as u64;
-    Ok(
-        held && pumped == Pumped::Cancelled { bytes }
-            && 8000 <= bytes
-            && bytes < 66412
-            && whole.as_slice().starts_with(text.as_slice()),
-    )
-}
-
-#[test]
-fn stream_cancelled_in_the_middle(rt: HostRuntime) -> Result<(), Fail> {
-    let cancelled = cancelled_in_the_middle(&rt, rt.alloc())?;
-    assert!(rt; cancelled);
-    Ok(())
 }

@@ -56,7 +56,7 @@ fn is_whole<L: Heap>(kept: &Kept<L>) -> bool {
     let chronicle = kept.chronicle();
     let ends = (verdicts(kept, 1), verdicts(kept, 1_000_000));
     let right = (Verdict::Holds, Verdict::Fails);
-    (chronicle.len(), chronicle.dropped()) == (1_000_000, 0) && ends == (right, right)
+    (chronicle.len(), chronicle.dropped_count()) == (1_000_000, 0) && ends == (right, right)
 }
 
 // Tells whether a chronicle of 1,000,001 entries dropped the first 500,000.
@@ -65,7 +65,7 @@ fn is_rolled<L: Heap>(kept: &Kept<L>) -> bool {
     let gone = (Verdict::Dropped, Verdict::Dropped);
     let right = (Verdict::Holds, Verdict::Fails);
     let missing = (Verdict::Fails, Verdict::Fails);
-    (chronicle.len(), chronicle.dropped()) == (1_000_001, 500_000)
+    (chronicle.len(), chronicle.dropped_count()) == (1_000_001, 500_000)
         && (verdicts(kept, 1), verdicts(kept, 500_000)) == (gone, gone)
         && (verdicts(kept, 500_001), verdicts(kept, 1_000_001)) == (right, right)
         && (verdicts(kept, 0), verdicts(kept, 1_000_002)) == (missing, missing)
@@ -97,9 +97,9 @@ fn rolled_in<L: Heap, R: Wait>(
     }
     drop(kept);
     let later = clear_often(rt, shared, seat, 499_999);
-    let before = shared.lock(rt).chronicle().dropped();
+    let before = shared.lock(rt).chronicle().dropped_count();
     clear_often(rt, shared, seat, 1);
-    let after = shared.lock(rt).chronicle().dropped();
+    let after = shared.lock(rt).chronicle().dropped_count();
     Some((most, next, later, before, after))
 }
 

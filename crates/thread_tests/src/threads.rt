@@ -50,54 +50,70 @@ fn event_of(m: u64, i: u64) -> Event {
     }
 }
 
-// Returns what a mutator's acts are answered.
-fn mutated<L: Heap, R: Wait>(
-    rt: &R,
-    alloc: Global,
-    heap: &Shared<L>,
-    mut seat: Seat<L>,
-) -> Result<Vec<(Action, Receipt)>, AllocError> {
-    let mut done = Vec::new(alloc);
-    for i in 0..1000u64 {
-        let event = event_of(0, i);
-        if seat.may(&event) {
-            if let Ok(receipt) = heap.act(rt, &mut seat, event) {
-                done.push((Action::Step(event_of(0, i)), receipt))?;
+// Creates the action of this number of a seat: of mutators and users one of eight, or each tenth time a user's rewind; of the
+// marker one of four; of the sweeper one a region.
+fn drawn(role: Role, i: u64) -> Action {
+    match role {
+        Role::Mutator(m) => Action::Step(event_of(m, i)),
+        Role::User => {
+            if i % 10 == 9 {
+                Action::Rewind(2)
+            } else {
+                Action::Step(event_of(1, i))
             }
         }
+        Role::Sweeper => Action::Step(Event::Sweep { region: i % 16 }),
+        Role::Marker => match i % 4 {
+            0 => Action::Step(Event::Snap),
+            1 => Action::Step(Event::Mark),
+            2 => Action::Step(Event::Drain),
+            _ => Action::Step(Event::Finish),
+        },
     }
-    Ok(done)
 }
 
-// Returns what a user's acts are answered, of which each tenth is a rewind.
-fn used<L: Heap, R: Wait>(
+// Does an event or a rewind, if the seat may. Returns the receipt, or None if there is no entry.
+fn done<L: Heap, R: Wait>(
     rt: &R,
-    alloc: Global,
-    heap: &Shared<L>,
-    mut seat: Seat<L>,
-) -> Result<Vec<(Action, Receipt)>, AllocError> {
-    let mut done = Vec::new(alloc);
-    for i in 0..1000u64 {
-        if i % 10 == 9 {
-            if seat.role() == Role::User {
-                if let Ok(receipt) = heap.rewind(rt, &mut seat, 2) {
-                    done.push((Action::Rewind(2), receipt))?;
-                }
-            }
-        } else {
-            let event = event_of(1, i);
+    shared: &Shared<L>,
+    seat: &mut Seat<L>,
+    action: Action,
+) -> Option<Receipt> {
+    match action {
+        Action::Step(event) => {
             if seat.may(&event) {
-                if let Ok(receipt) = heap.act(rt, &mut seat, event) {
-                    done.push((Action::Step(event_of(1, i)), receipt))?;
-                }
+                return shared.act(rt, seat, event).ok();
             }
         }
+        Action::Rewind(n) => {
+            if seat.role() == Role::User {
+                return shared.rewind(rt, seat, n).ok();
+            }
+        }
+        _ => {}
     }
-    Ok(done)
+    None
 }
 
-// Returns what an audit says of these claims and one more.
-fn audited_with<L: Heap>(
+// Returns a seat's first thousand actions with their receipts.
+fn thousand<L: Heap, R: Wait>(
+    rt: &R,
+    alloc: Global,
+    shared: &Shared<L>,
+    mut seat: Seat<L>,
+) -> Result<Vec<(Action, Receipt)>, AllocError> {
+    let mut claims = Vec::new(alloc);
+    let role = seat.role();
+    for i in 0..1000u64 {
+        if let Some(receipt) = done(rt, shared, &mut seat, drawn(role, i)) {
+            claims.push((drawn(role, i), receipt))?;
+        }
+    }
+    Ok(claims)
+}
+
+// Returns whether an audit of these claims and one more holds.
+fn holds_with<L: Heap>(
     kept: &Kept<L>,
     claims: &mut Vec<(Action, Receipt)>,
     action: Action,
@@ -106,161 +122,56 @@ fn audited_with<L: Heap>(
     if claims.push((action, receipt)).is_err() {
         return true;
     }
-    let said = audit(kept, claims.as_slice()) == Verdict::Holds;
+    let holds = audit(kept, claims.as_slice()) == Verdict::Holds;
     claims.pop();
-    said
+    holds
 }
 
-// Creates the action of a claim once more, if it is a clearing or a rewind, as that of a last claim is.
-fn copied(action: &Action) -> Option<Action> {
-    match action {
-        Action::Step(Event::Clear { m, r }) => Some(Action::Step(Event::Clear { m: *m, r: *r })),
-        Action::Rewind(n) => Some(Action::Rewind(*n)),
-        _ => None,
-    }
-}
-
-// Returns what an audit says of these claims with the last of them twice, true if there is no copy of it.
-fn audited_twice<L: Heap>(kept: &Kept<L>, claims: &mut Vec<(Action, Receipt)>) -> bool {
-    let Some((action, receipt)) = claims.last() else {
-        return true;
-    };
-    let receipt = *receipt;
-    match copied(action) {
-        Some(action) => audited_with(kept, claims, action, receipt),
-        None => true,
-    }
-}
-
-// Returns what an audit says of these claims, once the last is there twice, and once it has another answer, or another action.
-fn changed<L: Heap>(
+// Returns whether an audit of a seat's claims fails once the last is there twice, has another answer, or is another action.
+fn fails_if_changed<L: Heap>(
     kept: &Kept<L>,
+    role: Role,
     mut claims: Vec<(Action, Receipt)>,
-) -> (bool, bool, bool, bool) {
-    let before = audit(kept, claims.as_slice()) == Verdict::Holds;
-    let twice = audited_twice(kept, &mut claims);
-    let Some((action, receipt)) = claims.pop() else {
-        return (false, true, true, true);
+) -> bool {
+    let Some((_, receipt)) = claims.pop() else {
+        return false;
     };
     let wrong = Receipt {
         answer: Outcome::Place(1_000_000),
         ..receipt
     };
-    let event = audited_with(kept, &mut claims, Action::Rewind(77), receipt);
-    let answer = audited_with(kept, &mut claims, action, wrong);
-    (before, twice, answer, event)
-}
-
-// What audits say of two threads' claims.
-type Audits = (bool, bool, bool, bool);
-
-fn by_two_in<L: Heap + Send + Sync, R: Threads + Wait + Sync>(
-    rt: &R,
-    alloc: Global,
-    shared: &Shared<L>,
-    one: Seat<L>,
-    other: Seat<L>,
-) -> Option<(Audits, Audits, usize)> {
-    let (a, b) = thread::join(
-        rt,
-        move || mutated(rt, alloc, shared, one),
-        move || used(rt, alloc, shared, other),
-    );
-    let a = a.ok()?;
-    let b = b.ok()?;
-    let kept = shared.lock(rt);
-    let entries = kept.chronicle().len();
-    Some((changed(&*kept, a), changed(&*kept, b), entries))
-}
-
-fn by_two<L: Heap + Send + Sync, R: Threads + Wait + Sync>(
-    rt: &R,
-    alloc: Global,
-    blank: Blank,
-) -> Option<(Audits, Audits, usize)>
-    requires { (blank.config ≡ L.config) × (blank.tables ≡ L.tables)
-        × (blank.ledger ≡ L.ledger) × (blank.rolls ≡ L.rolls) }
-{
-    let (shared, mut seats) = blank.open::<L>();
-    let one = seats.take()?;
-    let other = seats.take()?;
-    by_two_in(rt, alloc, &shared, one, other)
-}
-
-fn two_once<R: Threads + Wait + Sync>(rt: &R, alloc: Global) -> Option<(Audits, Audits, usize)> {
-    let config = Config::new(16, 2, 1024)?;
-    let roles = [Role::Mutator(0), Role::User];
-    let blank = Blank::new(alloc, config, roles.as_slice()).ok()?;
-    by_two::<Brand, R>(rt, alloc, blank)
-}
-
-#[test]
-fn rewinds_between_acts(rt: HostRuntime) -> Result<(), Fail> {
-    let right = (true, false, false, false);
-    assert!(rt; two_once(&rt, rt.alloc()) == Some((right, right, 2000)));
-    Ok(())
-}
-
-// Creates an event of a mutator or the marker, another for each of four numbers, or of the sweeper, another for each region.
-fn drawn(role: Role, i: u64) -> Event {
-    match role {
-        Role::Mutator(m) => match i % 4 {
-            0 => Event::NewPrim {
-                m,
-                r: 0,
-                kind: Kind::Long,
-                len: 3,
-            },
-            1 => Event::Put {
-                m,
-                target: 0,
-                slot: 1,
-                value: i,
-            },
-            2 => Event::Load {
-                m,
-                to: 1,
-                from: 0,
-                slot: 1,
-            },
-            _ => Event::Clear { m, r: 0 },
-        },
-        Role::Sweeper => Event::Sweep { region: i % 16 },
-        _ => match i % 4 {
-            0 => Event::Snap,
-            1 => Event::Mark,
-            2 => Event::Drain,
-            _ => Event::Finish,
-        },
+    let answer = holds_with(kept, &mut claims, drawn(role, 999), wrong);
+    let action = holds_with(kept, &mut claims, Action::Rewind(77), receipt);
+    if claims.push((drawn(role, 999), receipt)).is_err() {
+        return false;
     }
+    let twice = holds_with(kept, &mut claims, drawn(role, 999), receipt);
+    !answer && !action && !twice
 }
 
-fn thousand<L: Heap, R: Wait>(
-    rt: &R,
-    alloc: Global,
-    shared: &Shared<L>,
-    mut seat: Seat<L>,
-) -> Result<Vec<(Action, Receipt)>, AllocError> {
-    let mut done = Vec::new(alloc);
-    let role = seat.role();
-    for i in 0..1000u64 {
-        let event = drawn(role, i);
-        if seat.may(&event) {
-            if let Ok(receipt) = shared.act(rt, &mut seat, event) {
-                done.push((Action::Step(drawn(role, i)), receipt))?;
-            }
+// Returns whether a seat has a thousand claims, all of which hold, and no others would in their place.
+fn is_right<L: Heap>(
+    kept: &Kept<L>,
+    role: Role,
+    claims: Result<Vec<(Action, Receipt)>, AllocError>,
+) -> bool {
+    match claims {
+        Ok(claims) => {
+            claims.len() == 1000
+                && audit(kept, claims.as_slice()) == Verdict::Holds
+                && fails_if_changed(kept, role, claims)
         }
+        Err(_) => false,
     }
-    Ok(done)
 }
 
-// Returns whether the receipts of four seats, each in a thread of its own, agree with the history.
+// Returns whether the receipts of four seats, each in a thread of its own, agree with the history, and no others do.
 fn by_four_in<L: Heap + Send + Sync, R: Threads + Wait + Sync>(
     rt: &R,
     alloc: Global,
     shared: &Shared<L>,
-    one: Seat<L>,
-    two: Seat<L>,
+    mutator: Seat<L>,
+    user: Seat<L>,
     marker: Seat<L>,
     sweeper: Seat<L>,
 ) -> bool {
@@ -269,8 +180,8 @@ fn by_four_in<L: Heap + Send + Sync, R: Threads + Wait + Sync>(
         move || {
             thread::join(
                 rt,
-                move || thousand(rt, alloc, shared, one),
-                move || thousand(rt, alloc, shared, two),
+                move || thousand(rt, alloc, shared, mutator),
+                move || thousand(rt, alloc, shared, user),
             )
         },
         move || {
@@ -282,18 +193,11 @@ fn by_four_in<L: Heap + Send + Sync, R: Threads + Wait + Sync>(
         },
     );
     let kept = shared.lock(rt);
-    is_right(&*kept, &a)
-        && is_right(&*kept, &b)
-        && is_right(&*kept, &c)
-        && is_right(&*kept, &d)
+    is_right(&*kept, Role::Mutator(0), a)
+        && is_right(&*kept, Role::User, b)
+        && is_right(&*kept, Role::Marker, c)
+        && is_right(&*kept, Role::Sweeper, d)
         && kept.chronicle().len() == 4000
-}
-
-fn is_right<L: Heap>(kept: &Kept<L>, claims: &Result<Vec<(Action, Receipt)>, AllocError>) -> bool {
-    match claims {
-        Ok(claims) => claims.len() == 1000 && audit(kept, claims.as_slice()) == Verdict::Holds,
-        Err(_) => false,
-    }
 }
 
 fn by_four<L: Heap + Send + Sync, R: Threads + Wait + Sync>(
@@ -305,21 +209,16 @@ fn by_four<L: Heap + Send + Sync, R: Threads + Wait + Sync>(
         × (blank.ledger ≡ L.ledger) × (blank.rolls ≡ L.rolls) }
 {
     let (shared, mut seats) = blank.open::<L>();
-    let one = seats.take()?;
-    let two = seats.take()?;
+    let mutator = seats.take()?;
+    let user = seats.take()?;
     let marker = seats.take()?;
     let sweeper = seats.take()?;
-    Some(by_four_in(rt, alloc, &shared, one, two, marker, sweeper))
+    Some(by_four_in(rt, alloc, &shared, mutator, user, marker, sweeper))
 }
 
 fn four_once<R: Threads + Wait + Sync>(rt: &R, alloc: Global) -> Option<bool> {
     let config = Config::new(16, 2, 1024)?;
-    let roles = [
-        Role::Mutator(0),
-        Role::Mutator(1),
-        Role::Marker,
-        Role::Sweeper,
-    ];
+    let roles = [Role::Mutator(0), Role::User, Role::Marker, Role::Sweeper];
     let blank = Blank::new(alloc, config, roles.as_slice()).ok()?;
     by_four::<Brand, R>(rt, alloc, blank)
 }

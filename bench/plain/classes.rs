@@ -8,9 +8,9 @@ pub const KIND_NAMES: [&[u8]; KINDS] =
     [b"object", b"boolean", b"char", b"float", b"double", b"byte", b"short", b"int", b"long"];
 /// The kinds' types in a dump.
 pub const TYPES: [u8; KINDS] = [2, 4, 5, 6, 7, 8, 9, 10, 11];
-/// The largest values of the kinds.
-pub const MAXIMA: [u64; KINDS] =
-    [0, 1, 0xFFFF, 0xFFFF_FFFF, u64::MAX, 0xFF, 0xFFFF, 0xFFFF_FFFF, u64::MAX];
+/// The largest values of the kinds, and room for numbers of no kind.
+pub const MAXIMA: [u64; 16] =
+    [0, 1, 0xFFFF, 0xFFFF_FFFF, u64::MAX, 0xFF, 0xFFFF, 0xFFFF_FFFF, u64::MAX, 0, 0, 0, 0, 0, 0, 0];
 const CLASS_LIMIT: usize = 256;
 const SLOT_LIMIT: usize = 64;
 const NAME_LIMIT: usize = 64;

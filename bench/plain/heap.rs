@@ -1,5 +1,5 @@
 //! The heap: regions, registers, the marker, the sweeper, and the records that undo steps.
-use crate::classes::{Classes, KINDS, MAXIMA, OBJECT, Shape};
+use crate::classes::{Classes, MAXIMA, OBJECT, Shape};
 use crate::pins::Pins;
 
 pub const REGION_LIMIT: usize = 256;
@@ -71,6 +71,8 @@ pub struct Region {
     pub head: u16,
     /// The binary logarithm of the cells' size in quarters, halved.
     pub size: u8,
+    /// The pins, as bits, that read the region in place.
+    pub readers: u8,
     pub used: Bits,
     pub live: Bits,
     pub mark: Bits,
@@ -85,8 +87,41 @@ impl Region {
             headers[cell].shape = (cell + step + 1) as u16;
         }
         let cells = Cells { words: [0; REGION_WORDS], headers };
-        Box::new(Region { head: 1, size, used: [0; 4], live: [0; 4], mark: [0; 4], cells })
+        Box::new(Region { head: 1, size, readers: 0, used: [0; 4], live: [0; 4], mark: [0; 4], cells })
     }
+
+    /// Writes a word and returns what it was. Has the pins copy the region first.
+    #[inline(always)]
+    fn write(&mut self, pins: &mut Pins, address: u32, word: u64) -> u64 {
+        if self.readers != 0 {
+            pins.copy(region_of(address), self);
+        }
+        std::mem::replace(&mut self.cells.words[word_of(address)], word)
+    }
+}
+
+/// The regions by number. The empty ones are None.
+pub type Regions = [Option<Box<Region>>; REGION_LIMIT];
+
+/// Returns the id of the object in a register, its region and its shape. Fails if there is none or it hasn't this slot.
+#[inline(always)]
+fn find<'a>(
+    registers: &[u32; REGISTER_LIMIT],
+    regions: &'a mut Regions,
+    classes: &'a Classes,
+    register: u8,
+    slot: u64,
+) -> Result<(u32, &'a mut Region, &'a Shape), u8> {
+    let id = registers[register as usize % REGISTER_LIMIT];
+    if id == 0 {
+        return Err(8);
+    }
+    let region = regions[region_of(id) as usize].as_mut().unwrap();
+    let Header { shape, len } = region.cells.headers[cell_of(id) as usize];
+    if slot >= u64::from(len) {
+        return Err(9);
+    }
+    Ok((id, region, &classes.shapes[shape as usize]))
 }
 
 /// A dead object that a sweep removed.
@@ -118,41 +153,58 @@ pub enum Undo {
     None,
 }
 
+impl Undo {
+    #[inline(always)]
+    fn holds_memory(&self) -> bool {
+        matches!(self, Undo::Finish { .. } | Undo::Sweep { .. } | Undo::Reclaim { .. })
+    }
+}
+
 /// The records of the last `keep` steps.
 pub struct Trail {
     ring: Vec<Undo>,
     next: usize,
     keep: usize,
-    pub retained: usize,
     pub place: u64,
+    /// The highest place before the last rewind. Records of steps `keep` below it are lost.
+    highest: u64,
 }
 
 impl Trail {
     fn new(keep: usize) -> Trail {
-        Trail { ring: Vec::with_capacity(keep), next: 0, keep, retained: 0, place: 0 }
+        Trail { ring: Vec::with_capacity(keep), next: 0, keep, place: 0, highest: 0 }
     }
 
     /// Adds a record, in place of the oldest if there are `keep`.
     #[inline(always)]
     fn add(&mut self, record: Undo) {
         match self.ring.get_mut(self.next) {
-            Some(slot) => *slot = record,
+            Some(slot) => {
+                let last = std::mem::replace(slot, record);
+                if last.holds_memory() {
+                    drop(last);
+                } else {
+                    std::mem::forget(last);
+                }
+            }
             None => self.ring.push(record),
         }
         self.next += 1;
         if self.next == self.keep {
             self.next = 0;
         }
-        if self.retained < self.keep {
-            self.retained += 1;
-        }
         self.place += 1;
+    }
+
+    /// Returns how many steps can be undone.
+    pub fn retained(&self) -> u64 {
+        self.place - self.highest.max(self.place).saturating_sub(self.keep as u64)
     }
 
     /// Takes the newest record.
     fn take(&mut self) -> Undo {
         self.next = if self.next == 0 { self.keep } else { self.next } - 1;
-        self.retained -= 1;
+        self.highest = self.highest.max(self.place);
         self.place -= 1;
         std::mem::replace(&mut self.ring[self.next], Undo::None)
     }
@@ -179,9 +231,7 @@ pub enum Loaded {
 }
 
 pub struct Heap {
-    /// The pins, as bits, that read a region in place.
-    pub readers: [u8; REGION_LIMIT],
-    pub regions: [Option<Box<Region>>; REGION_LIMIT],
+    pub regions: Regions,
     pub registers: [u32; REGISTER_LIMIT],
     pub classes: Classes,
     pub mutators: u64,
@@ -222,7 +272,6 @@ pub fn size_for(slots: usize) -> u8 {
 impl Heap {
     pub fn new(regions: usize, mutators: u64, keep: usize, ids: usize) -> Heap {
         Heap {
-            readers: [0; REGION_LIMIT],
             regions: [const { None }; REGION_LIMIT],
             registers: [0; REGISTER_LIMIT],
             classes: Classes::new(ids),
@@ -260,30 +309,6 @@ impl Heap {
     #[inline(always)]
     pub fn region_at(&mut self, number: u8) -> &mut Region {
         self.regions[number as usize].as_mut().unwrap()
-    }
-
-    /// Returns the header of the object in a register, if it has this slot, and its id.
-    #[inline(always)]
-    fn slot(&self, register: u8, slot: u64) -> Result<(u32, Header, &Region), u8> {
-        let id = self.registers[register as usize % REGISTER_LIMIT];
-        if id == 0 {
-            return Err(8);
-        }
-        let region = self.regions[region_of(id) as usize].as_ref().unwrap();
-        let header = region.cells.headers[cell_of(id) as usize];
-        if slot >= u64::from(header.len) {
-            return Err(9);
-        }
-        Ok((id, header, region))
-    }
-
-    /// Writes a word of an object and returns what it was.
-    #[inline(always)]
-    fn write(&mut self, address: u32, word: u64) -> u64 {
-        if self.readers[region_of(address) as usize] != 0 {
-            self.copy_out(region_of(address));
-        }
-        std::mem::replace(&mut self.region(address).cells.words[word_of(address)], word)
     }
 
     // ---- mutators
@@ -388,30 +413,27 @@ impl Heap {
     #[inline(always)]
     pub fn load(&mut self, m: u64, to: u64, from: u64, slot: u64) -> Result<Loaded, u8> {
         let (to, from) = (self.register(m, to)?, self.register(m, from)?);
-        let (id, header, region) = self.slot(from, slot)?;
+        let (id, region, shape) = find(&self.registers, &mut self.regions, &self.classes, from, slot)?;
         let word = region.cells.words[word_of(id + 8 * slot as u32)];
-        let is_reference = self.classes.shapes[header.shape as usize].is_reference(slot);
+        if shape.is_reference(slot) {
+            self.set(to, word as u32);
+            return Ok(Loaded::Object(word as u32));
+        }
         let old = *self.at(to);
-        let loaded = if is_reference {
-            *self.at(to) = word as u32;
-            Loaded::Object(word as u32)
-        } else {
-            Loaded::Value(word)
-        };
         self.trail.add(Undo::Register { register: to, old });
-        Ok(loaded)
+        Ok(Loaded::Value(word))
     }
 
     #[inline(always)]
     pub fn store(&mut self, m: u64, target: u64, slot: u64, source: u64) -> Result<(), u8> {
         let (target, source) = (self.register(m, target)?, self.register(m, source)?);
-        let (id, header, _) = self.slot(target, slot)?;
-        if !self.classes.shapes[header.shape as usize].is_reference(slot) {
+        let (id, region, shape) = find(&self.registers, &mut self.regions, &self.classes, target, slot)?;
+        if !shape.is_reference(slot) {
             return Err(10);
         }
-        let word = u64::from(*self.at(source));
+        let word = self.registers[source as usize % REGISTER_LIMIT];
         let address = id + 8 * slot as u32;
-        let old = self.write(address, word);
+        let old = region.write(&mut self.pins, address, u64::from(word));
         let logged = self.marking && old != 0;
         if logged {
             self.log.push(old as u32);
@@ -423,16 +445,16 @@ impl Heap {
     #[inline(always)]
     pub fn put(&mut self, m: u64, target: u64, slot: u64, value: u64) -> Result<(), u8> {
         let target = self.register(m, target)?;
-        let (id, header, _) = self.slot(target, slot)?;
-        let kind = self.classes.shapes[header.shape as usize].kind(slot);
+        let (id, region, shape) = find(&self.registers, &mut self.regions, &self.classes, target, slot)?;
+        let kind = shape.kind(slot);
         if kind == OBJECT {
             return Err(10);
         }
-        if value > MAXIMA[kind as usize % KINDS] {
+        if value > MAXIMA[kind as usize % MAXIMA.len()] {
             return Err(11);
         }
         let address = id + 8 * slot as u32;
-        let old = self.write(address, value);
+        let old = region.write(&mut self.pins, address, value);
         self.trail.add(Undo::Put { address, old });
         Ok(())
     }
@@ -558,11 +580,11 @@ impl Heap {
             return Err(Refusal::NothingToSweep(number));
         }
         let at = number as u8;
-        if self.readers[at as usize] != 0 {
-            self.copy_out(at);
-        }
         remove(&mut self.pending, at);
         let region = self.regions[at as usize].as_mut().unwrap();
+        if region.readers != 0 {
+            self.pins.copy(at, region);
+        }
         if region.live == [0; 4] {
             let block = self.take_region(at);
             let removed = count(&block.used);
@@ -582,8 +604,9 @@ impl Heap {
 
     /// Undoes the last `n` steps.
     pub fn rewind(&mut self, n: u64) -> Result<u64, Refusal> {
-        if n > self.trail.retained as u64 {
-            return Err(Refusal::TooFar(n, self.trail.retained as u64));
+        let retained = self.trail.retained();
+        if n > retained {
+            return Err(Refusal::TooFar(n, retained));
         }
         self.lose_pins(self.trail.place - n);
         for _ in 0..n {

@@ -1,6 +1,6 @@
 //! Pins: past states that stay readable.
 use crate::dump::{Cursor, View};
-use crate::heap::{Bits, Cells, Dead, Heap, REGION_LIMIT, REGISTER_LIMIT, Undo, add, cell_of, region_of, remove, word_of};
+use crate::heap::{Bits, Cells, Dead, Heap, REGION_LIMIT, REGISTER_LIMIT, Region, Regions, Undo, add, cell_of, region_of, remove, word_of};
 use std::rc::Rc;
 
 const PIN_LIMIT: usize = 4;
@@ -118,6 +118,19 @@ impl Pins {
         Ok(self.next - 1)
     }
 
+    /// Has each pin that reads a region in place copy it. The pins share the copy.
+    #[cold]
+    #[inline(never)]
+    pub fn copy(&mut self, number: u8, region: &mut Region) {
+        let readers = std::mem::take(&mut region.readers);
+        let copy = Rc::new(region.cells.clone());
+        for pin in self.open.iter_mut().filter(|pin| pin.bit & readers != 0) {
+            if let Some(kept) = &mut pin.kept {
+                kept.copies[number as usize] = Some(copy.clone());
+            }
+        }
+    }
+
     /// Returns the index of an open pin. Fails with NoPin if there is none of this number.
     pub fn find(&self, number: u64) -> Result<usize, u8> {
         self.open.iter().position(|pin| pin.number == number).ok_or(22)
@@ -125,22 +138,9 @@ impl Pins {
 }
 
 impl Heap {
-    /// Has each pin that reads a region in place copy it, before it is overwritten. The pins share the copy.
-    #[cold]
-    #[inline(never)]
-    pub fn copy_out(&mut self, region: u8) {
-        let readers = std::mem::take(&mut self.readers[region as usize]);
-        let copy = Rc::new(self.region_at(region).cells.clone());
-        for pin in self.pins.open.iter_mut().filter(|pin| pin.bit & readers != 0) {
-            if let Some(kept) = &mut pin.kept {
-                kept.copies[region as usize] = Some(copy.clone());
-            }
-        }
-    }
-
     /// Opens a pin on a place, or on the current one, and returns its number and place.
     pub fn open_pin(&mut self, at: Option<u64>) -> Result<(u64, u64), u8> {
-        let (current, retained) = (self.trail.place, self.trail.retained as u64);
+        let (current, retained) = (self.trail.place, self.trail.retained());
         let place = at.unwrap_or(current);
         let ago = current.checked_sub(place).filter(|&ago| ago <= retained).ok_or(24)?;
         let number = self.pins.take_number()?;
@@ -150,9 +150,9 @@ impl Heap {
         }
         let taken = self.pins.open.iter().fold(0, |taken, pin| taken | pin.bit);
         let bit = 1 << (!taken).trailing_zeros();
-        for (readers, (live, copy)) in self.readers.iter_mut().zip(kept.live.iter().zip(&kept.copies)) {
-            if *live != [0; 4] && copy.is_none() {
-                *readers |= bit;
+        for (region, (live, copy)) in self.regions.iter_mut().zip(kept.live.iter().zip(&kept.copies)) {
+            if let (Some(region), true, None) = (region, *live != [0; 4], copy) {
+                region.readers |= bit;
             }
         }
         self.pins.open.push(Pin { number, place, bit, kept: Some(kept), cursor: Cursor::default() });
@@ -163,21 +163,21 @@ impl Heap {
     pub fn lose_pins(&mut self, place: u64) {
         for pin in self.pins.open.iter_mut().filter(|pin| pin.place > place) {
             pin.kept = None;
-            stop_reading(&mut self.readers, pin.bit);
+            stop_reading(&mut self.regions, pin.bit);
         }
     }
 
     pub fn close_pin(&mut self, number: u64) -> Result<(), u8> {
         let at = self.pins.find(number)?;
         let pin = self.pins.open.remove(at);
-        stop_reading(&mut self.readers, pin.bit);
+        stop_reading(&mut self.regions, pin.bit);
         Ok(())
     }
 }
 
 /// Takes a pin's bit from the readers of all regions.
-fn stop_reading(readers: &mut [u8; REGION_LIMIT], bit: u8) {
-    for readers in readers {
-        *readers &= !bit;
+fn stop_reading(regions: &mut Regions, bit: u8) {
+    for region in regions.iter_mut().flatten() {
+        region.readers &= !bit;
     }
 }

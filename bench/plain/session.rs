@@ -2,7 +2,7 @@
 use crate::commands::Bad;
 use crate::dump::Writer;
 use crate::heap::Heap;
-use crate::text::{Page, digits_in, value_of};
+use crate::text::{POWERS, Page, digits_in, first_value, value_of};
 use std::fs::File;
 use std::io::{ErrorKind, Read};
 
@@ -12,7 +12,6 @@ const LONGEST_LINE: usize = 4096;
 const SLACK: usize = 64;
 const SIZE: usize = LONGEST_LINE + BLOCK + SLACK;
 const READ_LIMIT: u64 = 1_000_000;
-const SURE_DIGITS: usize = 19;
 
 /// How a session ended.
 #[derive(Clone, Copy, PartialEq, Eq)]
@@ -47,39 +46,45 @@ impl Text {
     /// Returns the number at a place and the place behind the byte `end` that follows it, or None if they aren't there.
     #[inline(always)]
     fn number(&self, at: usize, end: u8) -> Option<(u64, usize)> {
-        let digit = self.byte(at).wrapping_sub(b'0');
-        if self.byte(at + 1) == end && digit < 10 {
+        let digit = self.eight(at) as u16 ^ u16::from_le_bytes([b'0', end]);
+        if digit < 10 {
             return Some((u64::from(digit), at + 2));
         }
-        self.long_number(at, end)
+        let (value, next) = self.long_number(at, end);
+        if next == 0 { None } else { Some((value, next)) }
     }
 
+    /// Does what `number` does, for a number of any size. Returns 0 and 0 instead of None.
     #[inline(never)]
-    fn long_number(&self, at: usize, end: u8) -> Option<(u64, usize)> {
-        let (mut value, mut next) = (0u64, at);
-        loop {
-            let (count, digits) = digits_in(self.eight(next));
-            if count == 8 && next == at + 16 {
-                return None;
+    fn long_number(&self, at: usize, end: u8) -> (u64, usize) {
+        let (count, digits) = digits_in(self.eight(at));
+        let (value, next) = if count < 8 {
+            if count == 0 {
+                return (0, 0);
             }
-            let shifted = if count == 0 { 0 } else { digits << (64 - 8 * count) };
-            let part = value_of(shifted);
-            next += count as usize;
-            if count == 8 {
-                value = value * 100_000_000 + part;
-                continue;
+            (first_value(digits, count), at + count as usize)
+        } else {
+            let (more, others) = digits_in(self.eight(at + 8));
+            if more == 8 {
+                return self.longest_number(at, end);
             }
-            const POWERS: [u64; 8] = [1, 10, 100, 1000, 10_000, 100_000, 1_000_000, 10_000_000];
-            let size = next - at;
-            if size == 0 || size > SURE_DIGITS + 1 || self.byte(next) != end {
-                return None;
-            }
-            let power = POWERS[count as usize];
-            if size <= SURE_DIGITS {
-                return Some((value * power + part, next + 1));
-            }
-            return Some((value.checked_mul(power)?.checked_add(part)?, next + 1));
+            let value = value_of(digits) * POWERS[more as usize] + first_value(others, more);
+            (value, at + 8 + more as usize)
+        };
+        if self.byte(next) == end { (value, next + 1) } else { (0, 0) }
+    }
+
+    /// Does what `long_number` does, for a number of 16 digits or more.
+    #[inline(never)]
+    fn longest_number(&self, at: usize, end: u8) -> (u64, usize) {
+        let high = value_of(digits_in(self.eight(at)).1) * 100_000_000 + value_of(digits_in(self.eight(at + 8)).1);
+        let (last, rest) = digits_in(self.eight(at + 16));
+        let next = at + 16 + last as usize;
+        if last > 4 || self.byte(next) != end {
+            return (0, 0);
         }
+        let value = high.checked_mul(POWERS[last as usize]).and_then(|high| high.checked_add(first_value(rest, last)));
+        value.map_or((0, 0), |value| (value, next + 1))
     }
 
     /// Returns the numbers of a line from a place on, with a space between them, and the line behind it.
@@ -98,19 +103,6 @@ pub struct Session {
     pub page: Page,
     pub writer: Writer,
 }
-
-const fn word(text: &[u8; 4]) -> u32 {
-    u32::from_le_bytes(*text)
-}
-
-const PUT: u32 = word(b"put ");
-const NEW: u32 = word(b"new ");
-const LOAD: u32 = word(b"load");
-const STOR: u32 = word(b"stor");
-const MOVE: u32 = word(b"move");
-const CLEA: u32 = word(b"clea");
-const MARK: u32 = word(b"mark");
-const REWI: u32 = word(b"rewi");
 
 impl Session {
     pub fn new(heap: Heap, writer: Writer, page: Page) -> Session {
@@ -191,43 +183,45 @@ impl Session {
     /// Answers a line of the usual kinds, with single spaces, and returns the place behind it, or None if it is another line.
     #[inline(always)]
     fn answer_quickly(&mut self, text: &Text, at: usize) -> Option<usize> {
+        // The first bytes decide; the others of the keyword are compared with it at once.
         let head = text.eight(at);
-        match head as u32 {
-            PUT => {
+        let begins = |keyword: &[u8; 8], size: u32| (head ^ u64::from_le_bytes(*keyword)) << (64 - 8 * size) == 0;
+        match head as u8 {
+            b'p' if begins(b"put     ", 4) => {
                 let ([m, target, slot, value], next) = text.numbers(at + 4)?;
                 self.put(m, target, slot, value);
                 Some(next)
             }
-            NEW => {
-                let ([m, r, class], next) = text.numbers(at + 4)?;
-                self.new_instance(m, r, class);
-                Some(next)
-            }
-            LOAD if text.byte(at + 4) == b' ' => {
-                let ([m, to, from, slot], next) = text.numbers(at + 5)?;
-                self.load(m, to, from, slot);
-                Some(next)
-            }
-            STOR if (head >> 32) as u16 == u16::from_le_bytes(*b"e ") => {
+            b's' if begins(b"store   ", 6) => {
                 let ([m, target, slot, source], next) = text.numbers(at + 6)?;
                 self.store(m, target, slot, source);
                 Some(next)
             }
-            MOVE if text.byte(at + 4) == b' ' => {
+            b'l' if begins(b"load    ", 5) => {
+                let ([m, to, from, slot], next) = text.numbers(at + 5)?;
+                self.load(m, to, from, slot);
+                Some(next)
+            }
+            b'n' if begins(b"new     ", 4) => {
+                let ([m, r, class], next) = text.numbers(at + 4)?;
+                self.new_instance(m, r, class);
+                Some(next)
+            }
+            b'm' if begins(b"mark\n   ", 5) => {
+                self.mark();
+                Some(at + 5)
+            }
+            b'm' if begins(b"move    ", 5) => {
                 let ([m, to, from_m, from], next) = text.numbers(at + 5)?;
                 self.copy(m, to, from_m, from);
                 Some(next)
             }
-            CLEA if (head >> 32) as u16 == u16::from_le_bytes(*b"r ") => {
+            b'c' if begins(b"clear   ", 6) => {
                 let ([m, r], next) = text.numbers(at + 6)?;
                 self.clear(m, r);
                 Some(next)
             }
-            MARK if text.byte(at + 4) == b'\n' => {
-                self.mark();
-                Some(at + 5)
-            }
-            REWI if head >> 32 & 0xFF_FFFF == 0x20_646E => {
+            b'r' if begins(b"rewind  ", 7) => {
                 let ([n], next) = text.numbers(at + 7)?;
                 self.rewind(n);
                 Some(next)

@@ -33,6 +33,15 @@ pub fn value_of(digits: u64) -> u64 {
     fours.wrapping_mul(42_949_672_960_001) >> 32
 }
 
+/// The powers of ten.
+pub const POWERS: [u64; 8] = [1, 10, 100, 1000, 10_000, 100_000, 1_000_000, 10_000_000];
+
+/// Returns the number that the first `count` of eight digits make, fewer than eight.
+#[inline(always)]
+pub fn first_value(digits: u64, count: u32) -> u64 {
+    value_of(digits << 8 << (56 - 8 * count))
+}
+
 /// Returns the eight digits of a number below 10^8, less '0', the first one in the lowest byte.
 #[inline(always)]
 fn eight_digits(number: u64) -> u64 {

@@ -11,6 +11,7 @@ pub const TYPES: [u8; KINDS] = [2, 4, 5, 6, 7, 8, 9, 10, 11];
 /// The largest values of the kinds, and room for numbers of no kind.
 pub const MAXIMA: [u64; 16] =
     [0, 1, 0xFFFF, 0xFFFF_FFFF, u64::MAX, 0xFF, 0xFFFF, 0xFFFF_FFFF, u64::MAX, 0, 0, 0, 0, 0, 0, 0];
+pub const NO_CLASS: u16 = u16::MAX;
 const CLASS_LIMIT: usize = 256;
 const SLOT_LIMIT: usize = 64;
 const NAME_LIMIT: usize = 64;
@@ -26,7 +27,7 @@ pub struct Shape {
     pub len: u16,
     /// The bytes of an instance's values in a dump, or of one element.
     pub bytes: u32,
-    /// The class, or KINDS for arrays of values.
+    /// The class, or NO_CLASS for arrays of values.
     pub class: u16,
     /// The kinds of the slots. Of an array, all are that of its elements.
     pub kinds: [u8; SLOT_LIMIT],
@@ -60,8 +61,8 @@ pub struct Class {
 }
 
 pub struct Classes {
-    /// The widths of the kinds in a dump.
-    pub widths: [u8; KINDS],
+    /// The widths of the kinds in a dump, and room for numbers of no kind.
+    pub widths: [u8; 16],
     /// First the kinds' arrays of values, then the classes.
     pub shapes: Vec<Shape>,
     pub list: Vec<Class>,
@@ -77,8 +78,8 @@ fn is_name(name: &[u8]) -> bool {
 
 impl Classes {
     pub fn new(ids: usize) -> Classes {
-        let widths = [ids as u8, 1, 2, 4, 8, 1, 2, 4, 8];
-        let shapes = (0..KINDS).map(|kind| Shape::of_arrays(kind as u8, 0, widths[kind] as usize)).collect();
+        let widths = [ids as u8, 1, 2, 4, 8, 1, 2, 4, 8, 0, 0, 0, 0, 0, 0, 0];
+        let shapes = (0..KINDS).map(|kind| Shape::of_arrays(kind as u8, NO_CLASS, widths[kind] as usize)).collect();
         Classes { widths, shapes, list: Vec::new(), names: Vec::new(), numbers: HashMap::new() }
     }
 

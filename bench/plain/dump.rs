@@ -1,11 +1,13 @@
 //! Dumps: HPROF text in pieces.
-use crate::classes::{KINDS, TYPES};
+use crate::classes::{KINDS, NO_CLASS, Shape, TYPES};
 use crate::heap::{Bits, Cells, FIRST_OBJECT, Heap, REGION_LIMIT, REGISTER_LIMIT};
 use std::rc::Rc;
 
 const BODY_LIMIT: usize = 4096;
 const HEAD: usize = 9;
 const FIRST_CLASS: u64 = 0x0010_0000;
+/// Room for the head of an object's sub-record.
+const HEAD_ROOM: usize = 32;
 /// The largest sub-record: an array of 1,024 longs. What is written beside it is overwritten by the next one.
 const LARGEST: usize = 8210 + 64;
 
@@ -150,11 +152,15 @@ impl Writer {
         let mut end = HEAD;
         let whole = cursor.part > Part::Class || self.classes(view, cursor, &mut end);
         let whole = whole && (cursor.part > Part::Root || self.roots(view, cursor, &mut end));
-        let whole = whole && (cursor.part > Part::Object || self.objects(view, cursor, &mut end));
+        let whole = whole && (cursor.part > Part::Object || self.written_objects(view, cursor, &mut end));
         if whole && cursor.part == Part::Register {
             self.registers(view, cursor, &mut end);
         }
         end
+    }
+
+    fn written_objects(&mut self, view: &View, cursor: &mut Cursor, end: &mut usize) -> bool {
+        if self.ids == 8 { self.objects::<8>(view, cursor, end) } else { self.objects::<4>(view, cursor, end) }
     }
 
     /// Returns whether a sub-record of a size still fits behind those before it.
@@ -231,25 +237,25 @@ impl Writer {
         cursor.part = Part::End;
     }
 
-    /// Writes objects, and returns whether all are written.
-    fn objects(&mut self, view: &View, cursor: &mut Cursor, end: &mut usize) -> bool {
-        for region in cursor.at / 256..REGION_LIMIT {
-            let mut live = view.live(region);
-            for cell in 0..cursor.at.saturating_sub(256 * region) {
-                live[cell / 64] &= !(1 << (cell % 64));
-            }
+    /// Writes objects, with ids of so many bytes, and returns whether all are written.
+    fn objects<const IDS: usize>(&mut self, view: &View, cursor: &mut Cursor, end: &mut usize) -> bool {
+        let first = cursor.at;
+        for region in first / 256..REGION_LIMIT {
+            let live = view.live(region);
             if live == [0; 4] {
                 continue;
             }
             let cells = view.cells(region);
-            for part in 0..4 {
-                let mut left = live[part];
+            for (part, mut left) in live.into_iter().enumerate() {
+                let before = first.saturating_sub(256 * region + 64 * part);
+                left &= if before < 64 { u64::MAX << before } else { 0 };
                 while left != 0 {
                     let cell = 64 * part + left.trailing_zeros() as usize;
-                    if !self.object(view, cells, 256 * region + cell, end) {
+                    let Some(size) = self.object::<IDS>(view, cells, 256 * region + cell, *end) else {
                         cursor.at = 256 * region + cell;
                         return false;
-                    }
+                    };
+                    *end += size;
                     left &= left - 1;
                 }
             }
@@ -258,49 +264,80 @@ impl Writer {
         true
     }
 
-    /// Writes an object, if it fits.
+    /// Writes an object, and returns its size, or None if it doesn't fit.
     #[inline(always)]
-    fn object(&mut self, view: &View, cells: &Cells, number: usize, end: &mut usize) -> bool {
+    fn object<const IDS: usize>(&mut self, view: &View, cells: &Cells, number: usize, end: usize) -> Option<usize> {
         let header = cells.headers[number % 256];
-        let words = &cells.words[number % 256 * 4..][..header.len as usize];
         let classes = &view.heap.classes;
         let shape = &classes.shapes[header.shape as usize];
-        let ids = self.ids;
-        let is_instance = !shape.is_array;
-        let is_of_values = usize::from(header.shape) < KINDS;
-        let bytes = if is_instance { shape.bytes as usize } else { shape.bytes as usize * words.len() };
-        let size = if is_of_values { 10 + ids } else { 9 + 2 * ids } + bytes;
-        if !Writer::fits(*end, size) {
-            return false;
+        let words = cells.words[number % 256 * 4..].get(..header.len as usize)?;
+        if shape.is_array {
+            return self.array::<IDS>(shape, words, number, end);
         }
-        let text = &mut self.piece[*end..*end + size + 8];
-        *end += size;
-        text[0] = if is_instance { 0x21 } else { 0x22 + u8::from(is_of_values) };
-        let mut at = 1;
-        put_id(text, &mut at, ids, u64::from(FIRST_OBJECT) + 32 * number as u64);
-        put!(text, at, 1u32);
-        if is_instance {
-            put_id(text, &mut at, ids, FIRST_CLASS + 8 * u64::from(shape.class));
-            put!(text, at, shape.bytes);
-            for (word, kind) in words.iter().zip(&shape.kinds) {
-                put_id(text, &mut at, classes.widths[*kind as usize % KINDS] as usize, *word);
-            }
-            return true;
+        let size = 9 + 2 * IDS + shape.bytes as usize;
+        if !Writer::fits(end, size) {
+            return None;
         }
-        put!(text, at, u32::from(header.len));
-        if is_of_values {
-            put!(text, at, TYPES[header.shape as usize]);
-        } else {
-            put_id(text, &mut at, ids, FIRST_CLASS + 8 * u64::from(shape.class));
-        }
-        match shape.bytes {
-            8 => elements::<8>(&mut text[at..], words),
-            4 => elements::<4>(&mut text[at..], words),
-            2 => elements::<2>(&mut text[at..], words),
-            _ => elements::<1>(&mut text[at..], words),
-        }
-        true
+        let text = self.head::<IDS>(0x21, number, end)?;
+        text[5 + IDS..13 + IDS].copy_from_slice(&left_aligned::<IDS>(FIRST_CLASS + 8 * u64::from(shape.class)));
+        text[5 + 2 * IDS..9 + 2 * IDS].copy_from_slice(&shape.bytes.to_be_bytes());
+        self.values(end + 9 + 2 * IDS, words, &shape.kinds, &classes.widths);
+        Some(size)
     }
+
+    /// Writes an array, and returns its size, or None if it doesn't fit.
+    #[inline(never)]
+    fn array<const IDS: usize>(&mut self, shape: &Shape, words: &[u64], number: usize, end: usize) -> Option<usize> {
+        let is_of_values = shape.class == NO_CLASS;
+        let head = if is_of_values { 10 + IDS } else { 9 + 2 * IDS };
+        let size = head + shape.bytes as usize * words.len();
+        if !Writer::fits(end, size) {
+            return None;
+        }
+        let text = self.head::<IDS>(0x22 + u8::from(is_of_values), number, end)?;
+        text[5 + IDS..9 + IDS].copy_from_slice(&(words.len() as u32).to_be_bytes());
+        if is_of_values {
+            text[9 + IDS] = TYPES[shape.kinds[0] as usize];
+        } else {
+            text[9 + IDS..17 + IDS].copy_from_slice(&left_aligned::<IDS>(FIRST_CLASS + 8 * u64::from(shape.class)));
+        }
+        let text = &mut self.piece[end + head..end + size];
+        match shape.bytes {
+            8 => elements::<8>(text, words),
+            4 => elements::<4>(text, words),
+            2 => elements::<2>(text, words),
+            _ => elements::<1>(text, words),
+        }
+        Some(size)
+    }
+
+    /// Writes the tag, the id and the stack trace of an object, and returns room for the rest of its head. What a part writes too
+    /// much is overwritten by what follows it.
+    #[inline(always)]
+    fn head<const IDS: usize>(&mut self, tag: u8, number: usize, end: usize) -> Option<&mut [u8; HEAD_ROOM]> {
+        let text: &mut [u8; HEAD_ROOM] = self.piece[end..].first_chunk_mut()?;
+        text[0] = tag;
+        text[1..9].copy_from_slice(&left_aligned::<IDS>(u64::from(FIRST_OBJECT) + 32 * number as u64));
+        text[1 + IDS..5 + IDS].copy_from_slice(&1u32.to_be_bytes());
+        Some(text)
+    }
+
+    /// Writes the values of an instance. Writes eight bytes for each: those too many are overwritten by what follows.
+    #[inline(always)]
+    fn values(&mut self, mut at: usize, words: &[u64], kinds: &[u8; 64], widths: &[u8; 16]) {
+        for (word, kind) in words.iter().zip(kinds) {
+            let width = widths[*kind as usize % 16];
+            let bytes = word << (64 - 8 * u32::from(width) & 63);
+            self.piece[at..at + 8].copy_from_slice(&bytes.to_be_bytes());
+            at += width as usize;
+        }
+    }
+}
+
+/// Returns the bytes of an id of so many bytes, and zeros.
+#[inline(always)]
+fn left_aligned<const IDS: usize>(id: u64) -> [u8; 8] {
+    (id << (64 - 8 * IDS)).to_be_bytes()
 }
 
 /// Writes the elements of an array, which have so many bytes each.

@@ -7,6 +7,9 @@ pub const REGISTERS: u64 = 8;
 pub const REGISTER_LIMIT: usize = 128;
 pub const REGION_WORDS: usize = 1024;
 pub const ELEMENT_LIMIT: u64 = 1024;
+pub const SPARES: usize = 16;
+/// The cell sizes, and room for other numbers.
+pub const SIZES: usize = 8;
 /// The id of the first object.
 pub const FIRST_OBJECT: u32 = 0x1000_0000;
 
@@ -81,13 +84,21 @@ pub struct Region {
 
 impl Region {
     fn new(size: u8) -> Box<Region> {
+        // SAFETY: all parts are numbers, and zeros are such.
+        Region::blank(unsafe { Box::<Region>::new_zeroed().assume_init() }, size)
+    }
+
+    /// Makes a region without objects of another one. The words are left as they are.
+    fn blank(mut region: Box<Region>, size: u8) -> Box<Region> {
         let step = 1usize << (2 * size);
-        let mut headers = [Header::default(); 256];
         for cell in (0..256 - step).step_by(step) {
-            headers[cell].shape = (cell + step + 1) as u16;
+            region.cells.headers[cell].shape = (cell + step + 1) as u16;
         }
-        let cells = Cells { words: [0; REGION_WORDS], headers };
-        Box::new(Region { head: 1, size, readers: 0, used: [0; 4], live: [0; 4], mark: [0; 4], cells })
+        region.cells.headers[256 - step].shape = 0;
+        region.head = 1;
+        region.size = size;
+        (region.readers, region.used, region.live, region.mark) = (0, [0; 4], [0; 4], [0; 4]);
+        region
     }
 
     /// Writes a word and returns what it was. Has the pins copy the region first.
@@ -116,7 +127,7 @@ fn find<'a>(
     if id == 0 {
         return Err(8);
     }
-    let region = regions[region_of(id) as usize].as_mut().unwrap();
+    let region = regions[region_of(id) as usize].as_deref_mut().unwrap();
     let Header { shape, len } = region.cells.headers[cell_of(id) as usize];
     if slot >= u64::from(len) {
         return Err(9);
@@ -237,8 +248,10 @@ pub struct Heap {
     pub mutators: u64,
     pub count: usize,
     pub pool: Vec<u8>,
+    /// Some regions whose first object was undone, to be used again.
+    pub spare: Vec<Box<Region>>,
     /// By cell size, the regions with free cells.
-    pub free: [Bits; 5],
+    pub free: [Bits; SIZES],
     used: Bits,
     pub pending: Bits,
     pub gray: Vec<u32>,
@@ -278,7 +291,8 @@ impl Heap {
             mutators,
             count: regions,
             pool: (0..regions).rev().map(|region| region as u8).collect(),
-            free: [[0; 4]; 5],
+            spare: Vec::new(),
+            free: [[0; 4]; SIZES],
             used: [0; 4],
             pending: [0; 4],
             gray: Vec::new(),
@@ -308,7 +322,7 @@ impl Heap {
 
     #[inline(always)]
     pub fn region_at(&mut self, number: u8) -> &mut Region {
-        self.regions[number as usize].as_mut().unwrap()
+        self.regions[number as usize].as_deref_mut().unwrap()
     }
 
     // ---- mutators
@@ -357,12 +371,12 @@ impl Heap {
     /// Makes an object in the first region with a free cell of this size, or in one from the pool.
     #[inline(always)]
     fn make(&mut self, register: u8, header: Header, size: u8) -> Result<u32, u8> {
-        let (number, fresh) = match first(&self.free[size as usize]) {
+        let (number, fresh) = match first(&self.free[size as usize % SIZES]) {
             Some(number) => (number, false),
             None => (self.open(size)?, true),
         };
         let marking = self.marking;
-        let region = self.regions[number as usize].as_mut().unwrap();
+        let region = self.regions[number as usize].as_deref_mut().unwrap();
         let cell = region.head.wrapping_sub(1) as u8;
         region.head = region.cells.headers[cell as usize].shape;
         region.cells.headers[cell as usize] = header;
@@ -378,7 +392,7 @@ impl Heap {
             add(&mut region.mark, cell);
         }
         if region.head == 0 {
-            remove(&mut self.free[size as usize], number);
+            remove(&mut self.free[size as usize % SIZES], number);
         }
         let id = FIRST_OBJECT + 8192 * u32::from(number) + 32 * u32::from(cell);
         let old = std::mem::replace(self.at(register), id);
@@ -390,13 +404,17 @@ impl Heap {
     #[inline(never)]
     fn open(&mut self, size: u8) -> Result<u8, u8> {
         let number = self.pool.pop().ok_or(13)?;
-        self.put_region(number, Region::new(size));
+        let region = match self.spare.pop() {
+            Some(region) => Region::blank(region, size),
+            None => Region::new(size),
+        };
+        self.put_region(number, region);
         Ok(number)
     }
 
     pub fn put_region(&mut self, number: u8, block: Box<Region>) {
         if block.head != 0 {
-            add(&mut self.free[block.size as usize], number);
+            add(&mut self.free[block.size as usize % SIZES], number);
         }
         add(&mut self.used, number);
         self.regions[number as usize] = Some(block);
@@ -404,7 +422,7 @@ impl Heap {
 
     pub fn take_region(&mut self, number: u8) -> Box<Region> {
         let block = self.regions[number as usize].take().unwrap();
-        remove(&mut self.free[block.size as usize], number);
+        remove(&mut self.free[block.size as usize % SIZES], number);
         remove(&mut self.used, number);
         self.pool.push(number);
         block
@@ -581,7 +599,7 @@ impl Heap {
         }
         let at = number as u8;
         remove(&mut self.pending, at);
-        let region = self.regions[at as usize].as_mut().unwrap();
+        let region = self.regions[at as usize].as_deref_mut().unwrap();
         if region.readers != 0 {
             self.pins.copy(at, region);
         }
@@ -593,7 +611,7 @@ impl Heap {
         }
         let swept = region.sweep();
         if region.head != 0 {
-            add(&mut self.free[region.size as usize], at);
+            add(&mut self.free[region.size as usize % SIZES], at);
         }
         let removed = swept.dead.len() as u64;
         self.trail.add(Undo::Sweep { region: at, swept: Box::new(swept) });

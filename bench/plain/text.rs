@@ -65,36 +65,61 @@ fn put_number(text: &mut [u8], number: u64) -> usize {
 #[inline(never)]
 fn put_long_number(text: &mut [u8; 24], number: u64) -> usize {
     const MANY: u64 = 100_000_000;
-    let mut first = number;
-    let mut rest = 0;
-    while first >= MANY {
-        first /= MANY;
-        rest += 1;
+    if number < MANY {
+        return put_first_digits(text, number);
     }
-    let digits = eight_digits(first);
-    let zeros = digits.trailing_zeros() / 8;
-    text[..8].copy_from_slice(&(digits + ZEROS >> (8 * zeros)).to_le_bytes());
-    let mut at = 8 - zeros as usize;
-    if rest == 2 {
-        text[at..at + 8].copy_from_slice(&(eight_digits(number / MANY % MANY) + ZEROS).to_le_bytes());
-        at += 8;
+    let (mut first, last) = (number / MANY, number % MANY);
+    let mut middle = None;
+    if first >= MANY {
+        (first, middle) = (first / MANY, Some(first % MANY));
     }
-    if rest > 0 {
-        text[at..at + 8].copy_from_slice(&(eight_digits(number % MANY) + ZEROS).to_le_bytes());
+    let mut at = put_first_digits(text, first);
+    for part in middle.into_iter().chain([last]) {
+        text[at..at + 8].copy_from_slice(&(eight_digits(part) + ZEROS).to_le_bytes());
         at += 8;
     }
     at
 }
 
-/// Returns the eight hexadecimal digits of a number.
+/// Writes the digits of a number below 10^8 and above 0, and returns how many they are.
 #[inline(always)]
-fn hexadecimal(number: u32) -> [u8; 8] {
-    let mut nibbles = u64::from(number);
-    nibbles = (nibbles << 16 | nibbles) & 0x0000_FFFF_0000_FFFF;
-    nibbles = (nibbles << 8 | nibbles) & 0x00FF_00FF_00FF_00FF;
-    nibbles = (nibbles << 4 | nibbles) & 0x0F0F_0F0F_0F0F_0F0F;
-    let letters = (nibbles + 0x0606_0606_0606_0606 >> 4) & 0x0101_0101_0101_0101;
-    (nibbles + ZEROS + letters * 39).to_be_bytes()
+fn put_first_digits(text: &mut [u8; 24], number: u64) -> usize {
+    let digits = eight_digits(number);
+    let zeros = digits.trailing_zeros() / 8;
+    text[..8].copy_from_slice(&(digits + ZEROS >> (8 * zeros)).to_le_bytes());
+    8 - zeros as usize
+}
+
+/// The two hexadecimal digits of each byte.
+static HEXADECIMAL: [[u8; 2]; 256] = {
+    let digits = b"0123456789abcdef";
+    let mut all = [[0; 2]; 256];
+    let mut byte = 0;
+    while byte < 256 {
+        all[byte] = [digits[byte >> 4], digits[byte & 15]];
+        byte += 1;
+    }
+    all
+};
+
+/// Writes the hexadecimal digits of sixteen bytes.
+#[inline(always)]
+fn put_hexadecimal(text: &mut [u8; 32], bytes: &[u8; 16]) {
+    use std::arch::x86_64::*;
+    // SAFETY: every x86-64 has SSE2, and 16 bytes are read and 32 written.
+    unsafe {
+        let (four_bits, nine) = (_mm_set1_epi8(15), _mm_set1_epi8(9));
+        let (zero, more) = (_mm_set1_epi8(b'0' as i8), _mm_set1_epi8((b'a' - 10 - b'0') as i8));
+        let digits = |numbers| {
+            let letters = _mm_and_si128(_mm_cmpgt_epi8(numbers, nine), more);
+            _mm_add_epi8(_mm_add_epi8(numbers, zero), letters)
+        };
+        let bytes = _mm_loadu_si128(bytes.as_ptr().cast());
+        let high = digits(_mm_and_si128(_mm_srli_epi16::<4>(bytes), four_bits));
+        let low = digits(_mm_and_si128(bytes, four_bits));
+        _mm_storeu_si128(text.as_mut_ptr().cast(), _mm_unpacklo_epi8(high, low));
+        _mm_storeu_si128(text.as_mut_ptr().add(16).cast(), _mm_unpackhi_epi8(high, low));
+    }
 }
 
 /// Replies that aren't written yet.
@@ -147,12 +172,14 @@ impl Page {
         self.len += size + 1;
     }
 
-    /// Adds a line of an object's id.
+    /// Adds a line of an object's id, whose first byte is 0x10.
     #[inline(always)]
     pub fn object(&mut self, id: u32) {
         let room = self.room::<REPLY>();
-        room[..12].copy_from_slice(b"ok object 0x");
-        room[12..20].copy_from_slice(&hexadecimal(id));
+        room[..14].copy_from_slice(b"ok object 0x10");
+        for (at, byte) in [(14, id >> 16), (16, id >> 8), (18, id)] {
+            room[at..at + 2].copy_from_slice(&HEXADECIMAL[byte as u8 as usize]);
+        }
         room[20] = b'\n';
         self.len += 21;
     }
@@ -209,8 +236,9 @@ impl Page {
     fn data_line(&mut self, bytes: &[u8; DIGITS / 2], count: usize) {
         let line = self.room::<DATA_LINE>();
         line[..5].copy_from_slice(b"data ");
-        for (pair, byte) in line[5..5 + DIGITS].as_chunks_mut::<2>().0.iter_mut().zip(bytes) {
-            *pair = [byte >> 4, byte & 15].map(|digit| digit + b'0' + 39 * u8::from(digit > 9));
+        let digits = line[5..5 + DIGITS].as_chunks_mut::<32>().0;
+        for (digits, bytes) in digits.iter_mut().zip(bytes.as_chunks::<16>().0) {
+            put_hexadecimal(digits, bytes);
         }
         line[5 + 2 * count] = b'\n';
         self.len += 6 + 2 * count;

@@ -1,5 +1,5 @@
 //! What undoes steps, and what a sweep takes out.
-use crate::heap::{Dead, Heap, Region, Swept, Undo, add, cell_of, numbers, region_of, remove, word_of};
+use crate::heap::{Dead, Heap, Region, SIZES, SPARES, Swept, Undo, add, cell_of, numbers, region_of, remove, word_of};
 
 impl Region {
     /// Removes the objects that aren't live, and returns them.
@@ -77,10 +77,10 @@ impl Heap {
             }
             Undo::Finish { log } => self.unfinish(*log),
             Undo::Sweep { region, swept } => {
-                let block = self.regions[region as usize].as_mut().unwrap();
+                let block = self.regions[region as usize].as_deref_mut().unwrap();
                 block.restore(&swept);
                 if block.head == 0 {
-                    remove(&mut self.free[block.size as usize], region);
+                    remove(&mut self.free[block.size as usize % SIZES], region);
                 }
                 add(&mut self.pending, region);
             }
@@ -97,7 +97,10 @@ impl Heap {
     #[inline(always)]
     fn remove(&mut self, id: u32, fresh: bool) {
         if fresh {
-            drop(self.take_region(region_of(id)));
+            let region = self.take_region(region_of(id));
+            if self.spare.len() < SPARES {
+                self.spare.push(region);
+            }
             return;
         }
         let block = self.region(id);
@@ -107,7 +110,7 @@ impl Heap {
         remove(&mut block.live, cell);
         remove(&mut block.mark, cell);
         let size = block.size;
-        add(&mut self.free[size as usize], region_of(id));
+        add(&mut self.free[size as usize % SIZES], region_of(id));
     }
 
     /// Takes the newest objects off the gray stack, and their marks from them.

@@ -1,9 +1,9 @@
 #!/usr/bin/env python3
 """Compares heapdbg with the same program in plain Rust, `bench/plain`: `ratio.py [PROGRAM]`.
 
-PROGRAM is `bin/heapdbg` if it isn't given. Prints a row for each workload: its lines, the instructions of both programs, without
-those of the kernel, and their ratio; then the user times of longer sessions, medians of five. Fails if the programs answer
-otherwise. Needs `rustc` and `valgrind`."""
+PROGRAM is `bin/heapdbg` if it isn't given. Prints a row for each workload: its lines, the instructions of both programs
+for each line (of a dump, for each byte; those of the kernel aren't counted), and their ratio; then the user times of longer
+sessions, medians of five. Fails if the programs answer otherwise. Needs `rustc` and `valgrind`."""
 import os
 import pathlib
 import resource

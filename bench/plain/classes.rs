@@ -137,7 +137,7 @@ impl Classes {
             references |= u64::from(kind == OBJECT) << slot;
             bytes += u32::from(self.widths[kind as usize]);
         }
-        let size = crate::heap::size_for(slots);
+        let size = crate::regions::size_for(slots);
         Shape { references, is_array: false, size, len: slots as u16, bytes, class, kinds }
     }
 

@@ -1,6 +1,7 @@
 //! Dumps: HPROF text in pieces.
 use crate::classes::{KINDS, NO_CLASS, Shape, TYPES};
-use crate::heap::{Bits, Cells, FIRST_OBJECT, Heap, REGION_LIMIT, REGISTER_LIMIT};
+use crate::heap::Heap;
+use crate::regions::{Bits, Cells, FIRST_OBJECT, REGION_LIMIT, REGISTER_LIMIT};
 use std::rc::Rc;
 
 const BODY_LIMIT: usize = 4096;
@@ -56,7 +57,7 @@ impl<'a> View<'a> {
     fn live(&self, region: usize) -> Bits {
         match self.live {
             Some(live) => live[region],
-            None => self.heap.regions[region].as_ref().map_or([0; 4], |region| region.live),
+            None => self.heap.regions[region].as_ref().map_or(Bits::NONE, |region| region.live),
         }
     }
 
@@ -242,11 +243,11 @@ impl Writer {
         let first = cursor.at;
         for region in first / 256..REGION_LIMIT {
             let live = view.live(region);
-            if live == [0; 4] {
+            if live == Bits::NONE {
                 continue;
             }
             let cells = view.cells(region);
-            for (part, mut left) in live.into_iter().enumerate() {
+            for (part, mut left) in live.0.into_iter().enumerate() {
                 let before = first.saturating_sub(256 * region + 64 * part);
                 left &= if before < 64 { u64::MAX << before } else { 0 };
                 while left != 0 {
@@ -311,8 +312,8 @@ impl Writer {
         Some(size)
     }
 
-    /// Writes the tag, the id and the stack trace of an object, and returns room for the rest of its head. What a part writes too
-    /// much is overwritten by what follows it.
+    /// Writes the tag, the id and the stack trace of an object, and returns room for the rest of its head. Bytes that are
+    /// written too many are overwritten by what follows.
     #[inline(always)]
     fn head<const IDS: usize>(&mut self, tag: u8, number: usize, end: usize) -> Option<&mut [u8; HEAD_ROOM]> {
         let text: &mut [u8; HEAD_ROOM] = self.piece[end..].first_chunk_mut()?;

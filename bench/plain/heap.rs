@@ -1,230 +1,12 @@
-//! The heap: regions, registers, the marker, the sweeper, and the records that undo steps.
+//! The heap: regions, registers, the marker and the sweeper.
 use crate::classes::{Classes, MAXIMA, OBJECT, Shape};
 use crate::pins::Pins;
+use crate::regions::{Bits, FIRST_OBJECT, Header, REGION_LIMIT, REGISTER_LIMIT, Region, Regions, SIZES};
+use crate::regions::{cell_of, find, region_of, size_for, word_of};
+use crate::undo::{Trail, Undo};
 
-pub const REGION_LIMIT: usize = 256;
-pub const REGISTERS: u64 = 8;
-pub const REGISTER_LIMIT: usize = 128;
-pub const REGION_WORDS: usize = 1024;
-pub const ELEMENT_LIMIT: u64 = 1024;
-pub const SPARES: usize = 16;
-/// The cell sizes, and room for other numbers.
-pub const SIZES: usize = 8;
-/// The id of the first object.
-pub const FIRST_OBJECT: u32 = 0x1000_0000;
-
-/// Bits by number: of the regions of a heap, or of the cells of a region, which are numbered by the quarter of their first word.
-pub type Bits = [u64; 4];
-
-#[inline(always)]
-pub fn has(bits: &Bits, at: u8) -> bool {
-    bits[at as usize >> 6] >> (at & 63) & 1 != 0
-}
-
-#[inline(always)]
-pub fn add(bits: &mut Bits, at: u8) {
-    bits[at as usize >> 6] |= 1 << (at & 63);
-}
-
-#[inline(always)]
-pub fn remove(bits: &mut Bits, at: u8) {
-    bits[at as usize >> 6] &= !(1 << (at & 63));
-}
-
-/// Returns the lowest number.
-#[inline(always)]
-pub fn first(bits: &Bits) -> Option<u8> {
-    let part = bits.iter().position(|&part| part != 0)?;
-    Some((64 * part as u32 + bits[part].trailing_zeros()) as u8)
-}
-
-/// Returns the numbers in rising order.
-pub fn numbers(bits: Bits) -> impl Iterator<Item = u8> {
-    (0..4).flat_map(move |part| {
-        let mut left = bits[part];
-        std::iter::from_fn(move || {
-            let at = (left != 0).then(|| (64 * part as u32 + left.trailing_zeros()) as u8);
-            left &= left.wrapping_sub(1);
-            at
-        })
-    })
-}
-
-pub fn count(bits: &Bits) -> u64 {
-    bits.iter().map(|part| u64::from(part.count_ones())).sum()
-}
-
-/// What an object is and its number of slots. Of a free cell, `shape` is the next free cell plus one, or 0.
-#[derive(Clone, Copy, Default)]
-pub struct Header {
-    pub shape: u16,
-    pub len: u16,
-}
-
-/// The words of a region and the headers of its cells.
-#[derive(Clone)]
-pub struct Cells {
-    pub words: [u64; REGION_WORDS],
-    pub headers: [Header; 256],
-}
-
-/// A region in use.
-pub struct Region {
-    /// The free cell that heads the free list plus one, or 0.
-    pub head: u16,
-    /// The binary logarithm of the cells' size in quarters, halved.
-    pub size: u8,
-    /// The pins, as bits, that read the region in place.
-    pub readers: u8,
-    pub used: Bits,
-    pub live: Bits,
-    pub mark: Bits,
-    pub cells: Cells,
-}
-
-impl Region {
-    fn new(size: u8) -> Box<Region> {
-        // SAFETY: all parts are numbers, and zeros are such.
-        Region::blank(unsafe { Box::<Region>::new_zeroed().assume_init() }, size)
-    }
-
-    /// Makes a region without objects of another one. The words are left as they are.
-    fn blank(mut region: Box<Region>, size: u8) -> Box<Region> {
-        let step = 1usize << (2 * size);
-        for cell in (0..256 - step).step_by(step) {
-            region.cells.headers[cell].shape = (cell + step + 1) as u16;
-        }
-        region.cells.headers[256 - step].shape = 0;
-        region.head = 1;
-        region.size = size;
-        (region.readers, region.used, region.live, region.mark) = (0, [0; 4], [0; 4], [0; 4]);
-        region
-    }
-
-    /// Writes a word and returns what it was. Has the pins copy the region first.
-    #[inline(always)]
-    fn write(&mut self, pins: &mut Pins, address: u32, word: u64) -> u64 {
-        if self.readers != 0 {
-            pins.copy(region_of(address), self);
-        }
-        std::mem::replace(&mut self.cells.words[word_of(address)], word)
-    }
-}
-
-/// The regions by number. The empty ones are None.
-pub type Regions = [Option<Box<Region>>; REGION_LIMIT];
-
-/// Returns the id of the object in a register, its region and its shape. Fails if there is none or it hasn't this slot.
-#[inline(always)]
-fn find<'a>(
-    registers: &[u32; REGISTER_LIMIT],
-    regions: &'a mut Regions,
-    classes: &'a Classes,
-    register: u8,
-    slot: u64,
-) -> Result<(u32, &'a mut Region, &'a Shape), u8> {
-    let id = registers[register as usize % REGISTER_LIMIT];
-    if id == 0 {
-        return Err(8);
-    }
-    let region = regions[region_of(id) as usize].as_deref_mut().unwrap();
-    let Header { shape, len } = region.cells.headers[cell_of(id) as usize];
-    if slot >= u64::from(len) {
-        return Err(9);
-    }
-    Ok((id, region, &classes.shapes[shape as usize]))
-}
-
-/// A dead object that a sweep removed.
-pub struct Dead {
-    pub cell: u8,
-    pub header: Header,
-}
-
-/// What a sweep removed: the objects, and their words one after another.
-pub struct Swept {
-    pub dead: Vec<Dead>,
-    pub words: Vec<u64>,
-}
-
-/// What undoes a step.
-pub enum Undo {
-    Put { address: u32, old: u64 },
-    Store { address: u32, logged: bool, old: u64 },
-    Register { register: u8, old: u32 },
-    New { register: u8, fresh: bool, id: u32, old: u32 },
-    Class,
-    Snap { pushed: u32 },
-    Mark { id: u32, pushed: u32 },
-    Drain { pushed: bool },
-    Finish { log: Box<Vec<u32>> },
-    Sweep { region: u8, swept: Box<Swept> },
-    Reclaim { region: u8, block: Box<Region> },
-    /// The place of a record that was taken.
-    None,
-}
-
-impl Undo {
-    #[inline(always)]
-    fn holds_memory(&self) -> bool {
-        matches!(self, Undo::Finish { .. } | Undo::Sweep { .. } | Undo::Reclaim { .. })
-    }
-}
-
-/// The records of the last `keep` steps.
-pub struct Trail {
-    ring: Vec<Undo>,
-    next: usize,
-    keep: usize,
-    pub place: u64,
-    /// The highest place before the last rewind. Records of steps `keep` below it are lost.
-    highest: u64,
-}
-
-impl Trail {
-    fn new(keep: usize) -> Trail {
-        Trail { ring: Vec::with_capacity(keep), next: 0, keep, place: 0, highest: 0 }
-    }
-
-    /// Adds a record, in place of the oldest if there are `keep`.
-    #[inline(always)]
-    fn add(&mut self, record: Undo) {
-        match self.ring.get_mut(self.next) {
-            Some(slot) => {
-                let last = std::mem::replace(slot, record);
-                if last.holds_memory() {
-                    drop(last);
-                } else {
-                    std::mem::forget(last);
-                }
-            }
-            None => self.ring.push(record),
-        }
-        self.next += 1;
-        if self.next == self.keep {
-            self.next = 0;
-        }
-        self.place += 1;
-    }
-
-    /// Returns how many steps can be undone.
-    pub fn retained(&self) -> u64 {
-        self.place - self.highest.max(self.place).saturating_sub(self.keep as u64)
-    }
-
-    /// Takes the newest record.
-    fn take(&mut self) -> Undo {
-        self.next = if self.next == 0 { self.keep } else { self.next } - 1;
-        self.highest = self.highest.max(self.place);
-        self.place -= 1;
-        std::mem::replace(&mut self.ring[self.next], Undo::None)
-    }
-
-    /// Returns the record of the step `ago` steps before the newest.
-    pub fn record(&self, ago: usize) -> &Undo {
-        &self.ring[(self.next + 2 * self.keep - 1 - ago) % self.keep]
-    }
-}
+const REGISTERS: u64 = 8;
+const ELEMENT_LIMIT: u64 = 1024;
 
 /// Why a step was refused: a number, which implies its name, and its facts.
 pub enum Refusal {
@@ -262,26 +44,6 @@ pub struct Heap {
     pub pins: Pins,
 }
 
-#[inline(always)]
-pub fn region_of(id: u32) -> u8 {
-    (id >> 13) as u8
-}
-
-#[inline(always)]
-pub fn cell_of(id: u32) -> u8 {
-    (id >> 5) as u8
-}
-
-#[inline(always)]
-pub fn word_of(address: u32) -> usize {
-    (address >> 3) as usize % REGION_WORDS
-}
-
-/// Returns the number of the least cell size that holds so many slots, at most 1,024.
-pub fn size_for(slots: usize) -> u8 {
-    if slots <= 4 { 0 } else { ((slots - 1).ilog2() as u8) >> 1 }
-}
-
 impl Heap {
     pub fn new(regions: usize, mutators: u64, keep: usize, ids: usize) -> Heap {
         Heap {
@@ -292,9 +54,9 @@ impl Heap {
             count: regions,
             pool: (0..regions).rev().map(|region| region as u8).collect(),
             spare: Vec::new(),
-            free: [[0; 4]; SIZES],
-            used: [0; 4],
-            pending: [0; 4],
+            free: [Bits::NONE; SIZES],
+            used: Bits::NONE,
+            pending: Bits::NONE,
             gray: Vec::new(),
             log: Vec::new(),
             drained: 0,
@@ -371,7 +133,7 @@ impl Heap {
     /// Makes an object in the first region with a free cell of this size, or in one from the pool.
     #[inline(always)]
     fn make(&mut self, register: u8, header: Header, size: u8) -> Result<u32, u8> {
-        let (number, fresh) = match first(&self.free[size as usize % SIZES]) {
+        let (number, fresh) = match self.free[size as usize % SIZES].first() {
             Some(number) => (number, false),
             None => (self.open(size)?, true),
         };
@@ -386,13 +148,13 @@ impl Heap {
         } else {
             region.cells.words[start..start + header.len as usize].fill(0);
         }
-        add(&mut region.used, cell);
-        add(&mut region.live, cell);
+        region.used.add(cell);
+        region.live.add(cell);
         if marking {
-            add(&mut region.mark, cell);
+            region.mark.add(cell);
         }
         if region.head == 0 {
-            remove(&mut self.free[size as usize % SIZES], number);
+            self.free[size as usize % SIZES].remove(number);
         }
         let id = FIRST_OBJECT + 8192 * u32::from(number) + 32 * u32::from(cell);
         let old = std::mem::replace(self.at(register), id);
@@ -414,16 +176,16 @@ impl Heap {
 
     pub fn put_region(&mut self, number: u8, block: Box<Region>) {
         if block.head != 0 {
-            add(&mut self.free[block.size as usize % SIZES], number);
+            self.free[block.size as usize % SIZES].add(number);
         }
-        add(&mut self.used, number);
+        self.used.add(number);
         self.regions[number as usize] = Some(block);
     }
 
     pub fn take_region(&mut self, number: u8) -> Box<Region> {
         let block = self.regions[number as usize].take().unwrap();
-        remove(&mut self.free[block.size as usize % SIZES], number);
-        remove(&mut self.used, number);
+        self.free[block.size as usize % SIZES].remove(number);
+        self.used.remove(number);
         self.pool.push(number);
         block
     }
@@ -504,10 +266,10 @@ impl Heap {
     #[inline(always)]
     fn shade(&mut self, id: u32) -> bool {
         let mark = &mut self.region(id).mark;
-        if has(mark, cell_of(id)) {
+        if mark.has(cell_of(id)) {
             return false;
         }
-        add(mark, cell_of(id));
+        mark.add(cell_of(id));
         self.gray.push(id);
         true
     }
@@ -575,12 +337,12 @@ impl Heap {
         if !self.gray.is_empty() || undrained > 0 {
             return Err(Refusal::NotDone(self.gray.len() as u64, undrained as u64));
         }
-        if let Some(region) = first(&self.pending) {
+        if let Some(region) = self.pending.first() {
             return Err(Refusal::SweepPending(u64::from(region)));
         }
         let mut condemned = 0;
         for region in self.regions.iter_mut().flatten() {
-            condemned += count(&region.used) - count(&region.mark);
+            condemned += region.used.count() - region.mark.count();
             region.live = std::mem::take(&mut region.mark);
         }
         self.pending = self.used;
@@ -594,24 +356,24 @@ impl Heap {
 
     /// Sweeps a region, and returns how many objects were removed and whether the region was emptied.
     pub fn sweep(&mut self, number: u64) -> Result<(u64, bool), Refusal> {
-        if number >= self.count as u64 || !has(&self.pending, number as u8) {
+        if number >= self.count as u64 || !self.pending.has(number as u8) {
             return Err(Refusal::NothingToSweep(number));
         }
         let at = number as u8;
-        remove(&mut self.pending, at);
+        self.pending.remove(at);
         let region = self.regions[at as usize].as_deref_mut().unwrap();
         if region.readers != 0 {
             self.pins.copy(at, region);
         }
-        if region.live == [0; 4] {
+        if region.live == Bits::NONE {
             let block = self.take_region(at);
-            let removed = count(&block.used);
+            let removed = block.used.count();
             self.trail.add(Undo::Reclaim { region: at, block });
             return Ok((removed, true));
         }
         let swept = region.sweep();
         if region.head != 0 {
-            add(&mut self.free[region.size as usize % SIZES], at);
+            self.free[region.size as usize % SIZES].add(at);
         }
         let removed = swept.dead.len() as u64;
         self.trail.add(Undo::Sweep { region: at, swept: Box::new(swept) });

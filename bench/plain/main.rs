@@ -4,6 +4,7 @@ mod commands;
 mod dump;
 mod heap;
 mod pins;
+mod regions;
 mod session;
 mod text;
 mod undo;

@@ -1,6 +1,8 @@
 //! Pins: past states that stay readable.
 use crate::dump::{Cursor, View};
-use crate::heap::{Bits, Cells, Dead, Heap, REGION_LIMIT, REGISTER_LIMIT, Region, Regions, Undo, add, cell_of, region_of, remove, word_of};
+use crate::heap::Heap;
+use crate::regions::{Bits, Cells, Dead, REGION_LIMIT, REGISTER_LIMIT, Region, Regions, cell_of, region_of, word_of};
+use crate::undo::Undo;
 use std::rc::Rc;
 
 const PIN_LIMIT: usize = 4;
@@ -31,9 +33,9 @@ pub struct Pins {
 
 impl Kept {
     fn new(heap: &Heap) -> Box<Kept> {
-        let mut live = [[0; 4]; REGION_LIMIT];
+        let mut live = [Bits::NONE; REGION_LIMIT];
         for (bits, region) in live.iter_mut().zip(&heap.regions) {
-            *bits = region.as_ref().map_or([0; 4], |region| region.live);
+            *bits = region.as_ref().map_or(Bits::NONE, |region| region.live);
         }
         let copies = [const { None }; REGION_LIMIT];
         Box::new(Kept { registers: heap.registers, live, copies, classes: heap.classes.len() })
@@ -48,9 +50,9 @@ impl Kept {
 
     /// Goes back over the last `n` steps.
     fn walk_back(&mut self, heap: &Heap, n: usize) {
-        let mut used = [[0; 4]; REGION_LIMIT];
+        let mut used = [Bits::NONE; REGION_LIMIT];
         for (bits, region) in used.iter_mut().zip(&heap.regions) {
-            *bits = region.as_ref().map_or([0; 4], |region| region.used);
+            *bits = region.as_ref().map_or(Bits::NONE, |region| region.used);
         }
         for ago in 0..n {
             self.step_back(heap, heap.trail.record(ago), &mut used);
@@ -67,8 +69,8 @@ impl Kept {
             Undo::New { register, fresh, id, old } => {
                 self.registers[*register as usize] = *old;
                 let region = region_of(*id) as usize;
-                remove(&mut used[region], cell_of(*id));
-                remove(&mut self.live[region], cell_of(*id));
+                used[region].remove(cell_of(*id));
+                self.live[region].remove(cell_of(*id));
                 if *fresh {
                     self.copies[region] = None;
                 }
@@ -83,7 +85,7 @@ impl Kept {
                     copy.headers[*cell as usize] = *header;
                     copy.words[4 * *cell as usize..][..own.len()].copy_from_slice(own);
                     words = rest;
-                    add(&mut used[*region as usize], *cell);
+                    used[*region as usize].add(*cell);
                 }
             }
             Undo::Reclaim { region, block } => {
@@ -151,7 +153,7 @@ impl Heap {
         let taken = self.pins.open.iter().fold(0, |taken, pin| taken | pin.bit);
         let bit = 1 << (!taken).trailing_zeros();
         for (region, (live, copy)) in self.regions.iter_mut().zip(kept.live.iter().zip(&kept.copies)) {
-            if let (Some(region), true, None) = (region, *live != [0; 4], copy) {
+            if let (Some(region), true, None) = (region, *live != Bits::NONE, copy) {
                 region.readers |= bit;
             }
         }

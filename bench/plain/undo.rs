@@ -1,47 +1,86 @@
-//! What undoes steps, and what a sweep takes out.
-use crate::heap::{Dead, Heap, Region, SIZES, SPARES, Swept, Undo, add, cell_of, numbers, region_of, remove, word_of};
+//! Records of steps, and what they undo.
+use crate::heap::Heap;
+use crate::regions::{Bits, Region, SIZES, Swept, cell_of, region_of, word_of};
 
-impl Region {
-    /// Removes the objects that aren't live, and returns them.
-    pub fn sweep(&mut self) -> Swept {
-        let mut gone = self.used;
-        for (part, live) in gone.iter_mut().zip(self.live) {
-            *part &= !live;
-        }
-        let (mut size, mut words) = (0, 0);
-        for cell in numbers(gone) {
-            size += 1;
-            words += self.cells.headers[cell as usize].len as usize;
-        }
-        let mut swept = Swept { dead: Vec::with_capacity(size), words: Vec::with_capacity(words) };
-        for cell in numbers(gone) {
-            let header = std::mem::take(&mut self.cells.headers[cell as usize]);
-            let start = 4 * cell as usize;
-            swept.words.extend_from_slice(&self.cells.words[start..start + header.len as usize]);
-            swept.dead.push(Dead { cell, header });
-            self.link(cell);
-        }
-        self.used = self.live;
-        swept
+/// The most regions that are kept to be used again.
+const SPARES: usize = 16;
+
+/// What undoes a step.
+pub enum Undo {
+    Put { address: u32, old: u64 },
+    Store { address: u32, logged: bool, old: u64 },
+    Register { register: u8, old: u32 },
+    New { register: u8, fresh: bool, id: u32, old: u32 },
+    Class,
+    Snap { pushed: u32 },
+    Mark { id: u32, pushed: u32 },
+    Drain { pushed: bool },
+    Finish { log: Box<Vec<u32>> },
+    Sweep { region: u8, swept: Box<Swept> },
+    Reclaim { region: u8, block: Box<Region> },
+    /// The place of a record that was taken.
+    None,
+}
+
+impl Undo {
+    #[inline(always)]
+    fn holds_memory(&self) -> bool {
+        matches!(self, Undo::Finish { .. } | Undo::Sweep { .. } | Undo::Reclaim { .. })
+    }
+}
+
+/// The records of the last `keep` steps.
+pub struct Trail {
+    ring: Vec<Undo>,
+    next: usize,
+    keep: usize,
+    pub place: u64,
+    /// The highest place before the last rewind. Records of steps `keep` below it are lost.
+    highest: u64,
+}
+
+impl Trail {
+    pub fn new(keep: usize) -> Trail {
+        Trail { ring: Vec::with_capacity(keep), next: 0, keep, place: 0, highest: 0 }
     }
 
-    /// Puts a cell at the head of the free list.
-    fn link(&mut self, cell: u8) {
-        self.cells.headers[cell as usize].shape = self.head;
-        self.head = u16::from(cell) + 1;
+    /// Adds a record, in place of the oldest if there are `keep`.
+    #[inline(always)]
+    pub fn add(&mut self, record: Undo) {
+        match self.ring.get_mut(self.next) {
+            Some(slot) => {
+                let last = std::mem::replace(slot, record);
+                if last.holds_memory() {
+                    drop(last);
+                } else {
+                    std::mem::forget(last);
+                }
+            }
+            None => self.ring.push(record),
+        }
+        self.next += 1;
+        if self.next == self.keep {
+            self.next = 0;
+        }
+        self.place += 1;
     }
 
-    /// Puts back what a sweep removed.
-    fn restore(&mut self, swept: &Swept) {
-        let mut end = swept.words.len();
-        for Dead { cell, header } in swept.dead.iter().rev() {
-            self.head = self.cells.headers[*cell as usize].shape;
-            self.cells.headers[*cell as usize] = *header;
-            let (start, len) = (4 * *cell as usize, header.len as usize);
-            end -= len;
-            self.cells.words[start..start + len].copy_from_slice(&swept.words[end..end + len]);
-            add(&mut self.used, *cell);
-        }
+    /// Returns how many steps can be undone.
+    pub fn retained(&self) -> u64 {
+        self.place - self.highest.max(self.place).saturating_sub(self.keep as u64)
+    }
+
+    /// Takes the newest record.
+    pub fn take(&mut self) -> Undo {
+        self.next = if self.next == 0 { self.keep } else { self.next } - 1;
+        self.highest = self.highest.max(self.place);
+        self.place -= 1;
+        std::mem::replace(&mut self.ring[self.next], Undo::None)
+    }
+
+    /// Returns the record of the step `ago` steps before the newest.
+    pub fn record(&self, ago: usize) -> &Undo {
+        &self.ring[(self.next + 2 * self.keep - 1 - ago) % self.keep]
     }
 }
 
@@ -80,14 +119,14 @@ impl Heap {
                 let block = self.regions[region as usize].as_deref_mut().unwrap();
                 block.restore(&swept);
                 if block.head == 0 {
-                    remove(&mut self.free[block.size as usize % SIZES], region);
+                    self.free[block.size as usize % SIZES].remove(region);
                 }
-                add(&mut self.pending, region);
+                self.pending.add(region);
             }
             Undo::Reclaim { region, block } => {
                 self.pool.pop();
                 self.put_region(region, block);
-                add(&mut self.pending, region);
+                self.pending.add(region);
             }
             Undo::None => unreachable!(),
         }
@@ -106,18 +145,18 @@ impl Heap {
         let block = self.region(id);
         let cell = cell_of(id);
         block.link(cell);
-        remove(&mut block.used, cell);
-        remove(&mut block.live, cell);
-        remove(&mut block.mark, cell);
+        block.used.remove(cell);
+        block.live.remove(cell);
+        block.mark.remove(cell);
         let size = block.size;
-        add(&mut self.free[size as usize % SIZES], region_of(id));
+        self.free[size as usize % SIZES].add(region_of(id));
     }
 
     /// Takes the newest objects off the gray stack, and their marks from them.
     fn unshade(&mut self, pushed: u32) {
         for _ in 0..pushed {
             let id = self.gray.pop().unwrap();
-            remove(&mut self.region(id).mark, cell_of(id));
+            self.region(id).mark.remove(cell_of(id));
         }
     }
 
@@ -126,7 +165,7 @@ impl Heap {
         for block in self.regions.iter_mut().flatten() {
             block.mark = std::mem::replace(&mut block.live, block.used);
         }
-        self.pending = [0; 4];
+        self.pending = Bits::NONE;
         self.drained = log.len();
         self.log = log;
         self.marking = true;

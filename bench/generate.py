@@ -13,7 +13,7 @@ KIND `marking` fills every region but the last with one list, and then begins a 
 behind the marker, so that the barrier logs an unmarked object, drains, marks and walks on; and rewinds to where the cycle began.
 KIND `cycles` fills every region but the last with nodes of two lists in turn, drops one of them, runs a whole cycle with a
 store, sweeps every region, which copies half of its objects, and makes the dropped list again, and so on.
-KIND `rewinds` makes objects and writes them, undoes a few steps now and then, and undoes and repeats up to 20,000 steps at times.
+KIND `rewinds` makes objects and writes them, undoes a few steps now and then, and at times up to 20,000, which it repeats.
 KIND `pinned` links nodes of 16 regions beside four pins, and now and then dumps the oldest, closes it and opens another."""
 import random
 import string

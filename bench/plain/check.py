@@ -1,9 +1,8 @@
 #!/usr/bin/env python3
 """Compares the plain program with the model of `checks/model`: `check.py [COUNT [SEED]]`.
 
-Draws COUNT sessions (5 if it isn't given) of each kind that has no questions, from SEED on, gives them to the program, and runs
-the cases of `examples/` without questions. Prints a line for each that is answered otherwise, and ends with status 1 if there is
-one."""
+Draws COUNT sessions (5 if it isn't given) of each kind that has no questions, from SEED on, gives them to the program, and
+runs those of `examples/cases`. Prints a line for each that is answered otherwise, and ends with status 1 if there is one."""
 import concurrent.futures
 import importlib.util
 import os

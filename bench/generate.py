@@ -12,7 +12,9 @@ KIND `mixed_full` is the same after 248 regions were filled by an array each.
 KIND `marking` fills every region but the last with one list, and then begins a cycle and, again and again, cuts the list
 behind the marker, so that the barrier logs an unmarked object, drains, marks and walks on; and rewinds to where the cycle began.
 KIND `cycles` fills every region but the last with nodes of two lists in turn, drops one of them, runs a whole cycle with a
-store, sweeps every region, which copies half of its objects, and makes the dropped list again, and so on."""
+store, sweeps every region, which copies half of its objects, and makes the dropped list again, and so on.
+KIND `rewinds` makes objects and writes them, undoes a few steps now and then, and at times up to 20,000, which it repeats.
+KIND `pinned` links nodes of 16 regions beside four pins, and now and then dumps the oldest, closes it and opens another."""
 import random
 import string
 import sys
@@ -137,6 +139,48 @@ def puts(count, rng):
         yield f"put 0 0 {rng.randrange(2)} {rng.randrange(1 << 32)}"
 
 
+def rewinds(count, rng):
+    yield "class Point - x:int y:int"
+    yield "new 0 0 0"
+    yield "new 1 0 0"
+    # The steps that may be undone.
+    done, said = [], 0
+    while said < count:
+        said += 1
+        if said % 40_000 == 0:
+            again = done[-rng.randrange(10_000, 20_000) :]
+            yield f"rewind {len(again)}"
+            yield from again
+            said += len(again)
+        elif done and rng.random() < 0.2:
+            few = min(len(done), rng.randrange(1, 5))
+            del done[-few:]
+            yield f"rewind {few}"
+        elif rng.random() < 0.4:
+            done.append(f"new {rng.randrange(2)} 0 0")
+            yield done[-1]
+        else:
+            done.append(f"put {rng.randrange(2)} 0 {rng.randrange(2)} {rng.randrange(1 << 32)}")
+            yield done[-1]
+
+
+def pinned(count, rng):
+    yield "class Node - next:object v:long"
+    for number in range(16):
+        for _ in range(256):
+            yield f"new {number // 8} {number % 8} 0"
+    yield from ["open -"] * 4
+    oldest = 1
+    for number in range(count):
+        if number % 20_000 == 19_999:
+            yield f"dump {oldest}"
+            yield f"close {oldest}"
+            yield "open -"
+            oldest += 1
+        yield f"store {rng.randrange(2)} {rng.randrange(8)} 0 {rng.randrange(8)}"
+    yield from [f"dump {pin}" for pin in range(oldest, oldest + 4)]
+
+
 def class_of_fields(sup, rng):
     """A line for a class with as many fields of two letters as fit into 4,096 bytes."""
     names = [first + second for first in string.ascii_lowercase for second in string.ascii_lowercase][:583]
@@ -157,7 +201,7 @@ def fields_nowhere(count, rng):
 
 
 def main():
-    each_kind = (first, pairs, last, mixed, mixed_full, marking, cycles, puts, fields, fields_nowhere)
+    each_kind = (first, pairs, last, mixed, mixed_full, marking, cycles, puts, rewinds, pinned, fields, fields_nowhere)
     kinds = {kind.__name__: kind for kind in each_kind}
     kind, count = sys.argv[1], int(sys.argv[2])
     rng = random.Random(int(sys.argv[3]) if len(sys.argv) > 3 else 1)

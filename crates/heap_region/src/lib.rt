@@ -17,19 +17,21 @@ ghost use Rattle.heap_region.specs.Changes.{with_live, with_pending};
 ghost use Rattle.heap_region.specs.Live.{cells_of, live_in, live_from};
 
 mod cell;
+mod free_classes;
 mod frozen_region;
 mod lists;
 mod sizes;
 mod slots;
 mod storage;
 
+use free_classes::FreeClasses;
 pub use frozen_region::FrozenRegion;
 use heap_class::{ObjKind, ObjRef, Refusal};
 pub use lists::{FreeCells, PoolRegions};
 pub use sizes::{OBJECT_BASE, REGION_WORDS, cell_size_for};
 use slots::{
-    find_free_class, first_free_in, free_class, free_in, pool_head, set_live_in, set_mark_in,
-    set_pending_in, set_word_in, size_class, slot_at, take_in, unfree_in,
+    first_free_in, free_class, free_in, pool_head, set_live_in, set_mark_in, set_pending_in,
+    set_word_in, size_class, slot_at, take_in, unfree_in,
 };
 use std::alloc::{AllocError, Global};
 use std::marker::Model;
@@ -41,7 +43,7 @@ pub struct Regions {
     alloc: Global,
     slots: Vec<Option<Storage>>,
     // For each region the number of its cell size if one of its cells is free, else 0.
-    free_classes: Vec<u8>,
+    free_classes: FreeClasses,
     // The empty regions, the head last. It has room for all regions.
     pool: Vec<usize>,
 }
@@ -57,7 +59,7 @@ impl Model for Regions {
     ghost view = { λ h.
         record { regions = map shown_region h.slots.items; pool = reverse h.pool.items } };
 
-    ghost invariant = { λ h. IsRegionTable h.slots.items h.free_classes.items (reverse h.pool.items)
+    ghost invariant = { λ h. IsRegionTable h.slots.items h.free_classes (reverse h.pool.items)
         (vec_capacity h.pool) };
 }
 
@@ -392,7 +394,8 @@ impl Regions {
     {
         let region = at.region as usize;
         free_in(&mut self.slots[region], at.cell as usize);
-        self.free_classes[region] = free_class(&self.slots[region]);
+        self.free_classes
+            .set(region, free_class(&self.slots[region]));
     }
 
     /// Puts an object into the cell that heads its region's free list. The cells must have the least size that holds it. Undoes
@@ -407,7 +410,8 @@ impl Regions {
     {
         let region = at.region as usize;
         unfree_in(&mut self.slots[region], at.cell as usize, object);
-        self.free_classes[region] = free_class(&self.slots[region]);
+        self.free_classes
+            .set(region, free_class(&self.slots[region]));
     }
 
     /// Moves the storage out of a region in use, which is then empty and heads the pool. Undoes `restore`. Takes no memory.
@@ -422,7 +426,7 @@ impl Regions {
     {
         let region = region as usize;
         let slot = self.slots[region].take();
-        self.free_classes[region] = 0;
+        self.free_classes.set(region, 0);
         self.pool.push_reserved(region);
         match slot {
             Some(storage) => storage,
@@ -443,7 +447,8 @@ impl Regions {
         let region = region as usize;
         self.pool.pop();
         self.slots[region] = Some(storage);
-        self.free_classes[region] = free_class(&self.slots[region]);
+        self.free_classes
+            .set(region, free_class(&self.slots[region]));
     }
 
     /// Returns a copy of a region in use. Fails with NoMemory if the allocation fails.
@@ -480,8 +485,7 @@ impl Regions {
         requires { (1 ≤ count) × (count ≤ region_limit) }
         ensures { IfOk result (λ s. s ≡ opening_pool count) }
     {
-        let mut free_classes = Vec::new(alloc);
-        free_classes.resize(count, 0)?;
+        let free_classes = FreeClasses::new(alloc, count)?;
         let mut slots = Vec::with_capacity(alloc, count)?;
         let mut pool = Vec::with_capacity(alloc, count)?;
         for i in 0..count {
@@ -537,7 +541,7 @@ impl Regions {
         ensures { result
             ≡ slice_get (filter_map (free_place size) (enumerate_from 0 self.now.regions)) 0 }
     {
-        let region = find_free_class(&self.free_classes, size_class(size))?;
+        let region = self.free_classes.find(size_class(size))?;
         let cell = first_free_in(&self.slots[region])?;
         Some(ObjRef {
             region: region as u16,
@@ -561,7 +565,8 @@ impl Regions {
     {
         let region = at.region as usize;
         take_in(&mut self.slots[region], at.cell as usize, kind, len, mark);
-        self.free_classes[region] = free_class(&self.slots[region]);
+        self.free_classes
+            .set(region, free_class(&self.slots[region]));
     }
 
     // Returns the place of the first live object of a region from a cell on.

@@ -3,11 +3,11 @@ use Rattle.std.proofs.Common.{◌≡◌, refl, ℕ, ◌+◌, ◌-◌, ◌*◌, �
 use Rattle.std.specs.Prelude.{◌==◌, suc}
 use Rattle.std.proofs.Math.Seq.{take-add}
 use Rattle.std.proofs.lemmas.Bool.{and_from, and_parts}
-use Rattle.std.proofs.lemmas.List.{length-drop, length-take-le, get_or-drop, get_or-take}
+use Rattle.std.proofs.lemmas.List.{length-drop, length-take-le, get_or-drop, get_or-take, take_all}
 use Rattle.std.proofs.lemmas.List.Elements.{All-nil, All-cons, All-append}
 use Rattle.std.specs.Char.{is_ascii_digit}
 use Rattle.session_grammar.specs.Lines.{NoLf}
-use Rattle.session_grammar.specs.Reads.{with_digit, IsReadTo, IsReadIn, IsNumberAt, IsNumberThen}
+use Rattle.session_grammar.specs.Reads.{with_digit, IsReadTo, IsReadIn, IsNumberAt, IsNumberThen, AreDigits, four_value, BeginsWithEight}
 use Rattle.session_grammar.proofs.Firsts.{cut}
 use Rattle.session_grammar.proofs.Numbers.{read_none, read_digit, sure_more, read_to_space, read_to_end, number_next}
 
@@ -69,18 +69,59 @@ read_in_sure t at size value lt few low high h less =
     let is : Some (value * 10 + (b - 48)) ≡ with_digit value b = sym (ap (λ v. cond v (cond (nat_lt (value * 10 + (b - 48)) (2 ^ 64)) (Some (value * 10 + (b - 48))) None) None) digit ∙ ap (λ v. cond v (Some (value * 10 + (b - 48))) None) (lt-ltb _ _ sure.0)) in
     (read_in_more t at size value (value * 10 + (b - 48)) lt (omega (arith, few)) is low h, sure.1)
 
--- two digits
-pub read_in_pair : (t : List ℕ) (at size value : ℕ) → at + size + 1 < length t → size < 18 → 48 ≤ get_or t (at + size) 0 → get_or t (at + size) 0 ≤ 57 → 48 ≤ get_or t (at + size + 1) 0 → get_or t (at + size + 1) 0 ≤ 57 → IsReadIn t at value size → value < 10 ^ size
-    → IsReadIn t at ((value * 10 + (get_or t (at + size) 0 - 48)) * 10 + (get_or t (at + size + 1) 0 - 48)) (size + 2) × ((value * 10 + (get_or t (at + size) 0 - 48)) * 10 + (get_or t (at + size + 1) 0 - 48) < 10 ^ (size + 2))
-read_in_pair t at size value lt few low high low2 high2 h less =
-    let first = read_in_sure t at size value (omega (arith, lt)) (omega (arith, few)) low high h less in
-    let v = value * 10 + (get_or t (at + size) 0 - 48) in
-    let here : at + (size + 1) ≡ at + size + 1 = omega arith in
-    let two : size + 1 + 1 ≡ size + 2 = omega arith in
-    let second = read_in_sure t at (size + 1) v (omega (arith, lt)) (omega (arith, few)) (subst (λ k. 48 ≤ get_or t k 0) (sym here) low2) (subst (λ k. get_or t k 0 ≤ 57) (sym here) high2) first.0 first.1 in (
-      subst (λ n. IsReadIn t at (v * 10 + (get_or t (at + size + 1) 0 - 48)) n) two (subst (λ k. IsReadIn t at (v * 10 + (get_or t k 0 - 48)) (size + 1 + 1)) here second.0),
-      subst (λ n. v * 10 + (get_or t (at + size + 1) 0 - 48) < 10 ^ n) two (subst (λ k. v * 10 + (get_or t k 0 - 48) < 10 ^ (size + 1 + 1)) here second.1),
-    )
+-- what is read goes on to this value and size
+abbrev pub IsReadTill : List ℕ → ℕ → ℕ → ℕ → Type 0
+IsReadTill t at value size = IsReadIn t at value size × (value < 10 ^ size)
+
+-- one more digit `b`, at the place `i`
+read_in_next : (t : List ℕ) (at i size value b : ℕ) → i ≡ at + size → get_or t i 0 ≡ b → i < length t → size < 19 → (48 ≤ b) × (b ≤ 57) → IsReadTill t at value size → IsReadTill t at (value * 10 + (b - 48)) (size + 1)
+read_in_next t at i size value b e is lt few range h =
+    let g : get_or t (at + size) 0 ≡ b = ap (λ k. get_or t k 0) (sym e) ∙ is in
+    subst (λ d. IsReadTill t at (value * 10 + (d - 48)) (size + 1)) g (read_in_sure t at size value (omega (arith, e, lt)) few (omega (arith, g, range.0)) (omega (arith, g, range.1)) h.0 h.1)
+
+with_four : (v a b c d : ℕ) → (((v * 10 + a) * 10 + b) * 10 + c) * 10 + d ≡ v * 10000 + (((a * 10 + b) * 10 + c) * 10 + d)
+with_four v a b c d = omega arith
+
+with_eight : (v a b : ℕ) → (v * 10000 + a) * 10000 + b ≡ v * 100000000 + (a * 10000 + b)
+with_eight v a b = omega arith
+
+-- four more digits
+read_in_four : (t : List ℕ) (at i size value a b c d : ℕ) → i ≡ at + size → i + 3 < length t → size ≤ 15 → get_or t i 0 ≡ a → get_or t (i + 1) 0 ≡ b → get_or t (i + 2) 0 ≡ c → get_or t (i + 3) 0 ≡ d → AreDigits a b c d
+    → IsReadTill t at value size → IsReadTill t at (value * 10000 + four_value a b c d) (size + 4)
+read_in_four t at i size value a b c d e lt few ia ib ic id are h =
+    let one = read_in_next t at i size value a e ia (omega (arith, lt)) (omega (arith, few)) are.0 h in
+    let v1 = value * 10 + (a - 48) in
+    let two = read_in_next t at (i + 1) (size + 1) v1 b (omega (arith, e)) ib (omega (arith, lt)) (omega (arith, few)) are.1 one in
+    let v2 = v1 * 10 + (b - 48) in
+    let three = read_in_next t at (i + 2) (size + 1 + 1) v2 c (omega (arith, e)) ic (omega (arith, lt)) (omega (arith, few)) are.2 two in
+    let v3 = v2 * 10 + (c - 48) in
+    let four = read_in_next t at (i + 3) (size + 1 + 1 + 1) v3 d (omega (arith, e)) id lt (omega (arith, few)) are.3 three in
+    let more : size + 1 + 1 + 1 + 1 ≡ size + 4 = omega arith in
+    subst (λ v. IsReadTill t at v (size + 4)) (with_four value (a - 48) (b - 48) (c - 48) (d - 48)) (subst (λ n. IsReadTill t at (v3 * 10 + (d - 48)) n) more four)
+
+-- eight more digits
+pub read_in_eight : (t r : List ℕ) (at size value eight : ℕ) → at + size ≤ length t → size ≤ 8 → r ≡ take (length t - (at + size)) (drop (at + size) t) → BeginsWithEight r eight → IsReadIn t at value size → value < 10 ^ size
+    → IsReadIn t at (value * 100000000 + eight) (size + 8) × (value * 100000000 + eight < 10 ^ (size + 8)) × (value * 100000000 + eight < 2 ^ 64)
+read_in_eight t r at size value eight le few is h read less =
+    let i = at + size in
+    let rest : r ≡ drop i t = is ∙ take_all (length t - i) (drop i t) (omega (arith, length-drop i t)) in
+    let long : i + 7 < length t = omega (arith, h.0, length-drop i t, ap length rest, le) in
+    let get : (k : ℕ) → get_or t (i + k) 0 ≡ get_or r k 0 = λ k. sym (ap (λ l. get_or l k 0) rest ∙ get_or-drop i t k 0) in
+    let here : get_or t i 0 ≡ get_or r 0 0 = ap (λ k. get_or t k 0) (start i) ∙ get 0 in
+    let front = read_in_four t at i size value (get_or r 0 0) (get_or r 1 0) (get_or r 2 0) (get_or r 3 0) refl (omega (arith, long)) (omega (arith, few)) here (get 1) (get 2) (get 3) h.1 (read, less) in
+    let next : (k m : ℕ) → k + 4 ≡ m → get_or t (i + 4 + k) 0 ≡ get_or r m 0 = λ k m e. ap (λ j. get_or t j 0) (shift i k m e) ∙ get m in
+    let back = read_in_four t at (i + 4) (size + 4) (value * 10000 + four_value (get_or r 0 0) (get_or r 1 0) (get_or r 2 0) (get_or r 3 0)) (get_or r 4 0) (get_or r 5 0) (get_or r 6 0) (get_or r 7 0) (omega arith) (omega (arith, long)) (omega (arith, few)) (get 4) (next 1 5 (omega arith)) (next 2 6 (omega arith)) (next 3 7 (omega arith)) h.2 front in
+    let more : size + 4 + 4 ≡ size + 8 = omega arith in
+    let whole = with_eight value (four_value (get_or r 0 0) (get_or r 1 0) (get_or r 2 0) (get_or r 3 0)) (four_value (get_or r 4 0) (get_or r 5 0) (get_or r 6 0) (get_or r 7 0)) ∙ ap (λ v. value * 100000000 + v) (sym h.3) in
+    let done = subst (λ v. IsReadTill t at v (size + 8)) whole (subst (λ n. IsReadTill t at ((value * 10000 + four_value (get_or r 0 0) (get_or r 1 0) (get_or r 2 0) (get_or r 3 0)) * 10000 + four_value (get_or r 4 0) (get_or r 5 0) (get_or r 6 0) (get_or r 7 0)) n) more back) in
+    let fits = sure_more (size + 8) (value * 100000000 + eight) 0 (omega (arith, few)) done.1 (omega arith) in
+    (done.0, done.1, omega (arith, fits.0))
+  where
+    start : (i : ℕ) → i ≡ i + 0
+    start i = omega arith
+
+    shift : (i k m : ℕ) → k + 4 ≡ m → i + 4 + k ≡ i + m
+    shift i k m e = omega (arith, e)
 
 digit_low : (value b whole : ℕ) → Some whole ≡ with_digit value b → 48 ≤ b
 digit_low value b whole h = go (is_ascii_digit b) refl (h)

@@ -124,6 +124,27 @@ IsNumberThen t at ender value end =
     × ((n : ℕ) → n ≤ length t → (n ≡ end) ⊎ ((end < n) × (ender ≡ 32))
     → IsNumberFrom (take n t) at value (end + 1))
 
+-- ---- eight digits at once
+
+-- four digits
+abbrev pub AreDigits : ℕ → ℕ → ℕ → ℕ → Type 0
+AreDigits a b c d =
+    ((48 ≤ a) × (a ≤ 57)) × ((48 ≤ b) × (b ≤ 57)) × ((48 ≤ c) × (c ≤ 57)) × ((48 ≤ d) × (d ≤ 57))
+
+-- the value of four digits
+abbrev pub four_value : ℕ → ℕ → ℕ → ℕ → ℕ
+four_value a b c d = ((((a - 48) * 10 + (b - 48)) * 10 + (c - 48)) * 10) + (d - 48)
+
+-- a text begins with eight digits, which have this value
+abbrev pub BeginsWithEight : List ℕ → ℕ → Type 0
+BeginsWithEight t value =
+    (8 ≤ length t)
+    × AreDigits (get_or t 0 0) (get_or t 1 0) (get_or t 2 0) (get_or t 3 0)
+    × AreDigits (get_or t 4 0) (get_or t 5 0) (get_or t 6 0) (get_or t 7 0)
+    × (value
+    ≡ four_value (get_or t 0 0) (get_or t 1 0) (get_or t 2 0) (get_or t 3 0) * 10000
+    + four_value (get_or t 4 0) (get_or t 5 0) (get_or t 6 0) (get_or t 7 0))
+
 -- ---- words without a bad byte
 
 -- the size of the first word, if none of its bytes is bad

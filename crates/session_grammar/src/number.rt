@@ -1,8 +1,8 @@
 //! Numbers in decimal.
-ghost use Rattle.std.specs.Prelude.{◌≡◌, ◌+◌, ◌^◌, ◌≤◌, ◌<◌, length, drop, codes, IfSome};
+ghost use Rattle.std.specs.Prelude.{◌≡◌, ◌+◌, ◌^◌, ◌≤◌, ◌<◌, length, drop, codes, IfSome, true};
 ghost use Rattle.std.specs.Str.{bytes_eq};
 ghost use Rattle.session_grammar.specs.Grammar.{number_of_word, number_or_dash};
-ghost use Rattle.session_grammar.specs.Reads.{first_word, with_digit, with_size, IsReadTo, IsReadIn, IsNumberAt, IsNumberThen};
+ghost use Rattle.session_grammar.specs.Reads.{first_word, with_digit, with_size, IsReadTo, IsReadIn, IsNumberAt, IsNumberThen, AreDigits, BeginsWithEight, four_value};
 
 use crate::words::SPACE;
 
@@ -79,25 +79,57 @@ pub fn number_of(word: &[u8]) -> Option<u64>
     Some(value)
 }
 
-// Returns the value of the digits at a place, read two by two while both are digits, and their number: at most `sure`.
+// Tells whether four bytes are digits. It looks at each of them, so that the compiler compares them all at once.
 #[inline(always)]
-fn pairs_in(text: &[u8], at: usize, sure: usize) -> (u64, usize)
-    requires within { at + sure ≤ length text.now }
-    requires sure { sure ≤ 19 }
+fn are_digits(a: u8, b: u8, c: u8, d: u8) -> bool
+    ensures { result ≡ true → AreDigits a b c d }
+{
+    a.is_ascii_digit() & b.is_ascii_digit() & c.is_ascii_digit() & d.is_ascii_digit()
+}
+
+// Returns the value of four digits.
+#[inline(always)]
+fn four_value(a: u8, b: u8, c: u8, d: u8) -> u64
+    requires { AreDigits a b c d }
+    ensures { result ≡ four_value a b c d }
+{
+    let front = u64::from(a - b'0') * 10 + u64::from(b - b'0');
+    (front * 10 + u64::from(c - b'0')) * 10 + u64::from(d - b'0')
+}
+
+// Returns the value of the eight digits that a text begins with, or None if it begins with fewer.
+#[inline(always)]
+fn first_eight(text: &[u8]) -> Option<u64>
+    ensures { IfSome result (λ v. BeginsWithEight text.now v) }
+{
+    match text {
+        [a, b, c, d, e, f, g, h, ..] => {
+            if !(are_digits(*a, *b, *c, *d) & are_digits(*e, *f, *g, *h)) {
+                return None;
+            }
+            let front = four_value(*a, *b, *c, *d);
+            Some(front * 10_000 + four_value(*e, *f, *g, *h))
+        }
+        _ => None,
+    }
+}
+
+// Returns the value of the digits at a place, read eight by eight while there are as many, and their number: 0, 8 or 16.
+#[inline(always)]
+fn eights_in(text: &[u8], at: usize) -> (u64, usize)
+    requires within { at ≤ length text.now }
     ensures read { IsReadIn text.now at result.0 result.1 }
-    ensures most { result.1 ≤ sure }
+    ensures most { result.1 ≤ 16 }
     ensures small { result.0 < 10 ^ result.1 }
 {
     let mut value: u64 = 0;
     let mut size = 0;
-    while size + 2 <= sure {
-        let a = u64::from(text[at + size]);
-        let b = u64::from(text[at + size + 1]);
-        if a < 48 || a > 57 || b < 48 || b > 57 {
+    while size <= 8 {
+        let Some(eight) = first_eight(&text[at + size..]) else {
             return (value, size);
-        }
-        value = (value * 10 + (a - 48)) * 10 + (b - 48);
-        size += 2;
+        };
+        value = value * 100_000_000 + eight;
+        size += 8;
     }
     (value, size)
 }
@@ -108,7 +140,7 @@ fn digits_in(text: &[u8], at: usize) -> (u64, usize)
     ensures { IsReadIn text.now at result.0 result.1 }
 {
     let sure = (text.len() - at).min(SURE_DIGITS);
-    let (mut value, mut size) = pairs_in(text, at, sure);
+    let (mut value, mut size) = eights_in(text, at);
     while size < sure {
         let b = u64::from(text[at + size]);
         if b < 48 || b > 57 {

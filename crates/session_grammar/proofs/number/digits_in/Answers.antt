@@ -4,7 +4,7 @@ use Rattle.session_grammar.proofs.NumberDigits.{read_in_sure, read_in_last}
 use Rattle.session_grammar.proofs.number.digits_in.Goals as goal
 
 pub loop-size-init : goal.loop-size-init
-loop-size-init c = (c.pairs_in-value.ensures.read, c.pairs_in-value.ensures.most, c.pairs_in-value.ensures.small)
+loop-size-init c = (c.eights_in-value.ensures.read, grind (arith, c.eights_in-value.ensures.read.0, c.eights_in-value.ensures.most, c.min-sure.ensures), c.eights_in-value.ensures.small)
 
 pub overflow_mul-value : goal.overflow_mul-value
 overflow_mul-value c =

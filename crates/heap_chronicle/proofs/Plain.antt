@@ -1,5 +1,5 @@
 -- No event is refused NoMemory or ChronicleFull by the model.
-use Rattle.std.proofs.Common.{◌≡◌, ℕ, ◌<◌, Bool, true, false, cond, List, [], ◌∷◌, Option, Some, None, refl, sym, ap, subst, ◌∙◌, inl, inr, arith}
+use Rattle.std.proofs.Common.{◌≡◌, ℕ, ◌<◌, Bool, true, false, cond, List, [], ◌∷◌, Option, Some, None, refl, sym, ap, subst, ◌∙◌, inl, inr, arith, rules}
 use Rattle.std.specs.Prelude.{nat_le, ◌≢◌, ◌⊎◌}
 use Rattle.heap_class.specs.declared.Refusal.{Refusal}
 use Rattle.heap_class.specs.declared.Refusal.TheVariants.{NoMemory, ChronicleFull}
@@ -11,7 +11,7 @@ use Rattle.heap_trail.specs.State.{HeapState}
 use Rattle.heap_trail.specs.HeapEvents.{new_refusal, new_array_refusal, new_prim_refusal, load_refusal, store_refusal, put_refusal, move_refusal, clear_refusal}
 use Rattle.heap_step.specs.declared.Answer.{Answer}
 use Rattle.heap_step.specs.declared.Event.{Event}
-use Rattle.heap_step.specs.declared.Event.TheVariants.{Class, ArrayClass, New, NewArray, NewPrim, Load, Store, Put, Move, Clear, Snap, Mark, Drain, Finish, Sweep}
+use Rattle.heap_step.specs.declared.Event.TheVariants.{Snap}
 use Rattle.heap_step.specs.Apply.{refusal_of, applied, applied_unless}
 use Rattle.heap_trail.specs.declared.Action.{Action}
 use Rattle.heap_trail.specs.declared.Action.TheVariants.{Step, Rewind, OpenPin, NextPiece, ClosePin}
@@ -46,21 +46,8 @@ first_plain (t ∷ ts) all = one_plain t.0 t.1 (first_refusal ts) all.0 (first_p
 
 event_plain : (e : Event) (w : HeapState) → IsPlain (refusal_of e w)
 unfolding is_rare refusal_of class_refusal new_refusal new_array_refusal new_prim_refusal load_refusal store_refusal put_refusal move_refusal clear_refusal snap_refusal mark_refusal drain_refusal finish_refusal sweep_refusal
-event_plain (Class name sup fields) w = first_plain _ (refl, (refl, (refl, (refl, (refl, tt)))))
-event_plain (ArrayClass name) w = first_plain _ (refl, (refl, (refl, (refl, (refl, tt)))))
-event_plain (New m r class) w = first_plain _ (refl, (refl, (refl, (refl, tt))))
-event_plain (NewArray m r class len) w = first_plain _ (refl, (refl, (refl, (refl, (refl, tt)))))
-event_plain (NewPrim m r kind len) w = first_plain _ (refl, (refl, (refl, (refl, tt))))
-event_plain (Load m to from slot) w = first_plain _ (refl, (refl, (refl, tt)))
-event_plain (Store m target slot source) w = first_plain _ (refl, (refl, (refl, (refl, tt))))
-event_plain (Put m target slot value) w = first_plain _ (refl, (refl, (refl, (refl, (refl, tt)))))
-event_plain (Move m to from_m from) w = first_plain _ (refl, tt)
-event_plain (Clear m r) w = first_plain _ (refl, tt)
 event_plain Snap w = first_plain _ (refl, tt)
-event_plain Mark w = first_plain _ (refl, (refl, tt))
-event_plain Drain w = first_plain _ (refl, (refl, tt))
-event_plain Finish w = first_plain _ (refl, (refl, (refl, tt)))
-event_plain (Sweep region) w = first_plain _ (refl, tt)
+event_plain e w = first_plain _ (search rules)
 
 abbrev IsPlainReply : Reply → Type 0
 IsPlainReply (Answered a) = Unit {0}

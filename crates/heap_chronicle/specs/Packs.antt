@@ -52,19 +52,14 @@ outcome_in Place why n m = At n
 outcome_in Refused why n m = Denied (refusal_from why n 0)
 outcome_in RefusedInFull why n m = Denied (refusal_from why n m)
 
--- the deeds with a fourth number
-abbrev pub has_fourth : Deed → Bool
-has_fourth NewArray = true
-has_fourth Load = true
-has_fourth Store = true
-has_fourth Put = true
-has_fourth Move = true
-has_fourth d = false
-
 -- the answers with a second number
 abbrev pub has_second : Told → Bool
 has_second RefusedInFull = true
 has_second t = false
+
+-- the deed's fourth number, by the number in the place that it shares with the answer's second one
+abbrev pub fourth_beside : Told → ℕ → ℕ
+fourth_beside told shared = if has_second told then 0 else shared
 
 -- the deed with this fourth number
 abbrev pub action_with : DeedPack → ℕ → Action
@@ -80,7 +75,7 @@ numbered deed a b c d =
     record { deed = deed; kind = NoKind; first = a; second = b; third = c; fourth = d }
 
 -- the numbers of an event, unless it has lists
-unfoldable pub event_pack : Event → Option DeedPack
+abbrev pub event_pack : Event → Option DeedPack
 event_pack (Events.Class name sup fields) = None
 event_pack (Events.ArrayClass name) = None
 event_pack (Events.New m r class) = Some (numbered New m r class 0)
@@ -109,7 +104,8 @@ outcome_by a = outcome_with a a.second
 -- the entry that a pack tells by its numbers
 unfoldable pub entry_by : Pack → Entry
 entry_by p =
-    entry p.seat (action_in p.deed p.kind p.first p.second p.third p.fourth)
+    entry p.seat
+    (action_in p.deed p.kind p.first p.second p.third (fourth_beside p.told p.fourth))
     (outcome_in p.told p.reason p.told_first p.fourth)
 
 -- the pack tells this entry by its numbers

@@ -6,7 +6,7 @@ ghost use Rattle.heap_chronicle.specs.Packs.{entry_by, entry_in, TellsEntry};
 
 use crate::entry::{Entry, Outcome};
 use crate::pack::{Deed, Pack, Told};
-use crate::packing::pack_of;
+use crate::packing::{fourth_beside, pack_of};
 use crate::same::{is_same_action, is_same_answer};
 use crate::unpacking::{action_in, outcome_in};
 use heap_class::Kind;
@@ -76,7 +76,7 @@ fn unpack(pack: &Pack) -> Entry
             pack.first,
             pack.second,
             pack.third,
-            pack.fourth,
+            fourth_beside(pack.told, pack.fourth),
         ),
         answer: outcome_in(pack.told, pack.reason, pack.told_first, pack.fourth),
     }

@@ -1,12 +1,12 @@
 //! The numbers of an entry.
-#![tactic(auto, unfolding(crate::specs::Packs::action_in, crate::specs::Packs::outcome_in, crate::specs::Packs::entry_by, crate::specs::Packs::event_pack))]
+#![tactic(auto, unfolding(crate::specs::Packs::action_in, crate::specs::Packs::outcome_in, crate::specs::Packs::entry_by))]
 
 ghost use Rattle.std.specs.Prelude.{◌≡◌, IfSome, Some};
 ghost use Rattle.heap_step.specs.declared.Answer.TheVariants.{Swept};
 ghost use Rattle.heap_step.specs.declared.Event.TheVariants.{NewPrim};
 ghost use Rattle.heap_chronicle.specs.declared.entry.Outcome.TheVariants.{Answered as Said, Refused as Denied};
 ghost use Rattle.heap_chronicle.specs.History.{entry};
-ghost use Rattle.heap_chronicle.specs.Packs.{action_by, action_with, event_pack, numbered, outcome_by, outcome_with, TellsEntry, has_fourth, has_second};
+ghost use Rattle.heap_chronicle.specs.Packs.{action_by, action_with, event_pack, numbered, outcome_by, outcome_with, TellsEntry, fourth_beside, has_second};
 
 use crate::entry::{Entry, Outcome};
 use crate::pack::{AnswerPack, Deed, DeedPack, Pack, Told};
@@ -168,17 +168,6 @@ fn pack_outcome(outcome: Outcome) -> AnswerPack
     }
 }
 
-// Returns whether the deed has a fourth number.
-#[inline(always)]
-fn has_fourth(deed: Deed) -> bool
-    ensures { result ≡ has_fourth deed }
-{
-    match deed {
-        Deed::NewArray | Deed::Load | Deed::Store | Deed::Put | Deed::Move => true,
-        _ => false,
-    }
-}
-
 // Returns whether the answer has a second number.
 #[inline(always)]
 fn has_second(told: Told) -> bool
@@ -190,17 +179,25 @@ fn has_second(told: Told) -> bool
     }
 }
 
+// Returns the deed's fourth number, by the number in the place that it shares with the answer's second one.
+pub(crate) fn fourth_beside(told: Told, shared: u64) -> u64
+    ensures { result ≡ fourth_beside told shared }
+{
+    if has_second(told) { 0 } else { shared }
+}
+
 // Returns the pack of a deed and an answer with this number in the place that they share.
 #[inline(always)]
-fn join_packs(seat: u16, deed: DeedPack, answer: AnswerPack, fourth: u64) -> Pack
+fn join_packs(seat: u16, deed: DeedPack, answer: AnswerPack, shared: u64) -> Pack
     ensures { TellsEntry result
-        (entry seat (action_with deed fourth) (outcome_with answer fourth)) }
+        (entry seat (action_with deed (fourth_beside answer.told shared))
+        (outcome_with answer shared)) }
 {
     Pack {
         first: deed.first,
         second: deed.second,
         third: deed.third,
-        fourth,
+        fourth: shared,
         told_first: answer.first,
         seat,
         is_whole: false,
@@ -219,7 +216,7 @@ fn pack_numbers(seat: u16, deed: DeedPack, answer: AnswerPack) -> Option<Pack>
     if !has_second(answer.told) {
         return Some(join_packs(seat, deed, answer, deed.fourth));
     }
-    if has_fourth(deed.deed) {
+    if deed.fourth != 0 {
         return None;
     }
     Some(join_packs(seat, deed, answer, answer.second))

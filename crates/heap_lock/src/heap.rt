@@ -8,7 +8,7 @@ ghost use Rattle.heap_lock.specs.declared.role.Role.TheVariants.{User};
 ghost use Rattle.heap_lock.specs.Tally.{tally_in};
 ghost use Rattle.heap_chronicle.specs.History.{opening, Enters, IsLegalHistory};
 ghost use Rattle.heap_lock.specs.Blanks.{chair_of};
-ghost use Rattle.heap_lock.specs.Roles.{is_of_mutator, is_of_marker, is_of_sweeper, may};
+ghost use Rattle.heap_lock.specs.Roles.{may, may_for, owner, owner_of};
 ghost use Rattle.heap_lock.specs.Ledgers.{all_in, HasLedger};
 ghost use Rattle.heap_lock.specs.LockStates.{AllSeated, Folds, Stands, IsMoved, IsAct, IsReceived, IsRefused, IsNoEntry, IsChair, IsUnderLock, lock_state};
 
@@ -19,6 +19,8 @@ use crate::role::Role;
 use crate::stub::Stub;
 use crate::view::SeatView;
 use atomic_table::Badge;
+use heap_chronicle::pack::Deed;
+use heap_chronicle::packing::pack_event;
 use heap_chronicle::{Chronicle, Entry, Outcome};
 use heap_class::Refusal;
 use heap_step::Event;
@@ -103,40 +105,40 @@ impl<L: Heap> Model for Kept<L> {
         × (k.chronicle.rolls ≡ L.rolls) };
 }
 
-// Returns whether the event is one of this mutator's own.
-fn is_mutators(own: u64, event: &Event) -> bool
-    ensures { result ≡ is_of_mutator own event.now }
+// Returns whose deed it is, by its sort and its first number.
+fn owner(deed: Deed, first: u64) -> Role
+    ensures { result ≡ owner deed first }
 {
-    match event {
-        Event::New { m, .. }
-        | Event::NewArray { m, .. }
-        | Event::NewPrim { m, .. }
-        | Event::Load { m, .. }
-        | Event::Store { m, .. }
-        | Event::Put { m, .. }
-        | Event::Move { m, .. }
-        | Event::Clear { m, .. } => *m == own,
-        _ => false,
+    match deed {
+        Deed::Snap | Deed::Mark | Deed::Drain | Deed::Finish => Role::Marker,
+        Deed::Sweep => Role::Sweeper,
+        Deed::Rewind => Role::User,
+        _ => Role::Mutator(first),
     }
 }
 
-// Returns whether the event is the marker's.
-fn is_markers(event: &Event) -> bool
-    ensures { result ≡ is_of_marker event.now }
+// Returns whose event it is.
+fn owner_of(event: &Event) -> Role
+    ensures { result ≡ owner_of event.now }
 {
-    match event {
-        Event::Snap | Event::Mark | Event::Drain | Event::Finish => true,
-        _ => false,
+    match pack_event(event) {
+        Some(pack) => owner(pack.deed, pack.first),
+        None => Role::User,
     }
 }
 
-// Returns whether the event is the sweeper's.
-fn is_sweepers(event: &Event) -> bool
-    ensures { result ≡ is_of_sweeper event.now }
+// Returns whether a role may do what is its owner's.
+fn may_for(role: Role, owner: Role) -> bool
+    ensures { result ≡ may_for role owner }
 {
-    match event {
-        Event::Sweep { .. } => true,
-        _ => false,
+    match role {
+        Role::User => true,
+        Role::Mutator(m) => match owner {
+            Role::Mutator(k) => k == m,
+            _ => false,
+        },
+        Role::Marker => matches!(owner, Role::Marker),
+        Role::Sweeper => matches!(owner, Role::Sweeper),
     }
 }
 
@@ -191,12 +193,7 @@ impl<L: Heap> Seat<L> {
     pub fn may(&self, event: &Event) -> bool
         ensures { result ≡ may self.now.role event.now }
     {
-        match self.role {
-            Role::Mutator(m) => is_mutators(m, event),
-            Role::Marker => is_markers(event),
-            Role::Sweeper => is_sweepers(event),
-            Role::User => true,
-        }
+        may_for(self.role, owner_of(event))
     }
 
     /// Returns the role of this seat.

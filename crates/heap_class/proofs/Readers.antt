@@ -51,6 +51,17 @@ module _ (names : List (List ℕ)) (es : List ClassEntry) (t : IsEntryTable name
   pub as_many : length es ≡ length v
   as_many = sym (length-map es (class_of_entry names)) ∙ ap length view_is
 
+  -- what is read of the list of entries, and what is past its end
+  module _ (read : List ClassEntry) (same : read ≡ es) (k : ℕ) where
+    pub within_read : k < length read → k < length v
+    within_read lt = omega (arith, as_many, ap length same, lt)
+
+    pub past_read : length read ≤ k → length v ≤ k
+    past_read le = omega (arith, as_many, ap length same, le)
+
+    pub entry_read : (e : ClassEntry) → e ≡ get_or read k e → e ≡ get_or es k e
+    entry_read e is = is ∙ ap (λ l. get_or l k e) same
+
   -- the id of the name at a place
   pub id_at : (i : ℕ) → i < length names → i + 1 ≡ name_id v (get_or names i [])
   unfolding name_id

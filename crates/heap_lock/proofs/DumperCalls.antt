@@ -11,11 +11,13 @@ use Rattle.heap_trail.specs.Machine.{MayFail, MayReply, Machine, Granted, Denied
 use Rattle.heap_lock.specs.declared.desk.Desk.{Desk}
 use Rattle.heap_chronicle.specs.declared.entry.Entry.{Entry}
 use Rattle.heap_lock.specs.declared.ledger.Ledger.{Ledger}
-use Rattle.heap_lock.specs.declared.sight.Sight.TheVariants.{Full}
+use Rattle.atomic_table.specs.declared.badge.Badge.{Badge}
+use Rattle.heap_lock.specs.declared.sight.Sight.{Sight}
+use Rattle.heap_lock.specs.declared.sight.Sight.TheVariants.{Full, Seen}
 use Rattle.heap_lock.specs.Calls.{Call, call_of, IsLedger, IsLegalLedger, Witnesses}
 use Rattle.heap_chronicle.specs.History.{reply_of}
 use Rattle.heap_lock.specs.Sights.{calls_of}
-use Rattle.heap_lock.specs.Ledgers.{table_of, all_in, HasCalls, HasLedger, CallsAs}
+use Rattle.heap_lock.specs.Ledgers.{table_of, all_in, calls_in, HasCalls, HasLedger, IsSight, CallsAs}
 use Rattle.heap_chronicle.specs.Chronicles.{ChronicleState}
 use Rattle.heap_lock.specs.LockStates.{LockState, IsDumperAct, IsUnderLock, lock_state}
 use Rattle.heap_lock.proofs.CallLists.{acted_more, dumped_more}
@@ -81,6 +83,13 @@ plainly m m' a (Err e) refused = inl refused
 -- all calls of a heap under its lock are a legal ledger
 pub legal_of : (config : HeapSettings) (tables : List TableId) (table : TableId) (m : Machine) (es : List Entry) (desks : List Desk) (l : Ledger) → IsUnderLock config tables m es desks → HasLedger config table m es l → IsLegalLedger config (all_in l)
 legal_of config tables table m es desks l k has = (m, es, has.1, k.legal)
+
+-- one who has seen all calls of the ledger has seen a legal ledger
+pub sighted : (config : HeapSettings) (tables : List TableId) (table : TableId) (m : Machine) (es : List Entry) (desks : List Desk) (l : Ledger) (b : Badge Sight) → IsUnderLock config tables m es desks → HasLedger config table m es l → IsSight (table_of l) (all_in l) b
+    → IsSight table (calls_in b.views) b × IsLegalLedger config (calls_in b.views)
+sighted config tables table m es desks l b k has s =
+    let here : calls_in b.views ≡ all_in l = ap calls_in s.1 in
+    ((s.0 ∙ has.0.1, s.1 ∙ ap (λ (cs : List Call). Seen cs ∷ []) (sym here)), subst (IsLegalLedger config) (sym here) (legal_of config tables table m es desks l k has))
 
 -- what a witness knows of a call that is the last of the calls that it is shown
 pub witnessed : {A : Type 0} (config : HeapSettings) (k l : LockState) (a : Action) (reply : A → Reply) (r : Result A Refusal) (before after : List Call)

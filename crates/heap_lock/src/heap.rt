@@ -8,19 +8,17 @@ ghost use Rattle.heap_lock.specs.declared.role.Role.TheVariants.{User};
 ghost use Rattle.heap_lock.specs.Tally.{tally_in};
 ghost use Rattle.heap_chronicle.specs.History.{opening, Enters, IsLegalHistory};
 ghost use Rattle.heap_lock.specs.Blanks.{chair_of};
-ghost use Rattle.heap_lock.specs.Roles.{may, may_for, owner, owner_of};
+ghost use Rattle.heap_lock.specs.Roles.{may};
 ghost use Rattle.heap_lock.specs.Ledgers.{all_in, HasLedger};
 ghost use Rattle.heap_lock.specs.LockStates.{AllSeated, Folds, Stands, IsMoved, IsAct, IsReceived, IsRefused, IsNoEntry, IsChair, IsUnderLock, lock_state};
 
 use crate::desk::Desk;
 use crate::ledger::Ledger;
 use crate::receipt::Receipt;
-use crate::role::Role;
+use crate::role::{Role, may_for, owner_of};
 use crate::stub::Stub;
 use crate::view::SeatView;
 use atomic_table::Badge;
-use heap_chronicle::pack::Deed;
-use heap_chronicle::packing::pack_event;
 use heap_chronicle::{Chronicle, Entry, Outcome};
 use heap_class::Refusal;
 use heap_step::Event;
@@ -103,43 +101,6 @@ impl<L: Heap> Model for Kept<L> {
     ghost invariant = { λ k. IsUnderLock L.config L.tables k.machine k.chronicle.entries
         k.desks.items × HasLedger L.config L.ledger k.machine k.chronicle.entries k.ledger
         × (k.chronicle.rolls ≡ L.rolls) };
-}
-
-// Returns whose deed it is, by its sort and its first number.
-fn owner(deed: Deed, first: u64) -> Role
-    ensures { result ≡ owner deed first }
-{
-    match deed {
-        Deed::Snap | Deed::Mark | Deed::Drain | Deed::Finish => Role::Marker,
-        Deed::Sweep => Role::Sweeper,
-        Deed::Rewind => Role::User,
-        _ => Role::Mutator(first),
-    }
-}
-
-// Returns whose event it is.
-fn owner_of(event: &Event) -> Role
-    ensures { result ≡ owner_of event.now }
-{
-    match pack_event(event) {
-        Some(pack) => owner(pack.deed, pack.first),
-        None => Role::User,
-    }
-}
-
-// Returns whether a role may do what is its owner's.
-fn may_for(role: Role, owner: Role) -> bool
-    ensures { result ≡ may_for role owner }
-{
-    match role {
-        Role::User => true,
-        Role::Mutator(m) => match owner {
-            Role::Mutator(k) => k == m,
-            _ => false,
-        },
-        Role::Marker => matches!(owner, Role::Marker),
-        Role::Sweeper => matches!(owner, Role::Sweeper),
-    }
 }
 
 // Returns whether the refusal is for want of memory.

@@ -18,7 +18,7 @@ use Rattle.heap_world.specs.State.{HeapState}
 use Rattle.heap_world.specs.Legal.{IsLegal}
 use Rattle.heap_step.specs.declared.Event.{Event}
 use Rattle.heap_step.specs.declared.Undo.{Undo}
-use Rattle.heap_step.specs.declared.Undo.TheVariants.{Put, Store, Reg, New, Class, Snap, Mark, Drain, Finish, Sweep, Reclaim}
+use Rattle.heap_step.specs.declared.Undo.TheVariants.{Put, Store, New, Sweep, Reclaim}
 use Rattle.heap_step.specs.Laws.{IsStep}
 use Rattle.heap_step.specs.Records.{undone}
 use Rattle.heap_step.proofs.EventLaws.{undo_takes_back}
@@ -129,16 +129,7 @@ plain_tells left before after sizes r u n t s e = others_tell left before after 
 -- the record of a region that was taken whole, and the others, which leave the sizes
 by_reclaim : (P : Undo → Type 0) → ((region : ℕ) (storage : UsedRegion) → P (Reclaim region storage)) → ((left : Undo) → ((sizes : List ℕ) → sizes_before left sizes ≡ sizes) → P left) → (left : Undo) → P left
 by_reclaim P reclaim other (Reclaim region storage) = reclaim region storage
-by_reclaim P reclaim other (Put at slot old) = other (Put at slot old) (λ sizes. refl)
-by_reclaim P reclaim other (Store at slot old logged) = other (Store at slot old logged) (λ sizes. refl)
-by_reclaim P reclaim other (Sweep region dead) = other (Sweep region dead) (λ sizes. refl)
-by_reclaim P reclaim other (Reg m k old) = other (Reg m k old) (λ sizes. refl)
-by_reclaim P reclaim other (New at fresh m k old) = other (New at fresh m k old) (λ sizes. refl)
-by_reclaim P reclaim other Class = other Class (λ sizes. refl)
-by_reclaim P reclaim other Snap = other Snap (λ sizes. refl)
-by_reclaim P reclaim other (Mark parent pushed) = other (Mark parent pushed) (λ sizes. refl)
-by_reclaim P reclaim other (Drain pushed) = other (Drain pushed) (λ sizes. refl)
-by_reclaim P reclaim other (Finish log) = other (Finish log) (λ sizes. refl)
+by_reclaim P reclaim other left = other left (λ sizes. refl)
 
 sizes_stay : (left : Undo) → touched left ≡ None → (sizes : List ℕ) → sizes_before left sizes ≡ sizes
 unfolding touched
@@ -227,14 +218,7 @@ there_is : (left : Undo) (e : Event) (before after : HeapState) (at : ObjRef) �
 there_is (Put a slot old) e before after at s h = subst (λ (p : ObjRef). IsSome (object_at after.regions p)) (same_Some a at h) (put_there e before after (Put a slot old) s a slot old refl)
 there_is (Store a slot old logged) e before after at s h = subst (λ (p : ObjRef). IsSome (object_at after.regions p)) (same_Some a at h) (store_there e before after (Store a slot old logged) s a slot old logged refl)
 there_is (New a fresh m r old) e before after at s h = subst (λ (p : ObjRef). IsSome (object_at after.regions p)) (same_Some a at h) (new_there e before after (New a fresh m r old) s a fresh m r old refl)
-there_is (Reg m r old) e before after at s h = absurd (none-some at h)
-there_is Class e before after at s h = absurd (none-some at h)
-there_is Snap e before after at s h = absurd (none-some at h)
-there_is (Mark parent pushed) e before after at s h = absurd (none-some at h)
-there_is (Drain pushed) e before after at s h = absurd (none-some at h)
-there_is (Finish log) e before after at s h = absurd (none-some at h)
-there_is (Sweep region dead) e before after at s h = absurd (none-some at h)
-there_is (Reclaim region storage) e before after at s h = absurd (none-some at h)
+there_is left e before after at s h = absurd (none-some at h)
 
 -- the region of the object is within the sizes
 pub written_within : (left : Undo) (e : Event) (before after : HeapState) (sizes : List ℕ) → IsStep e before after left → AreCellSizes after sizes → (at : ObjRef) → written_at left ≡ Some at → at.region < length sizes

@@ -32,14 +32,15 @@ use Rattle.heap_world.proofs.Marks.{begun, shaded_heap}
 use Rattle.heap_world.proofs.Registers.{member_set, namer, names_of, register_member, second_register, slot_names}
 use Rattle.heap_world.proofs.Shelter.{reach_induction}
 use Rattle.heap_world.proofs.Sweep.{sweep_leaves_live}
-use Rattle.heap_world.proofs.WordWrites.{IsReferenceSlot, WriteForm, place_is, put_form, store_form, with_object_word, written}
+use Rattle.heap_world.proofs.WordWrites.{IsReferenceSlot, with_object_word, written}
+use Rattle.heap_world.proofs.WriteEvents.{WriteForm, place_is, put_form, store_form}
 use Rattle.heap_step.specs.declared.Event.{Event}
 use Rattle.heap_step.specs.declared.Event.TheVariants.{ArrayClass, Clear, Drain, Finish, Load, Mark, Move, New, NewArray, NewPrim, Put, Snap, Store, Sweep}
 use Rattle.heap_step.specs.Apply.{refusal_of, state_after}
 use Rattle.heap_step.proofs.CreationUndo.{head_empty, pool_empty}
 use Rattle.heap_past.specs.Losses.{StaysUnreached}
 use Rattle.heap_past.proofs.ImagePaths.{reaches_next}
-use Rattle.heap_world.proofs.Classes.{kinds_more}
+use Rattle.heap_world.proofs.ClassEvents.{kinds_more}
 
 -- ---- from one state to another
 

@@ -7,7 +7,7 @@ use Rattle.heap_world.specs.State.{HeapState}
 use Rattle.hprof_text.specs.Image.{Image, DumpedObject, IsDumpable}
 use Rattle.heap_pins.specs.Pin.{PinContents, places_from, object_seen, pin_image}
 use Rattle.heap_pins.specs.Shows.{IsPinOf, ShowsState, IsSeen}
-use Rattle.heap_pins.specs.View.{ShowsSome}
+use Rattle.heap_pins.specs.View.{PinShown, ShowsSome}
 use Rattle.heap_pins.proofs.LiveCounts.{stands_in}
 use Rattle.heap_pins.proofs.DumpLimits.{dumpable, as_many, has_object, shown_there}
 use Rattle.heap_pins.proofs.RoomForCopies.{object_within}
@@ -45,3 +45,12 @@ view_there p w at R s q i h =
     go : (x : Option Object) → object_at s.0.regions at ≡ x → IfSome x (λ o. R (shown s.0.regions (at, o)))
     go None e = tt
     go (Some o) e = subst (λ (y : Option DumpedObject). IfSome y R) (object_is p s.0 w at o s.2 e) q
+
+-- ---- the same, of a view of this value
+
+pub sees_by : (v w : PinShown) (at : ObjRef) → v ≡ w → ShowsSome v.pin v.state → Contains (places_from 0 w.pin.live) at → IsSeen v.pin v.state.regions at
+sees_by v w at is shows c = view_sees v.pin v.state at shows (subst (λ (u : PinShown). Contains (places_from 0 u.pin.live) at) (sym is) c)
+
+pub there_by : (v w : PinShown) (at : ObjRef) (R : DumpedObject → Type 0) → v ≡ w → ShowsSome v.pin v.state → IfSome (object_seen v.pin v.state.regions at) R
+    → (i : ℕ) → slice_get (places_from 0 w.pin.live) i ≡ Some at → IfSome (slice_get (pin_image w.pin w.state).objects i) R
+there_by v w at R is shows q = subst (λ (u : PinShown). (i : ℕ) → slice_get (places_from 0 u.pin.live) i ≡ Some at → IfSome (slice_get (pin_image u.pin u.state).objects i) R) is (view_there v.pin v.state at R shows q)

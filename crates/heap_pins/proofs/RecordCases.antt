@@ -5,7 +5,7 @@ use Rattle.heap_region.specs.Regions.{Object, UsedRegion}
 use Rattle.heap_region.specs.RegionCopies.{Frozen}
 use Rattle.heap_world.specs.State.{HeapState}
 use Rattle.heap_step.specs.declared.Undo.{Undo}
-use Rattle.heap_step.specs.declared.Undo.TheVariants.{Put, Store, Reg, New, Class, Snap, Mark, Drain, Finish, Sweep, Reclaim}
+use Rattle.heap_step.specs.declared.Undo.TheVariants.{Put, Store, Reg, New, Class, Sweep, Reclaim}
 use Rattle.heap_step.specs.Records.{undone}
 use Rattle.heap_pins.specs.KeptCopies.{touched, patched}
 use Rattle.heap_pins.specs.Walk.{registers_before, classes_before}
@@ -38,13 +38,7 @@ by_region P put store sweep reclaim other (Put at slot old) = put at slot old
 by_region P put store sweep reclaim other (Store at slot old logged) = store at slot old logged
 by_region P put store sweep reclaim other (Sweep region dead) = sweep region dead
 by_region P put store sweep reclaim other (Reclaim region storage) = reclaim region storage
-by_region P put store sweep reclaim other (Reg m r old) = other (Reg m r old) (record { none = refl; patch = λ f. refl })
-by_region P put store sweep reclaim other (New at fresh m r old) = other (New at fresh m r old) (record { none = refl; patch = λ f. refl })
-by_region P put store sweep reclaim other Class = other Class (record { none = refl; patch = λ f. refl })
-by_region P put store sweep reclaim other Snap = other Snap (record { none = refl; patch = λ f. refl })
-by_region P put store sweep reclaim other (Mark parent pushed) = other (Mark parent pushed) (record { none = refl; patch = λ f. refl })
-by_region P put store sweep reclaim other (Drain pushed) = other (Drain pushed) (record { none = refl; patch = λ f. refl })
-by_region P put store sweep reclaim other (Finish log) = other (Finish log) (record { none = refl; patch = λ f. refl })
+by_region P put store sweep reclaim other left = other left (record { none = refl; patch = λ f. refl })
 
 -- ---- registers and classes
 
@@ -61,11 +55,4 @@ unfolding undone registers_before classes_before
 by_lists P reg new class other (Reg m r old) = reg m r old
 by_lists P reg new class other (New at fresh m r old) = new at fresh m r old
 by_lists P reg new class other Class = class
-by_lists P reg new class other (Put at slot old) = other (Put at slot old) (record { registers = λ v. refl; classes = λ v. refl; words = λ rs. refl; count = λ n. refl })
-by_lists P reg new class other (Store at slot old logged) = other (Store at slot old logged) (record { registers = λ v. refl; classes = λ v. refl; words = λ rs. refl; count = λ n. refl })
-by_lists P reg new class other Snap = other Snap (record { registers = λ v. refl; classes = λ v. refl; words = λ rs. refl; count = λ n. refl })
-by_lists P reg new class other (Mark parent pushed) = other (Mark parent pushed) (record { registers = λ v. refl; classes = λ v. refl; words = λ rs. refl; count = λ n. refl })
-by_lists P reg new class other (Drain pushed) = other (Drain pushed) (record { registers = λ v. refl; classes = λ v. refl; words = λ rs. refl; count = λ n. refl })
-by_lists P reg new class other (Finish log) = other (Finish log) (record { registers = λ v. refl; classes = λ v. refl; words = λ rs. refl; count = λ n. refl })
-by_lists P reg new class other (Sweep region dead) = other (Sweep region dead) (record { registers = λ v. refl; classes = λ v. refl; words = λ rs. refl; count = λ n. refl })
-by_lists P reg new class other (Reclaim region storage) = other (Reclaim region storage) (record { registers = λ v. refl; classes = λ v. refl; words = λ rs. refl; count = λ n. refl })
+by_lists P reg new class other left = other left (record { registers = λ v. refl; classes = λ v. refl; words = λ rs. refl; count = λ n. refl })

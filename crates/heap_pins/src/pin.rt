@@ -1,5 +1,5 @@
 //! A pin: a past state as a dump needs it, kept beside the heap that goes on.
-ghost use Rattle.std.specs.Prelude.{◌≡◌, ◌<◌, ◌≤◌, length, replicate, None, Some, IsSome, IfSome, IfOk, IfErr, OnOk, OnErr, slice_get, slice_index_or, is_some, drop};
+ghost use Rattle.std.specs.Prelude.{◌≡◌, ◌<◌, ◌≤◌, length, replicate, None, Some, IsSome, IfSome, IfOk, IfErr, OnOk, OnErr, slice_get, slice_index_or, MatchOption, is_some, drop};
 ghost use Rattle.heap_class.specs.declared.Refusal.TheVariants.{NoMemory};
 ghost use Rattle.memchr.specs.Find.{IsFirstByte, is_byte};
 ghost use Rattle.heap_region.specs.Regions.{object_at, used_at};
@@ -249,12 +249,25 @@ impl Pin {
         self.from(number)
     }
 
+    // Returns the copy of a region, if the pin has one. The region must be one of the heap's.
+    #[inline(always)]
+    fn copy_of(&self, region: u16) -> Option<&FrozenRegion>
+        requires { region < length self.now.copies }
+        ensures { MatchOption result (slice_index_or self.now.copies region None ≡ None)
+            (λ copy. slice_index_or self.now.copies region None ≡ Some copy.now) }
+    {
+        match &self.copies[region as usize] {
+            Some(copy) => Some(copy),
+            None => None,
+        }
+    }
+
     /// Returns the kind of the object at this place, which must have one.
     pub fn kind(&self, world: &World, at: ObjRef) -> ObjKind
         requires { IsSeen self.now world.now.regions at }
         ensures { IfSome (object_seen self.now world.now.regions at) (λ o. result ≡ o.kind) }
     {
-        match &self.copies[at.region as usize] {
+        match self.copy_of(at.region) {
             Some(copy) => copy.kind(at.cell as u64),
             None => world.regions().kind(at),
         }
@@ -265,7 +278,7 @@ impl Pin {
         requires { IsSeen self.now world.now.regions at }
         ensures { IfSome (object_seen self.now world.now.regions at) (λ o. result ≡ o.id) }
     {
-        match &self.copies[at.region as usize] {
+        match self.copy_of(at.region) {
             Some(copy) => {
                 let first = REGION_WORDS * at.region as u64 + at.cell as u64 * copy.cell_size();
                 OBJECT_BASE + 8 * first
@@ -280,7 +293,7 @@ impl Pin {
         requires { IsSeen self.now world.now.regions at }
         ensures { IfSome (object_seen self.now world.now.regions at) (λ o. result.now ≡ o.words) }
     {
-        match &self.copies[at.region as usize] {
+        match self.copy_of(at.region) {
             Some(copy) => copy.words(at.cell as u64),
             None => world.regions().words(at),
         }

@@ -1,11 +1,13 @@
 -- Looking at the slots of what was found, and at the registers.
 use Rattle.std.proofs.Common.{◌≡◌, ℕ, ◌+◌, ◌<◌, ◌≤◌, Bool, true, false, cond, List, length, get_or, refl, sym, ap, ◌∙◌, subst, inl, inr, arith}
-use Rattle.std.specs.Prelude.{slice_get, Some, None, option_and_then}
+use Rattle.std.specs.Prelude.{slice_get, Some, None, IfSome, option_and_then}
 use Rattle.std.proofs.lemmas.Option.{none-some, same_Some, slice_get_within, slice_get-get_or}
 use Rattle.std.proofs.lemmas.Bool.{cases_eq, cases_Bool}
 use Rattle.heap_class.specs.declared.ObjRef.{ObjRef}
 use Rattle.heap_class.specs.Classes.{Class}
-use Rattle.hprof_text.specs.Image.{Image, DumpedObject}
+use Rattle.heap_class.specs.declared.ObjKind.{ObjKind}
+use Rattle.hprof_text.specs.Image.{Image, DumpedObject, IsDumpable, IsKnown}
+use Rattle.hprof_text.proofs.ViewedObjects.{here}
 use Rattle.hprof_text.proofs.Loops.{some_item}
 use Rattle.heap_questions.specs.Graph.{HasId, slot_refers, named, object_with, slot_names}
 use Rattle.heap_questions.specs.Search.{AreNodes, HasAllRoots, HasRoots, HasChildren, IsFound, IsNear, IsOfferedTo, IsOrdered, IsSearching, IsWithin, node_with}
@@ -51,6 +53,27 @@ stands image places nodes f at n e p =
     let w = node_within nodes f.id f.node e in
     let m = some_item nodes f.node w in
     record { within = w; placed = node_place image places nodes f.node m.0 n m.1 ∙ ap Some (sym (p m.0 m.1)); object = object_of_node image places nodes f.id f.node n e }
+
+-- what is read of a queue at a place is what was found there
+pub found_here : (queue slice : List Found) (head : ℕ) (f : Found) → slice ≡ queue → slice_get slice head ≡ Some f → slice_get queue head ≡ Some f
+found_here queue slice head f same is = ap (λ q. slice_get q head) (sym same) ∙ is
+
+-- the object of what was found, by what a view tells of it
+pub record IsRead (image : Image) (f : Found) (kind : ObjKind) (words : List ℕ) : Type 0 where
+  pub object : DumpedObject
+  pub there : object_with image f.id ≡ Some object
+  pub same_kind : kind ≡ object.kind
+  pub same_words : words ≡ object.words
+  pub many : length words ≡ length object.words
+  pub known : IsKnown image.classes kind (length words)
+
+pub read : (image : Image) (places : List ObjRef) (nodes : List Node) (f : Found) (at : ObjRef) (kind : ObjKind) (words : List ℕ) → AreNodes image places nodes → node_with nodes f.id ≡ Some f.node → ((n : Node) → slice_get nodes f.node ≡ Some n → at ≡ n.at)
+    → IsDumpable image → length places ≡ length image.objects → ((i : ℕ) → slice_get places i ≡ Some at → IfSome (slice_get image.objects i) (λ o. kind ≡ o.kind)) → ((i : ℕ) → slice_get places i ≡ Some at → IfSome (slice_get image.objects i) (λ o. words ≡ o.words))
+    → IsRead image f kind words
+read image places nodes f at kind words n e p d many k w =
+    let s = stands image places nodes f at n e p in
+    let h = here image places f.node at kind words d many s.placed (k f.node s.placed) (w f.node s.placed) in
+    record { object = h.object; there = s.object ∙ h.there; same_kind = h.same_kind; same_words = h.same_words; many = ap length h.same_words; known = h.known }
 
 -- ---- slot by slot
 

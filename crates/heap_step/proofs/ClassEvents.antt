@@ -3,7 +3,7 @@ use Rattle.std.proofs.Common.{List, Option, [], ap, false, refl, true, ℕ, ◌+
 use mathlib.Core.Logic.{inl, inr}
 use Rattle.heap_class.specs.Classes.{Class, array_class, instance_class}
 use Rattle.heap_class.specs.declared.Field.{Field}
-use Rattle.heap_world.proofs.Classes.{class_legal, class_spares}
+use Rattle.heap_world.proofs.ClassEvents.{class_legal, class_spares}
 use Rattle.heap_world.proofs.Clauses.{HasClauses}
 use Rattle.heap_world.proofs.Shapes.{same_shape}
 use Rattle.heap_world.proofs.Tricolour.{spares_sheltered}

@@ -12,8 +12,7 @@ use Rattle.heap_class.specs.declared.ObjKind.TheVariants.{Array, Instance, Prim}
 use Rattle.heap_class.specs.declared.ObjRef.{ObjRef}
 use Rattle.heap_region.specs.Pool.{new_place}
 use Rattle.heap_world.proofs.New.{new_found, new_legal}
-use Rattle.heap_world.proofs.Phases.{new_phase}
-use Rattle.heap_world.proofs.Shapes.{new_shape}
+use Rattle.heap_world.proofs.CreationEvents.{new_phase, new_shape}
 use Rattle.heap_world.specs.Events.{after_new, is_full, new_array_refusal, new_object, new_prim_refusal, new_refusal}
 use Rattle.heap_world.specs.Legal.{HasKind, IsLegal}
 use Rattle.heap_world.specs.State.{HeapState, is_register, pool_of, register}

@@ -5,8 +5,7 @@ use Rattle.heap_class.proofs.Refusals.{none_holds}
 use Rattle.heap_region.specs.Regions.{Object, UsedRegion, Region, Empty, InUse, used_part, used_at, object_at, in_used}
 use Rattle.heap_mark.specs.MarkSteps.{each_object, each_region, pending_regions, finish_refusal, finished_region, finished, unfinished_region, unfinished}
 use Rattle.heap_mark.specs.declared.Phase.TheVariants.{Idle, Marking}
-use Rattle.heap_world.proofs.Finish.{finish_legal}
-use Rattle.heap_world.proofs.Shapes.{finish_shape}
+use Rattle.heap_world.proofs.Finish.{finish_legal, finish_shape}
 use Rattle.heap_world.specs.State.{HeapState}
 use Rattle.heap_world.specs.Legal.{IsLegal}
 use Rattle.heap_world.specs.Events.{after_finish}

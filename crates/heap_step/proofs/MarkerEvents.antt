@@ -8,9 +8,8 @@ use Rattle.heap_mark.proofs.ShadedLists.{shading}
 use Rattle.heap_mark.proofs.UndoneSteps.{drain_undone, mark_undone, snap_undone}
 use Rattle.heap_mark.specs.MarkSteps.{MarkState, drain_refusal, drained_once, is_marking, mark_refusal, snap_refusal}
 use Rattle.heap_mark.specs.declared.Phase.TheVariants.{Idle}
-use Rattle.heap_world.proofs.Marks.{drain_greys, drain_legal, drain_state, idle_is, is_below, mark_greys, mark_legal, mark_state, snap_legal}
-use Rattle.heap_world.proofs.Phases.{drain_phase, mark_phase}
-use Rattle.heap_world.proofs.Shapes.{drain_shape, mark_shape, snap_shape}
+use Rattle.heap_world.proofs.MarkerEvents.{drain_greys, drain_legal, drain_state, is_below, mark_greys, mark_legal, mark_state, snap_legal, drain_phase, mark_phase, drain_shape, mark_shape, snap_shape}
+use Rattle.heap_world.proofs.Marks.{idle_is}
 use Rattle.heap_world.proofs.Tricolour.{greys_found}
 use Rattle.heap_world.specs.Events.{after_drain, after_mark, after_snap}
 use Rattle.heap_world.specs.Legal.{IsMarked, Sheltered}

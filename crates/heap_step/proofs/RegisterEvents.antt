@@ -5,8 +5,8 @@ use Rattle.std.specs.Prelude.{if◌then◌else◌, nat_lt}
 use mathlib.Core.Logic.{inr}
 use Rattle.heap_class.proofs.Refusals.{none_holds}
 use Rattle.heap_world.proofs.Clauses.{HasClauses}
-use Rattle.heap_world.proofs.Phases.{load_phase}
-use Rattle.heap_world.proofs.Registers.{both_registers, clear_legal, load_legal, move_legal}
+use Rattle.heap_world.proofs.RegisterEvents.{load_phase, clear_legal, load_legal, move_legal}
+use Rattle.heap_world.proofs.Registers.{both_registers}
 use Rattle.heap_world.proofs.Shapes.{KeepsShape, same_shape}
 use Rattle.heap_world.specs.Events.{after_load, after_move, clear_refusal, is_reference_slot, load_refusal, move_refusal}
 use Rattle.heap_world.specs.Legal.{IsMarked, Sheltered}

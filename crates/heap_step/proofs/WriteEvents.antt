@@ -8,10 +8,8 @@ use Rattle.heap_class.proofs.Refusals.{none_holds}
 use Rattle.heap_class.specs.declared.ObjRef.{ObjRef}
 use Rattle.heap_region.specs.Regions.{Empty, InUse, Object, Region, in_used, object_at, object_of, ref_of, slot_kinds, updated, used_at, with_object, with_region, with_word}
 use Rattle.heap_mark.specs.MarkSteps.{is_marking, logged}
-use Rattle.heap_world.proofs.Phases.{put_phase, store_phase}
-use Rattle.heap_world.proofs.Shapes.{form_shape}
+use Rattle.heap_world.proofs.WriteEvents.{put_phase, store_phase, form_shape, form_rewires, put_form, put_legal, store_form, store_legal}
 use Rattle.heap_world.proofs.Tricolour.{rewires_found}
-use Rattle.heap_world.proofs.WordWrites.{form_rewires, put_form, put_legal, store_form, store_legal}
 use Rattle.heap_world.specs.Events.{after_put, after_store, is_logged, lacks_slot, put_refusal, store_refusal, with_slot, without_last}
 use Rattle.heap_world.specs.Legal.{IsLegal}
 use Rattle.heap_world.specs.State.{HeapState, marking_of, place_of, register, slot_kind, with_marking, word_of}

@@ -10,10 +10,10 @@ use Rattle.heap_world.specs.State.{HeapState}
 use Rattle.heap_world.specs.Reach.{Reaches}
 use Rattle.heap_world.specs.Legal.{IsLegal, IsMarked, Sheltered}
 use Rattle.heap_world.proofs.Clauses.{clauses_of}
-use Rattle.heap_world.proofs.CycleFindings.{reached_found, found_marked}
-use Rattle.heap_world.proofs.Finish.{settled}
-use Rattle.heap_world.proofs.Shapes.{NamesLike, like_still, found_live, snap_shape, snap_reaches, finish_settles}
-use Rattle.heap_world.proofs.Phases.{finish_due}
+use Rattle.heap_world.proofs.CycleFindings.{reached_found, found_marked, found_live}
+use Rattle.heap_world.proofs.Finish.{settled, finish_settles, finish_due}
+use Rattle.heap_world.proofs.Shapes.{NamesLike, like_still}
+use Rattle.heap_world.proofs.MarkerEvents.{snap_shape, snap_reaches}
 use Rattle.heap_step.specs.declared.Event.{Event}
 use Rattle.heap_step.specs.declared.Event.TheVariants.{Snap, Finish}
 use Rattle.heap_step.specs.Apply.{refusal_of, state_after}

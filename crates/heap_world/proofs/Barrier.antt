@@ -15,7 +15,8 @@ use Rattle.heap_world.specs.HeapParts.{IsSoundHeap}
 use Rattle.heap_world.specs.Events.{lacks_slot, is_logged, without_last, with_slot, store_refusal, after_store}
 use Rattle.heap_world.proofs.Clauses.{clauses_of, legal_by}
 use Rattle.heap_world.proofs.Registers.{second_register}
-use Rattle.heap_world.proofs.WordWrites.{length_written, place_is, store_legal}
+use Rattle.heap_world.proofs.WordWrites.{length_written}
+use Rattle.heap_world.proofs.WriteEvents.{place_is, store_legal}
 use Rattle.heap_world.proofs.KeptParts.{held_by}
 use Rattle.heap_world.proofs.MarkerParts.{marker_of, with_marker}
 use Rattle.heap_world.proofs.Slot.{HasSlot, some_kind, slot_by}

@@ -1,7 +1,7 @@
 -- Legality after a finish.
-use Rattle.std.proofs.Common.{◌≡◌, ◌⊎◌, ◌↔◌, ℕ, ◌+◌, ◌-◌, ◌≤◌, Bool, true, false, List, [], ◌∷◌, length, drop, refl, sym, ap, subst, ◌∙◌, Option, Some, None, IfSome, Contains, arith, length-drop}
+use Rattle.std.proofs.Common.{◌≡◌, ◌⊎◌, ◌↔◌, ℕ, ◌+◌, ◌-◌, ◌≤◌, Bool, true, false, List, [], ◌∷◌, length, drop, refl, sym, ap, subst, ◌∙◌, Option, Some, None, IfSome, Contains, arith, length-drop, Result}
 use mathlib.Core.Logic.{inl, inr}
-use Rattle.std.specs.Prelude.{slice_get, option_map, option_and_then, nat_lt}
+use Rattle.std.specs.Prelude.{slice_get, option_map, option_and_then, nat_lt, OnOk, OnErr}
 use Rattle.std.specs.Option.{option_map_or}
 use Rattle.std.proofs.lemmas.Option.{slice_get-map}
 use Rattle.std.proofs.lemmas.List.{length-map}
@@ -12,15 +12,22 @@ use Rattle.heap_region.specs.Regions.{Object, UsedRegion, Region, Empty, InUse, 
 use Rattle.heap_region.proofs.ChangedLookups.{ref_same, size_at, number_of, place_found}
 use Rattle.heap_region.proofs.References.{member_none}
 use Rattle.heap_mark.specs.declared.Phase.TheVariants.{Idle, Marking}
-use Rattle.heap_mark.specs.MarkSteps.{each_object, each_region, finish_refusal, finished_region, finished}
-use Rattle.heap_world.specs.State.{HeapState, marking_of, with_marking}
+use Rattle.heap_mark.specs.MarkSteps.{each_object, each_region, finish_refusal, finished_region, finished, MarkState, unfinished_region, unfinished}
+use Rattle.heap_world.specs.State.{HeapState, marking_of, with_marking, pool_of, with_pool}
 use Rattle.heap_world.specs.Reach.{Names}
-use Rattle.heap_world.specs.Legal.{IsObjectOf, IsUnmarked, IsLive, Sheltered}
-use Rattle.heap_world.proofs.Clauses.{HasClauses}
+use Rattle.heap_world.specs.Legal.{IsObjectOf, IsUnmarked, IsLive, Sheltered, IsLegal}
+use Rattle.heap_world.proofs.Clauses.{HasClauses, clauses_of}
 use Rattle.heap_region.proofs.Clauses.{IsPartition}
 use Rattle.heap_world.specs.Events.{after_finish}
 use Rattle.heap_world.proofs.Registers.{namer, names_of, mark_or_not}
 use Rattle.heap_world.proofs.Marks.{marking_is}
+use Rattle.heap_region.specs.Pool.{RegionPool}
+use Rattle.heap_class.specs.declared.Refusal.{Refusal}
+use Rattle.heap_class.specs.Refusals.{IsAnswered}
+use Rattle.heap_mark.specs.Marker.{MarkerState, after_work}
+use Rattle.heap_world.specs.HeapParts.{IsSoundHeap}
+use Rattle.heap_world.proofs.MarkerParts.{marker_of, with_marker, work_held, step_held, step_made}
+use Rattle.heap_world.proofs.Shapes.{KeepsShape}
 
 -- ---- each object of each region
 
@@ -207,3 +214,46 @@ finish_legal w l accepted = record {
         let mark : q.0.mark ≡ true = ap (λ (o : Object). o.live) (sym q.2) ∙ a.2 in
         let there : IsLive w y = l.slots_live x y (marked_object_live w l x q.0 q.1 mark) named in
         found y there.0 there.1 (λ u. (l.tricolour phase).slots x y (q.0, q.1, mark) (λ c. nobody x c) named u)
+
+-- ---- what a finish leaves
+
+-- where a finish is accepted, a cycle runs and nothing is left to do
+pub finish_due : (w : HeapState) → finish_refusal (marking_of w) ≡ None → (w.phase ≡ Marking) × (length w.gray ≡ 0) × (length w.log ≤ w.drained)
+unfolding finish_refusal
+finish_due w accepted = let left = nothing_left (length w.gray) (length w.log) w.drained (none_holds _ accepted).1.0 in (marking_is w.phase (none_holds _ accepted).0, left.0, left.1)
+
+-- what an id names after a finish
+pub finish_settles : (w : HeapState) (x : ℕ) (o : Object) → object_of w.regions x ≡ Some o → object_of (after_finish w).regions x ≡ Some (settled o)
+unfolding after_finish finished
+finish_settles w x o e = named_settled w.regions x ∙ ap (option_map settled) e
+
+pub finish_shape : (w : HeapState) (x : ℕ) → KeepsShape w (after_finish w) x
+finish_shape w x o e = (settled o, finish_settles w x o e, refl, refl)
+
+-- ---- the heap that holds it
+
+length_finished : (s : MarkState) → length (finished s).regions ≡ length s.regions
+unfolding finished
+length_finished s = length_each s.regions
+
+pub finish_held : {A : Type 0} (w : HeapState) (room : ℕ) (k : MarkerState) (s : RegionPool) (result : Result A Refusal) → IsSoundHeap w room → IsAnswered (finish_refusal (marking_of w)) false result
+    → OnOk result (k ≡ after_work (finished (marking_of w)) (marker_of w room)) → OnOk result (s ≡ record (pool_of w) { regions = (finished (marking_of w)).regions })
+    → OnErr result ((k ≡ marker_of w room) × (s ≡ pool_of w)) → IsSoundHeap (with_marker k (with_pool s w)) k.room
+unfolding after_finish
+finish_held w room k s result h = step_held w room (finish_refusal (marking_of w)) (finished (marking_of w)) k s result h (finish_legal w (clauses_of w h.legal)) (length_finished (marking_of w))
+
+pub finish_made : {A : Type 0} (w v : HeapState) (room : ℕ) (k : MarkerState) (s : RegionPool) (result : Result A Refusal) → w ≡ v → OnOk result (k ≡ after_work (finished (marking_of w)) (marker_of w room))
+    → OnOk result (s ≡ record (pool_of w) { regions = (finished (marking_of w)).regions }) → OnOk result (with_marker k (with_pool s w) ≡ after_finish v)
+unfolding after_finish
+finish_made w v room k s result = step_made w v room (λ u. finished (marking_of u)) k s result
+
+-- ---- a finish is undone
+
+length_unfinished : (log : List ℕ) (s : MarkState) → length (unfinished log s).regions ≡ length s.regions
+unfolding unfinished each_region
+length_unfinished log s = length-map s.regions (in_used unfinished_region)
+
+pub unfinish_held : (w v : HeapState) (room : ℕ) (log : List ℕ) (k : MarkerState) (s : RegionPool) → IsSoundHeap w room → w ≡ v → IsLegal (with_marking (unfinished log (marking_of v)) v)
+    → k ≡ after_work (unfinished log (marking_of w)) (marker_of w room) → s ≡ record (pool_of w) { regions = (unfinished log (marking_of w)).regions } → IsSoundHeap (with_marker k (with_pool s w)) k.room
+unfinish_held w v room log k s h same l = work_held w room (unfinished log (marking_of w)) k s h
+    (subst (λ (u : HeapState). IsLegal (with_marking (unfinished log (marking_of u)) u)) (sym same) l) (length_unfinished log (marking_of w))

@@ -1,17 +1,22 @@
--- The marker of a heap, and what the heap holds gives it.
-use Rattle.std.proofs.Common.{ℕ, List, length, Option, sym, ap, subst}
-use Rattle.std.specs.Prelude.{Contains, is_some, IsSome, IfSome}
+-- The marker of a heap, what the heap holds gives it, and its work on what the heap holds.
+use Rattle.std.proofs.Common.{ℕ, List, length, Option, sym, ap, subst, ◌≡◌, false, None, Result, Ok, Err, ◌∙◌}
+use Rattle.std.specs.Prelude.{Contains, is_some, IsSome, IfSome, OnOk, OnErr}
 use Rattle.heap_class.specs.declared.ObjKind.{ObjKind}
 use Rattle.heap_class.specs.declared.ObjKind.TheVariants.{Instance, Array, Prim}
 use Rattle.heap_class.specs.Classes.{Class}
 use Rattle.heap_class.proofs.Slots.{instance_within}
 use Rattle.heap_region.specs.Regions.{Object, object_of}
 use Rattle.heap_region.proofs.ChangedLookups.{place_found}
-use Rattle.heap_mark.specs.MarkSteps.{children_of}
-use Rattle.heap_mark.specs.Marker.{MarkerState, IsNullOrNames, IsGraySound, HasSlots}
-use Rattle.heap_world.specs.State.{HeapState}
-use Rattle.heap_world.specs.Legal.{HasKind, IsLive}
+use Rattle.heap_mark.specs.MarkSteps.{children_of, MarkState}
+use Rattle.heap_mark.specs.Marker.{MarkerState, IsNullOrNames, IsGraySound, HasSlots, after_work}
+use Rattle.heap_world.specs.State.{HeapState, pool_of, with_pool, with_marking}
+use Rattle.heap_world.specs.Legal.{HasKind, IsLive, IsLegal}
 use Rattle.heap_world.specs.HeapParts.{IsSoundHeap}
+use Rattle.heap_class.specs.declared.Refusal.{Refusal}
+use Rattle.heap_class.specs.Refusals.{IsAnswered}
+use Rattle.heap_region.specs.Pool.{RegionPool}
+use Rattle.heap_world.proofs.Clauses.{HasClauses, legal_by}
+use Rattle.heap_world.proofs.KeptParts.{held_by}
 
 abbrev pub marker_of : HeapState → ℕ → MarkerState
 marker_of w room = record { gray = w.gray; room = room; log = w.log; drained = w.drained; phase = w.phase }
@@ -44,3 +49,31 @@ slots_there w room h x c = let a = h.legal.gray_live x c in let p = place_found 
 
 pub children_there : (w : HeapState) (room : ℕ) → IsSoundHeap w room → (x : ℕ) → Contains w.gray x → (y : ℕ) → Contains (children_of w.classes w.regions x) y → IsSome (object_of w.regions y)
 children_there w room h x c y n = live_there w y (h.legal.slots_live x y (h.legal.gray_live x c) n)
+
+-- ---- the marker's work is the heap's
+
+pub worked : (w : HeapState) (room : ℕ) (t : MarkState) (k : MarkerState) (s : RegionPool) → k ≡ after_work t (marker_of w room) → s ≡ record (pool_of w) { regions = t.regions } → with_marker k (with_pool s w) ≡ with_marking t w
+worked w room t k s e f = λ i. with_marker (e i) (with_pool (f i) w)
+
+pub work_made : (w v : HeapState) (room : ℕ) (f : HeapState → MarkState) (k : MarkerState) (s : RegionPool) → w ≡ v → k ≡ after_work (f w) (marker_of w room) → s ≡ record (pool_of w) { regions = (f w).regions }
+    → with_marker k (with_pool s w) ≡ with_marking (f v) v
+work_made w v room f k s same e g = worked w room (f w) k s e g ∙ ap (λ (u : HeapState). with_marking (f u) u) same
+
+pub work_held : (w : HeapState) (room : ℕ) (t : MarkState) (k : MarkerState) (s : RegionPool) → IsSoundHeap w room → IsLegal (with_marking t w) → length t.regions ≡ length w.regions
+    → k ≡ after_work t (marker_of w room) → s ≡ record (pool_of w) { regions = t.regions } → IsSoundHeap (with_marker k (with_pool s w)) k.room
+work_held w room t k s h l n e f = subst (IsSoundHeap (with_marker k (with_pool s w))) (sym (ap (λ (j : MarkerState). j.room) e))
+    (subst (λ (u : HeapState). IsSoundHeap u room) (sym (worked w room t k s e f)) (held_by (with_marking t w) w room h l n))
+
+still_held : (w : HeapState) (room : ℕ) (k : MarkerState) (s : RegionPool) → IsSoundHeap w room → k ≡ marker_of w room → s ≡ pool_of w → IsSoundHeap (with_marker k (with_pool s w)) k.room
+still_held w room k s h e f = subst (λ (j : MarkerState). IsSoundHeap (with_marker j (with_pool s w)) j.room) (sym e) (subst (λ (p : RegionPool). IsSoundHeap (with_pool p w) room) (sym f) h)
+
+-- a step that is refused, or leads to the state t
+pub step_held : {A : Type 0} (w : HeapState) (room : ℕ) (refusal : Option Refusal) (t : MarkState) (k : MarkerState) (s : RegionPool) (result : Result A Refusal) → IsSoundHeap w room → (refusal ≡ None → HasClauses (with_marking t w)) → length t.regions ≡ length w.regions
+    → IsAnswered refusal false result → OnOk result (k ≡ after_work t (marker_of w room)) → OnOk result (s ≡ record (pool_of w) { regions = t.regions }) → OnErr result ((k ≡ marker_of w room) × (s ≡ pool_of w)) → IsSoundHeap (with_marker k (with_pool s w)) k.room
+step_held w room refusal t k s (Ok x) h l n a e f u = work_held w room t k s h (legal_by (with_marking t w) (l a)) n e f
+step_held w room refusal t k s (Err x) h l n a e f u = still_held w room k s h u.0 u.1
+
+pub step_made : {A : Type 0} (w v : HeapState) (room : ℕ) (f : HeapState → MarkState) (k : MarkerState) (s : RegionPool) (result : Result A Refusal) → w ≡ v → OnOk result (k ≡ after_work (f w) (marker_of w room)) → OnOk result (s ≡ record (pool_of w) { regions = (f w).regions })
+    → OnOk result (with_marker k (with_pool s w) ≡ with_marking (f v) v)
+step_made w v room f k s (Ok x) same e g = work_made w v room f k s same e g
+step_made w v room f k s (Err x) same e g = e

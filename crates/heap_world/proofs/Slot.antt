@@ -11,11 +11,9 @@ use Rattle.heap_class.specs.Classes.{Class, slots_of, slot_kinds_of}
 use Rattle.heap_class.proofs.Slots.{instance_within}
 use Rattle.heap_region.specs.Regions.{Object, object_at, object_of, ref_of, slot_kinds}
 use Rattle.heap_region.proofs.ChangedLookups.{object_at_ref}
-use Rattle.heap_world.specs.State.{HeapState, register, slot_kind, word_of}
+use Rattle.heap_world.specs.State.{HeapState, slot_kind, word_of}
 use Rattle.heap_world.specs.Legal.{IsLegal, HasKind}
 use Rattle.heap_world.specs.HeapParts.{IsSoundHeap}
-use Rattle.heap_class.proofs.Refusals.{none_holds}
-use Rattle.heap_world.specs.Events.{put_refusal, lacks_slot}
 use Rattle.heap_world.proofs.Registers.{slot_there, word_there}
 use Rattle.heap_world.proofs.Words.{words_few}
 use Rattle.heap_sweep.proofs.FreedCells.{is_there}
@@ -146,10 +144,3 @@ slot_by w v x slot room at k h e r f = subst (λ (u : HeapState). HasSlot u x sl
 pub some_kind : (p : Option Kind) → is_none p ≡ false → (k : Kind) × (p ≡ Some k)
 some_kind None h = cc
 some_kind (Some k) h = (k, refl)
-
--- where a value may be put, the object has the slot
-pub put_by : (w v : HeapState) (m target slot value room : ℕ) (at : ObjRef) → IsSoundHeap w room → w ≡ v → put_refusal m target slot value v ≡ None → ref_of v.regions (register v m target) ≡ Some at → HasSlot w (register v m target) slot at
-unfolding put_refusal lacks_slot
-put_by w v m target slot value room at h e accepted r =
-    let k = some_kind (slot_kind v (register v m target) slot) (none_holds _ accepted).1.1.0 in
-    slot_by w v (register v m target) slot room at k.0 h e r k.1

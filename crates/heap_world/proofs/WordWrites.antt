@@ -1,32 +1,24 @@
 -- Legality where a word of an object is written, and perhaps the log: a store and a put.
-use Rattle.std.proofs.Common.{◌≡◌, ◌≢◌, ◌⊎◌, ℕ, zero, suc, ◌<◌, ◌≤◌, Bool, true, false, not, List, [], ◌∷◌, ◌++◌, length, drop, set, zip, refl, sym, ap, subst, ◌∙◌, Option, Some, None, All, Contains, arith, length-append}
+use Rattle.std.proofs.Common.{◌≡◌, ◌≢◌, ◌⊎◌, ℕ, zero, suc, ◌<◌, ◌≤◌, Bool, true, false, not, List, [], ◌∷◌, length, drop, set, zip, refl, sym, ap, subst, ◌∙◌, Some, All, Contains, arith}
 use mathlib.Core.Logic.{inl, inr}
-use Rattle.std.specs.Prelude.{slice_get, slice_index, slice_set, option_map, unwrap_or, nat_le, ◌==◌, if◌then◌else◌}
-use Rattle.std.specs.Option.{option_map_or}
-use Rattle.std.proofs.lemmas.Bool.{eqb-true, eqb-false}
-use Rattle.std.proofs.lemmas.List.Elements.{All-head, All-tail, All-cons, Contains-append_left, Contains-append_right, Contains-push_cases}
-use Rattle.heap_class.proofs.Refusals.{none_holds}
+use Rattle.std.specs.Prelude.{slice_get, slice_set, option_map}
+use Rattle.std.proofs.lemmas.List.Elements.{All-head, All-tail, All-cons}
 use Rattle.heap_class.specs.declared.Kind.{Kind}
-use Rattle.heap_class.specs.declared.Kind.TheVariants.{Boolean, Char, Float, Double, Byte, Short, Int, Long}
 use Rattle.heap_class.specs.declared.ObjRef.{ObjRef}
 use Rattle.heap_class.specs.Classes.{Class}
 use Rattle.heap_class.specs.Kinds.{is_reference, value_limit}
 use Rattle.heap_region.specs.Regions.{Object, Region, object_of, object_at, ref_of, with_object, with_word, with_region, references_of, slot_kinds}
-use Rattle.heap_region.proofs.ChangedLookups.{same_or_not, length_updated, place_found, object_at_ref, object_of_with_object, object_of_with_object_other}
+use Rattle.heap_region.proofs.ChangedLookups.{same_or_not, length_updated, object_at_ref, object_of_with_object, object_of_with_object_other}
 use Rattle.heap_region.proofs.PriorObjects.{object_was}
-use Rattle.heap_region.proofs.References.{member_head, member_none, length_set, kinds_after_word, reference_was, reference_stays, reference_not_null}
-use Rattle.heap_mark.specs.declared.Phase.{Phase}
+use Rattle.heap_region.proofs.References.{length_set, kinds_after_word, reference_was, reference_stays, reference_not_null}
 use Rattle.heap_mark.specs.declared.Phase.TheVariants.{Idle, Marking}
-use Rattle.heap_mark.specs.MarkSteps.{is_marking, logged}
-use Rattle.heap_world.specs.State.{HeapState, marking_of, with_marking, is_register, register, place_of, word_of, slot_kind}
+use Rattle.heap_world.specs.State.{HeapState}
 use Rattle.heap_world.specs.Reach.{Names}
 use Rattle.heap_world.specs.Legal.{IsObjectOf, HasKind, NamesOne, IsLive}
 use Rattle.heap_world.proofs.Clauses.{HasClauses}
-use Rattle.heap_world.specs.Events.{after_store, store_refusal, after_put, put_refusal, with_slot, is_reference_slot, lacks_slot}
 use Rattle.heap_world.proofs.Tricolour.{Rewires, rewires_tricolour}
 use Rattle.heap_world.proofs.StoredObjects.{IsStored, Keeps, stored_of, stored_with_object}
-use Rattle.heap_world.proofs.Registers.{object_not_null, both_registers, namer, names_of, register_member, slot_there, reference_slot, word_there, slot_names}
-use Rattle.heap_world.proofs.Slot.{some_kind}
+use Rattle.heap_world.proofs.Registers.{namer, names_of}
 
 -- the object with the word in a slot
 abbrev pub with_object_word : ℕ → ℕ → Object → Object
@@ -219,170 +211,6 @@ written_legal w at x o slot word after l p e live word_live may = record {
 
 -- ---- store
 
-drop_more : (xs ys : List ℕ) (d y : ℕ) → Contains (drop d xs) y → Contains (drop d (xs ++ ys)) y
-drop_more [] ys zero y c = absurd (member_none y c)
-drop_more [] ys (suc d) y c = absurd (member_none y c)
-drop_more (x ∷ xs) ys zero y c = Contains-append_left (x ∷ xs) ys y c
-drop_more (x ∷ xs) ys (suc d) y c = drop_more xs ys d y c
-
-drop_last : (xs : List ℕ) (d y : ℕ) → d ≤ length xs → Contains (drop d (xs ++ y ∷ [])) y
-drop_last [] zero y h = member_head y []
-drop_last [] (suc d) y h = absurd (omega (arith, h))
-drop_last (x ∷ xs) zero y h = Contains-append_right (x ∷ xs) (y ∷ []) y (member_head y [])
-drop_last (x ∷ xs) (suc d) y h = drop_last xs d y (omega (arith, h))
-
-object_kind : (k : Kind) → is_reference k ≡ true → k ≡ Kind.Object
-object_kind Kind.Object h = refl
-object_kind Boolean h = cc
-object_kind Char h = cc
-object_kind Float h = cc
-object_kind Double h = cc
-object_kind Byte h = cc
-object_kind Short h = cc
-object_kind Int h = cc
-object_kind Long h = cc
-
-index_of_get : (xs : List ℕ) (i y : ℕ) → slice_get xs i ≡ Some y → slice_index xs i ≡ y
-index_of_get [] i y h = cc
-index_of_get (x ∷ xs) zero y h = cc
-index_of_get (x ∷ xs) (suc i) y h = index_of_get xs i y h
-
-marks : (p : Phase) → p ≡ Marking → is_marking p ≡ true
-marks p e = ap is_marking e
-
-idles : (p : Phase) → p ≡ Idle → is_marking p ≡ false
-idles p e = ap is_marking e
-
-not_false : (b : Bool) → not b ≡ false → b ≡ true
+pub not_false : (b : Bool) → not b ≡ false → b ≡ true
 not_false true h = refl
 not_false false h = cc
-
-pub place_is : (w : HeapState) (x : ℕ) (at : ObjRef) → ref_of w.regions x ≡ Some at → place_of w x ≡ at
-unfolding place_of
-place_is w x at e = ap (λ (p : Option ObjRef). unwrap_or p (record { region = 0; cell = 0 })) e
-
--- where the register target names an object with a slot, a word that may be written there keeps the heap legal
-pub slot_legal : (w : HeapState) (m target slot word : ℕ) (o : Object) (after : List ℕ) → HasClauses w → Contains w.registers (register w m target) → object_of w.regions (register w m target) ≡ Some o
-    → MayWrite w (register w m target) o slot word after → HasClauses (record w { regions = with_word (place_of w (register w m target)) slot word w.regions; log = after })
-slot_legal w m target slot word o after l c e may =
-    let p = place_found w.regions (register w m target) o e in
-    subst (λ at. HasClauses (written w at slot word after)) (sym (place_is w (register w m target) p.0 p.1))
-    (written_legal w p.0 (register w m target) o slot word after l p.1 e (l.registers_live (register w m target) c (object_not_null w (register w m target) o e))
-    (λ n r. l.registers_live word (may.reference r) n) may)
-
--- the form of a heap after a write: whose word, what the log is then, and that it may be written
-abbrev pub WriteForm : HeapState → ℕ → ℕ → ℕ → HeapState → Type 0
-WriteForm w x slot word v = (o : Object) × (after : List ℕ) × (object_of w.regions x ≡ Some o) × MayWrite w x o slot word after × (v ≡ record w { regions = with_word (place_of w x) slot word w.regions; log = after })
-
-pub form_legal : (w v : HeapState) (m target slot word : ℕ) → HasClauses w → Contains w.registers (register w m target) → WriteForm w (register w m target) slot word v → HasClauses v
-form_legal w v m target slot word l c f = subst HasClauses (sym f.4) (slot_legal w m target slot word f.0 f.1 l c f.2 f.3)
-
-pub form_rewires : (w v : HeapState) (x slot word : ℕ) → w.phase ≡ Marking → WriteForm w x slot word v → Rewires w v
-form_rewires w v x slot word phase f = let p = place_found w.regions x f.0 f.2 in
-    subst (Rewires w) (sym f.4) (subst (λ at. Rewires w (written w at slot word f.1)) (sym (place_is w x p.0 p.1)) (written_rewires w p.0 x f.0 slot word f.1 phase p.1 f.2 f.3))
-
-pub store_form : (w : HeapState) (m target slot source : ℕ) → HasClauses w → store_refusal m target slot source w ≡ None → WriteForm w (register w m target) slot (register w m source) (after_store m target slot source w)
-unfolding store_refusal after_store with_slot logged place_of
-store_form w m target slot source l accepted = go (is_marking w.phase) refl (word_of w x slot == 0) refl
-  where
-    x : ℕ
-    x = register w m target
-
-    registers : (is_register w m target ≡ true) × (is_register w m source ≡ true)
-    registers = both_registers _ _ (none_holds _ accepted).0
-
-    is_slot : is_reference_slot w x slot ≡ true
-    is_slot = not_false _ (none_holds _ accepted).1.1.1.0
-
-    r : (o : Object) × (object_of w.regions x ≡ Some o) × IsReferenceSlot w.classes o slot
-    r = reference_slot w x slot is_slot
-
-    value : (k : Kind) → slice_get (slot_kinds w.classes r.0) slot ≡ Some k → k ≢ Kind.Object → register w m source < value_limit k
-    value k e n = let q : k ≡ r.2.0 = (let a = r.2.1 in cc) in absurd (n (q ∙ object_kind r.2.0 r.2.2))
-
-    old_is : (y : ℕ) → slice_get r.0.words slot ≡ Some y → word_of w x slot ≡ y
-    old_is y e = word_there w x slot r.0 r.1 ∙ index_of_get r.0.words slot y e
-
-    same : (is_marking w.phase ≡ true → (word_of w x slot == 0) ≡ true) → MayWrite w x r.0 slot (register w m source) w.log
-    same null = record {
-      value = value;
-      reference = λ s. register_member w m source registers.1;
-      entries = λ y c. inl c;
-      longer = omega arith;
-      idle = λ i. refl;
-      undrained = λ y c. c;
-      overwritten = λ i y s e n. absurd (n (sym (old_is y e) ∙ eqb-true (word_of w x slot) 0 (null (marks w.phase i))));
-    }
-
-    entry : (y : ℕ) → (word_of w x slot == 0) ≡ false → Contains w.log y ⊎ (word_of w x slot ≡ y) → Contains w.log y ⊎ Names w x y
-    entry y f (inl c) = inl c
-    entry y f (inr e) = elim (slot_names w x slot is_slot) [ inl z ↦ absurd (eqb-false (word_of w x slot) 0 f z) | inr n ↦ inr (subst (Names w x) e n) ]
-
-    more : is_marking w.phase ≡ true → (word_of w x slot == 0) ≡ false → MayWrite w x r.0 slot (register w m source) (w.log ++ word_of w x slot ∷ [])
-    more i f = record {
-      value = value;
-      reference = λ s. register_member w m source registers.1;
-      entries = λ y c. entry y f (Contains-push_cases w.log (word_of w x slot) y c);
-      longer = omega (arith, length-append w.log (word_of w x slot ∷ []));
-      idle = λ j. (let a : is_marking w.phase ≡ false = idles w.phase j in cc);
-      undrained = λ y c. drop_more w.log (word_of w x slot ∷ []) w.drained y c;
-      overwritten = λ j y s e n. subst (λ z. Contains (drop w.drained (w.log ++ z ∷ [])) y) (sym (old_is y e)) (drop_last w.log w.drained y l.drained_within);
-    }
-
-    go : (b : Bool) → is_marking w.phase ≡ b → (c : Bool) → (word_of w x slot == 0) ≡ c
-        → let v : HeapState = with_marking (if b then (if c then marking_of w else record (marking_of w) { log = w.log ++ word_of w x slot ∷ [] }) else marking_of w) w in
-        WriteForm w x slot (register w m source) (record v { regions = with_word (place_of v x) slot (register w m source) v.regions })
-    go true e true f = (r.0, w.log, r.1, same (λ i. f), refl)
-    go true e false f = (r.0, w.log ++ word_of w x slot ∷ [], r.1, more e f, refl)
-    go false e c f = (r.0, w.log, r.1, same (λ i. (let a = e in cc)), refl)
-
-pub store_legal : (w : HeapState) (m target slot source : ℕ) → HasClauses w → store_refusal m target slot source w ≡ None → HasClauses (after_store m target slot source w)
-unfolding store_refusal
-store_legal w m target slot source l accepted = form_legal w (after_store m target slot source w) m target slot (register w m source) l
-    (register_member w m target (both_registers _ _ (none_holds _ accepted).0).0) (store_form w m target slot source l accepted)
-
--- ---- put
-
-above : (n v : ℕ) → nat_le n v ≡ false → v < n
-above n v h = grind arith
-
-pub put_form : (w : HeapState) (m target slot value : ℕ) → HasClauses w → put_refusal m target slot value w ≡ None → WriteForm w (register w m target) slot value (after_put m target slot value w)
-unfolding put_refusal after_put with_slot lacks_slot is_reference_slot
-put_form w m target slot value l accepted = (r.0, w.log, r.1, may, refl)
-  where
-    x : ℕ
-    x = register w m target
-
-    kind : (k : Kind) × (slot_kind w x slot ≡ Some k)
-    kind = some_kind (slot_kind w x slot) (none_holds _ accepted).1.1.0
-
-    r : (o : Object) × (object_of w.regions x ≡ Some o) × (slice_get (slot_kinds w.classes o) slot ≡ Some kind.0)
-    r = slot_there w x slot kind.0 kind.1
-
-    no_reference : is_reference kind.0 ≡ false
-    no_reference = ap (λ (p : Option Kind). option_map_or is_reference p false) (sym kind.1) ∙ (none_holds _ accepted).1.1.1.0
-
-    in_range : nat_le (value_limit kind.0) value ≡ false
-    in_range = ap (λ (p : Option Kind). option_map_or (λ k. nat_le (value_limit k) value) p false) (sym kind.1) ∙ (none_holds _ accepted).1.1.1.1.0
-
-    is_kind : (k : Kind) → slice_get (slot_kinds w.classes r.0) slot ≡ Some k → k ≡ kind.0
-    is_kind k e = let a = r.2 in cc
-
-    no_slot : IsReferenceSlot w.classes r.0 slot → ⊥
-    no_slot s = let a : true ≡ false = sym s.2 ∙ ap is_reference (is_kind s.0 s.1) ∙ no_reference in cc
-
-    may : MayWrite w x r.0 slot value w.log
-    may = record {
-      value = λ k e n. subst (λ j. value < value_limit j) (sym (is_kind k e)) (above (value_limit kind.0) value in_range);
-      reference = λ s. absurd (no_slot s);
-      entries = λ y c. inl c;
-      longer = omega arith;
-      idle = λ i. refl;
-      undrained = λ y c. c;
-      overwritten = λ i y s e n. absurd (no_slot s);
-    }
-
-pub put_legal : (w : HeapState) (m target slot value : ℕ) → HasClauses w → put_refusal m target slot value w ≡ None → HasClauses (after_put m target slot value w)
-unfolding put_refusal
-put_legal w m target slot value l accepted = form_legal w (after_put m target slot value w) m target slot value l
-    (register_member w m target (not_false _ (none_holds _ accepted).0)) (put_form w m target slot value l accepted)

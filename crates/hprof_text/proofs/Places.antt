@@ -1,6 +1,6 @@
 -- The places of listed objects.
 use Rattle.std.proofs.Common.{◌≡◌, ◌≤◌, ◌<◌, ℕ, zero, suc, ◌+◌, List, [], length, map, get_or, refl, sym, ap, ◌∙◌, subst, arith}
-use Rattle.std.specs.Prelude.{slice_get, Option, Some, None, Contains, All}
+use Rattle.std.specs.Prelude.{slice_get, Option, Some, None, Contains, All, IfSome}
 use Rattle.std.proofs.lemmas.Option.{slice_get_within, slice_get_past, slice_get-get_or, slice_get-map}
 use Rattle.std.proofs.lemmas.List.{length-map, get_or-map}
 use Rattle.std.proofs.lemmas.List.Elements.{All-map}
@@ -46,6 +46,14 @@ shown_here shown os i at o v e d =
     let n : i < length os = omega (arith, place_within (length shown) i at e, ap length v, length-map os dumped_object) in
     let g : o ≡ get_or os i o = d ∙ ap (λ k. get_or os k o) (place_is (length shown) i at e) in
     sym (shown_at os i o n g) ∙ ap (λ l. slice_get l i) v
+
+-- each place that is listed has an object
+pub place_listed : (shown : List DumpedObject) (os : List ListedObject) (at : ObjRef) → map dumped_object os ≡ shown → Contains (listed_places 0 (length shown)) at → at.cell < length os
+place_listed shown os at v c = omega (arith, ap length v, length-map os dumped_object, place_contained (length shown) at c)
+
+-- what holds of it as a dump shows it holds of what is shown
+pub holds_here : (shown : List DumpedObject) (os : List ListedObject) (i : ℕ) (at : ObjRef) (o : ListedObject) (R : DumpedObject → Type 0) → map dumped_object os ≡ shown → slice_get (listed_places 0 (length shown)) i ≡ Some at → o ≡ get_or os at.cell o → R (dumped_object o) → IfSome (slice_get shown i) R
+holds_here shown os i at o R v e d r = subst (λ (x : Option DumpedObject). IfSome x R) (shown_here shown os i at o v e d) r
 
 -- ---- what the checks find is what a dump may show
 

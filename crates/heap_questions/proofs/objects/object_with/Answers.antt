@@ -2,21 +2,17 @@ use Rattle.std.proofs.Common.{◌≡◌, sym, ◌∙◌, arith}
 use Rattle.std.specs.Prelude.{slice_get}
 use Rattle.hprof_text.specs.Image.{DumpedObject}
 use Rattle.hprof_text.proofs.Loops.{some_item}
-use Rattle.hprof_text.proofs.ViewedObjects.{here, none_left, within}
-use Rattle.heap_questions.proofs.NamedObjects.{object_none, others_more, said_of, shown_is}
+use Rattle.hprof_text.proofs.ViewedObjects.{none_left, within}
+use Rattle.heap_questions.proofs.NamedObjects.{object_none, others_more, said_of, shown_is, viewed}
 use Rattle.heap_questions.proofs.objects.object_with.Goals as goal
 
 pub returns-then-id : goal.returns-then-id
 returns-then-id g c =
-    let v = c.args.view.now in
-    let image = g.V.View.image v in
+    let image = g.V.View.image c.args.view.now in
     let i = c.loop-here.passed in
-    let e = sym c.loop-here.invariant.here ∙ c.in-Some.is in
-    let kind = c.kind-kind.result in
-    let words = c.words-words.result.now in
-    let h = here image (g.V.View.places v) i c.in-Some.at kind words c.classes-classes.ensures.limits c.classes-classes.ensures.placed e (c.kind-kind.ensures i e) (c.words-words.ensures i e) in
-    let same = said_of (λ (o : DumpedObject). c.id.result ≡ o.id) (slice_get image.objects i) h.object h.there (c.id.ensures i e) in
-    shown_is image c.args.id i c.id.result kind words h.object c.loop-here.invariant.others h.there same c.if-id.true h.same_kind h.same_words
+    let h = viewed image (g.V.View.places c.args.view.now) i _ c.in-Some.at c.kind-kind.result c.words-words.result.now c.loop-here.invariant.here c.in-Some.is c.classes-classes.ensures.limits c.classes-classes.ensures.placed c.kind-kind.ensures c.words-words.ensures in
+    let same = said_of (λ (o : DumpedObject). c.id.result ≡ o.id) (slice_get image.objects i) h.object h.there (c.id.ensures i (sym c.loop-here.invariant.here ∙ c.in-Some.is)) in
+    shown_is image c.args.id i c.id.result c.kind-kind.result c.words-words.result.now h.object c.loop-here.invariant.others h.there same c.if-id.true h.same_kind h.same_words
 
 pub loop-here-smaller : goal.loop-here-smaller
 loop-here-smaller g c =

@@ -1,9 +1,10 @@
 use Rattle.std.proofs.Common.{◌≡◌, ◌<◌, ◌≤◌, take, false, length, replicate, sym, ap, ap₂, ◌+◌, ◌∙◌, subst, arith, rules}
 use Rattle.std.specs.Prelude.{slice_index_or}
 use Rattle.hprof_text.specs.Image.{IsKnown}
-use Rattle.hprof_text.proofs.ViewedObjects.{here, is_there, within, none_left}
+use Rattle.hprof_text.proofs.ViewedObjects.{is_there, within, none_left}
 use Rattle.heap_questions.specs.Histogram.{AreRows, class_rows, counted_unless, no_objects, object_bytes, row_number, without_marked, value_size}
 use Rattle.heap_questions.proofs.Counting.{rows_begin, rows_more, rows_end, room}
+use Rattle.heap_questions.proofs.NamedObjects.{viewed}
 use Rattle.heap_questions.proofs.rows.count_unmarked.Goals as goal
 
 pub loop-here-init : goal.loop-here-init
@@ -25,26 +26,17 @@ words-requires g c = is_there (g.V.View.places c.args.view.now) c.loop-here.pass
 
 pub value_size-bytes-requires-clause-known : goal.value_size-bytes-requires-clause-known
 value_size-bytes-requires-clause-known g c =
-    let v = c.args.view.now in
-    let i = c.loop-here.passed in
-    let e = sym c.loop-here.invariant.here ∙ c.in-Some.is in
-    let h = here (g.V.View.image v) (g.V.View.places v) i c.in-Some.at c.kind-kind.result c.words.result.now c.classes-classes.ensures.limits c.classes-classes.ensures.placed e (c.kind-kind.ensures i e) (c.words.ensures i e) in
+    let h = viewed (g.V.View.image c.args.view.now) (g.V.View.places c.args.view.now) c.loop-here.passed _ c.in-Some.at c.kind-kind.result c.words.result.now c.loop-here.invariant.here c.in-Some.is c.classes-classes.ensures.limits c.classes-classes.ensures.placed c.kind-kind.ensures c.words.ensures in
     subst (λ cs. IsKnown cs c.kind-kind.result (length c.words.result.now)) (sym c.classes-classes.ensures.value) h.known
 
 pub value_size-bytes-requires-clause-small : goal.value_size-bytes-requires-clause-small
 value_size-bytes-requires-clause-small g c =
-    let v = c.args.view.now in
-    let i = c.loop-here.passed in
-    let e = sym c.loop-here.invariant.here ∙ c.in-Some.is in
-    let h = here (g.V.View.image v) (g.V.View.places v) i c.in-Some.at c.kind-kind.result c.words.result.now c.classes-classes.ensures.limits c.classes-classes.ensures.placed e (c.kind-kind.ensures i e) (c.words.ensures i e) in
+    let h = viewed (g.V.View.image c.args.view.now) (g.V.View.places c.args.view.now) c.loop-here.passed _ c.in-Some.at c.kind-kind.result c.words.result.now c.loop-here.invariant.here c.in-Some.is c.classes-classes.ensures.limits c.classes-classes.ensures.placed c.kind-kind.ensures c.words.ensures in
     h.small
 
 pub row_number-index-requires : goal.row_number-index-requires
 row_number-index-requires g c =
-    let v = c.args.view.now in
-    let i = c.loop-here.passed in
-    let e = sym c.loop-here.invariant.here ∙ c.in-Some.is in
-    let h = here (g.V.View.image v) (g.V.View.places v) i c.in-Some.at c.kind-kind.result c.words.result.now c.classes-classes.ensures.limits c.classes-classes.ensures.placed e (c.kind-kind.ensures i e) (c.words.ensures i e) in
+    let h = viewed (g.V.View.image c.args.view.now) (g.V.View.places c.args.view.now) c.loop-here.passed _ c.in-Some.at c.kind-kind.result c.words.result.now c.loop-here.invariant.here c.in-Some.is c.classes-classes.ensures.limits c.classes-classes.ensures.placed c.kind-kind.ensures c.words.ensures in
     subst (λ cs. IsKnown cs c.kind-kind.result (length c.words.result.now)) (sym c.classes-classes.ensures.value) h.known
 
 pub loop-here-smaller : goal.loop-here-smaller
@@ -61,7 +53,7 @@ loop-here-preserved g c =
     let at = c.in-Some.at in
     let rows = c.loop-here.rows.items in
     let e = sym c.loop-here.invariant.here ∙ c.in-Some.is in
-    let h = here image (g.V.View.places v) i at c.kind-kind.result c.words.result.now c.classes-classes.ensures.limits c.classes-classes.ensures.placed e (c.kind-kind.ensures i e) (c.words.ensures i e) in
+    let h = viewed image (g.V.View.places v) i _ at c.kind-kind.result c.words.result.now c.loop-here.invariant.here c.in-Some.is c.classes-classes.ensures.limits c.classes-classes.ensures.placed c.kind-kind.ensures c.words.ensures in
     let o = h.object in
     let k : c.row_number-index.result ≡ row_number o.kind = c.row_number-index.ensures.value ∙ ap row_number h.same_kind in
     let n : c.value_size-bytes.result ≡ object_bytes ids image.classes o =

@@ -1,12 +1,11 @@
 use Rattle.std.proofs.Common.{ℕ, Vec, Global, Bool, List, ◌≡◌, ◌<◌, ◌+◌, length, get_or, sym, ap, ap₂, ◌∙◌, subst, arith}
-use Rattle.std.specs.Prelude.{slice_get}
 use Rattle.std.proofs.lemmas.List.{get_or_default}
 use Rattle.hprof_text.specs.Image.{IsKnown}
-use Rattle.hprof_text.proofs.ViewedObjects.{here, is_there}
+use Rattle.hprof_text.proofs.ViewedObjects.{is_there}
 use Rattle.heap_questions.specs.Graph.{slot_refers}
 use Rattle.heap_questions.specs.declared.search.Found.{Found}
 use Rattle.heap_questions.specs.declared.search.Via.TheVariants.{Slot}
-use Rattle.heap_questions.proofs.Looking.{looking_as, looking_begins, looked_at, looked_past, looked_through, named_is, slot_is, slot_is_none, stands}
+use Rattle.heap_questions.proofs.Looking.{found_here, looking_as, looking_begins, looked_at, looked_past, looked_through, named_is, read, slot_is, slot_is_none, stands}
 use Rattle.heap_questions.proofs.NodePlaces.{node_within}
 use Rattle.heap_questions.proofs.SearchOrder.{next_head, ordered_next}
 use Rattle.heap_questions.proofs.search.expand.Goals.{then-is_reference_slot+in_ok-offer, else-is_reference_slot}
@@ -14,129 +13,64 @@ use Rattle.heap_questions.proofs.search.expand.Goals as goal
 
 pub place-at-requires : goal.place-at-requires
 place-at-requires g c =
-    let v = c.args.view.now in
-    let image = g.V.View.image v in
-    let places = g.V.View.places v in
-    let nodes = c.args.nodes.now in
-    let queue = c.args.queue.now.items in
-    let head = c.args.head in
     let f = c.found_at-found.result in
-    let fe = ap (λ (q : List Found). slice_get q head) (sym c.as_slice.ensures.value) ∙ c.found_at-found.ensures in
-    node_within nodes f.id f.node (c.requires.search.placed head f fe)
+    node_within c.args.nodes.now f.id f.node (c.requires.search.placed c.args.head f (found_here _ _ c.args.head f c.as_slice.ensures.value c.found_at-found.ensures))
 
 pub kind-kind-requires : goal.kind-kind-requires
 kind-kind-requires g c =
-    let v = c.args.view.now in
-    let image = g.V.View.image v in
-    let places = g.V.View.places v in
-    let nodes = c.args.nodes.now in
-    let queue = c.args.queue.now.items in
-    let head = c.args.head in
     let f = c.found_at-found.result in
-    let fe = ap (λ (q : List Found). slice_get q head) (sym c.as_slice.ensures.value) ∙ c.found_at-found.ensures in
-    let pe = c.requires.search.placed head f fe in
-    let at = c.place-at.result in
-    let st = stands image places nodes f at c.requires.nodes pe c.place-at.ensures in
-    is_there places f.node at st.placed
+    is_there (g.V.View.places c.args.view.now) f.node c.place-at.result (stands (g.V.View.image c.args.view.now) _ c.args.nodes.now f c.place-at.result c.requires.nodes (c.requires.search.placed c.args.head f (found_here _ _ c.args.head f c.as_slice.ensures.value c.found_at-found.ensures)) c.place-at.ensures).placed
 
 pub words-words-requires : goal.words-words-requires
 words-words-requires g c =
-    let v = c.args.view.now in
-    let image = g.V.View.image v in
-    let places = g.V.View.places v in
-    let nodes = c.args.nodes.now in
-    let queue = c.args.queue.now.items in
-    let head = c.args.head in
     let f = c.found_at-found.result in
-    let fe = ap (λ (q : List Found). slice_get q head) (sym c.as_slice.ensures.value) ∙ c.found_at-found.ensures in
-    let pe = c.requires.search.placed head f fe in
-    let at = c.place-at.result in
-    let st = stands image places nodes f at c.requires.nodes pe c.place-at.ensures in
-    is_there places f.node at st.placed
+    is_there (g.V.View.places c.args.view.now) f.node c.place-at.result (stands (g.V.View.image c.args.view.now) _ c.args.nodes.now f c.place-at.result c.requires.nodes (c.requires.search.placed c.args.head f (found_here _ _ c.args.head f c.as_slice.ensures.value c.found_at-found.ensures)) c.place-at.ensures).placed
 
 pub loop-slot-init : goal.loop-slot-init
 loop-slot-init g c =
-    let v = c.args.view.now in
-    let image = g.V.View.image v in
-    let places = g.V.View.places v in
-    let nodes = c.args.nodes.now in
-    let queue = c.args.queue.now.items in
-    let head = c.args.head in
-    let f = c.found_at-found.result in
-    let fe = ap (λ (q : List Found). slice_get q head) (sym c.as_slice.ensures.value) ∙ c.found_at-found.ensures in
-    looking_begins image nodes queue head f c.args.seen.now.items c.requires.search c.requires.near c.requires.roots c.requires.ordered fe
+    looking_begins (g.V.View.image c.args.view.now) c.args.nodes.now c.args.queue.now.items c.args.head c.found_at-found.result c.args.seen.now.items c.requires.search c.requires.near c.requires.roots c.requires.ordered
+    (found_here _ _ c.args.head c.found_at-found.result c.as_slice.ensures.value c.found_at-found.ensures)
 
 pub is_reference_slot-requires-clause-known : goal.is_reference_slot-requires-clause-known
 is_reference_slot-requires-clause-known g c =
-    let v = c.args.view.now in
-    let image = g.V.View.image v in
-    let places = g.V.View.places v in
-    let nodes = c.args.nodes.now in
-    let queue = c.args.queue.now.items in
-    let head = c.args.head in
+    let image = g.V.View.image c.args.view.now in
     let f = c.found_at-found.result in
-    let fe = ap (λ (q : List Found). slice_get q head) (sym c.as_slice.ensures.value) ∙ c.found_at-found.ensures in
-    let pe = c.requires.search.placed head f fe in
-    let at = c.place-at.result in
-    let st = stands image places nodes f at c.requires.nodes pe c.place-at.ensures in
-    let h = here image places f.node at c.kind-kind.result c.words-words.result.now c.classes-classes.ensures.limits c.classes-classes.ensures.placed st.placed (c.kind-kind.ensures f.node st.placed) (c.words-words.ensures f.node st.placed) in
-    subst (λ cs. IsKnown cs c.kind-kind.result (length c.words-words.result.now)) (sym c.classes-classes.ensures.value) h.known
+    let r = read image (g.V.View.places c.args.view.now) c.args.nodes.now f c.place-at.result c.kind-kind.result c.words-words.result.now c.requires.nodes (c.requires.search.placed c.args.head f (found_here _ _ c.args.head f c.as_slice.ensures.value c.found_at-found.ensures)) c.place-at.ensures
+    c.classes-classes.ensures.limits c.classes-classes.ensures.placed c.kind-kind.ensures c.words-words.ensures in
+    subst (λ cs. IsKnown cs c.kind-kind.result (length c.words-words.result.now)) (sym c.classes-classes.ensures.value) r.known
 
 pub loop-slot-preserved : goal.loop-slot-preserved
 loop-slot-preserved g c =
-    let v = c.args.view.now in
-    let image = g.V.View.image v in
-    let places = g.V.View.places v in
-    let nodes = c.args.nodes.now in
-    let queue = c.args.queue.now.items in
-    let head = c.args.head in
+    let image = g.V.View.image c.args.view.now in
     let f = c.found_at-found.result in
-    let fe = ap (λ (q : List Found). slice_get q head) (sym c.as_slice.ensures.value) ∙ c.found_at-found.ensures in
-    let pe = c.requires.search.placed head f fe in
-    let at = c.place-at.result in
-    let st = stands image places nodes f at c.requires.nodes pe c.place-at.ensures in
-    let h = here image places f.node at c.kind-kind.result c.words-words.result.now c.classes-classes.ensures.limits c.classes-classes.ensures.placed st.placed (c.kind-kind.ensures f.node st.placed) (c.words-words.ensures f.node st.placed) in
-    let o = h.object in
-    let oe = st.object ∙ h.there in
+    let r = read image (g.V.View.places c.args.view.now) c.args.nodes.now f c.place-at.result c.kind-kind.result c.words-words.result.now c.requires.nodes (c.requires.search.placed c.args.head f (found_here _ _ c.args.head f c.as_slice.ensures.value c.found_at-found.ensures)) c.place-at.ensures
+    c.classes-classes.ensures.limits c.classes-classes.ensures.placed c.kind-kind.ensures c.words-words.ensures in
     let words = c.words-words.result.now in
-    let many : length words ≡ length o.words = ap length h.same_words in
     let s = c.loop-slot.slot in
     let lt : s < length words = omega arith in
     let x = get_or words s 0 in
-    let xe = get_or_default words s 0 x lt ∙ ap (λ (l : List ℕ). get_or l s x) h.same_words in
-    let re : c.is_reference_slot.result ≡ slot_refers image.classes o.kind s = c.is_reference_slot.ensures ∙ ap₂ (λ cs k. slot_refers cs k s) c.classes-classes.ensures.value h.same_kind in
+    let xe = get_or_default words s 0 x lt ∙ ap (λ (l : List ℕ). get_or l s x) r.same_words in
+    let re : c.is_reference_slot.result ≡ slot_refers image.classes r.object.kind s = c.is_reference_slot.ensures ∙ ap₂ (λ cs k. slot_refers cs k s) c.classes-classes.ensures.value r.same_kind in
     elim c.if-is_reference_slot.branch [
       | then-is_reference_slot+in_ok-offer w ↦
-          looking_as image nodes queue head f w.offer.new.seen.items c.if-is_reference_slot.seen.items w.offer.new.queue.items c.if-is_reference_slot.queue.items (s + 1)
+          looking_as image c.args.nodes.now c.args.queue.now.items c.args.head f w.offer.new.seen.items c.if-is_reference_slot.seen.items w.offer.new.queue.items c.if-is_reference_slot.queue.items (s + 1)
           (ap (λ (m : Vec Bool Global). m.items) w.seen-is) (ap (λ (q : Vec Found Global). q.items) w.queue-is)
-          (looked_at image places nodes queue head f c.loop-slot.seen.items c.loop-slot.queue.items s x w.offer.new.seen.items w.offer.new.queue.items c.requires.nodes c.loop-slot.invariant
-          (named_is image f.id s o oe ∙ slot_is image.classes o s x (omega (arith, lt, many)) xe (sym re ∙ w.if-is_reference_slot.true)) w.in_ok-offer.ensures.done)
+          (looked_at image (g.V.View.places c.args.view.now) c.args.nodes.now c.args.queue.now.items c.args.head f c.loop-slot.seen.items c.loop-slot.queue.items s x w.offer.new.seen.items w.offer.new.queue.items c.requires.nodes c.loop-slot.invariant
+          (named_is image f.id s r.object r.there ∙ slot_is image.classes r.object s x (omega (arith, lt, r.many)) xe (sym re ∙ w.if-is_reference_slot.true)) w.in_ok-offer.ensures.done)
       | else-is_reference_slot w ↦
-          looking_as image nodes queue head f c.loop-slot.seen.items c.if-is_reference_slot.seen.items c.loop-slot.queue.items c.if-is_reference_slot.queue.items (s + 1)
+          looking_as image c.args.nodes.now c.args.queue.now.items c.args.head f c.loop-slot.seen.items c.if-is_reference_slot.seen.items c.loop-slot.queue.items c.if-is_reference_slot.queue.items (s + 1)
           (ap (λ (m : Vec Bool Global). m.items) w.seen-is) (ap (λ (q : Vec Found Global). q.items) w.queue-is)
-          (looked_past image nodes queue head f c.loop-slot.seen.items c.loop-slot.queue.items s c.loop-slot.invariant
-          (named_is image f.id s o oe ∙ slot_is_none image.classes o s (sym re ∙ w.if-is_reference_slot.false)))
+          (looked_past image c.args.nodes.now c.args.queue.now.items c.args.head f c.loop-slot.seen.items c.loop-slot.queue.items s c.loop-slot.invariant
+          (named_is image f.id s r.object r.there ∙ slot_is_none image.classes r.object s (sym re ∙ w.if-is_reference_slot.false)))
     ]
 
 pub returns-clause-search : goal.returns-clause-search
 returns-clause-search g c =
-    let v = c.args.view.now in
-    let image = g.V.View.image v in
-    let places = g.V.View.places v in
-    let nodes = c.args.nodes.now in
-    let queue = c.args.queue.now.items in
-    let head = c.args.head in
+    let image = g.V.View.image c.args.view.now in
     let f = c.found_at-found.result in
-    let fe = ap (λ (q : List Found). slice_get q head) (sym c.as_slice.ensures.value) ∙ c.found_at-found.ensures in
-    let pe = c.requires.search.placed head f fe in
-    let at = c.place-at.result in
-    let st = stands image places nodes f at c.requires.nodes pe c.place-at.ensures in
-    let h = here image places f.node at c.kind-kind.result c.words-words.result.now c.classes-classes.ensures.limits c.classes-classes.ensures.placed st.placed (c.kind-kind.ensures f.node st.placed) (c.words-words.ensures f.node st.placed) in
-    let o = h.object in
-    let oe = st.object ∙ h.there in
-    let words = c.words-words.result.now in
-    let many : length words ≡ length o.words = ap length h.same_words in
-    looked_through image nodes queue head f c.loop-slot.seen.items c.loop-slot.queue.items c.loop-slot.slot o c.loop-slot.invariant oe (omega (arith, many))
+    let r = read image (g.V.View.places c.args.view.now) c.args.nodes.now f c.place-at.result c.kind-kind.result c.words-words.result.now c.requires.nodes (c.requires.search.placed c.args.head f (found_here _ _ c.args.head f c.as_slice.ensures.value c.found_at-found.ensures)) c.place-at.ensures
+    c.classes-classes.ensures.limits c.classes-classes.ensures.placed c.kind-kind.ensures c.words-words.ensures in
+    looked_through image c.args.nodes.now c.args.queue.now.items c.args.head f c.loop-slot.seen.items c.loop-slot.queue.items c.loop-slot.slot r.object c.loop-slot.invariant r.there (omega (arith, r.many))
 
 pub returns-clause-ordered : goal.returns-clause-ordered
 returns-clause-ordered g c =

@@ -1,7 +1,7 @@
 use Rattle.std.proofs.Common.{◌≡◌, ◌<◌, ◌≤◌, true, false, length, sym, subst, ap, arith}
 use Rattle.heap_class.specs.Classes.{is_array_class}
 use Rattle.heap_world.specs.State.{HeapState}
-use Rattle.heap_world.proofs.NewArrays.{array_no_register, array_no_class, array_wrong_kind, array_too_large}
+use Rattle.heap_world.proofs.CreationEvents.{array_no_register, array_no_class, array_wrong_kind, array_too_large}
 use Rattle.heap_world.proofs.World.allow_array.Goals as goal
 
 pub returns-then-not-has_register-clause-refused : goal.returns-then-not-has_register-clause-refused

@@ -1,5 +1,5 @@
 use Rattle.std.proofs.Common.{sym}
-use Rattle.heap_world.proofs.NewArrays.{prim_no_register, prim_reference, prim_too_large}
+use Rattle.heap_world.proofs.CreationEvents.{prim_no_register, prim_reference, prim_too_large}
 use Rattle.heap_world.proofs.World.allow_prim.Goals as goal
 
 pub returns-then-not-has_register-clause-refused : goal.returns-then-not-has_register-clause-refused

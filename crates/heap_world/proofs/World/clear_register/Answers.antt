@@ -1,5 +1,5 @@
 use Rattle.std.proofs.Common.{inl, sym}
-use Rattle.heap_world.proofs.NamedSlots.{clear_no_register, clear_accepted, cleared_legal}
+use Rattle.heap_world.proofs.RegisterEvents.{clear_no_register, clear_accepted, cleared_legal}
 use Rattle.heap_world.proofs.World.clear_register.Goals as goal
 
 pub returns-then-not-has_register-clause-answered : goal.returns-then-not-has_register-clause-answered

@@ -1,5 +1,4 @@
-use Rattle.heap_world.proofs.KeptParts.{class_defined}
-use Rattle.heap_world.proofs.NewArrays.{array_class_held}
+use Rattle.heap_world.proofs.ClassEvents.{class_defined, array_class_held}
 use Rattle.heap_world.proofs.World.define_array_class.Goals as goal
 
 pub invariant_of-self : goal.invariant_of-self

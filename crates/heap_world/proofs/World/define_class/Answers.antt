@@ -1,4 +1,4 @@
-use Rattle.heap_world.proofs.KeptParts.{instance_held, class_defined}
+use Rattle.heap_world.proofs.ClassEvents.{instance_held, class_defined}
 use Rattle.heap_world.proofs.World.define_class.Goals as goal
 
 pub invariant_of-self : goal.invariant_of-self

@@ -1,5 +1,5 @@
 use Rattle.heap_world.proofs.MarkerParts.{entries_there}
-use Rattle.heap_world.proofs.Steps.{drain_held, drain_made}
+use Rattle.heap_world.proofs.MarkerEvents.{drain_held, drain_made}
 use Rattle.heap_world.proofs.World.drain.Goals as goal
 
 pub drain-requires-clause-entries : goal.drain-requires-clause-entries

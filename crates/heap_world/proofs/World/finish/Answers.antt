@@ -1,4 +1,4 @@
-use Rattle.heap_world.proofs.Steps.{finish_held, finish_made}
+use Rattle.heap_world.proofs.Finish.{finish_held, finish_made}
 use Rattle.heap_world.proofs.World.finish.Goals as goal
 
 pub invariant_of-self : goal.invariant_of-self

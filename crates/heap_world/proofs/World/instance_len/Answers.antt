@@ -1,7 +1,7 @@
 use Rattle.std.proofs.Common.{◌≡◌, ◌<◌, ◌≤◌, false, length, sym, subst, ap, arith}
 use Rattle.heap_class.specs.Classes.{is_instance_class}
 use Rattle.heap_world.specs.State.{HeapState}
-use Rattle.heap_world.proofs.FirstRefusals.{new_no_register, new_no_class, new_wrong_kind}
+use Rattle.heap_world.proofs.CreationEvents.{new_no_register, new_no_class, new_wrong_kind}
 use Rattle.heap_world.proofs.World.instance_len.Goals as goal
 
 pub returns-then-not-has_register-clause-refused : goal.returns-then-not-has_register-clause-refused

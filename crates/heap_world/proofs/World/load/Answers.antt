@@ -1,6 +1,7 @@
 use Rattle.std.proofs.Common.{inl, inr, sym, ◌∙◌}
 use Rattle.std.proofs.lemmas.Result.{err_from_is_err_and}
-use Rattle.heap_world.proofs.NamedSlots.{load_no_register, load_no_slot, load_accepted, load_legal, load_reference, load_value, reference_by, word_by}
+use Rattle.heap_world.proofs.RegisterEvents.{load_no_register, load_no_slot, load_accepted, loaded_legal, load_reference, load_value}
+use Rattle.heap_world.proofs.NamedSlots.{reference_by, word_by}
 use Rattle.heap_world.proofs.Slot.{slot_by}
 use Rattle.heap_world.proofs.World.load.Goals.{then-not-has_register-via-then-not-has_register, then-not-has_register-via-else-not-has_register+then-not-has_register-2}
 use Rattle.heap_world.proofs.World.load.Goals as goal
@@ -23,7 +24,7 @@ pub word-word-requires-clause-within : goal.word-word-requires-clause-within
 word-word-requires-clause-within c = (slot_by _ _ _ _ _ _ c.in_ok-at.kind c.self.invariant c.self.view_is c.in_ok-at.ensures.placed c.in_ok-at.ensures.slot.1).within
 
 pub set_register-requires-clause-legal : goal.set_register-requires-clause-legal
-set_register-requires-clause-legal c = load_legal _ _ _ _ _ _ (sym c.if-not-has_register-2.ensures)
+set_register-requires-clause-legal c = loaded_legal _ _ _ _ _ _ (sym c.if-not-has_register-2.ensures)
     (sym (reference_by _ _ _ _ _ c.in_ok-at.kind _ c.register.ensures c.in_ok-at.ensures.slot.1 c.if-reference.ensures))
     (word_by _ _ _ _ _ _ _ _ _ c.in_ok-at.kind c.self.invariant c.self.view_is c.register.ensures c.in_ok-at.ensures.placed c.in_ok-at.ensures.slot.1 c.word-word.ensures)
 

@@ -1,7 +1,7 @@
 use Rattle.std.proofs.Common.{ap, ◌∙◌}
 use Rattle.std.proofs.lemmas.Result.{err_from_is_err_and}
 use Rattle.heap_mark.specs.MarkSteps.{is_marking}
-use Rattle.heap_world.proofs.KeptParts.{made_held, made_by, room_by, refused_by}
+use Rattle.heap_world.proofs.CreationEvents.{made_held, made_by, room_by, refused_by}
 use Rattle.heap_world.proofs.World.make.Goals as goal
 
 pub returns-in_err-at-clause-refused : goal.returns-in_err-at-clause-refused

@@ -1,5 +1,5 @@
 use Rattle.heap_world.proofs.MarkerParts.{slots_there, children_there}
-use Rattle.heap_world.proofs.Steps.{mark_held, mark_made}
+use Rattle.heap_world.proofs.MarkerEvents.{mark_held, mark_made}
 use Rattle.heap_world.proofs.World.mark.Goals as goal
 
 pub mark-requires-clause-slots : goal.mark-requires-clause-slots

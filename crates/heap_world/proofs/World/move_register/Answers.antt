@@ -1,5 +1,5 @@
 use Rattle.std.proofs.Common.{inl, inr, sym, ◌∙◌}
-use Rattle.heap_world.proofs.NamedSlots.{move_no_register, move_accepted, moved_legal, moved}
+use Rattle.heap_world.proofs.RegisterEvents.{move_no_register, move_accepted, moved_legal, moved}
 use Rattle.heap_world.proofs.World.move_register.Goals.{then-not-has_register-via-then-not-has_register, then-not-has_register-via-else-not-has_register+then-not-has_register-2}
 use Rattle.heap_world.proofs.World.move_register.Goals as goal
 

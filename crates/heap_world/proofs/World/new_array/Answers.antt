@@ -1,4 +1,4 @@
-use Rattle.heap_world.proofs.NewArrays.{array_answered}
+use Rattle.heap_world.proofs.CreationEvents.{array_answered}
 use Rattle.heap_world.proofs.World.new_array.Goals as goal
 
 pub returns-clause-answered : goal.returns-clause-answered

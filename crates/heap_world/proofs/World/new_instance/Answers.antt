@@ -1,5 +1,5 @@
 use Rattle.std.proofs.lemmas.Result.{on_ok_weaker}
-use Rattle.heap_world.proofs.FirstRefusals.{new_answered}
+use Rattle.heap_world.proofs.CreationEvents.{new_answered}
 use Rattle.heap_world.proofs.World.new_instance.Goals as goal
 
 pub make-requires-clause-register : goal.make-requires-clause-register

@@ -1,4 +1,4 @@
-use Rattle.heap_world.proofs.NewArrays.{prim_answered}
+use Rattle.heap_world.proofs.CreationEvents.{prim_answered}
 use Rattle.heap_world.proofs.World.new_prim.Goals as goal
 
 pub returns-clause-answered : goal.returns-clause-answered

@@ -1,8 +1,6 @@
 use Rattle.std.proofs.Common.{sym, ap, ◌∙◌}
 use Rattle.heap_world.specs.State.{HeapState, register, word_of}
-use Rattle.heap_world.proofs.KeptParts.{put_held_by, put_written_by}
-use Rattle.heap_world.proofs.Slot.{put_by}
-use Rattle.heap_world.proofs.WordWrites.{place_is}
+use Rattle.heap_world.proofs.WriteEvents.{put_held_by, put_written_by, put_by, place_is}
 use Rattle.heap_world.proofs.World.put.Goals as goal
 
 pub word-old-requires-clause-there : goal.word-old-requires-clause-there

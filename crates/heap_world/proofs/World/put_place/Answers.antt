@@ -1,6 +1,6 @@
 use Rattle.std.proofs.Common.{sym}
 use Rattle.std.proofs.lemmas.Result.{err_from_is_err_and}
-use Rattle.heap_world.proofs.FirstRefusals.{put_no_register, put_unnamed, put_reference, put_range, put_accepted}
+use Rattle.heap_world.proofs.WriteEvents.{put_no_register, put_unnamed, put_reference, put_range, put_accepted}
 use Rattle.heap_world.proofs.World.put_place.Goals as goal
 
 pub returns-then-not-has_register-clause-refused : goal.returns-then-not-has_register-clause-refused

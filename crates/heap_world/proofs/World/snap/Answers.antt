@@ -1,7 +1,7 @@
 use Rattle.std.proofs.Common.{subst}
 use Rattle.std.specs.Prelude.{Contains}
 use Rattle.heap_world.proofs.MarkerParts.{roots_there}
-use Rattle.heap_world.proofs.Steps.{snap_held, snap_made}
+use Rattle.heap_world.proofs.MarkerEvents.{snap_held, snap_made}
 use Rattle.heap_world.proofs.World.snap.Goals as goal
 
 pub snap-requires-clause-roots : goal.snap-requires-clause-roots

@@ -1,7 +1,7 @@
 use Rattle.std.proofs.Common.{sym}
 use Rattle.std.proofs.lemmas.Result.{err_from_is_err_and}
 use Rattle.heap_world.proofs.Barrier.{source_there, store_by, logs, no_room, store_made, store_held, old_by}
-use Rattle.heap_world.proofs.WordWrites.{place_is}
+use Rattle.heap_world.proofs.WriteEvents.{place_is}
 use Rattle.heap_world.proofs.World.store.Goals as goal
 
 pub word-old-requires-clause-there : goal.word-old-requires-clause-there

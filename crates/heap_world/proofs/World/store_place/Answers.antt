@@ -1,6 +1,6 @@
 use Rattle.std.proofs.Common.{inl, inr, sym}
 use Rattle.std.proofs.lemmas.Result.{err_from_is_err_and}
-use Rattle.heap_world.proofs.NamedSlots.{store_no_register, store_no_slot, store_value, store_accepted}
+use Rattle.heap_world.proofs.WriteEvents.{store_no_register, store_no_slot, store_value, store_accepted}
 use Rattle.heap_world.proofs.World.store_place.Goals.{then-not-has_register-via-then-not-has_register, then-not-has_register-via-else-not-has_register+then-not-has_register-2}
 use Rattle.heap_world.proofs.World.store_place.Goals as goal
 

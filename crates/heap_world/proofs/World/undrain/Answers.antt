@@ -1,4 +1,4 @@
-use Rattle.heap_world.proofs.Steps.{undrain_held}
+use Rattle.heap_world.proofs.MarkerEvents.{undrain_held}
 use Rattle.heap_world.proofs.World.undrain.Goals as goal
 
 pub invariant_of-self : goal.invariant_of-self

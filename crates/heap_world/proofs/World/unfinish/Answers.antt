@@ -1,4 +1,4 @@
-use Rattle.heap_world.proofs.Steps.{unfinish_held}
+use Rattle.heap_world.proofs.Finish.{unfinish_held}
 use Rattle.heap_world.proofs.World.unfinish.Goals as goal
 
 pub invariant_of-self : goal.invariant_of-self

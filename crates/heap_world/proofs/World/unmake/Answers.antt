@@ -1,4 +1,4 @@
-use Rattle.heap_world.proofs.KeptParts.{another_by, unmade_held}
+use Rattle.heap_world.proofs.CreationEvents.{another_by, unmade_held}
 use Rattle.heap_world.proofs.World.unmake.Goals as goal
 
 pub unalloc-requires-clause-another : goal.unalloc-requires-clause-another

@@ -1,4 +1,4 @@
-use Rattle.heap_world.proofs.Steps.{unmark_sound, unmark_held}
+use Rattle.heap_world.proofs.MarkerEvents.{unmark_sound, unmark_held}
 use Rattle.heap_world.proofs.World.unmark.Goals as goal
 
 pub unmark-requires-clause-given : goal.unmark-requires-clause-given

@@ -1,4 +1,4 @@
-use Rattle.heap_world.proofs.Steps.{snapped_by, unsnap_held, unsnap_back}
+use Rattle.heap_world.proofs.MarkerEvents.{snapped_by, unsnap_held, unsnap_back}
 use Rattle.heap_world.proofs.World.unsnap.Goals as goal
 
 pub unsnap-requires : goal.unsnap-requires

@@ -1,23 +1,28 @@
--- Legality after a class is defined.
-use Rattle.std.proofs.Common.{◌≡◌, ◌≢◌, ℕ, ◌<◌, true, List, [], ◌∷◌, ◌++◌, length, zip, refl, sym, ap, subst, ◌∙◌, Some, None, All, Contains}
+-- The events that define a class.
+use Rattle.std.proofs.Common.{◌≡◌, ◌≢◌, ℕ, ◌<◌, true, List, [], ◌∷◌, ◌++◌, length, zip, refl, sym, ap, subst, ◌∙◌, Some, None, All, Contains, false, Option, Result, Ok, Err}
 use Rattle.heap_class.specs.declared.Kind.{Kind}
 use Rattle.heap_class.specs.declared.ObjKind.{ObjKind}
 use Rattle.heap_class.specs.declared.ObjKind.TheVariants.{Instance, Array, Prim}
 use Rattle.heap_class.specs.Kinds.{value_limit}
-use Rattle.heap_class.specs.Classes.{Class, class_refusal}
+use Rattle.heap_class.specs.Classes.{Class, class_refusal, slot_kinds_of, instance_class, array_class}
 use Rattle.heap_class.proofs.Slots.{slots_more, instance_within, instance_more, array_more, classes_more}
 use Rattle.heap_region.specs.Regions.{Object, object_of, slot_kinds, references_of}
-use Rattle.heap_class.specs.Classes.{slot_kinds_of}
 use Rattle.heap_region.proofs.ChangedLookups.{place_found}
 use Rattle.heap_region.proofs.References.{references_in, references_by_slots}
 use Rattle.heap_world.specs.State.{HeapState}
 use Rattle.heap_world.specs.Reach.{Names}
 use Rattle.heap_world.specs.Legal.{IsObjectOf, HasKind}
-use Rattle.heap_world.proofs.Clauses.{HasClauses}
+use Rattle.heap_world.proofs.Clauses.{HasClauses, clauses_of, legal_by}
 use Rattle.heap_world.specs.Events.{after_class}
 use Rattle.heap_world.proofs.Shelter.{sheltered_unmarked}
 use Rattle.heap_world.proofs.Tricolour.{Spares, spares_tricolour}
 use Rattle.heap_world.proofs.Registers.{namer, names_of}
+use Rattle.std.specs.Prelude.{OnOk, OnErr}
+use Rattle.heap_class.specs.declared.Refusal.{Refusal}
+use Rattle.heap_class.specs.declared.Field.{Field}
+use Rattle.heap_class.specs.Refusals.{IsAnswered}
+use Rattle.heap_world.specs.HeapParts.{IsSoundHeap}
+use Rattle.heap_world.proofs.KeptParts.{held_by}
 
 -- an object of a kind that exists has the same slots
 pub kinds_more : (cs : List Class) (c : Class) (kind : ObjKind) (n : ℕ) → HasKind cs kind n → slot_kinds_of (cs ++ c ∷ []) kind n ≡ slot_kinds_of cs kind n
@@ -93,3 +98,29 @@ class_legal w c bare l accepted = record {
   idle = λ i. record { gray = (l.idle i).gray; log = (l.idle i).log; drained = (l.idle i).drained; unmarked = (l.idle i).unmarked };
   tricolour = λ i. spares_tricolour w (with_class c w) (class_spares_of w c l) (l.tricolour i);
 }
+
+-- ---- the heap that holds it
+
+pub class_held : (w : HeapState) (room : ℕ) (c : Class) (cs : List Class) (result : Result ℕ Refusal) → IsSoundHeap w room → (c.is_array ≡ true → (c.sup ≡ None) × (c.fields ≡ []))
+    → IsAnswered (class_refusal w.classes c) true result → OnOk result (cs ≡ w.classes ++ c ∷ []) → OnErr result (cs ≡ w.classes) → IsSoundHeap (record w { classes = cs }) room
+unfolding after_class
+class_held w room c cs (Ok k) h bare accepted more same = subst (λ ds. IsSoundHeap (record w { classes = ds }) room) (sym more)
+    (held_by (after_class c w) w room h (legal_by (after_class c w) (class_legal w c bare (clauses_of w h.legal) accepted)) refl)
+class_held w room c cs (Err e) h bare accepted more same = subst (λ ds. IsSoundHeap (record w { classes = ds }) room) (sym same) h
+
+pub class_defined : (w v : HeapState) (c : Class) (cs : List Class) (result : Result ℕ Refusal) → w ≡ v → OnOk result (cs ≡ w.classes ++ c ∷ []) → OnOk result (record w { classes = cs } ≡ after_class c v)
+unfolding after_class
+class_defined w v c cs (Ok k) e more = ap (λ ds. record w { classes = ds }) more ∙ ap (after_class c) e
+class_defined w v c cs (Err x) e more = more
+
+pub instance_held : (w : HeapState) (room : ℕ) (name : List ℕ) (sup : Option ℕ) (fields : List Field) (cs : List Class) (result : Result ℕ Refusal) → IsSoundHeap w room
+    → IsAnswered (class_refusal w.classes (instance_class name sup fields)) true result → OnOk result (cs ≡ w.classes ++ instance_class name sup fields ∷ []) → OnErr result (cs ≡ w.classes) → IsSoundHeap (record w { classes = cs }) room
+instance_held w room name sup fields cs result h a d e = class_held w room (instance_class name sup fields) cs result h no_array a d e
+  where
+    no_array : false ≡ true → (sup ≡ None) × (fields ≡ [])
+    no_array b = cc
+
+-- a class of object arrays is defined
+pub array_class_held : (w : HeapState) (room : ℕ) (name : List ℕ) (cs : List Class) (result : Result ℕ Refusal) → IsSoundHeap w room
+    → IsAnswered (class_refusal w.classes (array_class name)) true result → OnOk result (cs ≡ w.classes ++ array_class name ∷ []) → OnErr result (cs ≡ w.classes) → IsSoundHeap (record w { classes = cs }) room
+array_class_held w room name cs result h a d e = class_held w room (array_class name) cs result h (λ b. (refl, refl)) a d e

@@ -83,14 +83,15 @@ placed_by m n k l pin time w w' r reply all o (inl p) same is = placed m n k l p
 placed_by m n k l pin time w w' r reply all o (inr t) same is =
     subst (λ q. IsPlaceDumped time m l w w' q) (sym t.0) (none_out time m l w w' (number_used m n k l pin reply all o same is) t.1 o.free)
 
--- the same of a source whose machine, pin and time are told
-pub placed_from : (m n n0 k l : Machine) (pin pin0 time time0 : ℕ) (w w' : Outgoing) (r : Pumped) (reply : Reply) → AreNumbered m.pins → Opens m n pin → n0 ≡ n → pin0 ≡ pin → time0 ≡ time → StreamsPin pin0 time0 n0 w w' r
-    → ungiven pin0 k ≡ ungiven pin0 n0 → acted k (ClosePin pin) ≡ (l, reply) → IsPlaceDumped time m l w w' r
-placed_from m n n0 k l pin pin0 time time0 w w' r reply all o ms pins times p same is =
-    placed_by m n k l pin time w w' r reply all o
+-- the same of a source whose machine, pin and time are told, and of the machine that is left
+pub placed_from : (m n n0 k l left : Machine) (pin pin0 time time0 : ℕ) (w w' : Outgoing) (r : Pumped) (reply : Reply) → left ≡ l → AreNumbered m.pins → Opens m n pin → n0 ≡ n → pin0 ≡ pin → time0 ≡ time → StreamsPin pin0 time0 n0 w w' r
+    → ungiven pin0 k ≡ ungiven pin0 n0 → acted k (ClosePin pin) ≡ (l, reply) → IsPlaceDumped time m left w w' r
+placed_from m n n0 k l left pin pin0 time time0 w w' r reply last all o ms pins times p same is =
+    subst (λ q. IsPlaceDumped time m q w w' r) (sym last)
+    (placed_by m n k l pin time w w' r reply all o
     (subst (λ (q : ℕ × ℕ × Machine). StreamsPin q.0 q.1 q.2 w w' r) (λ i. (pins i, times i, ms i)) p)
     (subst (λ (q : ℕ × Machine). ungiven q.0 k ≡ ungiven q.0 q.1) (λ i. (pins i, ms i)) same)
-    is
+    is)
 
 -- a pin that was just opened has given nothing
 pub opens_fresh : (m n : Machine) (pin : ℕ) → AreNumbered m.pins → Opens m n pin → given_of (pin_at pin n.pins) ≡ 0

@@ -1,5 +1,4 @@
-use Rattle.std.proofs.Common.{◌≡◌, sym, subst, rules}
-use Rattle.pin_dump.specs.PinDumps.{IsPlaceDumped}
+use Rattle.std.proofs.Common.{rules}
 use Rattle.pin_dump.proofs.DumpPins.{opened, not_opened, some_reply}
 use Rattle.pin_dump.proofs.SourceStreams.{placed_from, opens_fresh, source_fresh}
 use Rattle.pin_dump.proofs.places.stream_place.Goals as goal
@@ -11,11 +10,9 @@ returns-in-Ok g c =
     let k = s.result.1.machine.now in
     let close = c.close_pin-closed in
     let reply = some_reply close.result k close.new.self _ close.ensures.done close.ensures.refused in
-    let last : c.machine-1.given.0 ≡ close.new.self = search rules in
-    subst (λ m. IsPlaceDumped c.args.time c.args.machine.now m (g.O.Outlet.seen c.args.outlet) (g.O.Outlet.seen s.result.2) s.result.0) (sym last)
-    (placed_from c.args.machine.now c.open_pin.new.self f.result.machine.now k close.new.self c.in-Ok.opened.pin f.result.pin c.args.time f.result.time (g.O.Outlet.seen c.args.outlet) (g.O.Outlet.seen s.result.2) s.result.0 reply.0
+    placed_from c.args.machine.now c.open_pin.new.self f.result.machine.now k close.new.self _ c.in-Ok.opened.pin f.result.pin c.args.time f.result.time (g.O.Outlet.seen c.args.outlet) (g.O.Outlet.seen s.result.2) s.result.0 reply.0 (search rules)
     c.next_pin.ensures.numbered (opened c.args.machine.now c.open_pin.new.self c.in-Ok.opened.pin c.in-Ok.opened.at c.in-Ok.ensures.done)
-    f.ensures.now f.ensures.pin f.ensures.time s.ensures.put s.ensures.same reply.1)
+    f.ensures.now f.ensures.pin f.ensures.time s.ensures.put s.ensures.same reply.1
 
 pub returns-in-Err : goal.returns-in-Err
 returns-in-Err g c = not_opened c.args.machine.now c.open_pin.new.self (g.O.Outlet.seen c.args.outlet) c.args.time c.in-Err.refusal c.cause_of.result c.cause_of.ensures c.in-Err.ensures.unchanged c.in-Err.ensures.refused

@@ -2,6 +2,7 @@
 ghost use Rattle.std.specs.Prelude.{◌≡◌};
 ghost use Rattle.dump_client.specs.Fetches.{IsFetched, finish_of};
 
+use crate::watcher::Watcher;
 use dump_pump::Outlet;
 use dump_pump::transfer::put_all;
 use dump_scan::Scan;
@@ -27,12 +28,6 @@ pub enum Finish {
 pub struct Fetched {
     pub bytes: u64,
     pub finish: Finish,
-}
-
-/// One who sees a dump come in, such as a line on a terminal. No contract says what it does.
-pub trait Watcher {
-    /// Sees the number of bytes that are out. It is asked after each read.
-    fn show(&mut self, bytes: u64);
 }
 
 /// Puts out all that an inlet gives, as it comes, until it ends or a read or a write fails. Tells whether that is a header and

@@ -3,6 +3,8 @@
 
 pub mod intake;
 pub mod line;
+pub mod watcher;
 
-pub use intake::{Fetched, Finish, Watcher, fetch};
+pub use intake::{Fetched, Finish, fetch};
 pub use line::write_last;
+pub use watcher::Watcher;

@@ -1,6 +1,5 @@
 -- The effect of a stream.
 use Rattle.std.specs.Prelude.{◌≡◌, ℕ, ◌+◌, ◌<◌, ◌^◌, [], Option, Some, None}
-use Rattle.atomic_table.specs.Seated.{TableId}
 use Rattle.dump_pump.specs.declared.source.Ending.{Ending}
 use Rattle.dump_pump.specs.declared.transfer.Pumped.{Pumped}
 use Rattle.dump_pump.specs.Outlets.{Outgoing}
@@ -21,9 +20,9 @@ IsStreamed a b w w' r = IsPumped a b w w' r
 abbrev pub CanFeed : Supply → EndView → Type 0
 CanFeed a v = (0 < a.left) × (v ≡ Sends [])
 
--- nothing was received, and the meter's seat has room for the bytes of a dump
-abbrev pub CanDrain : EndView → Sum → TableId → Type 0
-CanDrain v seat meter = (v ≡ Gets []) × (seat.meter ≡ meter) × (seat.sum + byte_limit < 2 ^ 64)
+-- nothing was received, and the sum has room for the bytes of a dump
+abbrev pub CanDrain : EndView → Sum → Type 0
+CanDrain v counted = (v ≡ Gets []) × (counted.sum + byte_limit < 2 ^ 64)
 
 -- the source was fed, or nothing was asked of it and sent
 abbrev pub MayFeed : Supply → Supply → EndView → Option Ending → Type 0

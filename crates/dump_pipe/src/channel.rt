@@ -92,15 +92,35 @@ pub type Receiver = RuledReceiver<Message, EndView, InOrder>;
 /// The knowledge of an end. It has no bytes.
 pub type End = Pass<Message, EndView>;
 
+/// The two ends of a pipe.
+#[derive(Drop)]
+pub struct BothEnds {
+    /// The end that sends.
+    pub sender: Sender,
+    /// The end that receives.
+    pub receiver: Receiver,
+}
+
+/// The knowledge of both ends of a pipe.
+#[derive(Drop)]
+pub struct Knowledge {
+    /// That of the end that sends.
+    pub one: End,
+    /// That of the end that receives.
+    pub other: End,
+}
+
 /// Creates an empty pipe for the messages of one dump, with the knowledge of its two ends. Fails if the allocation fails.
-pub fn pipe(alloc: Global) -> Result<(Sender, Receiver, End, End), AllocError>
-    ensures ends { IfOk result (λ p. receives_on p.1 ≡ sends_on p.0) }
-    ensures sender { IfOk result (λ p. IsSeatAt (sends_on p.0) p.2 × (view p.2 ≡ Sends [])) }
-    ensures receiver { IfOk result (λ p. IsSeatAt (receives_on p.1) p.3 × (view p.3 ≡ Gets [])) }
+pub fn pipe(alloc: Global) -> Result<(BothEnds, Knowledge), AllocError>
+    ensures ends { IfOk result (λ p. receives_on p.0.receiver ≡ sends_on p.0.sender) }
+    ensures sender { IfOk result
+        (λ p. IsSeatAt (sends_on p.0.sender) p.1.one × (view p.1.one ≡ Sends [])) }
+    ensures receiver { IfOk result
+        (λ p. IsSeatAt (receives_on p.0.receiver) p.1.other × (view p.1.other ≡ Gets [])) }
 {
     let (sender, receiver, mut one) = bounded_with(alloc, PIPE_LIMIT)?;
     let other = sender.another::<Ends>(&mut one);
-    Ok((sender, receiver, one, other))
+    Ok((BothEnds { sender, receiver }, Knowledge { one, other }))
 }
 
 /// Sends a message. Waits while the pipe is full. A message that comes back is sent again.

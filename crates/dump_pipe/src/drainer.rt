@@ -7,9 +7,8 @@ ghost use Rattle.dump_pipe.specs.Pipes.{list_of, byte_limit, IsReceiving};
 ghost use Rattle.dump_pipe.specs.Drains.{IsDrained, IsSkipped, answer_to_ending};
 
 use crate::channel::{End, Receiver, receive};
+use crate::counter::Counter;
 use crate::message::Message;
-use crate::progress::Progress;
-use crate::seats::OutSeat;
 use dump_pump::transfer::put_all;
 use dump_pump::{Ending, Outlet, Pumped};
 use std::sync::Wait;
@@ -40,25 +39,23 @@ fn answer(ending: Ending, bytes: u64) -> Pumped
     }
 }
 
-/// Puts out the parts that are received, each whole and in order, and adds their bytes to the progress, until the ending.
-/// After a put that failed it puts out nothing more, and receives all that is left. Waits while the pipe is empty. The seat
-/// is one of the progress's meter, and its sum has room for the bytes of a dump.
+/// Puts out the parts that are received, each whole and in order, and counts their bytes, until the ending. After a put that
+/// failed it puts out nothing more, and receives all that is left. Waits while the pipe is empty. The sum has room for the
+/// bytes of a dump.
 pub fn drain_pipe<O: Outlet, R: Wait>(
     rt: &R,
     receiver: &Receiver,
     end: &mut End,
     outlet: &mut O,
-    progress: &Progress<'_>,
-    seat: &mut OutSeat,
+    counter: &mut Counter<'_>,
 ) -> Pumped
     requires end { IsSeatAt (receives_on receiver.now) end.old × IsReceiving (view end.old) }
-    requires meter { seat.old.meter ≡ progress.now }
-    requires room { seat.old.sum + byte_limit < 2 ^ 64 }
+    requires room { counter.old.sum + byte_limit < 2 ^ 64 }
     ensures end { IsSeatAt (receives_on receiver.now) end.new }
     ensures drained { IsDrained (list_of (view end.old)) (view end.new) (O.seen outlet.old)
         (O.seen outlet.new) result }
-    ensures meter { seat.new.meter ≡ progress.now }
-    ensures counted { seat.new.sum ≡ seat.old.sum + bytes_of result }
+    ensures meter { counter.new.meter ≡ counter.old.meter }
+    ensures counted { counter.new.sum ≡ counter.old.sum + bytes_of result }
 {
     let mut total: u64 = 0;
     for _ in rt.forever() {
@@ -67,7 +64,7 @@ pub fn drain_pipe<O: Outlet, R: Wait>(
                 let size = piece.bytes.as_slice().len();
                 let put = put_all(outlet, piece.bytes.as_slice());
                 total += put as u64;
-                progress.add(seat, put as u64);
+                counter.add(put as u64);
                 if put < size {
                     skip(rt, receiver, end);
                     return Pumped::OutletFailed { bytes: total };

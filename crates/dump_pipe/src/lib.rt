@@ -4,6 +4,7 @@
 
 pub mod cancel;
 pub mod channel;
+pub mod counter;
 pub mod drainer;
 pub mod end_view;
 pub mod feeder;
@@ -23,7 +24,8 @@ pub mod surplus;
 pub mod watched;
 
 pub use cancel::Cancel;
-pub use channel::{End, Receiver, Sender, pipe};
+pub use channel::{BothEnds, End, Knowledge, Receiver, Sender, pipe};
+pub use counter::Counter;
 pub use drainer::drain_pipe;
 pub use feeder::feed;
 pub use message::Message;

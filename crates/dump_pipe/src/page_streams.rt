@@ -4,9 +4,8 @@ ghost use Rattle.dump_pump.specs.Pumps.{bytes_of};
 ghost use Rattle.dump_pipe.specs.Pipes.{byte_limit};
 ghost use Rattle.dump_pipe.specs.Streams.{IsStreamed};
 
+use crate::counter::Counter;
 use crate::paged_source::{PagedSource, PartsBefore};
-use crate::progress::Progress;
-use crate::seats::OutSeat;
 use crate::streams::stream_parts;
 use dump_pump::{Outlet, Pumped, Source};
 use std::alloc::Global;
@@ -20,44 +19,39 @@ fn stream_by<S: Source + Send, O: Outlet, B: PartsBefore + Send, R: Threads + Wa
     alloc: Global,
     source: S,
     outlet: &mut O,
-    progress: &Progress<'_>,
-    seat: &mut OutSeat,
+    counter: &mut Counter<'_>,
 ) -> (Pumped, S)
     requires left { 0 < (S.seen source).left }
     requires start { (S.seen source).told ≡ B.told }
-    requires meter { seat.old.meter ≡ progress.now }
-    requires room { seat.old.sum + byte_limit < 2 ^ 64 }
+    requires room { counter.old.sum + byte_limit < 2 ^ 64 }
     ensures streamed { IsStreamed (S.seen source) (S.seen result.1) (O.seen outlet.old)
         (O.seen outlet.new) result.0 }
     ensures kept { S.kept result.1 ≡ S.kept source }
-    ensures meter { seat.new.meter ≡ progress.now }
-    ensures counted { seat.new.sum ≡ seat.old.sum + bytes_of result.0 }
+    ensures meter { counter.new.meter ≡ counter.old.meter }
+    ensures counted { counter.new.sum ≡ counter.old.sum + bytes_of result.0 }
 {
     let mut pages: PagedSource<S, B> = PagedSource::new(alloc, source);
-    let pumped = stream_parts(rt, alloc, &mut pages, outlet, progress, seat);
+    let pumped = stream_parts(rt, alloc, &mut pages, outlet, counter);
     (pumped, pages.into_source())
 }
 
 /// Puts out the parts of a source as `stream_parts` does, by pages: parts are joined in the feeding thread until a page has
 /// no room for the next one, and each page goes through the pipe and to the outlet as one part. If the allocation of a page
-/// fails, the parts go one by one. Returns the source, too. May wait. The seat is one of the progress's meter, and its sum
-/// has room for the bytes of a dump.
+/// fails, the parts go one by one. Returns the source, too. May wait. The sum has room for the bytes of a dump.
 pub fn stream_paged<S: Source + Send, O: Outlet, R: Threads + Wait + Sync>(
     rt: &R,
     alloc: Global,
     source: S,
     outlet: &mut O,
-    progress: &Progress<'_>,
-    seat: &mut OutSeat,
+    counter: &mut Counter<'_>,
 ) -> (Pumped, S)
     requires left { 0 < (S.seen source).left }
-    requires meter { seat.old.meter ≡ progress.now }
-    requires room { seat.old.sum + byte_limit < 2 ^ 64 }
+    requires room { counter.old.sum + byte_limit < 2 ^ 64 }
     ensures streamed { IsStreamed (S.seen source) (S.seen result.1) (O.seen outlet.old)
         (O.seen outlet.new) result.0 }
     ensures kept { S.kept result.1 ≡ S.kept source }
-    ensures meter { seat.new.meter ≡ progress.now }
-    ensures counted { seat.new.sum ≡ seat.old.sum + bytes_of result.0 }
+    ensures meter { counter.new.meter ≡ counter.old.meter }
+    ensures counted { counter.new.sum ≡ counter.old.sum + bytes_of result.0 }
 {
-    stream_by::<S, O, Brand, R>(rt, alloc, source, outlet, progress, seat)
+    stream_by::<S, O, Brand, R>(rt, alloc, source, outlet, counter)
 }

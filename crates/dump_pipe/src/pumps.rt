@@ -3,27 +3,24 @@ ghost use Rattle.std.specs.Prelude.{◌≡◌, ◌+◌, ◌<◌, ◌^◌};
 ghost use Rattle.dump_pump.specs.Pumps.{IsPumped, bytes_of};
 ghost use Rattle.dump_pipe.specs.Pipes.{byte_limit};
 
-use crate::progress::Progress;
-use crate::seats::OutSeat;
+use crate::counter::Counter;
 use dump_pump::transfer::put_all;
 use dump_pump::{Next, Outlet, Pumped, Source};
 
-/// Puts out the parts of a source as `pump` does, and adds their bytes to the progress, part by part. Takes no memory of its
-/// own. The seat is one of the progress's meter, and its sum has room for the bytes of a dump.
+/// Puts out the parts of a source as `pump` does, and counts their bytes, part by part. Takes no memory of its own. The sum has
+/// room for the bytes of a dump.
 pub fn pump_counted<S: Source, O: Outlet>(
     source: &mut S,
     outlet: &mut O,
-    progress: &Progress<'_>,
-    seat: &mut OutSeat,
+    counter: &mut Counter<'_>,
 ) -> Pumped
     requires source { 0 < (S.seen source.old).left }
-    requires meter { seat.old.meter ≡ progress.now }
-    requires room { seat.old.sum + byte_limit < 2 ^ 64 }
+    requires room { counter.old.sum + byte_limit < 2 ^ 64 }
     ensures pumped { IsPumped (S.seen source.old) (S.seen source.new) (O.seen outlet.old)
         (O.seen outlet.new) result }
     ensures kept { S.kept source.new ≡ S.kept source.old }
-    ensures meter { seat.new.meter ≡ progress.now }
-    ensures counted { seat.new.sum ≡ seat.old.sum + bytes_of result }
+    ensures meter { counter.new.meter ≡ counter.old.meter }
+    ensures counted { counter.new.sum ≡ counter.old.sum + bytes_of result }
 {
     let _most = source.parts_left();
     let mut total: u64 = 0;
@@ -33,7 +30,7 @@ pub fn pump_counted<S: Source, O: Outlet>(
                 let size = piece.bytes.as_slice().len();
                 let put = put_all(outlet, piece.bytes.as_slice());
                 total += put as u64;
-                progress.add(seat, put as u64);
+                counter.add(put as u64);
                 if put < size {
                     return Pumped::OutletFailed { bytes: total };
                 }

@@ -7,12 +7,11 @@ ghost use Rattle.dump_pipe.specs.declared.end_view.EndView.TheVariants.{Sends, G
 ghost use Rattle.dump_pipe.specs.Pipes.{byte_limit};
 ghost use Rattle.dump_pipe.specs.Streams.{IsStreamed, CanFeed, CanDrain, MayFeed, MayDrain, MayStream, drained_bytes};
 
-use crate::channel::{End, Ends, Order, Receiver, Sender, pipe};
+use crate::channel::{BothEnds, End, Ends, Knowledge, Order, Receiver, Sender, pipe};
+use crate::counter::Counter;
 use crate::drainer::drain_pipe;
 use crate::feeder::feed;
-use crate::progress::Progress;
 use crate::pumps::pump_counted;
-use crate::seats::OutSeat;
 use crate::start::Start;
 use dump_pump::{Ending, Outlet, Pumped, Source};
 use std::alloc::Global;
@@ -46,125 +45,117 @@ fn drain_begun<O: Outlet, R: Wait>(
     receiver: &Receiver,
     end: &mut End,
     outlet: &mut O,
-    progress: &Progress<'_>,
-    seat: &mut OutSeat,
+    counter: &mut Counter<'_>,
 ) -> Option<Pumped>
     requires end { IsSeatAt (receives_on receiver.now) end.old × (view end.old ≡ Gets []) }
-    requires meter { seat.old.meter ≡ progress.now }
-    requires room { seat.old.sum + byte_limit < 2 ^ 64 }
+    requires room { counter.old.sum + byte_limit < 2 ^ 64 }
     ensures end { IsSeatAt (receives_on receiver.now) end.new }
     ensures drained { MayDrain (view end.new) (O.seen outlet.old) (O.seen outlet.new) result }
-    ensures meter { seat.new.meter ≡ progress.now }
-    ensures counted { seat.new.sum ≡ seat.old.sum + drained_bytes result }
+    ensures meter { counter.new.meter ≡ counter.old.meter }
+    ensures counted { counter.new.sum ≡ counter.old.sum + drained_bytes result }
 {
     if !start.is_begun(rt) {
         return None;
     }
-    Some(drain_pipe(rt, receiver, end, outlet, progress, seat))
+    Some(drain_pipe(rt, receiver, end, outlet, counter))
 }
 
 // Feeds in a new thread, and drains in the caller's.
 fn join_ends<S: Source + Send, O: Outlet, R: Threads + Wait + Sync>(
     rt: &R,
-    sender: &Sender,
-    receiver: &Receiver,
-    one: &mut End,
-    other: &mut End,
+    ends: &BothEnds,
+    known: &mut Knowledge,
     source: &mut S,
     outlet: &mut O,
-    progress: &Progress<'_>,
-    seat: &mut OutSeat,
+    counter: &mut Counter<'_>,
 ) -> (Option<Ending>, Option<Pumped>)
     requires source { 0 < (S.seen source.old).left }
-    requires one { IsSeatAt (sends_on sender.now) one.old × (view one.old ≡ Sends []) }
-    requires other { IsSeatAt (receives_on receiver.now) other.old × (view other.old ≡ Gets []) }
-    requires meter { seat.old.meter ≡ progress.now }
-    requires room { seat.old.sum + byte_limit < 2 ^ 64 }
-    ensures one { IsSeatAt (sends_on sender.now) one.new }
-    ensures other { IsSeatAt (receives_on receiver.now) other.new }
-    ensures fed { MayFeed (S.seen source.old) (S.seen source.new) (view one.new) result.0 }
+    requires one { IsSeatAt (sends_on ends.now.sender) known.old.one
+        × (view known.old.one ≡ Sends []) }
+    requires other { IsSeatAt (receives_on ends.now.receiver) known.old.other
+        × (view known.old.other ≡ Gets []) }
+    requires room { counter.old.sum + byte_limit < 2 ^ 64 }
+    ensures one { IsSeatAt (sends_on ends.now.sender) known.new.one }
+    ensures other { IsSeatAt (receives_on ends.now.receiver) known.new.other }
+    ensures fed { MayFeed (S.seen source.old) (S.seen source.new) (view known.new.one) result.0 }
     ensures kept { S.kept source.new ≡ S.kept source.old }
-    ensures drained { MayDrain (view other.new) (O.seen outlet.old) (O.seen outlet.new) result.1 }
-    ensures meter { seat.new.meter ≡ progress.now }
-    ensures counted { seat.new.sum ≡ seat.old.sum + drained_bytes result.1 }
+    ensures drained { MayDrain (view known.new.other) (O.seen outlet.old) (O.seen outlet.new) result.1 }
+    ensures meter { counter.new.meter ≡ counter.old.meter }
+    ensures counted { counter.new.sum ≡ counter.old.sum + drained_bytes result.1 }
 {
     let start = Start::new();
+    let (sender, receiver) = (&ends.sender, &ends.receiver);
+    let one = &mut known.one;
+    let other = &mut known.other;
     let mut feeder = || -> Option<Ending>
         requires { CanFeed (S.seen source.now) (view one.now)
             × IsSeatAt (sends_on sender.now) one.now }
     { begin_feed(rt, &start, source, sender, one) };
     let mut drainer = || -> Option<Pumped>
-        requires { CanDrain (view other.now) seat.now progress.now
+        requires { CanDrain (view other.now) counter.now
             × IsSeatAt (receives_on receiver.now) other.now }
-    { drain_begun(rt, &start, receiver, other, outlet, progress, seat) };
+    { drain_begun(rt, &start, receiver, other, outlet, counter) };
     join_mut(rt, &mut feeder, &mut drainer)
 }
 
 // Feeds and drains. If only the feeding was begun, drains once it has ended. Returns None if neither was begun.
 fn pass_parts<S: Source + Send, O: Outlet, R: Threads + Wait + Sync>(
     rt: &R,
-    sender: &Sender,
-    receiver: &Receiver,
-    one: &mut End,
-    other: &mut End,
+    ends: &BothEnds,
+    known: &mut Knowledge,
     source: &mut S,
     outlet: &mut O,
-    progress: &Progress<'_>,
-    seat: &mut OutSeat,
+    counter: &mut Counter<'_>,
 ) -> Option<Pumped>
     requires source { 0 < (S.seen source.old).left }
-    requires one { IsSeatAt (sends_on sender.now) one.old × (view one.old ≡ Sends []) }
-    requires other { IsSeatAt (receives_on receiver.now) other.old × (view other.old ≡ Gets []) }
-    requires meter { seat.old.meter ≡ progress.now }
-    requires room { seat.old.sum + byte_limit < 2 ^ 64 }
-    ensures one { IsSeatAt (sends_on sender.now) one.new }
-    ensures other { IsSeatAt (receives_on receiver.now) other.new }
-    ensures passed { MayStream (S.seen source.old) (S.seen source.new) (view one.new)
-        (view other.new) (O.seen outlet.old) (O.seen outlet.new) result }
+    requires one { IsSeatAt (sends_on ends.now.sender) known.old.one
+        × (view known.old.one ≡ Sends []) }
+    requires other { IsSeatAt (receives_on ends.now.receiver) known.old.other
+        × (view known.old.other ≡ Gets []) }
+    requires room { counter.old.sum + byte_limit < 2 ^ 64 }
+    ensures one { IsSeatAt (sends_on ends.now.sender) known.new.one }
+    ensures other { IsSeatAt (receives_on ends.now.receiver) known.new.other }
+    ensures passed { MayStream (S.seen source.old) (S.seen source.new) (view known.new.one)
+        (view known.new.other) (O.seen outlet.old) (O.seen outlet.new) result }
     ensures kept { S.kept source.new ≡ S.kept source.old }
-    ensures meter { seat.new.meter ≡ progress.now }
-    ensures counted { seat.new.sum ≡ seat.old.sum + drained_bytes result }
+    ensures meter { counter.new.meter ≡ counter.old.meter }
+    ensures counted { counter.new.sum ≡ counter.old.sum + drained_bytes result }
 {
-    let (fed, drained) = join_ends(
-        rt, sender, receiver, one, other, source, outlet, progress, seat,
-    );
+    let (fed, drained) = join_ends(rt, ends, known, source, outlet, counter);
     if let Some(pumped) = drained {
         return Some(pumped);
     }
     fed?;
-    Some(drain_pipe(rt, receiver, other, outlet, progress, seat))
+    let (receiver, other) = (&ends.receiver, &mut known.other);
+    Some(drain_pipe(rt, receiver, other, outlet, counter))
 }
 
-/// Puts out the parts of a source as `pump` does, while a second thread asks the source for the next ones, and adds their
-/// bytes to the progress. If a pipe can't be allocated, or the thread hasn't begun in time, the caller's thread does both.
-/// Waits for the source and for the outlet; both threads have ended when it returns. The seat is one of the progress's meter,
-/// and its sum has room for the bytes of a dump.
+/// Puts out the parts of a source as `pump` does, while a second thread asks the source for the next ones, and counts their
+/// bytes. If a pipe can't be allocated, or the thread hasn't begun in time, the caller's thread does both. Waits for the source
+/// and for the outlet; both threads have ended when it returns. The sum has room for the bytes of a dump.
 pub fn stream_parts<S: Source + Send, O: Outlet, R: Threads + Wait + Sync>(
     rt: &R,
     alloc: Global,
     source: &mut S,
     outlet: &mut O,
-    progress: &Progress<'_>,
-    seat: &mut OutSeat,
+    counter: &mut Counter<'_>,
 ) -> Pumped
     requires source { 0 < (S.seen source.old).left }
-    requires meter { seat.old.meter ≡ progress.now }
-    requires room { seat.old.sum + byte_limit < 2 ^ 64 }
+    requires room { counter.old.sum + byte_limit < 2 ^ 64 }
     ensures streamed { IsStreamed (S.seen source.old) (S.seen source.new) (O.seen outlet.old)
         (O.seen outlet.new) result }
     ensures kept { S.kept source.new ≡ S.kept source.old }
-    ensures meter { seat.new.meter ≡ progress.now }
-    ensures counted { seat.new.sum ≡ seat.old.sum + bytes_of result }
+    ensures meter { counter.new.meter ≡ counter.old.meter }
+    ensures counted { counter.new.sum ≡ counter.old.sum + bytes_of result }
 {
-    let Ok((sender, receiver, mut one, mut other)) = pipe(alloc) else {
-        return pump_counted(source, outlet, progress, seat);
+    let Ok((ends, mut known)) = pipe(alloc) else {
+        return pump_counted(source, outlet, counter);
     };
-    let Some(pumped) = pass_parts(
-        rt, &sender, &receiver, &mut one, &mut other, source, outlet, progress, seat,
-    ) else {
-        return pump_counted(source, outlet, progress, seat);
+    let Some(pumped) = pass_parts(rt, &ends, &mut known, source, outlet, counter) else {
+        return pump_counted(source, outlet, counter);
     };
-    sender.absorb::<Ends>(&mut one, other);
-    sender.learn_as::<Order>(&mut one);
+    let Knowledge { mut one, other } = known;
+    ends.sender.absorb::<Ends>(&mut one, other);
+    ends.sender.learn_as::<Order>(&mut one);
     pumped
 }

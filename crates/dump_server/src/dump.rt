@@ -5,7 +5,7 @@ ghost use Rattle.dump_server.specs.Dumps.{IsDump, IsDumpRefused, PutsServedPin};
 
 use dump_pump::{Outlet, Pumped};
 use heap_lock::{Heap, Refusal, Shared, Witness};
-use live_dump::{Meter, NewMeter, stream};
+use live_dump::{LivePin, Meter, NewMeter, StreamSeats, stream};
 use std::alloc::Global;
 use std::sync::Wait;
 use std::thread::Threads;
@@ -26,7 +26,13 @@ pub fn dump_current<L: Heap + Send + Sync, O: Outlet, R: Threads + Wait + Sync>(
 {
     let mut witness = shared.witness(rt);
     let pin = shared.open_pin(rt, &mut witness, None)?.pin;
-    let (done, mut witness) = dump_pin(rt, alloc, shared, witness, pin, time, outlet);
+    let live = LivePin {
+        shared,
+        witness,
+        pin,
+        time,
+    };
+    let (done, mut witness) = dump_pin(rt, alloc, live, outlet);
     let _ = shared.close_pin(rt, &mut witness, pin);
     done
 }
@@ -35,29 +41,30 @@ pub fn dump_current<L: Heap + Send + Sync, O: Outlet, R: Threads + Wait + Sync>(
 fn dump_pin<L: Heap + Send + Sync, O: Outlet, R: Threads + Wait + Sync>(
     rt: &R,
     alloc: Global,
-    shared: &Shared<L>,
-    witness: Witness<L>,
-    pin: u64,
-    time: u64,
+    live: LivePin<'_, L>,
     outlet: &mut O,
 ) -> (Result<Pumped, Refusal>, Witness<L>)
     ensures dumped { IfOk result.0
-        (PutsServedPin L.config pin time witness result.1 (O.seen outlet.old) (O.seen outlet.new)) }
-    ensures refused { IfErr result.0 (λ e. (e ≡ NoMemory) × (result.1 ≡ witness)) }
+        (PutsServedPin L.config live.entry.pin live.entry.time live.entry.witness result.1
+        (O.seen outlet.old) (O.seen outlet.new)) }
+    ensures refused { IfErr result.0 (λ e. (e ≡ NoMemory) × (result.1 ≡ live.entry.witness)) }
     ensures unchanged { IfErr result.0 (λ e. O.seen outlet.new ≡ O.seen outlet.old) }
 {
     let Ok(made) = Meter::new(alloc, 0, 0) else {
-        return (Err(Refusal::NoMemory), witness);
+        return (Err(Refusal::NoMemory), live.witness);
     };
     let NewMeter {
         meter,
-        mut out,
+        out,
         readers: _,
         askers: _,
         feed,
     } = made;
-    let (pumped, _, witness) = stream(
-        rt, alloc, shared, witness, pin, time, outlet, &meter, &mut out, feed,
-    );
+    let seats = StreamSeats {
+        meter: &meter,
+        out,
+        feed,
+    };
+    let (pumped, _, witness) = stream(rt, alloc, live, outlet, seats);
     (Ok(pumped), witness)
 }

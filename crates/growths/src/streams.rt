@@ -8,7 +8,7 @@ use dump_pump::{Pumped, WriteOutlet};
 use heap_class::{Kind, LostCause, Refusal};
 use heap_lock::{Blank, Heap, Role, Seat, Shared, Witness};
 use heap_scripts::{Config, Event};
-use live_dump::{Meter, NewMeter, stream};
+use live_dump::{LivePin, Meter, NewMeter, StreamSeats, stream};
 use std::alloc::Global;
 use std::marker::Brand;
 use std::sync::Wait;
@@ -111,24 +111,24 @@ fn stream_behind<L: Heap + Send + Sync, R: Threads + Wait + Sync>(
 {
     let NewMeter {
         meter,
-        mut out,
+        out,
         readers: _,
         askers: _,
         feed,
     } = made;
     let mut outlet = WriteOutlet::new(text);
-    let (pumped, _, witness) = stream(
-        rt,
-        alloc,
+    let live = LivePin {
         shared,
         witness,
         pin,
-        7,
-        &mut outlet,
-        &meter,
-        &mut out,
+        time: 7,
+    };
+    let seats = StreamSeats {
+        meter: &meter,
+        out,
         feed,
-    );
+    };
+    let (pumped, _, witness) = stream(rt, alloc, live, &mut outlet, seats);
     (pumped, outlet.into_writer(), witness)
 }
 

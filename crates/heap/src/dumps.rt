@@ -1,13 +1,12 @@
 //! Dumps of the current state in one call, watched from another thread.
 ghost use Rattle.std.specs.Prelude.{◌≡◌};
 ghost use denote.Param.Send.{IsSync};
-ghost use Rattle.live_dump.specs.Seats.{sum};
 ghost use Rattle.heap.specs.Dumps.{IsClosing, IsDumped};
 
 use dump_pump::{Outlet, Pumped};
 use heap_class::Refusal;
 use heap_lock::{Heap, Shared, Witness};
-use live_dump::{AskSeat, FeedSeat, Meter, NewMeter, OutSeat, ReadSeat, stream};
+use live_dump::{AskSeat, LivePin, Meter, NewMeter, ReadSeat, StreamSeats, stream};
 use std::alloc::Global;
 use std::sync::Wait;
 use std::sync::atomic::{AtomicU64, Ordering};
@@ -61,11 +60,8 @@ struct Watching<'a, W: DumpWatcher + Drop> {
 struct Writing<'a, O: Outlet + Drop> {
     outlet: O,
     time: u64,
-    meter: &'a Meter,
-    out: OutSeat,
-    feed: FeedSeat,
-    ghost adds: { out ≡ sum meter.now 0 },
-    ghost looks: { feed.meter ≡ meter.now },
+    seats: StreamSeats<'a>,
+    ghost adds: { seats.out.sum ≡ 0 },
 }
 
 // Shows a watcher the bytes that are out until the dump has ended, and asks to cancel it if the watcher wants that. Returns the
@@ -112,19 +108,20 @@ fn write<L: Heap + Send + Sync, O: Outlet + Drop, R: Threads + Wait + Sync>(
     let Writing {
         mut outlet,
         time,
-        meter,
-        mut out,
-        feed,
+        seats,
     } = writing;
     let mut witness = shared.witness(rt);
     let pin = match shared.open_pin(rt, &mut witness, None) {
         Ok(pinned) => pinned.pin,
         Err(refusal) => return (Err(refusal), outlet),
     };
-    let sink = &mut outlet;
-    let (pumped, _, witness) = stream(
-        rt, alloc, shared, witness, pin, time, sink, meter, &mut out, feed,
-    );
+    let live = LivePin {
+        shared,
+        witness,
+        pin,
+        time,
+    };
+    let (pumped, _, witness) = stream(rt, alloc, live, &mut outlet, seats);
     close(rt, shared, witness, pin);
     (Ok(pumped), outlet)
 }
@@ -200,12 +197,15 @@ pub fn dump<
         reader,
         asker,
     };
-    let writing = Writing {
-        outlet,
-        time,
+    let seats = StreamSeats {
         meter: &meter,
         out,
         feed,
+    };
+    let writing = Writing {
+        outlet,
+        time,
+        seats,
     };
     write_watched(rt, alloc, shared, writing, watching)
 }

@@ -16,6 +16,17 @@ use std::marker::Brand;
 use std::sync::Wait;
 use std::thread::Threads;
 
+/// The dump after a session.
+#[derive(Drop)]
+pub struct LastDump<'a, P, G> {
+    /// The place that is to make its outlet.
+    pub place: P,
+    /// The gauge that sees it go out.
+    pub gauge: &'a mut G,
+    /// The time in its header, in milliseconds.
+    pub time: u64,
+}
+
 /// How a session and the dump after it ended.
 #[derive(Drop)]
 pub struct Saved<P, O> {
@@ -34,14 +45,13 @@ fn dump_late<P: Outlets, B: Origin<P>, G: Gauge, R: Threads + Wait + Sync>(
     rt: &R,
     alloc: Global,
     machine: &mut Machine,
-    place: P,
-    gauge: &mut G,
-    time: u64,
+    dump: LastDump<'_, P, G>,
 ) -> (Pumped, P, Option<P::Out>)
-    requires { B.was place }
-    ensures { LandsLate B.was P.makes P.Out.seen time machine.old machine.new result.1 result.2
-        result.0 }
+    requires { B.was dump.place }
+    ensures { LandsLate B.was P.makes P.Out.seen dump.entry.time machine.old machine.new result.1
+        result.2 result.0 }
 {
+    let LastDump { place, gauge, time } = dump;
     let late: LateOutlet<P, B> = LateOutlet::new(place);
     let (pumped, taken) = stream_place(rt, alloc, machine, time, late, gauge);
     let (place, outlet) = taken.into_parts();
@@ -53,18 +63,17 @@ fn dump_last<P: Outlets, G: Gauge, R: Threads + Wait + Sync>(
     rt: &R,
     alloc: Global,
     local: &mut Local,
-    place: P,
-    gauge: &mut G,
-    time: u64,
+    dump: LastDump<'_, P, G>,
 ) -> (Pumped, P, Option<P::Out>)
-    ensures lands { Lands (P.makes place) time (own_closed local.old.first_pin local.old.machine)
-        local.new.machine (option_map P.Out.seen result.2) result.0 }
-    ensures untouched { is_unasked (Some result.0) ≡ true → result.1 ≡ place }
+    ensures lands { Lands (P.makes dump.entry.place) dump.entry.time
+        (own_closed local.old.first_pin local.old.machine) local.new.machine
+        (option_map P.Out.seen result.2) result.0 }
+    ensures untouched { is_unasked (Some result.0) ≡ true → result.1 ≡ dump.entry.place }
     ensures first { local.new.first_pin ≡ local.old.first_pin }
     ensures ended { IsUncancelled result.0 }
 {
     local.close_all();
-    dump_late::<P, Brand, G, R>(rt, alloc, &mut local.machine, place, gauge, time)
+    dump_late::<P, Brand, G, R>(rt, alloc, &mut local.machine, dump)
 }
 
 // Returns how a save ended whose session ended so, and whose last line was written or not.
@@ -77,10 +86,10 @@ fn end_of_save(ended: Ended, written: bool) -> Ended
 /// Does what a save does after its session, which ended so. If that was by `end` or at the end of input, closes each pin that was
 /// opened through these commands, dumps the current state into the outlet of a place, and writes a last line: `saved`, `failed`
 /// or `lost` with its cause, and the number of bytes that the outlet took. If the session ended otherwise, the place is not
-/// asked, and no last line is written. `time`, in milliseconds, stands in the header of the dump.
+/// asked, and no last line is written.
 ///
 /// The place is asked for the outlet when the first page is there: not if the dump is lost before. The dump is failed at 0
-/// bytes if no outlet could be made. A second thread makes the pieces of the dump, and the caller's puts them out, which a
+/// bytes if no outlet could be made. A second thread makes the pieces of the dump, and the caller's puts them out, which the
 /// gauge sees; without such a thread or a pipe the caller's does both. If a meter can't be allocated the dump is lost by
 /// Memory, at 0 bytes. The outlet is asked once for each page of at most 65,536 bytes; if pages can't be allocated, once for
 /// each piece. May wait.
@@ -90,26 +99,24 @@ pub fn save_after<O: Outlet, P: Outlets, G: Gauge, R: Threads + Wait + Sync>(
     ended: Ended,
     local: &mut Local,
     writer: &mut O,
-    place: P,
-    gauge: &mut G,
-    time: u64,
+    dump: LastDump<'_, P, G>,
 ) -> Saved<P, P::Out>
-    ensures ends { EndsSave (P.makes place) local.old.first_pin time local.old.machine
-        local.new.machine (O.seen writer.old) (O.seen writer.new)
+    ensures ends { EndsSave (P.makes dump.entry.place) local.old.first_pin dump.entry.time
+        local.old.machine local.new.machine (O.seen writer.old) (O.seen writer.new)
         (option_map P.Out.seen result.outlet) ended result.ended result.pumped
         (is_whole_session ended) }
     ensures first { local.new.first_pin ≡ local.old.first_pin }
-    ensures untouched { is_unasked result.pumped ≡ true → result.place ≡ place }
+    ensures untouched { is_unasked result.pumped ≡ true → result.place ≡ dump.entry.place }
 {
     if !ended.is_whole() {
         return Saved {
             ended,
             pumped: None,
-            place,
+            place: dump.place,
             outlet: None,
         };
     }
-    let (pumped, place, outlet) = dump_last(rt, alloc, local, place, gauge, time);
+    let (pumped, place, outlet) = dump_last(rt, alloc, local, dump);
     let written = write_last(writer, pumped);
     Saved {
         ended: end_of_save(ended, written),
@@ -119,24 +126,23 @@ pub fn save_after<O: Outlet, P: Outlets, G: Gauge, R: Threads + Wait + Sync>(
     }
 }
 
-/// Serves a session of a private machine as `serve_local` does, and then does what `save_after` says. `time`, in milliseconds,
-/// stands in the header of each dump. May wait.
+/// Serves a session of a private machine as `serve_local` does, and then does what `save_after` says. The dumps of the session
+/// have the time of the last one in their headers. May wait.
 pub fn save_into<I: Inlet, O: Outlet, P: Outlets, G: Gauge, R: Threads + Wait + Sync>(
     rt: &R,
     alloc: Global,
     local: &mut Local,
     reader: &mut I,
     writer: &mut O,
-    place: P,
-    gauge: &mut G,
-    time: u64,
+    dump: LastDump<'_, P, G>,
 ) -> Saved<P, P::Out>
-    ensures saved { IsSaved (P.makes place) local.old.first_pin time local.old.machine
-        local.new.machine (I.seen reader.old) (I.seen reader.new) (O.seen writer.old)
-        (O.seen writer.new) (option_map P.Out.seen result.outlet) result.ended result.pumped }
+    ensures saved { IsSaved (P.makes dump.entry.place) local.old.first_pin dump.entry.time
+        local.old.machine local.new.machine (I.seen reader.old) (I.seen reader.new)
+        (O.seen writer.old) (O.seen writer.new) (option_map P.Out.seen result.outlet)
+        result.ended result.pumped }
     ensures first { local.new.first_pin ≡ local.old.first_pin }
-    ensures untouched { is_unasked result.pumped ≡ true → result.place ≡ place }
+    ensures untouched { is_unasked result.pumped ≡ true → result.place ≡ dump.entry.place }
 {
-    let ended = serve_local(alloc, reader, writer, local, time);
-    save_after(rt, alloc, ended, local, writer, place, gauge, time)
+    let ended = serve_local(alloc, reader, writer, local, dump.time);
+    save_after(rt, alloc, ended, local, writer, dump)
 }

@@ -5,34 +5,32 @@ ghost use Rattle.heapdbg.specs.Runs.{IsDrawingOutcome, IsSessionDrawn};
 
 use crate::failure::{Fault, outcome};
 use crate::opening::open_local;
+use crate::request::Request;
 use dump_pump::{Outlet, WriteOutlet};
-use heapdbg_options::command_line::path_option;
-use heapdbg_options::line_words::borrow_words;
-use heapdbg_options::settings::Settings;
 use region_picture::picture_of;
 use session_text::{Inlet, Machine, serve_local, write_all};
 use std::alloc::Global;
 use std::fs;
 use std::fs::Files;
 
-/// Runs one session over a private heap, and draws the regions of the state that it leaves to the file that the words name. Fails
+/// Runs one session over a private heap, and draws the regions of the state that it leaves to the file of the path. Fails
 /// as a session does, with Memory, and with Out if the file can't be made or a write to it fails.
 pub fn draw<R: Files, I: Inlet, O: Outlet>(
     rt: &R,
     alloc: Global,
-    words: &[String],
-    settings: &Settings,
+    request: Request<'_>,
     reader: &mut I,
     writer: &mut O,
 ) -> Result<(), Fault>
-    requires { AreHeapSettings settings.now.regions settings.now.mutators settings.now.keep }
-    ensures { IsSessionDrawn settings.now (I.seen reader.old) (I.seen reader.new)
+    requires { AreHeapSettings request.settings.regions request.settings.mutators
+        request.settings.keep }
+    ensures { IsSessionDrawn request.entry.settings (I.seen reader.old) (I.seen reader.new)
         (O.seen writer.old) (O.seen writer.new) result }
 {
-    match open_local(alloc, settings) {
+    match open_local(alloc, &request.settings) {
         Ok(mut local) => {
-            let ended = serve_local(alloc, reader, writer, &mut local, settings.time);
-            draw_after(rt, alloc, words, outcome(ended), &local.machine)
+            let ended = serve_local(alloc, reader, writer, &mut local, request.settings.time);
+            draw_after(rt, alloc, request.path, outcome(ended), &local.machine)
         }
         Err(fault) => Err(fault),
     }
@@ -42,30 +40,30 @@ pub fn draw<R: Files, I: Inlet, O: Outlet>(
 fn draw_after<R: Files>(
     rt: &R,
     alloc: Global,
-    words: &[String],
+    path: Option<&str>,
     session: Result<(), Fault>,
     machine: &Machine,
 ) -> Result<(), Fault>
     ensures { IsDrawingOutcome session result }
 {
     session?;
-    write_picture(rt, alloc, words, machine)
+    write_picture(rt, alloc, path, machine)
 }
 
-// Draws the current state of a machine to the file that the words name.
+// Draws the current state of a machine to the file of a path.
 fn write_picture<R: Files>(
     rt: &R,
     alloc: Global,
-    words: &[String],
+    path: Option<&str>,
     machine: &Machine,
 ) -> Result<(), Fault>
     ensures { (result ≡ Ok tt)
         ⊎ ((result ≡ Err Fault.Out) ⊎ (result ≡ Err Fault.Memory)) }
 {
-    let (Ok(picture), Ok(line)) = (picture_of(alloc, machine), borrow_words(alloc, words)) else {
+    let Ok(picture) = picture_of(alloc, machine) else {
         return Err(Fault::Memory);
     };
-    let Some(path) = path_option(alloc, line.as_slice(), "out") else {
+    let Some(path) = path else {
         return Err(Fault::Memory);
     };
     let Ok(file) = fs::create(rt, path) else {

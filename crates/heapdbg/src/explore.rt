@@ -5,10 +5,9 @@ ghost use Rattle.heapdbg.specs.Explorations.{IsSessionBegun, IsExplored, IsHindr
 
 use crate::failure::{Fault, outcome};
 use crate::opening::open_local;
+use crate::request::Request;
 use dump_pump::Outlet;
 use heap_console::load_lines;
-use heapdbg_options::command_line::path_option;
-use heapdbg_options::line_words::borrow_words;
 use heapdbg_options::settings::Settings;
 use question_text::{Asking, Watch, serve_asking};
 use session_text::Inlet;
@@ -16,46 +15,47 @@ use std::alloc::Global;
 use std::fs;
 use std::fs::Files;
 
-/// Runs one session, in which questions are answered, over a heap of its own. If `from` says so, the lines of the file that
-/// the words name are run first; their answers are not shown, and each line that is refused is reported on standard error.
+/// Runs one session, in which questions are answered, over a heap of its own. If `from` says so, the lines of the file of
+/// the path are run first; their answers are not shown, and each line that is refused is reported on standard error.
 /// Fails as a session does, with Memory if the heap can't be allocated, and with From if the file can't be opened.
 pub fn explore<R: AllocGlobal + Eprint + Files, I: Inlet, O: Outlet>(
     rt: &R,
-    words: &[String],
-    settings: &Settings,
+    request: Request<'_>,
     from: bool,
     watch: &Watch,
     reader: &mut I,
     writer: &mut O,
 ) -> Result<(), Fault>
-    requires { AreHeapSettings settings.now.regions settings.now.mutators settings.now.keep }
-    ensures { IsExplored from settings.now (I.seen reader.old) (I.seen reader.new)
+    requires { AreHeapSettings request.settings.regions request.settings.mutators
+        request.settings.keep }
+    ensures { IsExplored from request.entry.settings (I.seen reader.old) (I.seen reader.new)
         (O.seen writer.old) (O.seen writer.new) result }
 {
-    match begin(rt, words, settings, from, watch) {
+    match begin(rt, request, from, watch) {
         Ok(mut asking) => {
-            let ended = serve_asking(rt.alloc(), reader, writer, &mut asking, settings.time);
+            let time = request.settings.time;
+            let ended = serve_asking(rt.alloc(), reader, writer, &mut asking, time);
             outcome(ended)
         }
         Err(fault) => Err(fault),
     }
 }
 
-// Opens the heap, and runs the lines of the file that the words name if `from` says so.
+// Opens the heap, and runs the lines of the file of the path if `from` says so.
 fn begin<'a, R: AllocGlobal + Eprint + Files>(
     rt: &R,
-    words: &[String],
-    settings: &Settings,
+    request: Request<'_>,
     from: bool,
     watch: &'a Watch,
 ) -> Result<Asking<'a>, Fault>
-    requires { AreHeapSettings settings.now.regions settings.now.mutators settings.now.keep }
-    ensures begun { IfOk result (IsSessionBegun from settings.now) }
+    requires { AreHeapSettings request.settings.regions request.settings.mutators
+        request.settings.keep }
+    ensures begun { IfOk result (IsSessionBegun from request.entry.settings) }
     ensures hindrance { IfErr result (IsHindrance from) }
 {
-    let asking = open(rt.alloc(), settings, watch)?;
+    let asking = open(rt.alloc(), &request.settings, watch)?;
     if from {
-        load(rt, words, settings, asking)
+        load(rt, request, asking)
     } else {
         Ok(asking)
     }
@@ -78,28 +78,24 @@ pub(crate) fn open<'a>(
     }
 }
 
-// Runs the lines of the file that the words name.
+// Runs the lines of the file of the path.
 fn load<'a, R: AllocGlobal + Eprint + Files>(
     rt: &R,
-    words: &[String],
-    settings: &Settings,
+    request: Request<'_>,
     mut asking: Asking<'a>,
 ) -> Result<Asking<'a>, Fault>
-    requires { IsOpening settings.now asking }
-    ensures begun { IfOk result (IsSessionBegun true settings.now) }
+    requires { IsOpening request.settings asking }
+    ensures begun { IfOk result (IsSessionBegun true request.entry.settings) }
     ensures hindrance { IfErr result (IsHindrance true) }
 {
-    let alloc = rt.alloc();
-    let Ok(line) = borrow_words(alloc, words) else {
-        return Err(Fault::Memory);
-    };
-    let Some(path) = path_option(alloc, line.as_slice(), "from") else {
+    let Some(path) = request.path else {
         return Err(Fault::Memory);
     };
     let Ok(file) = fs::open(rt, path) else {
         return Err(Fault::From);
     };
-    match load_lines(rt, alloc, path, file, &mut asking, settings.time) {
+    let (alloc, time) = (rt.alloc(), request.settings.time);
+    match load_lines(rt, alloc, path, file, &mut asking, time) {
         Ok(_) => Ok(asking),
         Err(_) => Err(Fault::Memory),
     }

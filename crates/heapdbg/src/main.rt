@@ -11,6 +11,7 @@ mod fetch;
 mod folder;
 mod opening;
 mod progress;
+mod request;
 mod save;
 mod serve;
 mod task;

@@ -6,9 +6,8 @@ ghost use Rattle.heapdbg.specs.SaveOutcomes.{IsSavedAs, IsSavedTo, save_outcome}
 use crate::explore::open;
 use crate::failure::{Fault, outcome};
 use crate::opening::open_local;
-use crate::progress::TerminalGauge;
 use dump_pump::{Outlet, Pumped, WriteOutlet};
-use heap_save::{Outlets, save_after, save_into};
+use heap_save::{LastDump, Outlets, save_after, save_into};
 use heapdbg_options::settings::Settings;
 use pin_dump::Gauge;
 use question_text::{Watch, serve_asking};
@@ -18,7 +17,6 @@ use std::fs::Files;
 use std::net::{Ipv4Addr, Net, TcpStream};
 use std::sync::Wait;
 use std::thread::Threads;
-use std::time::Clock;
 
 // A file that is made, or cut to nothing if it is there.
 #[derive(Drop)]
@@ -67,19 +65,18 @@ struct Destination<P> {
     unmade: Fault,
 }
 
-/// Runs a session and dumps the state that it leaves to a file. Shows the progress of the dump on standard error if that is a
-/// terminal. Fails as a session does, with Out if the file can't be made or a write to it fails, and with Lost if the dump is
-/// lost. May wait.
-pub fn save_out<R, I: Inlet, O: Outlet>(
+/// Runs a session and dumps the state that it leaves to a file, which a gauge sees. Fails as a session does, with Out if the
+/// file can't be made or a write to it fails, and with Lost if the dump is lost. May wait.
+pub fn save_out<R, I: Inlet, O: Outlet, G: Gauge>(
     rt: &R,
     settings: &Settings,
     path: &str,
     reader: &mut I,
     writer: &mut O,
-    is_terminal: bool,
+    gauge: &mut G,
 ) -> Result<(), Fault>
 where
-    R: AllocGlobal + Clock + Eprint + Files + Threads + Wait + Sync,
+    R: AllocGlobal + Files + Threads + Wait + Sync,
     requires { AreHeapSettings settings.now.regions settings.now.mutators settings.now.keep }
     ensures { IsSavedTo Fault.Out settings.now (I.seen reader.old) (I.seen reader.new)
         (O.seen writer.old) (O.seen writer.new) result }
@@ -88,23 +85,21 @@ where
         place: OutFile { rt, path },
         unmade: Fault::Out,
     };
-    let mut gauge = TerminalGauge::new(rt, rt.alloc(), settings.ids, is_terminal);
-    save(rt, settings, reader, writer, to, &mut gauge)
+    save(rt, settings, reader, writer, to, gauge)
 }
 
-/// Runs a session and dumps the state that it leaves to a port. Shows the progress of the dump on standard error if that is a
-/// terminal. Fails as a session does, with Connect if no connection can be made, with Out if a write to it fails, and with
-/// Lost if the dump is lost. May wait.
-pub fn save_to<R, I: Inlet, O: Outlet>(
+/// Runs a session and dumps the state that it leaves to a port, which a gauge sees. Fails as a session does, with Connect if no
+/// connection can be made, with Out if a write to it fails, and with Lost if the dump is lost. May wait.
+pub fn save_to<R, I: Inlet, O: Outlet, G: Gauge>(
     rt: &R,
     settings: &Settings,
     port: u16,
     reader: &mut I,
     writer: &mut O,
-    is_terminal: bool,
+    gauge: &mut G,
 ) -> Result<(), Fault>
 where
-    R: AllocGlobal + Clock + Eprint + Net + Threads + Wait + Sync,
+    R: AllocGlobal + Net + Threads + Wait + Sync,
     requires { AreHeapSettings settings.now.regions settings.now.mutators settings.now.keep }
     ensures { IsSavedTo Fault.Connect settings.now (I.seen reader.old) (I.seen reader.new)
         (O.seen writer.old) (O.seen writer.new) result }
@@ -113,8 +108,7 @@ where
         place: Peer { rt, port },
         unmade: Fault::Connect,
     };
-    let mut gauge = TerminalGauge::new(rt, rt.alloc(), settings.ids, is_terminal);
-    save(rt, settings, reader, writer, to, &mut gauge)
+    save(rt, settings, reader, writer, to, gauge)
 }
 
 // Runs a session, in which questions are answered if the settings say so, and dumps the state that it leaves into the outlet of
@@ -162,7 +156,8 @@ fn save_session<
         Ok(mut local) => {
             let Destination { place, unmade } = to;
             let time = settings.time;
-            let saved = save_into(rt, alloc, &mut local, reader, writer, place, gauge, time);
+            let dump = LastDump { place, gauge, time };
+            let saved = save_into(rt, alloc, &mut local, reader, writer, dump);
             save_outcome(unmade, saved.outlet.is_some(), saved.ended, saved.pumped)
         }
         Err(fault) => Err(fault),
@@ -194,9 +189,9 @@ fn save_asking<
         Ok(mut asking) => {
             let Destination { place, unmade } = to;
             let time = settings.time;
+            let dump = LastDump { place, gauge, time };
             let ended = serve_asking(alloc, reader, writer, &mut asking, time);
-            let local = &mut asking.local;
-            let saved = save_after(rt, alloc, ended, local, writer, place, gauge, time);
+            let saved = save_after(rt, alloc, ended, &mut asking.local, writer, dump);
             save_outcome(unmade, saved.outlet.is_some(), saved.ended, saved.pumped)
         }
         Err(fault) => Err(fault),

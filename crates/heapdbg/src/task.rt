@@ -14,6 +14,8 @@ use crate::failure::{Failure, Fault, outcome};
 use crate::fetch::fetch_port;
 use crate::folder::has_folder;
 use crate::opening::open_local;
+use crate::progress::TerminalGauge;
+use crate::request::Request;
 use crate::save::{save_out, save_to};
 use crate::serve::{Service, serve_port};
 use crate::terminals::{Screen, Terminals};
@@ -23,6 +25,7 @@ use heapdbg_options::command_line::{path_option, settings};
 use heapdbg_options::line_words::borrow_words;
 use heapdbg_options::refusal::bad;
 use heapdbg_options::settings::{LineFault, Settings, Target, Task};
+use pin_dump::Gauge;
 use question_text::Watch;
 use session_text::{Inlet, ReadInlet, serve_local};
 use std::alloc::Global;
@@ -115,16 +118,40 @@ where
     ensures { IsPerformed (map string_bytes words.now) (I.seen reader.old) (I.seen reader.new)
         (O.seen writer.old) (O.seen writer.new) result }
 {
-    let asked = settings_of_words(rt.alloc(), words)?;
-    work(rt, words, &asked, reader, input, writer, screen)?;
+    let alloc = rt.alloc();
+    let settings = settings_of_words(alloc, words)?;
+    let line = line_of_words(alloc, words)?;
+    let path = path_of_task(alloc, line.as_slice(), settings.task);
+    let request = Request { settings, path };
+    work(rt, request, reader, input, writer, screen)?;
     Ok(())
+}
+
+// Returns the words as text. Fails with Memory.
+fn line_of_words<'a>(alloc: Global, words: &'a [String]) -> Result<Vec<&'a str>, LineFault>
+    ensures { IfErr result (IsRefusalOf (map string_bytes words.now)) }
+{
+    match borrow_words(alloc, words) {
+        Ok(line) => Ok(line),
+        Err(_) => Err(LineFault::Memory),
+    }
+}
+
+// Returns the path of the task's file, or None if the task has no file or an allocation fails.
+fn path_of_task<'a>(alloc: Global, line: &'a [&'a str], task: Task) -> Option<&'a str> {
+    match task {
+        Task::Explore { from: true } => path_option(alloc, line, "from"),
+        Task::Draw | Task::Save(Target::Out) | Task::Fetch { port: _ } => {
+            path_option(alloc, line, "out")
+        }
+        _ => None,
+    }
 }
 
 // Does the task of the settings, which the words ask for.
 fn work<R, I: Inlet + Send, J: Inlet + Send + Drop + 'static, O: Outlet>(
     rt: &R,
-    words: &[String],
-    asked: &Settings,
+    request: Request<'_>,
     reader: &mut I,
     input: J,
     writer: &mut O,
@@ -133,18 +160,20 @@ fn work<R, I: Inlet + Send, J: Inlet + Send + Drop + 'static, O: Outlet>(
 where
     R: Net<Listener = TcpListener, Stream = TcpStream> + Threads + Wait,
     R: AllocGlobal + Clock + Eprint + Files + Copy + Send + Sync + Drop + 'static,
-    requires { AreSettingsWithin asked.now }
-    ensures { IsTaskDone asked.now.task asked.now (I.seen reader.old) (I.seen reader.new)
-        (O.seen writer.old) (O.seen writer.new) result }
+    requires { AreSettingsWithin request.settings }
+    ensures { IsTaskDone request.entry.settings.task request.entry.settings (I.seen reader.old)
+        (I.seen reader.new) (O.seen writer.old) (O.seen writer.new) result }
 {
     let alloc = rt.alloc();
-    let is_terminal = screen.is_terminal;
-    match asked.task {
-        Task::Run => run(rt, words, asked, screen.watch, reader, writer),
-        Task::Explore { from } => { explore(rt, words, asked, from, screen.watch, reader, writer) }
-        Task::Draw => draw(rt, alloc, words, asked, reader, writer),
-        Task::Save(Target::Out) => save_named(rt, words, asked, reader, writer, is_terminal),
-        Task::Save(Target::To(to)) => save_to(rt, asked, to, reader, writer, is_terminal),
+    let Request { settings, path } = request;
+    let Screen { is_terminal, watch } = screen;
+    let mut gauge = TerminalGauge::new(rt, alloc, settings.ids, is_terminal);
+    match settings.task {
+        Task::Run => run(rt, request, watch, reader, writer),
+        Task::Explore { from } => explore(rt, request, from, watch, reader, writer),
+        Task::Draw => draw(rt, alloc, request, reader, writer),
+        Task::Save(Target::Out) => save_named(rt, request, reader, writer, &mut gauge),
+        Task::Save(Target::To(to)) => save_to(rt, &settings, to, reader, writer, &mut gauge),
         Task::Serve {
             port,
             sessions,
@@ -152,10 +181,10 @@ where
             dumps,
         } => {
             let service = Service::new(port, dumps, sessions, workers);
-            serve_port(rt, alloc, asked, service, writer, is_terminal)
+            serve_port(rt, alloc, &settings, service, writer, is_terminal)
         }
         Task::Ask { port } => ask_port(rt, alloc, port, input, writer),
-        Task::Fetch { port } => fetch_named(rt, alloc, words, port, writer, is_terminal),
+        Task::Fetch { port } => fetch_named(rt, path, port, writer, is_terminal),
     }
 }
 
@@ -188,20 +217,20 @@ fn settings_of_words(alloc: Global, words: &[String]) -> Result<Settings, LineFa
 // Runs one session over a private heap, in which questions are answered if the settings say so.
 fn run<R: AllocGlobal + Eprint + Files, I: Inlet, O: Outlet>(
     rt: &R,
-    words: &[String],
-    settings: &Settings,
+    request: Request<'_>,
     watch: &Watch,
     reader: &mut I,
     writer: &mut O,
 ) -> Result<(), Fault>
-    requires { AreHeapSettings settings.now.regions settings.now.mutators settings.now.keep }
-    ensures { IsRunWith settings.now.questions settings.now (I.seen reader.old) (I.seen reader.new)
-        (O.seen writer.old) (O.seen writer.new) result }
+    requires { AreHeapSettings request.settings.regions request.settings.mutators
+        request.settings.keep }
+    ensures { IsRunWith request.entry.settings.questions request.entry.settings (I.seen reader.old)
+        (I.seen reader.new) (O.seen writer.old) (O.seen writer.new) result }
 {
-    if settings.questions {
-        explore(rt, words, settings, false, watch, reader, writer)
+    if request.settings.questions {
+        explore(rt, request, false, watch, reader, writer)
     } else {
-        session(rt.alloc(), settings, reader, writer)
+        session(rt.alloc(), &request.settings, reader, writer)
     }
 }
 
@@ -222,41 +251,35 @@ fn session<I: Inlet, O: Outlet>(
     }
 }
 
-// Runs one session over a private heap, and dumps its last state to the file that the words name. Fails with Out, before the
-// session, if the folder of that file is not there.
-fn save_named<R, I: Inlet, O: Outlet>(
+// Runs one session over a private heap, and dumps its last state to the file of the path. Fails with Out, before the session, if
+// the folder of that file is not there.
+fn save_named<R, I: Inlet, O: Outlet, G: Gauge>(
     rt: &R,
-    words: &[String],
-    settings: &Settings,
+    request: Request<'_>,
     reader: &mut I,
     writer: &mut O,
-    is_terminal: bool,
+    gauge: &mut G,
 ) -> Result<(), Fault>
 where
-    R: AllocGlobal + Clock + Eprint + Files + Threads + Wait + Sync,
-    requires { AreHeapSettings settings.now.regions settings.now.mutators settings.now.keep }
-    ensures { IsSavedOut settings.now (I.seen reader.old) (I.seen reader.new) (O.seen writer.old)
-        (O.seen writer.new) result }
+    R: AllocGlobal + Files + Threads + Wait + Sync,
+    requires { AreHeapSettings request.settings.regions request.settings.mutators
+        request.settings.keep }
+    ensures { IsSavedOut request.entry.settings (I.seen reader.old) (I.seen reader.new)
+        (O.seen writer.old) (O.seen writer.new) result }
 {
-    let alloc = rt.alloc();
-    let Ok(line) = borrow_words(alloc, words) else {
-        return Err(Fault::Memory);
-    };
-    match path_option(alloc, line.as_slice(), "out") {
+    match request.path {
         Some(path) if has_folder(rt, path) => {
-            save_out(rt, settings, path, reader, writer, is_terminal)
+            save_out(rt, &request.settings, path, reader, writer, gauge)
         }
         Some(_) => Err(Fault::Out),
         None => Err(Fault::Memory),
     }
 }
 
-// Fetches a dump from a port into the file that the words name. Fails with Out, before it connects, if the folder of that file is
-// not there.
+// Fetches a dump from a port into the file of a path. Fails with Out, before it connects, if the folder of that file is not there.
 fn fetch_named<R, O: Outlet>(
     rt: &R,
-    alloc: Global,
-    words: &[String],
+    path: Option<&str>,
     port: u16,
     writer: &mut O,
     is_terminal: bool,
@@ -265,10 +288,7 @@ where
     R: Clock + Eprint + Files + Net + Wait,
     ensures { IsDumpFetched (O.seen writer.old) (O.seen writer.new) result }
 {
-    let Ok(line) = borrow_words(alloc, words) else {
-        return Err(Fault::Memory);
-    };
-    match path_option(alloc, line.as_slice(), "out") {
+    match path {
         Some(path) if has_folder(rt, path) => fetch_port(rt, port, path, writer, is_terminal),
         Some(_) => Err(Fault::Out),
         None => Err(Fault::Memory),

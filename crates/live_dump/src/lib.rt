@@ -8,4 +8,4 @@ pub mod streams;
 pub use dump_pipe::{AskSeat, FeedSeat, Meter, NewMeter, OutSeat, ReadSeat};
 pub use laws::streams_are_text;
 pub use source::ToldSource;
-pub use streams::stream;
+pub use streams::{LivePin, StreamSeats, stream};

@@ -7,49 +7,81 @@ ghost use Rattle.heap_lock.specs.Calls.{IsLegalLedger};
 ghost use Rattle.live_dump.specs.Streams.{PutsLive};
 
 use crate::source::ToldSource;
-use dump_pipe::{FeedSeat, Meter, OutSeat, Watched, stream_parts};
+use dump_pipe::{Counter, FeedSeat, Meter, OutSeat, Watched, stream_parts};
 use dump_pump::{Outlet, Pumped};
 use heap_lock::{Heap, Shared, Witness};
 use std::alloc::Global;
 use std::sync::Wait;
 use std::thread::Threads;
 
+/// A pin of a shared heap that is to be dumped.
+#[derive(Drop)]
+pub struct LivePin<'a, L: Heap> {
+    /// The heap.
+    pub shared: &'a Shared<L>,
+    /// The witness that sees the requests for the pin's pieces.
+    pub witness: Witness<L>,
+    /// The number of the pin.
+    pub pin: u64,
+    /// The time in the header of the dump, in milliseconds.
+    pub time: u64,
+}
+
+/// A meter, and those of its seats that a stream needs.
+#[derive(Drop)]
+pub struct StreamSeats<'a> {
+    /// The meter.
+    pub meter: &'a Meter,
+    /// The seat that adds the bytes that are out.
+    pub out: OutSeat,
+    /// The seat that looks whether anybody asked to cancel.
+    pub feed: FeedSeat,
+    ghost adds: { out.meter ≡ meter.now },
+    ghost looks: { feed.meter ≡ meter.now },
+}
+
 /// Puts out the dump of a pin of a shared heap. A thread of its own asks for the pieces, with the lock for one at a time, and
 /// looks before each whether anybody asked to cancel; the caller's thread puts them out, with no lock. So others act on the heap
 /// while a piece is written. Without a pipe or such a thread the caller's does both. What is put out is added to the out seat.
-/// Returns the seat that looked, too, and the witness, which has seen the requests. May wait. Both seats are the meter's, and
-/// the out seat has room for a dump.
-pub fn stream<L: Heap + Send + Sync, O: Outlet, R: Threads + Wait + Sync>(
+/// Returns the seats, too, and the witness, which has seen the requests. May wait. The out seat has room for a dump.
+pub fn stream<'m, L: Heap + Send + Sync, O: Outlet, R: Threads + Wait + Sync>(
     rt: &R,
     alloc: Global,
-    shared: &Shared<L>,
-    witness: Witness<L>,
-    pin: u64,
-    time: u64,
+    from: LivePin<'_, L>,
     outlet: &mut O,
-    meter: &Meter,
-    out: &mut OutSeat,
-    feed: FeedSeat,
-) -> (Pumped, FeedSeat, Witness<L>)
-    requires out { out.old.meter ≡ meter.now }
-    requires feed { feed.meter ≡ meter.now }
-    requires room { out.old.sum + byte_limit < 2 ^ 64 }
-    ensures put { PutsLive L.config pin time witness result.2 result.1.found (O.seen outlet.old)
-        (O.seen outlet.new) result.0 }
+    seats: StreamSeats<'m>,
+) -> (Pumped, StreamSeats<'m>, Witness<L>)
+    requires { seats.out.sum + byte_limit < 2 ^ 64 }
+    ensures put { PutsLive L.config from.entry.pin from.entry.time from.entry.witness result.2
+        result.1.feed.found (O.seen outlet.old) (O.seen outlet.new) result.0 }
     ensures legal { IsLegalLedger L.config result.2 }
-    ensures out { out.new ≡ sum meter.now (out.old.sum + bytes_of result.0) }
-    ensures feed { result.1.meter ≡ meter.now }
+    ensures meter { result.1.meter.now ≡ seats.entry.meter.now }
+    ensures out { result.1.out
+        ≡ sum seats.entry.meter.now (seats.entry.out.sum + bytes_of result.0) }
 {
+    let LivePin {
+        shared,
+        witness,
+        pin,
+        time,
+    } = from;
+    let StreamSeats { meter, out, feed } = seats;
     let mut source = Watched {
         source: ToldSource::new(shared, rt, witness, pin, time),
         cancel: meter.cancel(),
         seat: feed,
     };
-    let pumped = stream_parts(rt, alloc, &mut source, outlet, &meter.progress(), out);
+    let mut counter = Counter::new(meter.progress(), out);
+    let pumped = stream_parts(rt, alloc, &mut source, outlet, &mut counter);
     let Watched {
         source: told,
         cancel: _,
         seat,
     } = source;
-    (pumped, seat, told.into_witness())
+    let seats = StreamSeats {
+        meter,
+        out: counter.into_seat(),
+        feed: seat,
+    };
+    (pumped, seats, told.into_witness())
 }

@@ -24,7 +24,7 @@ use Rattle.pin_dump.specs.PinDumps.{PutsPin, PutsText, IsPlaceDumped, DumpsUnles
 use Rattle.pin_dump.proofs.PieceGiving.{next_is}
 use Rattle.pin_dump.proofs.PumpedPins.{puts}
 use Rattle.pin_dump.proofs.DumpPins.{Opens, opens_at, placed, number_used}
-use Rattle.pin_dump.specs.FreshSupplies.{fresh_supply, fresh_pinned}
+use Rattle.pin_dump.specs.FreshSupplies.{IsFresh, fresh_supply, fresh_pinned}
 use Rattle.pin_dump.specs.Streams.{StreamsPin}
 
 -- ---- the source
@@ -83,6 +83,20 @@ placed_by m n k l pin time w w' r reply all o (inl p) same is = placed m n k l p
 placed_by m n k l pin time w w' r reply all o (inr t) same is =
     subst (λ q. IsPlaceDumped time m l w w' q) (sym t.0) (none_out time m l w w' (number_used m n k l pin reply all o same is) t.1 o.free)
 
+-- the same of a source whose machine, pin and time are told, and of the machine that is left
+pub placed_from : (m n n0 k l left : Machine) (pin pin0 time time0 : ℕ) (w w' : Outgoing) (r : Pumped) (reply : Reply) → left ≡ l → AreNumbered m.pins → Opens m n pin → n0 ≡ n → pin0 ≡ pin → time0 ≡ time → StreamsPin pin0 time0 n0 w w' r
+    → ungiven pin0 k ≡ ungiven pin0 n0 → acted k (ClosePin pin) ≡ (l, reply) → IsPlaceDumped time m left w w' r
+placed_from m n n0 k l left pin pin0 time time0 w w' r reply last all o ms pins times p same is =
+    subst (λ q. IsPlaceDumped time m q w w' r) (sym last)
+    (placed_by m n k l pin time w w' r reply all o
+    (subst (λ (q : ℕ × ℕ × Machine). StreamsPin q.0 q.1 q.2 w w' r) (λ i. (pins i, times i, ms i)) p)
+    (subst (λ (q : ℕ × Machine). ungiven q.0 k ≡ ungiven q.0 q.1) (λ i. (pins i, ms i)) same)
+    is)
+
 -- a pin that was just opened has given nothing
 pub opens_fresh : (m n : Machine) (pin : ℕ) → AreNumbered m.pins → Opens m n pin → given_of (pin_at pin n.pins) ≡ 0
 opens_fresh m n pin all o = ap given_of (opens_at m n pin all o)
+
+-- and a source of it is fresh
+pub source_fresh : (m n n0 : Machine) (pin pin0 count : ℕ) (ended : Option Ending) → AreNumbered m.pins → Opens m n pin → n0 ≡ n → pin0 ≡ pin → count ≡ 0 → ended ≡ None → IsFresh pin0 n0 count ended
+source_fresh m n n0 pin pin0 count ended all o ms pins none going = ((λ i. given_of (pin_at (pins i) (ms i).pins)) ∙ opens_fresh m n pin all o, none, going)

@@ -32,15 +32,15 @@ impl Gauge for Silent {
 
 // An outlet that shows a gauge the progress after each put. Contracts see what they see of the outlet.
 #[derive(Drop)]
-pub(crate) struct Shown<'a, O: Outlet, G: Gauge> {
+pub(crate) struct Shown<'g, 'm, O: Outlet, G: Gauge> {
     pub(crate) outlet: O,
-    pub(crate) gauge: &'a mut G,
-    pub(crate) progress: Progress<'a>,
+    pub(crate) gauge: &'g mut G,
+    pub(crate) progress: Progress<'m>,
     pub(crate) seat: ReadSeat,
     pub(crate) ghost met: { seat.meter ≡ progress },
 }
 
-impl<'a, O: Outlet, G: Gauge> Outlet for Shown<'a, O, G> {
+impl<'g, 'm, O: Outlet, G: Gauge> Outlet for Shown<'g, 'm, O, G> {
     ghost seen = { λ s. O.seen s.outlet };
 
     fn put(&mut self, given: &[u8]) -> Put {

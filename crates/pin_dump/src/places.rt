@@ -2,15 +2,16 @@
 ghost use Rattle.std.specs.Prelude.{◌≡◌, All, length};
 ghost use Rattle.dump_pump.specs.Pumps.{bytes_of};
 ghost use Rattle.dump_pipe.specs.Seats.{sum, sum_read};
-ghost use Rattle.heap_trail.specs.Pins.{pin_at};
-ghost use Rattle.pin_dump.specs.HandedPieces.{given_of, ungiven};
+ghost use Rattle.pin_dump.specs.FreshSupplies.{IsFresh};
+ghost use Rattle.pin_dump.specs.HandedPieces.{ungiven};
 ghost use Rattle.pin_dump.specs.PinDumps.{IsPlaceDumped, PutsPin};
 ghost use Rattle.pin_dump.specs.Streams.{StreamsPin};
 
+use crate::fresh_source::FreshSource;
 use crate::gauge::{Gauge, Shown};
 use crate::pin_source::cause_of;
 use crate::streams::stream_pin;
-use dump_pipe::{Meter, NewMeter, OutSeat, ReadSeat};
+use dump_pipe::{Counter, Meter, NewMeter, OutSeat, ReadSeat};
 use dump_pump::{Outlet, Pumped};
 use heap_class::LostCause;
 use heap_trail::Machine;
@@ -18,73 +19,85 @@ use std::alloc::Global;
 use std::sync::Wait;
 use std::thread::Threads;
 
+// A meter, and those of its seats that a gauge's stream needs.
+#[derive(Drop)]
+struct GaugeSeats<'m> {
+    meter: &'m Meter,
+    out: OutSeat,
+    reader: ReadSeat,
+}
+
 // Streams a pin by a meter, whose progress a gauge sees after each put.
-fn stream_seen<'a, O: Outlet, G: Gauge, R: Threads + Wait + Sync>(
+fn stream_seen<'a, 'g, 'm, O: Outlet, G: Gauge, R: Threads + Wait + Sync>(
     rt: &R,
     alloc: Global,
-    machine: &mut Machine,
-    pin: u64,
-    time: u64,
+    source: FreshSource<'a>,
     outlet: O,
-    gauge: &'a mut G,
-    meter: &'a Meter,
-    out: &mut OutSeat,
-    seat: ReadSeat,
-) -> (Pumped, O)
-    requires fresh { given_of (pin_at pin machine.old.pins) ≡ 0 }
-    requires out { out.old ≡ sum meter.now 0 }
-    requires seat { seat.meter ≡ meter.now }
-    ensures put { PutsPin pin time machine.old (O.seen outlet) (O.seen result.1) result.0 }
-    ensures same { ungiven pin machine.new ≡ ungiven pin machine.old }
+    gauge: &'g mut G,
+    seats: GaugeSeats<'m>,
+) -> (Pumped, FreshSource<'a>, O)
+    requires fresh { IsFresh source.pin source.machine.now source.count source.ended }
+    requires out { seats.out ≡ sum seats.meter.now 0 }
+    requires reader { seats.reader.meter ≡ seats.meter.now }
+    ensures put { PutsPin source.entry.pin source.entry.time source.entry.machine.now
+        (O.seen outlet) (O.seen result.2) result.0 }
+    ensures same { ungiven source.entry.pin result.1.machine.now
+        ≡ ungiven source.entry.pin source.entry.machine.now }
+    ensures machine { result.1.machine.ghost_name ≡ source.entry.machine.ghost_name }
 {
-    let progress = meter.progress();
+    let GaugeSeats { meter, out, reader } = seats;
+    let mut counter = Counter::new(meter.progress(), out);
     let mut shown = Shown {
         outlet,
         gauge,
         progress: meter.progress(),
-        seat,
+        seat: reader,
     };
-    let pumped = stream_pin(rt, alloc, machine, pin, time, &mut shown, &progress, out);
+    let (pumped, after) = stream_pin(rt, alloc, source, &mut shown, &mut counter);
     let Shown {
         outlet: taken,
         gauge: _gauge,
         progress: _,
         seat: _,
     } = shown;
-    (pumped, taken)
+    (pumped, after, taken)
 }
 
 // Streams a pin by a new meter, whose progress a gauge sees.
-fn stream_metered<O: Outlet, G: Gauge, R: Threads + Wait + Sync>(
+fn stream_metered<'a, O: Outlet, G: Gauge, R: Threads + Wait + Sync>(
     rt: &R,
     alloc: Global,
-    machine: &mut Machine,
-    pin: u64,
-    time: u64,
+    source: FreshSource<'a>,
     outlet: O,
     gauge: &mut G,
     made: NewMeter,
-) -> (Pumped, O)
-    requires fresh { given_of (pin_at pin machine.old.pins) ≡ 0 }
+) -> (Pumped, FreshSource<'a>, O)
+    requires fresh { IsFresh source.pin source.machine.now source.count source.ended }
     requires out { made.out ≡ sum made.meter 0 }
     requires reader_count { length made.readers.items ≡ 1 }
     requires readers { All (λ s. s ≡ sum_read made.meter 0) made.readers.items }
-    ensures put { PutsPin pin time machine.old (O.seen outlet) (O.seen result.1) result.0 }
-    ensures same { ungiven pin machine.new ≡ ungiven pin machine.old }
+    ensures put { PutsPin source.entry.pin source.entry.time source.entry.machine.now
+        (O.seen outlet) (O.seen result.2) result.0 }
+    ensures same { ungiven source.entry.pin result.1.machine.now
+        ≡ ungiven source.entry.pin source.entry.machine.now }
+    ensures machine { result.1.machine.ghost_name ≡ source.entry.machine.ghost_name }
 {
     let NewMeter {
         meter,
-        mut out,
+        out,
         mut readers,
         askers: _,
         feed: _,
     } = made;
-    let Some(seat) = readers.pop() else {
+    let Some(reader) = readers.pop() else {
         unreachable!()
     };
-    stream_seen(
-        rt, alloc, machine, pin, time, outlet, gauge, &meter, &mut out, seat,
-    )
+    let seats = GaugeSeats {
+        meter: &meter,
+        out,
+        reader,
+    };
+    stream_seen(rt, alloc, source, outlet, gauge, seats)
 }
 
 // Returns the number of bytes that are out.
@@ -100,30 +113,31 @@ fn bytes_of(pumped: Pumped) -> u64
 }
 
 // Streams a pin, and shows a gauge its progress. The dump is lost by Memory, with 0 bytes, if a meter can't be allocated.
-fn stream_shown<O: Outlet, G: Gauge, R: Threads + Wait + Sync>(
+fn stream_shown<'a, O: Outlet, G: Gauge, R: Threads + Wait + Sync>(
     rt: &R,
     alloc: Global,
-    machine: &mut Machine,
-    pin: u64,
-    time: u64,
+    source: FreshSource<'a>,
     outlet: O,
     gauge: &mut G,
-) -> (Pumped, O)
-    requires fresh { given_of (pin_at pin machine.old.pins) ≡ 0 }
-    ensures put { StreamsPin pin time machine.old (O.seen outlet) (O.seen result.1) result.0 }
-    ensures same { ungiven pin machine.new ≡ ungiven pin machine.old }
+) -> (Pumped, FreshSource<'a>, O)
+    requires fresh { IsFresh source.pin source.machine.now source.count source.ended }
+    ensures put { StreamsPin source.entry.pin source.entry.time source.entry.machine.now
+        (O.seen outlet) (O.seen result.2) result.0 }
+    ensures same { ungiven source.entry.pin result.1.machine.now
+        ≡ ungiven source.entry.pin source.entry.machine.now }
+    ensures machine { result.1.machine.ghost_name ≡ source.entry.machine.ghost_name }
 {
     let Ok(made) = Meter::new(alloc, 1, 0) else {
         let lost = Pumped::Lost {
             cause: LostCause::Memory,
             bytes: 0,
         };
-        return (lost, outlet);
+        return (lost, source, outlet);
     };
-    gauge.begin(&*machine);
-    let (pumped, taken) = stream_metered(rt, alloc, machine, pin, time, outlet, gauge, made);
+    gauge.begin(&*source.machine);
+    let (pumped, after, taken) = stream_metered(rt, alloc, source, outlet, gauge, made);
     gauge.end(bytes_of(pumped));
-    (pumped, taken)
+    (pumped, after, taken)
 }
 
 /// Puts out the dump of the current state: opens a pin on it, streams its pieces by pages, and closes it. If the pin is
@@ -144,9 +158,17 @@ pub fn stream_place<O: Outlet, G: Gauge, R: Threads + Wait + Sync>(
     machine.next_pin();
     match machine.open_pin(None) {
         Ok(opened) => {
-            let streamed = stream_shown(rt, alloc, machine, opened.pin, time, outlet, gauge);
+            let source = FreshSource::new(machine, opened.pin, time);
+            let (pumped, after, outlet) = stream_shown(rt, alloc, source, outlet, gauge);
+            let FreshSource {
+                machine,
+                pin: _,
+                time: _,
+                count: _,
+                ended: _,
+            } = after;
             let _closed = machine.close_pin(opened.pin);
-            streamed
+            (pumped, outlet)
         }
         Err(refusal) => (
             Pumped::Lost {

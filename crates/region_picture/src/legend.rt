@@ -33,18 +33,25 @@ fn add_sample(text: &mut Vec<u8>, y: u64, color: &[u8], width: &[u8]) -> Result<
     add_text_at(text, LEFT + 24, y)
 }
 
-// Appends the line of a row of a histogram, in the colour of this number.
+// A row of a histogram: its number, that of its colour, and what it counts.
+#[derive(Clone, Copy)]
+pub(crate) struct ColoredRow {
+    pub(crate) index: usize,
+    pub(crate) color: usize,
+    pub(crate) row: Row,
+}
+
+// Appends the line of a row of a histogram.
 pub(crate) fn add_row(
     alloc: Global,
     text: &mut Vec<u8>,
     y: u64,
-    color: usize,
     classes: &FirstClasses<'_>,
-    index: usize,
-    row: Row,
+    colored: ColoredRow,
 ) -> Result<(), Refusal>
-    requires { index < class_rows + length classes.now }
+    requires { colored.index < class_rows + length classes.now }
 {
+    let ColoredRow { index, color, row } = colored;
     let shade = if color < OTHER {
         COLORS[color]
     } else {

@@ -3,7 +3,7 @@ use crate::cells::{
     CellSort, LEFT, add_all_cells, add_gray, add_path_begin, add_path_end, middle_of,
 };
 use crate::colors::{COLORS, OTHER, Palette};
-use crate::legend::{LEGEND_STEP, OTHER_LINES, add_row, add_strokes};
+use crate::legend::{ColoredRow, LEGEND_STEP, OTHER_LINES, add_row, add_strokes};
 use crate::text::{add, add_number, add_text_at};
 use heap_class::{FirstClasses, Refusal};
 use heap_questions::{CLASS_ROWS, Row, count_by_class, ranking};
@@ -113,7 +113,13 @@ fn add_rows(
     let mut color = 0;
     for index in ranked {
         if color < OTHER && *index < count {
-            add_row(alloc, text, y, color, classes, *index, rows[*index])?;
+            let row = rows[*index];
+            let colored = ColoredRow {
+                index: *index,
+                color,
+                row,
+            };
+            add_row(alloc, text, y, classes, colored)?;
             color += 1;
             y = y.saturating_add(LEGEND_STEP);
         }

@@ -2,7 +2,7 @@
 use crate::examples::{DUMP_OF_ONE_POINT, POINT, POINT_MADE};
 use crate::sessions::local;
 use dump_pump::{Pumped, WriteOutlet};
-use heap_save::{Outlets, Saved, save_into};
+use heap_save::{LastDump, Outlets, Saved, save_into};
 use pin_dump::{Gauge, Silent};
 use session_text::{Ended, Local, ReadInlet};
 use std::alloc::Global;
@@ -52,13 +52,17 @@ pub fn saved<G: Gauge, R: Threads + Wait + Sync>(
 ) -> Outcome {
     let mut inlet = ReadInlet::new(lines.as_bytes());
     let mut outlet = WriteOutlet::new(Vec::new(alloc));
-    let place = Memory { alloc, asked: 0 };
+    let dump = LastDump {
+        place: Memory { alloc, asked: 0 },
+        gauge,
+        time: 0,
+    };
     let Saved {
         ended,
         pumped,
         place,
         outlet: made,
-    } = save_into(rt, alloc, local, &mut inlet, &mut outlet, place, gauge, 0);
+    } = save_into(rt, alloc, local, &mut inlet, &mut outlet, dump);
     let is_made = made.is_some();
     let taken = match made {
         Some(made) => made.into_writer(),

@@ -4,7 +4,7 @@ ghost use Rattle.std.specs.Prelude.{◌≡◌, ◌<◌};
 use crate::parts::{Asking, PinParts, one_point, points, text_of};
 use crate::sinks::reaches;
 use crate::streaming::into_writer;
-use dump_pipe::{AskSeat, Cancel, FeedSeat, Meter, NewMeter, Watched};
+use dump_pipe::{AskSeat, Cancel, Counter, FeedSeat, Meter, NewMeter, Watched};
 use dump_pump::{Pumped, WriteOutlet, pump};
 use std::alloc::Global;
 use std::sync::Wait;
@@ -81,7 +81,7 @@ pub fn cancelled_before<R: Threads + Wait + Sync>(
     let parts = PinParts::open(points(alloc, 30)?)?;
     let NewMeter {
         meter,
-        mut out,
+        out,
         readers: _,
         mut askers,
         feed,
@@ -93,14 +93,8 @@ pub fn cancelled_before<R: Threads + Wait + Sync>(
         cancel: meter.cancel(),
         seat: feed,
     };
-    let (pumped, text) = into_writer(
-        rt,
-        alloc,
-        &mut source,
-        Vec::new(alloc),
-        &meter.progress(),
-        &mut out,
-    );
+    let counter = Counter::new(meter.progress(), out);
+    let (pumped, text) = into_writer(rt, alloc, &mut source, Vec::new(alloc), counter);
     Ok((pumped, text.len()))
 }
 

@@ -8,7 +8,10 @@ ghost use Rattle.dump_pipe.specs.declared.end_view.EndView.TheVariants.{Sends, G
 use crate::parts::{Counted, PinParts, one_point, points};
 use crate::sinks::{Sink, reaches};
 use dump_pipe::start::Start;
-use dump_pipe::{End, Meter, NewMeter, OutSeat, Receiver, Sender, drain_pipe, feed, pipe};
+use dump_pipe::{
+    BothEnds, Counter, End, Knowledge, Meter, NewMeter, OutSeat, Receiver, Sender, drain_pipe,
+    feed, pipe,
+};
 use dump_pump::{Ending, Pumped, WriteOutlet};
 use std::alloc::{AllocError, Global};
 use std::sync::Wait;
@@ -50,10 +53,9 @@ fn drained<R: Wait>(
     requires out { out ≡ sum meter.now 0 }
 {
     let mut end = end;
-    let mut seat = out;
+    let mut counter = Counter::new(meter.progress(), out);
     let mut outlet = WriteOutlet::new(sink);
-    let progress = meter.progress();
-    let pumped = drain_pipe(rt, receiver, &mut end, &mut outlet, &progress, &mut seat);
+    let pumped = drain_pipe(rt, receiver, &mut end, &mut outlet, &mut counter);
     (pumped, outlet.into_writer())
 }
 
@@ -68,7 +70,7 @@ fn by_two<R: Threads + Wait + Sync>(
 ) -> Result<(Ending, PinParts, u64, Pumped, Sink), AllocError>
     requires { 0 < parts.left }
 {
-    let (sender, receiver, one, other) = pipe(alloc)?;
+    let (BothEnds { sender, receiver }, Knowledge { one, other }) = pipe(alloc)?;
     let NewMeter {
         meter,
         out,

@@ -6,7 +6,7 @@ ghost use Rattle.dump_pipe.specs.Seats.{sum, sum_read};
 use crate::parts::{PinParts, points};
 use crate::sinks::{Gated, Sink, reaches};
 use crate::streaming::stream_whole;
-use dump_pipe::{Meter, NewMeter, OutSeat, ReadSeat, pump_counted};
+use dump_pipe::{Counter, Meter, NewMeter, OutSeat, ReadSeat, pump_counted};
 use dump_pump::{Pumped, WriteOutlet};
 use std::alloc::Global;
 use std::sync::Wait;
@@ -106,7 +106,7 @@ fn counted(
 {
     let NewMeter {
         meter,
-        mut out,
+        out,
         mut readers,
         askers: _,
         feed: _,
@@ -117,7 +117,8 @@ fn counted(
         size: usize::MAX,
         most,
     });
-    let pumped = pump_counted(&mut parts, &mut outlet, &meter.progress(), &mut out);
+    let mut counter = Counter::new(meter.progress(), out);
+    let pumped = pump_counted(&mut parts, &mut outlet, &mut counter);
     let read = meter.progress().read(&mut reader);
     Some((pumped, outlet.into_writer().taken.len(), read))
 }

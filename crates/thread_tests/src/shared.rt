@@ -6,7 +6,7 @@ use dump_pipe::{FeedSeat, Meter, OutSeat};
 use dump_pump::{Pumped, WriteOutlet, pump};
 use heap_lock::{Heap, LockedSource, Seat, Shared};
 use heap_scripts::{Event, new, point};
-use live_dump::stream;
+use live_dump::{LivePin, StreamSeats, stream};
 use std::alloc::Global;
 use std::io::Write;
 use std::sync::Wait;
@@ -66,20 +66,15 @@ pub fn streamed<L: Heap + Send + Sync, W: Write + Drop, R: Threads + Wait + Sync
     requires out { out ≡ sum meter.now 0 }
     requires feed { feed.meter ≡ meter.now }
 {
-    let mut seat = out;
-    let mut outlet = WriteOutlet::new(writer);
-    let (pumped, _, _) = stream(
-        rt,
-        alloc,
+    let live = LivePin {
         shared,
-        shared.witness(rt),
+        witness: shared.witness(rt),
         pin,
-        0,
-        &mut outlet,
-        meter,
-        &mut seat,
-        feed,
-    );
+        time: 0,
+    };
+    let seats = StreamSeats { meter, out, feed };
+    let mut outlet = WriteOutlet::new(writer);
+    let (pumped, _, _) = stream(rt, alloc, live, &mut outlet, seats);
     (pumped, outlet.into_writer())
 }
 

@@ -7,7 +7,7 @@ ghost use Rattle.dump_pipe.specs.Pipes.{byte_limit};
 use crate::cancelling::cancelled_before;
 use crate::parts::{PinParts, points};
 use crate::sinks::{Sink, TURNS};
-use dump_pipe::{Meter, NewMeter, OutSeat, Progress, ReadSeat, stream_parts};
+use dump_pipe::{Counter, Meter, NewMeter, OutSeat, Progress, ReadSeat, stream_parts};
 use dump_pump::{Pumped, Source, WriteOutlet};
 use std::alloc::Global;
 use std::io::Write;
@@ -23,15 +23,13 @@ pub fn into_writer<S: Source + Send, W: Write + Drop, R: Threads + Wait + Sync>(
     alloc: Global,
     source: &mut S,
     writer: W,
-    progress: &Progress<'_>,
-    seat: &mut OutSeat,
+    mut counter: Counter<'_>,
 ) -> (Pumped, W)
     requires source { 0 < (S.seen source.old).left }
-    requires meter { seat.old.meter ≡ progress.now }
-    requires room { seat.old.sum + byte_limit < 2 ^ 64 }
+    requires room { counter.sum + byte_limit < 2 ^ 64 }
 {
     let mut outlet = WriteOutlet::new(writer);
-    let pumped = stream_parts(rt, alloc, source, &mut outlet, progress, seat);
+    let pumped = stream_parts(rt, alloc, source, &mut outlet, &mut counter);
     (pumped, outlet.into_writer())
 }
 
@@ -48,8 +46,8 @@ pub fn stream_whole<S: Source + Send + Drop, W: Write + Drop, R: Threads + Wait 
     requires out { out ≡ sum meter.now 0 }
 {
     let mut source = source;
-    let mut seat = out;
-    into_writer(rt, alloc, &mut source, writer, &meter.progress(), &mut seat)
+    let counter = Counter::new(meter.progress(), out);
+    into_writer(rt, alloc, &mut source, writer, counter)
 }
 
 // Streams the dump of points into a sink that fails once it has `most` bytes. Returns how it went, and how many bytes and
@@ -63,7 +61,7 @@ fn through<R: Threads + Wait + Sync>(
     let mut source = PinParts::open(points(alloc, count)?)?;
     let NewMeter {
         meter,
-        mut out,
+        out,
         readers: _,
         askers: _,
         feed: _,
@@ -73,7 +71,8 @@ fn through<R: Threads + Wait + Sync>(
         size: usize::MAX,
         most,
     };
-    let (pumped, sink) = into_writer(rt, alloc, &mut source, sink, &meter.progress(), &mut out);
+    let counter = Counter::new(meter.progress(), out);
+    let (pumped, sink) = into_writer(rt, alloc, &mut source, sink, counter);
     Ok((pumped, sink.taken.len(), source.given()))
 }
 

@@ -8,8 +8,8 @@ overflow_add-total g c =
     let r = room _ _ _ _ _ c.in-Part.piece c.loop.invariant.5 c.in-Part.ensures.room in
     record { fits = omega (arith, r, c.put_all-put.ensures.0, ap (λ (l : List ℕ). length l) c.as_slice.ensures) }
 
-pub add-requires-clause-fits : goal.add-requires-clause-fits
-add-requires-clause-fits g c =
+pub add-requires : goal.add-requires
+add-requires g c =
     let r = room _ _ _ _ _ c.in-Part.piece c.loop.invariant.5 c.in-Part.ensures.room in
     omega (arith, r, c.requires.room, c.loop.invariant.4, c.put_all-put.ensures.0, ap (λ (l : List ℕ). length l) c.as_slice.ensures)
 
@@ -32,7 +32,7 @@ loop-preserved g c =
       tt,
       tt,
       c.in-Part.ensures.end,
-      ap (λ (s : Sum). s.meter) c.add.ensures,
+      ap (λ (s : Sum). s.meter) c.add.ensures ∙ c.loop.invariant.3,
       omega (arith, ap (λ (s : Sum). s.sum) c.add.ensures, c.loop.invariant.4),
       drain_more _ _ _ _ _ _ _ c.in-Part.piece c.put_all-put.result c.loop.invariant.5 c.in-Part.ensures.got all
           (p.1 ∙ ap (λ l. (g.O.Outlet.seen c.loop.outlet).out ++ take c.put_all-put.result l) c.as_slice.ensures)

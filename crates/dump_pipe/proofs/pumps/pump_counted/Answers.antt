@@ -36,6 +36,6 @@ loop-piece-preserved g c =
           (p.1 ∙ ap (λ l. (g.O.Outlet.seen c.loop-piece.outlet).out ++ take c.put_all-put.result l) c.as_slice.ensures)
           (p.2 (all ∙ sym a)),
       c.in-Part.ensures.kept ∙ i.1,
-      ap (λ (s : Sum). s.meter) c.add.ensures,
+      ap (λ (s : Sum). s.meter) c.add.ensures ∙ i.2,
       omega (arith, ap (λ (s : Sum). s.sum) c.add.ensures, i.3),
     )

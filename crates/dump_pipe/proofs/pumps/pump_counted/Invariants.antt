@@ -5,7 +5,7 @@ use Rattle.dump_pipe.proofs.pumps.pump_counted.Given as goal
 abbrev pub invariant-loop-piece : goal.invariant-loop-piece
 invariant-loop-piece g l =
     IsOpen (g.S.Source.seen l.initial.source) (g.S.Source.seen l.source) (g.O.Outlet.seen l.initial.outlet) (g.O.Outlet.seen l.outlet) l.total
-    × (g.S.Source.kept l.source ≡ g.S.Source.kept l.initial.source) × (l.seat.meter ≡ l.progress) × (l.seat.sum ≡ l.initial.seat.sum + l.total)
+    × (g.S.Source.kept l.source ≡ g.S.Source.kept l.initial.source) × (l.counter.meter ≡ l.initial.counter.meter) × (l.counter.sum ≡ l.initial.counter.sum + l.total)
 
 abbrev pub decreases-loop-piece : goal.decreases-loop-piece
 decreases-loop-piece g l = (g.S.Source.seen l.source).left

@@ -9,6 +9,6 @@ returns g c =
     let s = c.stream_place-pumped in
     let t = s.result.1 in
     let e = c.into_parts-place.ensures in
-    let d = subst (λ v. IsPlaceDumped c.args.time c.args.machine.now s.new.machine (record { out = v.put; failures = v.failures }) (record { out = t.put; failures = t.failures }) s.result.0) c.new-late.ensures s.ensures in
-    handed_out g.B.Origin.was (g.P.Outlets.makes) g.P.Out.Outlet.seen c.args.time c.args.machine.now s.new.machine t.place c.into_parts-place.result.0 (outlet_in t.opening) c.into_parts-place.result.1 s.result.0 e.place e.outlet
-    (landed g.B.Origin.was (g.P.Outlets.makes) g.P.Out.Outlet.seen c.args.time c.args.machine.now s.new.machine t.place t.opening t.put t.failures s.result.0 e.late d)
+    let d = subst (λ v. IsPlaceDumped c.args.dump.time c.args.machine.now s.new.machine (record { out = v.put; failures = v.failures }) (record { out = t.put; failures = t.failures }) s.result.0) c.new-late.ensures s.ensures in
+    handed_out g.B.Origin.was (g.P.Outlets.makes) g.P.Out.Outlet.seen c.args.dump.time c.args.machine.now s.new.machine t.place c.into_parts-place.result.0 (outlet_in t.opening) c.into_parts-place.result.1 s.result.0 e.place e.outlet
+    (landed g.B.Origin.was (g.P.Outlets.makes) g.P.Out.Outlet.seen c.args.dump.time c.args.machine.now s.new.machine t.place t.opening t.put t.failures s.result.0 e.late d)

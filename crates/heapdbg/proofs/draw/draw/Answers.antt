@@ -11,7 +11,7 @@ returns-in-Ok g c =
       c.serve_local-ended.result,
       c.serve_local-ended.new.local.machine,
       subst
-          (λ (m : Machine). IsSession m c.args.settings.now.time (g.I.Inlet.seen c.args.reader.now) (g.I.Inlet.seen c.serve_local-ended.new.reader) (g.O.Outlet.seen c.args.writer.now) (g.O.Outlet.seen c.serve_local-ended.new.writer) c.serve_local-ended.new.local.machine c.serve_local-ended.result)
+          (λ (m : Machine). IsSession m c.args.request.settings.time (g.I.Inlet.seen c.args.reader.now) (g.I.Inlet.seen c.serve_local-ended.new.reader) (g.O.Outlet.seen c.args.writer.now) (g.O.Outlet.seen c.serve_local-ended.new.writer) c.serve_local-ended.new.local.machine c.serve_local-ended.result)
           c.in-Ok.ensures.opening
           c.serve_local-ended.ensures.session,
       c.serve_local-ended.ensures.ends,

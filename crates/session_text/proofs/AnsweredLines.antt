@@ -1,6 +1,6 @@
 -- Lines that are answered, and a session so far.
-use Rattle.std.proofs.Common.{◌≡◌, ℕ, ◌+◌, ◌<◌, ◌≤◌, ◌⊎◌, inl, inr, Bool, true, false, List, [], ◌∷◌, ◌++◌, take, drop, length, length-append, Option, Some, None, refl, ap, sym, ◌∙◌, subst, arith, append_assoc}
-use Rattle.std.proofs.lemmas.List.{append-nil, length-take-le, take-take}
+use Rattle.std.proofs.Common.{◌≡◌, ℕ, ◌+◌, ◌-◌, ◌<◌, ◌≤◌, ◌⊎◌, inl, inr, Bool, true, false, List, [], ◌∷◌, ◌++◌, take, drop, length, length-append, Option, Some, None, refl, ap, sym, ◌∙◌, subst, arith, append_assoc}
+use Rattle.std.proofs.lemmas.List.{append-nil, length-drop, length-take-le, take-take, take_all}
 use Rattle.std.proofs.lemmas.List.Elements.{All-nil, All-cons, All-append, All-take}
 use Rattle.std.specs.Bool.{◌==◌}
 use Rattle.std.proofs.lemmas.Grind.{flat_map-append}
@@ -12,7 +12,7 @@ use Rattle.heap_trail.specs.declared.Reply.TheVariants.{Refused}
 use Rattle.session_text.specs.declared.Ended.{Ended}
 use Rattle.session_text.specs.declared.Ended.TheVariants.{Quit, Eof, CutLine, TooLong, ReadFault, TooManyReads, WriteFault, NoMemory}
 use Rattle.session_text.specs.declared.answer.Flow.{Flow}
-use Rattle.session_text.specs.declared.answer.Flow.TheVariants.{Next}
+use Rattle.session_text.specs.declared.answer.Flow.TheVariants.{Next, Fault}
 use Rattle.session_grammar.specs.declared.command.Command.{Command}
 use Rattle.session_grammar.specs.declared.command.Command.TheVariants.{Blank, Bad, Ask, Piece, Dump, DumpNow, End}
 use Rattle.session_text.specs.Answers.{Reaction, AnswerRelation, AnswersTo, BeginsTo}
@@ -23,9 +23,9 @@ use Rattle.session_text.specs.Inlets.{Incoming, whole}
 use Rattle.session_grammar.specs.Lines.{NoLf, IsLineAt}
 use Rattle.session_grammar.specs.Reads.{TakesMemory}
 use Rattle.session_text.specs.Replies.{reply_text}
-use Rattle.session_text.specs.Talks.{IsFirst, IsLine, IsLong, AnswersAll, stream, IsTalk, BeginsWith, IsQuit, IsBrokenOff, IsLineFlow, EndsCleanly, FailsWhileWriting, IsTruncatedRun, IsLastRead, IsSessionServed, Serves}
+use Rattle.session_text.specs.Talks.{AreFirstAnswered, AreLinesAnswered, IsFirst, IsFirstCut, IsLine, IsLong, AnswersAll, stream, IsTalk, BeginsWith, IsQuit, IsBrokenOff, IsLineFlow, EndsCleanly, FailsWhileWriting, IsTruncatedRun, IsLastRead, IsSessionServed, Serves}
 use Rattle.session_text.specs.Writes.{IsCutShort, IsTextWritten, IsTextAdded}
-use Rattle.session_text.proofs.PageTexts.{added_here}
+use Rattle.session_text.proofs.PageTexts.{added_here, added_more}
 
 -- ---- one text and then another
 
@@ -130,6 +130,22 @@ line_quits bytes s n e most at is = (take n bytes, begins_with bytes n most at, 
 pub line_broken : {S : Type 0} (begins : AnswerRelation S) (text bytes s : List ℕ) (n : ℕ) (c : S) (tail : List ℕ) (c' : S) (w w' : Outgoing) → s ≡ bytes → n ≤ 4096 → IsLineAt n bytes → begins (take n s) c tail c' → IsTextWritten (text ++ tail) w w' false → IsBrokenOff begins text bytes c w c' w'
 line_broken begins text bytes s n c tail c' w w' e most at h k = (take n bytes, tail, begins_with bytes n most at, subst (λ l. begins (take n l) c tail c') e h, k)
 
+-- the rest of a text, as a part of it
+pub rest_of : (t : List ℕ) (at : ℕ) → take (length t - at) (drop at t) ≡ drop at t
+rest_of t at = take_all (length t - at) (drop at t) (omega (arith, length-drop at t))
+
+-- a text begins with the line whose answer was cut short
+pub line_cut : {S : Type 0} (begins : AnswerRelation S) (bytes s : List ℕ) (n : ℕ) (c : S) (tail : List ℕ) (c' : S) → s ≡ bytes → n ≤ 4096 → IsLineAt n s → begins (take n s) c tail c' → (l : List ℕ) × BeginsWith l bytes × begins l c tail c'
+line_cut begins bytes s n c tail c' e most at h = (take n s, subst (λ l. BeginsWith (take n s) l) e (begins_with s n most at), h)
+
+-- nothing has changed since lines were answered
+pub answered_left : {S : Type 0} (says : AnswerRelation S) (text : List ℕ) (size : ℕ) (c : S) (page : List ℕ) (w : Outgoing) (c1 : S) (page1 : List ℕ) (w1 : Outgoing) (c2 : S) (page2 : List ℕ) (w2 : Outgoing)
+    → (c2 ≡ c1) × (page2 ≡ page1) × (w2 ≡ w1) → AreFirstAnswered says text size c page w c1 page1 w1 → AreFirstAnswered says text size c page w c2 page2 w2
+answered_left says text size c page w c1 page1 w1 c2 page2 w2 same h =
+    let a = subst (λ x. AreFirstAnswered says text size c page w x page1 w1) (sym same.0) h in
+    let b = subst (λ x. AreFirstAnswered says text size c page w c2 x w1) (sym same.1) a in
+    subst (λ x. AreFirstAnswered says text size c page w c2 page2 x) (sym same.2) b
+
 -- ---- lines that are too long
 
 none_first : (n k : ℕ) (xs : List ℕ) → n ≤ k → NoLf (take k xs) → NoLf (take n xs)
@@ -150,6 +166,37 @@ first_left says begins bytes c page w c1 page1 w1 rest c' page' w' o same h =
     let a = subst (λ x. IsFirst says begins bytes x page1 w1 rest c' page' w' o) same.0 h in
     let b = subst (λ x. IsFirst says begins bytes c x w1 rest c' page' w' o) same.1 a in
     subst (λ x. IsFirst says begins bytes c page x rest c' page' w' o) same.2 b
+
+-- ---- the lines of a buffer so far
+
+-- whole lines were answered, and their answers added to an empty page
+abbrev pub IsSoFar : {S : Type 0} → AnswerRelation S → List ℕ → S → Outgoing → List ℕ → S → List ℕ → Outgoing → Type 0
+IsSoFar says bytes c w rest c' page' w' = (text : List ℕ) × IsTalk says bytes c rest text c' × IsTextAdded text [] w page' w' true
+
+pub so_far_more : {S : Type 0} (says : AnswerRelation S) (bytes : List ℕ) (c : S) (w : Outgoing) (rest : List ℕ) (c1 : S) (page1 : List ℕ) (w1 : Outgoing) (s : List ℕ) (size : ℕ) (rest2 : List ℕ) (c2 : S) (page2 : List ℕ) (w2 : Outgoing)
+    → IsSoFar says bytes c w rest c1 page1 w1 → s ≡ rest → rest2 ≡ drop size rest → AreFirstAnswered says s size c1 page1 w1 c2 page2 w2 → IsSoFar says bytes c w rest2 c2 page2 w2
+so_far_more says bytes c w rest c1 page1 w1 s size rest2 c2 page2 w2 i e passed h =
+    let there : drop size s ≡ rest2 = ap (drop size) e ∙ sym passed in
+    let from = subst (λ b. IsTalk says b c1 (drop size s) h.0 c2) e h.1 in
+    let talk = subst (λ r. IsTalk says rest c1 r h.0 c2) there from in
+    (i.0 ++ h.0, talk_then says bytes c rest i.0 c1 rest2 h.0 c2 i.1 talk, added_more i.0 h.0 [] w page1 w1 page2 w2 true i.2 h.2)
+
+pub so_far_left : {S : Type 0} (says : AnswerRelation S) (bytes : List ℕ) (c : S) (w : Outgoing) (rest : List ℕ) (c1 : S) (page1 : List ℕ) (w1 : Outgoing) (rest2 : List ℕ) (c2 : S) (page2 : List ℕ) (w2 : Outgoing)
+    → IsSoFar says bytes c w rest c1 page1 w1 → rest2 ≡ rest → c2 ≡ c1 → page2 ≡ page1 → w2 ≡ w1 → IsSoFar says bytes c w rest2 c2 page2 w2
+so_far_left says bytes c w rest c1 page1 w1 rest2 c2 page2 w2 i er ec ep ew =
+    let a = subst (λ x. IsSoFar says bytes c w x c1 page1 w1) (sym er) i in
+    let b = subst (λ x. IsSoFar says bytes c w rest2 x page1 w1) (sym ec) a in
+    let d = subst (λ x. IsSoFar says bytes c w rest2 c2 x w1) (sym ep) b in
+    subst (λ x. IsSoFar says bytes c w rest2 c2 page2 x) (sym ew) d
+
+-- the answer of a line behind these was cut short
+pub so_far_cut : {S : Type 0} (says begins : AnswerRelation S) (bytes : List ℕ) (c : S) (w : Outgoing) (rest : List ℕ) (c1 : S) (page1 : List ℕ) (w1 : Outgoing) (s after : List ℕ) (c2 : S) (page2 : List ℕ) (w2 : Outgoing)
+    → IsSoFar says bytes c w rest c1 page1 w1 → s ≡ rest → IsFirstCut says begins s c1 page1 w1 c2 page2 w2 → AreLinesAnswered says begins bytes c w after c2 page2 w2 Fault
+so_far_cut says begins bytes c w rest c1 page1 w1 s after c2 page2 w2 i e h =
+    let talk = subst (λ b. IsTalk says b c1 h.0 h.1 h.2) e h.3 in
+    let cut = added_more i.0 (h.1 ++ h.5) [] w page1 w1 page2 w2 false i.2 h.8 in
+    let all = subst (λ t. IsTextWritten t w w2 false) (sym (append_assoc i.0 h.1 h.5)) cut in
+    (h.0, i.0 ++ h.1, h.2, talk_then says bytes c rest i.0 c1 h.0 h.1 h.2 i.1 talk, (h.4, h.5, h.6, h.7, all))
 
 -- ---- sessions
 

@@ -9,5 +9,6 @@ pub mod CutAnswers
 pub mod Sessions
 pub mod KeptNumbers
 pub mod DumpLines
+pub mod QuickDigits
 pub mod QuickLines
 pub mod ActionLists

@@ -1,10 +1,10 @@
 //! Lines and their answers.
-ghost use Rattle.std.specs.Prelude.{◌≡◌, ◌≤◌, ℕ, List, length, []};
+ghost use Rattle.std.specs.Prelude.{◌≡◌, ◌≤◌, ℕ, List, length, [], true, false};
 ghost use Rattle.session_text.specs.Answers.{AnswersCommand, Begins, AnswersTo, BeginsTo};
 ghost use Rattle.session_text.specs.Endings.{flow_of};
 ghost use Rattle.session_grammar.specs.Grammar.{command_of, command_of_text};
 ghost use Rattle.session_text.specs.Replies.{line_answer_text};
-ghost use Rattle.session_text.specs.Talks.{IsFirst, IsLineFlow, AreLinesAnswered};
+ghost use Rattle.session_text.specs.Talks.{AreFirstAnswered, IsFirst, IsFirstCut, IsLineFlow, AreLinesAnswered};
 ghost use Rattle.session_text.specs.Writes.{IsTextAdded};
 ghost use Rattle.session_grammar.specs.declared.TheConstants.{LINE_LIMIT};
 
@@ -163,6 +163,33 @@ fn answer_first<O: Outlet, C: Commands>(
     Some(Flow::Next)
 }
 
+// Answers the first lines of a text, as long as each can be answered at once. Returns whether no write failed, and the size of
+// the lines that were answered.
+#[inline(always)]
+fn answer_mutators<O: Outlet, C: Commands>(
+    text: &[u8],
+    page: &mut Page,
+    writer: &mut O,
+    commands: &mut C,
+) -> (bool, usize)
+    ensures within { result.1 ≤ length text.now }
+    ensures answered { result.0 ≡ true → (time : ℕ)
+        → AreFirstAnswered (AnswersCommand C.acts C.unknown time) text.now result.1 commands.old
+        page.old (O.seen writer.old) commands.new page.new (O.seen writer.new) }
+    ensures cut { result.0 ≡ false → (time : ℕ)
+        → IsFirstCut (AnswersCommand C.acts C.unknown time) (Begins C.acts C.unknown time) text.now
+        commands.old page.old (O.seen writer.old) commands.new page.new (O.seen writer.new) }
+{
+    let mut passed = 0;
+    loop {
+        match answer_mutator(&text[passed..], page, writer, commands) {
+            (Quick::Next, n) => passed += n + 1,
+            (Quick::No, _) => return (true, passed),
+            (Quick::Fault, _) => return (false, passed),
+        }
+    }
+}
+
 /// Answers the whole lines of a buffer, up to the first that is too long, and adds their answers to an empty page, which is
 /// flushed whenever it is full.
 pub fn answer_lines<O: Outlet, C: Commands>(
@@ -180,18 +207,17 @@ pub fn answer_lines<O: Outlet, C: Commands>(
         (O.seen writer.new) result }
 {
     loop {
-        match answer_mutator(buffer.as_slice(), page, writer, commands) {
-            (Quick::Next, n) => buffer.pass(n + 1),
-            (Quick::Fault, _) => return Flow::Fault,
-            (Quick::No, _) => {
-                match answer_first(context, marks, buffer, page, writer, commands) {
-                    None => return Flow::Next,
-                    Some(Flow::Next) => {}
-                    Some(Flow::Quit) => return Flow::Quit,
-                    Some(Flow::Long) => return Flow::Long,
-                    Some(Flow::Fault) => return Flow::Fault,
-                }
-            }
+        let (written, passed) = answer_mutators(buffer.as_slice(), page, writer, commands);
+        if !written {
+            return Flow::Fault;
+        }
+        buffer.pass(passed);
+        match answer_first(context, marks, buffer, page, writer, commands) {
+            None => return Flow::Next,
+            Some(Flow::Next) => {}
+            Some(Flow::Quit) => return Flow::Quit,
+            Some(Flow::Long) => return Flow::Long,
+            Some(Flow::Fault) => return Flow::Fault,
         }
     }
 }

@@ -4,7 +4,7 @@ ghost use Rattle.heap_trail.specs.declared.Action.TheVariants.{Step};
 ghost use Rattle.session_grammar.specs.declared.command.Command.TheVariants.{Ask};
 ghost use Rattle.session_grammar.specs.Grammar.{words_of_line, two_numbers, three_numbers, four_numbers, command_of_text};
 ghost use Rattle.session_grammar.specs.Lines.{NoLf};
-ghost use Rattle.session_text.specs.Mutators.{FollowsIn, IsVerb, IsQuick, IsQuickIn, IsShortLine};
+ghost use Rattle.session_text.specs.Mutators.{AreThreeThen, FollowsIn, IsDigitThen, IsVerb, IsQuick, IsQuickIn, IsShortLine};
 
 use crate::act::answer_action;
 use crate::buffer::LF;
@@ -99,6 +99,39 @@ fn three_in(text: &[u8], at: usize) -> Option<(u64, u64, u64, usize)>
     Some((a, b, c, end))
 }
 
+// Returns the three numbers of one digit that a text begins with, each with a space behind it, or None if it begins with
+// others.
+#[inline(always)]
+fn three_digits(text: &[u8]) -> Option<(u64, u64, u64)>
+    ensures { IfSome result
+        (λ r. IsDigitThen text.now 0 r.0 × IsDigitThen text.now 2 r.1 × IsDigitThen text.now 4 r.2) }
+{
+    let [a, SPACE, b, SPACE, c, SPACE, ..] = text else {
+        return None;
+    };
+    if !a.is_ascii_digit() || !b.is_ascii_digit() || !c.is_ascii_digit() {
+        return None;
+    }
+    Some((u64::from(*a) - 48, u64::from(*b) - 48, u64::from(*c) - 48))
+}
+
+// Returns the three numbers at a place, if a space ends each, and the place of the last space; or the text's end if there
+// are no such numbers.
+#[inline(always)]
+fn three_then(text: &[u8], at: usize) -> (u64, u64, u64, usize)
+    requires { at ≤ length text.now }
+    ensures numbers { AreThreeThen text.now at result.0 result.1 result.2 result.3 }
+    ensures within { result.3 ≤ length text.now }
+{
+    if let Some((a, b, c)) = three_digits(&text[at..]) {
+        return (a, b, c, at + 5);
+    }
+    let (a, end) = number_then(text, at, SPACE);
+    let (b, end) = number_then(text, end + 1, SPACE);
+    let (c, end) = number_then(text, end + 1, SPACE);
+    (a, b, c, end)
+}
+
 // Returns the four numbers that the first line of a text has from a place on, and the line's end, or None if it has others.
 #[inline(always)]
 fn four_in(text: &[u8], at: usize) -> Option<(u64, u64, u64, u64, usize)>
@@ -108,9 +141,7 @@ fn four_in(text: &[u8], at: usize) -> Option<(u64, u64, u64, u64, usize)>
         (λ r. four_numbers (words_of_line (drop at (take r.4 text.now)))
         ≡ Some (r.0, r.1, r.2, r.3)) }
 {
-    let (a, end) = number_then(text, at, SPACE);
-    let (b, end) = number_then(text, end + 1, SPACE);
-    let (c, end) = number_then(text, end + 1, SPACE);
+    let (a, b, c, end) = three_then(text, at);
     let (d, end) = number_then(text, end + 1, LF);
     if end == text.len() {
         return None;

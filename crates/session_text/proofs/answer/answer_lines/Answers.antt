@@ -1,102 +1,109 @@
-use Rattle.std.proofs.Common.{◌++◌, [], Some, true, false, subst}
+use Rattle.std.proofs.Common.{◌++◌, [], Some, true, false, ap, arith, length, subst}
+use Rattle.std.proofs.lemmas.List.{length-drop}
 use Rattle.session_text.specs.declared.answer.Flow.{Flow}
-use Rattle.session_text.specs.declared.answer.Flow.TheVariants.{Next, Fault}
 use Rattle.session_text.specs.Answers.{AnswersCommand, Begins}
-use Rattle.session_grammar.specs.Lines.{IsLineAt}
 use Rattle.session_text.specs.Talks.{IsFirst}
-use Rattle.session_text.proofs.QuickLines.{quick_next, quick_fault, quick_left}
-use Rattle.session_text.proofs.AnsweredLines.{talk_none, talk_then, first_left, line_answered, line_broken}
+use Rattle.session_text.proofs.AnsweredLines.{talk_none, talk_then, so_far_more, so_far_left, so_far_cut}
 use Rattle.session_text.proofs.PageTexts.{added_here, added_more}
 use Rattle.session_text.proofs.answer.answer_lines.Goals as goal
 
-pub loop-n-init : goal.loop-n-init
-loop-n-init g c =
+pub loop-context-init : goal.loop-context-init
+loop-context-init g c =
     ([], talk_none (AnswersCommand g.C.Commands.acts g.C.Commands.unknown c.args.context.time) c.args.buffer.now c.args.commands.now, added_here [] [] (g.O.Outlet.seen c.args.writer.now) c.args.page.now c.requires)
 
-pub loop-n-preserved-in-Next-default : goal.loop-n-preserved-in-Next-default
-loop-n-preserved-in-Next-default g c =
-    let i = c.loop-n.invariant in
+pub returns-then-not-written : goal.returns-then-not-written
+returns-then-not-written g c =
     let says = AnswersCommand g.C.Commands.acts g.C.Commands.unknown c.args.context.time in
-    let bytes = c.loop-n.buffer in
-    let s = c.as_slice.result.now in
-    let n = c.answer_mutator.result.1 in
-    let before = c.loop-n.commands in
-    let after = c.answer_mutator.new.commands in
+    let begins = Begins g.C.Commands.acts g.C.Commands.unknown c.args.context.time in
+    let m = c.answer_mutators-written in
     let w0 = g.O.Outlet.seen c.args.writer.now in
-    let w1 = g.O.Outlet.seen c.loop-n.writer in
-    let w2 = g.O.Outlet.seen c.answer_mutator.new.writer in
-    let q = quick_next g.C.Commands.acts g.C.Commands.unknown c.args.context.time s c.answer_mutator.result.0 n before c.loop-n.page w1 after c.answer_mutator.new.page w2 c.in-Next-default.is-0 c.answer_mutator.ensures in
-    let e = q.1 in
-    let at = subst (λ l. IsLineAt n l) c.as_slice.ensures q.0.0 in
-    let t = line_answered says bytes s c.pass.new.self n before e.0 after c.as_slice.ensures c.pass.ensures q.0.1 at e.1 in (
-      i.0 ++ e.0,
-      talk_then says c.args.buffer.now c.args.commands.now bytes i.0 before c.pass.new.self e.0 after i.1 t,
-      added_more i.0 e.0 [] w0 c.loop-n.page w1 c.answer_mutator.new.page w2 true i.2 e.2,
-    )
+    let w1 = g.O.Outlet.seen c.loop-context.writer in
+    let w2 = g.O.Outlet.seen m.new.writer in
+    so_far_cut says begins c.args.buffer.now c.args.commands.now w0 c.loop-context.buffer c.loop-context.commands c.loop-context.page w1 c.as_slice.result.now c.loop-context.buffer m.new.commands m.new.page w2 c.loop-context.invariant c.as_slice.ensures (m.ensures.cut c.if-not-written.true c.args.context.time)
 
-pub returns-in-Fault-default : goal.returns-in-Fault-default
-returns-in-Fault-default g c =
-    let i = c.loop-n.invariant in
-    let s = c.as_slice.result.now in
-    let n = c.answer_mutator.result.1 in
-    let before = c.loop-n.commands in
-    let after = c.answer_mutator.new.commands in
+pub loop-context-preserved : goal.loop-context-preserved
+loop-context-preserved g c =
+    let says = AnswersCommand g.C.Commands.acts g.C.Commands.unknown c.args.context.time in
+    let begins = Begins g.C.Commands.acts g.C.Commands.unknown c.args.context.time in
+    let m = c.answer_mutators-written in
     let w0 = g.O.Outlet.seen c.args.writer.now in
-    let w1 = g.O.Outlet.seen c.loop-n.writer in
-    let w2 = g.O.Outlet.seen c.answer_mutator.new.writer in
-    let q = quick_fault g.C.Commands.acts g.C.Commands.unknown c.args.context.time s c.answer_mutator.result.0 n before c.loop-n.page w1 after c.answer_mutator.new.page w2 c.in-Fault-default.is-0 c.answer_mutator.ensures in
-    let e = q.1 in
-    let at = subst (λ l. IsLineAt n l) c.as_slice.ensures q.0.0 in
-    let cut = added_more i.0 e.0 [] w0 c.loop-n.page w1 c.answer_mutator.new.page w2 false i.2 e.2 in (
-      c.loop-n.buffer,
-      i.0,
-      before,
-      i.1,
-      line_broken (Begins g.C.Commands.acts g.C.Commands.unknown c.args.context.time) i.0 c.loop-n.buffer s n before e.0 after w0 w2 c.as_slice.ensures q.0.1 at e.1 cut,
-    )
-
-pub loop-n-preserved : goal.loop-n-preserved
-loop-n-preserved g c =
-    let i = c.loop-n.invariant in
-    let acts = g.C.Commands.acts in
-    let says = AnswersCommand acts g.C.Commands.unknown c.args.context.time in
-    let begins = Begins acts g.C.Commands.unknown c.args.context.time in
-    let bytes = c.loop-n.buffer in
-    let rest = c.answer_first.new.buffer in
-    let before = c.loop-n.commands in
-    let after = c.answer_first.new.commands in
-    let w0 = g.O.Outlet.seen c.args.writer.now in
-    let w1 = g.O.Outlet.seen c.loop-n.writer in
-    let w2 = g.O.Outlet.seen c.answer_mutator.new.writer in
+    let w1 = g.O.Outlet.seen c.loop-context.writer in
+    let w2 = g.O.Outlet.seen m.new.writer in
     let w3 = g.O.Outlet.seen c.answer_first.new.writer in
-    let same = quick_left acts c.as_slice.result.now c.answer_mutator.result.0 c.answer_mutator.result.1 before c.loop-n.page w1 c.answer_mutator.new.commands c.answer_mutator.new.page w2 c.in-No-default.is-0 c.answer_mutator.ensures in
-    let h = subst (λ (o : Flow). IsFirst says begins bytes c.answer_mutator.new.commands c.answer_mutator.new.page w2 rest after c.answer_first.new.page w3 (Some o)) c.in-Some-Next.field-0-is c.in-Some-Next.ensures in
-    let e = first_left says begins bytes before c.loop-n.page w1 c.answer_mutator.new.commands c.answer_mutator.new.page w2 rest after c.answer_first.new.page w3 (Some Next) same h in (
-      i.0 ++ e.1,
-      talk_then says c.args.buffer.now c.args.commands.now bytes i.0 before rest e.1 after i.1 e.2,
-      added_more i.0 e.1 [] w0 c.loop-n.page w1 c.answer_first.new.page w3 true i.2 e.3,
+    let k = so_far_more says c.args.buffer.now c.args.commands.now w0 c.loop-context.buffer c.loop-context.commands c.loop-context.page w1 c.as_slice.result.now m.result.1 c.pass.new.self m.new.commands m.new.page w2 c.loop-context.invariant c.as_slice.ensures c.pass.ensures (m.ensures.answered c.if-not-written.false c.args.context.time) in
+    let h = subst (λ (o : Flow). IsFirst says begins c.pass.new.self m.new.commands m.new.page w2 c.answer_first.new.buffer c.answer_first.new.commands c.answer_first.new.page w3 (Some o)) c.in-Some-Next.field-0-is c.in-Some-Next.ensures in (
+      k.0 ++ h.1,
+      talk_then says c.args.buffer.now c.args.commands.now c.pass.new.self k.0 m.new.commands c.answer_first.new.buffer h.1 c.answer_first.new.commands k.1 h.2,
+      added_more k.0 h.1 [] w0 m.new.page w2 c.answer_first.new.page w3 true k.2 h.3,
     )
+
+pub returns-in-None : goal.returns-in-None
+returns-in-None g c =
+    let says = AnswersCommand g.C.Commands.acts g.C.Commands.unknown c.args.context.time in
+    let begins = Begins g.C.Commands.acts g.C.Commands.unknown c.args.context.time in
+    let m = c.answer_mutators-written in
+    let w0 = g.O.Outlet.seen c.args.writer.now in
+    let w1 = g.O.Outlet.seen c.loop-context.writer in
+    let w2 = g.O.Outlet.seen m.new.writer in
+    let w3 = g.O.Outlet.seen c.answer_first.new.writer in
+    let k = so_far_more says c.args.buffer.now c.args.commands.now w0 c.loop-context.buffer c.loop-context.commands c.loop-context.page w1 c.as_slice.result.now m.result.1 c.pass.new.self m.new.commands m.new.page w2 c.loop-context.invariant c.as_slice.ensures c.pass.ensures (m.ensures.answered c.if-not-written.false c.args.context.time) in
+    let h = c.in-None.ensures in
+    let l = so_far_left says c.args.buffer.now c.args.commands.now w0 c.pass.new.self m.new.commands m.new.page w2 c.answer_first.new.buffer c.answer_first.new.commands c.answer_first.new.page w3 k h.0 h.2 h.3 h.4 in
+    (l.0, l.1, h.1, l.2)
+
+pub returns-in-Some-Quit : goal.returns-in-Some-Quit
+returns-in-Some-Quit g c =
+    let says = AnswersCommand g.C.Commands.acts g.C.Commands.unknown c.args.context.time in
+    let begins = Begins g.C.Commands.acts g.C.Commands.unknown c.args.context.time in
+    let m = c.answer_mutators-written in
+    let w0 = g.O.Outlet.seen c.args.writer.now in
+    let w1 = g.O.Outlet.seen c.loop-context.writer in
+    let w2 = g.O.Outlet.seen m.new.writer in
+    let w3 = g.O.Outlet.seen c.answer_first.new.writer in
+    let k = so_far_more says c.args.buffer.now c.args.commands.now w0 c.loop-context.buffer c.loop-context.commands c.loop-context.page w1 c.as_slice.result.now m.result.1 c.pass.new.self m.new.commands m.new.page w2 c.loop-context.invariant c.as_slice.ensures c.pass.ensures (m.ensures.answered c.if-not-written.false c.args.context.time) in
+    let h = subst (λ (o : Flow). IsFirst says begins c.pass.new.self m.new.commands m.new.page w2 c.answer_first.new.buffer c.answer_first.new.commands c.answer_first.new.page w3 (Some o)) c.in-Some-Quit.field-0-is c.in-Some-Quit.ensures in
+    let l = so_far_left says c.args.buffer.now c.args.commands.now w0 c.pass.new.self m.new.commands m.new.page w2 c.answer_first.new.buffer c.answer_first.new.commands c.answer_first.new.page w3 k h.0 h.2 h.3 h.4 in
+    (l.0, l.1, h.1, l.2)
+
+pub returns-in-Some-Long : goal.returns-in-Some-Long
+returns-in-Some-Long g c =
+    let says = AnswersCommand g.C.Commands.acts g.C.Commands.unknown c.args.context.time in
+    let begins = Begins g.C.Commands.acts g.C.Commands.unknown c.args.context.time in
+    let m = c.answer_mutators-written in
+    let w0 = g.O.Outlet.seen c.args.writer.now in
+    let w1 = g.O.Outlet.seen c.loop-context.writer in
+    let w2 = g.O.Outlet.seen m.new.writer in
+    let w3 = g.O.Outlet.seen c.answer_first.new.writer in
+    let k = so_far_more says c.args.buffer.now c.args.commands.now w0 c.loop-context.buffer c.loop-context.commands c.loop-context.page w1 c.as_slice.result.now m.result.1 c.pass.new.self m.new.commands m.new.page w2 c.loop-context.invariant c.as_slice.ensures c.pass.ensures (m.ensures.answered c.if-not-written.false c.args.context.time) in
+    let h = subst (λ (o : Flow). IsFirst says begins c.pass.new.self m.new.commands m.new.page w2 c.answer_first.new.buffer c.answer_first.new.commands c.answer_first.new.page w3 (Some o)) c.in-Some-Long.field-0-is c.in-Some-Long.ensures in
+    let l = so_far_left says c.args.buffer.now c.args.commands.now w0 c.pass.new.self m.new.commands m.new.page w2 c.answer_first.new.buffer c.answer_first.new.commands c.answer_first.new.page w3 k h.0 h.2 h.3 h.4 in
+    (l.0, l.1, h.1, l.2)
 
 pub returns-in-Some-Fault : goal.returns-in-Some-Fault
 returns-in-Some-Fault g c =
-    let i = c.loop-n.invariant in
-    let acts = g.C.Commands.acts in
-    let says = AnswersCommand acts g.C.Commands.unknown c.args.context.time in
-    let begins = Begins acts g.C.Commands.unknown c.args.context.time in
-    let bytes = c.loop-n.buffer in
-    let rest = c.answer_first.new.buffer in
-    let before = c.loop-n.commands in
-    let after = c.answer_first.new.commands in
+    let says = AnswersCommand g.C.Commands.acts g.C.Commands.unknown c.args.context.time in
+    let begins = Begins g.C.Commands.acts g.C.Commands.unknown c.args.context.time in
+    let m = c.answer_mutators-written in
     let w0 = g.O.Outlet.seen c.args.writer.now in
-    let w1 = g.O.Outlet.seen c.loop-n.writer in
-    let w2 = g.O.Outlet.seen c.answer_mutator.new.writer in
+    let w1 = g.O.Outlet.seen c.loop-context.writer in
+    let w2 = g.O.Outlet.seen m.new.writer in
     let w3 = g.O.Outlet.seen c.answer_first.new.writer in
-    let same = quick_left acts c.as_slice.result.now c.answer_mutator.result.0 c.answer_mutator.result.1 before c.loop-n.page w1 c.answer_mutator.new.commands c.answer_mutator.new.page w2 c.in-No-default.is-0 c.answer_mutator.ensures in
-    let h = subst (λ (o : Flow). IsFirst says begins bytes c.answer_mutator.new.commands c.answer_mutator.new.page w2 rest after c.answer_first.new.page w3 (Some o)) c.in-Some-Fault.field-0-is c.in-Some-Fault.ensures in
-    let e = first_left says begins bytes before c.loop-n.page w1 c.answer_mutator.new.commands c.answer_mutator.new.page w2 rest after c.answer_first.new.page w3 (Some Fault) same h in (
-      bytes,
-      i.0,
-      before,
-      i.1,
-      (e.0, e.1, e.2, e.3, added_more i.0 e.1 [] w0 c.loop-n.page w1 c.answer_first.new.page w3 false i.2 e.4),
+    let k = so_far_more says c.args.buffer.now c.args.commands.now w0 c.loop-context.buffer c.loop-context.commands c.loop-context.page w1 c.as_slice.result.now m.result.1 c.pass.new.self m.new.commands m.new.page w2 c.loop-context.invariant c.as_slice.ensures c.pass.ensures (m.ensures.answered c.if-not-written.false c.args.context.time) in
+    let h = subst (λ (o : Flow). IsFirst says begins c.pass.new.self m.new.commands m.new.page w2 c.answer_first.new.buffer c.answer_first.new.commands c.answer_first.new.page w3 (Some o)) c.in-Some-Fault.field-0-is c.in-Some-Fault.ensures in (
+      c.pass.new.self,
+      k.0,
+      m.new.commands,
+      k.1,
+      (h.0, h.1, h.2, h.3, added_more k.0 h.1 [] w0 m.new.page w2 c.answer_first.new.page w3 false k.2 h.4),
     )
+
+pub pass-requires : goal.pass-requires
+pass-requires g c = omega (arith, c.answer_mutators-written.ensures.within, ap length c.as_slice.ensures)
+
+pub loop-context-smaller : goal.loop-context-smaller
+loop-context-smaller g c =
+    let says = AnswersCommand g.C.Commands.acts g.C.Commands.unknown c.args.context.time in
+    let begins = Begins g.C.Commands.acts g.C.Commands.unknown c.args.context.time in
+    let m = c.answer_mutators-written in
+    let h = subst (λ (o : Flow). IsFirst says begins c.pass.new.self m.new.commands m.new.page (g.O.Outlet.seen m.new.writer) c.answer_first.new.buffer c.answer_first.new.commands c.answer_first.new.page (g.O.Outlet.seen c.answer_first.new.writer) (Some o)) c.in-Some-Next.field-0-is c.in-Some-Next.ensures in
+    omega (arith, h.0, ap length c.pass.ensures, length-drop m.result.1 c.loop-context.buffer)

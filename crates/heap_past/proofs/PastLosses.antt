@@ -1,13 +1,14 @@
 -- When registers lost an object.
-use Rattle.std.proofs.Common.{◌≡◌, ℕ, ◌+◌, ◌-◌, ◌<◌, ◌≤◌, Option, Some, None, IsSome, refl, sym, ap, ◌∙◌, subst, inl, inr, arith}
+use Rattle.std.proofs.Common.{◌≡◌, ℕ, Bool, false, ◌+◌, ◌-◌, ◌<◌, ◌≤◌, Option, Some, None, IsSome, refl, sym, ap, ◌∙◌, subst, inl, inr, arith}
 use Rattle.std.specs.Prelude.{◌↔◌, IfSome, IfNone, IsTrue, is_some}
-use Rattle.std.proofs.lemmas.Bool.{cases_lt, false≢true}
+use Rattle.std.proofs.lemmas.Bool.{cases_lt, false≢true, true≢false}
 use Rattle.heap_trail.specs.Image.{Image}
 use Rattle.heap_class.specs.declared.ObjRef.{ObjRef}
-use Rattle.heap_region.specs.Regions.{object_at}
+use Rattle.heap_region.specs.Pool.{RegionPool}
+use Rattle.heap_region.specs.Regions.{id_of, object_at}
 use Rattle.heap_world.specs.Legal.{IsLegal}
 use Rattle.heap_world.specs.Reach.{Reaches}
-use Rattle.heap_world.specs.State.{HeapState}
+use Rattle.heap_world.specs.State.{HeapState, pool_of}
 use Rattle.heap_trail.specs.Images.{image_of}
 use Rattle.heap_questions.specs.Graph.{IsPathTo, IsUnreached}
 use Rattle.heap_questions.specs.declared.paths.Path.{Path}
@@ -30,6 +31,14 @@ told_by_path w image x (Some p) legal e h n = (
   λ t. (path_is_reach w x legal).0 (p.register, p.slots.items, subst (λ (i : Image). IsPathTo i p.register p.slots.items x) e h),
   λ r. refl,
 )
+
+-- the search didn't reach it, under this name
+pub not_reached : (w : HeapState) (x y : ℕ) (b : Bool) → (IsTrue b ↔ Reaches w x) → x ≡ y → b ≡ false → ¬ Reaches w y
+not_reached w x y b told same missed r = true≢false (sym (told.1 (subst (Reaches w) (sym same) r)) ∙ missed)
+
+-- the name that the regions give it is the one that it has now
+pub now_named : (t : Trail) (at : ObjRef) (x : ℕ) (s : RegionPool) (w : HeapState) → x ≡ id_of s.regions at → s ≡ pool_of w → w ≡ t.current → x ≡ id_now t at
+now_named t at x s w named is now = named ∙ ap (λ (u : RegionPool). id_of u.regions at) is ∙ ap (λ (u : HeapState). id_of u.regions at) now
 
 -- ---- how long an object stood
 

@@ -1,6 +1,6 @@
 -- The object with an id, passed by others.
 use Rattle.std.proofs.Common.{◌≡◌, ◌≢◌, ℕ, ◌+◌, ◌<◌, ◌≤◌, List, [], length, replicate, get_or, refl, sym, ap, ap₂, ◌∙◌, subst, inl, inr, arith}
-use Rattle.std.specs.Prelude.{slice_get, Option, Some, None, IfSome, IsSome, option_map, ◌==◌}
+use Rattle.std.specs.Prelude.{slice_get, Contains, Option, Some, None, IfSome, IsSome, option_map, ◌==◌}
 use Rattle.std.specs.List.{position_or_len}
 use Rattle.std.proofs.lemmas.Bool.{cases_eq, eq-eqb, ne_eqb}
 use Rattle.std.proofs.lemmas.Option.{none-some, same_Some, slice_get_within, slice_get_past, slice_get-get_or, get_or_from_slice_get, slice_get-map}
@@ -13,7 +13,7 @@ use Rattle.heap_class.specs.declared.ObjKind.TheVariants.{Prim}
 use Rattle.heap_class.specs.declared.ObjRef.{ObjRef}
 use Rattle.hprof_text.specs.Image.{Image, DumpedObject, IsDumpable}
 use Rattle.hprof_text.proofs.Loops.{some_item}
-use Rattle.hprof_text.proofs.ViewedObjects.{IsHere, here}
+use Rattle.hprof_text.proofs.ViewedObjects.{IsHere, here, is_there}
 use Rattle.heap_questions.specs.Graph.{object_with}
 use Rattle.heap_questions.specs.Referrers.{dumped}
 use Rattle.heap_questions.specs.Search.{AreNodes, node_with}
@@ -79,6 +79,9 @@ pub node_placed : (image : Image) (places : List ObjRef) (nodes : List Node) (x 
 node_placed image places nodes x j at n e p =
     let m = some_item nodes j (node_within nodes x j e) in
     node_place image places nodes j m.0 n m.1 ∙ ap Some (sym (p m.0 m.1))
+
+pub node_listed : (image : Image) (places : List ObjRef) (nodes : List Node) (x j : ℕ) (at : ObjRef) → AreNodes image places nodes → node_with nodes x ≡ Some j → ((n : Node) → slice_get nodes j ≡ Some n → at ≡ n.at) → Contains places at
+node_listed image places nodes x j at n e p = is_there places j at (node_placed image places nodes x j at n e p)
 
 pub node_kind : (image : Image) (places : List ObjRef) (nodes : List Node) (x j : ℕ) (kind : ObjKind) → AreNodes image places nodes → node_with nodes x ≡ Some j → IfSome (slice_get image.objects j) (λ o. kind ≡ o.kind) → Some kind ≡ option_map (λ o. o.kind) (object_with image x)
 node_kind image places nodes x j kind n e k =

@@ -1,21 +1,12 @@
 use Rattle.std.proofs.Common.{sym, ◌∙◌}
-use Rattle.hprof_text.proofs.ViewedObjects.{is_there}
-use Rattle.heap_questions.proofs.NamedObjects.{no_object, node_object, node_placed}
+use Rattle.heap_questions.proofs.NamedObjects.{no_object, node_listed, node_object, node_placed}
 use Rattle.heap_questions.proofs.objects.shown_with.Goals as goal
 
 pub kind-kind-requires : goal.kind-kind-requires
-kind-kind-requires g c =
-    let v = c.args.view.now in
-    let found = sym c.find.ensures ∙ c.in-Some.is in
-    let at = node_placed (g.V.View.image v) (g.V.View.places v) c.args.nodes.now c.args.id c.in-Some.node c.place-at.result c.requires found c.place-at.ensures in
-    is_there (g.V.View.places v) c.in-Some.node c.place-at.result at
+kind-kind-requires g c = node_listed (g.V.View.image c.args.view.now) _ c.args.nodes.now c.args.id c.in-Some.node c.place-at.result c.requires (sym c.find.ensures ∙ c.in-Some.is) c.place-at.ensures
 
 pub words-words-requires : goal.words-words-requires
-words-words-requires g c =
-    let v = c.args.view.now in
-    let found = sym c.find.ensures ∙ c.in-Some.is in
-    let at = node_placed (g.V.View.image v) (g.V.View.places v) c.args.nodes.now c.args.id c.in-Some.node c.place-at.result c.requires found c.place-at.ensures in
-    is_there (g.V.View.places v) c.in-Some.node c.place-at.result at
+words-words-requires g c = node_listed (g.V.View.image c.args.view.now) _ c.args.nodes.now c.args.id c.in-Some.node c.place-at.result c.requires (sym c.find.ensures ∙ c.in-Some.is) c.place-at.ensures
 
 pub returns-in-Some : goal.returns-in-Some
 returns-in-Some g c =

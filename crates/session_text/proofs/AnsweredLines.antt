@@ -11,7 +11,6 @@ use Rattle.heap_class.specs.declared.Refusal.TheVariants.{NoMemory as NoRoom}
 use Rattle.heap_trail.specs.declared.Reply.TheVariants.{Refused}
 use Rattle.session_text.specs.declared.Ended.{Ended}
 use Rattle.session_text.specs.declared.Ended.TheVariants.{Quit, Eof, CutLine, TooLong, ReadFault, TooManyReads, WriteFault, NoMemory}
-use Rattle.session_text.specs.declared.answer.Flow.{Flow}
 use Rattle.session_text.specs.declared.answer.Flow.TheVariants.{Next, Fault}
 use Rattle.session_grammar.specs.declared.command.Command.{Command}
 use Rattle.session_grammar.specs.declared.command.Command.TheVariants.{Blank, Bad, Ask, Piece, Dump, DumpNow, End}
@@ -23,7 +22,7 @@ use Rattle.session_text.specs.Inlets.{Incoming, whole}
 use Rattle.session_grammar.specs.Lines.{NoLf, IsLineAt}
 use Rattle.session_grammar.specs.Reads.{TakesMemory}
 use Rattle.session_text.specs.Replies.{reply_text}
-use Rattle.session_text.specs.Talks.{AreFirstAnswered, AreLinesAnswered, IsFirst, IsFirstCut, IsLine, IsLong, AnswersAll, stream, IsTalk, BeginsWith, IsQuit, IsBrokenOff, IsLineFlow, EndsCleanly, FailsWhileWriting, IsTruncatedRun, IsLastRead, IsSessionServed, Serves}
+use Rattle.session_text.specs.Talks.{AreFirstAnswered, AreLinesAnswered, IsFirstCut, IsLine, IsLong, AnswersAll, stream, IsTalk, BeginsWith, IsQuit, IsLineFlow, EndsCleanly, FailsWhileWriting, IsTruncatedRun, IsLastRead, IsSessionServed, Serves}
 use Rattle.session_text.specs.Writes.{IsCutShort, IsTextWritten, IsTextAdded}
 use Rattle.session_text.proofs.PageTexts.{added_here, added_more}
 
@@ -127,9 +126,6 @@ begins_with bytes n most at = (line_is bytes n most at, drop (n + 1) bytes, at.2
 pub line_quits : (bytes s : List ℕ) (n : ℕ) → s ≡ bytes → n ≤ 4096 → IsLineAt n bytes → command_of (take n s) ≡ End → IsQuit bytes
 line_quits bytes s n e most at is = (take n bytes, begins_with bytes n most at, subst (λ l. command_of (take n l) ≡ End) e is)
 
-pub line_broken : {S : Type 0} (begins : AnswerRelation S) (text bytes s : List ℕ) (n : ℕ) (c : S) (tail : List ℕ) (c' : S) (w w' : Outgoing) → s ≡ bytes → n ≤ 4096 → IsLineAt n bytes → begins (take n s) c tail c' → IsTextWritten (text ++ tail) w w' false → IsBrokenOff begins text bytes c w c' w'
-line_broken begins text bytes s n c tail c' w w' e most at h k = (take n bytes, tail, begins_with bytes n most at, subst (λ l. begins (take n l) c tail c') e h, k)
-
 -- the rest of a text, as a part of it
 pub rest_of : (t : List ℕ) (at : ℕ) → take (length t - at) (drop at t) ≡ drop at t
 rest_of t at = take_all (length t - at) (drop at t) (omega (arith, length-drop at t))
@@ -156,16 +152,6 @@ long_line bytes n more at = (omega (arith, more, at.0), none_first 4097 n bytes 
 
 pub long_rest : (bytes : List ℕ) → 4096 < length bytes → NoLf bytes → IsLong bytes
 long_rest bytes more none = (more, All-take (λ b. (b == 10) ≡ false) 4097 bytes none)
-
--- ---- the first line of a buffer
-
--- what comes of it, after it was left once
-pub first_left : {S : Type 0} (says begins : AnswerRelation S) (bytes : List ℕ) (c : S) (page : List ℕ) (w : Outgoing) (c1 : S) (page1 : List ℕ) (w1 : Outgoing) (rest : List ℕ) (c' : S) (page' : List ℕ) (w' : Outgoing) (o : Option Flow)
-    → (c1 ≡ c) × (page1 ≡ page) × (w1 ≡ w) → IsFirst says begins bytes c1 page1 w1 rest c' page' w' o → IsFirst says begins bytes c page w rest c' page' w' o
-first_left says begins bytes c page w c1 page1 w1 rest c' page' w' o same h =
-    let a = subst (λ x. IsFirst says begins bytes x page1 w1 rest c' page' w' o) same.0 h in
-    let b = subst (λ x. IsFirst says begins bytes c x w1 rest c' page' w' o) same.1 a in
-    subst (λ x. IsFirst says begins bytes c page x rest c' page' w' o) same.2 b
 
 -- ---- the lines of a buffer so far
 

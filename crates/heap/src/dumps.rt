@@ -1,12 +1,15 @@
 //! Dumps of the current state in one call, watched from another thread.
 ghost use Rattle.std.specs.Prelude.{◌≡◌};
 ghost use denote.Param.Send.{IsSync};
+ghost use Rattle.live_dump.specs.Seats.{sum};
 ghost use Rattle.heap.specs.Dumps.{IsClosing, IsDumped};
 
 use dump_pump::{Outlet, Pumped};
 use heap_class::Refusal;
 use heap_lock::{Heap, Shared, Witness};
-use live_dump::{AskSeat, LivePin, Meter, NewMeter, ReadSeat, StreamSeats, stream};
+use live_dump::{
+    AskSeat, FeedSeat, LivePin, Meter, NewMeter, OutSeat, ReadSeat, StreamSeats, stream,
+};
 use std::alloc::Global;
 use std::sync::Wait;
 use std::sync::atomic::{AtomicU64, Ordering};
@@ -60,8 +63,11 @@ struct Watching<'a, W: DumpWatcher + Drop> {
 struct Writing<'a, O: Outlet + Drop> {
     outlet: O,
     time: u64,
-    seats: StreamSeats<'a>,
-    ghost adds: { seats.out.sum ≡ 0 },
+    meter: &'a Meter,
+    out: OutSeat,
+    feed: FeedSeat,
+    ghost adds: { out ≡ sum meter.now 0 },
+    ghost looks: { feed.meter ≡ meter.now },
 }
 
 // Shows a watcher the bytes that are out until the dump has ended, and asks to cancel it if the watcher wants that. Returns the
@@ -108,7 +114,9 @@ fn write<L: Heap + Send + Sync, O: Outlet + Drop, R: Threads + Wait + Sync>(
     let Writing {
         mut outlet,
         time,
-        seats,
+        meter,
+        out,
+        feed,
     } = writing;
     let mut witness = shared.witness(rt);
     let pin = match shared.open_pin(rt, &mut witness, None) {
@@ -121,6 +129,7 @@ fn write<L: Heap + Send + Sync, O: Outlet + Drop, R: Threads + Wait + Sync>(
         pin,
         time,
     };
+    let seats = StreamSeats { meter, out, feed };
     let (pumped, _, witness) = stream(rt, alloc, live, &mut outlet, seats);
     close(rt, shared, witness, pin);
     (Ok(pumped), outlet)
@@ -197,15 +206,12 @@ pub fn dump<
         reader,
         asker,
     };
-    let seats = StreamSeats {
-        meter: &meter,
-        out,
-        feed,
-    };
     let writing = Writing {
         outlet,
         time,
-        seats,
+        meter: &meter,
+        out,
+        feed,
     };
     write_watched(rt, alloc, shared, writing, watching)
 }

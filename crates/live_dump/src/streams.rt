@@ -59,15 +59,9 @@ pub fn stream<'m, L: Heap + Send + Sync, O: Outlet, R: Threads + Wait + Sync>(
     ensures out { result.1.out
         ≡ sum seats.entry.meter.now (seats.entry.out.sum + bytes_of result.0) }
 {
-    let LivePin {
-        shared,
-        witness,
-        pin,
-        time,
-    } = from;
     let StreamSeats { meter, out, feed } = seats;
     let mut source = Watched {
-        source: ToldSource::new(shared, rt, witness, pin, time),
+        source: ToldSource::new(from.shared, rt, from.witness, from.pin, from.time),
         cancel: meter.cancel(),
         seat: feed,
     };

@@ -1,10 +1,10 @@
 //! Sessions that are saved into memory.
 use crate::examples::{DUMP_OF_ONE_POINT, POINT, POINT_MADE};
 use crate::sessions::local;
-use dump_pump::{Pumped, WriteOutlet};
+use dump_pump::{Outlet, Pumped, WriteOutlet};
 use heap_save::{LastDump, Outlets, Saved, save_into};
 use pin_dump::{Gauge, Silent};
-use session_text::{Ended, Local, ReadInlet};
+use session_text::{Ended, Inlet, Local, ReadInlet};
 use std::alloc::Global;
 use std::sync::Wait;
 use std::test::*;
@@ -42,6 +42,21 @@ pub struct Outcome {
     pub text: Vec<u8>,
 }
 
+// Saves a session at a place, which a gauge sees.
+fn saved_at<I: Inlet, O: Outlet, P: Outlets, G: Gauge, R: Threads + Wait + Sync>(
+    rt: &R,
+    alloc: Global,
+    local: &mut Local,
+    reader: &mut I,
+    writer: &mut O,
+    place: P,
+    gauge: &mut G,
+) -> Saved<P, P::Out> {
+    let time = 0;
+    let dump = LastDump { place, gauge, time };
+    save_into(rt, alloc, local, reader, writer, dump)
+}
+
 /// Saves a session of these lines, which a gauge sees.
 pub fn saved<G: Gauge, R: Threads + Wait + Sync>(
     rt: &R,
@@ -52,17 +67,13 @@ pub fn saved<G: Gauge, R: Threads + Wait + Sync>(
 ) -> Outcome {
     let mut inlet = ReadInlet::new(lines.as_bytes());
     let mut outlet = WriteOutlet::new(Vec::new(alloc));
-    let dump = LastDump {
-        place: Memory { alloc, asked: 0 },
-        gauge,
-        time: 0,
-    };
+    let place = Memory { alloc, asked: 0 };
     let Saved {
         ended,
         pumped,
         place,
         outlet: made,
-    } = save_into(rt, alloc, local, &mut inlet, &mut outlet, dump);
+    } = saved_at(rt, alloc, local, &mut inlet, &mut outlet, place, gauge);
     let is_made = made.is_some();
     let taken = match made {
         Some(made) => made.into_writer(),

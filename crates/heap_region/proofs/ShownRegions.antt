@@ -6,7 +6,7 @@ use Rattle.heap_class.specs.declared.ObjRef.{ObjRef}
 use Rattle.heap_region.specs.Regions.{Object, UsedRegion, Region, used_part, used_at, object_at, updated, in_used, with_region, with_object, with_word, with_mark, cell_object, slot_object}
 use Rattle.heap_region.specs.Changes.{with_live, with_pending}
 use Rattle.heap_region.specs.Pool.{RegionPool, taken, freed, released, restored, cell_freed}
-use Rattle.heap_region.specs.Layout.{words_of, changed_at, cell_filled, word_set, mark_set, live_set, pending_set}
+use Rattle.heap_region.specs.Layout.{words_of, changed_at, cell_filled, word_set, bit_set, pending_set}
 use Rattle.heap_region.specs.Table.{shown_region}
 use Rattle.heap_region.proofs.Tables.{used_of_object}
 
@@ -120,14 +120,6 @@ changed_shown slots at f =
 pub word_shown : (slots : List (Option UsedRegion)) (at : ObjRef) (slot w : ℕ) → with_word at slot w (map shown_region slots) ≡ map shown_region (set slots at.region (option_map (λ u. changed_at u at.cell (word_set slot w)) (get_or slots at.region None)))
 unfolding with_word
 word_shown slots at slot w = changed_shown slots at (word_set slot w)
-
-pub mark_shown : (slots : List (Option UsedRegion)) (at : ObjRef) (mark : Bool) → with_mark mark at (map shown_region slots) ≡ map shown_region (set slots at.region (option_map (λ u. changed_at u at.cell (mark_set mark)) (get_or slots at.region None)))
-unfolding with_mark
-mark_shown slots at mark = changed_shown slots at (mark_set mark)
-
-pub live_shown : (slots : List (Option UsedRegion)) (at : ObjRef) (live : Bool) → with_live live at (map shown_region slots) ≡ map shown_region (set slots at.region (option_map (λ u. changed_at u at.cell (live_set live)) (get_or slots at.region None)))
-unfolding with_live
-live_shown slots at live = changed_shown slots at (live_set live)
 
 pub pending_shown : (slots : List (Option UsedRegion)) (r : ℕ) (pending : Bool) → with_pending pending r (map shown_region slots) ≡ map shown_region (set slots r (option_map (pending_set pending) (get_or slots r None)))
 unfolding with_pending

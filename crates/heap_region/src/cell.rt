@@ -1,6 +1,6 @@
 //! Headers of cells, in sixteen bytes each.
-ghost use Rattle.std.specs.Prelude.{◌≡◌, ◌≤◌, Some, None};
-ghost use Rattle.heap_region.specs.Layout.{header_live};
+ghost use Rattle.std.specs.Prelude.{◌≡◌, ◌≤◌, Some, None, IsSome, option_map};
+ghost use Rattle.heap_region.specs.Layout.{header_live, with_bit};
 ghost use Rattle.heap_region.specs.Limits.{region_words};
 
 use heap_class::{ClassNo, Kind, ObjKind};
@@ -14,6 +14,15 @@ pub(crate) struct Header {
     pub(crate) len: usize,
     pub(crate) live: bool,
     pub(crate) mark: bool,
+}
+
+// A bit of an object.
+#[derive(Clone, Copy)]
+pub(crate) enum Bit {
+    // Whether the object is live.
+    Live,
+    // Whether the object is marked.
+    Mark,
 }
 
 // The sort of a cell: free, or the sort of the object in it.
@@ -117,6 +126,18 @@ impl Cell {
             live: self.live,
             mark: self.mark,
         })
+    }
+
+    // Writes a bit of the object in the cell, which must have one.
+    #[inline(always)]
+    pub(crate) fn set_bit(&mut self, bit: Bit, on: bool)
+        requires { IsSome self.old }
+        ensures { self.new ≡ option_map (with_bit bit on) self.old }
+    {
+        match bit {
+            Bit::Live => self.live = on,
+            Bit::Mark => self.mark = on,
+        }
     }
 
     // Tells whether the object in the cell is live. False if the cell is free.

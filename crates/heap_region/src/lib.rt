@@ -9,10 +9,10 @@ ghost use Rattle.heap_class.specs.declared.ObjRef.{ObjRef};
 ghost use Rattle.heap_class.specs.declared.Refusal.TheVariants.{NoMemory};
 ghost use Rattle.heap_region.specs.Limits.{region_limit, region_words, cell_limit};
 ghost use Rattle.heap_region.specs.RegionCopies.{region_frozen};
-ghost use Rattle.heap_region.specs.Regions.{FitsWords, Object, UsedRegion, object_at, object_of, used_at, id_of, ref_of, with_mark, with_word, live_places};
+ghost use Rattle.heap_region.specs.Regions.{FitsWords, Object, UsedRegion, object_at, object_of, used_at, id_of, ref_of, with_mark, with_object, with_word, live_places};
 ghost use Rattle.heap_region.specs.Pool.{RegionPool, opening_pool, alloc_refusal, is_fresh, free_place, new_place, taken, freed, released, restored, allocated, unallocated, blank_object};
 ghost use Rattle.heap_region.specs.Legal.{IsCellTable, IsRegionPool};
-ghost use Rattle.heap_region.specs.Layout.{IsCellSize};
+ghost use Rattle.heap_region.specs.Layout.{IsCellSize, bit_set};
 ghost use Rattle.heap_region.specs.Changes.{with_live, with_pending};
 ghost use Rattle.heap_region.specs.Live.{cells_of, live_in, live_from};
 
@@ -24,14 +24,15 @@ mod sizes;
 mod slots;
 mod storage;
 
+use cell::Bit;
 use free_classes::FreeClasses;
 pub use frozen_region::FrozenRegion;
 use heap_class::{ObjKind, ObjRef, Refusal};
 pub use lists::{FreeCells, PoolRegions};
 pub use sizes::{OBJECT_BASE, REGION_WORDS, cell_size_for};
 use slots::{
-    first_free_in, free_class, free_in, pool_head, set_live_in, set_mark_in, set_pending_in,
-    set_word_in, size_class, slot_at, take_in, unfree_in,
+    first_free_in, free_class, free_in, pool_head, set_bit_in, set_pending_in, set_word_in,
+    size_class, slot_at, take_in, unfree_in,
 };
 use std::alloc::{AllocError, Global};
 use std::marker::Model;
@@ -302,11 +303,13 @@ impl Regions {
         requires { IsSome (object_of self.now.regions id) }
         ensures { ref_of self.now.regions id ≡ Some result }
     {
+        // There are at most 256 regions.
+        let _count = self.count();
         let word = (id - OBJECT_BASE) / 8;
-        let region = word / REGION_WORDS;
+        let region = (word / REGION_WORDS) as u16;
         let size = self.storage(region as usize).cell_size() as u64;
         ObjRef {
-            region: region as u16,
+            region,
             cell: (word % REGION_WORDS / size) as u16,
         }
     }
@@ -339,7 +342,7 @@ impl Regions {
             → self.old ≡ record before { regions = with_mark was at before.regions }
             → self.new ≡ before }
     {
-        set_mark_in(&mut self.slots[at.region as usize], at.cell as usize, mark);
+        self.set_bit(at, Bit::Mark, mark)
     }
 
     /// Writes the `live` bit of an object, which must be there. A call with the old bit undoes it. Takes no memory.
@@ -352,7 +355,7 @@ impl Regions {
             → self.old ≡ record before { regions = with_live was at before.regions }
             → self.new ≡ before }
     {
-        set_live_in(&mut self.slots[at.region as usize], at.cell as usize, live);
+        self.set_bit(at, Bit::Live, live)
     }
 
     /// Sets whether a region in use waits to be swept. A call with the old flag undoes it. Takes no memory.
@@ -498,6 +501,21 @@ impl Regions {
             free_classes,
             pool,
         })
+    }
+
+    // Writes a bit of an object, which must be there.
+    #[inline(always)]
+    fn set_bit(&mut self, at: ObjRef, bit: Bit, on: bool)
+        requires { IsSome (object_at self.old.regions at) }
+        ensures { self.new
+            ≡ record self.old { regions = with_object at (bit_set bit on) self.old.regions } }
+    {
+        set_bit_in(
+            &mut self.slots[at.region as usize],
+            at.cell as usize,
+            bit,
+            on,
+        );
     }
 
     // Returns the storage of a region if it is in use.

@@ -2,11 +2,11 @@
 ghost use Rattle.std.specs.Prelude.{◌≡◌, ℕ, ◌+◌, ◌-◌, ◌*◌, ◌/◌, ◌<◌, ◌≤◌, [], length, IfOk, IsSome, IfSome, slice_index, slice_index_or, replicate, take, drop, Some, None, is_some, option_map, slice_get, slice_set};
 ghost use Rattle.heap_region.specs.Regions.{FitsWords, cell_object};
 ghost use Rattle.heap_region.specs.Pool.{blank_object, cell_freed, fresh_region};
-ghost use Rattle.heap_region.specs.Layout.{next_link, IsCellSize, IsWholeRegion, words_at, changed_at, word_set, mark_set, live_set, cell_filled, Heads, overwritten, header_live};
+ghost use Rattle.heap_region.specs.Layout.{next_link, IsCellSize, IsWholeRegion, words_at, changed_at, word_set, bit_set, with_bit, cell_filled, Heads, overwritten, header_live};
 ghost use Rattle.heap_region.specs.Live.{IsNextLive};
 ghost use Rattle.heap_region.specs.Limits.{region_words, cell_limit};
 
-use crate::cell::{Cell, Header};
+use crate::cell::{Bit, Cell, Header};
 use crate::lists::FreeCells;
 use arrayvec::ArrayVec;
 use heap_class::ObjKind;
@@ -153,12 +153,19 @@ pub(crate) fn part(words: &[u64], start: usize, len: usize) -> &[u64]
     &words[start..start + len]
 }
 
-// Sets the `len` words from `start` on to 0.
+// Sets the `len` words from `start` on to 0. A known number of words is written without a call.
+#[inline(always)]
 fn clear(words: &mut [u64], start: usize, len: usize)
     requires { start + len ≤ length words.old }
     ensures { words.new ≡ overwritten words.old start (replicate len 0) }
 {
-    words[start..start + len].fill(0);
+    match len {
+        1 => words[start..start + 1].fill(0),
+        2 => words[start..start + 2].fill(0),
+        3 => words[start..start + 3].fill(0),
+        4 => words[start..start + 4].fill(0),
+        _ => words[start..start + len].fill(0),
+    }
 }
 
 // Copies words over those from `start` on.
@@ -189,6 +196,17 @@ pub(crate) fn set_header(headers: &mut ArrayVec<Cell, 256>, cell: usize, header:
     ensures { headers.new.items ≡ slice_set headers.old.items cell (Some header) }
 {
     headers[cell] = Cell::with_header(header);
+}
+
+// Writes a bit of the object in a cell, which must have one.
+#[inline(always)]
+fn set_bit_at(headers: &mut ArrayVec<Cell, 256>, cell: usize, bit: Bit, on: bool)
+    requires { IsSome (slice_index_or headers.old.items cell None) }
+    ensures { headers.new.items
+        ≡ slice_set headers.old.items cell
+        (option_map (with_bit bit on) (slice_index_or headers.old.items cell None)) }
+{
+    headers[cell].set_bit(bit, on);
 }
 
 // Makes a cell free.
@@ -387,26 +405,14 @@ impl Storage {
         self.block.words[at] = value;
     }
 
-    // Writes the `mark` bit of the object in the cell.
-    pub(crate) fn set_mark(&mut self, cell: usize, mark: bool)
+    // Writes a bit of the object in the cell.
+    #[inline(always)]
+    pub(crate) fn set_bit(&mut self, cell: usize, bit: Bit, on: bool)
         requires { IsSome (cell_object self.old cell) }
-        ensures value { self.new ≡ changed_at self.old cell (mark_set mark) }
+        ensures value { self.new ≡ changed_at self.old cell (bit_set bit on) }
         ensures whole { IsWholeRegion self.new }
     {
-        let block = &mut *self.block;
-        let header = header_at(&block.headers, cell);
-        set_header(&mut block.headers, cell, Header { mark, ..header });
-    }
-
-    // Writes the `live` bit of the object in the cell.
-    pub(crate) fn set_live(&mut self, cell: usize, live: bool)
-        requires { IsSome (cell_object self.old cell) }
-        ensures value { self.new ≡ changed_at self.old cell (live_set live) }
-        ensures whole { IsWholeRegion self.new }
-    {
-        let block = &mut *self.block;
-        let header = header_at(&block.headers, cell);
-        set_header(&mut block.headers, cell, Header { live, ..header });
+        set_bit_at(&mut self.block.headers, cell, bit, on);
     }
 
     // Returns a copy of the object in the cell. Fails if the allocation fails.

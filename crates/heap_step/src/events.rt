@@ -204,6 +204,7 @@ fn snap(world: &mut World) -> Result<(Answer, Undo), Refusal>
 }
 
 // Applies an event that marks the children of the newest gray object.
+#[inline(always)]
 fn mark(world: &mut World) -> Result<(Answer, Undo), Refusal>
     ensures { IsApplied Event.Mark world.old world.new result }
 {

@@ -28,9 +28,9 @@ mod numbers;
 mod opening;
 mod pins;
 mod records;
+mod ring;
 mod views;
 
-use circular_buffer::HeapCircularBuffer;
 pub use examples::worked_examples;
 use heap_class::{IdSize, Refusal};
 use heap_pins::touched_region;
@@ -40,6 +40,7 @@ use heap_world::{Config, World};
 use held::NumberedPin;
 use hprof_text::Piece;
 pub use listing::{ListedPin, PinStatus};
+use ring::RecordRing;
 use std::alloc::Global;
 use std::marker::Model;
 
@@ -94,7 +95,7 @@ pub struct PinAt {
 pub struct Machine {
     alloc: Global,
     world: World,
-    records: HeapCircularBuffer<Undo>,
+    records: RecordRing,
     place: u64,
     keep: u64,
     ids: IdSize,
@@ -136,7 +137,7 @@ fn keep_each(pins: &mut [NumberedPin], world: &World, left: &Undo)
 
 // Puts a record into the ring. The record that leaves a full ring at its old end is dropped, with the memory that it holds.
 #[inline(never)]
-fn add_record(records: &mut HeapCircularBuffer<Undo>, left: Undo)
+fn add_record(records: &mut RecordRing, left: Undo)
     ensures { records.new ≡ with_record left records.old }
 {
     records.push_front(left);
@@ -144,29 +145,19 @@ fn add_record(records: &mut HeapCircularBuffer<Undo>, left: Undo)
 
 // Has each pin keep what the step that left this record and led to this state overwrote, and puts the record into the ring.
 #[inline(never)]
-fn keep_and_add(
-    pins: &mut [NumberedPin],
-    world: &World,
-    records: &mut HeapCircularBuffer<Undo>,
-    left: Undo,
-)
+fn keep_and_add(pins: &mut [NumberedPin], world: &World, records: &mut RecordRing, left: Undo)
     requires step { (e : Event) × (before : HeapState) × IsStep e before world.now left }
     requires sized { EachSized (length world.now.regions) pins.old }
     ensures pins { EachMayKeep left world.now pins.old pins.new }
     ensures records { records.new ≡ with_record left records.old }
 {
     keep_each(pins, world, &left);
-    add_record(records, left);
+    records.push_front(left);
 }
 
 // Does what `keep_and_add` does. Without pins the record goes to the ring at once.
 #[inline(always)]
-fn remember(
-    pins: &mut [NumberedPin],
-    world: &World,
-    records: &mut HeapCircularBuffer<Undo>,
-    left: Undo,
-)
+fn remember(pins: &mut [NumberedPin], world: &World, records: &mut RecordRing, left: Undo)
     requires step { (e : Event) × (before : HeapState) × IsStep e before world.now left }
     requires sized { EachSized (length world.now.regions) pins.old }
     ensures pins { EachMayKeep left world.now pins.old pins.new }
@@ -200,7 +191,7 @@ impl Machine {
         let ids = config.ids();
         let world = World::new(alloc, config)?;
         let pins = Vec::with_capacity(alloc, PIN_LIMIT)?;
-        match HeapCircularBuffer::with_capacity(alloc, keep as usize) {
+        match RecordRing::with_capacity(alloc, keep as usize) {
             Ok(records) => {
                 // Its contract says that the heap is legal.
                 world.phase();

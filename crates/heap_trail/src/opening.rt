@@ -4,10 +4,9 @@ ghost use Rattle.heap_class.specs.declared.Refusal.TheVariants.{NoMemory};
 ghost use Rattle.heap_trail.specs.Records.{AreRecorded};
 ghost use Rattle.heap_trail.specs.Past.{HoldsPast};
 
-use circular_buffer::HeapCircularBuffer;
+use crate::ring::RecordRing;
 use heap_class::Refusal;
 use heap_pins::Pin;
-use heap_step::Undo;
 use heap_world::World;
 use std::alloc::Global;
 
@@ -16,7 +15,7 @@ use std::alloc::Global;
 pub(crate) fn past_pin(
     alloc: Global,
     world: &World,
-    records: &HeapCircularBuffer<Undo>,
+    records: &RecordRing,
     n: u64,
 ) -> Result<Pin, Refusal>
     requires recorded { AreRecorded world.now records.now.items }

@@ -10,6 +10,7 @@ use crate::cell::{Bit, Cell, Header};
 use crate::lists::FreeCells;
 use arrayvec::ArrayVec;
 use heap_class::ObjKind;
+use smallvec::SmallVec;
 use std::alloc::{AllocError, Global};
 use std::marker::Model;
 
@@ -55,7 +56,8 @@ impl Model for Storage {
 #[derive(Drop)]
 pub struct ObjectCopy {
     pub(crate) kind: ObjKind,
-    pub(crate) words: Vec<u64>,
+    // Those of the smallest cells need no allocation.
+    pub(crate) words: SmallVec<u64, 4>,
     pub(crate) live: bool,
     pub(crate) mark: bool,
 }
@@ -423,7 +425,7 @@ impl Storage {
         let block = &*self.block;
         let header = header_at(&block.headers, cell);
         let start = cell * self.cell_size as usize;
-        let words = Vec::from_slice(alloc, part(&block.words, start, header.len))?;
+        let words = SmallVec::from_slice(alloc, part(&block.words, start, header.len))?;
         Ok(ObjectCopy {
             kind: header.kind,
             words,

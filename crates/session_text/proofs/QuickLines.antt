@@ -3,13 +3,13 @@ use Rattle.std.proofs.Common.{◌≡◌, Bool, true, false, cond, inl, inr, subs
 use Rattle.std.specs.Prelude.{◌==◌, suc, unwrap_or, option_map, option_and_then}
 use Rattle.std.proofs.lemmas.List.{drop_all, length-take-le, get_or-take}
 use Rattle.heap_step.specs.declared.Event.TheVariants.{Load, Store, Put, Move, Clear, New, Mark}
-use Rattle.heap_trail.specs.declared.Action.TheVariants.{Step}
+use Rattle.heap_trail.specs.declared.Action.TheVariants.{Step, Rewind}
 use Rattle.session_grammar.specs.declared.command.Command.{Command}
 use Rattle.session_grammar.specs.declared.command.Command.TheVariants.{Bad, Ask}
-use Rattle.session_grammar.specs.Grammar.{words_of_line, next_number, at_end, two_numbers, three_numbers, four_numbers, new_line, load_line, store_line, put_line, move_line, clear_line, step_line, making_rules, access_rules, marking_rules, session_rules, by_rule, without_cr, command_of_text, command_of}
+use Rattle.session_grammar.specs.Grammar.{words_of_line, next_number, at_end, one_number, two_numbers, three_numbers, four_numbers, new_line, load_line, store_line, put_line, move_line, clear_line, step_line, rewind_line, making_rules, access_rules, marking_rules, session_rules, by_rule, without_cr, command_of_text, command_of}
 use Rattle.session_grammar.specs.Reads.{IsNumberFrom, IsNumberThen, plain_class_rules, plain_rules}
 use Rattle.session_grammar.specs.Lines.{NoLf}
-use Rattle.session_text.specs.Mutators.{Follows, FollowsIn, IsEventAsked, IsPassed, IsQuickIn, IsShortLine}
+use Rattle.session_text.specs.Mutators.{Follows, FollowsIn, IsActionAsked, IsPassed, IsQuickIn, IsShortLine}
 use Rattle.session_text.specs.declared.mutator.Quick.{Quick}
 use Rattle.session_text.specs.declared.mutator.Quick.TheVariants.{No, Next, Fault}
 use Rattle.dump_pump.specs.Outlets.{Outgoing}
@@ -57,6 +57,10 @@ new_rule ws = refl
 pub mark_rule : (ws : List (List ℕ)) → by_rule plain_rules (codes "mark") ws ≡ step_line Mark ws
 unfolding by_rule plain_class_rules making_rules access_rules marking_rules session_rules
 mark_rule ws = refl
+
+pub rewind_rule : (ws : List (List ℕ)) → by_rule plain_rules (codes "rewind") ws ≡ rewind_line ws
+unfolding by_rule plain_class_rules making_rules access_rules marking_rules session_rules
+rewind_rule ws = refl
 
 -- ---- keywords
 
@@ -141,6 +145,21 @@ new_follows t le e0 e1 e2 e3 =
     let t0 : drop 0 t ≡ 110 ∷ 101 ∷ 119 ∷ 32 ∷ drop 4 t = byte_then t 0 110 (101 ∷ 119 ∷ 32 ∷ drop 4 t) (omega (arith, le)) e0 t1 in
     ap words_of_line t0 ∙ new_word (drop 4 t)
 
+rewind_word : (r : List ℕ) → words_of_line (114 ∷ 101 ∷ 119 ∷ 105 ∷ 110 ∷ 100 ∷ 32 ∷ r) ≡ codes "rewind" ∷ words_of_line r
+unfolding words_of_line
+rewind_word r = refl
+
+rewind_follows : (t : List ℕ) → 7 ≤ length t → get_or t 0 0 ≡ 114 → get_or t 1 0 ≡ 101 → get_or t 2 0 ≡ 119 → get_or t 3 0 ≡ 105 → get_or t 4 0 ≡ 110 → get_or t 5 0 ≡ 100 → get_or t 6 0 ≡ 32 → Follows (codes "rewind") t 7
+rewind_follows t le e0 e1 e2 e3 e4 e5 e6 =
+    let t6 : drop 6 t ≡ 32 ∷ drop 7 t = byte_then t 6 32 (drop 7 t) (omega (arith, le)) e6 refl in
+    let t5 : drop 5 t ≡ 100 ∷ 32 ∷ drop 7 t = byte_then t 5 100 (32 ∷ drop 7 t) (omega (arith, le)) e5 t6 in
+    let t4 : drop 4 t ≡ 110 ∷ 100 ∷ 32 ∷ drop 7 t = byte_then t 4 110 (100 ∷ 32 ∷ drop 7 t) (omega (arith, le)) e4 t5 in
+    let t3 : drop 3 t ≡ 105 ∷ 110 ∷ 100 ∷ 32 ∷ drop 7 t = byte_then t 3 105 (110 ∷ 100 ∷ 32 ∷ drop 7 t) (omega (arith, le)) e3 t4 in
+    let t2 : drop 2 t ≡ 119 ∷ 105 ∷ 110 ∷ 100 ∷ 32 ∷ drop 7 t = byte_then t 2 119 (105 ∷ 110 ∷ 100 ∷ 32 ∷ drop 7 t) (omega (arith, le)) e2 t3 in
+    let t1 : drop 1 t ≡ 101 ∷ 119 ∷ 105 ∷ 110 ∷ 100 ∷ 32 ∷ drop 7 t = byte_then t 1 101 (119 ∷ 105 ∷ 110 ∷ 100 ∷ 32 ∷ drop 7 t) (omega (arith, le)) e1 t2 in
+    let t0 : drop 0 t ≡ 114 ∷ 101 ∷ 119 ∷ 105 ∷ 110 ∷ 100 ∷ 32 ∷ drop 7 t = byte_then t 0 114 (101 ∷ 119 ∷ 105 ∷ 110 ∷ 100 ∷ 32 ∷ drop 7 t) (omega (arith, le)) e0 t1 in
+    ap words_of_line t0 ∙ rewind_word (drop 7 t)
+
 -- ---- keywords of a text's first line
 
 first : (t : List ℕ) (n i : ℕ) → i < n → get_or (take n t) i 0 ≡ get_or t i 0
@@ -203,6 +222,17 @@ new_in t le e0 e1 e2 e3 =
     let n3 : NoLf (take 4 t) = no_lf_more t 3 (omega (arith, le)) (other_byte t 3 32 e3 refl) n2 in
     (le, n3, λ n low most. new_follows (take n t) (omega (arith, length-take-le n t most, low)) (first t n 0 (omega (arith, low)) ∙ e0) (first t n 1 (omega (arith, low)) ∙ e1) (first t n 2 (omega (arith, low)) ∙ e2) (first t n 3 (omega (arith, low)) ∙ e3))
 
+pub rewind_in : (t : List ℕ) → 7 ≤ length t → get_or t 0 0 ≡ 114 → get_or t 1 0 ≡ 101 → get_or t 2 0 ≡ 119 → get_or t 3 0 ≡ 105 → get_or t 4 0 ≡ 110 → get_or t 5 0 ≡ 100 → get_or t 6 0 ≡ 32 → FollowsIn (codes "rewind") t 7
+rewind_in t le e0 e1 e2 e3 e4 e5 e6 =
+    let n0 : NoLf (take 1 t) = no_lf_more t 0 (omega (arith, le)) (other_byte t 0 114 e0 refl) (none_yet t) in
+    let n1 : NoLf (take 2 t) = no_lf_more t 1 (omega (arith, le)) (other_byte t 1 101 e1 refl) n0 in
+    let n2 : NoLf (take 3 t) = no_lf_more t 2 (omega (arith, le)) (other_byte t 2 119 e2 refl) n1 in
+    let n3 : NoLf (take 4 t) = no_lf_more t 3 (omega (arith, le)) (other_byte t 3 105 e3 refl) n2 in
+    let n4 : NoLf (take 5 t) = no_lf_more t 4 (omega (arith, le)) (other_byte t 4 110 e4 refl) n3 in
+    let n5 : NoLf (take 6 t) = no_lf_more t 5 (omega (arith, le)) (other_byte t 5 100 e5 refl) n4 in
+    let n6 : NoLf (take 7 t) = no_lf_more t 6 (omega (arith, le)) (other_byte t 6 32 e6 refl) n5 in
+    (le, n6, λ n low most. rewind_follows (take n t) (omega (arith, length-take-le n t most, low)) (first t n 0 (omega (arith, low)) ∙ e0) (first t n 1 (omega (arith, low)) ∙ e1) (first t n 2 (omega (arith, low)) ∙ e2) (first t n 3 (omega (arith, low)) ∙ e3) (first t n 4 (omega (arith, low)) ∙ e4) (first t n 5 (omega (arith, low)) ∙ e5) (first t n 6 (omega (arith, low)) ∙ e6))
+
 pub mark_word : words_of_line (codes "mark") ≡ codes "mark" ∷ []
 unfolding words_of_line
 mark_word = refl
@@ -233,6 +263,9 @@ no_words : (t : List ℕ) (n : ℕ) → length t ≤ n → words_of_line (drop n
 unfolding words_of_line
 no_words t n le = ap words_of_line (drop_all n t le)
 
+one_then : (ws : Words) (a : ℕ) (xs : Words) → next_number ws ≡ Some (a, xs) → xs ≡ [] → one_number ws ≡ Some a
+one_then ws a xs f none = ap (λ o. option_and_then (λ p. at_end p.0 p.1) o) f ∙ ap (λ l. at_end a l) none
+
 two_then : (ws : Words) (a b : ℕ) (xs ys : Words) → next_number ws ≡ Some (a, xs) → next_number xs ≡ Some (b, ys) → ys ≡ [] → two_numbers ws ≡ Some (a, b)
 two_then ws a b xs ys f g none =
     ap (λ o. option_and_then (λ p. option_and_then (λ q. at_end (p.0, q.0) q.1) (next_number p.1)) o) f
@@ -253,6 +286,11 @@ four_then ws a b c d xs ys zs us f g h i none =
     ∙ ap (λ o. option_and_then (λ r. option_and_then (λ s. at_end (a, b, r.0, s.0) s.1) (next_number r.1)) o) h
     ∙ ap (λ o. option_and_then (λ s. at_end (a, b, c, s.0) s.1) o) i
     ∙ ap (λ l. at_end (a, b, c, d) l) none
+
+one_read : (t : List ℕ) (at0 a at1 : ℕ) → IsNumberFrom t at0 a at1 → at1 ≡ length t + 1 → one_number (words_of_line (drop at0 t)) ≡ Some a
+one_read t at0 a at1 f end =
+    let x = f (omega (arith, end)) in
+    one_then (words_of_line (drop at0 t)) a (words_of_line (drop at1 t)) x.1 (no_words t at1 (omega (arith, end)))
 
 two_read : (t : List ℕ) (at0 a at1 b at2 : ℕ) → IsNumberFrom t at0 a at1 → IsNumberFrom t at1 b at2 → at2 ≡ length t + 1 → two_numbers (words_of_line (drop at0 t)) ≡ Some (a, b)
 two_read t at0 a at1 b at2 f g end =
@@ -292,6 +330,17 @@ ends_line t at value end few none f lt =
     let last : get_or l (length l - 1) 0 ≡ get_or t (end - 1) 0 = ap (λ n. get_or l (n - 1) 0) size ∙ get_or-take end t (end - 1) 0 (omega (arith, r.0)) in
     let other : (get_or l (length l - 1) 0 == 13) ≡ false = ne_eqb (get_or l (length l - 1) 0) 13 (λ e. omega (arith, low, last, e)) in
     ((lt, r.4 none, split_at t end lt r.2), omega (arith, r.1, few), sym (ap (λ v. cond v (take (length l - 1) l) l) other))
+
+pub one_line : (t : List ℕ) (at a e0 : ℕ) → at ≤ 7 → NoLf (take at t) → IsNumberThen t at 10 a e0 → e0 < length t → IsShortLine e0 t × (at ≤ e0)
+one_line t at a e0 few none f lt =
+    let x = f lt in
+    (ends_line t at a e0 (omega (arith, few)) none f lt, omega (arith, x.0))
+
+pub one_words : (t : List ℕ) (at a e0 : ℕ) → IsNumberThen t at 10 a e0 → e0 < length t → one_number (words_of_line (drop at (take e0 t))) ≡ Some a
+one_words t at a e0 f lt =
+    let x = f lt in
+    let le : e0 ≤ length t = omega (arith, lt) in
+    one_read (take e0 t) at a (e0 + 1) (x.5 e0 le (inl refl)) (omega (arith, length-take-le e0 t le))
 
 pub two_line : (t : List ℕ) (at a e0 b e1 : ℕ) → at ≤ 6 → NoLf (take at t) → IsNumberThen t at 32 a e0 → IsNumberThen t (e0 + 1) 10 b e1 → e1 < length t → IsShortLine e1 t × (at ≤ e1)
 two_line t at a e0 b e1 few none f g lt =
@@ -370,17 +419,20 @@ asks_clear t a b key has = asks t (codes "clear") (words_of_line (drop 6 t)) (As
 pub asks_new : (t : List ℕ) (a b c : ℕ) → Follows (codes "new") t 4 → three_numbers (words_of_line (drop 4 t)) ≡ Some (a, b, c) → command_of_text t ≡ Ask (Step (New a b c))
 asks_new t a b c key has = asks t (codes "new") (words_of_line (drop 4 t)) (Ask (Step (New a b c))) key (new_rule (words_of_line (drop 4 t)) ∙ ap (λ o. option_map (λ n. Ask (Step (New n.0 n.1 n.2))) o) has)
 
+pub asks_rewind : (t : List ℕ) (a : ℕ) → Follows (codes "rewind") t 7 → one_number (words_of_line (drop 7 t)) ≡ Some a → command_of_text t ≡ Ask (Rewind a)
+asks_rewind t a key has = asks t (codes "rewind") (words_of_line (drop 7 t)) (Ask (Rewind a)) key (rewind_rule (words_of_line (drop 7 t)) ∙ ap (λ o. option_map (λ n. Ask (Rewind n)) o) has)
+
 -- ---- the answer of a line
 
 flow_asked : {S : Type 0} (acts : Acts S) (unknown : Reaction S) (time : ℕ) (k : Command) (c : S) (page : List ℕ) (w : Outgoing) (c' : S) (page' : List ℕ) (w' : Outgoing) (r : Bool)
-    → IsEventAsked acts k c page w c' page' w' r → IsLineFlow (AnswersTo acts unknown time k) (BeginsTo acts unknown time k) k c page w c' page' w' (flow_of r)
+    → IsActionAsked acts k c page w c' page' w' r → IsLineFlow (AnswersTo acts unknown time k) (BeginsTo acts unknown time k) k c page w c' page' w' (flow_of r)
 flow_asked acts unknown time k c page w c' page' w' r h =
-    let says : AnswersTo acts unknown time (Ask (Step h.0)) c (reply_text h.2.0) c' = (h.2.0, inl h.2.1, refl) in
-    subst (λ x. IsLineFlow (AnswersTo acts unknown time x) (BeginsTo acts unknown time x) x c page w c' page' w' (flow_of r)) (sym h.1) (flow_added (AnswersTo acts unknown time (Ask (Step h.0))) (BeginsTo acts unknown time (Ask (Step h.0))) (Ask (Step h.0)) c page w c' page' w' (reply_text h.2.0) r says says h.2.2)
+    let says : AnswersTo acts unknown time (Ask h.0) c (reply_text h.2.0) c' = (h.2.0, inl h.2.1, refl) in
+    subst (λ x. IsLineFlow (AnswersTo acts unknown time x) (BeginsTo acts unknown time x) x c page w c' page' w' (flow_of r)) (sym h.1) (flow_added (AnswersTo acts unknown time (Ask h.0)) (BeginsTo acts unknown time (Ask h.0)) (Ask h.0) c page w c' page' w' (reply_text h.2.0) r says says h.2.2)
 
 -- the first line of a text, which was answered at once
 pub step_quick : {S : Type 0} (acts : Acts S) (unknown : AnswerRelation S) (time : ℕ) (line : List ℕ) (c : S) (page : List ℕ) (w : Outgoing) (c' : S) (page' : List ℕ) (w' : Outgoing) (r : Bool)
-    → line ≡ without_cr line → IsEventAsked acts (command_of_text line) c page w c' page' w' r → IsLineFlow (AnswersCommand acts unknown time line) (Begins acts unknown time line) (command_of line) c page w c' page' w' (flow_of r)
+    → line ≡ without_cr line → IsActionAsked acts (command_of_text line) c page w c' page' w' r → IsLineFlow (AnswersCommand acts unknown time line) (Begins acts unknown time line) (command_of line) c page w c' page' w' (flow_of r)
 unfolding command_of
 step_quick acts unknown time line c page w c' page' w' r is h =
     subst (λ t. IsLineFlow (AnswersTo acts (unknown t) time (command_of_text t)) (BeginsTo acts (unknown t) time (command_of_text t)) (command_of_text t) c page w c' page' w' (flow_of r)) is (flow_asked acts (unknown line) time (command_of_text line) c page w c' page' w' r h)

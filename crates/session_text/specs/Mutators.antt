@@ -2,8 +2,7 @@
 use Rattle.std.specs.Prelude.{◌≡◌, ℕ, ◌+◌, ◌-◌, ◌<◌, ◌≤◌, Bool, true, false, List, ◌∷◌, get_or, take, drop, length, codes}
 use Rattle.std.specs.Char.{is_ascii_digit}
 use Rattle.dump_pump.specs.Outlets.{Outgoing}
-use Rattle.heap_step.specs.declared.Event.{Event}
-use Rattle.heap_trail.specs.declared.Action.TheVariants.{Step}
+use Rattle.heap_trail.specs.declared.Action.{Action}
 use Rattle.heap_trail.specs.declared.Reply.{Reply}
 use Rattle.session_grammar.specs.declared.TheConstants.{LINE_LIMIT}
 use Rattle.session_grammar.specs.declared.command.Command.{Command}
@@ -11,7 +10,7 @@ use Rattle.session_grammar.specs.declared.command.Command.TheVariants.{Ask}
 use Rattle.session_text.specs.declared.mutator.Quick.{Quick}
 use Rattle.session_text.specs.declared.mutator.Quick.TheVariants.{No, Next, Fault}
 use Rattle.session_text.specs.declared.mutator.Verb.{Verb}
-use Rattle.session_text.specs.declared.mutator.Verb.TheVariants.{Load, Store, Put, Move, Clear, New, Mark, Other}
+use Rattle.session_text.specs.declared.mutator.Verb.TheVariants.{Load, Store, Put, Move, Clear, New, Mark, Rewind, Other}
 use Rattle.session_text.specs.Dumps.{Acts}
 use Rattle.session_grammar.specs.Grammar.{words_of_line, command_of_text, without_cr}
 use Rattle.session_grammar.specs.Lines.{NoLf, IsLineAt}
@@ -54,28 +53,29 @@ IsVerb text Move = FollowsIn (codes "move") text 5
 IsVerb text Clear = FollowsIn (codes "clear") text 6
 IsVerb text New = FollowsIn (codes "new") text 4
 IsVerb text Mark = IsShortLine 4 text × (take 4 text ≡ codes "mark")
+IsVerb text Rewind = FollowsIn (codes "rewind") text 7
 IsVerb text Other = Unit {0}
 
--- the event was done, and its reply was added
-abbrev pub IsEventDone : {S : Type 0} → Acts S → Event → S → List ℕ → Outgoing → S → List ℕ
+-- the action was done, and its reply was added
+abbrev pub IsActionDone : {S : Type 0} → Acts S → Action → S → List ℕ → Outgoing → S → List ℕ
     → Outgoing
     → Bool → Type 0
-IsEventDone acts e c page w c' page' w' added =
-    (r : Reply) × acts c (Step e) r c' × IsTextAdded (reply_text r) page w page' w' added
+IsActionDone acts a c page w c' page' w' added =
+    (r : Reply) × acts c a r c' × IsTextAdded (reply_text r) page w page' w' added
 
--- the line's command asks for an event, which was done, and its reply was added
-abbrev pub IsEventAsked : {S : Type 0} → Acts S → Command → S → List ℕ → Outgoing → S → List ℕ
+-- the line's command asks for an action, which was done, and its reply was added
+abbrev pub IsActionAsked : {S : Type 0} → Acts S → Command → S → List ℕ → Outgoing → S → List ℕ
     → Outgoing
     → Bool → Type 0
-IsEventAsked acts k c page w c' page' w' added =
-    (e : Event) × (k ≡ Ask (Step e)) × IsEventDone acts e c page w c' page' w' added
+IsActionAsked acts k c page w c' page' w' added =
+    (a : Action) × (k ≡ Ask a) × IsActionDone acts a c page w c' page' w' added
 
 -- the outcome of a fast reading of a line's command
 abbrev pub IsQuick : {S : Type 0} → Acts S → Command → S → List ℕ → Outgoing → S → List ℕ → Outgoing
     → Quick → Type 0
 IsQuick acts k c page w c' page' w' No = (c' ≡ c) × (page' ≡ page) × (w' ≡ w)
-IsQuick acts k c page w c' page' w' Next = IsEventAsked acts k c page w c' page' w' true
-IsQuick acts k c page w c' page' w' Fault = IsEventAsked acts k c page w c' page' w' false
+IsQuick acts k c page w c' page' w' Next = IsActionAsked acts k c page w c' page' w' true
+IsQuick acts k c page w c' page' w' Fault = IsActionAsked acts k c page w c' page' w' false
 
 -- if a text's first line was answered, it ends here
 abbrev pub IsPassed : List ℕ → Quick → ℕ → Type 0

@@ -2,7 +2,7 @@
 ghost use Rattle.std.specs.Prelude.{◌≡◌, ◌≤◌, Some, codes, length, take, drop, IfSome};
 ghost use Rattle.heap_trail.specs.declared.Action.TheVariants.{Step};
 ghost use Rattle.session_grammar.specs.declared.command.Command.TheVariants.{Ask};
-ghost use Rattle.session_grammar.specs.Grammar.{words_of_line, two_numbers, three_numbers, four_numbers, command_of_text};
+ghost use Rattle.session_grammar.specs.Grammar.{words_of_line, one_number, two_numbers, three_numbers, four_numbers, command_of_text};
 ghost use Rattle.session_grammar.specs.Lines.{NoLf};
 ghost use Rattle.session_text.specs.Mutators.{AreThreeThen, FollowsIn, IsDigitThen, IsVerb, IsQuick, IsQuickIn, IsShortLine};
 
@@ -33,6 +33,8 @@ enum Verb {
     New,
     // The whole line `mark`.
     Mark,
+    // `rewind `.
+    Rewind,
     // Any other.
     Other,
 }
@@ -50,7 +52,7 @@ pub enum Quick {
 
 // Returns the keyword that a text begins with.
 #[inline(always)]
-#[tactic(auto, using(crate::proofs::QuickLines::load_in, crate::proofs::QuickLines::store_in, crate::proofs::QuickLines::put_in, crate::proofs::QuickLines::move_in, crate::proofs::QuickLines::clear_in, crate::proofs::QuickLines::new_in, crate::proofs::QuickLines::mark_in))]
+#[tactic(auto, using(crate::proofs::QuickLines::load_in, crate::proofs::QuickLines::store_in, crate::proofs::QuickLines::put_in, crate::proofs::QuickLines::move_in, crate::proofs::QuickLines::clear_in, crate::proofs::QuickLines::new_in, crate::proofs::QuickLines::mark_in, crate::proofs::QuickLines::rewind_in))]
 fn verb_of(text: &[u8]) -> Verb
     ensures { IsVerb text.now result }
 {
@@ -62,8 +64,24 @@ fn verb_of(text: &[u8]) -> Verb
         [b'c', b'l', b'e', b'a', b'r', SPACE, ..] => Verb::Clear,
         [b'n', b'e', b'w', SPACE, ..] => Verb::New,
         [b'm', b'a', b'r', b'k', LF, ..] => Verb::Mark,
+        [b'r', b'e', b'w', b'i', b'n', b'd', SPACE, ..] => Verb::Rewind,
         _ => Verb::Other,
     }
+}
+
+// Returns the number that the first line of a text has from a place on, and the line's end, or None if it has others.
+#[inline(always)]
+fn one_in(text: &[u8], at: usize) -> Option<(u64, usize)>
+    requires { (at ≤ 7) × (at ≤ length text.now) × NoLf (take at text.now) }
+    ensures line { IfSome result (λ r. IsShortLine r.1 text.now × (at ≤ r.1)) }
+    ensures number { IfSome result
+        (λ r. one_number (words_of_line (drop at (take r.1 text.now))) ≡ Some r.0) }
+{
+    let (n, end) = number_then(text, at, LF);
+    if end == text.len() {
+        return None;
+    }
+    Some((n, end))
 }
 
 // Returns the two numbers that the first line of a text has from a place on, and the line's end, or None if it has others.
@@ -149,6 +167,26 @@ fn four_in(text: &[u8], at: usize) -> Option<(u64, u64, u64, u64, usize)>
     Some((a, b, c, d, end))
 }
 
+// Does an action and adds its reply.
+#[inline(always)]
+fn answer_quick<O: Outlet, C: Commands>(
+    action: Action,
+    line: &[u8],
+    page: &mut Page,
+    writer: &mut O,
+    commands: &mut C,
+) -> Quick
+    requires { command_of_text line.now ≡ Ask action }
+    ensures { IsQuick C.acts (command_of_text line.now) commands.old page.old (O.seen writer.old)
+        commands.new page.new (O.seen writer.new) result }
+{
+    if answer_action(action, page, writer, commands) {
+        Quick::Next
+    } else {
+        Quick::Fault
+    }
+}
+
 // Does an event and adds its reply.
 #[inline(always)]
 fn answer_event<O: Outlet, C: Commands>(
@@ -162,11 +200,7 @@ fn answer_event<O: Outlet, C: Commands>(
     ensures { IsQuick C.acts (command_of_text line.now) commands.old page.old (O.seen writer.old)
         commands.new page.new (O.seen writer.new) result }
 {
-    if answer_action(Action::Step(event), page, writer, commands) {
-        Quick::Next
-    } else {
-        Quick::Fault
-    }
+    answer_quick(Action::Step(event), line, page, writer, commands)
 }
 
 // Answers `load M TO FROM SLOT`.
@@ -344,7 +378,26 @@ fn answer_mark<O: Outlet, C: Commands>(
     (quick, 4)
 }
 
-/// Answers the first line of a text at once, if it is one of a mutator or `mark`, in the shortest form: single spaces, none
+// Answers `rewind N`.
+#[inline(never)]
+fn answer_rewind<O: Outlet, C: Commands>(
+    text: &[u8],
+    page: &mut Page,
+    writer: &mut O,
+    commands: &mut C,
+) -> (Quick, usize)
+    requires { FollowsIn (codes "rewind") text.now 7 }
+    ensures { IsQuickIn C.acts text.now commands.old page.old (O.seen writer.old) commands.new
+        page.new (O.seen writer.new) result }
+{
+    let Some((n, end)) = one_in(text, 7) else {
+        return (Quick::No, 0);
+    };
+    let quick = answer_quick(Action::Rewind(n), &text[..end], page, writer, commands);
+    (quick, end)
+}
+
+/// Answers the first line of a text at once, if it is one of a mutator, `mark` or a rewind, in the shortest form: single spaces, none
 /// at the end. Returns the line's end, too.
 #[inline(always)]
 pub fn answer_mutator<O: Outlet, C: Commands>(
@@ -364,6 +417,7 @@ pub fn answer_mutator<O: Outlet, C: Commands>(
         Verb::Clear => answer_clear(text, page, writer, commands),
         Verb::New => answer_new(text, page, writer, commands),
         Verb::Mark => answer_mark(text, page, writer, commands),
+        Verb::Rewind => answer_rewind(text, page, writer, commands),
         Verb::Other => (Quick::No, 0),
     }
 }

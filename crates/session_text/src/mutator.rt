@@ -50,21 +50,41 @@ pub enum Quick {
     Fault,
 }
 
+// The first four bytes of each line that may be answered at once, as one number, the first byte lowest.
+const LOAD: u32 = 0x6461_6f6c;
+
+const STORE: u32 = 0x726f_7473;
+
+const PUT: u32 = 0x2074_7570;
+
+const MOVE: u32 = 0x6576_6f6d;
+
+const CLEAR: u32 = 0x6165_6c63;
+
+const NEW: u32 = 0x2077_656e;
+
+const MARK: u32 = 0x6b72_616d;
+
+const REWIND: u32 = 0x6977_6572;
+
 // Returns the keyword that a text begins with.
 #[inline(always)]
 #[tactic(auto, using(crate::proofs::QuickLines::load_in, crate::proofs::QuickLines::store_in, crate::proofs::QuickLines::put_in, crate::proofs::QuickLines::move_in, crate::proofs::QuickLines::clear_in, crate::proofs::QuickLines::new_in, crate::proofs::QuickLines::mark_in, crate::proofs::QuickLines::rewind_in))]
 fn verb_of(text: &[u8]) -> Verb
     ensures { IsVerb text.now result }
 {
-    match text {
-        [b'l', b'o', b'a', b'd', SPACE, ..] => Verb::Load,
-        [b's', b't', b'o', b'r', b'e', SPACE, ..] => Verb::Store,
-        [b'p', b'u', b't', SPACE, ..] => Verb::Put,
-        [b'm', b'o', b'v', b'e', SPACE, ..] => Verb::Move,
-        [b'c', b'l', b'e', b'a', b'r', SPACE, ..] => Verb::Clear,
-        [b'n', b'e', b'w', SPACE, ..] => Verb::New,
-        [b'm', b'a', b'r', b'k', LF, ..] => Verb::Mark,
-        [b'r', b'e', b'w', b'i', b'n', b'd', SPACE, ..] => Verb::Rewind,
+    let Some(first) = text.first_chunk::<4>() else {
+        return Verb::Other;
+    };
+    match (u32::from_le_bytes(*first), text) {
+        (LOAD, [_, _, _, _, SPACE, ..]) => Verb::Load,
+        (STORE, [_, _, _, _, b'e', SPACE, ..]) => Verb::Store,
+        (PUT, _) => Verb::Put,
+        (MOVE, [_, _, _, _, SPACE, ..]) => Verb::Move,
+        (CLEAR, [_, _, _, _, b'r', SPACE, ..]) => Verb::Clear,
+        (NEW, _) => Verb::New,
+        (MARK, [_, _, _, _, LF, ..]) => Verb::Mark,
+        (REWIND, [_, _, _, _, b'n', b'd', SPACE, ..]) => Verb::Rewind,
         _ => Verb::Other,
     }
 }

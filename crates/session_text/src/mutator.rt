@@ -50,21 +50,28 @@ pub enum Quick {
     Fault,
 }
 
-// The first four bytes of each line that may be answered at once, as one number, the first byte lowest.
+// The first four bytes of each line that may be answered at once, as one number whose lowest byte is the first: `load`.
 const LOAD: u32 = 0x6461_6f6c;
 
+// `stor`.
 const STORE: u32 = 0x726f_7473;
 
+// `put `.
 const PUT: u32 = 0x2074_7570;
 
+// `move`.
 const MOVE: u32 = 0x6576_6f6d;
 
+// `clea`.
 const CLEAR: u32 = 0x6165_6c63;
 
+// `new `.
 const NEW: u32 = 0x2077_656e;
 
+// `mark`.
 const MARK: u32 = 0x6b72_616d;
 
+// `rewi`.
 const REWIND: u32 = 0x6977_6572;
 
 // Returns the keyword that a text begins with.

@@ -313,8 +313,9 @@ def wrong_runs(command, library, wanted):
 # The most bytes that a session asks for at once, by what the documents say, and by how much a request may be larger. What comes
 # is read by up to 65,536 bytes; a line of 4,096 bytes has at most 1,024 fields, and where one stands takes 24 bytes; parts of a
 # saved dump are joined to 64 KiB; a record of the ring takes at most 32 bytes, and it has room for up to 64 records more than
-# are kept. Nothing else is larger than a region's box, which has 1,024 words and room for 256 headers of 16 bytes: not a part of a dump of these heaps, a page of answers, the gray stack (8
-# bytes for each of 256 cells of a region), lists of at most 256 regions or 3 sessions, or what is read of the command line.
+# are kept. Nothing else is larger than a region's box, which has 1,024 words and room for 256 headers of 16 bytes: not a part
+# of a dump of these heaps, a page of answers, the gray stack (8 bytes for each of 256 cells of a region), lists of at most 256
+# regions or 3 sessions, or what is read of the command line.
 READ, FIELDS, PAGE, RECORD, BOX = 65_536, 1024 * 24, 65_536, 32, 8192 + 4096
 MARGIN = 1.25
 

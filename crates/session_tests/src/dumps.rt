@@ -11,8 +11,8 @@ use std::test::*;
 // Bytes of the dump of one point.
 const SIZE: usize = 301;
 
-// Where its three pieces end.
-const ENDS: [usize; 4] = [0, 143, 292, 301];
+// How many of its bytes are out after some writes, if each of its three pieces is one.
+const PIECES: [(usize, usize); 4] = [(0, 0), (1, 143), (2, 292), (3, 301)];
 
 // Puts out the pieces of a pin that it has not given yet, by the pump.
 fn pump_pin<O: Outlet>(machine: &mut Machine, pin: u64, outlet: &mut O) -> Pumped {
@@ -80,12 +80,10 @@ fn each_ends(machine: &mut Machine, sink: Sink<'_>) -> bool {
 
 // Returns whether each piece is put out by a write.
 fn pieces_are_writes(machine: &mut Machine, sink: Sink<'_>) -> bool {
-    let mut writes = 0;
-    for bytes in ENDS {
+    for (writes, bytes) in PIECES {
         if !ends(machine, Sink { writes, ..sink }, bytes) {
             return false;
         }
-        writes += 1;
     }
     true
 }
@@ -137,19 +135,24 @@ fn dumped_below(machine: &mut Machine) -> Option<(Pumped, usize)> {
     Some((pumped, outlet.into_writer().taken))
 }
 
-// Does so with the machine of a point.
-fn point_dumped_below(alloc: Global) -> Option<(Pumped, usize)> {
-    let mut local = new_local(alloc, 16)?;
-    if is_answered(alloc, &mut local, POINT.as_bytes(), POINT_MADE.as_bytes()) {
+// Does so once there is a point.
+fn point_dumped_below(alloc: Global, local: &mut Local) -> Option<(Pumped, usize)> {
+    if is_answered(alloc, local, POINT.as_bytes(), POINT_MADE.as_bytes()) {
         return dumped_below(&mut local.machine);
     }
     None
+}
+
+// Does so on a new machine.
+fn new_point_dumped_below(alloc: Global) -> Option<(Pumped, usize)> {
+    let mut local = new_local(alloc, 16)?;
+    point_dumped_below(alloc, &mut local)
 }
 
 #[test]
 fn rewind_below_loses_the_dump(rt: HostRuntime) -> Result<(), Fail> {
     let cause = LostCause::Rewound;
     let lost = Pumped::Lost { cause, bytes: 0 };
-    assert!(rt; point_dumped_below(rt.alloc()) == Some((lost, 0)));
+    assert!(rt; new_point_dumped_below(rt.alloc()) == Some((lost, 0)));
     Ok(())
 }

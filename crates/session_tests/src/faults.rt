@@ -38,17 +38,20 @@ struct Sound {
     state: Vec<u8>,
 }
 
-// Plays a session of whole lines, and asks the questions.
-fn sound_in(alloc: Global, local: &mut Local, lines: &[u8]) -> Option<Sound> {
-    let text = answers(alloc, local, lines)?;
+// Plays a session of whole lines, and asks the questions. Adds an ending to what it writes.
+fn sound_in(alloc: Global, local: &mut Local, lines: &[u8], ending: &[u8]) -> Option<Sound> {
+    let mut text = answers(alloc, local, lines)?;
+    if text.extend_from_slice(ending).is_err() {
+        return None;
+    }
     let state = answers(alloc, local, QUESTIONS.as_bytes())?;
     Some(Sound { text, state })
 }
 
 // Does so on a new machine.
-fn sound_of(alloc: Global, lines: &[u8]) -> Option<Sound> {
+fn sound_of(alloc: Global, lines: &[u8], ending: &[u8]) -> Option<Sound> {
     let mut local = new_local(alloc, 1)?;
-    sound_in(alloc, &mut local, lines)
+    sound_in(alloc, &mut local, lines, ending)
 }
 
 // Tells whether a machine is as after a sound session.
@@ -56,16 +59,21 @@ fn is_as_after(alloc: Global, local: &mut Local, sound: &Sound) -> bool {
     is_answered(alloc, local, QUESTIONS.as_bytes(), sound.state.as_slice())
 }
 
-// Tells whether a machine is so after the first `count` lines of a session.
+// Tells whether a machine is so after a session of some lines.
+fn leads_in(alloc: Global, local: &mut Local, lines: &[u8], sound: &Sound) -> bool {
+    let (ended, _, _) = served(alloc, local, lines, Sink::new(&[]));
+    ended == Ended::Eof && is_as_after(alloc, local, sound)
+}
+
+// Tells whether a new machine is so after the first `count` of them.
 fn leads_to(alloc: Global, lines: &[u8], count: usize, sound: &Sound) -> Option<bool> {
     let mut local = new_local(alloc, 1)?;
-    let (ended, _, _) = served(alloc, &mut local, first_lines(lines, count), Sink::new(&[]));
-    Some(ended == Ended::Eof && is_as_after(alloc, &mut local, sound))
+    Some(leads_in(alloc, &mut local, first_lines(lines, count), sound))
 }
 
 // Returns whether the third of four lines changes the machine's answers from those before, and the fourth doesn't.
 fn changes_but_by_the_dump(alloc: Global, lines: &[u8]) -> Option<bool> {
-    let three = sound_of(alloc, first_lines(lines, 3))?;
+    let three = sound_of(alloc, first_lines(lines, 3), b"")?;
     Some(
         lines_in(lines) == 4
             && leads_to(alloc, lines, 0, &three) == Some(false)
@@ -84,49 +92,35 @@ fn each_line_but_the_dump_changes_the_state(rt: HostRuntime) -> Result<(), Fail>
 
 // ---- readers that fail
 
+// What a session writes last whose reader failed.
+const BAD_READ: &[u8] = b"bad read\n";
+
 // Returns whether a reader that fails at the read after `count` bytes leaves the replies to the whole lines before, and `bad
 // read`, and the machine that is after those lines.
-fn fails_in(
-    alloc: Global,
-    local: &mut Local,
-    lines: &[u8],
-    count: usize,
-    wanted: &[u8],
-    sound: &Sound,
-) -> bool {
+fn fails_in(alloc: Global, local: &mut Local, lines: &[u8], count: usize, sound: &Sound) -> bool {
     let reader = ByteReader {
         rest: lines,
         reads_left: count,
     };
     let sink = Sink {
         most: 1,
-        ..Sink::new(wanted)
+        ..Sink::new(sound.text.as_slice())
     };
     let (ended, _, sink) = served(alloc, local, reader, sink);
     ended == Ended::ReadFault && sink.is_whole() && is_as_after(alloc, local, sound)
 }
 
-// Returns these replies, and `bad read` after them, or None if memory is refused.
-fn with_bad_read(alloc: Global, replies: &[u8]) -> Option<Vec<u8>> {
-    let mut text = Vec::new(alloc);
-    if text.extend_from_slice(replies).is_ok() && text.extend_from_slice(b"bad read\n").is_ok() {
-        return Some(text);
-    }
-    None
-}
-
 // Does so on a new machine.
 fn fails_on(alloc: Global, lines: &[u8], count: usize, sound: &Sound) -> Option<bool> {
-    let wanted = with_bad_read(alloc, sound.text.as_slice())?;
     let mut local = new_local(alloc, 1)?;
-    Some(fails_in(alloc, &mut local, lines, count, wanted.as_slice(), sound))
+    Some(fails_in(alloc, &mut local, lines, count, sound))
 }
 
 // Returns whether readers fail as they must that give the first `count` whole lines of a session and a part of the next.
 fn fail_after_lines(alloc: Global, lines: &[u8], count: usize) -> Option<bool> {
     let given = first_lines(lines, count);
     let next = first_lines(lines, count.saturating_add(1));
-    let sound = sound_of(alloc, given)?;
+    let sound = sound_of(alloc, given, BAD_READ)?;
     for bytes in given.len()..next.len() {
         if fails_on(alloc, lines, bytes, &sound) != Some(true) {
             return None;
@@ -140,7 +134,12 @@ fn fail_at_each_read(alloc: Global, lines: &[u8]) -> Option<bool> {
     for count in 0..lines_in(lines) {
         fail_after_lines(alloc, lines, count)?;
     }
-    fails_on(alloc, lines, lines.len(), &sound_of(alloc, lines)?)
+    fails_on(
+        alloc,
+        lines,
+        lines.len(),
+        &sound_of(alloc, lines, BAD_READ)?,
+    )
 }
 
 #[test]
@@ -198,7 +197,7 @@ fn stop_in_line(
     first: usize,
 ) -> Option<usize> {
     let read = first_lines(lines, line);
-    let sound = sound_of(alloc, read)?;
+    let sound = sound_of(alloc, read, b"")?;
     for writes in first..sound.text.len() {
         if stops_on(alloc, lines, Sink { writes, ..sink }, read.len(), &sound) != Some(true) {
             return None;
@@ -222,7 +221,7 @@ fn stop_at_each_write(alloc: Global, lines: &[u8], text: &[u8]) -> Option<usize>
 
 // Returns whether all of them do.
 fn all_stop(alloc: Global, lines: &[u8]) -> Option<bool> {
-    let sound = sound_of(alloc, lines)?;
+    let sound = sound_of(alloc, lines, b"")?;
     Some(stop_at_each_write(alloc, lines, sound.text.as_slice()) == Some(sound.text.len()))
 }
 
@@ -236,26 +235,27 @@ fn writers_that_fail_at_each_byte(rt: HostRuntime) -> Result<(), Fail> {
 
 // ---- lines that are read at once
 
-// Returns whether a writer that takes `count` bytes of a session's text, if its lines are read at once, takes the first of it,
-// and the machine is as after all lines.
-fn is_cut(alloc: Global, lines: &[u8], count: usize, sound: &Sound) -> Option<bool> {
-    let mut local = new_local(alloc, 1)?;
+// Returns whether a writer that fails takes the first of a session's text, if its lines are read at once, and the machine is as
+// after all lines.
+fn is_cut_in(alloc: Global, local: &mut Local, lines: &[u8], writes: usize, sound: &Sound) -> bool {
     let sink = Sink {
         most: 1,
-        writes: count,
+        writes,
         ..Sink::new(sound.text.as_slice())
     };
-    let (ended, _, sink) = served(alloc, &mut local, lines, sink);
-    Some(
-        ended == Ended::WriteFault
-            && sink.has_first(count)
-            && is_as_after(alloc, &mut local, sound),
-    )
+    let (ended, _, sink) = served(alloc, local, lines, sink);
+    ended == Ended::WriteFault && sink.has_first(writes) && is_as_after(alloc, local, sound)
+}
+
+// Does so on a new machine.
+fn is_cut(alloc: Global, lines: &[u8], writes: usize, sound: &Sound) -> Option<bool> {
+    let mut local = new_local(alloc, 1)?;
+    Some(is_cut_in(alloc, &mut local, lines, writes, sound))
 }
 
 // Returns whether writers that take 0, 1, 11 and 600 bytes do so.
 fn each_is_cut(alloc: Global, lines: &[u8]) -> Option<bool> {
-    let sound = sound_of(alloc, lines)?;
+    let sound = sound_of(alloc, lines, b"")?;
     for count in [0, 1, 11, 600] {
         if is_cut(alloc, lines, count, &sound) != Some(true) {
             return None;

@@ -1,9 +1,9 @@
 //! A dump of two pages, through the pipe, and what a gauge sees of it.
 use crate::dumps::pump_state;
 use crate::saves::saved;
-use crate::sessions::new_local;
+use crate::sessions::{is_answered, new_local};
 use dump_pump::{Pumped, WriteOutlet};
-use heap_scripts::{Event, Machine, new, point};
+use heap_scripts::{Machine, new};
 use pin_dump::Gauge;
 use session_text::Local;
 use std::alloc::Global;
@@ -47,28 +47,29 @@ impl Gauge for Notes {
     }
 }
 
-// Makes points by a class. Returns whether all was accepted.
-fn makes_points(machine: &mut Machine, class: &Event, count: u64) -> bool {
-    if machine.step(class).is_err() {
+// Makes points. Returns whether all was accepted.
+fn makes_points(alloc: Global, local: &mut Local, count: u64) -> bool {
+    if !is_answered(
+        alloc,
+        local,
+        b"class Point - x:int y:int\n",
+        b"ok class 0\n",
+    ) {
         return false;
     }
     for _ in 0..count {
-        if machine.step(&new(0)).is_err() {
+        if local.machine.step(&new(0)).is_err() {
             return false;
         }
     }
     true
 }
 
-// Returns the text that the pump puts out of 2,000 points, or None if they or memory are refused.
-fn pumped_text(alloc: Global, machine: &mut Machine) -> Option<Vec<u8>> {
-    let class = point(alloc).ok()?;
-    if !makes_points(machine, &class, 2000) {
-        return None;
-    }
+// Returns the text that the pump puts out of the current state.
+fn pumped_text(alloc: Global, machine: &mut Machine) -> Vec<u8> {
     let mut outlet = WriteOutlet::new(Vec::new(alloc));
     pump_state(machine, &mut outlet);
-    Some(outlet.into_writer())
+    outlet.into_writer()
 }
 
 // Saves the dump of 2,000 points. Returns whether it is what the pump puts out, and what a gauge saw of it.
@@ -91,11 +92,23 @@ fn saved_beside<R: Threads + Wait + Sync>(
     (whole && same, notes)
 }
 
-// Does so with a new machine.
+// Does so once they are made.
+fn many_saved_in<R: Threads + Wait + Sync>(
+    rt: &R,
+    alloc: Global,
+    local: &mut Local,
+) -> Option<(bool, Notes)> {
+    if !makes_points(alloc, local, 2000) {
+        return None;
+    }
+    let text = pumped_text(alloc, &mut local.machine);
+    Some(saved_beside(rt, alloc, local, text.as_slice()))
+}
+
+// Does so on a new machine.
 fn many_saved<R: Threads + Wait + Sync>(rt: &R, alloc: Global) -> Option<(bool, Notes)> {
     let mut local = new_local(alloc, 16)?;
-    let text = pumped_text(alloc, &mut local.machine)?;
-    Some(saved_beside(rt, alloc, &mut local, text.as_slice()))
+    many_saved_in(rt, alloc, &mut local)
 }
 
 #[test]

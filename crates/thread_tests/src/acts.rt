@@ -1,5 +1,6 @@
 //! Acts in one thread: receipts around a rewind, and the calls of one who holds the lock.
 use crate::scenes::{Five, Scene, played};
+use crate::shared::{did, undid};
 use heap_class::{Kind, LostCause, Refusal};
 use heap_lock::{Heap, Kept, Outcome, Receipt, Role, Seat, Shared, Verdict, audit};
 use heap_scripts::{Action, Answer, Event, FIRST, PinAt};
@@ -19,26 +20,6 @@ fn longs(m: u64) -> Event {
     }
 }
 
-fn acted<L: Heap, R: Wait>(
-    rt: &R,
-    shared: &Shared<L>,
-    seat: &mut Seat<L>,
-    m: u64,
-) -> Option<Receipt> {
-    let event = longs(m);
-    if !seat.may(&event) {
-        return None;
-    }
-    shared.act(rt, seat, event).ok()
-}
-
-fn rewound<L: Heap, R: Wait>(rt: &R, shared: &Shared<L>, seat: &mut Seat<L>) -> Option<Receipt> {
-    if seat.role() != Role::User {
-        return None;
-    }
-    shared.rewind(rt, seat, 1).ok()
-}
-
 // Returns whether an audit of the three receipts is true.
 fn is_audited<L: Heap>(kept: &Kept<L>, receipts: [Receipt; 3]) -> bool {
     let [first, between, second] = receipts;
@@ -56,9 +37,9 @@ pub fn rewind_between<L: Heap + Send + Sync, R: Threads + Wait + Sync>(
     shared: &Shared<L>,
     five: &mut Five<L>,
 ) -> Option<bool> {
-    let first = acted(rt, shared, &mut five.first, 0)?;
-    let between = rewound(rt, shared, &mut five.user)?;
-    let second = acted(rt, shared, &mut five.second, 1)?;
+    let first = did(rt, shared, &mut five.first, longs(0))?;
+    let between = undid(rt, shared, &mut five.user, 1)?;
+    let second = did(rt, shared, &mut five.second, longs(1))?;
     Some(
         first.answer == Outcome::Answered(Answer::Object(FIRST))
             && between.answer == Outcome::Place(0)

@@ -1,5 +1,6 @@
 //! Gates of workers: each is passed once before each act, and without the lock.
 use crate::scenes::{Five, Scene, played};
+use crate::shared::did;
 use crate::sinks::reaches;
 use crate::workers::{began, marks, sweeps};
 use heap_lock::{Heap, Role, Seat, Shared};
@@ -31,13 +32,9 @@ impl<'a> Gate for Watched<'a> {
 
 // Returns the turn of an act, or 0 if it has none.
 fn clears<L: Heap, R: Wait>(rt: &R, shared: &Shared<L>, seat: &mut Seat<L>) -> u64 {
-    let event = Event::Clear { m: 0, r: 5 };
-    if !seat.may(&event) {
-        return 0;
-    }
-    match shared.act(rt, seat, event) {
-        Ok(receipt) => receipt.turn,
-        Err(_) => 0,
+    match did(rt, shared, seat, Event::Clear { m: 0, r: 5 }) {
+        Some(receipt) => receipt.turn,
+        None => 0,
     }
 }
 

@@ -113,13 +113,16 @@ fn is_read<L: Heap + Send + Sync, R: Threads + Wait + Sync>(
     Some(went == (DONE, SIZE as usize) && read == (143, (SIZE, true)))
 }
 
-// Returns whether a stream of a pin puts out nothing if somebody asked to cancel it before.
-fn is_cancelled<L: Heap + Send + Sync, R: Threads + Wait + Sync>(
+// Streams the dump of a pin into a sink, with a new meter, after somebody asked to cancel it if they `asked`. Returns how it went,
+// and how many bytes are out.
+fn unread<L: Heap + Send + Sync, R: Threads + Wait + Sync>(
     rt: &R,
     alloc: Global,
     shared: &Shared<L>,
     pin: u64,
-) -> Option<bool> {
+    asked: bool,
+    sink: Sink<'_>,
+) -> Option<(Pumped, usize)> {
     let FourSeats {
         meter,
         out,
@@ -127,32 +130,11 @@ fn is_cancelled<L: Heap + Send + Sync, R: Threads + Wait + Sync>(
         mut asker,
         feed,
     } = new_meter(alloc)?;
-    meter.cancel().ask(&mut asker);
-    let sink = Sink::new(&[]);
+    if asked {
+        meter.cancel().ask(&mut asker);
+    }
     let (pumped, sink) = streamed(rt, alloc, shared, pin, sink, &meter, out, feed);
-    Some(pumped == Pumped::Cancelled { bytes: 0 } && sink.taken == 0)
-}
-
-// Returns whether a stream of a pin into an outlet that fails after 100 bytes puts out these.
-fn is_failed<L: Heap + Send + Sync, R: Threads + Wait + Sync>(
-    rt: &R,
-    alloc: Global,
-    shared: &Shared<L>,
-    pin: u64,
-) -> Option<bool> {
-    let FourSeats {
-        meter,
-        out,
-        reader: _,
-        asker: _,
-        feed,
-    } = new_meter(alloc)?;
-    let sink = Sink {
-        room: 100,
-        ..Sink::new(&[])
-    };
-    let (pumped, sink) = streamed(rt, alloc, shared, pin, sink, &meter, out, feed);
-    Some(pumped == Pumped::OutletFailed { bytes: 100 } && sink.taken == 100)
+    Some((pumped, sink.taken))
 }
 
 /// Three streams of thirty points, and a dump after them.
@@ -165,11 +147,17 @@ pub fn metered_streams<L: Heap + Send + Sync, R: Threads + Wait + Sync>(
     if !has_points(rt, alloc, shared, &mut five.user, 30) {
         return None;
     }
+    let sink = Sink::new(&[]);
     let read = is_read(rt, alloc, shared, opened_pin(rt, shared)?)?;
-    let cancelled = is_cancelled(rt, alloc, shared, opened_pin(rt, shared)?)?;
-    let failed = is_failed(rt, alloc, shared, opened_pin(rt, shared)?)?;
-    let (pumped, _, _) = pumped_now(rt, shared, Sink::new(&[]))?;
-    Some(read && cancelled && failed && pumped == DONE)
+    let cancelled = unread(rt, alloc, shared, opened_pin(rt, shared)?, true, sink)?;
+    let short = Sink { room: 100, ..sink };
+    let failed = unread(rt, alloc, shared, opened_pin(rt, shared)?, false, short)?;
+    let (pumped, _, _) = pumped_now(rt, shared, sink)?;
+    Some(
+        read && cancelled == (Pumped::Cancelled { bytes: 0 }, 0)
+            && failed == (Pumped::OutletFailed { bytes: 100 }, 100)
+            && pumped == DONE,
+    )
 }
 
 #[test]
@@ -178,13 +166,39 @@ fn stream_with_progress_and_cancel(rt: HostRuntime) -> Result<(), Fail> {
     Ok(())
 }
 
-// Puts out the parts of a pin in one thread, into a sink that takes `room` bytes. Returns how it went, how many bytes are out, and what is read then.
+// Puts out the parts of a pin in one thread, into a sink that takes `room` bytes. Returns how it went, how many bytes are out, and
+// what is read then.
+fn counted_of<L: Heap, R: Wait>(
+    rt: &R,
+    shared: &Shared<L>,
+    pin: u64,
+    room: usize,
+    meter: &Meter,
+    out: OutSeat,
+    reader: &mut ReadSeat,
+) -> (Pumped, usize, u64)
+    requires out { out ≡ sum meter.now 0 }
+    requires reader { reader.old.meter ≡ meter.now }
+{
+    let mut source = LockedSource::new(shared, rt, shared.witness(rt), pin, 0);
+    let mut outlet = WriteOutlet::new(Sink {
+        room,
+        ..Sink::new(&[])
+    });
+    let mut counter = Counter::new(meter.progress(), out);
+    let pumped = pump_counted(&mut source, &mut outlet, &mut counter);
+    let read = meter.progress().read(reader);
+    (pumped, outlet.into_writer().taken, read)
+}
+
+// Does so with a new pin and a new meter.
 fn counted<L: Heap, R: Wait>(
     rt: &R,
     alloc: Global,
     shared: &Shared<L>,
     room: usize,
 ) -> Option<(Pumped, usize, u64)> {
+    let pin = opened_pin(rt, shared)?;
     let FourSeats {
         meter,
         out,
@@ -192,15 +206,7 @@ fn counted<L: Heap, R: Wait>(
         asker: _,
         feed: _,
     } = new_meter(alloc)?;
-    let mut source = LockedSource::new(shared, rt, shared.witness(rt), opened_pin(rt, shared)?, 0);
-    let mut outlet = WriteOutlet::new(Sink {
-        room,
-        ..Sink::new(&[])
-    });
-    let mut counter = Counter::new(meter.progress(), out);
-    let pumped = pump_counted(&mut source, &mut outlet, &mut counter);
-    let read = meter.progress().read(&mut reader);
-    Some((pumped, outlet.into_writer().taken, read))
+    Some(counted_of(rt, shared, pin, room, &meter, out, &mut reader))
 }
 
 /// One thread puts out thirty points, and counts what is out.

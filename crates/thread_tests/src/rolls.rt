@@ -1,5 +1,6 @@
 //! A chronicle that drops its oldest entries, and audits of receipts whose entries it dropped.
 use crate::scenes::{Five, Scene, played};
+use crate::shared::did;
 use heap_lock::{Heap, Kept, Outcome, Receipt, Seat, Shared, Verdict, audit};
 use heap_scripts::{Action, Answer, Event};
 use std::sync::Wait;
@@ -15,11 +16,7 @@ fn clear_often<L: Heap, R: Wait>(
 ) -> u64 {
     let mut done = 0;
     for _ in 0..count {
-        let event = Event::Clear { m: 0, r: 0 };
-        if !seat.may(&event) {
-            return 0;
-        }
-        if let Ok(receipt) = shared.act(rt, seat, event) {
+        if let Some(receipt) = did(rt, shared, seat, Event::Clear { m: 0, r: 0 }) {
             done = receipt.turn;
         }
     }

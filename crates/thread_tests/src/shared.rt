@@ -4,7 +4,7 @@ ghost use Rattle.dump_pipe.specs.Seats.{sum};
 
 use dump_pipe::{FeedSeat, Meter, OutSeat};
 use dump_pump::{Pumped, WriteOutlet, pump};
-use heap_lock::{Heap, LockedSource, Seat, Shared};
+use heap_lock::{Heap, LockedSource, Receipt, Role, Seat, Shared};
 use heap_scripts::{Event, new, point};
 use live_dump::{LivePin, StreamSeats, stream};
 use std::alloc::Global;
@@ -12,14 +12,40 @@ use std::io::Write;
 use std::sync::Wait;
 use std::thread::Threads;
 
-/// Does an act. Returns whether it was answered.
+/// Does an act. Returns its receipt, or None if it has no entry.
+pub fn did<L: Heap, R: Wait>(
+    rt: &R,
+    shared: &Shared<L>,
+    seat: &mut Seat<L>,
+    event: Event,
+) -> Option<Receipt> {
+    if !seat.may(&event) {
+        return None;
+    }
+    shared.act(rt, seat, event).ok()
+}
+
+/// Undoes steps. Returns the receipt, or None if that has no entry.
+pub fn undid<L: Heap, R: Wait>(
+    rt: &R,
+    shared: &Shared<L>,
+    seat: &mut Seat<L>,
+    n: u64,
+) -> Option<Receipt> {
+    if seat.role() != Role::User {
+        return None;
+    }
+    shared.rewind(rt, seat, n).ok()
+}
+
+/// Does an act. Returns whether it has an entry.
 pub fn acts<L: Heap, R: Wait>(
     rt: &R,
     shared: &Shared<L>,
     seat: &mut Seat<L>,
     event: Event,
 ) -> bool {
-    seat.may(&event) && shared.act(rt, seat, event).is_ok()
+    did(rt, shared, seat, event).is_some()
 }
 
 /// Creates a write to x of the point in the first register.

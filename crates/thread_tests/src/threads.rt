@@ -1,5 +1,6 @@
 //! Seats in threads of their own, whose receipts agree with one history.
 use crate::scenes::{Five, Scene, played};
+use crate::shared::{did, undid};
 use heap_class::Kind;
 use heap_lock::{Heap, Kept, Receipt, Role, Seat, Shared, Verdict, audit};
 use heap_scripts::{Action, Event};
@@ -18,7 +19,7 @@ fn event_of(m: u64, i: u64) -> Event {
             kind: Kind::Long,
             len: 3,
         },
-        1 => Event::Put {
+        1 | 5 => Event::Put {
             m,
             target: 0,
             slot: 1,
@@ -36,15 +37,10 @@ fn event_of(m: u64, i: u64) -> Event {
             from_m: m,
             from: 0,
         },
-        4 => Event::Clear { m, r: 0 },
-        5 => Event::Put {
+        n => Event::Clear {
             m,
-            target: 0,
-            slot: 1,
-            value: i,
+            r: n.saturating_sub(4),
         },
-        6 => Event::Clear { m, r: 2 },
-        _ => Event::Clear { m, r: 9 },
     }
 }
 
@@ -78,19 +74,10 @@ fn done<L: Heap, R: Wait>(
     action: Action,
 ) -> Option<Receipt> {
     match action {
-        Action::Step(event) => {
-            if seat.may(&event) {
-                return shared.act(rt, seat, event).ok();
-            }
-        }
-        Action::Rewind(n) => {
-            if seat.role() == Role::User {
-                return shared.rewind(rt, seat, n).ok();
-            }
-        }
-        _ => {}
+        Action::Step(event) => did(rt, shared, seat, event),
+        Action::Rewind(n) => undid(rt, shared, seat, n),
+        _ => None,
     }
-    None
 }
 
 // Adds a seat's first thousand actions with their receipts. Returns whether memory was found.
@@ -134,6 +121,27 @@ fn is_right<L: Heap>(kept: &Kept<L>, claims: &Option<Vec<(Action, Receipt)>>) ->
     }
 }
 
+// A thousand claims of each of two seats, or None if memory was refused.
+type TwoClaims = (
+    Option<Vec<(Action, Receipt)>>,
+    Option<Vec<(Action, Receipt)>>,
+);
+
+// Acts by two seats, each in a thread of its own.
+fn by_two<L: Heap + Send + Sync, R: Threads + Wait + Sync>(
+    rt: &R,
+    alloc: Global,
+    shared: &Shared<L>,
+    one: &mut Seat<L>,
+    other: &mut Seat<L>,
+) -> TwoClaims {
+    thread::join(
+        rt,
+        move || claims_of(rt, alloc, shared, one),
+        move || claims_of(rt, alloc, shared, other),
+    )
+}
+
 // Returns whether the receipts of four seats, each in a thread of its own, agree with the history.
 fn by_four<L: Heap + Send + Sync, R: Threads + Wait + Sync>(
     rt: &R,
@@ -147,20 +155,8 @@ fn by_four<L: Heap + Send + Sync, R: Threads + Wait + Sync>(
     let sweeper = &mut five.sweeper;
     let ((a, b), (c, d)) = thread::join(
         rt,
-        move || {
-            thread::join(
-                rt,
-                move || claims_of(rt, alloc, shared, mutator),
-                move || claims_of(rt, alloc, shared, user),
-            )
-        },
-        move || {
-            thread::join(
-                rt,
-                move || claims_of(rt, alloc, shared, marker),
-                move || claims_of(rt, alloc, shared, sweeper),
-            )
-        },
+        move || by_two(rt, alloc, shared, mutator, user),
+        move || by_two(rt, alloc, shared, marker, sweeper),
     );
     let kept = shared.lock(rt);
     is_right(&*kept, &a)

@@ -53,8 +53,8 @@ fn ends(machine: &mut Machine, sink: Sink<'_>, bytes: usize) -> bool {
     pumped == wanted(bytes) && sink.has_first(bytes) && again == wanted(SIZE) && whole.is_whole()
 }
 
-// Returns whether dumps into sinks that take one byte a write and fail at each of their writes, and into sinks that fail once they
-// have 0, 1, .. bytes, end as they must.
+// Returns whether dumps into sinks that take one byte a write and fail at each of their writes, and into sinks that fail once
+// they have 0, 1, .. bytes, end as they must.
 fn each_ends(machine: &mut Machine, sink: Sink<'_>) -> bool {
     for bytes in 0..=SIZE {
         let by_puts = Sink {
@@ -103,8 +103,7 @@ fn is_marking_a_point(machine: &Machine) -> bool {
 }
 
 // Returns whether all dumps of a point end as they must while a cycle runs, and the readers then tell what they told before.
-fn all_end(alloc: Global, local: &mut Local, text: &[u8]) -> bool {
-    let sink = Sink::new(text);
+fn all_end(alloc: Global, local: &mut Local, sink: Sink<'_>) -> bool {
     is_answered(alloc, local, POINT.as_bytes(), POINT_MADE.as_bytes())
         && is_answered(alloc, local, b"snap\n", b"ok pushed 1\n")
         && is_marking_a_point(&local.machine)
@@ -113,11 +112,16 @@ fn all_end(alloc: Global, local: &mut Local, text: &[u8]) -> bool {
         && is_marking_a_point(&local.machine)
 }
 
+// Does so with the dump by hand.
+fn all_end_by_hand(alloc: Global, local: &mut Local) -> Option<bool> {
+    let text = hex::decode(alloc, DUMP_OF_ONE_POINT).ok()?;
+    Some(all_end(alloc, local, Sink::new(text.as_slice())))
+}
+
 // Does so on a new machine.
 fn all_end_on_one(alloc: Global) -> Option<bool> {
-    let text = hex::decode(alloc, DUMP_OF_ONE_POINT).ok()?;
     let mut local = new_local(alloc, 16)?;
-    Some(all_end(alloc, &mut local, text.as_slice()))
+    all_end_by_hand(alloc, &mut local)
 }
 
 #[test]

@@ -152,8 +152,8 @@ fn readers_that_fail_at_each_byte(rt: HostRuntime) -> Result<(), Fail> {
 
 // ---- writers that fail
 
-// Returns whether a writer that takes `count` bytes takes the first of the text, the machine is as after the lines up to the one
-// that was being answered, and nothing after that line was read.
+// Returns whether a writer that fails took the first of the text, the machine is as after the lines up to the one that was being
+// answered, and nothing after that line was read, so `read` bytes.
 fn stops_in(
     alloc: Global,
     local: &mut Local,

@@ -19,8 +19,8 @@ fn opens(machine: &mut Machine, pins: u64) -> bool {
     true
 }
 
-// Saves a session with no line beside `pins` pins of others. Returns whether it ends in this line, how often an outlet was made,
-// and whether the pins stay open.
+// Saves a session with no line beside `pins` pins of others. Returns whether it ends in this line, how often an outlet was asked
+// for, whether one was made, and whether the pins stay open.
 fn stay<R: Threads + Wait + Sync>(
     rt: &R,
     alloc: Global,

@@ -90,11 +90,20 @@ pub fn saved<G: Gauge, R: Threads + Wait + Sync>(
 }
 
 // Saves the session of a point.
-fn point_saved<R: Threads + Wait + Sync>(rt: &R, alloc: Global) -> Option<Outcome> {
+fn point_saved_in<R: Threads + Wait + Sync>(
+    rt: &R,
+    alloc: Global,
+    local: &mut Local,
+) -> Option<Outcome> {
     let text = hex::decode(alloc, DUMP_OF_ONE_POINT).ok()?;
-    let mut local = new_local(alloc, 16)?;
     let text = text.as_slice();
-    Some(saved(rt, alloc, &mut local, POINT, POINT_SAVED, text, &mut Silent))
+    Some(saved(rt, alloc, local, POINT, POINT_SAVED, text, &mut Silent))
+}
+
+// Does so on a new machine.
+fn point_saved<R: Threads + Wait + Sync>(rt: &R, alloc: Global) -> Option<Outcome> {
+    let mut local = new_local(alloc, 16)?;
+    point_saved_in(rt, alloc, &mut local)
 }
 
 #[test]

@@ -164,7 +164,8 @@ fn wanted(most: usize) -> Pumped {
     }
 }
 
-// Returns whether a sink that fails ends the pipe of one point as it should, and a new pin of the heap then gives its whole dump.
+// Returns whether a sink that fails ends the pipe of one point as it should, and a new pin of the heap then gives its whole
+// dump.
 fn fails_as_told<L: Heap + Send + Sync, R: Threads + Wait + Sync>(
     rt: &R,
     alloc: Global,

@@ -1,11 +1,13 @@
 //! Dumps of a shared heap's pin, by `pump` and by `stream`.
 use crate::live::{Seen, pumped_beside, streamed_beside, streamed_cancelled};
+use crate::metered::unread;
 use crate::meters::{FourSeats, new_meter};
 use crate::points::one_point;
 use crate::scenes::{Five, Scene, played};
 use crate::shared::{has_points, opened_pin, pumped_now};
 use dump_pump::Pumped;
 use heap_lock::{Heap, Shared};
+use heap_scripts::Sink;
 use std::alloc::Global;
 use std::sync::Wait;
 use std::test::*;
@@ -91,7 +93,7 @@ fn is_beginning<L: Heap + Send + Sync, R: Threads + Wait + Sync>(
     Some(held && pumped == Pumped::Cancelled { bytes } && 8000 <= bytes && bytes < 66412 && is_text)
 }
 
-/// A stream of 2,000 points, whose dump has 66,412 bytes, is cancelled in the middle.
+/// A stream of 2,000 points, whose dump has 66,412 bytes, is whole, and another is cancelled in the middle.
 pub fn stream_cancelled<L: Heap + Send + Sync, R: Threads + Wait + Sync>(
     rt: &R,
     alloc: Global,
@@ -101,8 +103,11 @@ pub fn stream_cancelled<L: Heap + Send + Sync, R: Threads + Wait + Sync>(
     if !has_points(rt, alloc, shared, &mut five.user, 2000) {
         return None;
     }
-    let (_, _, whole) = pumped_now(rt, shared, Vec::new(alloc))?;
-    is_beginning(rt, alloc, shared, whole.as_slice())
+    let pin = opened_pin(rt, shared)?;
+    let done = (Pumped::Done { bytes: 66412 }, 66412);
+    let is_whole = unread(rt, alloc, shared, pin, false, Sink::new(&[])) == Some(done);
+    let (_, _, text) = pumped_now(rt, shared, Vec::new(alloc))?;
+    Some(is_whole && is_beginning(rt, alloc, shared, text.as_slice()) == Some(true))
 }
 
 #[test]

@@ -113,9 +113,9 @@ fn is_read<L: Heap + Send + Sync, R: Threads + Wait + Sync>(
     Some(went == (DONE, SIZE as usize) && read == (143, (SIZE, true)))
 }
 
-// Streams the dump of a pin into a sink, with a new meter, after somebody asked to cancel it if they `asked`. Returns how it went,
-// and how many bytes are out.
-fn unread<L: Heap + Send + Sync, R: Threads + Wait + Sync>(
+/// Streams the dump of a pin into a sink, with a new meter, after somebody asked to cancel it if they `asked`. Returns how it
+/// went, and how many bytes are out.
+pub fn unread<L: Heap + Send + Sync, R: Threads + Wait + Sync>(
     rt: &R,
     alloc: Global,
     shared: &Shared<L>,
@@ -166,8 +166,8 @@ fn stream_with_progress_and_cancel(rt: HostRuntime) -> Result<(), Fail> {
     Ok(())
 }
 
-// Puts out the parts of a pin in one thread, into a sink that takes `room` bytes. Returns how it went, how many bytes are out, and
-// what is read then.
+// Puts out the parts of a pin in one thread, into a sink that takes `room` bytes. Returns how it went, how many bytes are out,
+// and what is read then.
 fn counted_of<L: Heap, R: Wait>(
     rt: &R,
     shared: &Shared<L>,

@@ -4,8 +4,9 @@ use heap_lock::{Heap, Seat, Shared};
 use std::alloc::Global;
 use std::sync::Wait;
 
-/// The dump of a point with x 7 in the first register, by hand from the format, in hexadecimal. Its opening has 143 bytes: the
-/// header, 31; the names `Point`, `x` and `y`, 22 and twice 18; the class, 33; and the trace, 21. Its segment has 149, its end 9.
+// The dump of a point with x 7 in the first register, by hand from the format, in hexadecimal. Its opening has 143 bytes: the
+// header, 31; the names `Point`, `x` and `y`, 22 and twice 18; the class, 33; and the trace, 21. Its segment has 149, its end
+// 9.
 const ONE_POINT: &str = "\
 4a4156412050524f46494c4520312e302e3200000000080000000000000000\
 01000000000000000d0000000000000001506f696e74\

@@ -23,7 +23,7 @@ const FAILS: [(usize, u64); 9] = [
     (300, 3),
 ];
 
-// Returns whether a pump goes so, into a sink, if this number of parts is given, and the first bytes of the dump are out, and no others.
+// Returns whether a pump into a sink goes so, this number of parts is given, and just the first bytes of the dump are out.
 fn goes<L: Heap, R: Wait>(
     rt: &R,
     shared: &Shared<L>,

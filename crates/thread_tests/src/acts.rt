@@ -31,7 +31,7 @@ fn is_audited<L: Heap>(kept: &Kept<L>, receipts: [Receipt; 3]) -> bool {
     audit(kept, claims.as_slice()) == Verdict::Holds
 }
 
-/// The second object has the id of the first, which is undone between them.
+/// Creates an object, undoes that and creates another. Returns whether both have one id, and an audit of the receipts holds.
 pub fn rewind_between<L: Heap + Send + Sync, R: Threads + Wait + Sync>(
     rt: &R,
     shared: &Shared<L>,
@@ -103,7 +103,7 @@ fn all_held<L: Heap>(kept: &mut Kept<L>, seat: &mut Seat<L>) -> bool {
         && kept.chronicle().len() == 2
 }
 
-/// One who holds the lock acts, rewinds, and has pins opened and closed.
+/// Acts, rewinds, and opens and closes pins under one guard. Returns whether each is answered as it must be.
 pub fn five_calls<L: Heap + Send + Sync, R: Threads + Wait + Sync>(
     rt: &R,
     shared: &Shared<L>,

@@ -69,7 +69,7 @@ fn goes<L: Heap, R: Wait>(
     Some(pumped == wanted && sink.has_first(bytes))
 }
 
-/// A pump of three parts is cancelled after two, or never.
+/// Pumps three parts, cancelled after two, and never. Returns whether just the parts before are out.
 pub fn cancelled_pumps<L: Heap + Send + Sync, R: Threads + Wait + Sync>(
     rt: &R,
     alloc: Global,

@@ -133,7 +133,8 @@ fn piped<'a, L: Heap + Send + Sync, R: Threads + Wait + Sync>(
     Some(went)
 }
 
-/// None of 2,000 points is drained until the source was asked for a ninth part.
+/// Feeds the dump of 2,000 points, and drains none of it until the source was asked for a ninth part. Returns whether that is
+/// the most that it is asked for before, and all then comes out.
 pub fn nine_asked<L: Heap + Send + Sync, R: Threads + Wait + Sync>(
     rt: &R,
     alloc: Global,
@@ -199,7 +200,7 @@ fn each_fails_as_told<L: Heap + Send + Sync, R: Threads + Wait + Sync>(
     true
 }
 
-/// The dump of one point goes through pipes into sinks that fail, by bytes and at once.
+/// Drains the dump of one point into sinks that fail, by bytes and at once. Returns whether all goes as it must.
 pub fn failing_ends<L: Heap + Send + Sync, R: Threads + Wait + Sync>(
     rt: &R,
     alloc: Global,

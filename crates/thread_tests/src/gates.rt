@@ -108,7 +108,8 @@ fn both_go<L: Heap + Send + Sync, R: Threads + Wait + Sync>(
     worked && acted
 }
 
-/// A user acts at each pass of a marker, which has five turns, and then of a sweeper, which has one for each region.
+/// Acts by a user at each pass of a marker, which has five turns, and then of a sweeper, which has one for each region. Returns
+/// whether both went as they must.
 pub fn watched_workers<L: Heap + Send + Sync, R: Threads + Wait + Sync>(
     rt: &R,
     alloc: Global,

@@ -16,7 +16,7 @@ use std::thread::Threads;
 // How a whole dump of one point goes.
 const WHOLE: Seen = (Pumped::Done { bytes: 301 }, 301, true);
 
-/// The dump of one point, pumped while a mutator writes to it, is that of its pin.
+/// Pumps the dump of one point while a mutator writes to it. Returns whether it is that of its pin.
 pub fn pump_beside<L: Heap + Send + Sync, R: Threads + Wait + Sync>(
     rt: &R,
     alloc: Global,
@@ -35,7 +35,7 @@ fn gate_outlet_first_put(rt: HostRuntime) -> Result<(), Fail> {
     Ok(())
 }
 
-/// The dump of one point, streamed while a mutator writes to it, is that of its pin.
+/// Streams the dump of one point while a mutator writes to it. Returns whether it is that of its pin.
 pub fn stream_beside<L: Heap + Send + Sync, R: Threads + Wait + Sync>(
     rt: &R,
     alloc: Global,
@@ -93,7 +93,8 @@ fn is_beginning<L: Heap + Send + Sync, R: Threads + Wait + Sync>(
     Some(held && pumped == Pumped::Cancelled { bytes } && 8000 <= bytes && bytes < 66412 && is_text)
 }
 
-/// A stream of 2,000 points, whose dump has 66,412 bytes, is whole, and another is cancelled in the middle.
+/// Streams 2,000 points, whose dump has 66,412 bytes, and again, cancelled in the middle. Returns whether the first is whole
+/// and the second isn't.
 pub fn stream_cancelled<L: Heap + Send + Sync, R: Threads + Wait + Sync>(
     rt: &R,
     alloc: Global,

@@ -137,7 +137,8 @@ pub fn unread<L: Heap + Send + Sync, R: Threads + Wait + Sync>(
     Some((pumped, sink.taken))
 }
 
-/// Three streams of thirty points, and a dump after them.
+/// Streams thirty points: read along, after somebody asked to cancel, and into a sink that fails. Returns whether each goes as
+/// it must, and a dump after them is whole.
 pub fn metered_streams<L: Heap + Send + Sync, R: Threads + Wait + Sync>(
     rt: &R,
     alloc: Global,
@@ -209,7 +210,7 @@ fn counted<L: Heap, R: Wait>(
     Some(counted_of(rt, shared, pin, room, &meter, out, &mut reader))
 }
 
-/// One thread puts out thirty points, and counts what is out.
+/// Puts out thirty points in one thread, whole and into a sink that fails. Returns whether the meter counts what is out.
 pub fn counted_pumps<L: Heap + Send + Sync, R: Threads + Wait + Sync>(
     rt: &R,
     alloc: Global,

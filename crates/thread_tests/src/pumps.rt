@@ -50,7 +50,7 @@ fn all_go<L: Heap, R: Wait>(rt: &R, shared: &Shared<L>, sink: Sink<'_>) -> bool 
     goes(rt, shared, Sink { room: 301, ..sink }, done, 3)
 }
 
-/// The dump of one point is pumped into sinks that fail, by bytes and at once.
+/// Pumps the dump of one point into sinks that fail, by bytes and at once. Returns whether all goes as it must.
 pub fn failing_pumps<L: Heap + Send + Sync, R: Threads + Wait + Sync>(
     rt: &R,
     alloc: Global,

@@ -109,7 +109,7 @@ fn rolls_twice<L: Heap, R: Wait>(rt: &R, shared: &Shared<L>, seat: &mut Seat<L>)
         && dropped_count(rt, shared) == 1_000_000
 }
 
-/// A user acts 1,500,001 times.
+/// Acts 1,500,001 times. Returns whether the chronicle drops its oldest entries when it must, and audits say so.
 pub fn rolling<L: Heap + Send + Sync, R: Threads + Wait + Sync>(
     rt: &R,
     shared: &Shared<L>,

@@ -166,7 +166,7 @@ fn by_four<L: Heap + Send + Sync, R: Threads + Wait + Sync>(
         && kept.chronicle().len() == 4000
 }
 
-/// A mutator, a user, the marker and the sweeper act, each in a thread of its own.
+/// Acts by a mutator, a user, the marker and the sweeper, each in a thread of its own. Returns whether their receipts agree.
 pub fn four_threads<L: Heap + Send + Sync, R: Threads + Wait + Sync>(
     rt: &R,
     alloc: Global,

@@ -148,7 +148,7 @@ fn stop_at_gates<L: Heap, R: Wait>(rt: &R, shared: &Shared<L>, five: &mut Five<L
         && entries(rt, shared) == 43
 }
 
-/// The workers do a cycle over two objects, and end at gates in the next.
+/// Runs the workers through a cycle over two objects, and to gates that close in the next. Returns whether all goes as it must.
 pub fn cycles<L: Heap + Send + Sync, R: Threads + Wait + Sync>(
     rt: &R,
     alloc: Global,

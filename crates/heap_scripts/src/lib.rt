@@ -3,12 +3,15 @@
 
 ghost use Rattle.std.specs.Prelude.{◌≡◌, OnOk};
 
+mod sink;
+
 use heap_class::{Field, Fields, Kind, Name};
 use heap_step::apply;
 use heap_step::step::undo;
 pub use heap_step::{Answer, Event};
 pub use heap_trail::{Action, Machine, PinAt, Reply};
 pub use heap_world::{Config, World};
+pub use sink::Sink;
 use std::alloc::{AllocError, Global};
 use std::test::Fail;
 

@@ -1,7 +1,7 @@
 //! A dump in the middle of which a write fails.
-use crate::sessions::{local, served, talk};
-use crate::streams::Sips;
-use session_text::Ended;
+use crate::sessions::{answers, is_answered, new_local, served};
+use heap_scripts::Sink;
+use session_text::{Ended, Local};
 use std::alloc::Global;
 use std::test::*;
 
@@ -17,51 +17,48 @@ const FOUR_PINS: &str = "open -\nopen -\nopen -\nopen -\n";
 
 const FOUR_PINNED: &str = "ok pin 2 at 1\nok pin 3 at 1\nok pin 4 at 1\nok pin 5 at 1\n";
 
-// Creates a writer that fails once it took `room` bytes.
-fn short_writer(alloc: Global, room: usize) -> Sips {
-    Sips {
-        taken: Vec::new(alloc),
-        most: usize::MAX,
-        writes_left: usize::MAX,
-        room,
-    }
-}
-
-// Returns the size of the session that dumps the array.
-fn text_size(alloc: Global) -> Result<usize, Fail> {
-    let mut local = local(alloc, 2, 1, 64)?;
-    let (_, text) = talk(alloc, &mut local, LONG_DUMP.as_bytes());
-    Ok(text.len())
+// Returns what the session that dumps the array writes.
+fn long_text(alloc: Global) -> Option<Vec<u8>> {
+    let mut local = new_local(alloc, 2)?;
+    answers(alloc, &mut local, LONG_DUMP.as_bytes())
 }
 
 // Returns whether four pins can be opened once a writer of this room failed in that session.
-fn four_pins_are_left(alloc: Global, room: usize) -> Result<bool, Fail> {
-    let mut local = local(alloc, 2, 1, 64)?;
-    let writer = short_writer(alloc, room);
-    let (ended, _, writer) = served(alloc, &mut local, LONG_DUMP.as_bytes(), writer);
-    let (_, text) = talk(alloc, &mut local, FOUR_PINS.as_bytes());
-    Ok(
-        ended == Ended::WriteFault
-            && writer.taken.len() == room
-            && text.as_slice() == FOUR_PINNED.as_bytes(),
-    )
+fn leaves_four_pins(alloc: Global, local: &mut Local, text: &[u8], room: usize) -> bool {
+    let sink = Sink {
+        room,
+        ..Sink::new(text)
+    };
+    let (ended, _, sink) = served(alloc, local, LONG_DUMP.as_bytes(), sink);
+    ended == Ended::WriteFault
+        && sink.has_first(room)
+        && is_answered(alloc, local, FOUR_PINS.as_bytes(), FOUR_PINNED.as_bytes())
 }
 
-// Returns whether four pins are left wherever the writer fails in the dump, tried at each sixteenth byte, and whether the session
-// has more than a page.
-fn four_pins_are_always_left(alloc: Global) -> Result<bool, Fail> {
-    let size = text_size(alloc)?;
-    for room in BEFORE..size {
-        if room % 16 == 0 && !four_pins_are_left(alloc, room)? {
-            return Ok(false);
+// Does so on a new machine.
+fn are_left(alloc: Global, text: &[u8], room: usize) -> Option<bool> {
+    let mut local = new_local(alloc, 2)?;
+    Some(leaves_four_pins(alloc, &mut local, text, room))
+}
+
+// Returns whether four pins are left wherever the writer fails in the dump, tried at each sixteenth byte.
+fn are_always_left(alloc: Global, text: &[u8]) -> bool {
+    for room in BEFORE..text.len() {
+        if room % 16 == 0 && are_left(alloc, text, room) != Some(true) {
+            return false;
         }
     }
-    Ok(size > 8192)
+    true
+}
+
+// Returns whether that is so, and the session has more than a page.
+fn pins_are_left(alloc: Global) -> Option<bool> {
+    let text = long_text(alloc)?;
+    Some(text.len() > 8192 && are_always_left(alloc, text.as_slice()))
 }
 
 #[test]
 fn pin_of_a_cut_dump_is_closed(rt: HostRuntime) -> Result<(), Fail> {
-    let are_left = four_pins_are_always_left(rt.alloc())?;
-    assert!(rt; are_left);
+    assert!(rt; pins_are_left(rt.alloc()) == Some(true));
     Ok(())
 }

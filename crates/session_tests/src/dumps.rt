@@ -1,39 +1,22 @@
-//! Dumps of a point through the pump.
-use crate::examples::DUMP_OF_ONE_POINT;
-use crate::streams::Sips;
+//! Dumps of one point through the pump, into outlets that fail.
+use crate::examples::{DUMP_OF_ONE_POINT, POINT, POINT_MADE};
+use crate::sessions::{is_answered, new_local};
 use dump_pump::{Outlet, Pumped, WriteOutlet, pump};
-use heap_scripts::{Event, Machine, new, point, settings, take};
+use heap_scripts::{Machine, Sink};
 use pin_dump::{LostCause, PinSource};
+use session_text::Local;
 use std::alloc::Global;
-use std::test::Fail;
+use std::test::*;
 
-/// Creates a machine with one point in the first register, whose `x` is 7.
-pub fn with_point(alloc: Global) -> Result<Machine, Fail> {
-    let mut machine = Machine::new(alloc, settings(16, 1, 16)?)?;
-    let class = point(alloc)?;
-    let x = Event::Put {
-        m: 0,
-        target: 0,
-        slot: 0,
-        value: 7,
-    };
-    take(&mut machine, &[class, new(0), x])?;
-    Ok(machine)
-}
+// Bytes of the dump of one point.
+const SIZE: usize = 301;
+
+// How many of its bytes are out after some writes, if each of its three pieces is one.
+const PIECES: [(usize, usize); 4] = [(0, 0), (1, 143), (2, 292), (3, 301)];
 
 // Puts out the pieces of a pin that it has not given yet, by the pump.
 fn pump_pin<O: Outlet>(machine: &mut Machine, pin: u64, outlet: &mut O) -> Pumped {
-    let mut source = PinSource::new(machine, pin, 0);
-    let pumped = pump(&mut source, outlet);
-    let PinSource {
-        machine: _machine,
-        start: _,
-        pin: _,
-        time: _,
-        count: _,
-        ended: _,
-    } = source;
-    pumped
+    pump(&mut PinSource::new(machine, pin, 0), outlet)
 }
 
 /// Puts out the dump of the current state by the pump: opens a pin on it, puts its pieces out, and closes it. Returns None if
@@ -45,135 +28,135 @@ pub fn pump_state<O: Outlet>(machine: &mut Machine, outlet: &mut O) -> Option<Pu
     Some(pumped)
 }
 
-// The writes of a dump: each takes at most `most` bytes, and there are at most `writes`.
-#[derive(Clone, Copy)]
-struct Way {
-    most: usize,
-    writes: usize,
+// Dumps the current state. Returns how that ended, and the sink.
+fn dumped<'a>(machine: &mut Machine, sink: Sink<'a>) -> (Option<Pumped>, Sink<'a>) {
+    let mut outlet = WriteOutlet::new(sink);
+    let pumped = pump_state(machine, &mut outlet);
+    (pumped, outlet.into_writer())
 }
 
-// Dumps the current state. Returns whether that ended as told, and the bytes that are out are this number of the first bytes of
-// the dump of one point.
-fn ends(
-    alloc: Global,
-    machine: &mut Machine,
-    way: Way,
-    pumped: Pumped,
-    bytes: usize,
-) -> Result<bool, Fail> {
-    let mut outlet = WriteOutlet::new(Sips {
-        taken: Vec::new(alloc),
-        most: way.most,
-        writes_left: way.writes,
-        room: usize::MAX,
-    });
-    let end = pump_state(machine, &mut outlet);
-    let digits = hex::encode(alloc, outlet.into_writer().taken.as_slice())?;
-    Ok(
-        end == Some(pumped)
-            && digits.len() / 2 == bytes
-            && DUMP_OF_ONE_POINT.starts_with(digits.as_str()),
-    )
+// Returns how a dump must end of which this number of bytes can be put out.
+fn wanted(bytes: usize) -> Option<Pumped> {
+    let out = bytes as u64;
+    if bytes < SIZE {
+        Some(Pumped::OutletFailed { bytes: out })
+    } else {
+        Some(Pumped::Done { bytes: out })
+    }
 }
 
-// Returns whether the dump of a point is put out whole.
-fn is_whole(alloc: Global) -> Result<bool, Fail> {
-    let mut machine = with_point(alloc)?;
-    let way = Way {
-        most: 1000,
-        writes: 1000,
-    };
-    ends(alloc, &mut machine, way, Pumped::Done { bytes: 301 }, 301)
+// Returns whether a sink to which so many bytes can be put out ends the dump as it must, and then a sound one gets it whole.
+fn ends(machine: &mut Machine, sink: Sink<'_>, bytes: usize) -> bool {
+    let text = sink.rest;
+    let (pumped, sink) = dumped(machine, sink);
+    let (again, whole) = dumped(machine, Sink::new(text));
+    pumped == wanted(bytes) && sink.has_first(bytes) && again == wanted(SIZE) && whole.is_whole()
 }
 
-#[test]
-fn current_state_is_dumped(rt: HostRuntime) -> Result<(), Fail> {
-    let whole = is_whole(rt.alloc())?;
-    assert!(rt; whole);
-    Ok(())
+// Returns whether dumps into sinks that take one byte a write and fail at each of their writes, and into sinks that fail once
+// they have 0, 1, .. bytes, end as they must.
+fn each_ends(machine: &mut Machine, sink: Sink<'_>) -> bool {
+    for bytes in 0..=SIZE {
+        let by_puts = Sink {
+            most: 1,
+            writes: bytes,
+            ..sink
+        };
+        if !ends(machine, by_puts, bytes)
+            || !ends(
+                machine,
+                Sink {
+                    room: bytes,
+                    ..sink
+                },
+                bytes,
+            )
+        {
+            return false;
+        }
+    }
+    true
 }
 
-// Returns whether a first put that fails, and then a second, end a dump as they must. The first piece has 143 bytes.
-fn end_where_a_put_fails(alloc: Global) -> Result<bool, Fail> {
-    let mut machine = with_point(alloc)?;
-    let none = Way {
-        most: 1000,
-        writes: 0,
-    };
-    let one = Way {
-        most: 100,
-        writes: 1,
-    };
-    Ok(
-        ends(
-            alloc,
-            &mut machine,
-            none,
-            Pumped::OutletFailed { bytes: 0 },
-            0,
-        )? && ends(
-            alloc,
-            &mut machine,
-            one,
-            Pumped::OutletFailed { bytes: 100 },
-            100,
-        )?,
-    )
+// Returns whether each piece is put out by a write.
+fn pieces_are_writes(machine: &mut Machine, sink: Sink<'_>) -> bool {
+    for (writes, bytes) in PIECES {
+        if !ends(machine, Sink { writes, ..sink }, bytes) {
+            return false;
+        }
+    }
+    true
 }
 
-#[test]
-fn put_that_fails_ends_the_dump(rt: HostRuntime) -> Result<(), Fail> {
-    let all = end_where_a_put_fails(rt.alloc())?;
-    assert!(rt; all);
-    Ok(())
+// Returns whether the readers of a machine tell that it has one point, and its cycle began.
+fn is_marking_a_point(machine: &Machine) -> bool {
+    let world = machine.world();
+    (
+        machine.place(),
+        machine.retained_count(),
+        world.drain_count(),
+    ) == (4, 4, 0)
+        && world.registers().first() == Some(&268_435_456)
+        && world.gray() == [268_435_456].as_slice()
+        && world.log().is_empty()
+        && world.phase().is_marking()
 }
 
-// Returns whether a dump of which `writes` writes can be made fails with these bytes out.
-fn fails(alloc: Global, machine: &mut Machine, writes: usize, bytes: usize) -> Result<bool, Fail> {
-    let way = Way { most: 1000, writes };
-    let failed = Pumped::OutletFailed {
-        bytes: bytes as u64,
-    };
-    ends(alloc, machine, way, failed, bytes)
+// Returns whether all dumps of a point end as they must while a cycle runs, and the readers then tell what they told before.
+fn all_end(alloc: Global, local: &mut Local, sink: Sink<'_>) -> bool {
+    is_answered(alloc, local, POINT.as_bytes(), POINT_MADE.as_bytes())
+        && is_answered(alloc, local, b"snap\n", b"ok pushed 1\n")
+        && is_marking_a_point(&local.machine)
+        && each_ends(&mut local.machine, sink)
+        && pieces_are_writes(&mut local.machine, sink)
+        && is_marking_a_point(&local.machine)
 }
 
-// Returns whether the three pieces are put out by a write each. They have 143, 149 and 9 bytes.
-fn each_piece_needs_a_write(alloc: Global) -> Result<bool, Fail> {
-    let mut machine = with_point(alloc)?;
-    let three = Way {
-        most: 1000,
-        writes: 3,
-    };
-    Ok(
-        fails(alloc, &mut machine, 1, 143)?
-            && fails(alloc, &mut machine, 2, 292)?
-            && ends(alloc, &mut machine, three, Pumped::Done { bytes: 301 }, 301)?,
-    )
+// Does so with the dump by hand.
+fn all_end_by_hand(alloc: Global, local: &mut Local) -> Option<bool> {
+    let text = hex::decode(alloc, DUMP_OF_ONE_POINT).ok()?;
+    Some(all_end(alloc, local, Sink::new(text.as_slice())))
+}
+
+// Does so on a new machine.
+fn all_end_on_one(alloc: Global) -> Option<bool> {
+    let mut local = new_local(alloc, 16)?;
+    all_end_by_hand(alloc, &mut local)
 }
 
 #[test]
-fn each_piece_is_a_write(rt: HostRuntime) -> Result<(), Fail> {
-    let all = each_piece_needs_a_write(rt.alloc())?;
-    assert!(rt; all);
+fn outlets_that_fail(rt: HostRuntime) -> Result<(), Fail> {
+    assert!(rt; all_end_on_one(rt.alloc()) == Some(true));
     Ok(())
 }
 
-// Returns how a dump of a pin on the current state ends, once the last step is undone.
-fn dumped_below(alloc: Global) -> Result<Pumped, Fail> {
-    let mut machine = with_point(alloc)?;
-    let pinned = machine.open_pin(None)?;
-    machine.rewind(1)?;
-    let mut outlet = WriteOutlet::new(Vec::new(alloc));
-    Ok(pump_pin(&mut machine, pinned.pin, &mut outlet))
+// Returns how a dump of a pin on the current state ends, once the last step is undone, and how many bytes are out.
+fn dumped_below(machine: &mut Machine) -> Option<(Pumped, usize)> {
+    let pin = machine.open_pin(None).ok()?.pin;
+    machine.rewind(1).ok()?;
+    let mut outlet = WriteOutlet::new(Sink::new(&[]));
+    let pumped = pump_pin(machine, pin, &mut outlet);
+    Some((pumped, outlet.into_writer().taken))
+}
+
+// Does so once there is a point.
+fn point_dumped_below(alloc: Global, local: &mut Local) -> Option<(Pumped, usize)> {
+    if is_answered(alloc, local, POINT.as_bytes(), POINT_MADE.as_bytes()) {
+        return dumped_below(&mut local.machine);
+    }
+    None
+}
+
+// Does so on a new machine.
+fn new_point_dumped_below(alloc: Global) -> Option<(Pumped, usize)> {
+    let mut local = new_local(alloc, 16)?;
+    point_dumped_below(alloc, &mut local)
 }
 
 #[test]
 fn rewind_below_loses_the_dump(rt: HostRuntime) -> Result<(), Fail> {
-    let pumped = dumped_below(rt.alloc())?;
-    let lost = Pumped::Lost {
-        cause: LostCause::Rewound,
-        bytes: 0,
-    };
-    assert!(rt; pumped == lost);
+    let cause = LostCause::Rewound;
+    let lost = Pumped::Lost { cause, bytes: 0 };
+    assert!(rt; new_point_dumped_below(rt.alloc()) == Some((lost, 0)));
     Ok(())
 }

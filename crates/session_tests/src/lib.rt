@@ -11,11 +11,7 @@ mod dumps;
 #[cfg(test)]
 mod examples;
 #[cfg(test)]
-mod failures;
-#[cfg(test)]
 mod faults;
-#[cfg(test)]
-mod local;
 #[cfg(test)]
 mod pins;
 #[cfg(test)]

@@ -1,11 +1,11 @@
 //! A dump of two pages, through the pipe, and what a gauge sees of it.
 use crate::dumps::pump_state;
 use crate::saves::saved;
-use crate::sessions::local;
+use crate::sessions::{is_answered, new_local};
 use dump_pump::{Pumped, WriteOutlet};
-use heap_scripts::Machine;
+use heap_scripts::{Machine, new};
 use pin_dump::Gauge;
-use session_text::{Local, ReadInlet};
+use session_text::Local;
 use std::alloc::Global;
 use std::sync::Wait;
 use std::test::*;
@@ -14,12 +14,15 @@ use std::thread::Threads;
 // The size of the dump of 2,000 points: its opening, 17 segments and its end.
 const SIZE: usize = 66412;
 
+// The line that ends the session.
+const SAVED: &str = "saved 66412\n";
+
 // The size of the first page: the opening and 15 segments.
 const FIRST: u64 = 61657;
 
 // The sights of a gauge: how often it was begun and shown, what it was shown last, whether that rose, and the bytes that its
 // ends told.
-#[derive(Clone, Copy, Drop, PartialEq)]
+#[derive(Clone, Copy, PartialEq)]
 struct Notes {
     begun: u64,
     shown: u64,
@@ -44,30 +47,38 @@ impl Gauge for Notes {
     }
 }
 
-// Creates commands of a machine with 2,000 points.
-fn many_points(alloc: Global) -> Result<Local, Fail> {
-    let mut lines = String::from_str(alloc, "class Point - x:int y:int\n")?;
-    for _ in 0..2000 {
-        lines.push_str("new 0 0 0\n")?;
+// Makes points. Returns whether all was accepted.
+fn makes_points(alloc: Global, local: &mut Local, count: u64) -> bool {
+    if !is_answered(
+        alloc,
+        local,
+        b"class Point - x:int y:int\n",
+        b"ok class 0\n",
+    ) {
+        return false;
     }
-    let mut local = local(alloc, 16, 2, 1024)?;
-    let mut inlet = ReadInlet::new(lines.as_bytes());
-    let mut outlet = WriteOutlet::new(Vec::new(alloc));
-    session_text::serve_local(alloc, &mut inlet, &mut outlet, &mut local, 0);
-    Ok(local)
+    for _ in 0..count {
+        if local.machine.step(&new(0)).is_err() {
+            return false;
+        }
+    }
+    true
 }
 
-// Returns the text that the pump puts out.
-fn pumped_text(alloc: Global, local: &mut Local) -> Vec<u8> {
+// Returns the text that the pump puts out of the current state.
+fn pumped_text(alloc: Global, machine: &mut Machine) -> Vec<u8> {
     let mut outlet = WriteOutlet::new(Vec::new(alloc));
-    pump_state(&mut local.machine, &mut outlet);
+    pump_state(machine, &mut outlet);
     outlet.into_writer()
 }
 
-// Returns whether the dump of 2,000 points is saved as the pump puts it out, and what a gauge saw of it.
-fn many_saved<R: Threads + Wait + Sync>(rt: &R, alloc: Global) -> Result<(bool, Notes), Fail> {
-    let mut local = many_points(alloc)?;
-    let text = pumped_text(alloc, &mut local);
+// Saves the dump of 2,000 points. Returns whether it is what the pump puts out, and what a gauge saw of it.
+fn saved_beside<R: Threads + Wait + Sync>(
+    rt: &R,
+    alloc: Global,
+    local: &mut Local,
+    text: &[u8],
+) -> (bool, Notes) {
     let mut notes = Notes {
         begun: 0,
         shown: 0,
@@ -75,24 +86,40 @@ fn many_saved<R: Threads + Wait + Sync>(rt: &R, alloc: Global) -> Result<(bool, 
         rises: true,
         ended: 0,
     };
-    let done = saved(rt, alloc, &mut local, "", &mut notes);
+    let done = saved(rt, alloc, local, "", SAVED, text, &mut notes);
     let whole = done.pumped == Some(Pumped::Done { bytes: 66412 });
-    let same = text.len() == SIZE && done.taken.as_slice() == text.as_slice();
-    Ok((whole && same, notes))
+    let same = text.len() == SIZE && done.is_whole == Some(true) && done.is_answered;
+    (whole && same, notes)
+}
+
+// Does so once they are made.
+fn many_saved_in<R: Threads + Wait + Sync>(
+    rt: &R,
+    alloc: Global,
+    local: &mut Local,
+) -> Option<(bool, Notes)> {
+    if !makes_points(alloc, local, 2000) {
+        return None;
+    }
+    let text = pumped_text(alloc, &mut local.machine);
+    Some(saved_beside(rt, alloc, local, text.as_slice()))
+}
+
+// Does so on a new machine.
+fn many_saved<R: Threads + Wait + Sync>(rt: &R, alloc: Global) -> Option<(bool, Notes)> {
+    let mut local = new_local(alloc, 16)?;
+    many_saved_in(rt, alloc, &mut local)
 }
 
 #[test]
 fn segments_of_many_points(rt: HostRuntime) -> Result<(), Fail> {
-    let (same, notes) = many_saved(&rt, rt.alloc())?;
-    assert!(rt;
-        same && notes
-            == Notes {
-                begun: 1,
-                shown: 2,
-                bytes: FIRST,
-                rises: true,
-                ended: 66412,
-            }
-    );
+    let notes = Notes {
+        begun: 1,
+        shown: 2,
+        bytes: FIRST,
+        rises: true,
+        ended: 66412,
+    };
+    assert!(rt; many_saved(&rt, rt.alloc()) == Some((true, notes)));
     Ok(())
 }

@@ -1,8 +1,9 @@
 //! Sessions that are saved into memory.
-use crate::examples::{DUMP_OF_ONE_POINT, POINT, POINT_MADE};
-use crate::sessions::local;
+use crate::examples::{DUMP_OF_ONE_POINT, POINT, POINT_SAVED};
+use crate::sessions::new_local;
 use dump_pump::{Outlet, Pumped, WriteOutlet};
 use heap_save::{LastDump, Outlets, Saved, save_into};
+use heap_scripts::Sink;
 use pin_dump::{Gauge, Silent};
 use session_text::{Ended, Inlet, Local, ReadInlet};
 use std::alloc::Global;
@@ -10,36 +11,35 @@ use std::sync::Wait;
 use std::test::*;
 use std::thread::Threads;
 
-// A place that makes an outlet that takes all bytes, and counts how often it was asked to.
-#[derive(Drop)]
-struct Memory {
-    alloc: Global,
+// A place that makes an outlet that compares what it takes with a text, and counts how often it was asked to.
+#[derive(Clone, Copy)]
+struct Place<'a> {
+    text: &'a [u8],
     asked: u64,
 }
 
-impl Outlets for Memory {
-    type Out = WriteOutlet<Vec<u8>>;
+impl<'a> Outlets for Place<'a> {
+    type Out = WriteOutlet<Sink<'a>>;
 
     ghost makes = { λ place outlet. Unit {0} };
 
-    fn open(&mut self) -> Option<WriteOutlet<Vec<u8>>> {
+    fn open(&mut self) -> Option<WriteOutlet<Sink<'a>>> {
         self.asked = self.asked.saturating_add(1);
-        Some(WriteOutlet::new(Vec::new(self.alloc)))
+        Some(WriteOutlet::new(Sink::new(self.text)))
     }
 }
 
 /// The outcome of a session that was saved.
-#[derive(Drop)]
+#[derive(Clone, Copy, PartialEq)]
 pub struct Outcome {
     pub ended: Ended,
     pub pumped: Option<Pumped>,
+    /// Whether its answers are as they must be.
+    pub is_answered: bool,
     /// The number of times that the place was asked for an outlet.
     pub asked: u64,
-    /// Whether an outlet was handed out.
-    pub is_made: bool,
-    /// The bytes that the outlet took.
-    pub taken: Vec<u8>,
-    pub text: Vec<u8>,
+    /// Whether the outlet took the whole dump and nothing else, or None if none was handed out.
+    pub is_whole: Option<bool>,
 }
 
 // Saves a session at a place, which a gauge sees.
@@ -57,61 +57,64 @@ fn saved_at<I: Inlet, O: Outlet, P: Outlets, G: Gauge, R: Threads + Wait + Sync>
     save_into(rt, alloc, local, reader, writer, dump)
 }
 
-/// Saves a session of these lines, which a gauge sees.
+/// Saves a session of these lines, which a gauge sees, whose answers and whose dump have to be these.
 pub fn saved<G: Gauge, R: Threads + Wait + Sync>(
     rt: &R,
     alloc: Global,
     local: &mut Local,
     lines: &str,
+    answers: &str,
+    text: &[u8],
     gauge: &mut G,
 ) -> Outcome {
     let mut inlet = ReadInlet::new(lines.as_bytes());
-    let mut outlet = WriteOutlet::new(Vec::new(alloc));
-    let place = Memory { alloc, asked: 0 };
+    let mut outlet = WriteOutlet::new(Sink::new(answers.as_bytes()));
+    let place = Place { text, asked: 0 };
     let Saved {
         ended,
         pumped,
         place,
         outlet: made,
     } = saved_at(rt, alloc, local, &mut inlet, &mut outlet, place, gauge);
-    let is_made = made.is_some();
-    let taken = match made {
-        Some(made) => made.into_writer(),
-        None => Vec::new(alloc),
+    let is_whole = match made {
+        Some(made) => Some(made.into_writer().is_whole()),
+        None => None,
     };
     Outcome {
         ended,
         pumped,
+        is_answered: outlet.into_writer().is_whole(),
         asked: place.asked,
-        is_made,
-        taken,
-        text: outlet.into_writer(),
+        is_whole,
     }
 }
 
-// Returns whether the session of a point was answered line by line, and dumped whole.
-fn is_of_the_point(alloc: Global, whole: &Outcome) -> Result<bool, Fail> {
-    let text = format!(in alloc; "{POINT_MADE}saved 301\n")?;
-    let digits = hex::encode(alloc, whole.taken.as_slice())?;
-    Ok(
-        whole.ended == Ended::Eof
-            && whole.pumped == Some(Pumped::Done { bytes: 301 })
-            && whole.asked == 1
-            && whole.text.as_slice() == text.as_bytes()
-            && digits.as_str() == DUMP_OF_ONE_POINT,
-    )
+// Saves the session of a point.
+fn point_saved_in<R: Threads + Wait + Sync>(
+    rt: &R,
+    alloc: Global,
+    local: &mut Local,
+) -> Option<Outcome> {
+    let text = hex::decode(alloc, DUMP_OF_ONE_POINT).ok()?;
+    let text = text.as_slice();
+    Some(saved(rt, alloc, local, POINT, POINT_SAVED, text, &mut Silent))
 }
 
-// Returns whether the session of a point is saved as it must be.
-fn is_saved<R: Threads + Wait + Sync>(rt: &R, alloc: Global) -> Result<bool, Fail> {
-    let mut local = local(alloc, 16, 2, 1024)?;
-    let whole = saved(rt, alloc, &mut local, POINT, &mut Silent);
-    is_of_the_point(alloc, &whole)
+// Does so on a new machine.
+fn point_saved<R: Threads + Wait + Sync>(rt: &R, alloc: Global) -> Option<Outcome> {
+    let mut local = new_local(alloc, 16)?;
+    point_saved_in(rt, alloc, &mut local)
 }
 
 #[test]
 fn save_pumps_the_heap(rt: HostRuntime) -> Result<(), Fail> {
-    let as_it_must = is_saved(&rt, rt.alloc())?;
-    assert!(rt; as_it_must);
+    let wanted = Outcome {
+        ended: Ended::Eof,
+        pumped: Some(Pumped::Done { bytes: 301 }),
+        is_answered: true,
+        asked: 1,
+        is_whole: Some(true),
+    };
+    assert!(rt; point_saved(&rt, rt.alloc()) == Some(wanted));
     Ok(())
 }

@@ -1,10 +1,9 @@
-//! A reader that gives a byte a read, and writers that take some bytes a write. They fail once no read, write or room is left.
-use std::alloc::Global;
+//! A reader that gives a byte a read, and fails once no read is left.
 use std::io;
-use std::io::{ErrorKind, Read, Write};
+use std::io::{ErrorKind, Read};
 
 /// A reader that gives a text byte by byte, and fails once no read is left.
-#[derive(Drop)]
+#[derive(Clone, Copy)]
 pub struct ByteReader<'a> {
     pub rest: &'a [u8],
     pub reads_left: usize,
@@ -24,43 +23,5 @@ impl Read for ByteReader<'_> {
             }
             _ => Ok(0),
         }
-    }
-}
-
-/// A writer that takes at most `most` bytes a write, while writes and room are left to it.
-#[derive(Drop)]
-pub struct Sips {
-    pub taken: Vec<u8>,
-    pub most: usize,
-    pub writes_left: usize,
-    pub room: usize,
-}
-
-impl Write for Sips {
-    fn write(&mut self, given: &[u8]) -> io::Result<usize> {
-        let size = given.len().min(self.most).min(self.room);
-        if self.writes_left == 0 || size == 0 {
-            return Err(ErrorKind::BrokenPipe.into());
-        }
-        self.writes_left -= 1;
-        self.room -= size;
-        if self.taken.extend_from_slice(&given[..size]).is_err() {
-            return Err(ErrorKind::OutOfMemory.into());
-        }
-        Ok(size)
-    }
-
-    fn flush(&mut self) -> io::Result<()> {
-        Ok(())
-    }
-}
-
-/// Creates a writer that takes a byte a write, and fails once no write is left.
-pub fn byte_writer(alloc: Global, writes_left: usize) -> Sips {
-    Sips {
-        taken: Vec::new(alloc),
-        most: 1,
-        writes_left,
-        room: usize::MAX,
     }
 }

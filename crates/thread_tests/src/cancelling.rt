@@ -1,114 +1,92 @@
-//! Sources that are watched: asked before a stream, and between two parts.
-ghost use Rattle.std.specs.Prelude.{◌≡◌, ◌<◌};
+//! Pumps that are cancelled between two parts.
+ghost use Rattle.std.specs.Prelude.{◌≡◌};
 
-use crate::parts::{Asking, PinParts, one_point, points, text_of};
-use crate::sinks::reaches;
-use crate::streaming::into_writer;
-use dump_pipe::{AskSeat, Cancel, Counter, FeedSeat, Meter, NewMeter, Watched};
+use crate::meters::{FourSeats, new_meter};
+use crate::points::one_point;
+use crate::scenes::{Five, Scene, played};
+use crate::shared::{closes_pin, opened_pin};
+use crate::sources::Asking;
+use dump_pipe::{AskSeat, FeedSeat, Meter, Watched};
 use dump_pump::{Pumped, WriteOutlet, pump};
+use heap_lock::{Heap, LockedSource, Shared};
+use heap_scripts::Sink;
 use std::alloc::Global;
 use std::sync::Wait;
-use std::sync::atomic::{AtomicU64, Ordering};
 use std::test::*;
 use std::thread::Threads;
 
-// Pumps parts, watched, from a source that is taken to have given `turn` of them: it asks to cancel before the second, if that is
-// to come. Returns how it went, and what is out.
-fn pump_asked(
-    alloc: Global,
+// Pumps the parts of a pin into a sink, watched, from a source that is taken to have given `turn` of them: it asks to cancel
+// before the second, if that is to come. Returns how it went, and the sink.
+fn pump_asked<'a, L: Heap, R: Wait>(
+    rt: &R,
+    shared: &Shared<L>,
+    pin: u64,
     meter: &Meter,
-    parts: PinParts,
     asker: AskSeat,
     feed: FeedSeat,
     turn: u64,
-) -> (Pumped, Vec<u8>)
-    requires parts { 0 < parts.left }
+    sink: Sink<'a>,
+) -> (Pumped, Sink<'a>)
     requires asker { asker.meter ≡ meter.now }
     requires feed { feed.meter ≡ meter.now }
 {
-    let asking = Asking {
-        source: parts,
-        cancel: meter.cancel(),
-        seat: asker,
-        turn,
-    };
     let mut source = Watched {
-        source: asking,
+        source: Asking {
+            source: LockedSource::new(shared, rt, shared.witness(rt), pin, 0),
+            cancel: meter.cancel(),
+            seat: asker,
+            turn,
+        },
         cancel: meter.cancel(),
         seat: feed,
     };
-    let mut outlet = WriteOutlet::new(Vec::new(alloc));
+    let mut outlet = WriteOutlet::new(sink);
     let pumped = pump(&mut source, &mut outlet);
     (pumped, outlet.into_writer())
 }
 
-// Pumps the dump of one point so. Returns how it went, and what is out.
-fn pumped_watched(alloc: Global, turn: u64) -> Result<(Pumped, Vec<u8>), Fail> {
-    let parts = PinParts::open(one_point(alloc)?)?;
-    let NewMeter {
+// Returns whether a new pin of one point is pumped so, and the first bytes of its text are out.
+fn goes<L: Heap, R: Wait>(
+    rt: &R,
+    alloc: Global,
+    shared: &Shared<L>,
+    text: &[u8],
+    turn: u64,
+    wanted: Pumped,
+    bytes: usize,
+) -> Option<bool> {
+    let FourSeats {
         meter,
         out: _,
-        readers: _,
-        mut askers,
+        reader: _,
+        asker,
         feed,
-    } = Meter::new(alloc, 0, 1)?;
-    let asker = askers.pop().ok_or("no asker")?;
-    Ok(pump_asked(alloc, &meter, parts, asker, feed, turn))
+    } = new_meter(alloc)?;
+    let pin = opened_pin(rt, shared)?;
+    let sink = Sink::new(text);
+    let (pumped, sink) = pump_asked(rt, shared, pin, &meter, asker, feed, turn, sink);
+    closes_pin(rt, shared, pin);
+    Some(pumped == wanted && sink.has_first(bytes))
 }
 
-// Returns how a watched pump went, and whether its bytes are the first of the text of one point.
-fn begins_text(alloc: Global, turn: u64) -> Result<(Pumped, usize, bool), Fail> {
-    let whole = text_of(alloc, one_point(alloc)?)?;
-    let (pumped, text) = pumped_watched(alloc, turn)?;
-    let begins = whole.as_slice().starts_with(text.as_slice());
-    Ok((pumped, text.len(), begins))
+/// Pumps three parts, cancelled after two, and never. Returns whether just the parts before are out.
+pub fn cancelled_pumps<L: Heap + Send + Sync, R: Threads + Wait + Sync>(
+    rt: &R,
+    alloc: Global,
+    shared: &Shared<L>,
+    five: &mut Five<L>,
+) -> Option<bool> {
+    let text = one_point(rt, alloc, shared, &mut five.user)?;
+    let after_two = Pumped::Cancelled { bytes: 292 };
+    let never = Pumped::Done { bytes: 301 };
+    Some(
+        goes(rt, alloc, shared, text.as_slice(), 0, after_two, 292) == Some(true)
+            && goes(rt, alloc, shared, text.as_slice(), 2, never, 301) == Some(true),
+    )
 }
 
 #[test]
 fn pump_cancelled(rt: HostRuntime) -> Result<(), Fail> {
-    let after_two = begins_text(rt.alloc(), 0)?;
-    assert!(rt; after_two == (Pumped::Cancelled { bytes: 292 }, 292, true));
-    let never = begins_text(rt.alloc(), 2)?;
-    assert!(rt; never == (Pumped::Done { bytes: 301 }, 301, true));
+    assert!(rt; played(&rt, rt.alloc(), Scene::CancelledPumps) == Some(true));
     Ok(())
-}
-
-/// Streams the dump of thirty points after somebody asked to cancel it. Returns how it went, and how many bytes are out.
-pub fn cancelled_before<R: Threads + Wait + Sync>(
-    rt: &R,
-    alloc: Global,
-) -> Result<(Pumped, usize), Fail> {
-    let parts = PinParts::open(points(alloc, 30)?)?;
-    let NewMeter {
-        meter,
-        out,
-        readers: _,
-        mut askers,
-        feed,
-    } = Meter::new(alloc, 0, 1)?;
-    let mut asker = askers.pop().ok_or("no asker")?;
-    meter.cancel().ask(&mut asker);
-    let mut source = Watched {
-        source: parts,
-        cancel: meter.cancel(),
-        seat: feed,
-    };
-    let counter = Counter::new(meter.progress(), out);
-    let (pumped, text) = into_writer(rt, alloc, &mut source, Vec::new(alloc), counter);
-    Ok((pumped, text.len()))
-}
-
-/// Asks to cancel once an outlet is held, and then opens its gate. Returns whether it was held.
-pub fn ask_once_held(
-    cancel: &Cancel<'_>,
-    seat: &mut AskSeat,
-    here: &AtomicU64,
-    gate: &AtomicU64,
-) -> bool
-    requires { seat.old.meter ≡ cancel.now }
-{
-    let held = reaches(here, 1);
-    cancel.ask(seat);
-    gate.store(1, Ordering::SeqCst);
-    held
 }

@@ -1,54 +1,64 @@
 //! The two ends of a pipe, each in a thread of its own.
-ghost use Rattle.std.specs.Prelude.{◌≡◌, ◌<◌, []};
+ghost use Rattle.std.specs.Prelude.{◌≡◌, []};
+ghost use denote.Param.Send.{IsSync};
 ghost use Rattle.dump_pipe.specs.Claims.{view, IsSeatAt};
 ghost use Rattle.dump_pipe.specs.Ends.{sends_on, receives_on};
 ghost use Rattle.dump_pipe.specs.Seats.{sum};
 ghost use Rattle.dump_pipe.specs.declared.end_view.EndView.TheVariants.{Sends, Gets};
 
-use crate::parts::{Counted, PinParts, one_point, points};
-use crate::sinks::{Sink, reaches};
+use crate::meters::{FourSeats, new_meter};
+use crate::points::one_point;
+use crate::scenes::{Five, Scene, played};
+use crate::shared::{closes_pin, has_points, opened_pin, pumped_now};
+use crate::sinks::reaches;
+use crate::sources::Counted;
 use dump_pipe::start::Start;
 use dump_pipe::{
-    BothEnds, Counter, End, Knowledge, Meter, NewMeter, OutSeat, Receiver, Sender, drain_pipe,
-    feed, pipe,
+    BothEnds, Counter, End, Knowledge, Meter, OutSeat, Receiver, Sender, drain_pipe, feed, pipe,
 };
 use dump_pump::{Ending, Pumped, WriteOutlet};
-use std::alloc::{AllocError, Global};
+use heap_lock::{Heap, LockedSource, Shared};
+use heap_scripts::Sink;
+use std::alloc::Global;
 use std::sync::Wait;
 use std::sync::atomic::{AtomicU64, Ordering};
 use std::test::*;
 use std::thread;
 use std::thread::Threads;
 
-// Feeds all parts to a pipe, and counts in a word how often the source is asked. Returns how that ended, and the parts.
-fn fed<R: Wait>(
+// How feeding ended, how many parts were given, how often the source had been asked when the drain began, and how that went.
+type Went = (Ending, u64, u64, Pumped);
+
+// Feeds the parts of a pin to a pipe, and counts in a word how often the source is asked. Returns how that ended, and how many
+// parts were given.
+fn fed<L: Heap, R: Wait>(
     rt: &R,
+    shared: &Shared<L>,
+    pin: u64,
     sender: &Sender,
     end: End,
-    parts: PinParts,
     asked: &AtomicU64,
-) -> (Ending, PinParts)
-    requires parts { 0 < parts.left }
-    requires end { IsSeatAt (sends_on sender.now) end × (view end ≡ Sends []) }
+) -> (Ending, u64)
+    requires { IsSeatAt (sends_on sender.now) end × (view end ≡ Sends []) }
 {
     let mut end = end;
     let mut source = Counted {
-        source: parts,
+        source: LockedSource::new(shared, rt, shared.witness(rt), pin, 0),
         asked,
     };
     let ending = feed(rt, &mut source, sender, &mut end);
-    (ending, source.source)
+    (ending, source.source.count)
 }
 
 // Drains a pipe into a sink. Returns how that went, and the sink.
-fn drained<R: Wait>(
+fn drained<'a, R: Wait>(
     rt: &R,
     receiver: &Receiver,
     end: End,
-    sink: Sink,
+    sink: Sink<'a>,
     meter: &Meter,
     out: OutSeat,
-) -> (Pumped, Sink)
+) -> (Pumped, Sink<'a>)
     requires end { IsSeatAt (receives_on receiver.now) end × (view end ≡ Gets []) }
     requires out { out ≡ sum meter.now 0 }
 {
@@ -59,118 +69,155 @@ fn drained<R: Wait>(
     (pumped, outlet.into_writer())
 }
 
-// Feeds the parts in one thread, and drains them into a sink in another once the source was asked `first` times. Returns how
-// both went, how often the source had been asked when the drain began, the source and the sink.
-fn by_two<R: Threads + Wait + Sync>(
+// Feeds the parts of a pin in one thread, and drains them into a sink in another once the source was asked `first` times.
+// Returns how all went, and the sink.
+fn by_two<'a, L: Heap + Send + Sync, R: Threads + Wait + Sync>(
     rt: &R,
-    alloc: Global,
-    parts: PinParts,
-    sink: Sink,
+    shared: &Shared<L>,
+    pin: u64,
+    ends: BothEnds,
+    known: Knowledge,
+    sink: Sink<'a>,
     first: u64,
-) -> Result<(Ending, PinParts, u64, Pumped, Sink), AllocError>
-    requires { 0 < parts.left }
+    meter: &Meter,
+    out: OutSeat,
+) -> (Went, Sink<'a>)
+    requires one { IsSeatAt (sends_on ends.sender) known.one × (view known.one ≡ Sends []) }
+    requires other { IsSeatAt (receives_on ends.receiver) known.other
+        × (view known.other ≡ Gets []) }
+    requires out { out ≡ sum meter.now 0 }
 {
-    let (BothEnds { sender, receiver }, Knowledge { one, other }) = pipe(alloc)?;
-    let NewMeter {
-        meter,
-        out,
-        readers: _,
-        askers: _,
-        feed: _,
-    } = Meter::new(alloc, 0, 0)?;
+    let BothEnds { sender, receiver } = ends;
+    let Knowledge { one, other } = known;
     let asked = AtomicU64::new(0);
     let asked_now = &asked;
-    let ((ending, parts), (count, pumped, sink)) = thread::join(
+    let ((ending, given), (count, pumped, sink)) = thread::join(
         rt,
-        move || -> (Ending, PinParts)
-            requires { (0 < parts.left) × IsSeatAt (sends_on sender) one × (view one ≡ Sends []) }
-        { fed(rt, &sender, one, parts, asked_now) },
+        move || -> (Ending, u64)
+            requires { IsSeatAt (sends_on sender) one × (view one ≡ Sends []) }
+        { fed(rt, shared, pin, &sender, one, asked_now) },
         move || -> (u64, Pumped, Sink)
             requires { IsSeatAt (receives_on receiver) other × (view other ≡ Gets [])
-                × (out ≡ sum meter 0) }
+                × (out ≡ sum meter.now 0) }
         {
             reaches(asked_now, first);
             let count = asked_now.load(Ordering::SeqCst);
-            let (pumped, sink) = drained(rt, &receiver, other, sink, &meter, out);
+            let (pumped, sink) = drained(rt, &receiver, other, sink, meter, out);
             (count, pumped, sink)
         },
     );
-    Ok((ending, parts, count, pumped, sink))
+    ((ending, given, count, pumped), sink)
 }
 
-// Feeds the dump of points, and drains none of it until the source was asked for a ninth part. Returns how both went, how
-// often the source had been asked, and how many bytes are out.
-fn after_nine<R: Threads + Wait + Sync>(
+// Does so with a new pipe and a new meter, for a new pin, which is closed. None if one of them is refused.
+fn piped<'a, L: Heap + Send + Sync, R: Threads + Wait + Sync>(
     rt: &R,
     alloc: Global,
-) -> Result<(Ending, u64, Pumped, usize), Fail> {
-    let parts = PinParts::open(points(alloc, 2000)?)?;
-    let sink = Sink {
-        taken: Vec::new(alloc),
-        size: usize::MAX,
-        most: usize::MAX,
+    shared: &Shared<L>,
+    sink: Sink<'a>,
+    first: u64,
+) -> Option<(Went, Sink<'a>)> {
+    let FourSeats {
+        meter,
+        out,
+        reader: _,
+        asker: _,
+        feed: _,
+    } = new_meter(alloc)?;
+    let pin = opened_pin(rt, shared)?;
+    let Ok((ends, known)) = pipe(alloc) else {
+        return None;
     };
-    let (ending, _, count, pumped, sink) = by_two(rt, alloc, parts, sink, 9)?;
-    Ok((ending, count, pumped, sink.taken.len()))
+    let went = by_two(rt, shared, pin, ends, known, sink, first, &meter, out);
+    closes_pin(rt, shared, pin);
+    Some(went)
+}
+
+/// Feeds the dump of 2,000 points, and drains none of it until the source was asked for a ninth part. Returns whether that is
+/// the most that it is asked for before, and all then comes out.
+pub fn nine_asked<L: Heap + Send + Sync, R: Threads + Wait + Sync>(
+    rt: &R,
+    alloc: Global,
+    shared: &Shared<L>,
+    five: &mut Five<L>,
+) -> Option<bool> {
+    let sink = Sink::new(&[]);
+    let made = has_points(rt, alloc, shared, &mut five.user, 2000);
+    let (went, sink) = piped(rt, alloc, shared, sink, 9)?;
+    let wanted = (Ending::Whole, 19, 9, Pumped::Done { bytes: 66412 });
+    Some(made && went == wanted && sink.taken == 66412)
 }
 
 #[test]
 fn pipe_needs_two(rt: HostRuntime) -> Result<(), Fail> {
-    let went = after_nine(&rt, rt.alloc())?;
-    assert!(rt; went == (Ending::Whole, 9, Pumped::Done { bytes: 66412 }, 66412));
+    assert!(rt; played(&rt, rt.alloc(), Scene::NineAsked) == Some(true));
     Ok(())
 }
 
-// Returns whether a sink of at most `size` bytes a write, which fails once it has `most`, ends the pipe of one point as it
-// should, and a new pin of the heap then gives its whole dump.
-fn fails_as_told<R: Threads + Wait + Sync>(
+// Returns how a pipe goes into an outlet that fails after this number of bytes of the dump of one point, if they are fewer than
+// all.
+fn wanted(most: usize) -> Pumped {
+    let bytes = most as u64;
+    if most < 301 {
+        Pumped::OutletFailed { bytes }
+    } else {
+        Pumped::Done { bytes }
+    }
+}
+
+// Returns whether a sink that fails ends the pipe of one point as it should, and a new pin of the heap then gives its whole
+// dump.
+fn fails_as_told<L: Heap + Send + Sync, R: Threads + Wait + Sync>(
     rt: &R,
     alloc: Global,
-    size: usize,
-    most: usize,
-) -> Result<bool, Fail> {
-    let parts = PinParts::open(one_point(alloc)?)?;
-    let sink = Sink {
-        taken: Vec::new(alloc),
-        size,
-        most,
-    };
-    let (ending, parts, _, pumped, sink) = by_two(rt, alloc, parts, sink, 0)?;
-    let bytes = sink.taken.len() as u64;
-    let wanted = if most < 301 {
-        Pumped::OutletFailed { bytes: most as u64 }
-    } else {
-        Pumped::Done { bytes: 301 }
-    };
-    let again = parts.pumped_again(alloc)?;
-    Ok(
-        ending == Ending::Whole
-            && pumped == wanted
-            && bytes == most as u64
-            && again == Pumped::Done { bytes: 301 },
+    shared: &Shared<L>,
+    sink: Sink<'_>,
+) -> Option<bool> {
+    let room = sink.room;
+    let text = sink.rest;
+    let ((ending, given, _, pumped), sink) = piped(rt, alloc, shared, sink, 0)?;
+    let (again, _, whole) = pumped_now(rt, shared, Sink::new(text))?;
+    Some(
+        (ending, given, pumped) == (Ending::Whole, 3, wanted(room))
+            && sink.has_first(room)
+            && again == wanted(301)
+            && whole.is_whole(),
     )
 }
 
 // Returns whether sinks that fail after 0 to 300 bytes, and one that doesn't, end the pipe as they should.
-fn each_fails_as_told<R: Threads + Wait + Sync>(
+fn each_fails_as_told<L: Heap + Send + Sync, R: Threads + Wait + Sync>(
     rt: &R,
     alloc: Global,
-    size: usize,
-) -> Result<bool, Fail> {
-    for most in 0..302usize {
-        if !fails_as_told(rt, alloc, size, most)? {
-            return Ok(false);
+    shared: &Shared<L>,
+    sink: Sink<'_>,
+) -> bool {
+    for room in 0..302usize {
+        if fails_as_told(rt, alloc, shared, Sink { room, ..sink }) != Some(true) {
+            return false;
         }
     }
-    Ok(true)
+    true
+}
+
+/// Drains the dump of one point into sinks that fail, by bytes and at once. Returns whether all goes as it must.
+pub fn failing_ends<L: Heap + Send + Sync, R: Threads + Wait + Sync>(
+    rt: &R,
+    alloc: Global,
+    shared: &Shared<L>,
+    five: &mut Five<L>,
+) -> Option<bool> {
+    let text = one_point(rt, alloc, shared, &mut five.user)?;
+    let sink = Sink::new(text.as_slice());
+    Some(
+        each_fails_as_told(rt, alloc, shared, Sink { most: 1, ..sink })
+            && each_fails_as_told(rt, alloc, shared, sink),
+    )
 }
 
 #[test]
 fn outlets_that_fail(rt: HostRuntime) -> Result<(), Fail> {
-    let by_bytes = each_fails_as_told(&rt, rt.alloc(), 1)?;
-    assert!(rt; by_bytes);
-    let by_parts = each_fails_as_told(&rt, rt.alloc(), usize::MAX)?;
-    assert!(rt; by_parts);
+    assert!(rt; played(&rt, rt.alloc(), Scene::FailingEnds) == Some(true));
     Ok(())
 }
 
@@ -189,7 +236,7 @@ fn begun<R: Wait>(rt: &R) -> (bool, bool, bool) {
 
 #[test]
 fn a_thread_that_never_begins_is_given_up(rt: HostRuntime) -> Result<(), Fail> {
-    assert!(rt; given_up(&rt) == (false, false, false));
-    assert!(rt; begun(&rt) == (true, true, true));
+    let went = (given_up(&rt), begun(&rt));
+    assert!(rt; went == ((false, false, false), (true, true, true)));
     Ok(())
 }

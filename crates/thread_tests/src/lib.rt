@@ -19,17 +19,19 @@ mod metered;
 #[cfg(test)]
 mod meters;
 #[cfg(test)]
-mod parts;
+mod points;
 #[cfg(test)]
 mod pumps;
 #[cfg(test)]
 mod rolls;
 #[cfg(test)]
+mod scenes;
+#[cfg(test)]
 mod shared;
 #[cfg(test)]
 mod sinks;
 #[cfg(test)]
-mod streaming;
+mod sources;
 #[cfg(test)]
 mod threads;
 #[cfg(test)]

@@ -1,32 +1,61 @@
-//! Streams of a shared heap's pin with a meter's seats: one that reads beside the stream, and one that asked before it.
-ghost use Rattle.std.specs.Prelude.{◌≡◌, All, false};
+//! Dumps of a shared heap's pin that count their bytes by a meter: read, failing, and cancelled before they begin.
+ghost use Rattle.std.specs.Prelude.{◌≡◌};
 ghost use denote.Param.Send.{IsSync};
-ghost use Rattle.dump_pipe.specs.Seats.{sum, sum_read, cancel_asked, cancel_found};
+ghost use Rattle.dump_pipe.specs.Seats.{sum};
 
-use crate::shared::{has_points, pumped_now, streamed};
-use crate::streaming::read_along;
-use dump_pipe::{FeedSeat, Meter, NewMeter, OutSeat, ReadSeat};
-use dump_pump::Pumped;
-use heap_lock::{Blank, Heap, Role, Shared};
-use heap_scripts::Config;
+use crate::meters::{FourSeats, new_meter};
+use crate::scenes::{Five, Scene, played};
+use crate::shared::{has_points, opened_pin, pumped_now, streamed};
+use crate::sinks::{Gated, TURNS, reaches};
+use dump_pipe::{Counter, FeedSeat, Meter, OutSeat, Progress, ReadSeat, pump_counted};
+use dump_pump::{Pumped, WriteOutlet};
+use heap_lock::{Heap, LockedSource, Shared};
+use heap_scripts::Sink;
 use std::alloc::Global;
-use std::marker::Brand;
 use std::sync::Wait;
 use std::sync::atomic::{AtomicU64, Ordering};
 use std::test::*;
 use std::thread;
-use std::thread::Threads;
+use std::thread::{Threads, yield_now};
 
-// Bytes of the dump of thirty points, and how many points there are.
+// Bytes of the dump of thirty points.
 const SIZE: u64 = 1258;
 
-const POINTS: u64 = 30;
+const DONE: Pumped = Pumped::Done { bytes: SIZE };
 
-// How a stream went, how many bytes are out, and what was read of its progress last, and whether nothing above the size was
-// read.
-type Streamed = (Pumped, usize, (u64, bool));
+// Reads the progress until a stream is done. Returns what was read last, and whether nothing above the size was read.
+fn read_along(progress: &Progress<'_>, seat: &mut ReadSeat, done: &AtomicU64) -> (u64, bool)
+    requires { seat.old.meter ≡ progress.now }
+{
+    for _ in 0..TURNS {
+        let is_done = done.load(Ordering::SeqCst) == 1;
+        let read = progress.read(seat);
+        if is_done || read > SIZE {
+            return (read, read <= SIZE);
+        }
+        yield_now();
+    }
+    (0, false)
+}
 
-// Streams the dump of a pin into memory, while another thread reads the progress.
+// Reads the progress once an outlet is held, opens its gate, and reads along. Returns what was read first, and what then.
+fn read_from_held(
+    progress: &Progress<'_>,
+    seat: &mut ReadSeat,
+    here: &AtomicU64,
+    gate: &AtomicU64,
+    done: &AtomicU64,
+) -> (u64, (u64, bool))
+    requires { seat.old.meter ≡ progress.now }
+{
+    reaches(here, 1);
+    let first = progress.read(seat);
+    gate.store(1, Ordering::SeqCst);
+    (first, read_along(progress, seat, done))
+}
+
+// Streams the dump of a pin into a sink that is held after the first part, while another thread reads the progress. Returns how
+// it went, how many bytes are out, and what was read.
 fn read_by_two<L: Heap + Send + Sync, R: Threads + Wait + Sync>(
     rt: &R,
     alloc: Global,
@@ -36,135 +65,169 @@ fn read_by_two<L: Heap + Send + Sync, R: Threads + Wait + Sync>(
     out: OutSeat,
     reader: ReadSeat,
     feed: FeedSeat,
-) -> Streamed
+) -> ((Pumped, usize), (u64, (u64, bool)))
     requires out { out ≡ sum meter.now 0 }
     requires reader { reader.meter ≡ meter.now }
     requires feed { feed.meter ≡ meter.now }
 {
+    let here = AtomicU64::new(0);
+    let gate = AtomicU64::new(0);
     let done = AtomicU64::new(0);
-    let is_done = &done;
-    let (read, (pumped, size)) = thread::join(
+    let (is_here, is_open, is_done) = (&here, &gate, &done);
+    let (read, went) = thread::join(
         rt,
-        move || -> (u64, bool)
+        move || -> (u64, (u64, bool))
             requires { reader.meter ≡ meter.now }
         {
             let mut seat = reader;
-            read_along(&meter.progress(), &mut seat, is_done, SIZE)
+            read_from_held(&meter.progress(), &mut seat, is_here, is_open, is_done)
         },
         move || -> (Pumped, usize)
             requires { IsSync R.row × (out ≡ sum meter.now 0) × (feed.meter ≡ meter.now) }
         {
-            let taken = Vec::new(alloc);
-            let (pumped, text) = streamed(rt, alloc, shared, pin, taken, meter, out, feed);
+            let writer = Gated::new(&[], 1, is_here, is_open);
+            let (pumped, writer) = streamed(rt, alloc, shared, pin, writer, meter, out, feed);
             is_done.store(1, Ordering::SeqCst);
-            (pumped, text.len())
+            (pumped, writer.sink.taken)
         },
     );
-    (pumped, size, read)
+    (went, read)
 }
 
-// Streams so with the seats of a new meter. None if it has no reader.
-fn read_meanwhile<L: Heap + Send + Sync, R: Threads + Wait + Sync>(
+// Returns whether a stream of a pin is whole, and a reader sees the 143 bytes of the opening while it is held after them, and
+// all once it is done.
+fn is_read<L: Heap + Send + Sync, R: Threads + Wait + Sync>(
     rt: &R,
     alloc: Global,
     shared: &Shared<L>,
     pin: u64,
-    made: NewMeter,
-) -> Option<Streamed>
-    requires out { made.out ≡ sum made.meter 0 }
-    requires readers { All (λ s. s ≡ sum_read made.meter 0) made.readers.items }
-    requires feed { made.feed ≡ cancel_found made.meter false }
-{
-    let NewMeter {
+) -> Option<bool> {
+    let FourSeats {
         meter,
         out,
-        mut readers,
-        askers: _,
+        reader,
+        asker: _,
         feed,
-    } = made;
-    let reader = readers.pop()?;
-    Some(read_by_two(rt, alloc, shared, pin, &meter, out, reader, feed))
+    } = new_meter(alloc)?;
+    let (went, read) = read_by_two(rt, alloc, shared, pin, &meter, out, reader, feed);
+    Some(went == (DONE, SIZE as usize) && read == (143, (SIZE, true)))
 }
 
-// Streams after somebody asked to cancel. Returns how it went, and how many bytes are out, or None if the meter has no asker.
-fn asked_before<L: Heap + Send + Sync, R: Threads + Wait + Sync>(
+/// Streams the dump of a pin into a sink, with a new meter, after somebody asked to cancel it if they `asked`. Returns how it
+/// went, and how many bytes are out.
+pub fn unread<L: Heap + Send + Sync, R: Threads + Wait + Sync>(
     rt: &R,
     alloc: Global,
     shared: &Shared<L>,
     pin: u64,
-    made: NewMeter,
-) -> Option<(Pumped, usize)>
-    requires out { made.out ≡ sum made.meter 0 }
-    requires askers { All (λ s. s ≡ cancel_asked made.meter false) made.askers.items }
-    requires feed { made.feed ≡ cancel_found made.meter false }
-{
-    let NewMeter {
+    asked: bool,
+    sink: Sink<'_>,
+) -> Option<(Pumped, usize)> {
+    let FourSeats {
         meter,
         out,
-        readers: _,
-        mut askers,
+        reader: _,
+        mut asker,
         feed,
-    } = made;
-    let mut asker = askers.pop()?;
-    meter.cancel().ask(&mut asker);
-    let (pumped, text) = streamed(rt, alloc, shared, pin, Vec::new(alloc), &meter, out, feed);
-    Some((pumped, text.len()))
+    } = new_meter(alloc)?;
+    if asked {
+        meter.cancel().ask(&mut asker);
+    }
+    let (pumped, sink) = streamed(rt, alloc, shared, pin, sink, &meter, out, feed);
+    Some((pumped, sink.taken))
 }
 
-// Opens a pin on the current state, and returns its number.
-fn opened_pin<L: Heap, R: Wait>(rt: &R, shared: &Shared<L>) -> Result<u64, Fail> {
-    let mut witness = shared.witness(rt);
-    let pinned = shared.open_pin(rt, &mut witness, None)?;
-    Ok(pinned.pin)
-}
-
-// Streams thirty points with a reader beside it, and then by another pin after somebody asked. Returns whether the first was
-// whole and read to its end, the second put out nothing, and a dump of a third pin is whole.
-fn both_go<L: Heap + Send + Sync, R: Threads + Wait + Sync>(
+/// Streams thirty points: read along, after somebody asked to cancel, and into a sink that fails. Returns whether each goes as
+/// it must, and a dump after them is whole.
+pub fn metered_streams<L: Heap + Send + Sync, R: Threads + Wait + Sync>(
     rt: &R,
     alloc: Global,
     shared: &Shared<L>,
-) -> Result<bool, Fail> {
-    let read = opened_pin(rt, shared)?;
-    let whole = read_meanwhile(rt, alloc, shared, read, Meter::new(alloc, 1, 0)?);
-    let asked = opened_pin(rt, shared)?;
-    let none = asked_before(rt, alloc, shared, asked, Meter::new(alloc, 0, 1)?);
-    let (after, _) = pumped_now(rt, alloc, shared)?;
-    let done = Pumped::Done { bytes: SIZE };
-    Ok(
-        whole == Some((done, SIZE as usize, (SIZE, true)))
-            && none == Some((Pumped::Cancelled { bytes: 0 }, 0))
-            && after == done,
+    five: &mut Five<L>,
+) -> Option<bool> {
+    if !has_points(rt, alloc, shared, &mut five.user, 30) {
+        return None;
+    }
+    let sink = Sink::new(&[]);
+    let read = is_read(rt, alloc, shared, opened_pin(rt, shared)?)?;
+    let cancelled = unread(rt, alloc, shared, opened_pin(rt, shared)?, true, sink)?;
+    let short = Sink { room: 100, ..sink };
+    let failed = unread(rt, alloc, shared, opened_pin(rt, shared)?, false, short)?;
+    let (pumped, _, _) = pumped_now(rt, shared, sink)?;
+    Some(
+        read && cancelled == (Pumped::Cancelled { bytes: 0 }, 0)
+            && failed == (Pumped::OutletFailed { bytes: 100 }, 100)
+            && pumped == DONE,
     )
 }
 
-fn opened<L: Heap + Send + Sync, R: Threads + Wait + Sync>(
-    rt: &R,
-    alloc: Global,
-    blank: Blank,
-) -> Result<bool, Fail>
-    requires { (blank.config ≡ L.config) × (blank.tables ≡ L.tables)
-        × (blank.ledger ≡ L.ledger) × (blank.rolls ≡ L.rolls) }
-{
-    let (shared, mut seats) = blank.open::<L>();
-    let Some(mut user) = seats.take() else {
-        return Ok(false);
-    };
-    if !has_points(rt, alloc, &shared, &mut user, POINTS)? {
-        return Ok(false);
-    }
-    both_go(rt, alloc, &shared)
+#[test]
+fn stream_with_progress_and_cancel(rt: HostRuntime) -> Result<(), Fail> {
+    assert!(rt; played(&rt, rt.alloc(), Scene::MeteredStreams) == Some(true));
+    Ok(())
 }
 
-fn opened_once<R: Threads + Wait + Sync>(rt: &R, alloc: Global) -> Result<bool, Fail> {
-    let config = Config::new(16, 2, 1024).ok_or("settings out of range")?;
-    let blank = Blank::new(alloc, config, [Role::User].as_slice())?;
-    opened::<Brand, R>(rt, alloc, blank)
+// Puts out the parts of a pin in one thread, into a sink that takes `room` bytes. Returns how it went, how many bytes are out,
+// and what is read then.
+fn counted_of<L: Heap, R: Wait>(
+    rt: &R,
+    shared: &Shared<L>,
+    pin: u64,
+    room: usize,
+    meter: &Meter,
+    out: OutSeat,
+    reader: &mut ReadSeat,
+) -> (Pumped, usize, u64)
+    requires out { out ≡ sum meter.now 0 }
+    requires reader { reader.old.meter ≡ meter.now }
+{
+    let mut source = LockedSource::new(shared, rt, shared.witness(rt), pin, 0);
+    let mut outlet = WriteOutlet::new(Sink {
+        room,
+        ..Sink::new(&[])
+    });
+    let mut counter = Counter::new(meter.progress(), out);
+    let pumped = pump_counted(&mut source, &mut outlet, &mut counter);
+    let read = meter.progress().read(reader);
+    (pumped, outlet.into_writer().taken, read)
+}
+
+// Does so with a new pin and a new meter.
+fn counted<L: Heap, R: Wait>(
+    rt: &R,
+    alloc: Global,
+    shared: &Shared<L>,
+    room: usize,
+) -> Option<(Pumped, usize, u64)> {
+    let pin = opened_pin(rt, shared)?;
+    let FourSeats {
+        meter,
+        out,
+        mut reader,
+        asker: _,
+        feed: _,
+    } = new_meter(alloc)?;
+    Some(counted_of(rt, shared, pin, room, &meter, out, &mut reader))
+}
+
+/// Puts out thirty points in one thread, whole and into a sink that fails. Returns whether the meter counts what is out.
+pub fn counted_pumps<L: Heap + Send + Sync, R: Threads + Wait + Sync>(
+    rt: &R,
+    alloc: Global,
+    shared: &Shared<L>,
+    five: &mut Five<L>,
+) -> Option<bool> {
+    let made = has_points(rt, alloc, shared, &mut five.user, 30);
+    let whole = counted(rt, alloc, shared, usize::MAX)?;
+    let failed = counted(rt, alloc, shared, 200)?;
+    Some(
+        made && whole == (DONE, 1258, 1258)
+            && failed == (Pumped::OutletFailed { bytes: 200 }, 200, 200),
+    )
 }
 
 #[test]
-fn stream_with_a_reader_or_asked_before(rt: HostRuntime) -> Result<(), Fail> {
-    let both = opened_once(&rt, rt.alloc())?;
-    assert!(rt; both);
+fn one_thread_counts_what_is_out(rt: HostRuntime) -> Result<(), Fail> {
+    assert!(rt; played(&rt, rt.alloc(), Scene::CountedPumps) == Some(true));
     Ok(())
 }

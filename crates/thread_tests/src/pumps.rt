@@ -1,13 +1,16 @@
 //! Pumps into outlets that fail: a worked example.
-use crate::live_tests::ONE_POINT;
-use crate::parts::{PinParts, one_point};
-use crate::sinks::Sink;
-use dump_pump::{Pumped, WriteOutlet, pump};
+use crate::points::one_point;
+use crate::scenes::{Five, Scene, played};
+use crate::shared::pumped_now;
+use dump_pump::Pumped;
+use heap_lock::{Heap, Shared};
+use heap_scripts::Sink;
 use std::alloc::Global;
+use std::sync::Wait;
 use std::test::*;
+use std::thread::Threads;
 
-// Where the dump of one point may fail, and how many of its parts were given then. Its opening has 143 bytes, its segment 149,
-// its end 9.
+// Where the dump of one point may fail, and how many of its parts were given then.
 const FAILS: [(usize, u64); 9] = [
     (0, 1),
     (1, 1),
@@ -20,46 +23,47 @@ const FAILS: [(usize, u64); 9] = [
     (300, 3),
 ];
 
-// Pumps the dump of one point into a sink that takes at most `size` bytes a write, and fails once it has `most`. Returns how
-// it went, how many parts were given, and what is out, in hexadecimal.
-fn pumped(alloc: Global, size: usize, most: usize) -> Result<(Pumped, u64, String), Fail> {
-    let mut source = PinParts::open(one_point(alloc)?)?;
-    let sink = Sink {
-        taken: Vec::new(alloc),
-        size,
-        most,
-    };
-    let mut outlet = WriteOutlet::new(sink);
-    let pumped = pump(&mut source, &mut outlet);
-    let sink = outlet.into_writer();
-    let digits = hex::encode(alloc, sink.taken.as_slice())?;
-    Ok((pumped, source.given(), digits))
-}
-
-// Returns whether a pump goes so, into a sink of `size` bytes a write, and the first bytes of the dump are out, and no
-// others.
-fn goes(alloc: Global, size: usize, most: usize, wanted: Pumped, parts: u64) -> Result<bool, Fail> {
-    let (went, given, digits) = pumped(alloc, size, most)?;
-    let out = ONE_POINT.as_bytes().get(..most.saturating_mul(2));
-    Ok(went == wanted && given == parts && out == Some(digits.as_bytes()))
+// Returns whether a pump into a sink goes so, this number of parts is given, and just the first bytes of the dump are out.
+fn goes<L: Heap, R: Wait>(
+    rt: &R,
+    shared: &Shared<L>,
+    sink: Sink<'_>,
+    wanted: Pumped,
+    parts: u64,
+) -> bool {
+    let room = sink.room;
+    match pumped_now(rt, shared, sink) {
+        Some((went, given, sink)) => went == wanted && given == parts && sink.has_first(room),
+        None => false,
+    }
 }
 
 // Returns whether all of them fail as they must, and one with just enough room doesn't.
-fn all_go(alloc: Global, size: usize) -> Result<bool, Fail> {
-    for (most, parts) in FAILS {
-        let failed = Pumped::OutletFailed { bytes: most as u64 };
-        if !goes(alloc, size, most, failed, parts)? {
-            return Ok(false);
+fn all_go<L: Heap, R: Wait>(rt: &R, shared: &Shared<L>, sink: Sink<'_>) -> bool {
+    for (room, parts) in FAILS {
+        let failed = Pumped::OutletFailed { bytes: room as u64 };
+        if !goes(rt, shared, Sink { room, ..sink }, failed, parts) {
+            return false;
         }
     }
-    goes(alloc, size, 301, Pumped::Done { bytes: 301 }, 3)
+    let done = Pumped::Done { bytes: 301 };
+    goes(rt, shared, Sink { room: 301, ..sink }, done, 3)
+}
+
+/// Pumps the dump of one point into sinks that fail, by bytes and at once. Returns whether all goes as it must.
+pub fn failing_pumps<L: Heap + Send + Sync, R: Threads + Wait + Sync>(
+    rt: &R,
+    alloc: Global,
+    shared: &Shared<L>,
+    five: &mut Five<L>,
+) -> Option<bool> {
+    let text = one_point(rt, alloc, shared, &mut five.user)?;
+    let sink = Sink::new(text.as_slice());
+    Some(all_go(rt, shared, Sink { most: 1, ..sink }) && all_go(rt, shared, sink))
 }
 
 #[test]
 fn pump_into_an_outlet_that_fails(rt: HostRuntime) -> Result<(), Fail> {
-    let by_bytes = all_go(rt.alloc(), 1)?;
-    assert!(rt; by_bytes);
-    let at_once = all_go(rt.alloc(), usize::MAX)?;
-    assert!(rt; at_once);
+    assert!(rt; played(&rt, rt.alloc(), Scene::FailingPumps) == Some(true));
     Ok(())
 }

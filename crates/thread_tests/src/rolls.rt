@@ -1,12 +1,11 @@
 //! A chronicle that drops its oldest entries, and audits of receipts whose entries it dropped.
-ghost use Rattle.std.specs.Prelude.{◌≡◌};
-
-use heap_lock::{Blank, Heap, Kept, Outcome, Receipt, Role, Seat, Shared, Verdict, audit};
-use heap_scripts::{Action, Answer, Config, Event};
-use std::alloc::Global;
-use std::marker::Brand;
+use crate::scenes::{Five, Scene, played};
+use crate::shared::did;
+use heap_lock::{Heap, Kept, Outcome, Receipt, Seat, Shared, Verdict, audit};
+use heap_scripts::{Action, Answer, Event};
 use std::sync::Wait;
 use std::test::*;
+use std::thread::Threads;
 
 // Does `count` acts of one kind, and returns the turn of the last one that was done.
 fn clear_often<L: Heap, R: Wait>(
@@ -17,58 +16,71 @@ fn clear_often<L: Heap, R: Wait>(
 ) -> u64 {
     let mut done = 0;
     for _ in 0..count {
-        let event = Event::Clear { m: 0, r: 0 };
-        if !seat.may(&event) {
-            return 0;
-        }
-        if let Ok(receipt) = shared.act(rt, seat, event) {
+        if let Some(receipt) = did(rt, shared, seat, Event::Clear { m: 0, r: 0 }) {
             done = receipt.turn;
         }
     }
     done
 }
 
-// Returns the claim that one of these acts had this turn and this answer.
-fn claim(turn: u64, answer: Outcome) -> (Action, Receipt) {
+// Returns the claim that an act which clears a register had this turn and this answer.
+fn claim(r: u64, turn: u64, answer: Outcome) -> (Action, Receipt) {
     let receipt = Receipt {
         seat: 0,
         turn,
         answer,
     };
-    (Action::Step(Event::Clear { m: 0, r: 0 }), receipt)
+    (Action::Step(Event::Clear { m: 0, r }), receipt)
 }
 
-// Returns what an audit says of a claim, and of the same one with another answer.
-fn verdicts<L: Heap>(kept: &Kept<L>, turn: u64) -> (Verdict, Verdict) {
-    let right = [claim(turn, Outcome::Answered(Answer::Done))];
-    let wrong = [claim(turn, Outcome::Place(0))];
-    (audit(kept, &right), audit(kept, &wrong))
+// Returns what an audit says of a claim.
+fn verdict_of_one<L: Heap>(kept: &Kept<L>, r: u64, turn: u64, answer: Outcome) -> Verdict {
+    audit(kept, &[claim(r, turn, answer)])
+}
+
+// Returns what an audit says of a claim, and of the same one with another answer and of another action.
+fn verdicts<L: Heap>(kept: &Kept<L>, turn: u64) -> [Verdict; 3] {
+    let done = Outcome::Answered(Answer::Done);
+    [
+        verdict_of_one(kept, 0, turn, done),
+        verdict_of_one(kept, 0, turn, Outcome::Place(0)),
+        verdict_of_one(kept, 1, turn, done),
+    ]
 }
 
 // Returns what an audit says of two claims.
 fn verdict_of_two<L: Heap>(kept: &Kept<L>, first: u64, second: u64) -> Verdict {
     let done = Outcome::Answered(Answer::Done);
-    audit(kept, &[claim(first, done), claim(second, done)])
+    audit(kept, &[claim(0, first, done), claim(0, second, done)])
 }
+
+// What audits say of an entry that is kept, of one that was dropped, and of none.
+const KEPT: [Verdict; 3] = [Verdict::Holds, Verdict::Fails, Verdict::Fails];
+
+const GONE: [Verdict; 3] = [Verdict::Dropped; 3];
+
+const MISSING: [Verdict; 3] = [Verdict::Fails; 3];
 
 // Tells whether a chronicle of 1,000,000 entries has all of them.
 fn is_whole<L: Heap>(kept: &Kept<L>) -> bool {
     let chronicle = kept.chronicle();
-    let ends = (verdicts(kept, 1), verdicts(kept, 1_000_000));
-    let right = (Verdict::Holds, Verdict::Fails);
-    (chronicle.len(), chronicle.dropped_count()) == (1_000_000, 0) && ends == (right, right)
+    chronicle.len() == 1_000_000
+        && chronicle.dropped_count() == 0
+        && verdicts(kept, 1) == KEPT
+        && verdicts(kept, 1_000_000) == KEPT
 }
 
 // Tells whether a chronicle of 1,000,001 entries dropped the first 500,000.
 fn is_rolled<L: Heap>(kept: &Kept<L>) -> bool {
     let chronicle = kept.chronicle();
-    let gone = (Verdict::Dropped, Verdict::Dropped);
-    let right = (Verdict::Holds, Verdict::Fails);
-    let missing = (Verdict::Fails, Verdict::Fails);
-    (chronicle.len(), chronicle.dropped_count()) == (1_000_001, 500_000)
-        && (verdicts(kept, 1), verdicts(kept, 500_000)) == (gone, gone)
-        && (verdicts(kept, 500_001), verdicts(kept, 1_000_001)) == (right, right)
-        && (verdicts(kept, 0), verdicts(kept, 1_000_002)) == (missing, missing)
+    chronicle.len() == 1_000_001
+        && chronicle.dropped_count() == 500_000
+        && verdicts(kept, 1) == GONE
+        && verdicts(kept, 500_000) == GONE
+        && verdicts(kept, 500_001) == KEPT
+        && verdicts(kept, 1_000_001) == KEPT
+        && verdicts(kept, 0) == MISSING
+        && verdicts(kept, 1_000_002) == MISSING
 }
 
 // Tells whether audits of two claims, over a chronicle of 1,000,001 entries, say what they should.
@@ -80,53 +92,34 @@ fn are_audited<L: Heap>(kept: &Kept<L>) -> bool {
         && verdict_of_two(kept, 1, 1_000_002) == Verdict::Fails
 }
 
-// Returns the turns after 1,000,000 acts, one more, and 499,999 and one more after that, if the chronicle is as it should be.
-fn rolled_in<L: Heap, R: Wait>(
+fn dropped_count<L: Heap, R: Wait>(rt: &R, shared: &Shared<L>) -> usize {
+    shared.lock(rt).chronicle().dropped_count()
+}
+
+// Tells whether the chronicle is as it should be after 1,000,000 acts, one more, and 499,999 and one more after that.
+fn rolls_twice<L: Heap, R: Wait>(rt: &R, shared: &Shared<L>, seat: &mut Seat<L>) -> bool {
+    clear_often(rt, shared, seat, 1_000_000) == 1_000_000
+        && is_whole(&*shared.lock(rt))
+        && clear_often(rt, shared, seat, 1) == 1_000_001
+        && is_rolled(&*shared.lock(rt))
+        && are_audited(&*shared.lock(rt))
+        && clear_often(rt, shared, seat, 499_999) == 1_500_000
+        && dropped_count(rt, shared) == 500_000
+        && clear_often(rt, shared, seat, 1) == 1_500_001
+        && dropped_count(rt, shared) == 1_000_000
+}
+
+/// Acts 1,500,001 times. Returns whether the chronicle drops its oldest entries when it must, and audits say so.
+pub fn rolling<L: Heap + Send + Sync, R: Threads + Wait + Sync>(
     rt: &R,
     shared: &Shared<L>,
-    seat: &mut Seat<L>,
-) -> Option<(u64, u64, u64, usize, usize)> {
-    let most = clear_often(rt, shared, seat, 1_000_000);
-    if !is_whole(&*shared.lock(rt)) {
-        return None;
-    }
-    let next = clear_often(rt, shared, seat, 1);
-    let kept = shared.lock(rt);
-    if !is_rolled(&*kept) || !are_audited(&*kept) {
-        return None;
-    }
-    drop(kept);
-    let later = clear_often(rt, shared, seat, 499_999);
-    let before = shared.lock(rt).chronicle().dropped_count();
-    clear_often(rt, shared, seat, 1);
-    let after = shared.lock(rt).chronicle().dropped_count();
-    Some((most, next, later, before, after))
-}
-
-fn rolled<L: Heap, R: Wait>(rt: &R, blank: Blank) -> Option<(u64, u64, u64, usize, usize)>
-    requires { (blank.config ≡ L.config) × (blank.tables ≡ L.tables)
-        × (blank.ledger ≡ L.ledger) × (blank.rolls ≡ L.rolls) }
-{
-    let (shared, mut seats) = blank.open::<L>();
-    let mut user = seats.take()?;
-    rolled_in(rt, &shared, &mut user)
-}
-
-// Does so with a heap of any settings.
-fn roll_blank<R: Wait>(rt: &R, blank: Blank) -> Option<(u64, u64, u64, usize, usize)> {
-    rolled::<Brand, R>(rt, blank)
-}
-
-fn rolled_once<R: Wait>(rt: &R, alloc: Global) -> Option<(u64, u64, u64, usize, usize)> {
-    let config = Config::new(1, 1, 4)?;
-    let mut blank = Blank::new(alloc, config, [Role::User].as_slice()).ok()?;
-    blank.set_rolls(true);
-    roll_blank(rt, blank)
+    five: &mut Five<L>,
+) -> Option<bool> {
+    Some(rolls_twice(rt, shared, &mut five.user))
 }
 
 #[test]
 fn chronicle_drops_its_oldest(rt: HostRuntime) -> Result<(), Fail> {
-    let turns = (1_000_000, 1_000_001, 1_500_000, 500_000, 1_000_000);
-    assert!(rt; rolled_once(&rt, rt.alloc()) == Some(turns));
+    assert!(rt; played(&rt, rt.alloc(), Scene::Rolling) == Some(true));
     Ok(())
 }

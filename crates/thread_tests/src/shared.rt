@@ -1,26 +1,51 @@
-//! Heaps under a lock, and what their dumps put out.
+//! What scenes do with heaps.
 ghost use Rattle.std.specs.Prelude.{◌≡◌};
 ghost use Rattle.dump_pipe.specs.Seats.{sum};
 
 use dump_pipe::{FeedSeat, Meter, OutSeat};
 use dump_pump::{Pumped, WriteOutlet, pump};
-use heap_lock::{Heap, LockedSource, Seat, Shared};
+use heap_lock::{Heap, LockedSource, Receipt, Role, Seat, Shared};
 use heap_scripts::{Event, new, point};
 use live_dump::{LivePin, StreamSeats, stream};
 use std::alloc::Global;
 use std::io::Write;
 use std::sync::Wait;
-use std::test::Fail;
 use std::thread::Threads;
 
-/// Does an act. Returns whether it was answered.
+/// Does an act. Returns its receipt, or None if it has no entry.
+pub fn did<L: Heap, R: Wait>(
+    rt: &R,
+    shared: &Shared<L>,
+    seat: &mut Seat<L>,
+    event: Event,
+) -> Option<Receipt> {
+    if !seat.may(&event) {
+        return None;
+    }
+    shared.act(rt, seat, event).ok()
+}
+
+/// Undoes steps. Returns the receipt, or None if that has no entry.
+pub fn undid<L: Heap, R: Wait>(
+    rt: &R,
+    shared: &Shared<L>,
+    seat: &mut Seat<L>,
+    n: u64,
+) -> Option<Receipt> {
+    if seat.role() != Role::User {
+        return None;
+    }
+    shared.rewind(rt, seat, n).ok()
+}
+
+/// Does an act. Returns whether it has an entry.
 pub fn acts<L: Heap, R: Wait>(
     rt: &R,
     shared: &Shared<L>,
     seat: &mut Seat<L>,
     event: Event,
 ) -> bool {
-    seat.may(&event) && shared.act(rt, seat, event).is_ok()
+    did(rt, shared, seat, event).is_some()
 }
 
 /// Creates a write to x of the point in the first register.
@@ -33,23 +58,40 @@ pub fn put_x(value: u64) -> Event {
     }
 }
 
-/// Defines the class of points and makes `count` points, each in the first register, and writes 7 to x of the last.
+/// Defines the class of points and makes `count` points, each in the first register, and writes 7 to x of the last. Returns
+/// whether all was answered.
 pub fn has_points<L: Heap, R: Wait>(
     rt: &R,
     alloc: Global,
     shared: &Shared<L>,
     user: &mut Seat<L>,
     count: u64,
-) -> Result<bool, Fail> {
-    if !acts(rt, shared, user, point(alloc)?) {
-        return Ok(false);
+) -> bool {
+    let Ok(class) = point(alloc) else {
+        return false;
+    };
+    if !acts(rt, shared, user, class) {
+        return false;
     }
     for _ in 0..count {
         if !acts(rt, shared, user, new(0)) {
-            return Ok(false);
+            return false;
         }
     }
-    Ok(acts(rt, shared, user, put_x(7)))
+    acts(rt, shared, user, put_x(7))
+}
+
+/// Opens a pin on the current state, and returns its number.
+pub fn opened_pin<L: Heap, R: Wait>(rt: &R, shared: &Shared<L>) -> Option<u64> {
+    match shared.open_pin(rt, &mut shared.witness(rt), None) {
+        Ok(pinned) => Some(pinned.pin),
+        Err(_) => None,
+    }
+}
+
+/// Closes a pin. Returns whether it was open.
+pub fn closes_pin<L: Heap, R: Wait>(rt: &R, shared: &Shared<L>, pin: u64) -> bool {
+    shared.close_pin(rt, &mut shared.witness(rt), pin).is_ok()
 }
 
 /// Streams the dump of a pin into a writer. Returns how it went, and the writer.
@@ -78,28 +120,27 @@ pub fn streamed<L: Heap + Send + Sync, W: Write + Drop, R: Threads + Wait + Sync
     (pumped, outlet.into_writer())
 }
 
-/// Pumps the dump of a pin into a writer. Returns how it went, and the writer.
+/// Pumps the dump of a pin into a writer. Returns how it went, how many parts were given, and the writer.
 pub fn pumped<L: Heap, W: Write + Drop, R: Wait>(
     rt: &R,
     shared: &Shared<L>,
     pin: u64,
     writer: W,
-) -> (Pumped, W) {
+) -> (Pumped, u64, W) {
     let mut source = LockedSource::new(shared, rt, shared.witness(rt), pin, 0);
     let mut outlet = WriteOutlet::new(writer);
     let pumped = pump(&mut source, &mut outlet);
-    (pumped, outlet.into_writer())
+    (pumped, source.count, outlet.into_writer())
 }
 
-/// Opens a pin, pumps its dump into memory and closes it. Returns how it went, and what is out.
-pub fn pumped_now<L: Heap, R: Wait>(
+/// Opens a pin, pumps its dump into a writer and closes it. Returns how it went, how many parts were given, and the writer.
+pub fn pumped_now<L: Heap, W: Write + Drop, R: Wait>(
     rt: &R,
-    alloc: Global,
     shared: &Shared<L>,
-) -> Result<(Pumped, Vec<u8>), Fail> {
-    let mut witness = shared.witness(rt);
-    let pinned = shared.open_pin(rt, &mut witness, None)?;
-    let (pumped, text) = pumped(rt, shared, pinned.pin, Vec::new(alloc));
-    shared.close_pin(rt, &mut witness, pinned.pin)?;
-    Ok((pumped, text))
+    writer: W,
+) -> Option<(Pumped, u64, W)> {
+    let pin = opened_pin(rt, shared)?;
+    let went = pumped(rt, shared, pin, writer);
+    closes_pin(rt, shared, pin);
+    Some(went)
 }

@@ -1,5 +1,5 @@
-//! Writers that fail, or wait.
-use std::alloc::Global;
+//! Waiting for another thread, also before a write.
+use heap_scripts::Sink;
 use std::io;
 use std::io::{ErrorKind, Write};
 use std::sync::atomic::{AtomicU64, Ordering};
@@ -19,43 +19,20 @@ pub fn reaches(word: &AtomicU64, least: u64) -> bool {
     false
 }
 
-/// Takes at most `size` bytes a write, and fails once it has `most`.
-#[derive(Drop)]
-pub struct Sink {
-    pub taken: Vec<u8>,
-    pub size: usize,
-    pub most: usize,
-}
-
-impl Write for Sink {
-    fn write(&mut self, given: &[u8]) -> io::Result<usize> {
-        let room = self.most.saturating_sub(self.taken.len());
-        let size = given.len().min(self.size).min(room);
-        if size == 0 || self.taken.extend_from_slice(&given[..size]).is_err() {
-            return Err(ErrorKind::BrokenPipe.into());
-        }
-        Ok(size)
-    }
-
-    fn flush(&mut self) -> io::Result<()> {
-        Ok(())
-    }
-}
-
-/// Takes all bytes, and from `held` bytes on waits before a write until the gate is open.
-#[derive(Drop)]
+/// A sink of any number of bytes that waits before each write, once it took `held`, until its gate is open.
+#[derive(Clone, Copy)]
 pub struct Gated<'a> {
-    pub taken: Vec<u8>,
+    pub sink: Sink<'a>,
     pub held: usize,
     pub here: &'a AtomicU64,
     pub gate: &'a AtomicU64,
 }
 
 impl<'a> Gated<'a> {
-    /// Creates a gated writer that is held once it has `held` bytes.
-    pub fn new(alloc: Global, held: usize, here: &'a AtomicU64, gate: &'a AtomicU64) -> Gated<'a> {
+    /// Creates a gated sink that took nothing yet.
+    pub fn new(text: &'a [u8], held: usize, here: &'a AtomicU64, gate: &'a AtomicU64) -> Gated<'a> {
         Gated {
-            taken: Vec::new(alloc),
+            sink: Sink::new(text),
             held,
             here,
             gate,
@@ -65,16 +42,13 @@ impl<'a> Gated<'a> {
 
 impl Write for Gated<'_> {
     fn write(&mut self, given: &[u8]) -> io::Result<usize> {
-        if self.taken.len() >= self.held {
+        if self.sink.taken >= self.held {
             self.here.store(1, Ordering::SeqCst);
             if !reaches(self.gate, 1) {
                 return Err(ErrorKind::TimedOut.into());
             }
         }
-        if self.taken.extend_from_slice(given).is_err() {
-            return Err(ErrorKind::OutOfMemory.into());
-        }
-        Ok(given.len())
+        self.sink.write(given)
     }
 
     fn flush(&mut self) -> io::Result<()> {

@@ -1,11 +1,10 @@
 //! Seats in threads of their own, whose receipts agree with one history.
-ghost use Rattle.std.specs.Prelude.{◌≡◌};
-
+use crate::scenes::{Five, Scene, played};
+use crate::shared::{did, undid};
 use heap_class::Kind;
-use heap_lock::{Blank, Heap, Kept, Outcome, Receipt, Role, Seat, Shared, Verdict, audit};
-use heap_scripts::{Action, Config, Event};
-use std::alloc::{AllocError, Global};
-use std::marker::Brand;
+use heap_lock::{Heap, Kept, Receipt, Role, Seat, Shared, Verdict, audit};
+use heap_scripts::{Action, Event};
+use std::alloc::Global;
 use std::sync::Wait;
 use std::test::*;
 use std::thread;
@@ -20,7 +19,7 @@ fn event_of(m: u64, i: u64) -> Event {
             kind: Kind::Long,
             len: 3,
         },
-        1 => Event::Put {
+        1 | 5 => Event::Put {
             m,
             target: 0,
             slot: 1,
@@ -38,15 +37,10 @@ fn event_of(m: u64, i: u64) -> Event {
             from_m: m,
             from: 0,
         },
-        4 => Event::Clear { m, r: 0 },
-        5 => Event::Put {
+        n => Event::Clear {
             m,
-            target: 0,
-            slot: 1,
-            value: i,
+            r: n.saturating_sub(4),
         },
-        6 => Event::Clear { m, r: 2 },
-        _ => Event::Clear { m, r: 9 },
     }
 }
 
@@ -80,151 +74,110 @@ fn done<L: Heap, R: Wait>(
     action: Action,
 ) -> Option<Receipt> {
     match action {
-        Action::Step(event) => {
-            if seat.may(&event) {
-                return shared.act(rt, seat, event).ok();
-            }
-        }
-        Action::Rewind(n) => {
-            if seat.role() == Role::User {
-                return shared.rewind(rt, seat, n).ok();
-            }
-        }
-        _ => {}
+        Action::Step(event) => did(rt, shared, seat, event),
+        Action::Rewind(n) => undid(rt, shared, seat, n),
+        _ => None,
     }
-    None
 }
 
-// Returns a seat's first thousand actions with their receipts.
+// Adds a seat's first thousand actions with their receipts. Returns whether memory was found.
 fn thousand<L: Heap, R: Wait>(
     rt: &R,
-    alloc: Global,
     shared: &Shared<L>,
-    mut seat: Seat<L>,
-) -> Result<Vec<(Action, Receipt)>, AllocError> {
-    let mut claims = Vec::new(alloc);
+    seat: &mut Seat<L>,
+    claims: &mut Vec<(Action, Receipt)>,
+) -> bool {
     let role = seat.role();
     for i in 0..1000u64 {
-        if let Some(receipt) = done(rt, shared, &mut seat, drawn(role, i)) {
-            claims.push((drawn(role, i), receipt))?;
+        if let Some(receipt) = done(rt, shared, seat, drawn(role, i)) {
+            if claims.push((drawn(role, i), receipt)).is_err() {
+                return false;
+            }
         }
     }
-    Ok(claims)
+    true
 }
 
-// Returns whether an audit of these claims and one more holds.
-fn holds_with<L: Heap>(
-    kept: &Kept<L>,
-    claims: &mut Vec<(Action, Receipt)>,
-    action: Action,
-    receipt: Receipt,
-) -> bool {
-    if claims.push((action, receipt)).is_err() {
-        return true;
-    }
-    let holds = audit(kept, claims.as_slice()) == Verdict::Holds;
-    claims.pop();
-    holds
-}
-
-// Returns whether an audit of a seat's claims fails once the last is there twice, has another answer, or is another action.
-fn fails_if_changed<L: Heap>(
-    kept: &Kept<L>,
-    role: Role,
-    mut claims: Vec<(Action, Receipt)>,
-) -> bool {
-    let Some((_, receipt)) = claims.pop() else {
-        return false;
-    };
-    let wrong = Receipt {
-        answer: Outcome::Place(1_000_000),
-        ..receipt
-    };
-    let answer = holds_with(kept, &mut claims, drawn(role, 999), wrong);
-    let action = holds_with(kept, &mut claims, Action::Rewind(77), receipt);
-    if claims.push((drawn(role, 999), receipt)).is_err() {
-        return false;
-    }
-    let twice = holds_with(kept, &mut claims, drawn(role, 999), receipt);
-    !answer && !action && !twice
-}
-
-// Returns whether a seat has a thousand claims, all of which hold, and no others would in their place.
-fn is_right<L: Heap>(
-    kept: &Kept<L>,
-    role: Role,
-    claims: Result<Vec<(Action, Receipt)>, AllocError>,
-) -> bool {
-    match claims {
-        Ok(claims) => {
-            claims.len() == 1000
-                && audit(kept, claims.as_slice()) == Verdict::Holds
-                && fails_if_changed(kept, role, claims)
-        }
-        Err(_) => false,
-    }
-}
-
-// Returns whether the receipts of four seats, each in a thread of its own, agree with the history, and no others do.
-fn by_four_in<L: Heap + Send + Sync, R: Threads + Wait + Sync>(
+// Acts a thousand times by a seat, of this role. Returns its claims, or None if memory was refused.
+fn claims_of<L: Heap, R: Wait>(
     rt: &R,
     alloc: Global,
     shared: &Shared<L>,
-    mutator: Seat<L>,
-    user: Seat<L>,
-    marker: Seat<L>,
-    sweeper: Seat<L>,
-) -> bool {
-    let ((a, b), (c, d)) = thread::join(
-        rt,
-        move || {
-            thread::join(
-                rt,
-                move || thousand(rt, alloc, shared, mutator),
-                move || thousand(rt, alloc, shared, user),
-            )
-        },
-        move || {
-            thread::join(
-                rt,
-                move || thousand(rt, alloc, shared, marker),
-                move || thousand(rt, alloc, shared, sweeper),
-            )
-        },
-    );
-    let kept = shared.lock(rt);
-    is_right(&*kept, Role::Mutator(0), a)
-        && is_right(&*kept, Role::User, b)
-        && is_right(&*kept, Role::Marker, c)
-        && is_right(&*kept, Role::Sweeper, d)
-        && kept.chronicle().len() == 4000
+    seat: &mut Seat<L>,
+) -> Option<Vec<(Action, Receipt)>> {
+    let mut claims = Vec::new(alloc);
+    if thousand(rt, shared, seat, &mut claims) {
+        Some(claims)
+    } else {
+        None
+    }
 }
 
+// Returns whether there are a thousand claims, all of which hold.
+fn is_right<L: Heap>(kept: &Kept<L>, claims: &Option<Vec<(Action, Receipt)>>) -> bool {
+    match claims {
+        Some(claims) => claims.len() == 1000 && audit(kept, claims.as_slice()) == Verdict::Holds,
+        None => false,
+    }
+}
+
+// A thousand claims of each of two seats, or None if memory was refused.
+type TwoClaims = (
+    Option<Vec<(Action, Receipt)>>,
+    Option<Vec<(Action, Receipt)>>,
+);
+
+// Acts by two seats, each in a thread of its own.
+fn by_two<L: Heap + Send + Sync, R: Threads + Wait + Sync>(
+    rt: &R,
+    alloc: Global,
+    shared: &Shared<L>,
+    one: &mut Seat<L>,
+    other: &mut Seat<L>,
+) -> TwoClaims {
+    thread::join(
+        rt,
+        move || claims_of(rt, alloc, shared, one),
+        move || claims_of(rt, alloc, shared, other),
+    )
+}
+
+// Returns whether the receipts of four seats, each in a thread of its own, agree with the history.
 fn by_four<L: Heap + Send + Sync, R: Threads + Wait + Sync>(
     rt: &R,
     alloc: Global,
-    blank: Blank,
-) -> Option<bool>
-    requires { (blank.config ≡ L.config) × (blank.tables ≡ L.tables)
-        × (blank.ledger ≡ L.ledger) × (blank.rolls ≡ L.rolls) }
-{
-    let (shared, mut seats) = blank.open::<L>();
-    let mutator = seats.take()?;
-    let user = seats.take()?;
-    let marker = seats.take()?;
-    let sweeper = seats.take()?;
-    Some(by_four_in(rt, alloc, &shared, mutator, user, marker, sweeper))
+    shared: &Shared<L>,
+    five: &mut Five<L>,
+) -> bool {
+    let mutator = &mut five.first;
+    let user = &mut five.user;
+    let marker = &mut five.marker;
+    let sweeper = &mut five.sweeper;
+    let ((a, b), (c, d)) = thread::join(
+        rt,
+        move || by_two(rt, alloc, shared, mutator, user),
+        move || by_two(rt, alloc, shared, marker, sweeper),
+    );
+    let kept = shared.lock(rt);
+    is_right(&*kept, &a)
+        && is_right(&*kept, &b)
+        && is_right(&*kept, &c)
+        && is_right(&*kept, &d)
+        && kept.chronicle().len() == 4000
 }
 
-fn four_once<R: Threads + Wait + Sync>(rt: &R, alloc: Global) -> Option<bool> {
-    let config = Config::new(16, 2, 1024)?;
-    let roles = [Role::Mutator(0), Role::User, Role::Marker, Role::Sweeper];
-    let blank = Blank::new(alloc, config, roles.as_slice()).ok()?;
-    by_four::<Brand, R>(rt, alloc, blank)
+/// Acts by a mutator, a user, the marker and the sweeper, each in a thread of its own. Returns whether their receipts agree.
+pub fn four_threads<L: Heap + Send + Sync, R: Threads + Wait + Sync>(
+    rt: &R,
+    alloc: Global,
+    shared: &Shared<L>,
+    five: &mut Five<L>,
+) -> Option<bool> {
+    Some(by_four(rt, alloc, shared, five))
 }
 
 #[test]
 fn four_seats_one_history(rt: HostRuntime) -> Result<(), Fail> {
-    assert!(rt; four_once(&rt, rt.alloc()) == Some(true));
+    assert!(rt; played(&rt, rt.alloc(), Scene::FourThreads) == Some(true));
     Ok(())
 }

@@ -1,20 +1,19 @@
-//! Workers: a whole cycle, and a marker held at its gate.
-ghost use Rattle.std.specs.Prelude.{◌≡◌, ◌<◌};
+//! Workers in one thread: a whole cycle, and gates that let no act begin.
+ghost use Rattle.std.specs.Prelude.{◌<◌, ◌≤◌};
 
+use crate::scenes::{Five, Scene, played};
 use crate::shared::acts;
 use heap_class::Refusal;
-use heap_lock::{Blank, Heap, Outcome, Receipt, Role, Seat, Shared, Verdict, audit};
-use heap_scripts::{Action, Answer, Config, Event, node};
+use heap_lock::{Heap, Outcome, Receipt, Role, Seat, Shared, Verdict, audit};
+use heap_scripts::{Action, Answer, Event, new, node};
 use heap_work::{Gate, MarkEnd, Open, SweepEnd, mark_worker, sweep_worker};
 use std::alloc::Global;
-use std::marker::Brand;
 use std::sync::Wait;
-use std::sync::atomic::{AtomicU64, Ordering};
 use std::test::*;
-use std::thread;
 use std::thread::Threads;
 
-fn marks<L: Heap, R: Wait, G: Gate>(
+/// Runs the worker of the marker's seat. Returns how it ended, or None if the seat isn't the marker's.
+pub fn marks<L: Heap, R: Wait, G: Gate>(
     rt: &R,
     shared: &Shared<L>,
     seat: &mut Seat<L>,
@@ -27,7 +26,8 @@ fn marks<L: Heap, R: Wait, G: Gate>(
     None
 }
 
-fn sweeps<L: Heap, R: Wait, G: Gate>(
+/// Runs the worker of the sweeper's seat. Returns how it ended, or None if the seat isn't the sweeper's.
+pub fn sweeps<L: Heap, R: Wait, G: Gate>(
     rt: &R,
     shared: &Shared<L>,
     seat: &mut Seat<L>,
@@ -38,6 +38,21 @@ fn sweeps<L: Heap, R: Wait, G: Gate>(
         return Some(sweep_worker(shared, rt, seat, gate, turns));
     }
     None
+}
+
+/// Defines the class of nodes and creates two, in the first two registers. Returns whether all was answered.
+pub fn began<L: Heap, R: Wait>(
+    rt: &R,
+    alloc: Global,
+    shared: &Shared<L>,
+    user: &mut Seat<L>,
+) -> bool {
+    let Ok(class) = node(alloc) else {
+        return false;
+    };
+    acts(rt, shared, user, class)
+        && acts(rt, shared, user, new(0))
+        && acts(rt, shared, user, new(1))
 }
 
 fn entries<L: Heap, R: Wait>(rt: &R, shared: &Shared<L>) -> usize {
@@ -53,155 +68,61 @@ fn is_finished(end: Option<MarkEnd>) -> bool {
     }
 }
 
-/// Defines the class of nodes and creates two.
-pub fn began<L: Heap, R: Wait>(
-    rt: &R,
-    shared: &Shared<L>,
-    user: &mut Seat<L>,
-    class: Event,
-) -> bool {
-    acts(rt, shared, user, class)
-        && acts(
-            rt,
-            shared,
-            user,
-            Event::New {
-                m: 0,
-                r: 0,
-                class: 0,
-            },
-        )
-        && acts(
-            rt,
-            shared,
-            user,
-            Event::New {
-                m: 0,
-                r: 1,
-                class: 0,
-            },
-        )
-}
-
-// How the workers ended, how many entries there were after each, and how many of the sweeps were answered as they must.
-#[derive(Clone, Copy)]
-struct Ends {
-    marked: Option<MarkEnd>,
-    after: usize,
-    swept: Option<SweepEnd>,
-    last: usize,
-    answered: u64,
-}
-
-// Returns the receipt of the sweep of a region, by the third seat, after nine entries: the two objects are in region 0 and
-// stay there, and all other regions are empty.
-fn sweep_receipt(region: u64) -> Receipt
-    requires { region < 16 }
-{
-    let answer = if region == 0 {
-        Outcome::Answered(Answer::Swept {
+// Returns the answer of the first sweep of a region: the two objects are in region 0 and stay there, and all others are empty.
+fn first_answer(region: u64) -> Outcome {
+    if region == 0 {
+        return Outcome::Answered(Answer::Swept {
             dead: 0,
             emptied: false,
-        })
-    } else {
-        Outcome::Refused(Refusal::NothingToSweep { region })
-    };
-    Receipt {
-        seat: 2,
-        turn: region + 10,
-        answer,
+        });
     }
+    next_answer(region)
 }
 
-// Returns how many of the sixteen regions have the entry of their sweep.
-fn sweeps_answered<L: Heap, R: Wait>(rt: &R, shared: &Shared<L>) -> u64 {
-    let kept = shared.lock(rt);
-    let mut answered: u64 = 0;
-    for region in 0..16u64 {
-        let claims = [(Action::Step(Event::Sweep { region }), sweep_receipt(region))];
-        if audit(&*kept, claims.as_slice()) == Verdict::Holds {
-            answered = answered.saturating_add(1);
-        }
-    }
-    answered
+// Returns the answer of the second sweep of a region.
+fn next_answer(region: u64) -> Outcome {
+    Outcome::Refused(Refusal::NothingToSweep { region })
 }
 
-// Runs the marker for the first number of turns, and then the sweeper for the second.
-fn worked_in<L: Heap, R: Wait>(
+// Returns whether there is an entry of the third seat with this turn, that swept a region and had this answer.
+fn is_swept<L: Heap, R: Wait>(
     rt: &R,
     shared: &Shared<L>,
-    marker: &mut Seat<L>,
-    sweeper: &mut Seat<L>,
-    turns: (u64, u64),
-) -> Ends {
-    let marked = marks(rt, shared, marker, &mut Open, turns.0);
-    let after = entries(rt, shared);
-    let swept = sweeps(rt, shared, sweeper, &mut Open, turns.1);
-    Ends {
-        marked,
-        after,
-        swept,
-        last: entries(rt, shared),
-        answered: sweeps_answered(rt, shared),
+    turn: u64,
+    region: u64,
+    answer: Outcome,
+) -> bool {
+    let receipt = Receipt {
+        seat: 2,
+        turn,
+        answer,
+    };
+    let claims = [(Action::Step(Event::Sweep { region }), receipt)];
+    audit(&*shared.lock(rt), claims.as_slice()) == Verdict::Holds
+}
+
+// Returns whether the entries after the ninth are the first sweeps of regions 0 to 14, and those after them the second ones of
+// these and the first of region 15.
+fn all_are_swept<L: Heap, R: Wait>(rt: &R, shared: &Shared<L>) -> bool {
+    for region in 0..15u64 {
+        if !is_swept(rt, shared, region + 10, region, first_answer(region))
+            || !is_swept(rt, shared, region + 25, region, next_answer(region))
+        {
+            return false;
+        }
     }
+    is_swept(rt, shared, 40, 15, first_answer(15))
 }
 
-// Creates two objects, and runs the workers.
-fn worked<L: Heap, R: Wait>(rt: &R, class: Event, blank: Blank, turns: (u64, u64)) -> Option<Ends>
-    requires { (blank.config ≡ L.config) × (blank.tables ≡ L.tables)
-        × (blank.ledger ≡ L.ledger) × (blank.rolls ≡ L.rolls) }
-{
-    let (shared, mut seats) = blank.open::<L>();
-    let mut user = seats.take()?;
-    let mut marker = seats.take()?;
-    let mut sweeper = seats.take()?;
-    if !began(rt, &shared, &mut user, class) {
-        return None;
-    }
-    Some(worked_in(rt, &shared, &mut marker, &mut sweeper, turns))
-}
-
-/// Creates a heap with seats of a user, the marker and the sweeper.
-pub fn three(alloc: Global) -> Option<Blank> {
-    let config = Config::new(16, 2, 1024)?;
-    Blank::new(
-        alloc,
-        config,
-        [Role::User, Role::Marker, Role::Sweeper].as_slice(),
-    )
-    .ok()
-}
-
-fn ended<R: Wait>(rt: &R, alloc: Global, turns: (u64, u64)) -> Option<Ends> {
-    let blank = three(alloc)?;
-    let class = node(alloc).ok()?;
-    worked::<Brand, R>(rt, class, blank, turns)
-}
-
-// Returns whether six marks finish the cycle and sixteen sweeps the heap, each answered as it must be, and one fewer of either
-// doesn't. None if memory was refused.
-fn need_their_turns<R: Wait>(rt: &R, alloc: Global) -> Option<bool> {
-    let five = ended(rt, alloc, (5, 0))?;
-    let six = ended(rt, alloc, (6, 16))?;
-    let fifteen = ended(rt, alloc, (6, 15))?;
-    Some(
-        five.marked == Some(MarkEnd::TurnsOver)
-            && five.after == 8
-            && is_finished(six.marked)
-            && six.after == 9
-            && six.swept == Some(SweepEnd::Swept)
-            && six.last == 25
-            && six.answered == 16
-            && fifteen.swept == Some(SweepEnd::TurnsOver)
-            && fifteen.last == 24
-            && fifteen.answered == 15,
-    )
-}
-
-#[test]
-fn workers_finish_a_cycle(rt: HostRuntime) -> Result<(), Fail> {
-    assert!(rt; need_their_turns(&rt, rt.alloc()) == Some(true));
-    Ok(())
+// Returns whether six marks finish a cycle, after three entries, fifteen sweeps don't finish the heap, and sixteen do.
+fn cycle_goes<L: Heap, R: Wait>(rt: &R, shared: &Shared<L>, five: &mut Five<L>) -> bool {
+    is_finished(marks(rt, shared, &mut five.marker, &mut Open, 6))
+        && entries(rt, shared) == 9
+        && sweeps(rt, shared, &mut five.sweeper, &mut Open, 15) == Some(SweepEnd::TurnsOver)
+        && entries(rt, shared) == 24
+        && sweeps(rt, shared, &mut five.sweeper, &mut Open, 16) == Some(SweepEnd::Swept)
+        && entries(rt, shared) == 40
+        && all_are_swept(rt, shared)
 }
 
 // A gate that lets no act begin from this turn on.
@@ -216,138 +137,33 @@ impl Gate for Closing {
     }
 }
 
-// Runs the marker at a gate that closes before its third act, and the sweeper at one that closes before its second, after three
-// entries. Returns whether both ended there.
-fn stopped<L: Heap, R: Wait>(rt: &R, class: Event, blank: Blank) -> Option<bool>
-    requires { (blank.config ≡ L.config) × (blank.tables ≡ L.tables)
-        × (blank.ledger ≡ L.ledger) × (blank.rolls ≡ L.rolls) }
-{
-    let (shared, mut seats) = blank.open::<L>();
-    let mut user = seats.take()?;
-    let mut marker = seats.take()?;
-    let mut sweeper = seats.take()?;
-    if !began(rt, &shared, &mut user, class) {
-        return None;
-    }
-    let marked = marks(rt, &shared, &mut marker, &mut Closing { turn: 3 }, 6);
-    let after = entries(rt, &shared);
-    let swept = sweeps(rt, &shared, &mut sweeper, &mut Closing { turn: 2 }, 16);
+// Returns whether, after forty entries, a marker ends at a gate that closes before its third act, and a sweeper at one that
+// closes before its second.
+fn stop_at_gates<L: Heap, R: Wait>(rt: &R, shared: &Shared<L>, five: &mut Five<L>) -> bool {
+    let mut third = Closing { turn: 3 };
+    let mut second = Closing { turn: 2 };
+    marks(rt, shared, &mut five.marker, &mut third, 6) == Some(MarkEnd::Stopped)
+        && entries(rt, shared) == 42
+        && sweeps(rt, shared, &mut five.sweeper, &mut second, 16) == Some(SweepEnd::Stopped)
+        && entries(rt, shared) == 43
+}
+
+/// Runs the workers through a cycle over two objects, and to gates that close in the next. Returns whether all goes as it must.
+pub fn cycles<L: Heap + Send + Sync, R: Threads + Wait + Sync>(
+    rt: &R,
+    alloc: Global,
+    shared: &Shared<L>,
+    five: &mut Five<L>,
+) -> Option<bool> {
     Some(
-        marked == Some(MarkEnd::Stopped)
-            && after == 5
-            && swept == Some(SweepEnd::Stopped)
-            && entries(rt, &shared) == 6,
+        began(rt, alloc, shared, &mut five.user)
+            && cycle_goes(rt, shared, five)
+            && stop_at_gates(rt, shared, five),
     )
 }
 
-fn stopped_once<R: Wait>(rt: &R, alloc: Global) -> Option<bool> {
-    let blank = three(alloc)?;
-    let class = node(alloc).ok()?;
-    stopped::<Brand, R>(rt, class, blank)
-}
-
 #[test]
-fn closed_gates_end_workers(rt: HostRuntime) -> Result<(), Fail> {
-    assert!(rt; stopped_once(&rt, rt.alloc()) == Some(true));
-    Ok(())
-}
-
-// A gate that is passed before the third act only once a mutator was answered there.
-#[derive(Drop)]
-struct Waiting<'a> {
-    here: &'a AtomicU64,
-    answered: &'a AtomicU64,
-}
-
-impl<'a> Gate for Waiting<'a> {
-    fn pass(&mut self, turn: u64) -> bool {
-        if turn == 3 {
-            self.here.store(1, Ordering::SeqCst);
-            for _ in 0..10_000_000u64 {
-                if self.answered.load(Ordering::SeqCst) == 1 {
-                    self.here.store(2, Ordering::SeqCst);
-                    return true;
-                }
-                thread::yield_now();
-            }
-        }
-        true
-    }
-}
-
-fn marked_behind<L: Heap, R: Wait>(
-    rt: &R,
-    shared: &Shared<L>,
-    mut seat: Seat<L>,
-    here: &AtomicU64,
-    answered: &AtomicU64,
-) -> bool {
-    let mut gate = Waiting { here, answered };
-    seat.role() == Role::Marker
-        && mark_worker(shared, rt, &mut seat, &mut gate, 5) == MarkEnd::TurnsOver
-}
-
-fn acted_meanwhile<L: Heap, R: Wait>(
-    rt: &R,
-    shared: &Shared<L>,
-    mut seat: Seat<L>,
-    here: &AtomicU64,
-    answered: &AtomicU64,
-) -> bool {
-    for _ in 0..10_000_000u64 {
-        if here.load(Ordering::SeqCst) == 1 {
-            let done = acts(rt, shared, &mut seat, Event::Clear { m: 0, r: 5 });
-            answered.store(1, Ordering::SeqCst);
-            return done;
-        }
-        thread::yield_now();
-    }
-    false
-}
-
-fn held_in<L: Heap + Send + Sync, R: Threads + Wait + Sync>(
-    rt: &R,
-    shared: &Shared<L>,
-    user: Seat<L>,
-    marker: Seat<L>,
-) -> (bool, bool, u64) {
-    let here = AtomicU64::new(0);
-    let answered = AtomicU64::new(0);
-    let here_now = &here;
-    let answered_now = &answered;
-    let (marked, acted) = thread::join(
-        rt,
-        move || marked_behind(rt, shared, marker, here_now, answered_now),
-        move || acted_meanwhile(rt, shared, user, here_now, answered_now),
-    );
-    (marked, acted, here.load(Ordering::SeqCst))
-}
-
-fn held<L: Heap + Send + Sync, R: Threads + Wait + Sync>(
-    rt: &R,
-    class: Event,
-    blank: Blank,
-) -> Option<(bool, bool, u64)>
-    requires { (blank.config ≡ L.config) × (blank.tables ≡ L.tables)
-        × (blank.ledger ≡ L.ledger) × (blank.rolls ≡ L.rolls) }
-{
-    let (shared, mut seats) = blank.open::<L>();
-    let mut user = seats.take()?;
-    let marker = seats.take()?;
-    if !began(rt, &shared, &mut user, class) {
-        return None;
-    }
-    Some(held_in(rt, &shared, user, marker))
-}
-
-fn held_once<R: Threads + Wait + Sync>(rt: &R, alloc: Global) -> Option<(bool, bool, u64)> {
-    let blank = three(alloc)?;
-    let class = node(alloc).ok()?;
-    held::<Brand, R>(rt, class, blank)
-}
-
-#[test]
-fn gate_marker_held(rt: HostRuntime) -> Result<(), Fail> {
-    assert!(rt; held_once(&rt, rt.alloc()) == Some((true, true, 2)));
+fn workers_finish_a_cycle_and_stop_at_gates(rt: HostRuntime) -> Result<(), Fail> {
+    assert!(rt; played(&rt, rt.alloc(), Scene::Cycles) == Some(true));
     Ok(())
 }

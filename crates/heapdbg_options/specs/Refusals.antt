@@ -51,20 +51,20 @@ IsMistakeIn Place rows =
     IsTargetMistake Place (first_of (codes "out") rows) (first_of (codes "to") rows)
 
 -- what is read, or why there is none: a mistake
-abbrev pub IsRead : {A : Type 0} → Option A → (Mistake → Type 0) → Result A Mistake → Type 0
-IsRead read IsMade result =
+abbrev pub IsValueOrMistake : {A : Type 0} → Option A → (Mistake → Type 0) → Result A Mistake → Type 0
+IsValueOrMistake read IsMade result =
     IfOk result (λ x. read ≡ Some x) × IfErr result (λ m. (read ≡ None) × IsMade m)
 
 -- the task of a command's options, or the mistake in them
-abbrev pub IsTaskRead : (List Row → Option Task) → List Row → Result Task Mistake → Type 0
-IsTaskRead read rows result = IsRead (read rows) (λ m. IsMistakeIn m rows) result
+abbrev pub IsTaskOrMistake : (List Row → Option Task) → List Row → Result Task Mistake → Type 0
+IsTaskOrMistake read rows result = IsValueOrMistake (read rows) (λ m. IsMistakeIn m rows) result
 
 -- what is chosen by two options, or the mistake in them
-abbrev pub IsChosen : {A : Type 0} → (Option Text → Option Text → Option A)
+abbrev pub IsChoiceOrMistake : {A : Type 0} → (Option Text → Option Text → Option A)
     → (Mistake → Option Text → Option Text → Type 0) → Option Text → Option Text
     → Result A Mistake → Type 0
-IsChosen choose IsMade one other result =
-    IsRead (choose one other) (λ m. IsMade m one other) result
+IsChoiceOrMistake choose IsMade one other result =
+    IsValueOrMistake (choose one other) (λ m. IsMade m one other) result
 
 -- no command of the program is there
 abbrev pub IsNoTask : Option (Text × List Row) → Type 0

@@ -1,9 +1,9 @@
 //! The command line of a session that is saved.
-ghost use Rattle.std.specs.Prelude.{◌≡◌, None, Some, false, option_map, IfErr, IfOk};
+ghost use Rattle.std.specs.Prelude.{◌≡◌, false, option_map, IfOk};
 ghost use Rattle.clap.specs.Words.{app_of, found_of, rows_of};
 ghost use Rattle.clap.specs.declared.builder.Command.TheViews.{out-Command};
 ghost use Rattle.heapdbg_options.specs.CommandLine.{save_in, save_line, target_in};
-ghost use Rattle.heapdbg_options.specs.Refusals.{IsChosen, IsTargetMistake, IsTaskRead};
+ghost use Rattle.heapdbg_options.specs.Refusals.{IsChoiceOrMistake, IsTargetMistake, IsTaskOrMistake};
 
 use crate::command_line::{path_arg, questions_arg, session_parser, value_arg};
 use crate::refusal::Mistake;
@@ -35,7 +35,7 @@ pub(crate) fn save_parser<'a>(alloc: Global) -> Result<Command<'a>, AllocError>
 
 // Returns the task of the options of `save`: one of the two places has to be given.
 pub(crate) fn save_task(options: &ArgMatches<'_>) -> Result<Task, Mistake>
-    ensures { IsTaskRead save_in (rows_of (found_of options.now)) result }
+    ensures { IsTaskOrMistake save_in (rows_of (found_of options.now)) result }
 {
     let path = options.get_str("out");
     let port = options.get_str("to");
@@ -47,7 +47,7 @@ pub(crate) fn save_task(options: &ArgMatches<'_>) -> Result<Task, Mistake>
 
 // Returns the target of a dump of which this path or this port is given.
 fn target(path: Option<&str>, port: Option<&str>) -> Result<Target, Mistake>
-    ensures { IsChosen target_in IsTargetMistake (option_map (λ s. s.now) path.entry)
+    ensures { IsChoiceOrMistake target_in IsTargetMistake (option_map (λ s. s.now) path.entry)
         (option_map (λ s. s.now) port.entry) result }
 {
     match path {

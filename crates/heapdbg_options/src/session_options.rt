@@ -1,9 +1,9 @@
 //! The command lines of the tasks between standard input and standard output.
-ghost use Rattle.std.specs.Prelude.{◌≡◌, None, Some, false, is_some, option_map, IfErr, IfOk};
+ghost use Rattle.std.specs.Prelude.{◌≡◌, false, option_map, IfOk};
 ghost use Rattle.clap.specs.Words.{app_of, found_of, rows_of};
 ghost use Rattle.clap.specs.declared.builder.Command.TheViews.{out-Command};
 ghost use Rattle.heapdbg_options.specs.CommandLine.{draw_line, explore_in, explore_line, explore_with, run_line};
-ghost use Rattle.heapdbg_options.specs.Refusals.{IsChosen, IsExploreMistake, IsTaskRead};
+ghost use Rattle.heapdbg_options.specs.Refusals.{IsChoiceOrMistake, IsExploreMistake, IsTaskOrMistake};
 
 use crate::command_line::{path_arg, questions_arg, session_parser, value_arg};
 use crate::refusal::Mistake;
@@ -55,7 +55,7 @@ pub(crate) fn draw_parser<'a>(alloc: Global) -> Result<Command<'a>, AllocError>
 // Returns the task of the options of `explore`, or the mistake in them: a file of lines is run first, or the questions are about
 // a heap that is served.
 pub(crate) fn explore_task(options: &ArgMatches<'_>) -> Result<Task, Mistake>
-    ensures { IsTaskRead explore_in (rows_of (found_of options.now)) result }
+    ensures { IsTaskOrMistake explore_in (rows_of (found_of options.now)) result }
 {
     let from = options.get_str("from");
     let port = options.get_str("port");
@@ -67,7 +67,7 @@ pub(crate) fn explore_task(options: &ArgMatches<'_>) -> Result<Task, Mistake>
 
 // Returns the task of `explore` to which this file or this port is given.
 fn choose_task(from: Option<&str>, port: Option<&str>) -> Result<Task, Mistake>
-    ensures { IsChosen explore_with IsExploreMistake (option_map (λ s. s.now) from.entry)
+    ensures { IsChoiceOrMistake explore_with IsExploreMistake (option_map (λ s. s.now) from.entry)
         (option_map (λ s. s.now) port.entry) result }
 {
     let Some(text) = port else {

@@ -1,9 +1,9 @@
 //! The command lines of the tasks over sockets.
-ghost use Rattle.std.specs.Prelude.{◌≡◌, None, Some, codes, false, option_and_then, IfErr, IfOk};
+ghost use Rattle.std.specs.Prelude.{◌≡◌, codes, false, option_and_then, IfOk};
 ghost use Rattle.clap.specs.Words.{app_of, first_of, found_of, rows_of, rule_of};
 ghost use Rattle.clap.specs.declared.builder.Command.TheViews.{out-Command};
 ghost use Rattle.heapdbg_options.specs.CommandLine.{ask_in, ask_line, dumps_with, fetch_in, fetch_line, number_in, other_port, port_in, port_limit, port_option, serve_in, serve_line, staffed_line};
-ghost use Rattle.heapdbg_options.specs.Refusals.{IsTaskRead};
+ghost use Rattle.heapdbg_options.specs.Refusals.{IsTaskOrMistake};
 
 use crate::command_line::{
     number, option_value, path_arg, questions_arg, session_parser, value_arg,
@@ -97,7 +97,7 @@ fn port_arg<'a>(alloc: Global) -> Arg<'a>
 
 // Returns the task of the options of `serve`, or the mistake in them.
 pub(crate) fn serve_task(options: &ArgMatches<'_>) -> Result<Task, Mistake>
-    ensures { IsTaskRead serve_in (rows_of (found_of options.now)) result }
+    ensures { IsTaskOrMistake serve_in (rows_of (found_of options.now)) result }
 {
     let Some(port) = port(options) else {
         return Err(Mistake::Port);
@@ -151,7 +151,7 @@ fn other_port(port: u16, dumps: u16) -> Option<Option<u16>>
 
 // Returns the task of the options of `fetch`, or the mistake in them.
 pub(crate) fn fetch_task(options: &ArgMatches<'_>) -> Result<Task, Mistake>
-    ensures { IsTaskRead fetch_in (rows_of (found_of options.now)) result }
+    ensures { IsTaskOrMistake fetch_in (rows_of (found_of options.now)) result }
 {
     match port(options) {
         Some(port) => Ok(Task::Fetch { port }),
@@ -161,7 +161,7 @@ pub(crate) fn fetch_task(options: &ArgMatches<'_>) -> Result<Task, Mistake>
 
 // Returns the task of the options of `ask`, or the mistake in them.
 pub(crate) fn ask_task(options: &ArgMatches<'_>) -> Result<Task, Mistake>
-    ensures { IsTaskRead ask_in (rows_of (found_of options.now)) result }
+    ensures { IsTaskOrMistake ask_in (rows_of (found_of options.now)) result }
 {
     match port(options) {
         Some(port) => Ok(Task::Ask { port }),

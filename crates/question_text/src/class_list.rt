@@ -7,7 +7,7 @@ ghost use Rattle.question_text.specs.Appends.{Appends};
 ghost use Rattle.question_text.specs.ClassLists.{IsClassesText, and_fields, class_text, field_words, super_words};
 
 use crate::referrers::push_count;
-use crate::rows::{push_number, push_words};
+use crate::rows::{push_number, push_row, push_words};
 use crate::show::field_name;
 use heap_class::{ClassNo, FirstClasses, Kind, Refusal};
 use hprof_text::View;
@@ -64,8 +64,7 @@ fn push_class(text: &mut Vec<u8>, classes: &FirstClasses<'_>, class: ClassNo) ->
     requires { class < length classes.now }
     ensures { Appends (class_text classes.now class) text.old.items text.new.items result }
 {
-    push_words(text, b"row")?;
-    push_number(text, class)?;
+    push_row(text, class)?;
     push_words(text, b" ")?;
     push_words(text, classes.name(class))?;
     push_super(text, classes, class)?;

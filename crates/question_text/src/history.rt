@@ -8,7 +8,7 @@ ghost use Rattle.session_text.specs.Replies.{and_number};
 
 use crate::id::{push_id, push_reference};
 use crate::referrers::push_count;
-use crate::rows::{Unanswered, push_number, push_words};
+use crate::rows::{Unanswered, push_number, push_row, push_words};
 use heap_class::Refusal;
 use heap_past::{PastEvent, PastStep, history};
 use heap_trail::Machine;
@@ -85,8 +85,7 @@ fn push_event(text: &mut Vec<u8>, event: PastEvent) -> Result<(), Refusal>
 fn push_step(text: &mut Vec<u8>, step: PastStep) -> Result<(), Refusal>
     ensures { Appends (past_step_line step) text.old.items text.new.items result }
 {
-    push_words(text, b"row")?;
-    push_number(text, step.place)?;
+    push_row(text, step.place)?;
     push_event(text, step.event)?;
     push_words(text, b"\n")
 }

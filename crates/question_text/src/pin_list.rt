@@ -8,7 +8,7 @@ ghost use Rattle.question_text.specs.Moments.{told_text};
 ghost use Rattle.question_text.specs.PinLists.{IsPinsText, pin_text, pins_text, status_words};
 
 use crate::referrers::push_count;
-use crate::rows::{Unanswered, push_number, push_words};
+use crate::rows::{Unanswered, push_number, push_row, push_words};
 use heap_class::{LostCause, Refusal};
 use heap_trail::{ListedPin, Machine, PinStatus};
 use std::alloc::Global;
@@ -47,8 +47,7 @@ fn push_status(text: &mut Vec<u8>, status: PinStatus) -> Result<(), Refusal>
 fn push_pin(text: &mut Vec<u8>, pin: ListedPin) -> Result<(), Refusal>
     ensures { Appends (pin_text pin) text.old.items text.new.items result }
 {
-    push_words(text, b"row")?;
-    push_number(text, pin.number)?;
+    push_row(text, pin.number)?;
     push_status(text, pin.status)?;
     push_words(text, b"\n")
 }

@@ -11,7 +11,7 @@ use crate::id::push_reference;
 use crate::names::push_class_name;
 use crate::place::place_of_object;
 use crate::question::At;
-use crate::rows::{Unanswered, push_number, push_words};
+use crate::rows::{Unanswered, push_number, push_row, push_words};
 use heap_class::{ClassNo, FirstClasses, Kind, ObjKind, Refusal};
 use heap_questions::{ShownObject, object_with};
 use heap_trail::Machine;
@@ -51,8 +51,7 @@ fn push_field(
 ) -> Result<(), Refusal>
     ensures { Appends (field_row slot name.now kind word) text.old.items text.new.items result }
 {
-    push_words(text, b"row")?;
-    push_number(text, slot)?;
+    push_row(text, slot)?;
     push_words(text, b" ")?;
     push_words(text, name)?;
     push_end(text, kind, word)
@@ -63,8 +62,7 @@ fn push_field(
 fn push_element(text: &mut Vec<u8>, kind: Kind, index: u64, word: u64) -> Result<(), Refusal>
     ensures { Appends (element_row kind index word) text.old.items text.new.items result }
 {
-    push_words(text, b"row")?;
-    push_number(text, index)?;
+    push_row(text, index)?;
     push_number(text, index)?;
     push_end(text, kind, word)
 }

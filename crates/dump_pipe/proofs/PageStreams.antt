@@ -9,19 +9,15 @@ use Rattle.dump_pump.specs.declared.source.Next.TheVariants as Given
 use Rattle.dump_pump.specs.declared.transfer.Pumped.{Pumped}
 use Rattle.dump_pump.specs.declared.transfer.Pumped.TheVariants.{Done, OutletFailed, Lost, Cancelled}
 use Rattle.dump_pump.specs.Outlets.{Outgoing}
-use Rattle.dump_pump.specs.Sources.{Supply, IsNextPart, more}
+use Rattle.dump_pump.specs.Sources.{Supply, IsNextPart, more, parts_with}
 use Rattle.dump_pump.specs.Pumps.{joined, ends, FitsPump, IsPumped}
 use Rattle.dump_pump.proofs.PumpSteps.{more_nil, more_more, joined_push, ends_push}
 use Rattle.dump_pipe.specs.declared.surplus.Surplus.{Surplus}
 use Rattle.dump_pipe.specs.Pages.{parts_left, supply_at, IsAhead, IsPaged, Pages}
-use Rattle.dump_pipe.specs.PagedSources.{paged_supply, pages_in, pages_with, ended_by_page, EndsAsSource, ArePages}
+use Rattle.dump_pipe.specs.PagedSources.{paged_supply, ended_by_page, EndsAsSource, ArePages}
 use Rattle.dump_pump.proofs.JoinedPieces.{joined_append}
 
 -- ---- a page more
-
-pub pages_push : (entries : List (Piece × Unit {0})) (p : Piece) → pages_in (entries ++ (p, tt) ∷ []) ≡ pages_in entries ++ p ∷ []
-pages_push [] p = refl
-pages_push (e ∷ es) p = ap (λ l. e.0 ∷ l) (pages_push es p)
 
 pub are_none : (start : Option (List Piece)) (s : Supply) → s.told ≡ start → ArePages start s [] None None
 are_none start s told = record { parts = []; same = refl; ends = refl; ahead = told ∙ more_nil start; whole = tt }
@@ -38,7 +34,7 @@ ended_whole s surplus false whole = tt
 
 -- the pages with what is given next
 pub pages_more : (start : Option (List Piece)) (a b : Supply) (given : List Piece) (ended : Option Ending) (x x' : Option Surplus) (left : ℕ) (r : Next) → (h : ArePages start a given ended x) → Pages (more start h.parts) left b x' r
-    → ArePages start b (pages_with given r) (ended_by_page r) x'
+    → ArePages start b (parts_with given r) (ended_by_page r) x'
 pages_more start a b given ended x x' left (Given.Part q) h p = record {
   parts = h.parts ++ p.parts;
   same = joined_append h.parts p.parts ∙ (λ i. h.same i ++ sym p.says.0 i) ∙ sym (joined_push given q);
@@ -62,19 +58,19 @@ pages_more start a b given ended x x' left Given.Cancelled h p = record {
 }
 
 pub next_page : (told : Option (List Piece)) (a b : Supply) (given : List Piece) (ended : Option Ending) (x x' : Option Surplus) (r : Next) → Pages told (parts_left x a.left) b x' r
-    → IsNextPart (paged_supply given ended x a.left) (paged_supply (pages_with given r) (ended_by_page r) x' b.left) r
+    → IsNextPart (paged_supply given ended x a.left) (paged_supply (parts_with given r) (ended_by_page r) x' b.left) r
 next_page told a b given ended x x' (Given.Part q) p = (refl, p.says.3, p.says.4, p.says.5, λ last. ap (λ l. if l then Some End.Whole else None) last)
 next_page told a b given ended x x' (Given.Lost cause) p = (refl, refl)
 next_page told a b given ended x x' Given.Cancelled p = (refl, refl)
 
 -- the same, at values that are known
-pub pages_as : (start : Option (List Piece)) (a b : Supply) (given given2 : List Piece) (ended ended2 : Option Ending) (x x2 : Option Surplus) (r : Next) → given2 ≡ pages_with given r → ended2 ≡ ended_by_page r
+pub pages_as : (start : Option (List Piece)) (a b : Supply) (given given2 : List Piece) (ended ended2 : Option Ending) (x x2 : Option Surplus) (r : Next) → given2 ≡ parts_with given r → ended2 ≡ ended_by_page r
     → ArePages start a given ended x → IsPaged a b x x2 r → ArePages start b given2 ended2 x2
 pages_as start a b given given2 ended ended2 x x2 r gives ends h p =
     subst (λ (k : List Piece × Option Ending). ArePages start b k.0 k.1 x2) (λ i. (sym gives i, sym ends i))
     (pages_more start a b given ended x x2 (parts_left x a.left) r h (p (more start h.parts) h.ahead))
 
-pub next_as : (start : Option (List Piece)) (a b : Supply) (given given2 : List Piece) (ended ended2 : Option Ending) (x x2 : Option Surplus) (r : Next) → given2 ≡ pages_with given r → ended2 ≡ ended_by_page r
+pub next_as : (start : Option (List Piece)) (a b : Supply) (given given2 : List Piece) (ended ended2 : Option Ending) (x x2 : Option Surplus) (r : Next) → given2 ≡ parts_with given r → ended2 ≡ ended_by_page r
     → ArePages start a given ended x → IsPaged a b x x2 r → IsNextPart (paged_supply given ended x a.left) (paged_supply given2 ended2 x2 b.left) r
 next_as start a b given given2 ended ended2 x x2 r gives ends h p =
     subst (λ (k : List Piece × Option Ending). IsNextPart (paged_supply given ended x a.left) (paged_supply k.0 k.1 x2 b.left) r) (λ i. (sym gives i, sym ends i))

@@ -1,5 +1,5 @@
 -- Sources whose parts are pages.
-use Rattle.std.specs.Prelude.{◌≡◌, ℕ, List, [], ◌∷◌, ◌++◌, map, Option, Some, None, if◌then◌else◌}
+use Rattle.std.specs.Prelude.{◌≡◌, ℕ, List, [], Option, Some, None, if◌then◌else◌}
 use Rattle.hprof_text.specs.declared.Piece.{Piece}
 use Rattle.dump_pump.specs.declared.source.Ending.{Ending}
 use Rattle.dump_pump.specs.declared.source.Ending.TheVariants as End
@@ -25,16 +25,6 @@ unpaged source = record { source = source; given = []; ended = None; surplus = N
 abbrev pub paged_supply : List Piece → Option Ending → Option Surplus → ℕ → Supply
 paged_supply given ended surplus left =
     record { told = Some given; ended = ended; left = parts_left surplus left }
-
--- the pages of a ledger
-abbrev pub pages_in : List (Piece × Unit {0}) → List Piece
-pages_in entries = map (λ e. e.0) entries
-
--- the pages given, with the next answer's
-abbrev pub pages_with : List Piece → Next → List Piece
-pages_with given (Part page) = given ++ page ∷ []
-pages_with given (Lost cause) = given
-pages_with given Cancelled = given
 
 -- the ending of a source whose last answer this is
 abbrev pub ended_by_page : Next → Option Ending

@@ -1,6 +1,7 @@
 //! Sources whose parts are pages.
 ghost use Rattle.std.specs.Prelude.{◌≡◌};
-ghost use Rattle.dump_pipe.specs.PagedSources.{ArePages, ended_by_page, pages_with, pages_in, unpaged};
+ghost use Rattle.dump_pump.specs.Sources.{parts_in, parts_with};
+ghost use Rattle.dump_pipe.specs.PagedSources.{ArePages, ended_by_page, unpaged};
 
 use crate::page::next_page;
 use crate::surplus::Surplus;
@@ -36,25 +37,26 @@ pub(crate) struct PagedSource<S: Source, B: PartsBefore> {
 }
 
 impl<S: Source, B: PartsBefore> Model for PagedSource<S, B> {
-    ghost use Rattle.dump_pipe.specs.PagedSources.{PagingState, ArePages, pages_in};
+    ghost use Rattle.dump_pump.specs.Sources.{parts_in};
+    ghost use Rattle.dump_pipe.specs.PagedSources.{PagingState, ArePages};
 
     ghost Value = { PagingState S };
 
     ghost view = { λ p.
         record {
           source = p.source;
-          given = pages_in p.given.items;
+          given = parts_in p.given.items;
           ended = p.ended;
           surplus = p.surplus;
         } };
 
-    ghost invariant = { λ p. ArePages B.told (S.seen p.source) (pages_in p.given.items) p.ended
+    ghost invariant = { λ p. ArePages B.told (S.seen p.source) (parts_in p.given.items) p.ended
         p.surplus };
 }
 
 // Notes a page that was given. Returns how the source ended, if it did.
 fn note(given: &mut Log<Piece, ()>, next: &Next) -> Option<Ending>
-    ensures given { pages_in given.new.items ≡ pages_with (pages_in given.old.items) next.now }
+    ensures given { parts_in given.new.items ≡ parts_with (parts_in given.old.items) next.now }
     ensures ended { result ≡ ended_by_page next.now }
 {
     match next {

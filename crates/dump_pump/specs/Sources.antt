@@ -1,5 +1,5 @@
 -- The parts that a source gives.
-use Rattle.std.specs.Prelude.{◌≡◌, ℕ, ◌<◌, ◌≤◌, ◌^◌, true, false, List, [], ◌∷◌, ◌++◌, length, Option, Some, None}
+use Rattle.std.specs.Prelude.{◌≡◌, ℕ, ◌<◌, ◌≤◌, ◌^◌, true, false, List, [], ◌∷◌, ◌++◌, length, map, Option, Some, None}
 use Rattle.hprof_text.specs.declared.Piece.{Piece}
 use Rattle.dump_pump.specs.declared.source.Ending.{Ending}
 use Rattle.dump_pump.specs.declared.source.Ending.TheVariants as End
@@ -32,3 +32,13 @@ IsNextPart a b (Part p) =
     × (p.last ≡ false → 0 < b.left) × (p.last ≡ true → b.ended ≡ Some End.Whole)
 IsNextPart a b (Lost cause) = (b.told ≡ a.told) × (b.ended ≡ Some (End.Lost cause))
 IsNextPart a b Cancelled = (b.told ≡ a.told) × (b.ended ≡ Some End.Cancelled)
+
+-- the parts of a log
+abbrev pub parts_in : List (Piece × Unit {0}) → List Piece
+parts_in entries = map (λ e. e.0) entries
+
+-- the parts given, with what is given next
+abbrev pub parts_with : List Piece → Next → List Piece
+parts_with given (Part p) = given ++ p ∷ []
+parts_with given (Lost cause) = given
+parts_with given Cancelled = given

@@ -78,14 +78,8 @@ GivesAll pin m marked cs = (bytes_given pin m marked ≡ joined (pieces_given pi
 gives_all : (pin : ℕ) (m : Machine) (marked : List (Action × Allocation)) (cs : List Call) → map (λ a. a.0) marked ≡ map (λ (c : Call). c.0) cs → map (λ (c : Call). c.1) cs ≡ replies_of m marked → GivesAll pin m marked cs
 unfolding bytes_given gave_last pieces_given replies_of
 gives_all pin m [] [] actions replies = (refl, refl)
-gives_all pin m [] (c ∷ cs) actions replies = absurd (clash actions)
-  where
-    clash : [] ≡ c.0 ∷ map (λ (x : Call). x.0) cs → ⊥
-    clash e = cc
-gives_all pin m (x ∷ marked) [] actions replies = absurd (clash actions)
-  where
-    clash : x.0 ∷ map (λ a. a.0) marked ≡ [] → ⊥
-    clash e = cc
+gives_all pin m [] (c ∷ cs) actions replies = absurd (cc actions)
+gives_all pin m (x ∷ marked) [] actions replies = absurd (cc actions)
 gives_all pin m (x ∷ marked) (c ∷ cs) actions replies =
     let first : x.0 ≡ c.0 = cc actions in
     let rest : map (λ a. a.0) marked ≡ map (λ (y : Call). y.0) cs = cc actions in
@@ -99,10 +93,7 @@ gives_all pin m (x ∷ marked) (c ∷ cs) actions replies =
 
 asks_all : (pin time : ℕ) (marked : List (Action × Allocation)) (cs : List Call) → map (λ a. a.0) marked ≡ map (λ (c : Call). c.0) cs → CallsAskAt pin time cs → AskAt pin time marked
 asks_all pin time [] cs actions asks = tt
-asks_all pin time (x ∷ marked) [] actions asks = absurd (clash actions)
-  where
-    clash : x.0 ∷ map (λ a. a.0) marked ≡ [] → ⊥
-    clash e = cc
+asks_all pin time (x ∷ marked) [] actions asks = absurd (cc actions)
 asks_all pin time (x ∷ marked) (c ∷ cs) actions asks =
     let first : x.0 ≡ c.0 = cc actions in
     let rest : map (λ a. a.0) marked ≡ map (λ (y : Call). y.0) cs = cc actions in

@@ -8,7 +8,7 @@ use Rattle.atomic_table.proofs.Lists.{at_set, at_snoc}
 use Rattle.heap_lock.specs.declared.sight.Sight.{Sight}
 use Rattle.heap_lock.specs.declared.sight.Sight.TheVariants.{Full, Seen, Both, Blind}
 use Rattle.heap_lock.specs.Calls.{Call}
-use Rattle.heap_lock.specs.Sights.{full_of, seen_of, both_sights, Sits, IsOneLedger, Added, Compared}
+use Rattle.heap_lock.specs.Sights.{calls_of, full_of, seen_of, both_sights, Sits, IsOneLedger, Added, Compared}
 
 abbrev Kept : State (Unit {0}) Sight → Type 0
 Kept s = IsOneLedger s.views
@@ -122,3 +122,7 @@ compared_as m n xs ys is told =
 
 pub head_is : (views : List Sight) (v w : Sight) → views ≡ v ∷ [] → views ≡ w ∷ [] → v ≡ w
 head_is views v w p q = cc (p, q)
+
+-- both sights joined, where the second is known
+pub both_joined : (m : Sight × List (ℕ × Unit {0})) (xs ys : List Call) (w : Sight) (held : List (ℕ × Unit {0})) → w ≡ Seen ys → held ≡ [] → m ≡ (Both xs (calls_of w), held) → m ≡ (Both xs ys, [])
+both_joined m xs ys w held seen none joined = joined ∙ (λ k. (Both xs (calls_of (seen k)), none k))

@@ -28,6 +28,14 @@ abbrev pub CallsAskAt : ℕ → ℕ → List Call → Type 0
 CallsAskAt pin time [] = Unit {0}
 CallsAskAt pin time (c ∷ cs) = AsksAt pin time c.0 × CallsAskAt pin time cs
 
+-- of these calls one opened the pin at this place, and those after it ask for its pieces with this time and got just these
+pub record IsAlone (pin place time : ℕ) (before after seen : List Call)
+    (given : List Piece) : Type 0 where
+  pub at : Option ℕ
+  pub opened : seen ≡ before ++ (OpenPin at, Pinned pin place) ∷ after
+  pub asks : CallsAskAt pin time after
+  pub pieces : pieces_given pin after ≡ given
+
 -- the trail after these calls
 unfoldable pub trail_by : ℕ → Trail → List Call → Trail
 trail_by keep t [] = t

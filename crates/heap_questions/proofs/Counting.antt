@@ -9,7 +9,7 @@ use Rattle.std.proofs.lemmas.Bool.{cases_eq, eq-eqb, ne_eqb}
 use Rattle.std.proofs.lemmas.Option.{get_or_from_slice_get, slice_get_within, none-some, same_Some}
 use Rattle.heap_class.specs.declared.IdSize.{IdSize}
 use Rattle.heap_class.specs.Classes.{Class}
-use Rattle.hprof_text.specs.Image.{DumpedObject}
+use Rattle.hprof_text.specs.Image.{DumpedObject, Image}
 use Rattle.heap_questions.specs.declared.rows.Row.{Row}
 use Rattle.heap_questions.specs.Histogram.{AreRows, class_rows, counted_unless, members, no_objects, object_bytes, one_more, row_at, row_number, row_of, rows_of, without_marked, with_counted}
 
@@ -142,6 +142,11 @@ room ids classes marks objects i rows k a l w =
     let few = unmarked_few marks (take i objects) in
     let m = length-take-le i objects l in
     (omega (arith, s.0, few, m), omega (arith, s.1, few, m))
+
+-- the room of the row of one of the classes
+pub room_among : (ids : IdSize) (image : Image) (classes : List Class) (marks : List Bool) (i : ℕ) (rows : List Row) (k : ℕ) → AreRows ids image.classes (without_marked marks (take i image.objects)) rows → i ≤ length image.objects → classes ≡ image.classes → k < class_rows + length classes
+    → ((row_at rows k).objects ≤ i) × ((row_at rows k).bytes ≤ i * 8192)
+room_among ids image classes marks i rows k a l e w = room ids image.classes marks image.objects i rows k a l (omega (arith, ap length e, w, a.count))
 
 pub rows_end : (ids : IdSize) (classes : List Class) (marks : List Bool) (objects : List DumpedObject) (i : ℕ) (rows : List Row) → AreRows ids classes (without_marked marks (take i objects)) rows → i ≡ length objects → rows ≡ rows_of ids classes (without_marked marks objects)
 rows_end ids classes marks objects i rows a e =

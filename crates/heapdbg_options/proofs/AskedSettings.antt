@@ -263,39 +263,6 @@ default_of name default least most words f n all is named read other =
     let same : Some default ≡ Some n = subst (λ o. number_or default least most o ≡ Some n) none read in
     cc
 
-regions_free : list_all (is_free_command (codes "regions")) (built heapdbg_line).subs ≡ true
-regions_free = refl
-
-mutators_free : list_all (is_free_command (codes "mutators")) (built heapdbg_line).subs ≡ true
-mutators_free = refl
-
-keep_free : list_all (is_free_command (codes "keep")) (built heapdbg_line).subs ≡ true
-keep_free = refl
-
-time_free : list_all (is_free_command (codes "time")) (built heapdbg_line).subs ≡ true
-time_free = refl
-
-ids_free : list_all (is_free_command (codes "ids")) (built heapdbg_line).subs ≡ true
-ids_free = refl
-
-sessions_free : list_all (is_free_command (codes "sessions")) (built heapdbg_line).subs ≡ true
-sessions_free = refl
-
-workers_free : list_all (is_free_command (codes "workers")) (built heapdbg_line).subs ≡ true
-workers_free = refl
-
-from_free : list_all (is_free_command (codes "from")) (built heapdbg_line).subs ≡ true
-from_free = refl
-
-dumps_free : list_all (is_free_command (codes "dumps")) (built heapdbg_line).subs ≡ true
-dumps_free = refl
-
-questions_free : list_all (is_free_command (codes "questions")) (built heapdbg_line).subs ≡ true
-questions_free = refl
-
-roll_free : list_all (is_free_command (codes "roll")) (built heapdbg_line).subs ≡ true
-roll_free = refl
-
 -- what sessions with questions have, of a private heap and of a served one, is what the task of `explore` has
 explore_has : (P : Task → Type 0) (from port : Option Text) (task : Task) → P (Explore (is_some from)) → ((n : ℕ) → P (Ask n)) → explore_with from port ≡ Some task → P task
 explore_has P from None task one other e = let same : Explore (is_some from) ≡ task = cc in subst P same one
@@ -352,7 +319,7 @@ default_dumps : (words : List Text) (f : Text × List Row) (task : Task) → sub
     → is_given (codes "dumps") words ≡ false → serve_in f.1 ≡ Some task → dumps_of task ≡ None
 default_dumps words f task is named other e =
     let served = serve_of (port_in f.1) (sessions_in f.1) (workers_in f.1) (dumps_in f.1) task e in
-    let missing : first_of (codes "dumps") f.1 ≡ None = none_of (codes "dumps") words f dumps_free is named other in
+    let missing : first_of (codes "dumps") f.1 ≡ None = none_of (codes "dumps") words f refl is named other in
     let none : dumps_in f.1 ≡ Some None = ap (λ o. option_and_then (λ port. dumps_with port o) (port_in f.1)) missing ∙ ap (option_and_then (λ port. dumps_with port None)) served.at in
     let same : Some (dumps_of task) ≡ Some None = sym served.dumps ∙ none in
     cc
@@ -378,7 +345,7 @@ default_size words f x is named read other = go (option_value (codes "ids") 8 4 
     go : (o : Option ℕ) → option_value (codes "ids") 8 4 8 f.1 ≡ o → option_and_then id_size_of o ≡ Some x → x ≡ Eight
     go None e sized = cc
     go (Some bytes) e sized =
-        let eight : bytes ≡ 8 = default_of (codes "ids") 8 4 8 words f bytes ids_free is named e other in
+        let eight : bytes ≡ 8 = default_of (codes "ids") 8 4 8 words f bytes refl is named e other in
         let same : Some Eight ≡ Some x = subst (λ n. id_size_of n ≡ Some x) eight sized in
         cc
 
@@ -401,23 +368,23 @@ defaults_of words s e =
     let rows = asked.found.1 in
     let served : serve_in rows ≡ Some s.task → IsServeOf (port_in rows) (sessions_in rows) (workers_in rows) (dumps_in rows) s.task = serve_of (port_in rows) (sessions_in rows) (workers_in rows) (dumps_in rows) s.task in
     record {
-      regions = default_of (codes "regions") 16 1 region_limit words asked.found s.regions regions_free asked.is asked.named asked.read.regions;
-      mutators = default_of (codes "mutators") 2 1 mutator_limit words asked.found s.mutators mutators_free asked.is asked.named asked.read.mutators;
-      keep = default_of (codes "keep") keep_default 1 keep_limit words asked.found s.keep keep_free asked.is asked.named asked.read.keep;
-      time = default_of (codes "time") 0 0 time_limit words asked.found s.time time_free asked.is asked.named asked.read.time;
+      regions = default_of (codes "regions") 16 1 region_limit words asked.found s.regions refl asked.is asked.named asked.read.regions;
+      mutators = default_of (codes "mutators") 2 1 mutator_limit words asked.found s.mutators refl asked.is asked.named asked.read.mutators;
+      keep = default_of (codes "keep") keep_default 1 keep_limit words asked.found s.keep refl asked.is asked.named asked.read.keep;
+      time = default_of (codes "time") 0 0 time_limit words asked.found s.time refl asked.is asked.named asked.read.time;
       ids = default_size words asked.found s.ids asked.is asked.named asked.read.ids;
-      questions = default_flag (codes "questions") words asked.found s.questions questions_free asked.is asked.named asked.read.questions;
-      rolls = default_flag (codes "roll") words asked.found s.rolls roll_free asked.is asked.named asked.read.rolls;
+      questions = default_flag (codes "questions") words asked.found s.questions refl asked.is asked.named asked.read.questions;
+      rolls = default_flag (codes "roll") words asked.found s.rolls refl asked.is asked.named asked.read.rolls;
       sessions = λ other. by_task (λ t. sessions_of t ≡ 1) (bytes_eq name (codes "run")) (bytes_eq name (codes "explore")) (bytes_eq name (codes "draw")) (bytes_eq name (codes "save")) (bytes_eq name (codes "serve")) (bytes_eq name (codes "ask")) (bytes_eq name (codes "fetch")) rows s.task
           refl refl refl (λ target. refl) (λ port. refl) (λ port. refl)
-          (λ is. default_of (codes "sessions") 1 1 most_sessions words asked.found (sessions_of s.task) sessions_free asked.is asked.named (served is).sessions other) asked.task;
+          (λ is. default_of (codes "sessions") 1 1 most_sessions words asked.found (sessions_of s.task) refl asked.is asked.named (served is).sessions other) asked.task;
       workers = λ other. by_task (λ t. workers_of t ≡ 0) (bytes_eq name (codes "run")) (bytes_eq name (codes "explore")) (bytes_eq name (codes "draw")) (bytes_eq name (codes "save")) (bytes_eq name (codes "serve")) (bytes_eq name (codes "ask")) (bytes_eq name (codes "fetch")) rows s.task
           refl refl refl (λ target. refl) (λ port. refl) (λ port. refl)
-          (λ is. default_of (codes "workers") 0 0 1 words asked.found (workers_of s.task) workers_free asked.is asked.named (served is).workers other) asked.task;
+          (λ is. default_of (codes "workers") 0 0 1 words asked.found (workers_of s.task) refl asked.is asked.named (served is).workers other) asked.task;
       dumps = λ other. by_task (λ t. dumps_of t ≡ None) (bytes_eq name (codes "run")) (bytes_eq name (codes "explore")) (bytes_eq name (codes "draw")) (bytes_eq name (codes "save")) (bytes_eq name (codes "serve")) (bytes_eq name (codes "ask")) (bytes_eq name (codes "fetch")) rows s.task
           refl refl refl (λ target. refl) (λ port. refl) (λ port. refl)
           (λ is. default_dumps words asked.found s.task asked.is asked.named other is) asked.task;
       from = λ other. by_task (λ t. reads_file t ≡ false) (bytes_eq name (codes "run")) (bytes_eq name (codes "explore")) (bytes_eq name (codes "draw")) (bytes_eq name (codes "save")) (bytes_eq name (codes "serve")) (bytes_eq name (codes "ask")) (bytes_eq name (codes "fetch")) rows s.task
-          refl (unread (first_of (codes "from") rows) (none_of (codes "from") words asked.found from_free asked.is asked.named other)) refl (λ target. refl) (λ port. refl) (λ port. refl)
+          refl (unread (first_of (codes "from") rows) (none_of (codes "from") words asked.found refl asked.is asked.named other)) refl (λ target. refl) (λ port. refl) (λ port. refl)
           (λ is. served_unread (port_in rows) (sessions_in rows) (workers_in rows) (dumps_in rows) s.task is) asked.task;
     }

@@ -8,39 +8,32 @@ use Rattle.clap.specs.Words.{App, FailsBy, HasMatchesOf, Row, Text, fault_of, fi
 use Rattle.clap.specs.declared.error.Error.{Error}
 use Rattle.clap.specs.declared.parser.matches.ArgMatches.{ArgMatches}
 use Rattle.clap.specs.declared.parser.matches.Found.{Found}
-use Rattle.heapdbg_options.specs.CommandLine.{explore_with, heapdbg_line, number_in, path_of, port_limit, target_in}
+use Rattle.heapdbg_options.specs.CommandLine.{heapdbg_line, number_in, path_of, port_limit}
 use Rattle.heapdbg_options.specs.Refusals.{IsExploreMistake, IsMistakeIn, IsOutside, IsTargetMistake}
 use Rattle.heapdbg_options.specs.declared.refusal.Mistake.{Mistake}
 
 -- ---- what is told of options
 
--- the texts of two options are those of their rows
-pub given_target : (found : Found) (path port : Option (Bor Text)) → option_map (λ s. s.now) path ≡ first_value found (codes "out") → option_map (λ s. s.now) port ≡ first_value found (codes "to")
-    → target_in (option_map (λ s. s.now) path) (option_map (λ s. s.now) port) ≡ target_in (first_of (codes "out") (rows_of found)) (first_of (codes "to") (rows_of found))
-given_target found path port one other = λ i. target_in ((one ∙ first_value-rows found (codes "out")) i) ((other ∙ first_value-rows found (codes "to")) i)
+-- what the texts of two options give is what their rows give
+pub given_by : {A : Type 0} (F : Option Text → Option Text → A) (found : Found) (name second : Text) (one other : Option (Bor Text)) → option_map (λ s. s.now) one ≡ first_value found name → option_map (λ s. s.now) other ≡ first_value found second
+    → F (option_map (λ s. s.now) one) (option_map (λ s. s.now) other) ≡ F (first_of name (rows_of found)) (first_of second (rows_of found))
+given_by F found name second one other e f = λ i. F ((e ∙ first_value-rows found name) i) ((f ∙ first_value-rows found second) i)
 
 -- so is a mistake in them
-pub given_mistake : (m : Mistake) (found : Found) (path port : Option (Bor Text)) → option_map (λ s. s.now) path ≡ first_value found (codes "out") → option_map (λ s. s.now) port ≡ first_value found (codes "to")
-    → IsTargetMistake m (option_map (λ s. s.now) path) (option_map (λ s. s.now) port) → IsTargetMistake m (first_of (codes "out") (rows_of found)) (first_of (codes "to") (rows_of found))
-given_mistake m found path port one other h =
-    subst (λ o. IsTargetMistake m o (first_of (codes "to") (rows_of found))) (one ∙ first_value-rows found (codes "out"))
-    (subst (λ o. IsTargetMistake m (option_map (λ s. s.now) path) o) (other ∙ first_value-rows found (codes "to")) h)
+pub given_mistake : (IsMade : Mistake → Option Text → Option Text → Type 0) (m : Mistake) (found : Found) (name second : Text) (one other : Option (Bor Text)) → option_map (λ s. s.now) one ≡ first_value found name → option_map (λ s. s.now) other ≡ first_value found second
+    → IsMade m (option_map (λ s. s.now) one) (option_map (λ s. s.now) other) → IsMade m (first_of name (rows_of found)) (first_of second (rows_of found))
+given_mistake IsMade m found name second one other e f h =
+    subst (λ o. IsMade m o (first_of second (rows_of found))) (e ∙ first_value-rows found name)
+    (subst (λ o. IsMade m (option_map (λ s. s.now) one) o) (f ∙ first_value-rows found second) h)
+
+-- the text of an option is that of its row
+pub text_of_row : (found : Found) (name : Text) (given : Option Text) → given ≡ first_value found name → first_of name (rows_of found) ≡ given
+text_of_row found name given e = sym (first_value-rows found name) ∙ sym e
 
 -- a mistake in the two places is one of the options
 pub of_places : (m : Mistake) (rows : List Row) → IsTargetMistake m (first_of (codes "out") rows) (first_of (codes "to") rows) → IsMistakeIn m rows
 of_places m rows (inl h) = subst (λ x. IsMistakeIn x rows) (sym h.0) (inl (refl, h.1))
 of_places m rows (inr h) = subst (λ x. IsMistakeIn x rows) (sym h.0) (inr (refl, h.1))
-
--- so are the task of `explore` and a mistake in it
-pub given_explored : (found : Found) (from port : Option (Bor Text)) → option_map (λ s. s.now) from ≡ first_value found (codes "from") → option_map (λ s. s.now) port ≡ first_value found (codes "port")
-    → explore_with (option_map (λ s. s.now) from) (option_map (λ s. s.now) port) ≡ explore_with (first_of (codes "from") (rows_of found)) (first_of (codes "port") (rows_of found))
-given_explored found from port one other = λ i. explore_with ((one ∙ first_value-rows found (codes "from")) i) ((other ∙ first_value-rows found (codes "port")) i)
-
-pub given_source : (m : Mistake) (found : Found) (from port : Option (Bor Text)) → option_map (λ s. s.now) from ≡ first_value found (codes "from") → option_map (λ s. s.now) port ≡ first_value found (codes "port")
-    → IsExploreMistake m (option_map (λ s. s.now) from) (option_map (λ s. s.now) port) → IsExploreMistake m (first_of (codes "from") (rows_of found)) (first_of (codes "port") (rows_of found))
-given_source m found from port one other h =
-    subst (λ o. IsExploreMistake m o (first_of (codes "port") (rows_of found))) (one ∙ first_value-rows found (codes "from"))
-    (subst (λ o. IsExploreMistake m (option_map (λ s. s.now) from) o) (other ∙ first_value-rows found (codes "port")) h)
 
 outside_none : (least most : ℕ) (given : Option Text) → IsOutside least most given → option_and_then (number_in least most) given ≡ None
 outside_none least most None h = absurd h

@@ -330,33 +330,18 @@ AreSettingsWithin s = AreHeapSettings s.regions s.mutators s.keep × IsTask s.ta
 
 -- the number of sessions
 abbrev pub sessions_of : Task → ℕ
-sessions_of Run = 1
-sessions_of (Explore from) = 1
-sessions_of Draw = 1
-sessions_of (Save target) = 1
 sessions_of (Serve port sessions workers dumps) = sessions
-sessions_of (Ask port) = 1
-sessions_of (Fetch port) = 1
+sessions_of _ = 1
 
 -- the number of markers, and of sweepers
 abbrev pub workers_of : Task → ℕ
-workers_of Run = 0
-workers_of (Explore from) = 0
-workers_of Draw = 0
-workers_of (Save target) = 0
 workers_of (Serve port sessions workers dumps) = workers
-workers_of (Ask port) = 0
-workers_of (Fetch port) = 0
+workers_of _ = 0
 
 -- the port for dumps
 abbrev pub dumps_of : Task → Option ℕ
-dumps_of Run = None
-dumps_of (Explore from) = None
-dumps_of Draw = None
-dumps_of (Save target) = None
 dumps_of (Serve port sessions workers dumps) = dumps
-dumps_of (Ask port) = None
-dumps_of (Fetch port) = None
+dumps_of _ = None
 
 -- the lines of a file are read first
 abbrev pub reads_file : Task → Bool

@@ -1,5 +1,5 @@
 -- The texts for command lines that the program refuses.
-use Rattle.std.specs.Prelude.{◌≡◌, ◌⊎◌, ◌++◌, ℕ, List, Option, Some, None, [], ◌∷◌, ⊤, false, true, codes, is_some, string_bytes}
+use Rattle.std.specs.Prelude.{◌≡◌, ◌⊎◌, ◌++◌, ℕ, List, Option, Some, None, [], ◌∷◌, ⊤, false, true, codes, is_some, string_bytes, IfErr, IfOk, Result}
 use Rattle.std.specs.Option.{option_map_or}
 use Rattle.clap.specs.Words.{Row, Text, fault_of, first_of, subcommand_of}
 use Rattle.clap.specs.declared.error.kind.ErrorKind.TheVariants.{DisplayVersion}
@@ -10,6 +10,7 @@ use Rattle.heapdbg_options.specs.declared.refusal.Mistake.{Mistake}
 use Rattle.heapdbg_options.specs.declared.refusal.Mistake.TheVariants.{Command, Regions, Mutators, Keep, Time, Ids, Port, Sessions, Workers, Questions, Roll, Dumps, To, Place, Source}
 use Rattle.heapdbg_options.specs.declared.settings.LineFault.{LineFault}
 use Rattle.heapdbg_options.specs.declared.settings.LineFault.TheVariants.{Bad, Memory}
+use Rattle.heapdbg_options.specs.declared.settings.Task.{Task}
 
 -- a value is given that is no number in this range
 abbrev pub IsOutside : ℕ → ℕ → Option Text → Type 0
@@ -48,6 +49,22 @@ IsMistakeIn Source rows =
 IsMistakeIn To rows = IsTargetMistake To (first_of (codes "out") rows) (first_of (codes "to") rows)
 IsMistakeIn Place rows =
     IsTargetMistake Place (first_of (codes "out") rows) (first_of (codes "to") rows)
+
+-- what is read, or why there is none: a mistake
+abbrev pub IsValueOrMistake : {A : Type 0} → Option A → (Mistake → Type 0) → Result A Mistake → Type 0
+IsValueOrMistake read IsMade result =
+    IfOk result (λ x. read ≡ Some x) × IfErr result (λ m. (read ≡ None) × IsMade m)
+
+-- the task of a command's options, or the mistake in them
+abbrev pub IsTaskOrMistake : (List Row → Option Task) → List Row → Result Task Mistake → Type 0
+IsTaskOrMistake read rows result = IsValueOrMistake (read rows) (λ m. IsMistakeIn m rows) result
+
+-- what is chosen by two options, or the mistake in them
+abbrev pub IsChoiceOrMistake : {A : Type 0} → (Option Text → Option Text → Option A)
+    → (Mistake → Option Text → Option Text → Type 0) → Option Text → Option Text
+    → Result A Mistake → Type 0
+IsChoiceOrMistake choose IsMade one other result =
+    IsValueOrMistake (choose one other) (λ m. IsMade m one other) result
 
 -- no command of the program is there
 abbrev pub IsNoTask : Option (Text × List Row) → Type 0

@@ -24,6 +24,21 @@ use heap_class::IdSize;
 use heap_world::{KEEP_LIMIT, MUTATOR_LIMIT, REGION_LIMIT};
 use std::alloc::{AllocError, Global};
 
+// The help for `--time`.
+const TIME_HELP: &str = "Milliseconds since 1970 in the header of a dump [default: 0]";
+
+// The help for `--ids`.
+const IDS_HELP: &str = "Bytes of an identifier in a dump, 4 or 8 [default: 8]";
+
+// The help for `--regions`.
+const REGIONS_HELP: &str = "Regions of the heap, 1 to 256 [default: 16]";
+
+// The help for `--mutators`.
+const MUTATORS_HELP: &str = "Mutators of the heap, 1 to 16 [default: 2]";
+
+// The help for `--keep`.
+const KEEP_HELP: &str = "Steps that can be undone, 1 to 65536 [default: 1024]";
+
 /// Returns the settings that the words ask for, the first of which is the program's name. Fails with Bad if they are no
 /// command line of this program or ask for help or for the version, and with Memory only if an allocation fails.
 pub fn settings(alloc: Global, words: &[&str]) -> Result<Settings, LineFault>
@@ -112,16 +127,8 @@ pub(crate) fn session_parser<'a>(
     ensures app { IfOk result (λ c. app_of c ≡ session_line name.entry.now) }
     ensures local { IfOk result (λ c. (out-Command c).has_globals ≡ false) }
 {
-    let time = value_arg(
-        alloc,
-        "time",
-        "Milliseconds since 1970 in the header of a dump [default: 0]",
-    );
-    let ids = value_arg(
-        alloc,
-        "ids",
-        "Bytes of an identifier in a dump, 4 or 8 [default: 8]",
-    );
+    let time = value_arg(alloc, "time", TIME_HELP);
+    let ids = value_arg(alloc, "ids", IDS_HELP);
     heap_parser(alloc, name, about)?.arg(time)?.arg(ids)
 }
 
@@ -130,21 +137,9 @@ fn heap_parser<'a>(alloc: Global, name: &'a str, about: &'a str) -> Result<Comma
     ensures app { IfOk result (λ c. app_of c ≡ heap_line name.entry.now) }
     ensures local { IfOk result (λ c. (out-Command c).has_globals ≡ false) }
 {
-    let regions = value_arg(
-        alloc,
-        "regions",
-        "Regions of the heap, 1 to 256 [default: 16]",
-    );
-    let mutators = value_arg(
-        alloc,
-        "mutators",
-        "Mutators of the heap, 1 to 16 [default: 2]",
-    );
-    let keep = value_arg(
-        alloc,
-        "keep",
-        "Steps that can be undone, 1 to 65536 [default: 1024]",
-    );
+    let regions = value_arg(alloc, "regions", REGIONS_HELP);
+    let mutators = value_arg(alloc, "mutators", MUTATORS_HELP);
+    let keep = value_arg(alloc, "keep", KEEP_HELP);
     Command::new(alloc, name)
         .about(about)
         .arg(regions)?

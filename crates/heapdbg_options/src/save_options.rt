@@ -1,9 +1,9 @@
 //! The command line of a session that is saved.
-ghost use Rattle.std.specs.Prelude.{◌≡◌, None, Some, false, option_map, IfErr, IfOk};
+ghost use Rattle.std.specs.Prelude.{◌≡◌, false, option_map, IfOk};
 ghost use Rattle.clap.specs.Words.{app_of, found_of, rows_of};
 ghost use Rattle.clap.specs.declared.builder.Command.TheViews.{out-Command};
 ghost use Rattle.heapdbg_options.specs.CommandLine.{save_in, save_line, target_in};
-ghost use Rattle.heapdbg_options.specs.Refusals.{IsMistakeIn, IsTargetMistake};
+ghost use Rattle.heapdbg_options.specs.Refusals.{IsChoiceOrMistake, IsTargetMistake, IsTaskOrMistake};
 
 use crate::command_line::{path_arg, questions_arg, session_parser, value_arg};
 use crate::refusal::Mistake;
@@ -12,21 +12,20 @@ use crate::socket_options::port_of;
 use clap::{ArgMatches, Command};
 use std::alloc::{AllocError, Global};
 
+// The help for `--out`.
+const OUT_HELP: &str = "File that the last state is dumped to; if not given, --to is required";
+
+// The help for `--to`.
+const TO_HELP: &str =
+    "Port on 127.0.0.1 that the last state is dumped to, 1 to 65535; if not given, --out is required";
+
 // Creates the parser of the command `save`.
 pub(crate) fn save_parser<'a>(alloc: Global) -> Result<Command<'a>, AllocError>
     ensures app { IfOk result (λ c. app_of c ≡ save_line) }
     ensures local { IfOk result (λ c. (out-Command c).has_globals ≡ false) }
 {
-    let out = path_arg(
-        alloc,
-        "out",
-        "File that the last state is dumped to; if not given, --to is required",
-    );
-    let to = value_arg(
-        alloc,
-        "to",
-        "Port on 127.0.0.1 that the last state is dumped to, 1 to 65535; if not given, --out is required",
-    );
+    let out = path_arg(alloc, "out", OUT_HELP);
+    let to = value_arg(alloc, "to", TO_HELP);
     let about =
         "Runs a session, and dumps the state that it leaves; one of --out and --to is required";
     let usage = "heapdbg save [OPTIONS] <--out <PATH>|--to <N>>";
@@ -36,9 +35,7 @@ pub(crate) fn save_parser<'a>(alloc: Global) -> Result<Command<'a>, AllocError>
 
 // Returns the task of the options of `save`: one of the two places has to be given.
 pub(crate) fn save_task(options: &ArgMatches<'_>) -> Result<Task, Mistake>
-    ensures ok { IfOk result (λ task. save_in (rows_of (found_of options.now)) ≡ Some task) }
-    ensures none { IfErr result (λ m. save_in (rows_of (found_of options.now)) ≡ None) }
-    ensures mistake { IfErr result (λ m. IsMistakeIn m (rows_of (found_of options.now))) }
+    ensures { IsTaskOrMistake save_in (rows_of (found_of options.now)) result }
 {
     let path = options.get_str("out");
     let port = options.get_str("to");
@@ -50,15 +47,8 @@ pub(crate) fn save_task(options: &ArgMatches<'_>) -> Result<Task, Mistake>
 
 // Returns the target of a dump of which this path or this port is given.
 fn target(path: Option<&str>, port: Option<&str>) -> Result<Target, Mistake>
-    ensures ok { IfOk result
-        (λ t. target_in (option_map (λ s. s.now) path.entry) (option_map (λ s. s.now) port.entry)
-        ≡ Some t) }
-    ensures none { IfErr result
-        (λ m. target_in (option_map (λ s. s.now) path.entry) (option_map (λ s. s.now) port.entry)
-        ≡ None) }
-    ensures mistake { IfErr result
-        (λ m. IsTargetMistake m (option_map (λ s. s.now) path.entry)
-        (option_map (λ s. s.now) port.entry)) }
+    ensures { IsChoiceOrMistake target_in IsTargetMistake (option_map (λ s. s.now) path.entry)
+        (option_map (λ s. s.now) port.entry) result }
 {
     match path {
         Some(_) => match port {

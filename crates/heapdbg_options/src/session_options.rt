@@ -1,9 +1,9 @@
 //! The command lines of the tasks between standard input and standard output.
-ghost use Rattle.std.specs.Prelude.{◌≡◌, None, Some, false, is_some, option_map, IfErr, IfOk};
+ghost use Rattle.std.specs.Prelude.{◌≡◌, false, option_map, IfOk};
 ghost use Rattle.clap.specs.Words.{app_of, found_of, rows_of};
 ghost use Rattle.clap.specs.declared.builder.Command.TheViews.{out-Command};
 ghost use Rattle.heapdbg_options.specs.CommandLine.{draw_line, explore_in, explore_line, explore_with, run_line};
-ghost use Rattle.heapdbg_options.specs.Refusals.{IsExploreMistake, IsMistakeIn};
+ghost use Rattle.heapdbg_options.specs.Refusals.{IsChoiceOrMistake, IsExploreMistake, IsTaskOrMistake};
 
 use crate::command_line::{path_arg, questions_arg, session_parser, value_arg};
 use crate::refusal::Mistake;
@@ -21,6 +21,13 @@ pub(crate) fn run_parser<'a>(alloc: Global) -> Result<Command<'a>, AllocError>
     session_parser(alloc, "run", about)?.arg(questions_arg(alloc))
 }
 
+// The help for `--port`.
+const ASK_PORT_HELP: &str =
+    "Port on 127.0.0.1 of a heap that is served, to ask about that, 1 to 65535; not with --from";
+
+// The help for `--from`.
+const FROM_HELP: &str = "File of lines that are run first; their replies are not shown";
+
 // Creates the parser of the command `explore`.
 pub(crate) fn explore_parser<'a>(alloc: Global) -> Result<Command<'a>, AllocError>
     ensures app { IfOk result (λ c. app_of c ≡ explore_line) }
@@ -28,16 +35,8 @@ pub(crate) fn explore_parser<'a>(alloc: Global) -> Result<Command<'a>, AllocErro
 {
     let about =
         "Reads commands and questions from standard input and writes answers to standard output";
-    let from = path_arg(
-        alloc,
-        "from",
-        "File of lines that are run first; their replies are not shown",
-    );
-    let port = value_arg(
-        alloc,
-        "port",
-        "Port on 127.0.0.1 of a heap that is served, to ask about that, 1 to 65535; not with --from",
-    );
+    let from = path_arg(alloc, "from", FROM_HELP);
+    let port = value_arg(alloc, "port", ASK_PORT_HELP);
     session_parser(alloc, "explore", about)?
         .arg(from)?
         .arg(port)
@@ -56,9 +55,7 @@ pub(crate) fn draw_parser<'a>(alloc: Global) -> Result<Command<'a>, AllocError>
 // Returns the task of the options of `explore`, or the mistake in them: a file of lines is run first, or the questions are about
 // a heap that is served.
 pub(crate) fn explore_task(options: &ArgMatches<'_>) -> Result<Task, Mistake>
-    ensures ok { IfOk result (λ task. explore_in (rows_of (found_of options.now)) ≡ Some task) }
-    ensures none { IfErr result (λ m. explore_in (rows_of (found_of options.now)) ≡ None) }
-    ensures mistake { IfErr result (λ m. IsMistakeIn m (rows_of (found_of options.now))) }
+    ensures { IsTaskOrMistake explore_in (rows_of (found_of options.now)) result }
 {
     let from = options.get_str("from");
     let port = options.get_str("port");
@@ -70,15 +67,8 @@ pub(crate) fn explore_task(options: &ArgMatches<'_>) -> Result<Task, Mistake>
 
 // Returns the task of `explore` to which this file or this port is given.
 fn choose_task(from: Option<&str>, port: Option<&str>) -> Result<Task, Mistake>
-    ensures ok { IfOk result
-        (λ t. explore_with (option_map (λ s. s.now) from.entry) (option_map (λ s. s.now) port.entry)
-        ≡ Some t) }
-    ensures none { IfErr result
-        (λ m. explore_with (option_map (λ s. s.now) from.entry) (option_map (λ s. s.now) port.entry)
-        ≡ None) }
-    ensures mistake { IfErr result
-        (λ m. IsExploreMistake m (option_map (λ s. s.now) from.entry)
-        (option_map (λ s. s.now) port.entry)) }
+    ensures { IsChoiceOrMistake explore_with IsExploreMistake (option_map (λ s. s.now) from.entry)
+        (option_map (λ s. s.now) port.entry) result }
 {
     let Some(text) = port else {
         let from = from.is_some();

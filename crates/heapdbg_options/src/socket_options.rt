@@ -1,9 +1,9 @@
 //! The command lines of the tasks over sockets.
-ghost use Rattle.std.specs.Prelude.{◌≡◌, None, Some, codes, false, option_and_then, IfErr, IfOk};
+ghost use Rattle.std.specs.Prelude.{◌≡◌, codes, false, option_and_then, IfOk};
 ghost use Rattle.clap.specs.Words.{app_of, first_of, found_of, rows_of, rule_of};
 ghost use Rattle.clap.specs.declared.builder.Command.TheViews.{out-Command};
 ghost use Rattle.heapdbg_options.specs.CommandLine.{ask_in, ask_line, dumps_with, fetch_in, fetch_line, number_in, other_port, port_in, port_limit, port_option, serve_in, serve_line, staffed_line};
-ghost use Rattle.heapdbg_options.specs.Refusals.{IsMistakeIn};
+ghost use Rattle.heapdbg_options.specs.Refusals.{IsTaskOrMistake};
 
 use crate::command_line::{
     number, option_value, path_arg, questions_arg, session_parser, value_arg,
@@ -22,21 +22,27 @@ const SESSION_LIMIT: u64 = 1000;
 // The largest number of markers, and of sweepers.
 const WORKER_LIMIT: u64 = 1;
 
+// The help for `--dumps`.
+const DUMPS_HELP: &str =
+    "Port on 127.0.0.1 that sends a dump to each client, 1 to 65535 [default: none]";
+
+// The help for `--roll`.
+const ROLL_HELP: &str =
+    "Whether the heap drops old acts in place of refusing new ones, 0 or 1 [default: 0]";
+
+// The help for `--sessions`.
+const SESSIONS_HELP: &str = "Sessions over the one heap, 1 to 1000 [default: 1]";
+
+// The help for `--workers`.
+const WORKERS_HELP: &str = "Threads that mark, and threads that sweep, 0 or 1 of each [default: 0]";
+
 // Creates the parser of the command `serve`.
 pub(crate) fn serve_parser<'a>(alloc: Global) -> Result<Command<'a>, AllocError>
     ensures app { IfOk result (λ c. app_of c ≡ serve_line) }
     ensures local { IfOk result (λ c. (out-Command c).has_globals ≡ false) }
 {
-    let dumps = value_arg(
-        alloc,
-        "dumps",
-        "Port on 127.0.0.1 that sends a dump to each client, 1 to 65535 [default: none]",
-    );
-    let roll = value_arg(
-        alloc,
-        "roll",
-        "Whether the heap drops old acts in place of refusing new ones, 0 or 1 [default: 0]",
-    );
+    let dumps = value_arg(alloc, "dumps", DUMPS_HELP);
+    let roll = value_arg(alloc, "roll", ROLL_HELP);
     staffed_parser(alloc)?
         .arg(dumps)?
         .arg(questions_arg(alloc))?
@@ -48,16 +54,8 @@ fn staffed_parser<'a>(alloc: Global) -> Result<Command<'a>, AllocError>
     ensures app { IfOk result (λ c. app_of c ≡ staffed_line) }
     ensures local { IfOk result (λ c. (out-Command c).has_globals ≡ false) }
 {
-    let sessions = value_arg(
-        alloc,
-        "sessions",
-        "Sessions over the one heap, 1 to 1000 [default: 1]",
-    );
-    let workers = value_arg(
-        alloc,
-        "workers",
-        "Threads that mark, and threads that sweep, 0 or 1 of each [default: 0]",
-    );
+    let sessions = value_arg(alloc, "sessions", SESSIONS_HELP);
+    let workers = value_arg(alloc, "workers", WORKERS_HELP);
     let about = "Serves sessions over one heap to clients on 127.0.0.1, and tells how each ended";
     session_parser(alloc, "serve", about)?
         .arg(port_arg(alloc))?
@@ -99,9 +97,7 @@ fn port_arg<'a>(alloc: Global) -> Arg<'a>
 
 // Returns the task of the options of `serve`, or the mistake in them.
 pub(crate) fn serve_task(options: &ArgMatches<'_>) -> Result<Task, Mistake>
-    ensures ok { IfOk result (λ task. serve_in (rows_of (found_of options.now)) ≡ Some task) }
-    ensures none { IfErr result (λ m. serve_in (rows_of (found_of options.now)) ≡ None) }
-    ensures mistake { IfErr result (λ m. IsMistakeIn m (rows_of (found_of options.now))) }
+    ensures { IsTaskOrMistake serve_in (rows_of (found_of options.now)) result }
 {
     let Some(port) = port(options) else {
         return Err(Mistake::Port);
@@ -155,9 +151,7 @@ fn other_port(port: u16, dumps: u16) -> Option<Option<u16>>
 
 // Returns the task of the options of `fetch`, or the mistake in them.
 pub(crate) fn fetch_task(options: &ArgMatches<'_>) -> Result<Task, Mistake>
-    ensures ok { IfOk result (λ task. fetch_in (rows_of (found_of options.now)) ≡ Some task) }
-    ensures none { IfErr result (λ m. fetch_in (rows_of (found_of options.now)) ≡ None) }
-    ensures mistake { IfErr result (λ m. IsMistakeIn m (rows_of (found_of options.now))) }
+    ensures { IsTaskOrMistake fetch_in (rows_of (found_of options.now)) result }
 {
     match port(options) {
         Some(port) => Ok(Task::Fetch { port }),
@@ -167,9 +161,7 @@ pub(crate) fn fetch_task(options: &ArgMatches<'_>) -> Result<Task, Mistake>
 
 // Returns the task of the options of `ask`, or the mistake in them.
 pub(crate) fn ask_task(options: &ArgMatches<'_>) -> Result<Task, Mistake>
-    ensures ok { IfOk result (λ task. ask_in (rows_of (found_of options.now)) ≡ Some task) }
-    ensures none { IfErr result (λ m. ask_in (rows_of (found_of options.now)) ≡ None) }
-    ensures mistake { IfErr result (λ m. IsMistakeIn m (rows_of (found_of options.now))) }
+    ensures { IsTaskOrMistake ask_in (rows_of (found_of options.now)) result }
 {
     match port(options) {
         Some(port) => Ok(Task::Ask { port }),

@@ -10,7 +10,6 @@ use Rattle.std.proofs.lemmas.List.Sums.{prefix_len-le-length}
 use Rattle.heap_class.specs.declared.IdSize.{IdSize}
 use Rattle.heap_class.specs.declared.IdSize.TheVariants.{Four, Eight}
 use Rattle.heap_class.specs.declared.Kind.{Kind}
-use Rattle.heap_class.specs.declared.Kind.TheVariants.{Boolean, Char, Float, Double, Byte, Short, Int, Long}
 use Rattle.heap_class.specs.declared.Field.{Field}
 use Rattle.heap_class.specs.declared.ObjKind.{ObjKind}
 use Rattle.heap_class.specs.declared.ObjKind.TheVariants.{Instance, Array, Prim}
@@ -36,14 +35,7 @@ fits_id Eight n h = omega (arith, h)
 
 code_small : (k : Kind) → FitsBytes 1 (type_code k)
 code_small Kind.Object = omega arith
-code_small Boolean = omega arith
-code_small Char = omega arith
-code_small Float = omega arith
-code_small Double = omega arith
-code_small Byte = omega arith
-code_small Short = omega arith
-code_small Int = omega arith
-code_small Long = omega arith
+code_small _ = omega arith
 
 -- ---- the segments
 

@@ -12,6 +12,7 @@ pub mod Fits
 pub mod Ids
 pub mod PieceCounts
 pub mod Loops
+pub mod ClassItems
 pub mod WrittenRecords
 pub mod NumberedPieces
 pub mod ViewedObjects

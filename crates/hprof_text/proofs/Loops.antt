@@ -8,7 +8,7 @@ use Rattle.std.proofs.lemmas.List.Sums.{sum_by_more}
 use Rattle.std.proofs.lemmas.List.Concat.{flat_map-append}
 use Rattle.std.proofs.lemmas.List.Folds.{length-flat_map-take}
 use Rattle.std.proofs.lemmas.List.FromFn.{get_or-enumerate_from, length-enumerate_from}
-use Rattle.std.proofs.lemmas.Slice.Zip.{get_or-zip}
+use Rattle.std.proofs.lemmas.Slice.Zip.{get_or-zip, length-zip}
 use Rattle.std.proofs.lemmas.Option.{get_or_from_slice_get, slice_get-map, slice_get-get_or}
 use Rattle.heap_class.specs.declared.IdSize.{IdSize}
 use Rattle.heap_class.specs.declared.Kind.{Kind}
@@ -58,6 +58,27 @@ item_numbered {X} n m xs i x e h d = ap₂ (λ (a : ℕ) (b : X). let p : ℕ ×
 pub item_zipped : {A B : Type 0} (ks : List A) (ws : List B) (i : ℕ) (k : A) (w : B) → i < length ks → i < length ws → k ≡ get_or ks i k → w ≡ get_or ws i w → ◌≡◌ {A = A × B} (k, w) (get_or (zip ks ws) i (k, w))
 item_zipped {A} {B} ks ws i k w h g a b = ap₂ (λ (x : A) (y : B). let p : A × B = (x, y) in p) a b ∙ sym (get_or-zip ks ws i (k, w) h g)
 
+-- two lists at once
+zipped_at : {A B : Type 0} (ks : List A) (ws : List B) (i : ℕ) (a : A) (b : B) → length ws ≡ length ks → i < length ks → ◌≡◌ {A = A × B} (get_or ks i a, get_or ws i b) (get_or (zip ks ws) i (get_or ks i a, get_or ws i b))
+zipped_at ks ws i a b same h = let g : i < length ws = omega (arith, same, h) in item_zipped ks ws i (get_or ks i a) (get_or ws i b) h g (item_at ks i a h) (item_at ws i b g)
+
+pub room_zipped : {A B : Type 0} (f : A × B → List ℕ) (ks : List A) (ws : List B) (i limit : ℕ) (a : A) (b : B) (old now : List ℕ) → length ws ≡ length ks → i < length ks → IsSoFar f (zip ks ws) i old now → length old + length (flat_map f (zip ks ws)) ≤ limit
+    → length now + length (f (get_or ks i a, get_or ws i b)) ≤ limit
+room_zipped f ks ws i limit a b old now same h s room = so_far_room f (zip ks ws) old now i limit (get_or ks i a, get_or ws i b) (omega (arith, length-zip ks ws, same, h)) (zipped_at ks ws i a b same h) s room
+
+pub more_zipped : {A B : Type 0} (f : A × B → List ℕ) (ks : List A) (ws : List B) (i : ℕ) (a : A) (b : B) (old now new : List ℕ) → length ws ≡ length ks → i < length ks → IsSoFar f (zip ks ws) i old now → new ≡ now ++ f (get_or ks i a, get_or ws i b)
+    → IsSoFar f (zip ks ws) (i + 1) old new
+more_zipped f ks ws i a b old now new same h s n = so_far_more f (zip ks ws) old now new i (get_or ks i a, get_or ws i b) (omega (arith, length-zip ks ws, same, h)) (zipped_at ks ws i a b same h) s n
+
+-- items by their numbers
+pub room_numbered : {X : Type 0} (f : ℕ × X → List ℕ) (first : ℕ) (xs : List X) (i m limit : ℕ) (x : X) (old now : List ℕ) → m ≡ first + i → i < length xs → x ≡ get_or xs i x → IsSoFar f (enumerate_from first xs) i old now → length old + length (flat_map f (enumerate_from first xs)) ≤ limit
+    → length now + length (f (m, x)) ≤ limit
+room_numbered f first xs i m limit x old now e h d s room = so_far_room f (enumerate_from first xs) old now i limit (m, x) (omega (arith, length-enumerate_from first xs, h)) (item_numbered first m xs i x e h d) s room
+
+pub more_numbered : {X : Type 0} (f : ℕ × X → List ℕ) (first : ℕ) (xs : List X) (i m : ℕ) (x : X) (old now new : List ℕ) → m ≡ first + i → i < length xs → x ≡ get_or xs i x → IsSoFar f (enumerate_from first xs) i old now → new ≡ now ++ f (m, x)
+    → IsSoFar f (enumerate_from first xs) (i + 1) old new
+more_numbered f first xs i m x old now new e h d s n = so_far_more f (enumerate_from first xs) old now new i (m, x) (omega (arith, length-enumerate_from first xs, h)) (item_numbered first m xs i x e h d) s n
+
 pub some_item : {X : Type 0} (xs : List X) (i : ℕ) → i < length xs → (x : X) × (slice_get xs i ≡ Some x)
 some_item [] i h = absurd (omega (arith, h))
 some_item (x ∷ xs) zero h = (x, refl)
@@ -78,6 +99,19 @@ field_is ids classes fs i n kind f e a b =
     let P : Option Field → Type 0 = λ o. IfSome o (λ f. n ≡ name_id classes f.name) in
     let Q : Option Field → Type 0 = λ o. IfSome o (λ f. kind ≡ f.kind) in
     ap₂ (λ m k. field_bytes ids m k) (subst P e a) (subst Q e b)
+
+pub room_field : (ids : IdSize) (classes : List Class) (fs : List Field) (i n limit : ℕ) (kind : Kind) (old now : List ℕ) → i < length fs → IfSome (slice_get fs i) (λ f. n ≡ name_id classes f.name) → IfSome (slice_get fs i) (λ f. kind ≡ f.kind) → IsSoFar (field_entry ids classes) fs i old now
+    → length old + length (flat_map (field_entry ids classes) fs) ≤ limit → length now + length (field_bytes ids n kind) ≤ limit
+room_field ids classes fs i n limit kind old now h a b s room =
+    let p = some_item fs i h in
+    let r = so_far_room (field_entry ids classes) fs old now i limit p.0 h (item_got fs i p.0 p.1) s room in
+    omega (arith, r, ap length (field_is ids classes fs i n kind p.0 p.1 a b))
+
+pub more_field : (ids : IdSize) (classes : List Class) (fs : List Field) (i n : ℕ) (kind : Kind) (old now new : List ℕ) → i < length fs → IfSome (slice_get fs i) (λ f. n ≡ name_id classes f.name) → IfSome (slice_get fs i) (λ f. kind ≡ f.kind) → IsSoFar (field_entry ids classes) fs i old now
+    → new ≡ now ++ field_bytes ids n kind → IsSoFar (field_entry ids classes) fs (i + 1) old new
+more_field ids classes fs i n kind old now new h a b s e =
+    let p = some_item fs i h in
+    so_far_more (field_entry ids classes) fs old now new i p.0 h (item_got fs i p.0 p.1) s (e ∙ ap (λ l. now ++ l) (field_is ids classes fs i n kind p.0 p.1 a b))
 
 -- ---- a sub-record of each class
 

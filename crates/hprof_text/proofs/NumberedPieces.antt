@@ -193,6 +193,13 @@ is_next ids image (x ∷ xs) i body h e b =
       end = λ z. absurd (omega (arith, z, ap length e, body_more x xs some));
     }
 
+-- by what an empty segment was filled to, from a cursor on
+pub filled_next : (ids : IdSize) (image : Image) (places : List ObjRef) (cursor next : Cursor) (rest : List (List ℕ)) (i : ℕ) (begun body : List ℕ) → begun ≡ [] → IsRest ids image places cursor rest → IsFilledTo ids image places rest next begun body → IsBefore ids image rest i
+    → IsNext ids image rest i body × IsRest ids image places next (body_filled [] rest).1
+filled_next ids image places cursor next rest i begun body empty r filled b =
+    let f = subst (λ s. IsFilledTo ids image places rest next s body) empty filled in
+    (is_next ids image rest i body (rest_some ids image places cursor rest r) f.0 b, f.1)
+
 -- ---- the ends
 
 -- the first sub-record is the first of a class, where there is one

@@ -1,5 +1,5 @@
 -- What a view tells of the object at a place.
-use Rattle.std.proofs.Common.{◌≡◌, ◌≤◌, ◌<◌, ℕ, ◌+◌, List, length, get_or, sym, ap, ap₂, ◌∙◌, subst, arith, inl, inr}
+use Rattle.std.proofs.Common.{◌≡◌, ◌≤◌, ◌<◌, ℕ, ◌+◌, ◌-◌, List, length, get_or, sym, ap, ap₂, ◌∙◌, subst, arith, inl, inr}
 use Rattle.std.specs.Option.{option_map}
 use Rattle.std.proofs.lemmas.List.{length-map}
 use Rattle.std.specs.Prelude.{slice_get, Option, Some, None, IfSome, Contains}
@@ -55,6 +55,24 @@ object_bytes_are ids image j o s cs x kind words e a b i k w =
     let X : Option DumpedObject → Type 0 = λ y. IfSome y (λ o. x ≡ o.id) in
     ap₂ (λ t ds. dump_of t ds x kind words) a b ∙ ap₂ (λ y m. dump_of ids image.classes y m words) (subst X e i) k ∙ ap (dump_of ids image.classes o.id o.kind) w
 
+-- the object that a loop over the places has come to
+pub record IsVisited (image : Image) (places : List ObjRef) (i : ℕ) (at : ObjRef) : Type 0 where
+  pub led : slice_get places i ≡ Some at
+  pub passed : i + 1 ≤ length places
+  pub object : DumpedObject
+  pub there : slice_get image.objects i ≡ Some object
+
+pub visited : (image : Image) (places : List ObjRef) (i : ℕ) (next : Option ObjRef) (at : ObjRef) → next ≡ slice_get places i → next ≡ Some at → length places ≡ length image.objects → IsVisited image places i at
+visited image places i next at e is placed =
+    let led : slice_get places i ≡ Some at = sym e ∙ is in
+    let within = slice_get_within places i at led in
+    let o = some_item image.objects i (omega (arith, within, placed)) in
+    record { led = led; passed = omega (arith, within); object = o.0; there = o.1 }
+
+-- fewer are left after it
+pub fewer_left : (places : List ObjRef) (i : ℕ) (next : Option ObjRef) (at : ObjRef) → next ≡ slice_get places i → next ≡ Some at → length places - (i + 1) < length places - i
+fewer_left places i next at e is = let led : slice_get places i ≡ Some at = sym e ∙ is in omega (arith, slice_get_within places i at led)
+
 -- the next place is within the places or just past them
 pub within : (places : List ObjRef) (j : ℕ) (at : ObjRef) → slice_get places j ≡ Some at → j + 1 ≤ length places
 within places j at e = omega (arith, slice_get_within places j at e)
@@ -65,6 +83,10 @@ none_left places j e = elim (slice_get_cases places j).1 [ inl p ↦ absurd (non
   where
     none_some : (x : ObjRef) → ◌≡◌ {A = Option ObjRef} None (Some x) → ⊥
     none_some x e = cc
+
+-- and all have been passed
+pub all_visited : (image : Image) (places : List ObjRef) (i : ℕ) (next : Option ObjRef) → next ≡ slice_get places i → next ≡ None → i ≤ length places → length places ≡ length image.objects → i ≡ length image.objects
+all_visited image places i next e none passed placed = omega (arith, none_left places i (sym none ∙ e), passed, placed)
 
 -- the record of the object at place i, by what a view tells of it
 pub object_record : (ids : IdSize) (image : Image) (places : List ObjRef) (i : ℕ) (at : ObjRef) (s : IdSize) (cs : List Class) (x : ℕ) (kind : ObjKind) (words : List ℕ) → IsDumpable image → length places ≡ length image.objects → slice_get places i ≡ Some at

@@ -12,14 +12,10 @@ use Rattle.dump_pump.specs.declared.source.Ending.{Ending}
 use Rattle.dump_pump.specs.declared.source.Ending.TheVariants as End
 use Rattle.dump_pump.specs.declared.source.Next.{Next}
 use Rattle.dump_pump.specs.declared.source.Next.TheVariants.{Part, Lost, Cancelled}
-use Rattle.dump_pump.specs.Sources.{IsNextPart}
+use Rattle.dump_pump.specs.Sources.{IsNextPart, parts_with}
 use Rattle.heap_lock.specs.Calls.{Call, Witnesses}
 use Rattle.heap_lock.specs.Sources.{Supplies, count_after, locked_supply as untold}
-use Rattle.live_dump.specs.Supplies.{ToldSupply, AreGiven, AllLegal, WasReplied, MayEnd, IsSupplied, told_supply, pieces_in, pieces_with, ended_with}
-
-pub pieces_push : (entries : List (Piece × Unit {0})) (p : Piece) → pieces_in (entries ++ (p, tt) ∷ []) ≡ pieces_in entries ++ p ∷ []
-pieces_push [] p = refl
-pieces_push (e ∷ es) p = ap (λ l. e.0 ∷ l) (pieces_push es p)
+use Rattle.live_dump.specs.Supplies.{ToldSupply, AreGiven, AllLegal, WasReplied, MayEnd, IsSupplied, told_supply, ended_with}
 
 legal_push : (ids : IdSize) (time : ℕ) (ps : List Piece) (p : Piece) → AllLegal ids time ps → IsPieceOfLegal ids time p → AllLegal ids time (ps ++ p ∷ [])
 legal_push ids time [] p all is = (is, tt)
@@ -78,7 +74,7 @@ ends_whole pin time start given seen ended false may = may
 -- ---- the source
 
 abbrev told_with : ToldSupply → List Call → ℕ → Next → ToldSupply
-told_with t seen2 count2 r = record t { seen = seen2; given = pieces_with t.given r; count = count2; ended = ended_with t.ended r }
+told_with t seen2 count2 r = record t { seen = seen2; given = parts_with t.given r; count = count2; ended = ended_with t.ended r }
 
 supplied : (config : HeapSettings) (t : ToldSupply) (seen2 : List Call) (count2 : ℕ) (r : Next) → Supplies config t.pin t.time t.count t.seen seen2 r → count2 ≡ count_after t.count r → IsSupplied config t → IsSupplied config (told_with t seen2 count2 r)
 supplied config t seen2 count2 (Part q) (inl u) count s =
@@ -110,13 +106,13 @@ supplied config t seen2 count2 r (inr u) count s =
     } in
     subst (λ (x : ℕ × Next). IsSupplied config (told_with t seen2 x.0 x.1)) (λ k. (sym (count ∙ ap (count_after t.count) u.4) k, sym u.4 k)) lost
 
-pub told_next : (given : List Piece) (ended before after : Option Ending) (count count2 : ℕ) (r : Next) → IsNextPart (untold count before) (untold count2 after) r → IsNextPart (told_supply given count ended) (told_supply (pieces_with given r) count2 (ended_with ended r)) r
+pub told_next : (given : List Piece) (ended before after : Option Ending) (count count2 : ℕ) (r : Next) → IsNextPart (untold count before) (untold count2 after) r → IsNextPart (told_supply given count ended) (told_supply (parts_with given r) count2 (ended_with ended r)) r
 told_next given ended before after count count2 (Part p) h = (refl, h.1, h.2, h.3, λ last. ap (λ b. if b then Some End.Whole else ended) last)
 told_next given ended before after count count2 (Lost cause) h = (refl, refl)
 told_next given ended before after count count2 Cancelled h = (refl, refl)
 
 -- the same, at values that are known
-pub supplied_as : (config : HeapSettings) (t : ToldSupply) (pin2 time2 count2 : ℕ) (seen2 : List Call) (given2 : List Piece) (ended2 : Option Ending) (r : Next) → pin2 ≡ t.pin → time2 ≡ t.time → given2 ≡ pieces_with t.given r → ended2 ≡ ended_with t.ended r
+pub supplied_as : (config : HeapSettings) (t : ToldSupply) (pin2 time2 count2 : ℕ) (seen2 : List Call) (given2 : List Piece) (ended2 : Option Ending) (r : Next) → pin2 ≡ t.pin → time2 ≡ t.time → given2 ≡ parts_with t.given r → ended2 ≡ ended_with t.ended r
     → Supplies config t.pin t.time t.count t.seen seen2 r → count2 ≡ count_after t.count r → IsSupplied config t
     → IsSupplied config (record { pin = pin2; time = time2; start = t.start; seen = seen2; given = given2; count = count2; ended = ended2 })
 supplied_as config t pin2 time2 count2 seen2 given2 ended2 r a b c d is count s =

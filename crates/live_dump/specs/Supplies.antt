@@ -1,5 +1,5 @@
 -- What a source over the lock gave, and how it ended.
-use Rattle.std.specs.Prelude.{◌≡◌, ℕ, ◌+◌, ◌-◌, ◌≤◌, ◌⊎◌, false, List, [], ◌∷◌, ◌++◌, map, length, Option, Some, None, if◌then◌else◌}
+use Rattle.std.specs.Prelude.{◌≡◌, ℕ, ◌+◌, ◌-◌, ◌≤◌, ◌⊎◌, false, List, [], ◌∷◌, ◌++◌, length, Option, Some, None, if◌then◌else◌}
 use mathlib.Core.List.{IsPrefix}
 use Rattle.heap_lock.specs.IdSize.{IdSize}
 use Rattle.heap_lock.specs.LostCause.{LostCause}
@@ -43,6 +43,11 @@ nothing_of pin time calls =
       ended = None;
     }
 
+-- one that gave these pieces, while its witness saw these calls
+abbrev pub supply_of : ℕ → ℕ → List Call → List Call → List Piece → ℕ → Option Ending → ToldSupply
+supply_of pin time start seen given count ended =
+    record (nothing_of pin time start) { seen = seen; given = given; count = count; ended = ended }
+
 -- what is seen of a source that tells its pieces
 abbrev pub told_supply : List Piece → ℕ → Option Ending → Supply
 told_supply given count ended =
@@ -52,16 +57,6 @@ told_supply given count ended =
 abbrev pub first_calls : List (List Call × Unit {0}) → List Call
 first_calls [] = []
 first_calls (e ∷ es) = e.0
-
--- the pieces of a log
-abbrev pub pieces_in : List (Piece × Unit {0}) → List Piece
-pieces_in entries = map (λ e. e.0) entries
-
--- the pieces given, with what is given next
-abbrev pub pieces_with : List Piece → Next → List Piece
-pieces_with given (Part p) = given ++ p ∷ []
-pieces_with given (Lost cause) = given
-pieces_with given Cancelled = given
 
 -- how a source ended, with what it gives next
 abbrev pub ended_with : Option Ending → Next → Option Ending

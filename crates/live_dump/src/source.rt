@@ -1,7 +1,8 @@
 //! A source over the lock that tells what it gave.
 ghost use Rattle.std.specs.Prelude.{◌≡◌, ◌<◌};
 ghost use Rattle.heap_lock.specs.Calls.{IsLegalLedger};
-ghost use Rattle.live_dump.specs.Supplies.{IsSupplied, pieces_in, ended_with, pieces_with, nothing_of};
+ghost use Rattle.dump_pump.specs.Sources.{parts_in, parts_with};
+ghost use Rattle.live_dump.specs.Supplies.{IsSupplied, ended_with, nothing_of};
 
 use dump_pump::source::PART_LIMIT;
 use dump_pump::{Ending, Log, Next, Piece, Source};
@@ -20,36 +21,22 @@ pub struct ToldSource<'a, L: Heap, R: Wait> {
 }
 
 impl<'a, L: Heap, R: Wait> Model for ToldSource<'a, L, R> {
-    ghost use Rattle.live_dump.specs.Supplies.{ToldSupply, IsSupplied, first_calls, pieces_in};
+    ghost use Rattle.dump_pump.specs.Sources.{parts_in};
+    ghost use Rattle.live_dump.specs.Supplies.{ToldSupply, IsSupplied, first_calls, supply_of};
 
     ghost Value = { ToldSupply };
 
-    ghost view = { λ s.
-        record {
-          pin = s.source.pin;
-          time = s.source.time;
-          start = first_calls s.start.items;
-          seen = s.source.witness;
-          given = pieces_in s.given.items;
-          count = s.source.count;
-          ended = s.ended;
-        } };
+    ghost view = { λ s. supply_of s.source.pin s.source.time (first_calls s.start.items)
+        s.source.witness (parts_in s.given.items) s.source.count s.ended };
 
     ghost invariant = { λ s. IsSupplied L.config
-        (record {
-          pin = s.source.pin;
-          time = s.source.time;
-          start = first_calls s.start.items;
-          seen = s.source.witness;
-          given = pieces_in s.given.items;
-          count = s.source.count;
-          ended = s.ended;
-        }) };
+        (supply_of s.source.pin s.source.time (first_calls s.start.items) s.source.witness
+        (parts_in s.given.items) s.source.count s.ended) };
 }
 
 // Notes what was given next, and how the source ended.
 fn note(given: &mut Log<Piece, ()>, ended: &mut Option<Ending>, next: &Next)
-    ensures given { pieces_in given.new.items ≡ pieces_with (pieces_in given.old.items) next.now }
+    ensures given { parts_in given.new.items ≡ parts_with (parts_in given.old.items) next.now }
     ensures ended { ended.new ≡ ended_with ended.old next.now }
 {
     match next {

@@ -4,7 +4,7 @@ use Rattle.std.specs.Prelude.{Option, codes, slice_index, take}
 use Rattle.std.specs.Str.{bytes_eq}
 use Rattle.std.proofs.lemmas.Slice.Eq.{bytes_eq-Decides}
 use Rattle.session_grammar.specs.declared.command.Command.TheVariants.{Bad}
-use Rattle.session_grammar.specs.Grammar.{access_rules, all_rules, by_rule, class_rules, command_of_text, command_of_words, is_plain, making_rules, marking_rules, session_rules, words_of_line}
+use Rattle.session_grammar.specs.Grammar.{access_rules, all_rules, by_rule, class_rules, command_of_text, command_of_words, making_rules, marking_rules, session_rules, words_of_line}
 use Rattle.session_text.specs.declared.commands.Local.{Local}
 use Rattle.question_text.specs.declared.asking.Asking.{Asking}
 use Rattle.question_text.specs.declared.question.Question.{Question}
@@ -14,6 +14,7 @@ use Rattle.question_text.specs.Comments.{is_comment, is_comment_words, unasked_t
 use Rattle.question_text.specs.Help.{help_or_bad}
 use Rattle.question_text.specs.Questions.{past_rules, question_of_words, question_rules}
 use Rattle.question_text.specs.Sessions.{AnswersLine, AskingAnswers}
+use Rattle.question_text.proofs.NewWords.{bad_words}
 
 -- the first byte of the first word
 first_byte : (b : ℕ) (v : List ℕ) → bytes_eq (take 1 (b ∷ v)) (codes "#") ≡ true → b ≡ 35
@@ -36,11 +37,7 @@ by_words ((b ∷ v) ∷ ws) e =
     subst (λ (x : ℕ). command_of_words ((x ∷ v) ∷ ws) ≡ Bad) (sym (first_byte b v e)) (let none = no_rule v ws in rw none refl)
 
 pub comments_no_command : (l : List ℕ) → is_comment l ≡ true → command_of_text l ≡ Bad
-comments_no_command l e = go (is_plain l)
-  where
-    go : (b : Bool) → cond b (command_of_words (words_of_line l)) Bad ≡ Bad
-    go true = by_words (words_of_line l) e
-    go false = refl
+comments_no_command l e = bad_words l (by_words (words_of_line l) e)
 
 -- ---- questions
 

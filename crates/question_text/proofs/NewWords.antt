@@ -14,6 +14,14 @@ use Rattle.question_text.specs.Help.{help_about, help_of, help_of_words}
 use Rattle.question_text.specs.Questions.{QuestionRule, past_rules, question_by, question_of, question_of_words, question_rules}
 use Rattle.question_text.specs.Sessions.{AnswersLine, AskingAnswers}
 
+-- a line whose words are no command is none
+pub bad_words : (l : List ℕ) → command_of_words (words_of_line l) ≡ Bad → command_of_text l ≡ Bad
+bad_words l e = go (is_plain l)
+  where
+    go : (b : Bool) → cond b (command_of_words (words_of_line l)) Bad ≡ Bad
+    go true = e
+    go false = refl
+
 -- a keyword that no rule of sessions has
 abbrev IsNew : List ℕ → Type 0
 IsNew key = (ws : List (List ℕ)) → by_rule all_rules key ws ≡ None
@@ -52,20 +60,12 @@ by_help (w ∷ ws) text e = go (bytes_eq w (codes "help")) refl e
     go false h e = cc
 
 pub helps_no_command : (l text : List ℕ) → help_of l ≡ Some text → command_of_text l ≡ Bad
-helps_no_command l text e = go (is_plain l)
-  where
-    go : (b : Bool) → cond b (command_of_words (words_of_line l)) Bad ≡ Bad
-    go true = by_help (words_of_line l) text e
-    go false = refl
+helps_no_command l text e = bad_words l (by_help (words_of_line l) text e)
 
 -- ---- questions
 
 pub asks_no_command : (l : List ℕ) (q : Question) → question_of l ≡ Some q → command_of_text l ≡ Bad
-asks_no_command l q e = go (is_plain l)
-  where
-    go : (b : Bool) → cond b (command_of_words (words_of_line l)) Bad ≡ Bad
-    go true = by_words (words_of_line l) q e
-    go false = refl
+asks_no_command l q e = bad_words l (by_words (words_of_line l) q e)
 
 -- ---- collect
 
@@ -82,11 +82,7 @@ by_collect (w ∷ []) e = let none = subst IsNew (sym (collect_word w e)) collec
 by_collect (w ∷ v ∷ ws) e = absurd (cc e)
 
 pub collects_no_command : (l : List ℕ) → is_collect l ≡ true → command_of_text l ≡ Bad
-collects_no_command l e = go (is_plain l)
-  where
-    go : (b : Bool) → cond b (command_of_words (words_of_line l)) Bad ≡ Bad
-    go true = by_collect (words_of_line l) e
-    go false = refl
+collects_no_command l e = bad_words l (by_collect (words_of_line l) e)
 
 -- ---- no other line changes anything
 

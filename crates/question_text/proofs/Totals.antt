@@ -90,14 +90,7 @@ all_of m v is n (o ∷ os) within =
 
 code_small : (kind : Kind) → type_code kind < 12
 code_small Kind.Object = omega arith
-code_small Boolean = omega arith
-code_small Char = omega arith
-code_small Float = omega arith
-code_small Double = omega arith
-code_small Byte = omega arith
-code_small Short = omega arith
-code_small Int = omega arith
-code_small Long = omega arith
+code_small _ = omega arith
 
 kind_row : (classes : List Class) (kind : ObjKind) (n : ℕ) → IsKnown classes kind n → row_number kind < class_rows + length classes
 unfolding row_number
@@ -210,6 +203,17 @@ sums_small ids classes objects rows e each few =
     let a : (sum_of rows).objects ≡ length objects = ap (λ (r : Row). r.objects) t in
     let b : (sum_of rows).bytes ≡ (total_of ids classes objects).bytes = ap (λ (r : Row). r.bytes) t in
     (omega (arith, a, few), omega (arith, b, bytes_few ids classes objects each, few))
+
+-- so are those of all objects of an image, and of some of them
+pub all_small : (ids : IdSize) (image : Image) (rows : List Row) → IsDumpable image → rows ≡ rows_of ids image.classes image.objects → ((sum_of rows).objects < 2 ^ 64) × ((sum_of rows).bytes < 2 ^ 64)
+all_small ids image rows d e = sums_small ids image.classes image.objects rows e (countable image d) d.few_objects
+
+pub some_small : (ids : IdSize) (image : Image) (test : DumpedObject → Bool) (rows : List Row) → IsDumpable image → rows ≡ rows_of ids image.classes (filter test image.objects) → ((sum_of rows).objects < 2 ^ 64) × ((sum_of rows).bytes < 2 ^ 64)
+some_small ids image test rows d e = sums_small ids image.classes (filter test image.objects) rows e (some_countable image.classes test image.objects (countable image d)) (omega (arith, d.few_objects, filter_few test image.objects))
+
+-- the rows of classes as a view has them
+pub viewed_rows : (ids : IdSize) (classes seen : List Class) (objects : List DumpedObject) (rows : List Row) → rows ≡ rows_of ids classes objects → seen ≡ classes → length rows ≡ class_rows + length seen
+viewed_rows ids classes seen objects rows e same = ap length e ∙ row_count ids classes objects ∙ ap (λ (cs : List Class). class_rows + length cs) (sym same)
 
 -- the lines of rows and their sum count the objects
 pub as_count : (ids : IdSize) (classes : List Class) (objects : List DumpedObject) (rows : List Row) (text : List ℕ) → rows ≡ rows_of ids classes objects

@@ -1,3 +1,4 @@
+pub mod Appends
 pub mod Ids
 pub mod Questions
 pub mod Moments

@@ -1,12 +1,13 @@
 //! The answer of `classes`.
-ghost use Rattle.std.specs.Prelude.{◌≡◌, ◌++◌, ◌<◌, flat_map, length, IfErr, IfOk, OnOk};
+ghost use Rattle.std.specs.Prelude.{◌≡◌, ◌<◌, flat_map, length, IfErr, IfOk};
 ghost use Rattle.std.specs.List.{range_with_len};
 ghost use Rattle.heap_class.specs.Classes.{fields_of};
 ghost use Rattle.heap_class.specs.declared.Refusal.TheVariants.{NoMemory};
+ghost use Rattle.question_text.specs.Appends.{Appends};
 ghost use Rattle.question_text.specs.ClassLists.{IsClassesText, and_fields, class_text, field_words, super_words};
 
 use crate::referrers::push_count;
-use crate::rows::{push_number, push_words};
+use crate::rows::{push_number, push_row, push_words};
 use crate::show::field_name;
 use heap_class::{ClassNo, FirstClasses, Kind, Refusal};
 use hprof_text::View;
@@ -15,8 +16,7 @@ use std::alloc::Global;
 // Appends a space and a field. Fails with NoMemory.
 #[tactic(auto, unfolding(crate::specs::ClassLists::field_words))]
 fn push_field(text: &mut Vec<u8>, name: &[u8], kind: Kind) -> Result<(), Refusal>
-    ensures ok { OnOk result (text.new.items ≡ text.old.items ++ field_words name.now kind) }
-    ensures refused { IfErr result (λ e. e ≡ NoMemory) }
+    ensures { Appends (field_words name.now kind) text.old.items text.new.items result }
 {
     push_words(text, b" ")?;
     push_words(text, name)?;
@@ -31,9 +31,8 @@ fn push_own_fields(
     class: ClassNo,
 ) -> Result<(), Refusal>
     requires { class < length classes.now }
-    ensures ok { OnOk result
-        (text.new.items ≡ text.old.items ++ and_fields (fields_of classes.now class)) }
-    ensures refused { IfErr result (λ e. e ≡ NoMemory) }
+    ensures { Appends (and_fields (fields_of classes.now class))
+        text.old.items text.new.items result }
 {
     let count = classes.field_count(class);
     for field in 0..count {
@@ -48,8 +47,7 @@ fn push_own_fields(
 #[tactic(auto, unfolding(crate::specs::ClassLists::super_words))]
 fn push_super(text: &mut Vec<u8>, classes: &FirstClasses<'_>, class: ClassNo) -> Result<(), Refusal>
     requires { class < length classes.now }
-    ensures ok { OnOk result (text.new.items ≡ text.old.items ++ super_words classes.now class) }
-    ensures refused { IfErr result (λ e. e ≡ NoMemory) }
+    ensures { Appends (super_words classes.now class) text.old.items text.new.items result }
 {
     if classes.is_array(class) {
         return push_words(text, b" array");
@@ -64,11 +62,9 @@ fn push_super(text: &mut Vec<u8>, classes: &FirstClasses<'_>, class: ClassNo) ->
 #[tactic(auto, unfolding(crate::specs::ClassLists::class_text))]
 fn push_class(text: &mut Vec<u8>, classes: &FirstClasses<'_>, class: ClassNo) -> Result<(), Refusal>
     requires { class < length classes.now }
-    ensures ok { OnOk result (text.new.items ≡ text.old.items ++ class_text classes.now class) }
-    ensures refused { IfErr result (λ e. e ≡ NoMemory) }
+    ensures { Appends (class_text classes.now class) text.old.items text.new.items result }
 {
-    push_words(text, b"row")?;
-    push_number(text, class)?;
+    push_row(text, class)?;
     push_words(text, b" ")?;
     push_words(text, classes.name(class))?;
     push_super(text, classes, class)?;
@@ -78,9 +74,8 @@ fn push_class(text: &mut Vec<u8>, classes: &FirstClasses<'_>, class: ClassNo) ->
 
 // Appends the lines of all classes. Fails with NoMemory.
 fn push_classes(text: &mut Vec<u8>, classes: &FirstClasses<'_>) -> Result<(), Refusal>
-    ensures ok { OnOk result (text.new.items ≡ text.old.items
-        ++ flat_map (class_text classes.now) (range_with_len 0 (length classes.now))) }
-    ensures refused { IfErr result (λ e. e ≡ NoMemory) }
+    ensures { Appends (flat_map (class_text classes.now) (range_with_len 0 (length classes.now)))
+        text.old.items text.new.items result }
 {
     for class in 0..classes.len() {
         push_class(text, classes, class)?;

@@ -1,7 +1,8 @@
 //! The answer of `growth`.
-ghost use Rattle.std.specs.Prelude.{◌≡◌, ◌++◌, ◌<◌, ◌+◌, ◌≤◌, length, count_by, IfErr, IfOk, OnOk};
+ghost use Rattle.std.specs.Prelude.{◌≡◌, ◌++◌, ◌<◌, ◌+◌, ◌≤◌, length, count_by, IfErr, IfOk};
 ghost use Rattle.heap_class.specs.declared.Refusal.TheVariants.{NoMemory};
 ghost use Rattle.heap_questions.specs.Histogram.{class_rows};
+ghost use Rattle.question_text.specs.Appends.{Appends};
 ghost use Rattle.question_text.specs.Referrers.{count_text};
 ghost use Rattle.question_text.specs.Growths.{IsGrowthText, changed_text, changed_texts, differs};
 
@@ -30,9 +31,7 @@ fn push_change(
     change: Change,
 ) -> Result<(), Refusal>
     requires { index < class_rows + length classes.now }
-    ensures ok { OnOk result
-        (text.new.items ≡ text.old.items ++ changed_text classes.now index change) }
-    ensures refused { IfErr result (λ e. e ≡ NoMemory) }
+    ensures { Appends (changed_text classes.now index change) text.old.items text.new.items result }
 {
     push_words(text, b"row ")?;
     push_row_name(text, classes, index)?;
@@ -61,9 +60,8 @@ fn push_changes(
     changes: &[Change],
 ) -> Result<(), Refusal>
     requires { length changes.now ≤ class_rows + length classes.now }
-    ensures ok { OnOk result
-        (text.new.items ≡ text.old.items ++ changed_texts classes.now 0 changes.now) }
-    ensures refused { IfErr result (λ e. e ≡ NoMemory) }
+    ensures { Appends (changed_texts classes.now 0 changes.now)
+        text.old.items text.new.items result }
 {
     for index in 0..changes.len() {
         if differs(changes[index]) {

@@ -1,7 +1,8 @@
 //! The answers of `histogram` and `garbage`.
-ghost use Rattle.std.specs.Prelude.{◌≡◌, ◌++◌, ◌<◌, ◌+◌, ◌^◌, All, length, flat_map, IfOk, IfErr, OnOk};
+ghost use Rattle.std.specs.Prelude.{◌≡◌, ◌<◌, ◌+◌, ◌^◌, All, length, flat_map, IfOk, IfErr};
 ghost use Rattle.heap_class.specs.declared.Refusal.TheVariants.{NoMemory};
 ghost use Rattle.heap_questions.specs.Histogram.{class_rows};
+ghost use Rattle.question_text.specs.Appends.{Appends};
 ghost use Rattle.question_text.specs.Histograms.{IsGarbageText, IsHistogramText, IsRowsText, and_counts, row_text, sum_of, total_text};
 
 use crate::names::push_row_name;
@@ -13,8 +14,7 @@ use std::alloc::Global;
 
 // Appends the numbers of a row, each after a space. Fails with NoMemory.
 pub(crate) fn push_counts(text: &mut Vec<u8>, row: Row) -> Result<(), Refusal>
-    ensures ok { OnOk result (text.new.items ≡ text.old.items ++ and_counts row) }
-    ensures refused { IfErr result (λ e. e ≡ NoMemory) }
+    ensures { Appends (and_counts row) text.old.items text.new.items result }
 {
     push_number(text, row.objects)?;
     push_number(text, row.bytes)
@@ -30,9 +30,7 @@ fn push_row(
 ) -> Result<(), Refusal>
     requires within { index < length rows.now }
     requires classes { index < class_rows + length classes.now }
-    ensures ok { OnOk result
-        (text.new.items ≡ text.old.items ++ row_text classes.now rows.now index) }
-    ensures refused { IfErr result (λ e. e ≡ NoMemory) }
+    ensures { Appends (row_text classes.now rows.now index) text.old.items text.new.items result }
 {
     push_words(text, b"row")?;
     push_counts(text, rows[index])?;
@@ -58,8 +56,7 @@ fn sum_of(rows: &[Row]) -> Row
 
 // Appends the last line of a count. Fails with NoMemory.
 fn push_total(text: &mut Vec<u8>, total: Row) -> Result<(), Refusal>
-    ensures ok { OnOk result (text.new.items ≡ text.old.items ++ total_text total) }
-    ensures refused { IfErr result (λ e. e ≡ NoMemory) }
+    ensures { Appends (total_text total) text.old.items text.new.items result }
 {
     push_words(text, b"ok")?;
     push_counts(text, total)?;
@@ -75,10 +72,8 @@ fn push_rows(
 ) -> Result<(), Refusal>
     requires within { All (λ g. g < length rows.now) ranked.now }
     requires classes { length rows.now ≡ class_rows + length classes.now }
-    ensures ok { OnOk result
-        (text.new.items
-        ≡ text.old.items ++ flat_map (row_text classes.now rows.now) ranked.now) }
-    ensures refused { IfErr result (λ e. e ≡ NoMemory) }
+    ensures { Appends (flat_map (row_text classes.now rows.now) ranked.now)
+        text.old.items text.new.items result }
 {
     for index in ranked {
         push_row(text, classes, rows, *index)?;

@@ -1,13 +1,14 @@
 //! The answer of `history`.
-ghost use Rattle.std.specs.Prelude.{◌≡◌, ◌++◌, flat_map, IfErr, IfOk, OnOk};
+ghost use Rattle.std.specs.Prelude.{◌≡◌, ◌++◌, flat_map, IfErr, IfOk};
 ghost use Rattle.heap_class.specs.declared.Refusal.TheVariants.{NoMemory};
+ghost use Rattle.question_text.specs.Appends.{Appends};
 ghost use Rattle.question_text.specs.Histories.{IsHistoryText, IsNewestText, and_overwritten, and_slot, event_words, past_step_line};
 ghost use Rattle.question_text.specs.Moments.{told_text};
 ghost use Rattle.session_text.specs.Replies.{and_number};
 
 use crate::id::{push_id, push_reference};
 use crate::referrers::push_count;
-use crate::rows::{Unanswered, push_number, push_words};
+use crate::rows::{Unanswered, push_number, push_row, push_words};
 use heap_class::Refusal;
 use heap_past::{PastEvent, PastStep, history};
 use heap_trail::Machine;
@@ -15,8 +16,7 @@ use std::alloc::Global;
 
 // Appends a word, an id and the number of a slot. Fails with NoMemory.
 fn push_slot(text: &mut Vec<u8>, word: &[u8], id: u64, slot: u64) -> Result<(), Refusal>
-    ensures ok { OnOk result (text.new.items ≡ text.old.items ++ and_slot word.now id slot) }
-    ensures refused { IfErr result (λ e. e ≡ NoMemory) }
+    ensures { Appends (and_slot word.now id slot) text.old.items text.new.items result }
 {
     push_words(text, word)?;
     push_id(text, id)?;
@@ -25,8 +25,7 @@ fn push_slot(text: &mut Vec<u8>, word: &[u8], id: u64, slot: u64) -> Result<(), 
 
 // Appends the numbers of a mutator and its register, and what it named before. Fails with NoMemory.
 fn push_overwritten(text: &mut Vec<u8>, m: u64, r: u64, old: u64) -> Result<(), Refusal>
-    ensures ok { OnOk result (text.new.items ≡ text.old.items ++ and_overwritten m r old) }
-    ensures refused { IfErr result (λ e. e ≡ NoMemory) }
+    ensures { Appends (and_overwritten m r old) text.old.items text.new.items result }
 {
     push_number(text, m)?;
     push_number(text, r)?;
@@ -35,8 +34,7 @@ fn push_overwritten(text: &mut Vec<u8>, m: u64, r: u64, old: u64) -> Result<(), 
 
 // Appends a word and a number. Fails with NoMemory.
 fn push_counted(text: &mut Vec<u8>, word: &[u8], n: u64) -> Result<(), Refusal>
-    ensures ok { OnOk result (text.new.items ≡ text.old.items ++ word.now ++ and_number n) }
-    ensures refused { IfErr result (λ e. e ≡ NoMemory) }
+    ensures { Appends (word.now ++ and_number n) text.old.items text.new.items result }
 {
     push_words(text, word)?;
     push_number(text, n)
@@ -45,8 +43,7 @@ fn push_counted(text: &mut Vec<u8>, word: &[u8], n: u64) -> Result<(), Refusal>
 // Appends what a step did and what it overwrote. Fails with NoMemory.
 #[tactic(auto, unfolding(crate::specs::Histories::event_words))]
 fn push_event(text: &mut Vec<u8>, event: PastEvent) -> Result<(), Refusal>
-    ensures ok { OnOk result (text.new.items ≡ text.old.items ++ event_words event) }
-    ensures refused { IfErr result (λ e. e ≡ NoMemory) }
+    ensures { Appends (event_words event) text.old.items text.new.items result }
 {
     match event {
         PastEvent::Put { object, slot, old } => {
@@ -86,20 +83,16 @@ fn push_event(text: &mut Vec<u8>, event: PastEvent) -> Result<(), Refusal>
 // Appends the line of a step. Fails with NoMemory.
 #[tactic(auto, unfolding(crate::specs::Histories::past_step_line))]
 fn push_step(text: &mut Vec<u8>, step: PastStep) -> Result<(), Refusal>
-    ensures ok { OnOk result (text.new.items ≡ text.old.items ++ past_step_line step) }
-    ensures refused { IfErr result (λ e. e ≡ NoMemory) }
+    ensures { Appends (past_step_line step) text.old.items text.new.items result }
 {
-    push_words(text, b"row")?;
-    push_number(text, step.place)?;
+    push_row(text, step.place)?;
     push_event(text, step.event)?;
     push_words(text, b"\n")
 }
 
 // Appends the lines of some steps. Fails with NoMemory.
 fn push_steps(text: &mut Vec<u8>, steps: &[PastStep]) -> Result<(), Refusal>
-    ensures ok { OnOk result
-        (text.new.items ≡ text.old.items ++ flat_map past_step_line steps.now) }
-    ensures refused { IfErr result (λ e. e ≡ NoMemory) }
+    ensures { Appends (flat_map past_step_line steps.now) text.old.items text.new.items result }
 {
     for step in steps {
         push_step(text, *step)?;

@@ -1,7 +1,7 @@
 //! Ids, as lines have them.
-ghost use Rattle.std.specs.Prelude.{◌≡◌, ◌++◌, ◌<◌, ◌^◌, option_and_then, IfErr, OnOk};
+ghost use Rattle.std.specs.Prelude.{◌≡◌, ◌<◌, ◌^◌, option_and_then};
 ghost use Rattle.std.specs.Str.{bytes_eq};
-ghost use Rattle.heap_class.specs.declared.Refusal.TheVariants.{NoMemory};
+ghost use Rattle.question_text.specs.Appends.{Appends};
 ghost use Rattle.question_text.specs.Ids.{and_id, and_reference, hex_digit, hex_from, id_of_word, with_hex};
 
 use crate::rows::push_words;
@@ -69,8 +69,7 @@ pub(crate) fn id_of(word: &[u8]) -> Option<u64>
 
 // Appends a space and an id. Fails with NoMemory.
 pub(crate) fn push_id(text: &mut Vec<u8>, id: u64) -> Result<(), Refusal>
-    ensures ok { OnOk result (text.new.items ≡ text.old.items ++ and_id id) }
-    ensures refused { IfErr result (λ e. e ≡ NoMemory) }
+    ensures { Appends (and_id id) text.old.items text.new.items result }
 {
     let mut digits = [0u8; 8];
     push_words(text, b" 0x")?;
@@ -82,8 +81,7 @@ pub(crate) fn push_id(text: &mut Vec<u8>, id: u64) -> Result<(), Refusal>
 
 // Appends a space, and an id or `null`. Fails with NoMemory.
 pub(crate) fn push_reference(text: &mut Vec<u8>, id: u64) -> Result<(), Refusal>
-    ensures ok { OnOk result (text.new.items ≡ text.old.items ++ and_reference id) }
-    ensures refused { IfErr result (λ e. e ≡ NoMemory) }
+    ensures { Appends (and_reference id) text.old.items text.new.items result }
 {
     if id == 0 {
         push_words(text, b" null")

@@ -4,6 +4,7 @@ ghost use Rattle.heap_class.specs.declared.Refusal.TheVariants.{NoMemory};
 ghost use Rattle.heap_class.specs.Kinds.{type_code};
 ghost use Rattle.heap_questions.specs.Histogram.{class_rows};
 ghost use Rattle.session_grammar.specs.Grammar.{all_kinds};
+ghost use Rattle.question_text.specs.Appends.{Appends};
 ghost use Rattle.question_text.specs.Names.{IsClassThere, array_name, class_name, kind_array_name, row_name};
 
 use crate::rows::push_words;
@@ -24,8 +25,7 @@ fn kind_with(code: usize) -> Option<Kind>
 
 // Appends the name of the arrays of values of a kind. Fails with NoMemory.
 fn push_kind_name(text: &mut Vec<u8>, kind: Kind) -> Result<(), Refusal>
-    ensures ok { OnOk result (text.new.items ≡ text.old.items ++ kind_array_name kind) }
-    ensures refused { IfErr result (λ e. e ≡ NoMemory) }
+    ensures { Appends (kind_array_name kind) text.old.items text.new.items result }
 {
     push_words(text, kind.word().as_bytes())?;
     push_words(text, b"[]")
@@ -34,8 +34,7 @@ fn push_kind_name(text: &mut Vec<u8>, kind: Kind) -> Result<(), Refusal>
 // Appends the name of the arrays of values whose kind has a type code. Fails with NoMemory.
 #[tactic(auto, unfolding(crate::specs::Names::array_name))]
 fn push_array_name(text: &mut Vec<u8>, code: usize) -> Result<(), Refusal>
-    ensures ok { OnOk result (text.new.items ≡ text.old.items ++ array_name code) }
-    ensures refused { IfErr result (λ e. e ≡ NoMemory) }
+    ensures { Appends (array_name code) text.old.items text.new.items result }
 {
     match kind_with(code) {
         Some(kind) => push_kind_name(text, kind),
@@ -69,8 +68,7 @@ pub(crate) fn push_class_name(
     kind: ObjKind,
 ) -> Result<(), Refusal>
     requires { IsClassThere classes.now kind }
-    ensures ok { OnOk result (text.new.items ≡ text.old.items ++ class_name classes.now kind) }
-    ensures refused { IfErr result (λ e. e ≡ NoMemory) }
+    ensures { Appends (class_name classes.now kind) text.old.items text.new.items result }
 {
     match kind {
         ObjKind::Instance(class) | ObjKind::Array(class) => {

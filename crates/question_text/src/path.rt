@@ -1,7 +1,8 @@
 //! The answer of `path`.
-ghost use Rattle.std.specs.Prelude.{◌≡◌, ◌++◌, Some, IfErr, IfOk, IsSome, OnOk};
+ghost use Rattle.std.specs.Prelude.{◌≡◌, Some, IfErr, IfOk, IsSome};
 ghost use Rattle.heap_class.specs.declared.Refusal.TheVariants.{NoMemory};
 ghost use Rattle.heap_questions.specs.Graph.{IsPathTo, followed, named};
+ghost use Rattle.question_text.specs.Appends.{Appends};
 ghost use Rattle.question_text.specs.Moments.{IsToldOf, told_text};
 ghost use Rattle.question_text.specs.Paths.{IsPathText, IsRouteText, root_text, step_text, step_texts};
 
@@ -28,8 +29,7 @@ fn named_by<V: View>(index: &ObjectIndex<'_, V>, id: u64, slot: u64) -> u64
 // Appends the line of a slot that is followed from one object to another. Fails with NoMemory.
 #[tactic(auto, unfolding(crate::specs::Paths::step_text))]
 fn push_step(text: &mut Vec<u8>, from: u64, slot: u64, to: u64) -> Result<(), Refusal>
-    ensures ok { OnOk result (text.new.items ≡ text.old.items ++ step_text from slot to) }
-    ensures refused { IfErr result (λ e. e ≡ NoMemory) }
+    ensures { Appends (step_text from slot to) text.old.items text.new.items result }
 {
     push_words(text, b"row")?;
     push_id(text, from)?;
@@ -46,9 +46,7 @@ fn push_steps<V: View>(
     slots: &[u64],
 ) -> Result<(), Refusal>
     requires { IsSome (followed index.now start slots.now) }
-    ensures ok { OnOk result
-        (text.new.items ≡ text.old.items ++ step_texts index.now start slots.now) }
-    ensures refused { IfErr result (λ e. e ≡ NoMemory) }
+    ensures { Appends (step_texts index.now start slots.now) text.old.items text.new.items result }
 {
     let mut here = start;
     for slot in slots {
@@ -62,8 +60,7 @@ fn push_steps<V: View>(
 // Appends the line of the register that a path begins with. Fails with NoMemory.
 #[tactic(auto, unfolding(crate::specs::Paths::root_text))]
 fn push_root(text: &mut Vec<u8>, register: u64, id: u64) -> Result<(), Refusal>
-    ensures ok { OnOk result (text.new.items ≡ text.old.items ++ root_text register id) }
-    ensures refused { IfErr result (λ e. e ≡ NoMemory) }
+    ensures { Appends (root_text register id) text.old.items text.new.items result }
 {
     push_words(text, b"row")?;
     push_register(text, register)?;

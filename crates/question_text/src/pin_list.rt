@@ -1,13 +1,14 @@
 //! The answer of `pins`.
-ghost use Rattle.std.specs.Prelude.{◌≡◌, ◌++◌, flat_map, length, map, IfErr, IfOk, OnOk};
+ghost use Rattle.std.specs.Prelude.{◌≡◌, flat_map, length, map, IfErr, IfOk};
 ghost use Rattle.heap_class.specs.declared.Refusal.TheVariants.{NoMemory};
 ghost use Rattle.heap_trail.specs.Listings.{listed_pin};
 ghost use Rattle.session_text.specs.Replies.{cause_text};
+ghost use Rattle.question_text.specs.Appends.{Appends};
 ghost use Rattle.question_text.specs.Moments.{told_text};
 ghost use Rattle.question_text.specs.PinLists.{IsPinsText, pin_text, pins_text, status_words};
 
 use crate::referrers::push_count;
-use crate::rows::{Unanswered, push_number, push_words};
+use crate::rows::{Unanswered, push_number, push_row, push_words};
 use heap_class::{LostCause, Refusal};
 use heap_trail::{ListedPin, Machine, PinStatus};
 use std::alloc::Global;
@@ -26,8 +27,7 @@ fn cause_word(cause: LostCause) -> &'static [u8]
 // Appends a kept pin's place and the number of the pieces given, or why the pin is lost. Fails with NoMemory.
 #[tactic(auto, unfolding(crate::specs::PinLists::status_words))]
 fn push_status(text: &mut Vec<u8>, status: PinStatus) -> Result<(), Refusal>
-    ensures ok { OnOk result (text.new.items ≡ text.old.items ++ status_words status) }
-    ensures refused { IfErr result (λ e. e ≡ NoMemory) }
+    ensures { Appends (status_words status) text.old.items text.new.items result }
 {
     match status {
         PinStatus::Kept { place, given } => {
@@ -45,21 +45,18 @@ fn push_status(text: &mut Vec<u8>, status: PinStatus) -> Result<(), Refusal>
 // Appends the line of a pin. Fails with NoMemory.
 #[tactic(auto, unfolding(crate::specs::PinLists::pin_text))]
 fn push_pin(text: &mut Vec<u8>, pin: ListedPin) -> Result<(), Refusal>
-    ensures ok { OnOk result (text.new.items ≡ text.old.items ++ pin_text pin) }
-    ensures refused { IfErr result (λ e. e ≡ NoMemory) }
+    ensures { Appends (pin_text pin) text.old.items text.new.items result }
 {
-    push_words(text, b"row")?;
-    push_number(text, pin.number)?;
+    push_row(text, pin.number)?;
     push_status(text, pin.status)?;
     push_words(text, b"\n")
 }
 
 // Appends the lines of the open pins, and returns their number. Fails with NoMemory.
 fn push_pins(text: &mut Vec<u8>, machine: &Machine) -> Result<u64, Refusal>
-    ensures ok { OnOk result (text.new.items ≡ text.old.items
-        ++ flat_map pin_text (map listed_pin machine.now.pins.open_pins)) }
+    ensures appended { Appends (flat_map pin_text (map listed_pin machine.now.pins.open_pins))
+        text.old.items text.new.items result }
     ensures count { IfOk result (λ n. n ≡ length machine.now.pins.open_pins) }
-    ensures refused { IfErr result (λ e. e ≡ NoMemory) }
 {
     let mut count = 0;
     while let Some(pin) = machine.nth_pin(count) {

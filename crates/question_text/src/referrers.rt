@@ -1,7 +1,8 @@
 //! The answer of `referrers`.
-ghost use Rattle.std.specs.Prelude.{◌≡◌, ◌++◌, flat_map, IfErr, IfOk, OnOk};
+ghost use Rattle.std.specs.Prelude.{◌≡◌, flat_map, IfErr, IfOk};
 ghost use Rattle.heap_class.specs.declared.Refusal.TheVariants.{NoMemory};
 ghost use Rattle.heap_questions.specs.Referrers.{referrers_of};
+ghost use Rattle.question_text.specs.Appends.{Appends};
 ghost use Rattle.question_text.specs.Moments.{IsToldOf, told_text};
 ghost use Rattle.question_text.specs.Referrers.{IsReferrersText, and_register, count_text, referrer_text, referrer_words, referrers_text};
 
@@ -15,8 +16,7 @@ use std::alloc::Global;
 
 // Appends the numbers of a register's mutator and of the register. Fails with NoMemory.
 pub(crate) fn push_register(text: &mut Vec<u8>, register: u64) -> Result<(), Refusal>
-    ensures ok { OnOk result (text.new.items ≡ text.old.items ++ and_register register) }
-    ensures refused { IfErr result (λ e. e ≡ NoMemory) }
+    ensures { Appends (and_register register) text.old.items text.new.items result }
 {
     push_number(text, register / REGISTERS_EACH)?;
     push_number(text, register % REGISTERS_EACH)
@@ -24,8 +24,7 @@ pub(crate) fn push_register(text: &mut Vec<u8>, register: u64) -> Result<(), Ref
 
 // Appends the last line of an answer that counts its rows. Fails with NoMemory.
 pub(crate) fn push_count(text: &mut Vec<u8>, count: u64) -> Result<(), Refusal>
-    ensures ok { OnOk result (text.new.items ≡ text.old.items ++ count_text count) }
-    ensures refused { IfErr result (λ e. e ≡ NoMemory) }
+    ensures { Appends (count_text count) text.old.items text.new.items result }
 {
     push_words(text, b"ok")?;
     push_number(text, count)?;
@@ -34,8 +33,7 @@ pub(crate) fn push_count(text: &mut Vec<u8>, count: u64) -> Result<(), Refusal>
 
 // Appends what names an object. Fails with NoMemory.
 fn push_names(text: &mut Vec<u8>, referrer: Referrer) -> Result<(), Refusal>
-    ensures ok { OnOk result (text.new.items ≡ text.old.items ++ referrer_words referrer) }
-    ensures refused { IfErr result (λ e. e ≡ NoMemory) }
+    ensures { Appends (referrer_words referrer) text.old.items text.new.items result }
 {
     match referrer {
         Referrer::Register(register) => push_register(text, register),
@@ -49,8 +47,7 @@ fn push_names(text: &mut Vec<u8>, referrer: Referrer) -> Result<(), Refusal>
 // Appends the line of what names an object. Fails with NoMemory.
 #[tactic(auto, unfolding(crate::specs::Referrers::referrer_text))]
 fn push_referrer(text: &mut Vec<u8>, referrer: Referrer) -> Result<(), Refusal>
-    ensures ok { OnOk result (text.new.items ≡ text.old.items ++ referrer_text referrer) }
-    ensures refused { IfErr result (λ e. e ≡ NoMemory) }
+    ensures { Appends (referrer_text referrer) text.old.items text.new.items result }
 {
     push_words(text, b"row")?;
     push_names(text, referrer)?;
@@ -59,9 +56,7 @@ fn push_referrer(text: &mut Vec<u8>, referrer: Referrer) -> Result<(), Refusal>
 
 // Appends the lines of all that names an object. Fails with NoMemory.
 fn push_referrers(text: &mut Vec<u8>, all: &[Referrer]) -> Result<(), Refusal>
-    ensures ok { OnOk result
-        (text.new.items ≡ text.old.items ++ flat_map referrer_text all.now) }
-    ensures refused { IfErr result (λ e. e ≡ NoMemory) }
+    ensures { Appends (flat_map referrer_text all.now) text.old.items text.new.items result }
 {
     for referrer in all {
         push_referrer(text, *referrer)?;

@@ -1,6 +1,7 @@
 //! The answer of `registers`.
-ghost use Rattle.std.specs.Prelude.{◌≡◌, ◌++◌, ◌<◌, All, IfErr, IfOk, OnOk};
+ghost use Rattle.std.specs.Prelude.{◌≡◌, ◌<◌, All, IfErr, IfOk};
 ghost use Rattle.heap_class.specs.declared.Refusal.TheVariants.{NoMemory};
+ghost use Rattle.question_text.specs.Appends.{Appends};
 ghost use Rattle.question_text.specs.Registers.{IsRegistersText, NamesKnown, named_words, register_text, register_texts};
 
 use crate::id::push_id;
@@ -19,9 +20,7 @@ fn push_named(
     named: &NamedObject,
 ) -> Result<(), Refusal>
     requires { NamesKnown classes.now named.now }
-    ensures ok { OnOk result
-        (text.new.items ≡ text.old.items ++ named_words classes.now named.now) }
-    ensures refused { IfErr result (λ e. e ≡ NoMemory) }
+    ensures { Appends (named_words classes.now named.now) text.old.items text.new.items result }
 {
     match named.kind {
         Some(kind) => {
@@ -42,9 +41,8 @@ fn push_line(
     named: &NamedObject,
 ) -> Result<(), Refusal>
     requires { NamesKnown classes.now named.now }
-    ensures ok { OnOk result
-        (text.new.items ≡ text.old.items ++ register_text classes.now register named.now) }
-    ensures refused { IfErr result (λ e. e ≡ NoMemory) }
+    ensures { Appends (register_text classes.now register named.now)
+        text.old.items text.new.items result }
 {
     push_words(text, b"row")?;
     push_register(text, register)?;
@@ -59,9 +57,7 @@ fn push_lines(
     all: &[NamedObject],
 ) -> Result<(), Refusal>
     requires { All (NamesKnown classes.now) all.now }
-    ensures ok { OnOk result
-        (text.new.items ≡ text.old.items ++ register_texts classes.now 0 all.now) }
-    ensures refused { IfErr result (λ e. e ≡ NoMemory) }
+    ensures { Appends (register_texts classes.now 0 all.now) text.old.items text.new.items result }
 {
     for register in 0..all.len() {
         push_line(text, classes, register as u64, &all[register])?;

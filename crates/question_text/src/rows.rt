@@ -1,7 +1,7 @@
 //! The lines of an answer.
-ghost use Rattle.std.specs.Prelude.{◌≡◌, ◌++◌, IfErr, OnOk};
-ghost use Rattle.heap_class.specs.declared.Refusal.TheVariants.{NoMemory};
+ghost use Rattle.std.specs.Prelude.{◌≡◌, ◌++◌, codes};
 ghost use Rattle.session_text.specs.Replies.{and_number, line_answer_text};
+ghost use Rattle.question_text.specs.Appends.{Appends};
 ghost use Rattle.question_text.specs.Moments.{unanswered_text};
 
 use heap_class::Refusal;
@@ -20,7 +20,7 @@ pub(crate) enum Unanswered {
 }
 
 impl From<Refusal> for Unanswered {
-    ghost use Rattle.std.specs.Prelude.{◌≡◌};
+    ghost use Rattle.std.specs.Prelude.{◌≡◌, ◌++◌, codes};
     ghost use Rattle.question_text.specs.declared.rows.Unanswered.TheVariants.{Refused};
 
     ghost from_gives = { λ r e. e ≡ Refused r };
@@ -43,8 +43,7 @@ pub(crate) fn reason_line(reason: Unanswered) -> LineAnswer
 
 // Appends words. Fails with NoMemory.
 pub(crate) fn push_words(text: &mut Vec<u8>, words: &[u8]) -> Result<(), Refusal>
-    ensures ok { OnOk result (text.new.items ≡ text.old.items ++ words.now) }
-    ensures refused { IfErr result (λ e. e ≡ NoMemory) }
+    ensures { Appends words.now text.old.items text.new.items result }
 {
     text.extend_from_slice(words)?;
     Ok(())
@@ -52,9 +51,16 @@ pub(crate) fn push_words(text: &mut Vec<u8>, words: &[u8]) -> Result<(), Refusal
 
 // Appends a space and a number. Fails with NoMemory.
 pub(crate) fn push_number(text: &mut Vec<u8>, n: u64) -> Result<(), Refusal>
-    ensures ok { OnOk result (text.new.items ≡ text.old.items ++ and_number n) }
-    ensures refused { IfErr result (λ e. e ≡ NoMemory) }
+    ensures { Appends (and_number n) text.old.items text.new.items result }
 {
     push_words(text, b" ")?;
     push_words(text, itoa::Buffer::new().format(n).as_bytes())
+}
+
+// Appends the beginning of a row: its word, a space and a number. Fails with NoMemory.
+pub(crate) fn push_row(text: &mut Vec<u8>, n: u64) -> Result<(), Refusal>
+    ensures { Appends (codes "row" ++ and_number n) text.old.items text.new.items result }
+{
+    push_words(text, b"row")?;
+    push_number(text, n)
 }

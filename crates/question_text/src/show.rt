@@ -1,7 +1,8 @@
 //! The answer of `show`.
-ghost use Rattle.std.specs.Prelude.{◌≡◌, ◌++◌, ◌<◌, ◌≤◌, Some, drop, length, min, IfErr, IfOk, IfSome, OnOk, slice_get};
+ghost use Rattle.std.specs.Prelude.{◌≡◌, ◌<◌, ◌≤◌, Some, drop, length, min, IfErr, IfOk, IfSome, slice_get};
 ghost use Rattle.heap_class.specs.Classes.{fields_of};
 ghost use Rattle.heap_class.specs.declared.Refusal.TheVariants.{NoMemory};
+ghost use Rattle.question_text.specs.Appends.{Appends};
 ghost use Rattle.question_text.specs.Moments.{IsToldOf, told_text};
 ghost use Rattle.question_text.specs.Names.{IsClassThere};
 ghost use Rattle.question_text.specs.Objects.{IsShowText, and_value, element_row, element_rows, field_row, field_rows, fields_up, is_marked, mark_text, object_line, object_text, shows_mark, slot_rows, value_text};
@@ -10,7 +11,7 @@ use crate::id::push_reference;
 use crate::names::push_class_name;
 use crate::place::place_of_object;
 use crate::question::At;
-use crate::rows::{Unanswered, push_number, push_words};
+use crate::rows::{Unanswered, push_number, push_row, push_words};
 use heap_class::{ClassNo, FirstClasses, Kind, ObjKind, Refusal};
 use heap_questions::{ShownObject, object_with};
 use heap_trail::Machine;
@@ -19,8 +20,7 @@ use std::alloc::Global;
 
 // Appends a word of a kind: an id or `null`, or a number. Fails with NoMemory.
 fn push_value(text: &mut Vec<u8>, kind: Kind, word: u64) -> Result<(), Refusal>
-    ensures ok { OnOk result (text.new.items ≡ text.old.items ++ and_value kind word) }
-    ensures refused { IfErr result (λ e. e ≡ NoMemory) }
+    ensures { Appends (and_value kind word) text.old.items text.new.items result }
 {
     if kind.is_reference() {
         push_reference(text, word)
@@ -32,8 +32,7 @@ fn push_value(text: &mut Vec<u8>, kind: Kind, word: u64) -> Result<(), Refusal>
 // Appends the end of a slot's row: its kind and its word. Fails with NoMemory.
 #[tactic(auto, unfolding(crate::specs::Objects::value_text))]
 fn push_end(text: &mut Vec<u8>, kind: Kind, word: u64) -> Result<(), Refusal>
-    ensures ok { OnOk result (text.new.items ≡ text.old.items ++ value_text kind word) }
-    ensures refused { IfErr result (λ e. e ≡ NoMemory) }
+    ensures { Appends (value_text kind word) text.old.items text.new.items result }
 {
     push_words(text, b" ")?;
     push_words(text, kind.word().as_bytes())?;
@@ -50,12 +49,9 @@ fn push_field(
     kind: Kind,
     word: u64,
 ) -> Result<(), Refusal>
-    ensures ok { OnOk result
-        (text.new.items ≡ text.old.items ++ field_row slot name.now kind word) }
-    ensures refused { IfErr result (λ e. e ≡ NoMemory) }
+    ensures { Appends (field_row slot name.now kind word) text.old.items text.new.items result }
 {
-    push_words(text, b"row")?;
-    push_number(text, slot)?;
+    push_row(text, slot)?;
     push_words(text, b" ")?;
     push_words(text, name)?;
     push_end(text, kind, word)
@@ -64,20 +60,16 @@ fn push_field(
 // Appends the row of an element. Fails with NoMemory.
 #[tactic(auto, unfolding(crate::specs::Objects::element_row))]
 fn push_element(text: &mut Vec<u8>, kind: Kind, index: u64, word: u64) -> Result<(), Refusal>
-    ensures ok { OnOk result (text.new.items ≡ text.old.items ++ element_row kind index word) }
-    ensures refused { IfErr result (λ e. e ≡ NoMemory) }
+    ensures { Appends (element_row kind index word) text.old.items text.new.items result }
 {
-    push_words(text, b"row")?;
-    push_number(text, index)?;
+    push_row(text, index)?;
     push_number(text, index)?;
     push_end(text, kind, word)
 }
 
 // Appends the rows of all elements. Fails with NoMemory.
 fn push_elements(text: &mut Vec<u8>, kind: Kind, words: &[u64]) -> Result<(), Refusal>
-    ensures ok { OnOk result
-        (text.new.items ≡ text.old.items ++ element_rows kind 0 words.now) }
-    ensures refused { IfErr result (λ e. e ≡ NoMemory) }
+    ensures { Appends (element_rows kind 0 words.now) text.old.items text.new.items result }
 {
     for index in 0..words.len() {
         push_element(text, kind, index as u64, words[index])?;
@@ -113,9 +105,8 @@ fn push_own(
 ) -> Result<(), Refusal>
     requires there { class < length classes.now }
     requires within { first ≤ length words.now }
-    ensures ok { OnOk result (text.new.items ≡ text.old.items
-        ++ field_rows first (fields_of classes.now class) (drop first words.now)) }
-    ensures refused { IfErr result (λ e. e ≡ NoMemory) }
+    ensures { Appends (field_rows first (fields_of classes.now class) (drop first words.now))
+        text.old.items text.new.items result }
 {
     let count = own_count(classes, class, (words.len() - first) as u64);
     for field in 0..count {
@@ -135,9 +126,8 @@ fn push_fields(
     words: &[u64],
 ) -> Result<(), Refusal>
     requires { class < length classes.now }
-    ensures ok { OnOk result (text.new.items ≡ text.old.items ++ field_rows 0
-        (fields_up classes.now (length classes.now) (Some class)) words.now) }
-    ensures refused { IfErr result (λ e. e ≡ NoMemory) }
+    ensures { Appends (field_rows 0 (fields_up classes.now (length classes.now) (Some class))
+        words.now) text.old.items text.new.items result }
 {
     let mut here = Some(class);
     let mut first = 0;
@@ -161,9 +151,7 @@ fn push_slots(
     words: &[u64],
 ) -> Result<(), Refusal>
     requires { IsClassThere classes.now kind }
-    ensures ok { OnOk result
-        (text.new.items ≡ text.old.items ++ slot_rows classes.now kind words.now) }
-    ensures refused { IfErr result (λ e. e ≡ NoMemory) }
+    ensures { Appends (slot_rows classes.now kind words.now) text.old.items text.new.items result }
 {
     match kind {
         ObjKind::Instance(class) => push_fields(text, classes, class, words),
@@ -174,8 +162,7 @@ fn push_slots(
 
 // Appends what the last line says of an object that is marked. Fails with NoMemory.
 fn push_mark(text: &mut Vec<u8>, marked: bool) -> Result<(), Refusal>
-    ensures ok { OnOk result (text.new.items ≡ text.old.items ++ mark_text marked) }
-    ensures refused { IfErr result (λ e. e ≡ NoMemory) }
+    ensures { Appends (mark_text marked) text.old.items text.new.items result }
 {
     if marked {
         push_words(text, b" marked")
@@ -194,9 +181,8 @@ fn push_object(
     marked: bool,
 ) -> Result<(), Refusal>
     requires { IsClassThere classes.now kind }
-    ensures ok { OnOk result
-        (text.new.items ≡ text.old.items ++ object_line classes.now kind slots marked) }
-    ensures refused { IfErr result (λ e. e ≡ NoMemory) }
+    ensures { Appends (object_line classes.now kind slots marked)
+        text.old.items text.new.items result }
 {
     push_words(text, b"ok object ")?;
     push_class_name(text, classes, kind)?;

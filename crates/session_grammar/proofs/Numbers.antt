@@ -146,6 +146,10 @@ sure_more i value d few less digit =
     let fits : 10 ^ 19 < 2 ^ 64 = lit< tt in
     (omega (arith, small, most, fits), small)
 
+-- a number of fewer digits, with a 0 behind it
+pub times_ten : (i value : ℕ) → i < 19 → value < 10 ^ i → value * 10 < 2 ^ 64
+times_ten i value few less = omega (arith, (sure_more i value 0 few less (omega arith)).0)
+
 -- one of the first 19 digits
 pub read_sure : (t : List ℕ) (i value : ℕ) → i < length t → i < 19 → is_ascii_digit (get_or t i 0) ≡ true → IsReadTo t (drop i t) i value → value < 10 ^ i
     → IsReadTo t (drop (i + 1) t) (i + 1) (value * 10 + (get_or t i 0 - 48)) × (value * 10 + (get_or t i 0 - 48) < 10 ^ (i + 1))

@@ -7,7 +7,6 @@ use Rattle.std.proofs.lemmas.Bool.{and_parts, and_from}
 use Rattle.std.proofs.lemmas.Slice.Eq.{bytes_eq-Decides}
 use Rattle.heap_class.specs.declared.Kind.{Kind}
 use Rattle.heap_class.specs.declared.Field.{Field}
-use Rattle.heap_class.specs.declared.Kind.TheVariants.{Boolean, Char, Float, Double, Byte, Short, Int, Long}
 use Rattle.heap_class.specs.Kinds.{kind_word}
 use Rattle.heap_step.specs.declared.Event.TheVariants.{Class, ArrayClass, NewPrim, Snap, Mark, Drain, Finish}
 use Rattle.heap_trail.specs.declared.Action.TheVariants.{Step}
@@ -81,14 +80,7 @@ number_plain w n e = digits_plain w (and_parts _ _ (if_some _ _ n (if_some _ (va
 
 kind_plain_word : (k : Kind) → is_plain (kind_word k) ≡ true
 kind_plain_word Kind.Object = refl
-kind_plain_word Boolean = refl
-kind_plain_word Char = refl
-kind_plain_word Float = refl
-kind_plain_word Double = refl
-kind_plain_word Byte = refl
-kind_plain_word Short = refl
-kind_plain_word Int = refl
-kind_plain_word Long = refl
+kind_plain_word _ = refl
 
 found_or : (f : Kind → Bool) (first k : Kind) (others : Option Kind) (v : Bool) → f first ≡ v → (others ≡ Some k → f k ≡ true) → cond v (Some first) others ≡ Some k → f k ≡ true
 found_or f first k others true e h is = let same : first ≡ k = cc in subst (λ j. f j ≡ true) same e
@@ -104,14 +96,7 @@ kind_plain w k e = ap is_plain (sym ((bytes_eq-Decides (kind_word k) w).0 (found
 
 kind_long_word : (k : Kind) → 3 ≤ length (kind_word k)
 kind_long_word Kind.Object = omega arith
-kind_long_word Boolean = omega arith
-kind_long_word Char = omega arith
-kind_long_word Float = omega arith
-kind_long_word Double = omega arith
-kind_long_word Byte = omega arith
-kind_long_word Short = omega arith
-kind_long_word Int = omega arith
-kind_long_word Long = omega arith
+kind_long_word _ = omega arith
 
 -- a kind's word has 3 bytes or more
 pub kind_long : (w : List ℕ) (k : Kind) → kind_of_word w ≡ Some k → 3 ≤ length w

@@ -4,50 +4,30 @@ use Rattle.std.specs.Char.{is_ascii_digit}
 use Rattle.std.specs.List.{position_or_len}
 use Rattle.heap_class.specs.declared.Field.{Field}
 use Rattle.heap_step.specs.declared.Event.{Event}
-use Rattle.heap_step.specs.declared.Event.TheVariants.{Class, ArrayClass, New, NewArray, NewPrim, Load, Store, Put, Move, Clear, Snap, Mark, Drain, Finish, Sweep}
+use Rattle.heap_step.specs.declared.Event.TheVariants.{Class, ArrayClass}
 use Rattle.heap_trail.specs.declared.Action.{Action}
-use Rattle.heap_trail.specs.declared.Action.TheVariants.{Step, Rewind, OpenPin, NextPiece, ClosePin}
+use Rattle.heap_trail.specs.declared.Action.TheVariants.{Step}
 use Rattle.session_grammar.specs.Grammar.{words_of_line, is_plain, Rule, value_of_digits, number_of_word, next_number, field_of_word, next_number_or_dash, at_end, making_rules, access_rules, marking_rules, session_rules}
 use Rattle.session_grammar.specs.Lines.{NoLf}
 use Rattle.session_grammar.specs.declared.spans.FieldSpan.{FieldSpan}
 use Rattle.session_grammar.specs.declared.command.Command.{Command}
-use Rattle.session_grammar.specs.declared.command.Command.TheVariants.{Blank, Bad, Ask, Piece, Dump, DumpNow, End}
+use Rattle.session_grammar.specs.declared.command.Command.TheVariants.{Ask}
 
 -- the event defines a class
 abbrev pub DefinesClass : Event → Type 0
 DefinesClass (Class name sup fields) = Unit {0}
 DefinesClass (ArrayClass name) = Unit {0}
-DefinesClass (New m r class) = ⊥
-DefinesClass (NewArray m r class len) = ⊥
-DefinesClass (NewPrim m r kind len) = ⊥
-DefinesClass (Load m to from slot) = ⊥
-DefinesClass (Store m target slot source) = ⊥
-DefinesClass (Put m target slot value) = ⊥
-DefinesClass (Move m to from_m from) = ⊥
-DefinesClass (Clear m r) = ⊥
-DefinesClass Snap = ⊥
-DefinesClass Mark = ⊥
-DefinesClass Drain = ⊥
-DefinesClass Finish = ⊥
-DefinesClass (Sweep region) = ⊥
+DefinesClass _ = ⊥
 
 -- reading the line of this action allocates
 abbrev pub ActionTakesMemory : Action → Type 0
 ActionTakesMemory (Step e) = DefinesClass e
-ActionTakesMemory (Rewind n) = ⊥
-ActionTakesMemory (OpenPin at) = ⊥
-ActionTakesMemory (NextPiece pin time) = ⊥
-ActionTakesMemory (ClosePin pin) = ⊥
+ActionTakesMemory _ = ⊥
 
 -- reading the line of this command allocates
 abbrev pub TakesMemory : Command → Type 0
-TakesMemory Blank = ⊥
-TakesMemory Bad = ⊥
 TakesMemory (Ask a) = ActionTakesMemory a
-TakesMemory (Piece pin) = ⊥
-TakesMemory (Dump pin) = ⊥
-TakesMemory DumpNow = ⊥
-TakesMemory End = ⊥
+TakesMemory _ = ⊥
 
 -- reading a line of this command, if it has one, allocates
 abbrev pub MayTakeMemory : Option Command → Type 0

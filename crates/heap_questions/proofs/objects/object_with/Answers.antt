@@ -1,8 +1,7 @@
-use Rattle.std.proofs.Common.{◌≡◌, sym, ◌∙◌, arith}
+use Rattle.std.proofs.Common.{◌≡◌, sym, ◌∙◌}
 use Rattle.std.specs.Prelude.{slice_get}
 use Rattle.hprof_text.specs.Image.{DumpedObject}
-use Rattle.hprof_text.proofs.Loops.{some_item}
-use Rattle.hprof_text.proofs.ViewedObjects.{none_left, within}
+use Rattle.hprof_text.proofs.ViewedObjects.{all_visited, fewer_left, visited}
 use Rattle.heap_questions.proofs.NamedObjects.{object_none, others_more, said_of, shown_is, viewed}
 use Rattle.heap_questions.proofs.objects.object_with.Goals as goal
 
@@ -15,30 +14,20 @@ returns-then-id g c =
     shown_is image c.args.id i c.id.result c.kind-kind.result c.words-words.result.now h.object c.loop-here.invariant.others h.there same c.if-id.true h.same_kind h.same_words
 
 pub loop-here-smaller : goal.loop-here-smaller
-loop-here-smaller g c =
-    let w = within (g.V.View.places c.args.view.now) c.loop-here.passed c.in-Some.at (sym c.loop-here.invariant.here ∙ c.in-Some.is) in
-    omega (arith, w)
+loop-here-smaller g c = fewer_left (g.V.View.places c.args.view.now) c.loop-here.passed _ c.in-Some.at c.loop-here.invariant.here c.in-Some.is
 
 pub loop-here-preserved : goal.loop-here-preserved
 loop-here-preserved g c =
-    let v = c.args.view.now in
-    let image = g.V.View.image v in
-    let places = g.V.View.places v in
-    let i = c.loop-here.passed in
-    let e = sym c.loop-here.invariant.here ∙ c.in-Some.is in
-    let w = within places i c.in-Some.at e in
-    let o = some_item image.objects i (omega (arith, w, c.classes-classes.ensures.placed)) in
-    let same = said_of (λ (o : DumpedObject). c.id.result ≡ o.id) (slice_get image.objects i) o.0 o.1 (c.id.ensures i e) in
+    let image = g.V.View.image c.args.view.now in
+    let o = visited image (g.V.View.places c.args.view.now) c.loop-here.passed _ c.in-Some.at c.loop-here.invariant.here c.in-Some.is c.classes-classes.ensures.placed in
+    let same = said_of (λ (o : DumpedObject). c.id.result ≡ o.id) (slice_get image.objects c.loop-here.passed) o.object o.there (c.id.ensures c.loop-here.passed o.led) in
     record {
-      here = c.next-here.ensures i e;
-      passed = w;
-      others = others_more image c.args.id i c.id.result o.0 c.loop-here.invariant.others o.1 same c.if-id.false;
+      here = c.next-here.ensures c.loop-here.passed o.led;
+      passed = o.passed;
+      others = others_more image c.args.id c.loop-here.passed c.id.result o.object c.loop-here.invariant.others o.there same c.if-id.false;
     }
 
 pub returns : goal.returns
 returns g c =
-    let v = c.args.view.now in
-    let image = g.V.View.image v in
-    let i = c.loop-here.passed in
-    let n = none_left (g.V.View.places v) i (sym c.in_default.is ∙ c.loop-here.invariant.here) in
-    sym (object_none image c.args.id i c.loop-here.invariant.others (omega (arith, n, c.loop-here.invariant.passed, c.classes-classes.ensures.placed)))
+    let image = g.V.View.image c.args.view.now in
+    sym (object_none image c.args.id c.loop-here.passed c.loop-here.invariant.others (all_visited image (g.V.View.places c.args.view.now) c.loop-here.passed _ c.loop-here.invariant.here c.in_default.is c.loop-here.invariant.passed c.classes-classes.ensures.placed))

@@ -10,17 +10,13 @@ use Rattle.heap_questions.proofs.references.add_registers.Goals as goal
 
 pub loop-r-preserved : goal.loop-r-preserved
 loop-r-preserved c =
-    let old = c.args.all.now.items in
-    let r = c.loop-r.r in
-    let id = c.args.id in
-    let regs = c.args.registers.now in
-    let p : ℕ → Bool = λ k. slice_index regs k == id in
+    let p : ℕ → Bool = λ k. slice_index c.args.registers.now k == c.args.id in
     let items = λ (v : Vec Referrer Global). v.items in
     elim c.if-registers-r.branch [
       | then-registers-r+in_ok-push w ↦
-          passes p Register r old c.loop-r.all.items c.if-registers-r.all.items (eq-eqb (slice_index regs r) id w.if-registers-r.true) c.loop-r.invariant (ap items w.all-is ∙ w.in_ok-push.ensures.items)
+          passes p Register c.loop-r.r c.args.all.now.items c.loop-r.all.items c.if-registers-r.all.items (eq-eqb (slice_index c.args.registers.now c.loop-r.r) c.args.id w.if-registers-r.true) c.loop-r.invariant (ap items w.all-is ∙ w.in_ok-push.ensures.items)
       | else-registers-r w ↦
-          ap items w.all-is ∙ fails p Register r old c.loop-r.all.items (ne_eqb (slice_index regs r) id w.if-registers-r.false) c.loop-r.invariant
+          ap items w.all-is ∙ fails p Register c.loop-r.r c.args.all.now.items c.loop-r.all.items (ne_eqb (slice_index c.args.registers.now c.loop-r.r) c.args.id w.if-registers-r.false) c.loop-r.invariant
     ]
 
 pub returns-clause-added : goal.returns-clause-added

@@ -1,9 +1,9 @@
-use Rattle.std.proofs.Common.{◌≡◌, ◌<◌, ◌≤◌, take, false, length, replicate, sym, ap, ap₂, ◌+◌, ◌∙◌, subst, arith, rules}
+use Rattle.std.proofs.Common.{◌≡◌, take, false, length, replicate, sym, ap, ap₂, ◌+◌, ◌∙◌, subst, arith, rules}
 use Rattle.std.specs.Prelude.{slice_index_or}
 use Rattle.hprof_text.specs.Image.{IsKnown}
-use Rattle.hprof_text.proofs.ViewedObjects.{is_there, within, none_left}
+use Rattle.hprof_text.proofs.ViewedObjects.{all_visited, fewer_left, is_there, within}
 use Rattle.heap_questions.specs.Histogram.{AreRows, class_rows, counted_unless, no_objects, object_bytes, row_number, without_marked, value_size}
-use Rattle.heap_questions.proofs.Counting.{rows_begin, rows_more, rows_end, room}
+use Rattle.heap_questions.proofs.Counting.{rows_begin, rows_more, rows_end, room_among}
 use Rattle.heap_questions.proofs.NamedObjects.{viewed}
 use Rattle.heap_questions.proofs.rows.count_unmarked.Goals as goal
 
@@ -40,9 +40,7 @@ row_number-index-requires g c =
     subst (λ cs. IsKnown cs c.kind-kind.result (length c.words.result.now)) (sym c.classes-classes.ensures.value) h.known
 
 pub loop-here-smaller : goal.loop-here-smaller
-loop-here-smaller g c =
-    let w = within (g.V.View.places c.args.view.now) c.loop-here.passed c.in-Some.at (sym c.loop-here.invariant.here ∙ c.in-Some.is) in
-    omega (arith, w)
+loop-here-smaller g c = fewer_left (g.V.View.places c.args.view.now) c.loop-here.passed _ c.in-Some.at c.loop-here.invariant.here c.in-Some.is
 
 pub loop-here-preserved : goal.loop-here-preserved
 loop-here-preserved g c =
@@ -78,26 +76,16 @@ count-requires-clause-within g c =
 
 pub count-requires-clause-objects : goal.count-requires-clause-objects
 count-requires-clause-objects g c =
-    let v = c.args.view.now in
-    let many = ap length c.classes-classes.ensures.value in
-    let w : c.row_number-index.result < length c.loop-here.rows.items = omega (arith, many, c.row_number-index.ensures.within, c.loop-here.invariant.rows.count) in
-    let l : c.loop-here.passed ≤ length (g.V.View.image v).objects = omega (arith, c.loop-here.invariant.passed, c.classes-classes.ensures.placed) in
-    let r = room (g.V.View.ids v) (g.V.View.image v).classes c.args.marks.now (g.V.View.image v).objects c.loop-here.passed c.loop-here.rows.items c.row_number-index.result c.loop-here.invariant.rows l w in
+    let r = room_among (g.V.View.ids c.args.view.now) (g.V.View.image c.args.view.now) _ c.args.marks.now c.loop-here.passed c.loop-here.rows.items c.row_number-index.result c.loop-here.invariant.rows (omega (arith, c.loop-here.invariant.passed, c.classes-classes.ensures.placed)) c.classes-classes.ensures.value c.row_number-index.ensures.within in
     omega (arith, r.0, c.loop-here.invariant.passed, c.classes-classes.ensures.placed, c.classes-classes.ensures.limits.few_objects)
 
 pub count-requires-clause-bytes : goal.count-requires-clause-bytes
 count-requires-clause-bytes g c =
-    let v = c.args.view.now in
-    let many = ap length c.classes-classes.ensures.value in
-    let w : c.row_number-index.result < length c.loop-here.rows.items = omega (arith, many, c.row_number-index.ensures.within, c.loop-here.invariant.rows.count) in
-    let l : c.loop-here.passed ≤ length (g.V.View.image v).objects = omega (arith, c.loop-here.invariant.passed, c.classes-classes.ensures.placed) in
-    let r = room (g.V.View.ids v) (g.V.View.image v).classes c.args.marks.now (g.V.View.image v).objects c.loop-here.passed c.loop-here.rows.items c.row_number-index.result c.loop-here.invariant.rows l w in
+    let r = room_among (g.V.View.ids c.args.view.now) (g.V.View.image c.args.view.now) _ c.args.marks.now c.loop-here.passed c.loop-here.rows.items c.row_number-index.result c.loop-here.invariant.rows (omega (arith, c.loop-here.invariant.passed, c.classes-classes.ensures.placed)) c.classes-classes.ensures.value c.row_number-index.ensures.within in
     omega (arith, r.1, c.value_size-bytes.ensures.limit, c.loop-here.invariant.passed, c.classes-classes.ensures.placed, c.classes-classes.ensures.limits.few_objects)
 
 pub returns-clause-rows : goal.returns-clause-rows
 returns-clause-rows g c =
     let v = c.args.view.now in
-    let i = c.loop-here.passed in
-    let n = none_left (g.V.View.places v) i (sym c.in_default.is ∙ c.loop-here.invariant.here) in
-    let e : i ≡ length (g.V.View.image v).objects = omega (arith, n, c.loop-here.invariant.passed, c.classes-classes.ensures.placed) in
-    rows_end (g.V.View.ids v) (g.V.View.image v).classes c.args.marks.now (g.V.View.image v).objects i c.loop-here.rows.items c.loop-here.invariant.rows e
+    let e = all_visited (g.V.View.image v) (g.V.View.places v) c.loop-here.passed _ c.loop-here.invariant.here c.in_default.is c.loop-here.invariant.passed c.classes-classes.ensures.placed in
+    rows_end (g.V.View.ids v) (g.V.View.image v).classes c.args.marks.now (g.V.View.image v).objects c.loop-here.passed c.loop-here.rows.items c.loop-here.invariant.rows e

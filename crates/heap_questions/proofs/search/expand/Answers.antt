@@ -66,11 +66,10 @@ loop-slot-preserved g c =
 
 pub returns-clause-search : goal.returns-clause-search
 returns-clause-search g c =
-    let image = g.V.View.image c.args.view.now in
     let f = c.found_at-found.result in
-    let r = read image (g.V.View.places c.args.view.now) c.args.nodes.now f c.place-at.result c.kind-kind.result c.words-words.result.now c.requires.nodes (c.requires.search.placed c.args.head f (found_here _ _ c.args.head f c.as_slice.ensures.value c.found_at-found.ensures)) c.place-at.ensures
+    let r = read _ (g.V.View.places c.args.view.now) c.args.nodes.now f c.place-at.result c.kind-kind.result c.words-words.result.now c.requires.nodes (c.requires.search.placed c.args.head f (found_here _ _ c.args.head f c.as_slice.ensures.value c.found_at-found.ensures)) c.place-at.ensures
     c.classes-classes.ensures.limits c.classes-classes.ensures.placed c.kind-kind.ensures c.words-words.ensures in
-    looked_through image c.args.nodes.now c.args.queue.now.items c.args.head f c.loop-slot.seen.items c.loop-slot.queue.items c.loop-slot.slot r.object c.loop-slot.invariant r.there (omega (arith, r.many))
+    looked_through (g.V.View.image c.args.view.now) c.args.nodes.now c.args.queue.now.items c.args.head f c.loop-slot.seen.items c.loop-slot.queue.items c.loop-slot.slot r.object c.loop-slot.invariant r.there (omega (arith, r.many))
 
 pub returns-clause-ordered : goal.returns-clause-ordered
 returns-clause-ordered g c =

@@ -1,18 +1,10 @@
-use Rattle.std.proofs.Common.{◌≡◌, ◌∙◌, Some, None, codes, refl, sym}
-use Rattle.clap.specs.Words.{first_of, found_of, rows_of}
-use Rattle.clap.proofs.WalkLemmas.{first_value-rows}
+use Rattle.std.proofs.Common.{codes, refl}
+use Rattle.clap.specs.Words.{found_of}
+use Rattle.heapdbg_options.proofs.GivenOptions.{text_of_row}
 use Rattle.heapdbg_options.proofs.socket_options.dumps.Goals as goal
 
 pub returns-in-Some : goal.returns-in-Some
-returns-in-Some c =
-    let found = found_of c.args.options.now in
-    let given : first_of (codes "dumps") (rows_of found) ≡ Some c.in-Some.text.now =
-    sym (first_value-rows found (codes "dumps")) ∙ sym c.in-Some.ensures in
-    rw given c.port_beside.ensures
+returns-in-Some c = rw (text_of_row (found_of c.args.options.now) (codes "dumps") _ c.in-Some.ensures) c.port_beside.ensures
 
 pub returns-in-None : goal.returns-in-None
-returns-in-None c =
-    let found = found_of c.args.options.now in
-    let missing : first_of (codes "dumps") (rows_of found) ≡ None =
-    sym (first_value-rows found (codes "dumps")) ∙ sym c.in-None.ensures in
-    rw missing refl
+returns-in-None c = rw (text_of_row (found_of c.args.options.now) (codes "dumps") _ c.in-None.ensures) refl

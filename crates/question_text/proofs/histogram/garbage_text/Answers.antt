@@ -1,37 +1,25 @@
-use Rattle.std.proofs.Common.{◌∙◌, ◌+◌, List, ap, arith, length, subst, sym}
+use Rattle.std.proofs.Common.{List, subst}
 use Rattle.std.specs.Prelude.{filter}
 use Rattle.std.proofs.lemmas.Result.{IfOk-weaker}
 use Rattle.heap_class.specs.Classes.{Class}
-use Rattle.heap_questions.specs.Histogram.{class_rows}
 use Rattle.question_text.specs.Histograms.{IsGarbageText, IsRowsText, sum_of}
-use Rattle.question_text.proofs.Totals.{as_count, countable, filter_few, row_count, some_countable, sums_small}
+use Rattle.question_text.proofs.Totals.{as_count, countable, some_countable, some_small, viewed_rows}
 use Rattle.question_text.proofs.histogram.garbage_text.Goals as goal
 
 pub rows_text-requires-clause-classes : goal.rows_text-requires-clause-classes
 rows_text-requires-clause-classes g c =
-    let v = c.args.view.now in
-    let image = g.V.View.image v in
     let h = c.in_ok-histogram.ensures.rows in
-    ap length h.2 ∙ row_count (g.V.View.ids v) image.classes (filter h.0 image.objects)
-    ∙ ap (λ (cs : List Class). class_rows + length cs) (sym c.classes-classes.ensures.value)
+    viewed_rows (g.V.View.ids c.args.view.now) (g.V.View.image c.args.view.now).classes _ (filter h.0 (g.V.View.image c.args.view.now).objects) c.in_ok-histogram.histogram h.2 c.classes-classes.ensures.value
 
 pub rows_text-requires-clause-objects : goal.rows_text-requires-clause-objects
 rows_text-requires-clause-objects g c =
-    let v = c.args.view.now in
-    let image = g.V.View.image v in
-    let d = c.classes-classes.ensures.limits in
     let h = c.in_ok-histogram.ensures.rows in
-    (sums_small (g.V.View.ids v) image.classes (filter h.0 image.objects) c.in_ok-histogram.histogram h.2 (some_countable image.classes h.0 image.objects (countable image d))
-    (omega (arith, d.few_objects, filter_few h.0 image.objects))).0
+    (some_small (g.V.View.ids c.args.view.now) (g.V.View.image c.args.view.now) h.0 c.in_ok-histogram.histogram c.classes-classes.ensures.limits h.2).0
 
 pub rows_text-requires-clause-bytes : goal.rows_text-requires-clause-bytes
 rows_text-requires-clause-bytes g c =
-    let v = c.args.view.now in
-    let image = g.V.View.image v in
-    let d = c.classes-classes.ensures.limits in
     let h = c.in_ok-histogram.ensures.rows in
-    (sums_small (g.V.View.ids v) image.classes (filter h.0 image.objects) c.in_ok-histogram.histogram h.2 (some_countable image.classes h.0 image.objects (countable image d))
-    (omega (arith, d.few_objects, filter_few h.0 image.objects))).1
+    (some_small (g.V.View.ids c.args.view.now) (g.V.View.image c.args.view.now) h.0 c.in_ok-histogram.histogram c.classes-classes.ensures.limits h.2).1
 
 pub returns-clause-text : goal.returns-clause-text
 returns-clause-text g c =

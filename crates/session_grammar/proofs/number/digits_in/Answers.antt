@@ -1,5 +1,5 @@
 use Rattle.std.proofs.Common.{◌+◌, ◌-◌, ◌<◌, ◌≤◌, arith, get_or, length}
-use Rattle.session_grammar.proofs.Numbers.{sure_more}
+use Rattle.session_grammar.proofs.Numbers.{sure_more, times_ten}
 use Rattle.session_grammar.proofs.NumberDigits.{read_in_sure, read_in_last}
 use Rattle.session_grammar.proofs.number.digits_in.Goals as goal
 
@@ -7,11 +7,7 @@ pub loop-size-init : goal.loop-size-init
 loop-size-init c = (c.eights_in-value.ensures.read, grind (arith, c.eights_in-value.ensures.read.0, c.eights_in-value.ensures.most, c.min-sure.ensures), c.eights_in-value.ensures.small)
 
 pub overflow_mul-value : goal.overflow_mul-value
-overflow_mul-value c =
-    let i = c.loop-size.invariant in
-    let few : c.loop-size.size < 19 = grind (arith, c.loop-size-test.true, c.min-sure.ensures) in
-    let sure = sure_more c.loop-size.size c.loop-size.value 0 few i.2 (omega arith) in
-    omega (arith, sure.0)
+overflow_mul-value c = omega (arith, times_ten c.loop-size.size c.loop-size.value (grind (arith, c.loop-size-test.true, c.min-sure.ensures)) c.loop-size.invariant.2)
 
 pub returns-in-Some : goal.returns-in-Some
 returns-in-Some c =

@@ -1,7 +1,7 @@
 use Rattle.std.proofs.Common.{◌≡◌, ◌∙◌, ◌<◌, ◌≤◌, subst, sym, arith, drop, get_or, length, leb-true}
 use Rattle.std.proofs.lemmas.Bool.{and_parts}
 use Rattle.session_grammar.specs.Reads.{IsReadTo}
-use Rattle.session_grammar.proofs.Numbers.{read_none, read_sure, read_bad, read_to_space, read_to_end, sure_more}
+use Rattle.session_grammar.proofs.Numbers.{read_none, read_sure, read_bad, read_to_space, read_to_end, sure_more, times_ten}
 use Rattle.session_grammar.proofs.number.number_at.Goals as goal
 
 pub loop-size-init : goal.loop-size-init
@@ -21,11 +21,7 @@ returns-then-not-is_ascii_digit-clause-value c =
     read_bad c.args.text.now c.loop-size.size c.loop-size.value lt c.if-b-eq-SPACE.false (sym c.is_ascii_digit.ensures.value ∙ c.if-not-is_ascii_digit.true) i.0
 
 pub overflow_mul-value : goal.overflow_mul-value
-overflow_mul-value c =
-    let i = c.loop-size.invariant in
-    let few : c.loop-size.size < 19 = grind (arith, c.loop-size-test.true, c.min-sure.ensures) in
-    let sure = sure_more c.loop-size.size c.loop-size.value 0 few i.2 (omega arith) in
-    omega (arith, sure.0)
+overflow_mul-value c = omega (arith, times_ten c.loop-size.size c.loop-size.value (grind (arith, c.loop-size-test.true, c.min-sure.ensures)) c.loop-size.invariant.2)
 
 pub overflow_add-value : goal.overflow_add-value
 overflow_add-value c =

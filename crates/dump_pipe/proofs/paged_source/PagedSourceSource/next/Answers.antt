@@ -1,7 +1,7 @@
 use Rattle.std.proofs.Common.{ap, subst, arith}
-use Rattle.dump_pump.specs.Sources.{IsNextPart, more}
+use Rattle.dump_pump.specs.Sources.{IsNextPart, more, parts_in}
 use Rattle.dump_pipe.specs.Pages.{parts_left}
-use Rattle.dump_pipe.specs.PagedSources.{paged_supply, pages_in}
+use Rattle.dump_pipe.specs.PagedSources.{paged_supply}
 use Rattle.dump_pipe.proofs.PageStreams.{pages_as, next_as}
 use Rattle.dump_pipe.proofs.paged_source.PagedSourceSource.next.Goals as goal
 
@@ -14,7 +14,7 @@ pub invariant_of-self : goal.invariant_of-self
 invariant_of-self g c =
     let s = c.self.inside in
     let n = c.next_page-next in
-    pages_as g.B.PartsBefore.told (g.S.Source.seen s.source) (g.S.Source.seen n.new.source) (pages_in s.given.items) _ s.ended _ s.surplus n.new.surplus n.result
+    pages_as g.B.PartsBefore.told (g.S.Source.seen s.source) (g.S.Source.seen n.new.source) (parts_in s.given.items) _ s.ended _ s.surplus n.new.surplus n.result
     c.note-self-inside.ensures.given c.note-self-inside.ensures.ended c.self.invariant n.ensures.page
 
 pub returns-clause-next : goal.returns-clause-next
@@ -22,5 +22,5 @@ returns-clause-next g c =
     let s = c.self.inside in
     let n = c.next_page-next in
     let t = c.note-self-inside in
-    subst (λ v. IsNextPart (paged_supply v.given v.ended v.surplus (g.S.Source.seen v.source).left) (paged_supply (pages_in t.new.given.items) t.result n.new.surplus (g.S.Source.seen n.new.source).left) n.result) c.self.view_is
-    (next_as g.B.PartsBefore.told (g.S.Source.seen s.source) (g.S.Source.seen n.new.source) (pages_in s.given.items) _ s.ended _ s.surplus n.new.surplus n.result t.ensures.given t.ensures.ended c.self.invariant n.ensures.page)
+    subst (λ v. IsNextPart (paged_supply v.given v.ended v.surplus (g.S.Source.seen v.source).left) (paged_supply (parts_in t.new.given.items) t.result n.new.surplus (g.S.Source.seen n.new.source).left) n.result) c.self.view_is
+    (next_as g.B.PartsBefore.told (g.S.Source.seen s.source) (g.S.Source.seen n.new.source) (parts_in s.given.items) _ s.ended _ s.surplus n.new.surplus n.result t.ensures.given t.ensures.ended c.self.invariant n.ensures.page)

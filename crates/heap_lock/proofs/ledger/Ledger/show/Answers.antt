@@ -1,8 +1,6 @@
-use Rattle.std.proofs.Common.{◌≡◌, [], ap, ◌∙◌, arith}
-use Rattle.heap_lock.specs.declared.sight.Sight.TheVariants.{Both}
-use Rattle.heap_lock.specs.Sights.{calls_of}
+use Rattle.std.proofs.Common.{ap, ◌∙◌, arith}
 use Rattle.heap_lock.specs.Ledgers.{calls_in, all_in}
-use Rattle.heap_lock.proofs.SightSteps.{splits_as, joins_as, compares_as, compared_as, head_is}
+use Rattle.heap_lock.proofs.SightSteps.{splits_as, joins_as, compares_as, compared_as, head_is, both_joined}
 use Rattle.heap_lock.proofs.ledger.Ledger.show.Goals as goal
 
 pub join_seat-requires : goal.join_seat-requires
@@ -15,19 +13,14 @@ join_seat-requires c =
 pub load-requires : goal.load-requires
 load-requires c =
     let d = c.requires.ledger in
-    let s = c.requires.sight in
-    let i = c.into_seat.ensures in
     let j = c.join_seat.ensures in
-    let joined : c.join_seat.new.seat.me ≡ (Both (all_in c.args.self.now) (calls_in c.args.sight.views), []) = j.2 ∙ (λ k. (Both (all_in c.args.self.now) (calls_of (head_is _ _ _ i.2 s.1 k)), (ap (λ m. m.1) d.3) k)) in
+    let joined = both_joined _ (all_in c.args.self.now) (calls_in c.args.sight.views) _ _ (head_is _ _ _ c.into_seat.ensures.2 c.requires.sight.1) (ap (λ m. m.1) d.3) j.2 in
     (j.0 ∙ d.2, omega (arith, d.0), compares_as _ _ _ _ _ joined)
 
 pub split_seat-requires : goal.split_seat-requires
 split_seat-requires c =
     let d = c.requires.ledger in
-    let s = c.requires.sight in
-    let i = c.into_seat.ensures in
     let j = c.join_seat.ensures in
-    let joined : c.join_seat.new.seat.me ≡ (Both (all_in c.args.self.now) (calls_in c.args.sight.views), []) = j.2 ∙ (λ k. (Both (all_in c.args.self.now) (calls_of (head_is _ _ _ i.2 s.1 k)), (ap (λ m. m.1) d.3) k)) in
-    let l = c.load.ensures in
-    let n = compared_as _ _ _ _ joined l.2 in
-    (l.0 ∙ j.0 ∙ d.2, omega (arith, d.0), splits_as _ _ _ (ap (λ m. m.0) n.1))
+    let joined = both_joined _ (all_in c.args.self.now) (calls_in c.args.sight.views) _ _ (head_is _ _ _ c.into_seat.ensures.2 c.requires.sight.1) (ap (λ m. m.1) d.3) j.2 in
+    let n = compared_as _ _ _ _ joined c.load.ensures.2 in
+    (c.load.ensures.0 ∙ j.0 ∙ d.2, omega (arith, d.0), splits_as _ _ _ (ap (λ m. m.0) n.1))

@@ -1,9 +1,9 @@
-use Rattle.std.proofs.Common.{◌≡◌, [], ◌∷◌, length, map, take, sym, ◌∙◌, ap, ap₂, arith}
+use Rattle.std.proofs.Common.{[], ◌∷◌, length, map, take, sym, ◌∙◌, ap, ap₂, arith}
 use Rattle.std.proofs.lemmas.Option.{slice_get_within}
 use Rattle.hprof_text.specs.Sizes.{dump_size, object_size}
 use Rattle.hprof_text.proofs.Loops.{all_taken, item_got}
 use Rattle.hprof_text.proofs.AddedSizes.{measured_more, measured_as, taken_sizes}
-use Rattle.hprof_text.proofs.ViewedObjects.{here, within, none_left}
+use Rattle.hprof_text.proofs.ViewedObjects.{all_visited, fewer_left, here, within}
 use Rattle.hprof_text.proofs.measure.Measure.add_objects.Goals as goal
 
 pub add-requires-clause-limit : goal.add-requires-clause-limit
@@ -13,20 +13,16 @@ add-requires-clause-limit g c =
     omega (arith, c.loop-here.invariant.limit, c.requires, c.dump_size.ensures.limit, w, c.classes-classes.ensures.placed, c.classes-classes.ensures.limits.few_objects)
 
 pub loop-here-smaller : goal.loop-here-smaller
-loop-here-smaller g c =
-    let w = within (g.V.View.places c.args.view.now) c.loop-here.passed c.in-Some.at (sym c.loop-here.invariant.here ∙ c.in-Some.is) in
-    omega (arith, w)
+loop-here-smaller g c = fewer_left (g.V.View.places c.args.view.now) c.loop-here.passed _ c.in-Some.at c.loop-here.invariant.here c.in-Some.is
 
 pub loop-here-preserved : goal.loop-here-preserved
 loop-here-preserved g c =
-    let v = c.args.view.now in
-    let ids = g.V.View.ids v in
-    let image = g.V.View.image v in
-    let places = g.V.View.places v in
+    let ids = g.V.View.ids c.args.view.now in
+    let image = g.V.View.image c.args.view.now in
+    let places = g.V.View.places c.args.view.now in
     let i = c.loop-here.passed in
-    let at = c.in-Some.at in
     let e = sym c.loop-here.invariant.here ∙ c.in-Some.is in
-    let h = here image places i at c.kind.result c.words.result.now c.classes-classes.ensures.limits c.classes-classes.ensures.placed e (c.kind.ensures i e) (c.words.ensures i e) in
+    let h = here image places i c.in-Some.at c.kind.result c.words.result.now c.classes-classes.ensures.limits c.classes-classes.ensures.placed e (c.kind.ensures i e) (c.words.ensures i e) in
     let f = object_size ids image.classes in
     let d = c.dump_size.ensures.value
     ∙ ap₂ (λ s cs. dump_size s cs c.kind.result (length c.words.result.now)) c.id_size-ids.ensures c.classes-classes.ensures.value
@@ -37,15 +33,11 @@ loop-here-preserved g c =
       here = c.next-here.ensures i e;
       added = measured_as _ _ _ _ (taken_sizes f image.objects i h.object w (item_got image.objects i h.object h.there)) (measured_more (map f (take i image.objects)) (f h.object ∷ []) c.args.self.now c.loop-here.self c.add.new.self c.loop-here.invariant.added added);
       limit = omega (arith, c.loop-here.invariant.limit, c.add.ensures.limit, c.dump_size.ensures.limit);
-      passed = within places i at e;
+      passed = within places i c.in-Some.at e;
     }
 
 pub returns-clause-added : goal.returns-clause-added
 returns-clause-added g c =
-    let v = c.args.view.now in
-    let image = g.V.View.image v in
-    let places = g.V.View.places v in
-    let i = c.loop-here.passed in
-    let n = none_left places i (sym c.in_default.is ∙ c.loop-here.invariant.here) in
-    let e : i ≡ length image.objects = omega (arith, n, c.loop-here.invariant.passed, c.classes-classes.ensures.placed) in
-    measured_as _ _ _ _ (ap (map (object_size (g.V.View.ids v) image.classes)) (all_taken i image.objects e)) c.loop-here.invariant.added
+    let image = g.V.View.image c.args.view.now in
+    let e = all_visited image (g.V.View.places c.args.view.now) c.loop-here.passed _ c.loop-here.invariant.here c.in_default.is c.loop-here.invariant.passed c.classes-classes.ensures.placed in
+    measured_as _ _ _ _ (ap (map (object_size (g.V.View.ids c.args.view.now) image.classes)) (all_taken c.loop-here.passed image.objects e)) c.loop-here.invariant.added

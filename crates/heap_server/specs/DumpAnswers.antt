@@ -1,5 +1,5 @@
 -- The answers to `dump` lines over a shared heap, as texts of states.
-use Rattle.std.specs.Prelude.{◌≡◌, ◌⊎◌, ℕ, ◌+◌, Bool, true, false, List, [], ◌∷◌, ◌++◌, length, flat_map, Option, None}
+use Rattle.std.specs.Prelude.{◌≡◌, ◌⊎◌, ℕ, ◌+◌, Bool, true, false, List, [], ◌∷◌, ◌++◌, length, flat_map, None}
 use mathlib.Core.List.{IsPrefix}
 use Rattle.heap_lock.specs.HeapLimits.{HeapSettings}
 use Rattle.heap_lock.specs.Piece.{Piece}
@@ -12,7 +12,7 @@ use Rattle.dump_pump.specs.Pumps.{joined}
 use Rattle.dump_pump.specs.Sources.{part_limit}
 use Rattle.heap_lock.specs.Calls.{Call}
 use Rattle.heap_lock.specs.LockStates.{Chair}
-use Rattle.heap_lock.specs.Laws.{CallsAskAt, pieces_given, state_at}
+use Rattle.heap_lock.specs.Laws.{IsAlone, state_at}
 use Rattle.session_text.specs.Replies.{data_lines, reply_text, piece_in, pin_in}
 use Rattle.session_text.specs.Dumps.{Acts, DumpsPin, DumpsNow, total_line}
 use Rattle.heap_server.specs.JoinedActs.{IsJoined}
@@ -36,14 +36,6 @@ abbrev pub Spells : List ℕ → Bool → List ℕ → Type 0
 Spells text whole bytes =
     (rest : List ℕ) × (bytes ++ rest ≡ text) × (whole ≡ true → rest ≡ [])
 
--- no call after the pin's opening got other pieces of it than these, and all asked with this time
-pub record AreAllGiven (pin place time : ℕ) (before after seen : List Call)
-    (given : List Piece) : Type 0 where
-  pub at : Option ℕ
-  pub opened : seen ≡ before ++ (OpenPin at, Pinned pin place) ∷ after
-  pub asks : CallsAskAt pin time after
-  pub pieces : pieces_given pin after ≡ given
-
 -- the answer has the data lines of the pieces that it was given; if these are all that the pin gave, they spell the dump of the
 -- state at the pin's place
 pub record IsDumpAnswer (config : HeapSettings) (pin time : ℕ) (seen : List Call)
@@ -54,7 +46,7 @@ pub record IsDumpAnswer (config : HeapSettings) (pin time : ℕ) (seen : List Ca
   pub lines : text ≡ lines_of_pieces given ++ end
   pub ends : EndsData (length (joined given)) whole end
   pub exact : (place : ℕ) (before after : List Call)
-      → AreAllGiven pin place time before after seen given
+      → IsAlone pin place time before after seen given
       → Spells (dump_text config.ids (image_of (state_at config before place)) time) whole
       (joined given)
 

@@ -205,11 +205,11 @@ sums_small ids classes objects rows e each few =
     (omega (arith, a, few), omega (arith, b, bytes_few ids classes objects each, few))
 
 -- so are those of all objects of an image, and of some of them
-pub all_small : (ids : IdSize) (image : Image) (rows : List Row) → IsDumpable image → rows ≡ rows_of ids image.classes image.objects → ((sum_of rows).objects < 2 ^ 64) × ((sum_of rows).bytes < 2 ^ 64)
-all_small ids image rows d e = sums_small ids image.classes image.objects rows e (countable image d) d.few_objects
+pub all_rows_small : (ids : IdSize) (image : Image) (rows : List Row) → IsDumpable image → rows ≡ rows_of ids image.classes image.objects → ((sum_of rows).objects < 2 ^ 64) × ((sum_of rows).bytes < 2 ^ 64)
+all_rows_small ids image rows d e = sums_small ids image.classes image.objects rows e (countable image d) d.few_objects
 
-pub some_small : (ids : IdSize) (image : Image) (test : DumpedObject → Bool) (rows : List Row) → IsDumpable image → rows ≡ rows_of ids image.classes (filter test image.objects) → ((sum_of rows).objects < 2 ^ 64) × ((sum_of rows).bytes < 2 ^ 64)
-some_small ids image test rows d e = sums_small ids image.classes (filter test image.objects) rows e (some_countable image.classes test image.objects (countable image d)) (omega (arith, d.few_objects, filter_few test image.objects))
+pub some_rows_small : (ids : IdSize) (image : Image) (test : DumpedObject → Bool) (rows : List Row) → IsDumpable image → rows ≡ rows_of ids image.classes (filter test image.objects) → ((sum_of rows).objects < 2 ^ 64) × ((sum_of rows).bytes < 2 ^ 64)
+some_rows_small ids image test rows d e = sums_small ids image.classes (filter test image.objects) rows e (some_countable image.classes test image.objects (countable image d)) (omega (arith, d.few_objects, filter_few test image.objects))
 
 -- the rows of classes as a view has them
 pub viewed_rows : (ids : IdSize) (classes seen : List Class) (objects : List DumpedObject) (rows : List Row) → rows ≡ rows_of ids classes objects → seen ≡ classes → length rows ≡ class_rows + length seen

@@ -3,7 +3,7 @@ use Rattle.std.specs.Prelude.{filter}
 use Rattle.std.proofs.lemmas.Result.{IfOk-weaker}
 use Rattle.heap_class.specs.Classes.{Class}
 use Rattle.question_text.specs.Histograms.{IsGarbageText, IsRowsText, sum_of}
-use Rattle.question_text.proofs.Totals.{as_count, countable, some_countable, some_small, viewed_rows}
+use Rattle.question_text.proofs.Totals.{as_count, countable, some_countable, some_rows_small, viewed_rows}
 use Rattle.question_text.proofs.histogram.garbage_text.Goals as goal
 
 pub rows_text-requires-clause-classes : goal.rows_text-requires-clause-classes
@@ -14,12 +14,12 @@ rows_text-requires-clause-classes g c =
 pub rows_text-requires-clause-objects : goal.rows_text-requires-clause-objects
 rows_text-requires-clause-objects g c =
     let h = c.in_ok-histogram.ensures.rows in
-    (some_small (g.V.View.ids c.args.view.now) (g.V.View.image c.args.view.now) h.0 c.in_ok-histogram.histogram c.classes-classes.ensures.limits h.2).0
+    (some_rows_small (g.V.View.ids c.args.view.now) (g.V.View.image c.args.view.now) h.0 c.in_ok-histogram.histogram c.classes-classes.ensures.limits h.2).0
 
 pub rows_text-requires-clause-bytes : goal.rows_text-requires-clause-bytes
 rows_text-requires-clause-bytes g c =
     let h = c.in_ok-histogram.ensures.rows in
-    (some_small (g.V.View.ids c.args.view.now) (g.V.View.image c.args.view.now) h.0 c.in_ok-histogram.histogram c.classes-classes.ensures.limits h.2).1
+    (some_rows_small (g.V.View.ids c.args.view.now) (g.V.View.image c.args.view.now) h.0 c.in_ok-histogram.histogram c.classes-classes.ensures.limits h.2).1
 
 pub returns-clause-text : goal.returns-clause-text
 returns-clause-text g c =

@@ -2,7 +2,7 @@ use Rattle.std.proofs.Common.{List, subst}
 use Rattle.std.proofs.lemmas.Result.{IfOk-weaker}
 use Rattle.heap_class.specs.Classes.{Class}
 use Rattle.question_text.specs.Histograms.{IsHistogramText, IsRowsText, sum_of}
-use Rattle.question_text.proofs.Totals.{all_small, as_count, countable, viewed_rows}
+use Rattle.question_text.proofs.Totals.{all_rows_small, as_count, countable, viewed_rows}
 use Rattle.question_text.proofs.histogram.histogram_text.Goals as goal
 
 pub rows_text-requires-clause-classes : goal.rows_text-requires-clause-classes
@@ -10,10 +10,10 @@ rows_text-requires-clause-classes g c =
     viewed_rows (g.V.View.ids c.args.view.now) (g.V.View.image c.args.view.now).classes _ (g.V.View.image c.args.view.now).objects c.in_ok-histogram.histogram c.in_ok-histogram.ensures.rows c.classes-classes.ensures.value
 
 pub rows_text-requires-clause-objects : goal.rows_text-requires-clause-objects
-rows_text-requires-clause-objects g c = (all_small (g.V.View.ids c.args.view.now) (g.V.View.image c.args.view.now) c.in_ok-histogram.histogram c.classes-classes.ensures.limits c.in_ok-histogram.ensures.rows).0
+rows_text-requires-clause-objects g c = (all_rows_small (g.V.View.ids c.args.view.now) (g.V.View.image c.args.view.now) c.in_ok-histogram.histogram c.classes-classes.ensures.limits c.in_ok-histogram.ensures.rows).0
 
 pub rows_text-requires-clause-bytes : goal.rows_text-requires-clause-bytes
-rows_text-requires-clause-bytes g c = (all_small (g.V.View.ids c.args.view.now) (g.V.View.image c.args.view.now) c.in_ok-histogram.histogram c.classes-classes.ensures.limits c.in_ok-histogram.ensures.rows).1
+rows_text-requires-clause-bytes g c = (all_rows_small (g.V.View.ids c.args.view.now) (g.V.View.image c.args.view.now) c.in_ok-histogram.histogram c.classes-classes.ensures.limits c.in_ok-histogram.ensures.rows).1
 
 pub returns-clause-text : goal.returns-clause-text
 returns-clause-text g c =

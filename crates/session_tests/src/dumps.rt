@@ -9,7 +9,7 @@ use std::alloc::Global;
 use std::test::*;
 
 // Bytes of the dump of one point.
-const SIZE: usize = 301;
+const POINT_SIZE: usize = 301;
 
 // How many of its bytes are out after some writes, if each of its three pieces is one.
 const PIECES: [(usize, usize); 4] = [(0, 0), (1, 143), (2, 292), (3, 301)];
@@ -38,7 +38,7 @@ fn dumped<'a>(machine: &mut Machine, sink: Sink<'a>) -> (Option<Pumped>, Sink<'a
 // Returns how a dump must end of which this number of bytes can be put out.
 fn wanted(bytes: usize) -> Option<Pumped> {
     let out = bytes as u64;
-    if bytes < SIZE {
+    if bytes < POINT_SIZE {
         Some(Pumped::OutletFailed { bytes: out })
     } else {
         Some(Pumped::Done { bytes: out })
@@ -50,13 +50,16 @@ fn ends(machine: &mut Machine, sink: Sink<'_>, bytes: usize) -> bool {
     let text = sink.rest;
     let (pumped, sink) = dumped(machine, sink);
     let (again, whole) = dumped(machine, Sink::new(text));
-    pumped == wanted(bytes) && sink.has_first(bytes) && again == wanted(SIZE) && whole.is_whole()
+    pumped == wanted(bytes)
+        && sink.has_first(bytes)
+        && again == wanted(POINT_SIZE)
+        && whole.is_whole()
 }
 
 // Returns whether dumps into sinks that take one byte a write and fail at each of their writes, and into sinks that fail once
 // they have 0, 1, .. bytes, end as they must.
 fn each_ends(machine: &mut Machine, sink: Sink<'_>) -> bool {
-    for bytes in 0..=SIZE {
+    for bytes in 0..=POINT_SIZE {
         let by_puts = Sink {
             most: 1,
             writes: bytes,

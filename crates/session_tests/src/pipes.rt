@@ -12,18 +12,18 @@ use std::test::*;
 use std::thread::Threads;
 
 // The size of the dump of 2,000 points: its opening, 17 segments and its end.
-const SIZE: usize = 66412;
+const MANY_SIZE: usize = 66412;
 
 // The line that ends the session.
 const SAVED: &str = "saved 66412\n";
 
 // The size of the first page: the opening and 15 segments.
-const FIRST: u64 = 61657;
+const FIRST_PAGE: u64 = 61657;
 
 // The sights of a gauge: how often it was begun and shown, what it was shown last, whether that rose, and the bytes that its
 // ends told.
 #[derive(Clone, Copy, PartialEq)]
-struct Notes {
+struct GaugeNotes {
     begun: u64,
     shown: u64,
     bytes: u64,
@@ -31,7 +31,7 @@ struct Notes {
     ended: u64,
 }
 
-impl Gauge for Notes {
+impl Gauge for GaugeNotes {
     fn begin(&mut self, _machine: &Machine) {
         self.begun = self.begun.saturating_add(1);
     }
@@ -78,8 +78,8 @@ fn saved_beside<R: Threads + Wait + Sync>(
     alloc: Global,
     local: &mut Local,
     text: &[u8],
-) -> (bool, Notes) {
-    let mut notes = Notes {
+) -> (bool, GaugeNotes) {
+    let mut notes = GaugeNotes {
         begun: 0,
         shown: 0,
         bytes: 0,
@@ -88,7 +88,7 @@ fn saved_beside<R: Threads + Wait + Sync>(
     };
     let done = saved(rt, alloc, local, "", SAVED, text, &mut notes);
     let whole = done.pumped == Some(Pumped::Done { bytes: 66412 });
-    let same = text.len() == SIZE && done.is_whole == Some(true) && done.is_answered;
+    let same = text.len() == MANY_SIZE && done.is_whole == Some(true) && done.is_answered;
     (whole && same, notes)
 }
 
@@ -97,7 +97,7 @@ fn many_saved_in<R: Threads + Wait + Sync>(
     rt: &R,
     alloc: Global,
     local: &mut Local,
-) -> Option<(bool, Notes)> {
+) -> Option<(bool, GaugeNotes)> {
     if !makes_points(alloc, local, 2000) {
         return None;
     }
@@ -106,17 +106,17 @@ fn many_saved_in<R: Threads + Wait + Sync>(
 }
 
 // Does so on a new machine.
-fn many_saved<R: Threads + Wait + Sync>(rt: &R, alloc: Global) -> Option<(bool, Notes)> {
+fn many_saved<R: Threads + Wait + Sync>(rt: &R, alloc: Global) -> Option<(bool, GaugeNotes)> {
     let mut local = new_local(alloc, 16)?;
     many_saved_in(rt, alloc, &mut local)
 }
 
 #[test]
 fn segments_of_many_points(rt: HostRuntime) -> Result<(), Fail> {
-    let notes = Notes {
+    let notes = GaugeNotes {
         begun: 1,
         shown: 2,
-        bytes: FIRST,
+        bytes: FIRST_PAGE,
         rises: true,
         ended: 66412,
     };

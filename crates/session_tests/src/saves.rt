@@ -31,7 +31,7 @@ impl<'a> Outlets for Place<'a> {
 
 /// The outcome of a session that was saved.
 #[derive(Clone, Copy, PartialEq)]
-pub struct Outcome {
+pub struct SaveSight {
     pub ended: Ended,
     pub pumped: Option<Pumped>,
     /// Whether its answers are as they must be.
@@ -66,7 +66,7 @@ pub fn saved<G: Gauge, R: Threads + Wait + Sync>(
     answers: &str,
     text: &[u8],
     gauge: &mut G,
-) -> Outcome {
+) -> SaveSight {
     let mut inlet = ReadInlet::new(lines.as_bytes());
     let mut outlet = WriteOutlet::new(Sink::new(answers.as_bytes()));
     let place = Place { text, asked: 0 };
@@ -80,7 +80,7 @@ pub fn saved<G: Gauge, R: Threads + Wait + Sync>(
         Some(made) => Some(made.into_writer().is_whole()),
         None => None,
     };
-    Outcome {
+    SaveSight {
         ended,
         pumped,
         is_answered: outlet.into_writer().is_whole(),
@@ -94,21 +94,21 @@ fn point_saved_in<R: Threads + Wait + Sync>(
     rt: &R,
     alloc: Global,
     local: &mut Local,
-) -> Option<Outcome> {
+) -> Option<SaveSight> {
     let text = hex::decode(alloc, DUMP_OF_ONE_POINT).ok()?;
     let text = text.as_slice();
     Some(saved(rt, alloc, local, POINT, POINT_SAVED, text, &mut Silent))
 }
 
 // Does so on a new machine.
-fn point_saved<R: Threads + Wait + Sync>(rt: &R, alloc: Global) -> Option<Outcome> {
+fn point_saved<R: Threads + Wait + Sync>(rt: &R, alloc: Global) -> Option<SaveSight> {
     let mut local = new_local(alloc, 16)?;
     point_saved_in(rt, alloc, &mut local)
 }
 
 #[test]
 fn save_pumps_the_heap(rt: HostRuntime) -> Result<(), Fail> {
-    let wanted = Outcome {
+    let wanted = SaveSight {
         ended: Ended::Eof,
         pumped: Some(Pumped::Done { bytes: 301 }),
         is_answered: true,

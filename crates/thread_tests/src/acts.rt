@@ -1,5 +1,5 @@
 //! Acts in one thread: receipts around a rewind, and the calls of one who holds the lock.
-use crate::scenes::{Five, Scene, played};
+use crate::scenes::{Five, Scene, play_scene};
 use crate::shared::{did, undid};
 use heap_class::{Kind, LostCause, Refusal};
 use heap_lock::{Heap, Kept, Outcome, Receipt, Role, Seat, Shared, Verdict, audit};
@@ -50,7 +50,7 @@ pub fn rewind_between<L: Heap + Send + Sync, R: Threads + Wait + Sync>(
 
 #[test]
 fn receipts_agree_after_a_rewind(rt: HostRuntime) -> Result<(), Fail> {
-    assert!(rt; played(&rt, rt.alloc(), Scene::RewindBetween) == Some(true));
+    assert!(rt; play_scene(&rt, rt.alloc(), Scene::RewindBetween) == Some(true));
     Ok(())
 }
 
@@ -114,6 +114,6 @@ pub fn five_calls<L: Heap + Send + Sync, R: Threads + Wait + Sync>(
 
 #[test]
 fn five_calls_under_one_guard(rt: HostRuntime) -> Result<(), Fail> {
-    assert!(rt; played(&rt, rt.alloc(), Scene::FiveCalls) == Some(true));
+    assert!(rt; play_scene(&rt, rt.alloc(), Scene::FiveCalls) == Some(true));
     Ok(())
 }

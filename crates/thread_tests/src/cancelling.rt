@@ -3,9 +3,9 @@ ghost use Rattle.std.specs.Prelude.{◌≡◌};
 
 use crate::meters::{FourSeats, new_meter};
 use crate::points::one_point;
-use crate::scenes::{Five, Scene, played};
+use crate::scenes::{Five, Scene, play_scene};
 use crate::shared::{closes_pin, opened_pin};
-use crate::sources::Asking;
+use crate::sources::AskingSource;
 use dump_pipe::{AskSeat, FeedSeat, Meter, Watched};
 use dump_pump::{Pumped, WriteOutlet, pump};
 use heap_lock::{Heap, LockedSource, Shared};
@@ -31,7 +31,7 @@ fn pump_asked<'a, L: Heap, R: Wait>(
     requires feed { feed.meter ≡ meter.now }
 {
     let mut source = Watched {
-        source: Asking {
+        source: AskingSource {
             source: LockedSource::new(shared, rt, shared.witness(rt), pin, 0),
             cancel: meter.cancel(),
             seat: asker,
@@ -87,6 +87,6 @@ pub fn cancelled_pumps<L: Heap + Send + Sync, R: Threads + Wait + Sync>(
 
 #[test]
 fn pump_cancelled(rt: HostRuntime) -> Result<(), Fail> {
-    assert!(rt; played(&rt, rt.alloc(), Scene::CancelledPumps) == Some(true));
+    assert!(rt; play_scene(&rt, rt.alloc(), Scene::CancelledPumps) == Some(true));
     Ok(())
 }

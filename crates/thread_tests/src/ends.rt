@@ -8,7 +8,7 @@ ghost use Rattle.dump_pipe.specs.declared.end_view.EndView.TheVariants.{Sends, G
 
 use crate::meters::{FourSeats, new_meter};
 use crate::points::one_point;
-use crate::scenes::{Five, Scene, played};
+use crate::scenes::{Five, Scene, play_scene};
 use crate::shared::{closes_pin, has_points, opened_pin, pumped_now};
 use crate::sinks::reaches;
 use crate::sources::Counted;
@@ -150,7 +150,7 @@ pub fn nine_asked<L: Heap + Send + Sync, R: Threads + Wait + Sync>(
 
 #[test]
 fn pipe_needs_two(rt: HostRuntime) -> Result<(), Fail> {
-    assert!(rt; played(&rt, rt.alloc(), Scene::NineAsked) == Some(true));
+    assert!(rt; play_scene(&rt, rt.alloc(), Scene::NineAsked) == Some(true));
     Ok(())
 }
 
@@ -217,7 +217,7 @@ pub fn failing_ends<L: Heap + Send + Sync, R: Threads + Wait + Sync>(
 
 #[test]
 fn outlets_that_fail(rt: HostRuntime) -> Result<(), Fail> {
-    assert!(rt; played(&rt, rt.alloc(), Scene::FailingEnds) == Some(true));
+    assert!(rt; play_scene(&rt, rt.alloc(), Scene::FailingEnds) == Some(true));
     Ok(())
 }
 

@@ -1,5 +1,5 @@
 //! Gates of workers: each is passed once before each act, and without the lock.
-use crate::scenes::{Five, Scene, played};
+use crate::scenes::{Five, Scene, play_scene};
 use crate::shared::did;
 use crate::sinks::reaches;
 use crate::workers::{began, marks, sweeps};
@@ -16,13 +16,13 @@ use std::thread::Threads;
 // A gate at which another seat acts: each pass waits until that is answered, and lets no act begin if it never is. Counts the
 // passes.
 #[derive(Drop)]
-struct Watched<'a> {
+struct WatchedGate<'a> {
     passes: u64,
     here: &'a AtomicU64,
     seen: &'a AtomicU64,
 }
 
-impl<'a> Gate for Watched<'a> {
+impl<'a> Gate for WatchedGate<'a> {
     fn pass(&mut self, turn: u64) -> bool {
         self.passes = self.passes.saturating_add(1);
         self.here.store(turn, Ordering::SeqCst);
@@ -73,7 +73,7 @@ fn works<L: Heap, R: Wait>(
     here: &AtomicU64,
     seen: &AtomicU64,
 ) -> bool {
-    let mut gate = Watched {
+    let mut gate = WatchedGate {
         passes: 0,
         here,
         seen,
@@ -125,6 +125,6 @@ pub fn watched_workers<L: Heap + Send + Sync, R: Threads + Wait + Sync>(
 
 #[test]
 fn gates_are_passed_before_each_act(rt: HostRuntime) -> Result<(), Fail> {
-    assert!(rt; played(&rt, rt.alloc(), Scene::WatchedWorkers) == Some(true));
+    assert!(rt; play_scene(&rt, rt.alloc(), Scene::WatchedWorkers) == Some(true));
     Ok(())
 }

@@ -3,7 +3,7 @@ use crate::live::{Seen, pumped_beside, streamed_beside, streamed_cancelled};
 use crate::metered::unread;
 use crate::meters::{FourSeats, new_meter};
 use crate::points::one_point;
-use crate::scenes::{Five, Scene, played};
+use crate::scenes::{Five, Scene, play_scene};
 use crate::shared::{has_points, opened_pin, pumped_now};
 use dump_pump::Pumped;
 use heap_lock::{Heap, Shared};
@@ -31,7 +31,7 @@ pub fn pump_beside<L: Heap + Send + Sync, R: Threads + Wait + Sync>(
 
 #[test]
 fn gate_outlet_first_put(rt: HostRuntime) -> Result<(), Fail> {
-    assert!(rt; played(&rt, rt.alloc(), Scene::PumpBeside) == Some(true));
+    assert!(rt; play_scene(&rt, rt.alloc(), Scene::PumpBeside) == Some(true));
     Ok(())
 }
 
@@ -67,7 +67,7 @@ pub fn stream_beside<L: Heap + Send + Sync, R: Threads + Wait + Sync>(
 
 #[test]
 fn gate_outlet_first_put_of_a_stream(rt: HostRuntime) -> Result<(), Fail> {
-    assert!(rt; played(&rt, rt.alloc(), Scene::StreamBeside) == Some(true));
+    assert!(rt; play_scene(&rt, rt.alloc(), Scene::StreamBeside) == Some(true));
     Ok(())
 }
 
@@ -113,6 +113,6 @@ pub fn stream_cancelled<L: Heap + Send + Sync, R: Threads + Wait + Sync>(
 
 #[test]
 fn stream_cancelled_by_a_third_thread(rt: HostRuntime) -> Result<(), Fail> {
-    assert!(rt; played(&rt, rt.alloc(), Scene::StreamCancelled) == Some(true));
+    assert!(rt; play_scene(&rt, rt.alloc(), Scene::StreamCancelled) == Some(true));
     Ok(())
 }

@@ -4,7 +4,7 @@ ghost use denote.Param.Send.{IsSync};
 ghost use Rattle.dump_pipe.specs.Seats.{sum};
 
 use crate::meters::{FourSeats, new_meter};
-use crate::scenes::{Five, Scene, played};
+use crate::scenes::{Five, Scene, play_scene};
 use crate::shared::{has_points, opened_pin, pumped_now, streamed};
 use crate::sinks::{Gated, TURNS, reaches};
 use dump_pipe::{Counter, FeedSeat, Meter, OutSeat, Progress, ReadSeat, pump_counted};
@@ -19,9 +19,11 @@ use std::thread;
 use std::thread::{Threads, yield_now};
 
 // Bytes of the dump of thirty points.
-const SIZE: u64 = 1258;
+const METERED_SIZE: u64 = 1258;
 
-const DONE: Pumped = Pumped::Done { bytes: SIZE };
+const DONE: Pumped = Pumped::Done {
+    bytes: METERED_SIZE,
+};
 
 // Reads the progress until a stream is done. Returns what was read last, and whether nothing above the size was read.
 fn read_along(progress: &Progress<'_>, seat: &mut ReadSeat, done: &AtomicU64) -> (u64, bool)
@@ -30,8 +32,8 @@ fn read_along(progress: &Progress<'_>, seat: &mut ReadSeat, done: &AtomicU64) ->
     for _ in 0..TURNS {
         let is_done = done.load(Ordering::SeqCst) == 1;
         let read = progress.read(seat);
-        if is_done || read > SIZE {
-            return (read, read <= SIZE);
+        if is_done || read > METERED_SIZE {
+            return (read, read <= METERED_SIZE);
         }
         yield_now();
     }
@@ -110,7 +112,7 @@ fn is_read<L: Heap + Send + Sync, R: Threads + Wait + Sync>(
         feed,
     } = new_meter(alloc)?;
     let (went, read) = read_by_two(rt, alloc, shared, pin, &meter, out, reader, feed);
-    Some(went == (DONE, SIZE as usize) && read == (143, (SIZE, true)))
+    Some(went == (DONE, METERED_SIZE as usize) && read == (143, (METERED_SIZE, true)))
 }
 
 /// Streams the dump of a pin into a sink, with a new meter, after somebody asked to cancel it if they `asked`. Returns how it
@@ -163,7 +165,7 @@ pub fn metered_streams<L: Heap + Send + Sync, R: Threads + Wait + Sync>(
 
 #[test]
 fn stream_with_progress_and_cancel(rt: HostRuntime) -> Result<(), Fail> {
-    assert!(rt; played(&rt, rt.alloc(), Scene::MeteredStreams) == Some(true));
+    assert!(rt; play_scene(&rt, rt.alloc(), Scene::MeteredStreams) == Some(true));
     Ok(())
 }
 
@@ -228,6 +230,6 @@ pub fn counted_pumps<L: Heap + Send + Sync, R: Threads + Wait + Sync>(
 
 #[test]
 fn one_thread_counts_what_is_out(rt: HostRuntime) -> Result<(), Fail> {
-    assert!(rt; played(&rt, rt.alloc(), Scene::CountedPumps) == Some(true));
+    assert!(rt; play_scene(&rt, rt.alloc(), Scene::CountedPumps) == Some(true));
     Ok(())
 }

@@ -1,6 +1,6 @@
 //! Pumps into outlets that fail: a worked example.
 use crate::points::one_point;
-use crate::scenes::{Five, Scene, played};
+use crate::scenes::{Five, Scene, play_scene};
 use crate::shared::pumped_now;
 use dump_pump::Pumped;
 use heap_lock::{Heap, Shared};
@@ -64,6 +64,6 @@ pub fn failing_pumps<L: Heap + Send + Sync, R: Threads + Wait + Sync>(
 
 #[test]
 fn pump_into_an_outlet_that_fails(rt: HostRuntime) -> Result<(), Fail> {
-    assert!(rt; played(&rt, rt.alloc(), Scene::FailingPumps) == Some(true));
+    assert!(rt; play_scene(&rt, rt.alloc(), Scene::FailingPumps) == Some(true));
     Ok(())
 }

@@ -1,5 +1,5 @@
 //! A chronicle that drops its oldest entries, and audits of receipts whose entries it dropped.
-use crate::scenes::{Five, Scene, played};
+use crate::scenes::{Five, Scene, play_scene};
 use crate::shared::did;
 use heap_lock::{Heap, Kept, Outcome, Receipt, Seat, Shared, Verdict, audit};
 use heap_scripts::{Action, Answer, Event};
@@ -120,6 +120,6 @@ pub fn rolling<L: Heap + Send + Sync, R: Threads + Wait + Sync>(
 
 #[test]
 fn chronicle_drops_its_oldest(rt: HostRuntime) -> Result<(), Fail> {
-    assert!(rt; played(&rt, rt.alloc(), Scene::Rolling) == Some(true));
+    assert!(rt; play_scene(&rt, rt.alloc(), Scene::Rolling) == Some(true));
     Ok(())
 }

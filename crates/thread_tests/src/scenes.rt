@@ -89,7 +89,7 @@ fn play<L: Heap + Send + Sync, R: Threads + Wait + Sync>(
 }
 
 // Opens a heap, and plays a scene on it.
-fn opened<L: Heap + Send + Sync, R: Threads + Wait + Sync>(
+fn open_and_play<L: Heap + Send + Sync, R: Threads + Wait + Sync>(
     rt: &R,
     alloc: Global,
     blank: Blank,
@@ -106,17 +106,17 @@ fn opened<L: Heap + Send + Sync, R: Threads + Wait + Sync>(
 }
 
 // Gives a heap its name, and plays a scene on it.
-fn named<R: Threads + Wait + Sync>(
+fn play_named<R: Threads + Wait + Sync>(
     rt: &R,
     alloc: Global,
     blank: Blank,
     scene: Scene,
 ) -> Option<bool> {
-    opened::<Brand, R>(rt, alloc, blank, scene)
+    open_and_play::<Brand, R>(rt, alloc, blank, scene)
 }
 
 /// Plays a scene on a new heap of 16 regions and 2 mutators, whose chronicle drops its oldest entries if the scene is of that.
-pub fn played<R: Threads + Wait + Sync>(rt: &R, alloc: Global, scene: Scene) -> Option<bool> {
+pub fn play_scene<R: Threads + Wait + Sync>(rt: &R, alloc: Global, scene: Scene) -> Option<bool> {
     let config = Config::new(16, 2, 1024)?;
     let roles = [
         Role::User,
@@ -127,5 +127,5 @@ pub fn played<R: Threads + Wait + Sync>(rt: &R, alloc: Global, scene: Scene) -> 
     ];
     let mut blank = Blank::new(alloc, config, roles.as_slice()).ok()?;
     blank.set_rolls(matches!(scene, Scene::Rolling));
-    named(rt, alloc, blank, scene)
+    play_named(rt, alloc, blank, scene)
 }

@@ -31,7 +31,7 @@ impl<'a, S: Source> Source for Counted<'a, S> {
 
 /// A source that asks to cancel before it gives its second part.
 #[derive(Drop)]
-pub struct Asking<'a, S: Source> {
+pub struct AskingSource<'a, S: Source> {
     pub source: S,
     pub cancel: Cancel<'a>,
     pub seat: AskSeat,
@@ -39,7 +39,7 @@ pub struct Asking<'a, S: Source> {
     ghost met: { seat.meter ≡ cancel },
 }
 
-impl<'a, S: Source> Source for Asking<'a, S> {
+impl<'a, S: Source> Source for AskingSource<'a, S> {
     ghost Kept = { S.Kept };
 
     ghost kept = { λ a. S.kept a.source };

@@ -1,5 +1,5 @@
 //! Seats in threads of their own, whose receipts agree with one history.
-use crate::scenes::{Five, Scene, played};
+use crate::scenes::{Five, Scene, play_scene};
 use crate::shared::{did, undid};
 use heap_class::Kind;
 use heap_lock::{Heap, Kept, Receipt, Role, Seat, Shared, Verdict, audit};
@@ -178,6 +178,6 @@ pub fn four_threads<L: Heap + Send + Sync, R: Threads + Wait + Sync>(
 
 #[test]
 fn four_seats_one_history(rt: HostRuntime) -> Result<(), Fail> {
-    assert!(rt; played(&rt, rt.alloc(), Scene::FourThreads) == Some(true));
+    assert!(rt; play_scene(&rt, rt.alloc(), Scene::FourThreads) == Some(true));
     Ok(())
 }

@@ -1,7 +1,7 @@
 //! Workers in one thread: a whole cycle, and gates that let no act begin.
 ghost use Rattle.std.specs.Prelude.{◌<◌, ◌≤◌};
 
-use crate::scenes::{Five, Scene, played};
+use crate::scenes::{Five, Scene, play_scene};
 use crate::shared::acts;
 use heap_class::Refusal;
 use heap_lock::{Heap, Outcome, Receipt, Role, Seat, Shared, Verdict, audit};
@@ -164,6 +164,6 @@ pub fn cycles<L: Heap + Send + Sync, R: Threads + Wait + Sync>(
 
 #[test]
 fn workers_finish_a_cycle_and_stop_at_gates(rt: HostRuntime) -> Result<(), Fail> {
-    assert!(rt; played(&rt, rt.alloc(), Scene::Cycles) == Some(true));
+    assert!(rt; play_scene(&rt, rt.alloc(), Scene::Cycles) == Some(true));
     Ok(())
 }

@@ -79,7 +79,8 @@ fn join_ends<S: Source + Send, O: Outlet, R: Threads + Wait + Sync>(
     ensures other { IsSeatAt (receives_on ends.now.receiver) known.new.other }
     ensures fed { MayFeed (S.seen source.old) (S.seen source.new) (view known.new.one) result.0 }
     ensures kept { S.kept source.new ≡ S.kept source.old }
-    ensures drained { MayDrain (view known.new.other) (O.seen outlet.old) (O.seen outlet.new) result.1 }
+    ensures drained { MayDrain (view known.new.other) (O.seen outlet.old) (O.seen outlet.new)
+        result.1 }
     ensures meter { counter.new.meter ≡ counter.old.meter }
     ensures counted { counter.new.sum ≡ counter.old.sum + drained_bytes result.1 }
 {

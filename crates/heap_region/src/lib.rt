@@ -9,17 +9,18 @@ ghost use Rattle.heap_class.specs.declared.ObjRef.{ObjRef};
 ghost use Rattle.heap_class.specs.declared.Refusal.TheVariants.{NoMemory};
 ghost use Rattle.heap_region.specs.Limits.{region_limit, region_words, cell_limit};
 ghost use Rattle.heap_region.specs.RegionCopies.{region_frozen};
-ghost use Rattle.heap_region.specs.Regions.{FitsWords, Object, UsedRegion, object_at, object_of, used_at, id_of, ref_of, with_mark, with_object, with_word, live_places};
+ghost use Rattle.heap_region.specs.Regions.{FitsWords, Object, UsedRegion, object_at, object_of, used_at, id_of, ref_of, with_mark, with_object, with_word};
 ghost use Rattle.heap_region.specs.Pool.{RegionPool, opening_pool, alloc_refusal, is_fresh, free_place, new_place, taken, freed, released, restored, allocated, unallocated, blank_object};
 ghost use Rattle.heap_region.specs.Legal.{IsCellTable, IsRegionPool};
 ghost use Rattle.heap_region.specs.Layout.{IsCellSize, bit_set};
 ghost use Rattle.heap_region.specs.Changes.{with_live, with_pending};
-ghost use Rattle.heap_region.specs.Live.{cells_of, live_in, live_from};
+ghost use Rattle.heap_region.specs.Live.{cells_of};
 
 mod cell;
 mod free_classes;
 mod frozen_region;
 mod lists;
+mod live_walk;
 mod sizes;
 mod slots;
 mod storage;
@@ -314,24 +315,6 @@ impl Regions {
         }
     }
 
-    /// Returns the place of the first live object, by region and cell.
-    pub fn first_live(&self) -> Option<ObjRef>
-        ensures { result ≡ slice_get (live_places self.now.regions) 0 }
-    {
-        self.live_from(0)
-    }
-
-    /// Returns the place of the next live object after a place, by region and cell.
-    pub fn next_live(&self, at: ObjRef) -> Option<ObjRef>
-        ensures { (i : ℕ) → slice_get (live_places self.now.regions) i ≡ Some at
-            → result ≡ slice_get (live_places self.now.regions) (i + 1) }
-    {
-        match self.next_live_in(at.region as usize, at.cell as usize + 1) {
-            Some(next) => Some(next),
-            None => self.live_from(at.region as usize + 1),
-        }
-    }
-
     /// Writes the `mark` bit of an object, which must be there. A call with the old bit undoes it. Takes no memory.
     pub fn set_mark(&mut self, at: ObjRef, mark: bool)
         requires { IsSome (object_at self.old.regions at) }
@@ -585,29 +568,5 @@ impl Regions {
         take_in(&mut self.slots[region], at.cell as usize, kind, len, mark);
         self.free_classes
             .set(region, free_class(&self.slots[region]));
-    }
-
-    // Returns the place of the first live object of a region from a cell on.
-    fn next_live_in(&self, region: usize, from: usize) -> Option<ObjRef>
-        ensures { result ≡ slice_get (live_in self.now.regions region from) 0 }
-    {
-        let storage = self.storage_at(region)?;
-        let cell = storage.next_live(from)?;
-        Some(ObjRef {
-            region: region as u16,
-            cell: cell as u16,
-        })
-    }
-
-    // Returns the place of the first live object from a region on.
-    fn live_from(&self, first: usize) -> Option<ObjRef>
-        ensures { result ≡ slice_get (live_from self.now.regions first) 0 }
-    {
-        for region in first..self.count() as usize {
-            if let Some(at) = self.next_live_in(region, 0) {
-                return Some(at);
-            }
-        }
-        None
     }
 }

@@ -10,7 +10,7 @@ use Rattle.heap_region.specs.Regions.{Object, UsedRegion, Region, Empty, FitsWor
 use Rattle.heap_region.specs.Legal.{IsCellTable}
 use Rattle.heap_region.specs.Pool.{RegionPool}
 use Rattle.heap_region.specs.RegionCopies.{Frozen, frozen, region_frozen}
-use Rattle.heap_region.proofs.Lookups.{used_there}
+use Rattle.heap_region.proofs.Lookups.{used_there, used_below}
 use Rattle.heap_sweep.specs.Sweep.{dead_part, live_part, dead_cells, dead_at, is_emptied, swept_region, sweep_refusal}
 use Rattle.heap_sweep.proofs.Ready.{pending_used, swept_kept}
 use Rattle.heap_world.specs.State.{HeapState, pool_of}
@@ -28,15 +28,9 @@ use Rattle.heap_pins.proofs.RecordCases.{by_region, named, touches_none}
 use Rattle.heap_pins.specs.Shows.{AreFit, FitIn}
 use Rattle.heap_region.proofs.ShownRegions.{used_by_object}
 
-pub used_within : (regions : List Region) (r : ℕ) → IsSome (used_at regions r) → r < length regions
-unfolding used_at
-used_within [] r some = absurd (cc)
-used_within (x ∷ regions) zero some = omega arith
-used_within (x ∷ regions) (suc r) some = let l : r < length regions = used_within regions r some in omega (arith, l)
-
 -- the region of an object is one of the regions
 pub object_within : (regions : List Region) (at : ObjRef) → IsSome (object_at regions at) → at.region < length regions
-object_within regions at some = used_within regions at.region (used_by_object regions at some)
+object_within regions at some = used_below regions at.region (used_by_object regions at some)
 
 -- ---- what a sweep took out
 
@@ -104,7 +98,7 @@ unfolding touched
 touched_within e before after left s region = by_region (λ u. left ≡ u → touched u ≡ Some region → region < length after.regions)
     (λ at slot old is t. within at.region t (object_within after.regions at (put_there e before after left s at slot old is)))
     (λ at slot old logged is t. within at.region t (object_within after.regions at (store_there e before after left s at slot old logged is)))
-    (λ r dead is t. within r t (used_within after.regions r (sweep_used e before after left s r dead is)))
+    (λ r dead is t. within r t (used_below after.regions r (sweep_used e before after left s r dead is)))
     (λ r storage is t. within r t (reclaim_within e before after left s r storage is))
     (λ u n is. touches_none u n region _)
     left refl

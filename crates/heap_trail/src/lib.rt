@@ -135,7 +135,7 @@ fn keep_each(pins: &mut [NumberedPin], world: &World, left: &Undo)
     }
 }
 
-// Puts a record into the ring. The record that leaves a full ring at its old end is dropped, with the memory that it holds.
+// Puts a record into the ring. Inlined into the function of each line it would cost more.
 #[inline(never)]
 fn add_record(records: &mut RecordRing, left: Undo)
     ensures { records.new ≡ with_record left records.old }

@@ -1,6 +1,7 @@
 use Rattle.std.proofs.Common.{◌<◌, sym, subst}
 use Rattle.heap_pins.specs.KeptCopies.{touched, patched, copy_for, kept_if, kept}
-use Rattle.heap_pins.proofs.RoomForCopies.{object_within, used_within, sweep_used, sweep_fit, reclaim_within}
+use Rattle.heap_region.proofs.Lookups.{used_below}
+use Rattle.heap_pins.proofs.RoomForCopies.{object_within, sweep_used, sweep_fit, reclaim_within}
 use Rattle.heap_pins.proofs.AddedCopies.{kept_other, on_err}
 use Rattle.heap_step.proofs.Steps.{put_there, put_within, store_there, store_within}
 use Rattle.heap_pins.proofs.pin.Pin.keep.Goals as goal
@@ -30,7 +31,7 @@ pub keep_dead-requires-clause-fit : goal.keep_dead-requires-clause-fit
 keep_dead-requires-clause-fit c = sweep_fit c.requires.step.0 c.requires.step.1 c.args.world.now c.args.left.now c.requires.step.2 c.in-Sweep.region c.in-Sweep.dead c.in-Sweep.is
 
 pub keep_dead-requires-clause-sized : goal.keep_dead-requires-clause-sized
-keep_dead-requires-clause-sized c = subst (λ n. c.in-Sweep.region < n) (sym c.requires.sized) (used_within c.args.world.now.regions c.in-Sweep.region (sweep_used c.requires.step.0 c.requires.step.1 c.args.world.now c.args.left.now c.requires.step.2 c.in-Sweep.region c.in-Sweep.dead c.in-Sweep.is))
+keep_dead-requires-clause-sized c = subst (λ n. c.in-Sweep.region < n) (sym c.requires.sized) (used_below c.args.world.now.regions c.in-Sweep.region (sweep_used c.requires.step.0 c.requires.step.1 c.args.world.now c.args.left.now c.requires.step.2 c.in-Sweep.region c.in-Sweep.dead c.in-Sweep.is))
 
 pub keep_region-requires : goal.keep_region-requires
 keep_region-requires c = record { sized = subst (λ n. c.in-Reclaim.region < n) (sym c.requires.sized) (reclaim_within c.requires.step.0 c.requires.step.1 c.args.world.now c.args.left.now c.requires.step.2 c.in-Reclaim.region c.in-Reclaim.storage c.in-Reclaim.is) }

@@ -3,7 +3,8 @@ use Rattle.heap_world.specs.State.{register_index}
 use Rattle.heap_pins.specs.Pin.{PinContents}
 use Rattle.heap_pins.specs.States.{HasRegion}
 use Rattle.heap_step.proofs.Steps.{put_there, put_within, store_there, store_within, reg_register, new_there, new_register, class_there, reclaim_lifeless}
-use Rattle.heap_pins.proofs.RoomForCopies.{object_within, used_within, sweep_used, sweep_fit, reclaim_within}
+use Rattle.heap_region.proofs.Lookups.{used_below}
+use Rattle.heap_pins.proofs.RoomForCopies.{object_within, sweep_used, sweep_fit, reclaim_within}
 use Rattle.heap_pins.proofs.Walkable.{sees_slot, sees_room, dead_within, region_bytes, cell_within, register_within}
 use Rattle.heap_pins.proofs.RecordWalks.{put_back, store_back, reg_back, new_back, class_back, finish_back, sweep_back, reclaim_back, quiet_back, on_ok}
 use Rattle.heap_pins.proofs.pin.Pin.walk_back.Goals as goal
@@ -102,7 +103,7 @@ returns-in-Snap-3-clause-walked c = quiet_back c.args.left.now c.args.world.now 
 pub unsweep-requires-clause-sized : goal.unsweep-requires-clause-sized
 unsweep-requires-clause-sized c =
     let (x, e, s, pin, shows) = c.requires in
-    subst (λ n. c.in-Sweep.region < n) (sym pin.copies) (used_within x.regions c.in-Sweep.region (sweep_used e _ x c.args.left.now s c.in-Sweep.region c.in-Sweep.dead c.in-Sweep.is))
+    subst (λ n. c.in-Sweep.region < n) (sym pin.copies) (used_below x.regions c.in-Sweep.region (sweep_used e _ x c.args.left.now s c.in-Sweep.region c.in-Sweep.dead c.in-Sweep.is))
 
 pub unsweep-requires-clause-there : goal.unsweep-requires-clause-there
 unsweep-requires-clause-there c =
@@ -117,12 +118,12 @@ unsweep-requires-clause-within c =
 pub unsweep-requires-clause-bytes : goal.unsweep-requires-clause-bytes
 unsweep-requires-clause-bytes c =
     let (x, e, s, pin, shows) = c.requires in
-    region_bytes c.args.self.now.live x.regions c.in-Sweep.region pin.states (used_within x.regions c.in-Sweep.region (sweep_used e _ x c.args.left.now s c.in-Sweep.region c.in-Sweep.dead c.in-Sweep.is))
+    region_bytes c.args.self.now.live x.regions c.in-Sweep.region pin.states (used_below x.regions c.in-Sweep.region (sweep_used e _ x c.args.left.now s c.in-Sweep.region c.in-Sweep.dead c.in-Sweep.is))
 
 pub returns-in-Sweep-clause-walked : goal.returns-in-Sweep-clause-walked
 returns-in-Sweep-clause-walked c =
     let (x, e, s, pin, shows) = c.requires in
-    let sized = subst (λ n. c.in-Sweep.region < n) (sym pin.copies) (used_within x.regions c.in-Sweep.region (sweep_used e _ x c.args.left.now s c.in-Sweep.region c.in-Sweep.dead c.in-Sweep.is)) in
+    let sized = subst (λ n. c.in-Sweep.region < n) (sym pin.copies) (used_below x.regions c.in-Sweep.region (sweep_used e _ x c.args.left.now s c.in-Sweep.region c.in-Sweep.dead c.in-Sweep.is)) in
     on_ok c.unsweep.result (sweep_back c.args.left.now c.args.world.now c.args.self.now c.unsweep.new.self c.in-Sweep.region c.in-Sweep.dead c.in-Sweep.is sized) c.unsweep.ensures.swept
 
 -- ---- a region that was moved out

@@ -1,5 +1,5 @@
 -- What a copy of a region shows after a change of one cell.
-use Rattle.std.proofs.Common.{◌≡◌, ℕ, ◌+◌, ◌*◌, ◌<◌, ◌≤◌, List, length, Option, Some, None, IsSome, get_or, set, take, drop, refl, sym, ap, subst, ◌∙◌, inl, inr, arith, length-set, length-take}
+use Rattle.std.proofs.Common.{◌≡◌, ℕ, ◌+◌, ◌*◌, ◌<◌, ◌≤◌, List, length, Option, Some, None, get_or, set, take, drop, refl, sym, ap, subst, ◌∙◌, inl, inr, arith, length-set, length-take}
 use Rattle.std.proofs.lemmas.Bool.{cases_eq}
 use Rattle.std.specs.Prelude.{option_map}
 use Rattle.std.proofs.lemmas.List.{get_or-set_same, get_or-set_other, set-get_or, drop-set-add}
@@ -7,17 +7,13 @@ use Rattle.heap_region.specs.declared.cell.Header.{Header}
 use Rattle.heap_region.specs.Layout.{words_of, word_set, header_object, cells_from, CellHeaderFits, IsLocal, overwritten}
 use Rattle.heap_region.specs.RegionCopies.{Frozen, IsLaid, frozen_with, frozen_word_set}
 use Rattle.heap_region.proofs.Cells.{cell_shows, header_shows, header_within, cell_lies, cells_changed}
-use Rattle.heap_region.proofs.CellChanges.{some_within, local_set, local_overwritten, overwritten_here, take_of_set}
+use Rattle.heap_region.proofs.CellChanges.{local_set, local_overwritten, overwritten_here, take_of_set}
 
 -- the copy as its Model shows it
 abbrev pub laid : ℕ → List ℕ → List (Option Header) → Frozen
 laid size ws hs = record { cell_size = size; cells = cells_from size ws 0 hs }
 
 module _ (size : ℕ) (ws : List ℕ) (hs : List (Option Header)) (l : IsLaid size ws hs) where
-  -- a cell with an object lies within
-  pub laid_within : (cell : ℕ) → IsSome (get_or hs cell None) → (cell < length hs) × (cell * size + size ≤ 1024)
-  laid_within cell some = let lt : cell < length hs = (some_within hs cell some).0 in (lt, cell_lies size cell hs lt l.covers)
-
   -- one slot of an object is written
   pub laid_slot : (cell slot v : ℕ) → slot < length (words_of (get_or (cells_from size ws 0 hs) cell None)) → IsLaid size (set ws (cell * size + slot) v) hs × (laid size (set ws (cell * size + slot) v) hs ≡ frozen_word_set cell slot v (laid size ws hs))
   unfolding frozen_word_set

@@ -3,10 +3,10 @@ use Rattle.std.proofs.Common.{◌≡◌, ℕ, zero, suc, ◌<◌, Bool, List, le
 use Rattle.std.specs.Prelude.{slice_get, option_and_then, drop}
 use Rattle.std.proofs.lemmas.List.{map-set}
 use Rattle.heap_class.specs.declared.ObjRef.{ObjRef}
-use Rattle.heap_region.specs.Regions.{Object, UsedRegion, Region, used_part, used_at, object_at, updated, in_used, with_region, with_object, with_word, with_mark, cell_object, slot_object}
-use Rattle.heap_region.specs.Changes.{with_live, with_pending}
+use Rattle.heap_region.specs.Regions.{Object, UsedRegion, Region, used_part, used_at, object_at, updated, in_used, with_region, with_object, cell_object, slot_object}
+use Rattle.heap_region.specs.Changes.{with_pending}
 use Rattle.heap_region.specs.Pool.{RegionPool, taken, freed, released, restored, cell_freed}
-use Rattle.heap_region.specs.Layout.{words_of, changed_at, cell_filled, word_set, bit_set, pending_set}
+use Rattle.heap_region.specs.Layout.{words_of, changed_at, cell_filled, pending_set}
 use Rattle.heap_region.specs.Table.{shown_region}
 use Rattle.heap_region.proofs.Tables.{used_of_object}
 
@@ -89,6 +89,9 @@ pub word_known : (o : Option Object) (slot w : ℕ) → w ≡ get_or (words_of o
 word_known None slot w e = tt
 word_known (Some o) slot w e = e
 
+-- what a call finds of an object and of its region
+pub ruleset object_lookups = (used_by_object, object_here, length_known, slot_known, word_known)
+
 -- ---- a change of one region
 
 pub taken_shown : (slots : List (Option UsedRegion)) (pool : List ℕ) (at : ObjRef) (o : Object) → taken at o (record { regions = map shown_region slots; pool = pool }) ≡ record { regions = map shown_region (set slots at.region (option_map (λ u. cell_filled u at.cell o) (get_or slots at.region None))); pool = pool }
@@ -116,10 +119,6 @@ changed_shown slots at f =
     go : (s : Option UsedRegion) → option_map {T = UsedRegion} (λ u. record u { cells = updated at.cell (option_map f) u.cells }) s ≡ option_map (λ u. changed_at u at.cell f) s
     go None = refl
     go (Some u) = ap (λ cs. Some (record u { cells = cs })) (updated_cells at.cell f u.cells)
-
-pub word_shown : (slots : List (Option UsedRegion)) (at : ObjRef) (slot w : ℕ) → with_word at slot w (map shown_region slots) ≡ map shown_region (set slots at.region (option_map (λ u. changed_at u at.cell (word_set slot w)) (get_or slots at.region None)))
-unfolding with_word
-word_shown slots at slot w = changed_shown slots at (word_set slot w)
 
 pub pending_shown : (slots : List (Option UsedRegion)) (r : ℕ) (pending : Bool) → with_pending pending r (map shown_region slots) ≡ map shown_region (set slots r (option_map (pending_set pending) (get_or slots r None)))
 unfolding with_pending

@@ -77,6 +77,7 @@ impl FrozenRegion {
     }
 
     /// Returns the kind of the object in the cell, which must have one.
+    #[tactic(auto, using(crate::proofs::Cells::shown_headers))]
     pub fn kind(&self, cell: u64) -> ObjKind
         requires { IsSome (frozen_object self.now cell) }
         ensures { IfSome (frozen_object self.now cell) (λ o. result ≡ o.kind) }
@@ -85,6 +86,7 @@ impl FrozenRegion {
     }
 
     /// Returns the words of the object in the cell, in slot order. The cell must have one.
+    #[tactic(auto, using(crate::proofs::Cells::headers_lie))]
     pub fn words(&self, cell: u64) -> &[u64]
         requires { IsSome (frozen_object self.now cell) }
         ensures { IfSome (frozen_object self.now cell) (λ o. result.now ≡ o.words) }
@@ -95,6 +97,7 @@ impl FrozenRegion {
     }
 
     /// Writes a word of the object in the cell, which must have the slot. Takes no memory.
+    #[tactic(auto, using(crate::proofs::Cells::words_lie))]
     pub fn set_word(&mut self, cell: u64, slot: u64, value: u64)
         requires { slot < length (frozen_words self.old cell) }
         ensures { self.new ≡ frozen_word_set cell slot value self.old }

@@ -158,6 +158,7 @@ impl Regions {
     }
 
     /// Returns the kind of the object in the cell, which must have one.
+    #[tactic(auto, using(crate::proofs::ShownRegions::object_lookups))]
     #[inline(always)]
     pub fn kind(&self, at: ObjRef) -> ObjKind
         requires { IsSome (object_at self.now.regions at) }
@@ -167,6 +168,7 @@ impl Regions {
     }
 
     /// Returns the number of slots of the object in the cell, which must have one: at most 1,024.
+    #[tactic(auto, using(crate::proofs::ShownRegions::object_lookups))]
     #[inline(always)]
     pub fn len(&self, at: ObjRef) -> u64
         requires { IsSome (object_at self.now.regions at) }
@@ -177,6 +179,7 @@ impl Regions {
     }
 
     /// Returns the two bits of the object in the cell, `live` and `mark`. The cell must have one.
+    #[tactic(auto, using(crate::proofs::ShownRegions::object_lookups))]
     pub fn bits(&self, at: ObjRef) -> (bool, bool)
         requires { IsSome (object_at self.now.regions at) }
         ensures { IfSome (object_at self.now.regions at)
@@ -186,6 +189,7 @@ impl Regions {
     }
 
     /// Returns a word of the object in the cell. The object must have the slot.
+    #[tactic(auto, using(crate::proofs::ShownRegions::object_lookups))]
     #[inline(always)]
     pub fn word(&self, at: ObjRef, slot: u64) -> u64
         requires there { IsSome (object_at self.now.regions at) }
@@ -197,6 +201,7 @@ impl Regions {
     }
 
     /// Returns the words of the object in the cell, in slot order. The cell must have one.
+    #[tactic(auto, using(crate::proofs::ShownRegions::object_lookups))]
     pub fn words(&self, at: ObjRef) -> &[u64]
         requires { IsSome (object_at self.now.regions at) }
         ensures { IfSome (object_at self.now.regions at) (λ o. result.now ≡ o.words) }
@@ -205,6 +210,7 @@ impl Regions {
     }
 
     /// Writes a word of the object in the cell. The object must have the slot. Takes no memory.
+    #[tactic(auto, using(crate::proofs::SlotChanges::object_slots, crate::proofs::ShownRegions::slot_known))]
     #[inline(always)]
     pub fn set_word(&mut self, at: ObjRef, slot: u64, value: u64)
         requires there { IsSome (object_at self.old.regions at) }
@@ -342,6 +348,7 @@ impl Regions {
     }
 
     /// Sets whether a region in use waits to be swept. A call with the old flag undoes it. Takes no memory.
+    #[tactic(auto, using(crate::proofs::SlotChanges::used_slots))]
     pub fn set_pending(&mut self, region: u64, pending: bool)
         requires { IsSome (used_at self.old.regions region) }
         ensures state { self.new
@@ -355,6 +362,7 @@ impl Regions {
     }
 
     /// Returns a copy of the object in the cell, which must have one. Fails with NoMemory if its words can't be allocated.
+    #[tactic(auto, using(crate::proofs::ShownRegions::object_lookups))]
     pub fn object(&self, at: ObjRef) -> Result<ObjectCopy, Refusal>
         requires { IsSome (object_at self.now.regions at) }
         ensures copied { IfOk result (λ o. object_at self.now.regions at ≡ Some o) }
@@ -369,6 +377,7 @@ impl Regions {
 
     /// Takes an object out of its cell, which then heads the free list. Another object must be in the region. Undoes `unfree`.
     /// Takes no memory.
+    #[tactic(auto, using(crate::proofs::SlotChanges::object_slots))]
     pub fn free(&mut self, at: ObjRef)
         requires there { IsSome (object_at self.old.regions at) }
         requires another { (other : ObjRef) × (other.region ≡ at.region) × (other ≢ at)
@@ -386,6 +395,7 @@ impl Regions {
 
     /// Puts an object into the cell that heads its region's free list. The cells must have the least size that holds it. Undoes
     /// `free`. Takes no memory.
+    #[tactic(auto, using(crate::proofs::SlotChanges::used_slots))]
     pub fn unfree(&mut self, at: ObjRef, object: &ObjectCopy)
         requires { IsSomeAnd (used_at self.old.regions at.region)
             (λ u. (slice_get u.free 0 ≡ Some at.cell)
@@ -401,6 +411,7 @@ impl Regions {
     }
 
     /// Moves the storage out of a region in use, which is then empty and heads the pool. Undoes `restore`. Takes no memory.
+    #[tactic(auto, using(crate::proofs::SlotChanges::used_slots))]
     pub fn release(&mut self, region: u64) -> Storage
         requires { IsSome (used_at self.old.regions region) }
         ensures storage { used_at self.old.regions region ≡ Some result }
@@ -487,6 +498,7 @@ impl Regions {
     }
 
     // Writes a bit of an object, which must be there.
+    #[tactic(auto, using(crate::proofs::SlotChanges::object_slots))]
     #[inline(always)]
     fn set_bit(&mut self, at: ObjRef, bit: Bit, on: bool)
         requires { IsSome (object_at self.old.regions at) }
@@ -559,6 +571,7 @@ impl Regions {
     }
 
     // Puts a new object into the cell that heads its region's free list.
+    #[tactic(auto, using(crate::proofs::SlotChanges::used_slots))]
     fn take_at(&mut self, at: ObjRef, kind: ObjKind, len: usize, mark: bool)
         requires { IsSomeAnd (used_at self.old.regions at.region)
             (λ u. (slice_get u.free 0 ≡ Some at.cell) × FitsWords u.cell_size len) }

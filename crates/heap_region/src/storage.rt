@@ -320,6 +320,7 @@ impl Storage {
     }
 
     // Returns the number of slots of the object in the cell.
+    #[tactic(auto, using(crate::proofs::Cells::headers_lie, crate::proofs::Cells::length_of_object))]
     #[inline(always)]
     pub(crate) fn len(&self, cell: usize) -> usize
         requires { IsSome (cell_object self.now cell) }
@@ -330,6 +331,7 @@ impl Storage {
     }
 
     // Returns the kind of the object in the cell.
+    #[tactic(auto, using(crate::proofs::Cells::shown_headers))]
     #[inline(always)]
     pub(crate) fn kind(&self, cell: usize) -> ObjKind
         requires { IsSome (cell_object self.now cell) }
@@ -339,6 +341,7 @@ impl Storage {
     }
 
     // Returns the two bits of the object in the cell, `live` and `mark`.
+    #[tactic(auto, using(crate::proofs::Cells::shown_headers))]
     pub(crate) fn bits(&self, cell: usize) -> (bool, bool)
         requires { IsSome (cell_object self.now cell) }
         ensures { IfSome (cell_object self.now cell)
@@ -378,6 +381,7 @@ impl Storage {
     }
 
     // Returns a word of the object in the cell.
+    #[tactic(auto, using(crate::proofs::Cells::words_lie))]
     #[inline(always)]
     pub(crate) fn word(&self, cell: usize, slot: usize) -> u64
         requires { slot < length (words_at self.now cell) }
@@ -387,6 +391,7 @@ impl Storage {
     }
 
     // Returns the words of the object in the cell, in slot order.
+    #[tactic(auto, using(crate::proofs::Cells::headers_lie))]
     pub(crate) fn words(&self, cell: usize) -> &[u64]
         requires { IsSome (cell_object self.now cell) }
         ensures { IfSome (cell_object self.now cell) (λ o. result.now ≡ o.words) }
@@ -397,6 +402,7 @@ impl Storage {
     }
 
     // Writes a word of the object in the cell.
+    #[tactic(auto, using(crate::proofs::Cells::words_lie))]
     #[inline(always)]
     pub(crate) fn set_word(&mut self, cell: usize, slot: usize, value: u64)
         requires { slot < length (words_at self.old cell) }
@@ -408,6 +414,7 @@ impl Storage {
     }
 
     // Writes a bit of the object in the cell.
+    #[tactic(auto, using(crate::proofs::Cells::shown_headers))]
     #[inline(always)]
     pub(crate) fn set_bit(&mut self, cell: usize, bit: Bit, on: bool)
         requires { IsSome (cell_object self.old cell) }
@@ -418,6 +425,7 @@ impl Storage {
     }
 
     // Returns a copy of the object in the cell. Fails if the allocation fails.
+    #[tactic(auto, using(crate::proofs::Cells::headers_lie))]
     pub(crate) fn object(&self, alloc: Global, cell: usize) -> Result<ObjectCopy, AllocError>
         requires { IsSome (cell_object self.now cell) }
         ensures { IfOk result (λ o. cell_object self.now cell ≡ Some o) }
@@ -435,6 +443,7 @@ impl Storage {
     }
 
     // Takes the object out of the cell, which then heads the free list.
+    #[tactic(auto, using(crate::proofs::Cells::headers_lie))]
     pub(crate) fn free(&mut self, cell: usize)
         requires { IsSome (cell_object self.old cell) }
         ensures { self.new ≡ cell_freed self.old cell }
@@ -447,6 +456,7 @@ impl Storage {
     }
 
     // Puts a new object into the cell, which heads the free list.
+    #[tactic(auto, using(crate::proofs::CellChanges::head_lies))]
     pub(crate) fn take(&mut self, cell: usize, kind: ObjKind, len: usize, mark: bool)
         requires head { Heads cell self.old.free }
         requires fits { FitsWords self.old.cell_size len }
@@ -466,6 +476,7 @@ impl Storage {
     }
 
     // Puts an object back into the cell, which heads the free list.
+    #[tactic(auto, using(crate::proofs::CellChanges::head_lies))]
     pub(crate) fn unfree(&mut self, cell: usize, object: &ObjectCopy)
         requires head { Heads cell self.old.free }
         requires fits { FitsWords self.old.cell_size (length object.now.words) }

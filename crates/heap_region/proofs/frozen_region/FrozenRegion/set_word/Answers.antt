@@ -1,27 +1,5 @@
-use Rattle.std.proofs.Common.{arith}
-use Rattle.heap_region.proofs.Cells.{slot_lies}
 use Rattle.heap_region.proofs.RegionCopies.{laid_slot}
 use Rattle.heap_region.proofs.frozen_region.FrozenRegion.set_word.Goals as goal
-
-pub overflow_mul-at : goal.overflow_mul-at
-overflow_mul-at c =
-    let lies = slot_lies _ _ _ _ _ (rw (← c.self.view_is) at c.requires) in
-    omega (arith, lies.1, c.self.invariant.words)
-
-pub overflow_add-at : goal.overflow_add-at
-overflow_add-at c =
-    let lies = slot_lies _ _ _ _ _ (rw (← c.self.view_is) at c.requires) in
-    omega (arith, lies.1, c.self.invariant.words)
-
-pub offset_bounds-deref_mut-at : goal.offset_bounds-deref_mut-at
-offset_bounds-deref_mut-at c =
-    let lies = slot_lies _ _ _ _ _ (rw (← c.self.view_is) at c.requires) in
-    omega (arith, lies.1, c.self.invariant.words)
-
-pub bounds-deref_mut-at : goal.bounds-deref_mut-at
-bounds-deref_mut-at c =
-    let lies = slot_lies _ _ _ _ _ (rw (← c.self.view_is) at c.requires) in
-    omega (arith, lies.1, c.self.invariant.words)
 
 pub invariant_of-self : goal.invariant_of-self
 invariant_of-self c =

@@ -1,10 +1,6 @@
-use Rattle.std.proofs.Common.{ap}
 use Rattle.heap_region.proofs.Cells.{header_here}
 use Rattle.heap_region.proofs.CellChanges.{bit_written, whole_shown}
 use Rattle.heap_region.proofs.storage.Storage.set_bit.Goals as goal
-
-pub set_bit_at-requires : goal.set_bit_at-requires
-set_bit_at-requires c = rw (ap (λ b. b.headers.items) c.deref_mut.ensures.value) (header_here _ _ _ _ (rw (← c.self.view_is) at c.requires))
 
 pub invariant_of-self : goal.invariant_of-self
 invariant_of-self c =

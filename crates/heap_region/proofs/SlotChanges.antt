@@ -1,0 +1,102 @@
+-- What a call that changes one region knows of its slot, and what the regions show afterwards.
+use Rattle.std.proofs.Common.{◌≡◌, ◌≢◌, ℕ, zero, suc, [], ◌∷◌, arith, ◌<◌, Bool, List, length, map, Option, Some, None, IsSome, IfSome, IsSomeAnd, option_map, get_or, set, refl, sym, subst, ap, ◌∙◌, get_or-set_same}
+use Rattle.std.specs.Prelude.{slice_get}
+use Rattle.std.proofs.lemmas.List.{length-map}
+use Rattle.heap_class.specs.declared.ObjRef.{ObjRef}
+use Rattle.heap_region.specs.Regions.{Object, UsedRegion, FitsWords, used_at, object_at, slot_object, with_object}
+use Rattle.heap_region.specs.Changes.{with_pending}
+use Rattle.heap_region.specs.Pool.{RegionPool, taken, freed, cell_freed}
+use Rattle.heap_region.specs.Layout.{IsWholeRegion, changed_at, cell_filled, pending_set}
+use Rattle.heap_region.specs.Table.{shown_region, free_class_of, IsRegionTable, IsGood}
+use Rattle.heap_region.proofs.ShownRegions.{used_shown, object_shown, taken_shown, freed_shown, changed_shown, pending_shown}
+use Rattle.heap_region.proofs.Tables.{table_changed, table_kept, in_use_within, used_from, used_of_object, take_ready, taken_good, vacated_good, changed_good, mapped_some, room_kept, pending_kept}
+
+-- the regions that these slots show, with their pool
+abbrev pub seen : List (Option UsedRegion) → List ℕ → RegionPool
+seen slots pool = record { regions = map shown_region slots; pool = pool }
+
+-- the slot of a region in use
+pub slot_used : (slots : List (Option UsedRegion)) (r : ℕ) → IsSome (used_at (map shown_region slots) r) → (used_at (map shown_region slots) r ≡ get_or slots r None) × (r < length slots)
+slot_used slots r some = (used_shown slots r, in_use_within slots r (rw (used_shown slots r) at some))
+
+-- the slot of an object's region
+pub slot_of_object : (slots : List (Option UsedRegion)) (at : ObjRef) → IsSome (object_at (map shown_region slots) at) → (object_at (map shown_region slots) at ≡ slot_object (get_or slots at.region None) at.cell) × IsSome (get_or slots at.region None) × (at.region < length slots)
+slot_of_object slots at some =
+    let used : IsSome (get_or slots at.region None) = used_of_object _ _ (rw (object_shown slots at) at some) in
+    (object_shown slots at, used, in_use_within slots at.region used)
+
+-- each region has a free class
+pub length_of_classes : (slots : List (Option UsedRegion)) → length (map free_class_of slots) ≡ length slots
+length_of_classes slots = length-map slots free_class_of
+
+-- what is read of a place of the table, whatever stands for one that is missing
+pub place_read : {X : Type 0} (slots : List (Option X)) (r : ℕ) (s : Option X) → r < length slots → get_or slots r s ≡ get_or slots r None
+place_read [] r s lt = absurd (omega arith)
+place_read (x ∷ slots) zero s lt = refl
+place_read (x ∷ slots) (suc r) s lt = place_read slots r s (omega arith)
+
+-- what a call finds of the region that it changes
+pub ruleset used_slots = (slot_used, place_read, length_of_classes)
+
+-- and of one that an object is in
+pub ruleset object_slots = (slot_of_object, place_read, length_of_classes)
+
+-- the slot of a region that has come into view by a call, of a region in use
+changed_slot : (slots : List (Option UsedRegion)) (r : ℕ) (f : UsedRegion → UsedRegion) (found new : Option UsedRegion) → r < length slots → found ≡ get_or slots r found → new ≡ option_map f found → new ≡ option_map f (get_or slots r None)
+changed_slot slots r f found new lt read is = is ∙ ap (option_map f) (read ∙ place_read slots r found lt)
+
+module _ (slots : List (Option UsedRegion)) (free_classes pool : List ℕ) (capacity : ℕ) (table : IsRegionTable slots free_classes pool capacity) (s : RegionPool) (view : seen slots pool ≡ s) where
+  -- an object is changed in its place
+  pub object_changed : (at : ObjRef) (f : Object → Object) → IsSome (object_at s.regions at) → (found new : Option UsedRegion) → found ≡ get_or slots at.region found → new ≡ option_map (λ u. changed_at u at.cell f) found → IfSome new (λ u. IsWholeRegion u) → IsRegionTable (set slots at.region new) free_classes pool capacity × (seen (set slots at.region new) pool ≡ record s { regions = with_object at f s.regions })
+  object_changed at f there found new read is whole =
+      let old : Option UsedRegion = get_or slots at.region None in
+      let slot : (object_at (map shown_region slots) at ≡ slot_object old at.cell) × IsSome old × (at.region < length slots) = slot_of_object slots at (rw (← view) at there) in
+      let now : new ≡ option_map (λ u. changed_at u at.cell f) old = changed_slot slots at.region (λ u. changed_at u at.cell f) found new slot.2 read is in
+      let kept = room_kept old at.cell f slot.1 in (
+        rw now (table_kept slots free_classes pool capacity at.region _ table slot.1 kept.0 (changed_good old at.cell f (table.good at.region) (rw now at whole)) kept.1),
+        rw (← view, now) (ap (λ rs. let p : RegionPool = record { regions = rs; pool = pool } in p) (sym (changed_shown slots at f))),
+      )
+
+  -- the `pending` bit of a region is written
+  pub pending_changed : (r : ℕ) (pending : Bool) → IsSome (used_at s.regions r) → (found new : Option UsedRegion) → found ≡ get_or slots r found → new ≡ option_map (pending_set pending) found → IsRegionTable (set slots r new) free_classes pool capacity × (seen (set slots r new) pool ≡ record s { regions = with_pending pending r s.regions })
+  pending_changed r pending some found new read is =
+      let old : Option UsedRegion = get_or slots r None in
+      let slot : (used_at (map shown_region slots) r ≡ old) × (r < length slots) = slot_used slots r (rw (← view) at some) in
+      let used : IsSome old = rw (← view, slot.0) at some in
+      let now : new ≡ option_map (pending_set pending) old = changed_slot slots r (pending_set pending) found new slot.1 read is in
+      let kept = pending_kept old pending used (table.good r) in (
+        rw now (table_kept slots free_classes pool capacity r _ table used kept.0 kept.1 kept.2),
+        rw (← view, now) (ap (λ rs. let p : RegionPool = record { regions = rs; pool = pool } in p) (sym (pending_shown slots r pending))),
+      )
+
+  -- what the table and the free classes keep once the changed region was read again
+  reread : (r : ℕ) (f : UsedRegion → UsedRegion) → IsSome (get_or slots r None) → (found new now : Option UsedRegion) → found ≡ get_or slots r found → new ≡ option_map f found → now ≡ get_or (set slots r new) r now → IfSome now (λ u. IsWholeRegion u) → (IfSome (option_map f (get_or slots r None)) (λ u. IsWholeRegion u) → IsGood (option_map f (get_or slots r None))) → IsRegionTable (set slots r new) (set free_classes r (free_class_of now)) pool capacity
+  reread r f used found new now read is again whole good =
+      let lt : r < length slots = in_use_within slots r used in
+      let old : Option UsedRegion = get_or slots r None in
+      let next : new ≡ option_map f old = changed_slot slots r f found new lt read is in
+      let same : now ≡ option_map f old = again ∙ (get_or-set_same slots r new now lt ∙ next) in
+      rw (same, next) (table_changed slots free_classes pool capacity table r _ used (mapped_some old f used) (good (rw same at whole)))
+
+  -- an object is put into the cell that heads its region's free list
+  pub object_taken : (at : ObjRef) (o : Object) (n : ℕ) → IsSomeAnd (used_at s.regions at.region) (λ u. (slice_get u.free 0 ≡ Some at.cell) × FitsWords u.cell_size n) → (found new now : Option UsedRegion) → found ≡ get_or slots at.region found → new ≡ option_map (λ u. cell_filled u at.cell o) found → now ≡ get_or (set slots at.region new) at.region now → IfSome now (λ u. IsWholeRegion u) → IsRegionTable (set slots at.region new) (set free_classes at.region (free_class_of now)) pool capacity × (seen (set slots at.region new) pool ≡ taken at o s)
+  object_taken at o n ready found new now read is again whole =
+      let old : Option UsedRegion = get_or slots at.region None in
+      let need = rw (← view, used_shown slots at.region) at ready in
+      let used : IsSome old = used_from _ _ need in
+      let next : new ≡ option_map (λ u. cell_filled u at.cell o) old = changed_slot slots at.region (λ u. cell_filled u at.cell o) found new (in_use_within slots at.region used) read is in (
+        reread at.region (λ u. cell_filled u at.cell o) used found new now read is again whole (λ w. taken_good old at.cell n o (table.good at.region) (take_ready old at.cell n need) w),
+        rw (← view, next) (sym (taken_shown slots pool at o)),
+      )
+
+  -- an object leaves its cell, and another stays in the region
+  pub object_freed : (at b : ObjRef) → IsSome (object_at s.regions at) → b.region ≡ at.region → b ≢ at → IsSome (object_at s.regions b) → (found new now : Option UsedRegion) → found ≡ get_or slots at.region found → new ≡ option_map (λ u. cell_freed u at.cell) found → now ≡ get_or (set slots at.region new) at.region now → IfSome now (λ u. IsWholeRegion u) → IsRegionTable (set slots at.region new) (set free_classes at.region (free_class_of now)) pool capacity × (seen (set slots at.region new) pool ≡ freed at s)
+  object_freed at b there beside other stays found new now read is again whole =
+      let old : Option UsedRegion = get_or slots at.region None in
+      let slot : (object_at (map shown_region slots) at ≡ slot_object old at.cell) × IsSome old × (at.region < length slots) = slot_of_object slots at (rw (← view) at there) in
+      let next : new ≡ option_map (λ u. cell_freed u at.cell) old = changed_slot slots at.region (λ u. cell_freed u at.cell) found new slot.2 read is in
+      let there_too : IsSome (slot_object (get_or slots b.region None) b.cell) = rw (← view, object_shown slots b) at stays in
+      let kept : IsSome (slot_object old b.cell) = subst (λ k. IsSome (slot_object (get_or slots k None) b.cell)) beside there_too in (
+        reread at.region (λ u. cell_freed u at.cell) slot.1 found new now read is again whole (λ w. vacated_good old at.cell b.cell (λ e. other (λ k. record { region = beside k; cell = e k })) kept w),
+        rw (← view, next) (sym (freed_shown slots pool at)),
+      )

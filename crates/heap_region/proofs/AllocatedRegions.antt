@@ -1,14 +1,11 @@
 -- What is found after an allocation.
-use Rattle.std.proofs.Common.{◌≡◌, ℕ, zero, suc, ◌/◌, ◌<◌, Bool, true, false, cond, length, set, drop, replicate, Option, Some, None, inl, inr, refl, ap, ◌∙◌, arith}
-use Rattle.std.specs.Prelude.{◌⊎◌, nat_le, slice_get, option_map, option_and_then, unwrap_or}
-use Rattle.std.proofs.lemmas.Option.{slice_get_within}
+use Rattle.std.proofs.Common.{◌≡◌, ℕ, zero, suc, ◌/◌, ◌<◌, Bool, true, false, cond, length, replicate, Option, Some, None, inl, inr, refl, ap, ◌∙◌, arith}
+use Rattle.std.specs.Prelude.{◌⊎◌, nat_le, slice_get, option_and_then, unwrap_or}
 use Rattle.std.proofs.lemmas.List.{length-replicate}
 use Rattle.heap_class.specs.declared.ObjRef.{ObjRef}
-use Rattle.heap_region.specs.Regions.{Object, UsedRegion, Empty, used_at, object_at, object_of, id_of, cell_size_for}
+use Rattle.heap_region.specs.Regions.{Object, UsedRegion, Empty, used_at, object_at, object_of, cell_size_for}
 use Rattle.heap_region.specs.Pool.{RegionPool, fresh_region, new_place, taken, restored, allocated}
-use Rattle.heap_region.proofs.Lookups.{used_there}
-use Rattle.heap_region.proofs.Ids.{ref_back}
-use Rattle.heap_region.proofs.FoundObjects.{taken_there, taken_keeps, restored_there, fresh_found}
+use Rattle.heap_region.proofs.FoundObjects.{taken_keeps, restored_there, fresh_found}
 use Rattle.heap_region.proofs.Places.{IsNextFree, IsNextFresh, new_place_is, HeadIsEmpty, PoolIsEmpty}
 
 -- a region has a cell of each size
@@ -70,22 +67,3 @@ allocated_keeps at fresh o s place head pool x p found =
     let c : IsNewCell at fresh o s = new_cell at fresh o s place head pool in
     ap (λ (t : RegionPool). object_of t.regions x) c.is_taken
     ∙ taken_keeps at o c.before x p (ap (option_and_then (λ (u : UsedRegion). option_and_then (λ (o : Option Object). o) (slice_get u.cells at.cell))) c.used ∙ ap (option_and_then (λ (o : Option Object). o)) c.empty) (c.found x ∙ found)
-
--- and is named by the id of its place
-pub allocated_named : (at : ObjRef) (fresh : Bool) (o : Object) (s : RegionPool) → new_place (length o.words) s ≡ Some (at, fresh) → HeadIsEmpty s at → PoolIsEmpty s at
-    → ((u : UsedRegion) → used_at s.regions at.region ≡ Some u → length u.cells ≡ 1024 / u.cell_size)
-    → object_of (allocated at fresh o s).regions (id_of (allocated at fresh o s).regions at) ≡ Some o
-unfolding object_of taken
-allocated_named at fresh o s place head pool full =
-    let c : IsNewCell at fresh o s = new_cell at fresh o s place head pool in
-    let within : at.cell < 1024 / c.region.cell_size = omega (arith, slice_get_within c.region.cells at.cell None c.empty, whole c.region c.cells) in
-    ap (λ (t : RegionPool). object_of t.regions (id_of t.regions at)) c.is_taken
-    ∙ ap (option_and_then (object_at (taken at o c.before).regions)) (ref_back (taken at o c.before).regions at (change c.region) (used_there at.region change c.before.regions ∙ ap (option_map change) c.used) within)
-    ∙ taken_there at o c.before c.region None c.used c.empty
-  where
-    change : UsedRegion → UsedRegion
-    change u = record u { cells = set u.cells at.cell (Some o); free = drop 1 u.free }
-
-    whole : (u : UsedRegion) → (used_at s.regions at.region ≡ Some u) ⊎ (length u.cells ≡ 1024 / u.cell_size) → length u.cells ≡ 1024 / u.cell_size
-    whole u (inl e) = full u e
-    whole u (inr e) = e

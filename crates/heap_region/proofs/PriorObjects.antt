@@ -62,16 +62,20 @@ empty_map f None = (λ h. h, λ h. h)
 empty_map f (Some Empty) = (λ h. h, λ h. h)
 empty_map f (Some (InUse u)) = (λ h. cc, λ h. cc)
 
+-- a change of one place of a list leaves what the change maps alike
+same_updated : {A : Type 0} (g : A → A) (x : A) → ((p : Option A) → (option_map g p ≡ Some x) ↔ (p ≡ Some x)) → (xs : List A) (a k : ℕ) → (slice_get (updated a g xs) k ≡ Some x) ↔ (slice_get xs k ≡ Some x)
+same_updated g x alike xs a k = go (same_or_not k a)
+  where
+    go : (k ≡ a) ⊎ (k ≢ a) → (slice_get (updated a g xs) k ≡ Some x) ↔ (slice_get xs k ≡ Some x)
+    go (inl e) =
+        let here : slice_get (updated a g xs) k ≡ option_map g (slice_get xs k) = ap (slice_get (updated a g xs)) e ∙ get_updated g xs a ∙ ap (λ i. option_map g (slice_get xs i)) (sym e) in
+        (λ h. (alike (slice_get xs k)).0 (sym here ∙ h), λ h. here ∙ (alike (slice_get xs k)).1 h)
+    go (inr n) = (λ h. sym (get_updated_other g xs a k n) ∙ h, λ h. get_updated_other g xs a k n ∙ h)
+
 -- a change of a region leaves the same regions empty
 pub empty_with_region : (f : UsedRegion → UsedRegion) (rs : List Region) (a r : ℕ) → (slice_get (with_region a f rs) r ≡ Some Empty) ↔ (slice_get rs r ≡ Some Empty)
 unfolding with_region
-empty_with_region f rs a r = go (same_or_not r a)
-  where
-    go : (r ≡ a) ⊎ (r ≢ a) → (slice_get (updated a (in_used f) rs) r ≡ Some Empty) ↔ (slice_get rs r ≡ Some Empty)
-    go (inl e) =
-        let here : slice_get (updated a (in_used f) rs) r ≡ option_map (in_used f) (slice_get rs r) = ap (slice_get (updated a (in_used f) rs)) e ∙ get_updated (in_used f) rs a ∙ ap (λ k. option_map (in_used f) (slice_get rs k)) (sym e) in
-        (λ h. (empty_map f (slice_get rs r)).0 (sym here ∙ h), λ h. here ∙ (empty_map f (slice_get rs r)).1 h)
-    go (inr n) = (λ h. sym (get_updated_other (in_used f) rs a r n) ∙ h, λ h. get_updated_other (in_used f) rs a r n ∙ h)
+empty_with_region f rs a r = same_updated (in_used f) Empty (empty_map f) rs a r
 
 none_map : (f : Object → Object) (p : Option (Option Object)) → (option_map (option_map f) p ≡ Some None) ↔ (p ≡ Some None)
 none_map f None = (λ h. cc, λ h. cc)
@@ -80,13 +84,7 @@ none_map f (Some (Some o)) = (λ h. cc, λ h. cc)
 
 -- a change of an object leaves the same cells free, and with an object
 pub free_with_object : (f : Object → Object) (cells : List (Option Object)) (c k : ℕ) → (slice_get (updated c (option_map f) cells) k ≡ Some None) ↔ (slice_get cells k ≡ Some None)
-free_with_object f cells c k = go (same_or_not k c)
-  where
-    go : (k ≡ c) ⊎ (k ≢ c) → (slice_get (updated c (option_map f) cells) k ≡ Some None) ↔ (slice_get cells k ≡ Some None)
-    go (inl e) =
-        let here : slice_get (updated c (option_map f) cells) k ≡ option_map (option_map f) (slice_get cells k) = ap (slice_get (updated c (option_map f) cells)) e ∙ get_updated (option_map f) cells c ∙ ap (λ i. option_map (option_map f) (slice_get cells i)) (sym e) in
-        (λ h. (none_map f (slice_get cells k)).0 (sym here ∙ h), λ h. here ∙ (none_map f (slice_get cells k)).1 h)
-    go (inr n) = (λ h. sym (get_updated_other (option_map f) cells c k n) ∙ h, λ h. get_updated_other (option_map f) cells c k n ∙ h)
+free_with_object f cells c k = same_updated (option_map f) None (none_map f) cells c k
 
 pub inhabited_with_object : (f : Object → Object) (cells : List (Option Object)) (c k : ℕ) (o : Object) → slice_get cells k ≡ Some (Some o) → (p : Object) × (slice_get (updated c (option_map f) cells) k ≡ Some (Some p))
 inhabited_with_object f cells c k o h = go (same_or_not k c)

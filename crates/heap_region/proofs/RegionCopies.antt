@@ -4,9 +4,10 @@ use Rattle.std.proofs.lemmas.Bool.{cases_eq}
 use Rattle.std.specs.Prelude.{option_map}
 use Rattle.std.proofs.lemmas.List.{get_or-set_same, get_or-set_other, set-get_or, drop-set-add}
 use Rattle.heap_region.specs.declared.cell.Header.{Header}
-use Rattle.heap_region.specs.Layout.{words_of, word_set, header_object, cells_from, CellHeaderFits, IsLocal, overwritten}
+use Rattle.heap_region.specs.Layout.{words_of, word_set, header_object, header_of, cells_from, CellHeaderFits, IsLocal, overwritten}
+use Rattle.heap_region.specs.Regions.{Object, FitsWords}
 use Rattle.heap_region.specs.RegionCopies.{Frozen, IsLaid, frozen_with, frozen_word_set}
-use Rattle.heap_region.proofs.Cells.{cell_shows, header_shows, header_within, cell_lies, cells_changed}
+use Rattle.heap_region.proofs.Cells.{length-cells_from, cell_shows, header_shows, header_within, cell_lies, cells_changed}
 use Rattle.heap_region.proofs.CellChanges.{local_set, local_overwritten, overwritten_here, take_of_set}
 
 -- the copy as its Model shows it
@@ -66,3 +67,9 @@ module _ (size : ℕ) (ws : List ℕ) (hs : List (Option Header)) (l : IsLaid si
         },
         ap (λ cs. record (laid size ws hs) { cells = cs }) (after ∙ ap (λ zs. set (cells_from size ws 0 hs) cell (Some (record { kind = h.kind; words = zs; live = h.live; mark = h.mark }))) words),
       )
+
+  -- an object is put into a cell, by what the caller sees of the copy
+  pub laid_filled : (f : Frozen) → laid size ws hs ≡ f → (cell : ℕ) (o : Object) → cell < length f.cells → FitsWords f.cell_size (length o.words) → IsLaid size (overwritten ws (cell * size) o.words) (set hs cell (Some (header_of o))) × (laid size (overwritten ws (cell * size) o.words) (set hs cell (Some (header_of o))) ≡ frozen_with cell (Some o) f)
+  laid_filled f view cell o within fits =
+      let shown : cell < length (cells_from size ws 0 hs) = rw (← view) at within in
+      rw (← view) (laid_put cell o.words (header_of o) (omega (arith, shown, length-cells_from size ws 0 hs)) (rw (← view) at fits) refl)

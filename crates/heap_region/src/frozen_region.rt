@@ -4,8 +4,7 @@ ghost use Rattle.heap_region.specs.Regions.{FitsWords};
 ghost use Rattle.heap_region.specs.RegionCopies.{frozen, frozen_object, frozen_with, frozen_word_set, frozen_words};
 ghost use Rattle.heap_region.specs.Limits.{region_words};
 
-use crate::cell::Header;
-use crate::storage::{Block, ObjectCopy, Storage, header_at, overwrite, part, set_header};
+use crate::storage::{Block, ObjectCopy, Storage, header_at, part};
 use arrayvec::ArrayVec;
 use heap_class::ObjKind;
 use std::alloc::{AllocError, Global};
@@ -108,20 +107,13 @@ impl FrozenRegion {
 
     /// Puts an object into the cell, whether or not the cell had one. The cells must have the least size that holds it. Takes
     /// no memory.
+    #[tactic(auto, using(crate::proofs::Cells::place_lies))]
     pub fn put(&mut self, cell: u64, object: &ObjectCopy)
         requires within { cell < length self.old.cells }
         requires fits { FitsWords self.old.cell_size (length object.now.words) }
         ensures { self.new ≡ frozen_with cell (Some object.now) self.old }
     {
         let start = cell as usize * self.cell_size as usize;
-        let block = &mut *self.block;
-        overwrite(&mut block.words, start, &object.words);
-        let header = Header {
-            kind: object.kind,
-            len: object.words.len(),
-            live: object.live,
-            mark: object.mark,
-        };
-        set_header(&mut block.headers, cell as usize, header);
+        self.block.put(start, cell as usize, object);
     }
 }

@@ -130,6 +130,7 @@ impl Regions {
 
     /// Undoes `alloc`, given the place and the flag that it returned. If the flag is false, another object must be in the
     /// region. Takes no memory.
+    #[tactic(auto, using(crate::proofs::ShownRegions::used_by_object), unfolding(crate::specs::Pool::unallocated))]
     pub fn unalloc(&mut self, at: ObjRef, fresh: bool)
         requires there { IsSome (object_at self.old.regions at) }
         requires another { fresh ≡ false
@@ -322,6 +323,7 @@ impl Regions {
     }
 
     /// Writes the `mark` bit of an object, which must be there. A call with the old bit undoes it. Takes no memory.
+    #[tactic(auto, unfolding(crate::specs::Regions::with_mark))]
     pub fn set_mark(&mut self, at: ObjRef, mark: bool)
         requires { IsSome (object_at self.old.regions at) }
         ensures state { self.new
@@ -335,6 +337,7 @@ impl Regions {
     }
 
     /// Writes the `live` bit of an object, which must be there. A call with the old bit undoes it. Takes no memory.
+    #[tactic(auto, unfolding(crate::specs::Changes::with_live))]
     pub fn set_live(&mut self, at: ObjRef, live: bool)
         requires { IsSome (object_at self.old.regions at) }
         ensures state { self.new

@@ -2,7 +2,7 @@
 ghost use Rattle.std.specs.Prelude.{◌≡◌, ℕ, ◌+◌, ◌-◌, ◌*◌, ◌/◌, ◌<◌, ◌≤◌, [], length, IfOk, IsSome, IfSome, slice_index, slice_index_or, replicate, take, drop, Some, None, is_some, option_map, slice_get, slice_set};
 ghost use Rattle.heap_region.specs.Regions.{FitsWords, cell_object};
 ghost use Rattle.heap_region.specs.Pool.{blank_object, cell_freed, fresh_region};
-ghost use Rattle.heap_region.specs.Layout.{next_link, IsCellSize, IsWholeRegion, words_at, changed_at, word_set, bit_set, with_bit, cell_filled, Heads, overwritten, header_live};
+ghost use Rattle.heap_region.specs.Layout.{next_link, IsCellSize, IsWholeRegion, words_at, changed_at, word_set, bit_set, with_bit, cell_filled, Heads, overwritten, header_live, header_of};
 ghost use Rattle.heap_region.specs.Live.{IsNextLive};
 ghost use Rattle.heap_region.specs.Limits.{region_words, cell_limit};
 
@@ -242,6 +242,25 @@ impl Block {
             headers: ArrayVec::new(),
         };
         Ok(Box::new(alloc, blank)?)
+    }
+
+    // Writes an object into a cell: its words from `start` on, and its header.
+    pub(crate) fn put(&mut self, start: usize, cell: usize, object: &ObjectCopy)
+        requires lies { start + length object.now.words ≤ length self.old.words }
+        requires within { cell < length self.old.headers.items }
+        requires fits { length object.now.words ≤ region_words }
+        ensures words { self.new.words ≡ overwritten self.old.words start object.now.words }
+        ensures headers { self.new.headers.items
+            ≡ slice_set self.old.headers.items cell (Some (header_of object.now)) }
+    {
+        overwrite(&mut self.words, start, &object.words);
+        let header = Header {
+            kind: object.kind,
+            len: object.words.len(),
+            live: object.live,
+            mark: object.mark,
+        };
+        set_header(&mut self.headers, cell, header);
     }
 }
 
@@ -485,13 +504,6 @@ impl Storage {
         let start = cell * self.cell_size as usize;
         let block = &mut *self.block;
         self.head = block.words[start] as u16;
-        overwrite(&mut block.words, start, &object.words);
-        let header = Header {
-            kind: object.kind,
-            len: object.words.len(),
-            live: object.live,
-            mark: object.mark,
-        };
-        set_header(&mut block.headers, cell, header);
+        block.put(start, cell, object);
     }
 }

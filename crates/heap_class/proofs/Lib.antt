@@ -12,3 +12,4 @@ pub mod Acceptance
 pub mod Definitions
 pub mod Front
 pub mod NameCounts
+pub mod ReferenceKinds

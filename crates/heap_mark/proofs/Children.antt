@@ -8,6 +8,7 @@ use Rattle.heap_class.specs.declared.Kind.{Kind}
 use Rattle.heap_class.specs.declared.Kind.TheVariants.{Boolean, Char, Float, Double, Byte, Short, Int, Long}
 use Rattle.heap_class.specs.declared.ObjKind.{ObjKind}
 use Rattle.heap_class.specs.declared.ObjKind.TheVariants.{Instance, Array, Prim}
+use Rattle.heap_class.proofs.ReferenceKinds.{no_reference}
 use Rattle.heap_class.specs.Kinds.{is_reference}
 use Rattle.heap_class.specs.Classes.{Class, slots_of, slot_kinds_of}
 use Rattle.heap_region.specs.Regions.{Object, Region, object_of, references_of, slot_kinds}
@@ -32,20 +33,12 @@ pub array_children : (classes : List Class) (regions : List Region) (x : ℕ) (o
 unfolding slot_kinds_of
 array_children classes regions x o k s e is = elements_shaded s o.words ∙ ap (fold shaded s) (ap (λ (kind : ObjKind). references_among (slot_kinds_of classes kind (length o.words)) o.words) is ∙ sym (among_slots classes o) ∙ sym (children_are classes regions x o e))
 
-pub no_reference : (k : Kind) → k ≢ Kind.Object → is_reference k ≡ false
-no_reference Kind.Object h = absurd (h refl)
-no_reference Boolean h = refl
-no_reference Char h = refl
-no_reference Float h = refl
-no_reference Double h = refl
-no_reference Byte h = refl
-no_reference Short h = refl
-no_reference Int h = refl
-no_reference Long h = refl
-
 pub prim_children : (classes : List Class) (regions : List Region) (x : ℕ) (o : Object) (k : Kind) → object_of regions x ≡ Some o → Prim k ≡ o.kind → k ≢ Kind.Object → children_of classes regions x ≡ []
 unfolding slot_kinds_of
 prim_children classes regions x o k e is other = children_are classes regions x o e ∙ among_slots classes o ∙ ap (λ (kind : ObjKind). references_among (slot_kinds_of classes kind (length o.words)) o.words) (sym is) ∙ no_references k (length o.words) o.words (no_reference k other)
+
+-- the children of an object by its kind
+pub ruleset children_by_kind = (instance_children, array_children, prim_children)
 
 -- each reference slot is null or names an object, where the children are objects
 named_slot : (classes : List Class) (regions : List Region) (x : ℕ) (o : Object) (slot : ℕ) (k : Kind) → object_of regions x ≡ Some o → ((y : ℕ) → Contains (children_of classes regions x) y → IsSome (object_of regions y)) → slice_get (slot_kinds_of classes o.kind (length o.words)) slot ≡ Some k → is_reference k ≡ true → slot < length o.words → IsNullOrNames regions (get_or o.words slot 0)

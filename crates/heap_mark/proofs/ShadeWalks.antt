@@ -163,5 +163,11 @@ fields_arrived s ks ws i before now first m all h = arrived s before now first m
 pub within_words : (now before : List Region) (at : ObjRef) (o : Object) (slot : ℕ) → without_marks now ≡ without_marks before → object_at before at ≡ Some o → slot < length o.words → IsSome (object_at now at) × IfSome (object_at now at) (λ p. slot < length p.words)
 within_words now before at o slot same there within = let q : (p : Object) × (object_at now at ≡ Some p) × (p.words ≡ o.words) = still_placed now before at o same there in (rw q.1 refl, rw q.1 (omega (arith, within, ap length q.2)))
 
+-- so of an object that was found
+pub words_still : (P : Object → Type 0) (now before : List Region) (at : ObjRef) (slot : ℕ) → IsSomeAnd (object_at before at) P → ((o : Object) → object_at before at ≡ Some o → (without_marks now ≡ without_marks before) × (slot < length o.words)) → IsSome (object_at now at) × IfSome (object_at now at) (λ p. slot < length p.words)
+words_still P now before at slot found same =
+    let q = some_there (object_at before at) P found in
+    within_words now before at q.0 slot (same q.0 q.1).0 q.1 (same q.0 q.1).1
+
 pub word_was : (now before : List Region) (at : ObjRef) (o : Object) (slot w : ℕ) → without_marks now ≡ without_marks before → object_at before at ≡ Some o → IfSome (object_at now at) (λ p. w ≡ get_or p.words slot 0) → w ≡ get_or o.words slot 0
 word_was now before at o slot w same there told = let q : (p : Object) × (object_at now at ≡ Some p) × (p.words ≡ o.words) = still_placed now before at o same there in (rw q.1 at told) ∙ ap (λ (ws : List ℕ). get_or ws slot 0) q.2

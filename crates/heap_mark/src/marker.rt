@@ -440,6 +440,7 @@ impl Marker {
     }
 
     // Shades the objects that the references of an object name, in slot order.
+    #[tactic(auto, using(crate::proofs::Children::children_by_kind), unfolding(heap_region::specs::Regions::object_of))]
     fn shade_children(&mut self, regions: &mut Regions, classes: &Classes, parent: u64)
         requires sound { IsGraySound regions.old.regions self.old }
         requires slots { IsSomeAnd (object_of regions.old.regions parent)

@@ -29,7 +29,7 @@ use Rattle.heap_world.proofs.Words.{few_words}
 use Rattle.heap_class.specs.declared.ObjKind.TheVariants.{Array, Prim}
 use Rattle.heap_class.specs.Limits.{array_limit}
 use Rattle.heap_world.proofs.FirstRefusals.{here, later, none_left}
-use Rattle.heap_mark.proofs.Children.{no_reference}
+use Rattle.heap_class.proofs.ReferenceKinds.{no_reference}
 use Rattle.std.proofs.lemmas.List.{length-replicate}
 use Rattle.heap_region.proofs.AllocatedRegions.{allocated_keeps}
 use Rattle.heap_world.proofs.KeptParts.{length_allocated, length_unallocated, held_by}

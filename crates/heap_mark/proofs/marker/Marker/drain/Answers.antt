@@ -33,15 +33,11 @@ returns-clause-answered c =
 pub returns-clause-marker : goal.returns-clause-marker
 unfolding drained_once
 returns-clause-marker c =
-    let i = c.self.inside in
-    let within : i.drained < length i.log.items = omega (arith, c.if-self-len.false, c.len.ensures, i.log.ok.0) in
-    let is : c.index-id.result.now ≡ get_or i.log.items i.drained 0 = c.index-id.ensures ∙ get_or_default i.log.items i.drained c.index-id.result.now 0 within in
+    let is : c.index-id.result.now ≡ get_or c.self.inside.log.items c.self.inside.drained 0 = c.index-id.ensures ∙ get_or_default c.self.inside.log.items c.self.inside.drained c.index-id.result.now 0 (omega (arith, c.if-self-len.false, c.len.ensures, c.self.inside.log.ok.0)) in
     rw (← c.self.view_is, ← is) c.shade.ensures.marker
 
 pub returns-clause-regions : goal.returns-clause-regions
 unfolding drained_once
 returns-clause-regions c =
-    let i = c.self.inside in
-    let within : i.drained < length i.log.items = omega (arith, c.if-self-len.false, c.len.ensures, i.log.ok.0) in
-    let is : c.index-id.result.now ≡ get_or i.log.items i.drained 0 = c.index-id.ensures ∙ get_or_default i.log.items i.drained c.index-id.result.now 0 within in
+    let is : c.index-id.result.now ≡ get_or c.self.inside.log.items c.self.inside.drained 0 = c.index-id.ensures ∙ get_or_default c.self.inside.log.items c.self.inside.drained c.index-id.result.now 0 (omega (arith, c.if-self-len.false, c.len.ensures, c.self.inside.log.ok.0)) in
     rw (← c.self.view_is, ← is) c.shade.ensures.regions

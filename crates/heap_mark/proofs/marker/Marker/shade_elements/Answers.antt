@@ -2,22 +2,14 @@ use Rattle.std.proofs.Common.{◌≡◌, ℕ, ◌<◌, length, get_or, sym, ◌�
 use Rattle.std.proofs.lemmas.List.{get_or_default}
 use Rattle.heap_region.specs.Regions.{object_at}
 use Rattle.heap_mark.specs.Marker.{IsNullOrNames}
-use Rattle.heap_mark.proofs.ShadeWalks.{begun, gone_on_at, arrived_at, still_named, within_words, word_was, some_there, if_there}
+use Rattle.heap_mark.proofs.ShadeWalks.{begun, gone_on_at, arrived_at, still_named, words_still, word_was, some_there, if_there}
 use Rattle.heap_mark.proofs.marker.Marker.shade_elements.Goals as goal
 
 pub word-requires-clause-there : goal.word-requires-clause-there
-word-requires-clause-there c =
-    let rs = c.args.regions.now.regions in
-    let q = some_there (object_at rs c.args.at) (λ o. (y : ℕ) → Contains o.words y → IsNullOrNames rs y) c.requires.names in
-    let len : c.len-slot-end.result ≡ length q.0.words = rw q.1 at c.len-slot-end.ensures.value in
-    (within_words c.loop-slot.regions.regions rs c.args.at q.0 c.loop-slot.slot (c.loop-slot.invariant q.0 q.1).same q.1 (omega (arith, len))).0
+word-requires-clause-there c = (words_still _ _ _ _ c.loop-slot.slot c.requires.names (λ o e. ((c.loop-slot.invariant o e).same, omega (arith, (rw e at c.len-slot-end.ensures.value))))).0
 
 pub word-requires-clause-within : goal.word-requires-clause-within
-word-requires-clause-within c =
-    let rs = c.args.regions.now.regions in
-    let q = some_there (object_at rs c.args.at) (λ o. (y : ℕ) → Contains o.words y → IsNullOrNames rs y) c.requires.names in
-    let len : c.len-slot-end.result ≡ length q.0.words = rw q.1 at c.len-slot-end.ensures.value in
-    (within_words c.loop-slot.regions.regions rs c.args.at q.0 c.loop-slot.slot (c.loop-slot.invariant q.0 q.1).same q.1 (omega (arith, len))).1
+word-requires-clause-within c = (words_still _ _ _ _ c.loop-slot.slot c.requires.names (λ o e. ((c.loop-slot.invariant o e).same, omega (arith, (rw e at c.len-slot-end.ensures.value))))).1
 
 pub shade-requires-clause-sound : goal.shade-requires-clause-sound
 shade-requires-clause-sound c =

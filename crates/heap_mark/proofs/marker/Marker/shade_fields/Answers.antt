@@ -4,21 +4,15 @@ use Rattle.heap_class.specs.declared.Kind.{Kind}
 use Rattle.heap_class.specs.Kinds.{is_reference}
 use Rattle.heap_region.specs.Regions.{object_at}
 use Rattle.heap_mark.specs.Marker.{references_among}
-use Rattle.heap_mark.proofs.ShadeWalks.{begun, field_shaded, field_passed, fields_arrived, still_named, within_words, word_was, some_there, if_there}
+use Rattle.heap_mark.proofs.ShadeWalks.{begun, field_shaded, field_passed, fields_arrived, still_named, words_still, word_was, some_there, if_there}
 use Rattle.heap_mark.proofs.marker.Marker.shade_fields.Goals as goal
 use Rattle.heap_mark.proofs.marker.Marker.shade_fields.Goals.{then-is_reference, else-is_reference}
 
 pub word-requires-clause-there : goal.word-requires-clause-there
-word-requires-clause-there c =
-    let rs = c.args.regions.now.regions in
-    let q = some_there (object_at rs c.args.at) (λ o. length o.words ≡ length c.args.kinds.now) c.requires.slots in
-    (within_words c.loop-slot.regions.regions rs c.args.at q.0 c.loop-slot.slot (c.loop-slot.invariant q.0 q.1).same q.1 (omega (arith, q.2))).0
+word-requires-clause-there c = (words_still _ _ _ _ c.loop-slot.slot c.requires.slots (λ o e. ((c.loop-slot.invariant o e).same, omega (arith, (rw e at c.requires.slots))))).0
 
 pub word-requires-clause-within : goal.word-requires-clause-within
-word-requires-clause-within c =
-    let rs = c.args.regions.now.regions in
-    let q = some_there (object_at rs c.args.at) (λ o. length o.words ≡ length c.args.kinds.now) c.requires.slots in
-    (within_words c.loop-slot.regions.regions rs c.args.at q.0 c.loop-slot.slot (c.loop-slot.invariant q.0 q.1).same q.1 (omega (arith, q.2))).1
+word-requires-clause-within c = (words_still _ _ _ _ c.loop-slot.slot c.requires.slots (λ o e. ((c.loop-slot.invariant o e).same, omega (arith, (rw e at c.requires.slots))))).1
 
 pub shade-requires-clause-sound : goal.shade-requires-clause-sound
 shade-requires-clause-sound c =

@@ -12,18 +12,14 @@ unshade-requires-clause-names c = let q = c.requires.snapped in snap_named q.0 (
 pub returns-clause-marker : goal.returns-clause-marker
 returns-clause-marker c =
     let q = c.requires.snapped in
-    let i = c.self.inside in
-    let s = at_work c.args.regions.now.regions c.args.self.now in
-    let all : c.len-count.result ≡ length c.args.self.now.gray = rw (← c.self.view_is) (omega (arith, c.len-count.ensures, length-reverse i.gray.items, i.gray.ok.0)) in
-    ap (λ (m : MarkerState). record m { phase = Idle }) (c.self-2.view_is ∙ c.unshade.ensures.marker) ∙ ap (λ (t : MarkState). after_work t c.args.self.now) (snap_unshaded q.0 s q.1 c.len-count.result q.2 q.3 all)
+    let all : c.len-count.result ≡ length c.args.self.now.gray = rw (← c.self.view_is) (omega (arith, c.len-count.ensures, length-reverse c.self.inside.gray.items, c.self.inside.gray.ok.0)) in
+    ap (λ (m : MarkerState). record m { phase = Idle }) (c.self-2.view_is ∙ c.unshade.ensures.marker) ∙ ap (λ (t : MarkState). after_work t c.args.self.now) (snap_unshaded q.0 _ q.1 _ q.2 q.3 all)
 
 pub returns-clause-regions : goal.returns-clause-regions
 returns-clause-regions c =
     let q = c.requires.snapped in
-    let i = c.self.inside in
-    let s = at_work c.args.regions.now.regions c.args.self.now in
-    let all : c.len-count.result ≡ length c.args.self.now.gray = rw (← c.self.view_is) (omega (arith, c.len-count.ensures, length-reverse i.gray.items, i.gray.ok.0)) in
-    c.unshade.ensures.regions ∙ ap (λ (t : MarkState). record c.args.regions.now { regions = t.regions }) (snap_unshaded q.0 s q.1 c.len-count.result q.2 q.3 all)
+    let all : c.len-count.result ≡ length c.args.self.now.gray = rw (← c.self.view_is) (omega (arith, c.len-count.ensures, length-reverse c.self.inside.gray.items, c.self.inside.gray.ok.0)) in
+    c.unshade.ensures.regions ∙ ap (λ (t : MarkState). record c.args.regions.now { regions = t.regions }) (snap_unshaded q.0 _ q.1 _ q.2 q.3 all)
 
 pub returns-clause-back : goal.returns-clause-back
 returns-clause-back c before roots unmarked is =

@@ -1,0 +1,10 @@
+-- The one kind whose slots hold references.
+use Rattle.std.proofs.Common.{◌≡◌, ◌≢◌, Bool, true, false, refl, arith}
+use Rattle.heap_class.specs.declared.Kind.{Kind}
+use Rattle.heap_class.specs.Kinds.{is_reference}
+
+pub object_kind : (k : Kind) → is_reference k ≡ true → k ≡ Kind.Object
+object_kind k h = grind arith
+
+pub no_reference : (k : Kind) → k ≢ Kind.Object → is_reference k ≡ false
+no_reference k h = grind arith

@@ -4,14 +4,16 @@ use Rattle.heap_class.specs.declared.Kind.{Kind}
 use Rattle.heap_class.specs.declared.ObjKind.{ObjKind}
 use Rattle.heap_class.specs.declared.ObjKind.TheVariants.{Instance, Array, Prim}
 use Rattle.heap_class.specs.Kinds.{value_limit}
-use Rattle.heap_class.specs.Classes.{Class, class_refusal, slot_kinds_of, instance_class, array_class}
+use Rattle.heap_class.specs.Classes.{Class, IsClassTable, class_refusal, slot_kinds_of, instance_class, array_class}
 use Rattle.heap_class.proofs.Slots.{slots_more, instance_within, instance_more, array_more, classes_more}
 use Rattle.heap_region.specs.Regions.{Object, object_of, slot_kinds, references_of}
 use Rattle.heap_region.proofs.ChangedLookups.{place_found}
 use Rattle.heap_region.proofs.References.{references_in, references_by_slots}
+use Rattle.heap_region.specs.Legal.{EachObject}
+use Rattle.heap_mark.specs.declared.Phase.TheVariants.{Idle, Marking}
 use Rattle.heap_world.specs.State.{HeapState}
 use Rattle.heap_world.specs.Reach.{Names}
-use Rattle.heap_world.specs.Legal.{IsObjectOf, HasKind}
+use Rattle.heap_world.specs.Legal.{IsSized, IsQuiet, IsWeakTricolour, IsLive, IsObjectOf, HasKind}
 use Rattle.heap_world.proofs.Clauses.{HasClauses, clauses_of, legal_by}
 use Rattle.heap_world.specs.Events.{after_class}
 use Rattle.heap_world.proofs.Shelter.{sheltered_unmarked}
@@ -79,25 +81,15 @@ class_spares w c l = class_spares_of w c l
 
 pub class_legal : (w : HeapState) (c : Class) → (c.is_array ≡ true → (c.sup ≡ None) × (c.fields ≡ [])) → HasClauses w → class_refusal w.classes c ≡ None → HasClauses (after_class c w)
 unfolding after_class
-class_legal w c bare l accepted = record {
-  sized = record { regions = l.sized.regions; mutators = l.sized.mutators };
-  classes = classes_more [] w.classes c l.classes accepted bare;
-  objects = λ at o e. fits_more w.classes c o (l.objects at o e);
-  least_cells = l.least_cells;
-  cells = l.cells;
-  pool = l.pool;
-  registers_live = l.registers_live;
-  slots_live = λ x y a n. l.slots_live x y a (names_before w c l x y n);
-  gray_live = l.gray_live;
-  log_live = l.log_live;
-  gray_distinct = l.gray_distinct;
-  gray_marked = l.gray_marked;
-  marked_live = l.marked_live;
-  drained_within = l.drained_within;
-  swept_live = l.swept_live;
-  idle = λ i. record { gray = (l.idle i).gray; log = (l.idle i).log; drained = (l.idle i).drained; unmarked = (l.idle i).unmarked };
-  tricolour = λ i. spares_tricolour w (with_class c w) (class_spares_of w c l) (l.tricolour i);
-}
+class_legal w c bare l accepted =
+    let now : HeapState = with_class c w in
+    let sized : IsSized now = record { regions = l.sized.regions; mutators = l.sized.mutators } in
+    let classes : IsClassTable [] now.classes = classes_more [] w.classes c l.classes accepted bare in
+    let objects : EachObject w.regions (λ at o. IsObjectOf now.classes o) = (λ at o e. fits_more w.classes c o (l.objects at o e)) in
+    let slots_live : (x y : ℕ) → IsLive now x → Names now x y → IsLive now y = (λ x y a n. l.slots_live x y a (names_before w c l x y n)) in
+    let idle : w.phase ≡ Idle → IsQuiet now = (λ i. record { gray = (l.idle i).gray; log = (l.idle i).log; drained = (l.idle i).drained; unmarked = (l.idle i).unmarked }) in
+    let tricolour : w.phase ≡ Marking → IsWeakTricolour now = (λ i. spares_tricolour w (with_class c w) (class_spares_of w c l) (l.tricolour i)) in
+    assumption
 
 -- ---- the heap that holds it
 

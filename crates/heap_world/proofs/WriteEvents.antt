@@ -2,6 +2,7 @@
 use Rattle.std.proofs.Common.{◌≡◌, ◌≢◌, ◌⊎◌, ℕ, ◌<◌, ◌≤◌, Bool, true, false, List, [], ◌∷◌, Option, Some, None, length, refl, sym, ap, subst, ◌∙◌, inl, inr, arith, ◌++◌, drop, Contains, zero, suc, length-append}
 use Rattle.std.specs.Prelude.{if◌then◌else◌, not, nat_le, nat_lt, is_none, ◌==◌, slice_get, option_map, slice_index, unwrap_or}
 use Rattle.std.specs.Option.{option_map_or}
+use Rattle.heap_class.proofs.ReferenceKinds.{object_kind}
 use Rattle.heap_class.specs.declared.Kind.{Kind}
 use Rattle.heap_class.specs.declared.ObjRef.{ObjRef}
 use Rattle.heap_class.specs.declared.Refusal.{Refusal}
@@ -28,7 +29,6 @@ use Rattle.heap_region.proofs.ChangedLookups.{same_or_not, place_found, object_o
 use Rattle.heap_world.specs.Reach.{Names}
 use Rattle.std.proofs.lemmas.Bool.{eqb-true, eqb-false}
 use Rattle.std.proofs.lemmas.List.Elements.{Contains-append_left, Contains-append_right, Contains-push_cases}
-use Rattle.heap_class.specs.declared.Kind.TheVariants.{Boolean, Char, Float, Double, Byte, Short, Int, Long}
 use Rattle.heap_world.proofs.Tricolour.{Rewires}
 use Rattle.heap_world.proofs.KeptParts.{held_by}
 use Rattle.heap_world.proofs.NamedSlots.{one_missing, both_there, no_slot, with_named, by_kind}
@@ -88,13 +88,11 @@ pub store_no_slot : (m target slot source : ℕ) (w : HeapState) (e : Refusal) �
 unfolding store_refusal
 store_no_slot m target slot source w e a b h = no_slot w (register w m target) slot _ _ e (both_there _ _ a b) h
 
-pub store_value : (m target slot source : ℕ) (w : HeapState) (k : Kind) → is_register w m target ≡ true → is_register w m source ≡ true → register w m target ≢ 0 → slot_kind w (register w m target) slot ≡ Some k
-    → is_reference k ≡ false → store_refusal m target slot source w ≡ Some WrongKind
+pub store_value : (m target slot source : ℕ) (w : HeapState) (k : Kind) → is_register w m target ≡ true → is_register w m source ≡ true → register w m target ≢ 0 → slot_kind w (register w m target) slot ≡ Some k → is_reference k ≡ false → store_refusal m target slot source w ≡ Some WrongKind
 unfolding store_refusal
 store_value m target slot source w k a b n s r = with_named w (register w m target) slot k _ _ (Some WrongKind) (both_there _ _ a b) n s (here _ _ _ (ap not (sym (by_kind w (register w m target) slot k s) ∙ r)))
 
-pub store_accepted : (m target slot source : ℕ) (w : HeapState) (k : Kind) → is_register w m target ≡ true → is_register w m source ≡ true → register w m target ≢ 0 → slot_kind w (register w m target) slot ≡ Some k
-    → is_reference k ≡ true → store_refusal m target slot source w ≡ None
+pub store_accepted : (m target slot source : ℕ) (w : HeapState) (k : Kind) → is_register w m target ≡ true → is_register w m source ≡ true → register w m target ≢ 0 → slot_kind w (register w m target) slot ≡ Some k → is_reference k ≡ true → store_refusal m target slot source w ≡ None
 unfolding store_refusal
 store_accepted m target slot source w k a b n s r = with_named w (register w m target) slot k _ _ None (both_there _ _ a b) n s (later _ _ _ _ (ap not (sym (by_kind w (register w m target) slot k s) ∙ r)) none_left)
 
@@ -109,17 +107,6 @@ drop_last [] zero y h = member_head y []
 drop_last [] (suc d) y h = absurd (omega (arith, h))
 drop_last (x ∷ xs) zero y h = Contains-append_right (x ∷ xs) (y ∷ []) y (member_head y [])
 drop_last (x ∷ xs) (suc d) y h = drop_last xs d y (omega (arith, h))
-
-object_kind : (k : Kind) → is_reference k ≡ true → k ≡ Kind.Object
-object_kind Kind.Object h = refl
-object_kind Boolean h = cc
-object_kind Char h = cc
-object_kind Float h = cc
-object_kind Double h = cc
-object_kind Byte h = cc
-object_kind Short h = cc
-object_kind Int h = cc
-object_kind Long h = cc
 
 index_of_get : (xs : List ℕ) (i y : ℕ) → slice_get xs i ≡ Some y → slice_index xs i ≡ y
 index_of_get [] i y h = cc
@@ -235,19 +222,16 @@ unfolding lacks_slot is_reference_slot
 put_kind m target slot value w k x e z s f = put_slot m target slot value w x e z (later _ _ _ _ (ap is_none s)
     (subst (λ p. first_refusal ((option_map_or is_reference p false, WrongKind) ∷ (option_map_or (λ k. nat_le (value_limit k) value) p false, OutOfRange) ∷ []) ≡ x) (sym s) f))
 
-pub put_reference : (m target slot value : ℕ) (w : HeapState) (k : Kind) → is_register w m target ≡ true → register w m target ≢ 0 → slot_kind w (register w m target) slot ≡ Some k
-    → is_reference k ≡ true → put_refusal m target slot value w ≡ Some WrongKind
+pub put_reference : (m target slot value : ℕ) (w : HeapState) (k : Kind) → is_register w m target ≡ true → register w m target ≢ 0 → slot_kind w (register w m target) slot ≡ Some k → is_reference k ≡ true → put_refusal m target slot value w ≡ Some WrongKind
 put_reference m target slot value w k e z s r = put_kind m target slot value w k (Some WrongKind) e z s (here _ _ _ r)
 
-pub put_range : (m target slot value : ℕ) (w : HeapState) (k : Kind) → is_register w m target ≡ true → register w m target ≢ 0 → slot_kind w (register w m target) slot ≡ Some k
-    → is_reference k ≡ false → nat_lt value (value_limit k) ≡ false → put_refusal m target slot value w ≡ Some OutOfRange
+pub put_range : (m target slot value : ℕ) (w : HeapState) (k : Kind) → is_register w m target ≡ true → register w m target ≢ 0 → slot_kind w (register w m target) slot ≡ Some k → is_reference k ≡ false → nat_lt value (value_limit k) ≡ false → put_refusal m target slot value w ≡ Some OutOfRange
 put_range m target slot value w k e z s r v = put_kind m target slot value w k (Some OutOfRange) e z s (later _ _ _ _ r (here _ _ _ (above value (value_limit k) v)))
   where
     above : (a b : ℕ) → nat_lt a b ≡ false → nat_le b a ≡ true
     above a b h = grind arith
 
-pub put_accepted : (m target slot value : ℕ) (w : HeapState) (k : Kind) → is_register w m target ≡ true → register w m target ≢ 0 → slot_kind w (register w m target) slot ≡ Some k
-    → is_reference k ≡ false → nat_lt value (value_limit k) ≡ true → put_refusal m target slot value w ≡ None
+pub put_accepted : (m target slot value : ℕ) (w : HeapState) (k : Kind) → is_register w m target ≡ true → register w m target ≢ 0 → slot_kind w (register w m target) slot ≡ Some k → is_reference k ≡ false → nat_lt value (value_limit k) ≡ true → put_refusal m target slot value w ≡ None
 put_accepted m target slot value w k e z s r v = put_kind m target slot value w k None e z s (later _ _ _ _ r (later _ _ _ _ (below value (value_limit k) v) none_left))
   where
     below : (a b : ℕ) → nat_lt a b ≡ true → nat_le b a ≡ false

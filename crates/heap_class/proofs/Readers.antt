@@ -47,6 +47,22 @@ sup_earlier before (d ∷ cs) (suc k) c t h = go c.sup (sup_earlier (before ++ d
     go None e = tt
     go (Some s) e = omega (arith, e, length-append before (d ∷ []))
 
+-- a class by its entry
+pub class_read : (names : List (List ℕ)) (es : List ClassEntry) (k : ℕ) → slice_get (map (class_of_entry names) es) k ≡ option_map (class_of_entry names) (slice_get es k)
+class_read names es k = slice_get-map (class_of_entry names) es k
+
+-- an entry that is there, and one that isn't
+pub entry_there : (es : List ClassEntry) (k : ℕ) (e : ClassEntry) → k < length es → slice_get es k ≡ Some (get_or es k e)
+entry_there [] k e lt = absurd (omega arith)
+entry_there (x ∷ es) zero e lt = refl
+entry_there (x ∷ es) (suc k) e lt = entry_there es k e (omega arith)
+
+pub entry_past : (es : List ClassEntry) (k : ℕ) → length es ≤ k → slice_get es k ≡ None
+entry_past es k le = slice_get_past es k le
+
+-- what a call reads of a class
+pub ruleset read_classes = (class_read, entry_there, entry_past)
+
 module _ (names : List (List ℕ)) (es : List ClassEntry) (t : IsEntryTable names es) (v : List Class) (view_is : map (class_of_entry names) es ≡ v) where
   pub as_many : length es ≡ length v
   as_many = sym (length-map es (class_of_entry names)) ∙ ap length view_is

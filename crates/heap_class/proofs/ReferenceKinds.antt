@@ -1,5 +1,5 @@
 -- The one kind whose slots hold references.
-use Rattle.std.proofs.Common.{◌≡◌, ◌≢◌, Bool, true, false, refl, arith}
+use Rattle.std.proofs.Common.{◌≡◌, ◌≢◌, true, false, arith}
 use Rattle.heap_class.specs.declared.Kind.{Kind}
 use Rattle.heap_class.specs.Kinds.{is_reference}
 

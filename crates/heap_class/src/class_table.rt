@@ -255,6 +255,7 @@ impl Classes {
     }
 
     /// Tells whether the number is that of an instance class.
+    #[tactic(auto, using(crate::proofs::Readers::read_classes), unfolding(crate::specs::Classes::is_instance_class))]
     pub fn is_instance(&self, class: ClassNo) -> bool
         ensures { result ≡ is_instance_class self.now class }
     {
@@ -265,6 +266,7 @@ impl Classes {
     }
 
     /// Tells whether the number is that of an array class.
+    #[tactic(auto, using(crate::proofs::Readers::read_classes), unfolding(crate::specs::Classes::is_array_class))]
     pub fn is_array(&self, class: ClassNo) -> bool
         ensures { result ≡ is_array_class self.now class }
     {

@@ -1,4 +1,4 @@
-use Rattle.std.proofs.Common.{◌≡◌, ◌+◌, arith, length, length-append, map, ◌∙◌, ◌∷◌, ◌++◌, [], None, ap, sym, subst, refl}
+use Rattle.std.proofs.Common.{◌≡◌, arith, length, length-append, map, ◌∙◌, ◌∷◌, ◌++◌, [], None, ap, sym, subst, refl}
 use Rattle.std.proofs.lemmas.List.{length-map}
 use Rattle.heap_class.specs.declared.Field.{Field}
 use Rattle.heap_class.specs.declared.class_table.ClassEntry.{ClassEntry}
@@ -36,19 +36,13 @@ unfolding names_in
 invariant_of-self-2 c =
     let class : Class = record { name = c.args.name.now; sup = c.args.sup; fields = c.args.fields.now; is_array = c.args.is_array } in
     let entry : ClassEntry = record { name = c.in_ok-name.name; sup = c.args.sup; fields = c.in_ok-name.fields; is_array = c.args.is_array; slots = c.in_ok-slots.slots; sizes = c.of-sizes.result; names_before = c.len-names_before.result } in
-    let accepted : class_refusal c.args.self.now class ≡ None = sym (c.in_default.ensures c.args.is_array) in
-    defined_table c.self.inside.names.keys c.self.inside.entries.items c.self.invariant c.args.self.now c.self.view_is class entry
-    c.place_names.new.names.keys c.push_reserved.new.self.items c.slots_above.result.now
-    c.in_ok-name.ensures.keys (c.push_reserved.ensures.items ∙ ap (λ l. l ++ entry ∷ []) c.reserve.ensures.items) accepted c.requires
-    c.in_ok-name.ensures.placed refl refl c.len-names_before.ensures.len c.in_ok-slots.ensures c.slots_above.ensures.value (subst (λ l. AreSizes l c.of-sizes.result) c.as_slice.ensures.value c.of-sizes.ensures)
+    defined_table c.self.inside.names.keys c.self.inside.entries.items c.self.invariant c.args.self.now c.self.view_is class entry c.place_names.new.names.keys c.push_reserved.new.self.items c.slots_above.result.now
+    c.in_ok-name.ensures.keys (c.push_reserved.ensures.items ∙ ap (λ l. l ++ entry ∷ []) c.reserve.ensures.items) (sym (c.in_default.ensures c.args.is_array)) c.requires c.in_ok-name.ensures.placed refl refl c.len-names_before.ensures.len c.in_ok-slots.ensures c.slots_above.ensures.value (subst (λ l. AreSizes l c.of-sizes.result) c.as_slice.ensures.value c.of-sizes.ensures)
 
 pub returns-clause-defined : goal.returns-clause-defined
 unfolding names_in
 returns-clause-defined c =
     let class : Class = record { name = c.args.name.now; sup = c.args.sup; fields = c.args.fields.now; is_array = c.args.is_array } in
     let entry : ClassEntry = record { name = c.in_ok-name.name; sup = c.args.sup; fields = c.in_ok-name.fields; is_array = c.args.is_array; slots = c.in_ok-slots.slots; sizes = c.of-sizes.result; names_before = c.len-names_before.result } in
-    let accepted : class_refusal c.args.self.now class ≡ None = sym (c.in_default.ensures c.args.is_array) in
-    defined_view c.self.inside.names.keys c.self.inside.entries.items c.self.invariant c.args.self.now c.self.view_is class entry
-    c.place_names.new.names.keys c.push_reserved.new.self.items c.slots_above.result.now
-    c.in_ok-name.ensures.keys (c.push_reserved.ensures.items ∙ ap (λ l. l ++ entry ∷ []) c.reserve.ensures.items) accepted c.requires
-    c.in_ok-name.ensures.placed refl refl c.len-names_before.ensures.len c.in_ok-slots.ensures c.slots_above.ensures.value (subst (λ l. AreSizes l c.of-sizes.result) c.as_slice.ensures.value c.of-sizes.ensures)
+    defined_view c.self.inside.names.keys c.self.inside.entries.items c.self.invariant c.args.self.now c.self.view_is class entry c.place_names.new.names.keys c.push_reserved.new.self.items c.slots_above.result.now
+    c.in_ok-name.ensures.keys (c.push_reserved.ensures.items ∙ ap (λ l. l ++ entry ∷ []) c.reserve.ensures.items) (sym (c.in_default.ensures c.args.is_array)) c.requires c.in_ok-name.ensures.placed refl refl c.len-names_before.ensures.len c.in_ok-slots.ensures c.slots_above.ensures.value (subst (λ l. AreSizes l c.of-sizes.result) c.as_slice.ensures.value c.of-sizes.ensures)

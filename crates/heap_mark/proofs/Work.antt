@@ -8,7 +8,8 @@ use Rattle.heap_class.specs.declared.ObjRef.{ObjRef}
 use Rattle.heap_region.specs.Regions.{Object, Region, object_at, object_of, ref_of, with_mark}
 use Rattle.heap_region.specs.Pool.{RegionPool}
 use Rattle.heap_region.specs.Legal.{IsRegionPool}
-use Rattle.heap_region.proofs.ChangedLookups.{null_names_none, object_at_ref}
+use Rattle.heap_region.proofs.Ids.{null_names_none}
+use Rattle.heap_region.proofs.ChangedLookups.{object_at_ref}
 use Rattle.heap_region.proofs.References.{member_cases}
 use Rattle.heap_mark.specs.MarkSteps.{MarkState, is_white, with_mark_of, shaded}
 use Rattle.heap_mark.specs.Marker.{MarkerState, at_work, after_work, NamesMarked, IsGraySound}

@@ -13,8 +13,8 @@ use Rattle.heap_class.specs.declared.ObjRef.{ObjRef}
 use Rattle.heap_class.specs.Classes.{Class, slot_kinds_of, slots_of}
 use Rattle.heap_class.specs.Kinds.{is_reference}
 use Rattle.heap_region.specs.Regions.{InUse, Object, Region, UsedRegion, id_of, live_objects, object_at, object_of, objects_in, objects_of_region, ref_of, references_of, slot_kinds}
-use Rattle.heap_region.proofs.Ids.{ref_back, ref_is}
-use Rattle.heap_region.proofs.ChangedLookups.{null_names_none, object_at_ref, place_found}
+use Rattle.heap_region.proofs.Ids.{ref_back, ref_is, null_names_none}
+use Rattle.heap_region.proofs.ChangedLookups.{object_at_ref, place_found}
 use Rattle.heap_region.proofs.References.{found_in, is_found_in, member_cases, member_head, member_none, member_tail, place_of_member, references_by_slots}
 use Rattle.heap_world.specs.Legal.{IsLegal, IsLive}
 use Rattle.heap_world.specs.Reach.{IsObject, IsPath, Names, Reaches, end_of_path}

@@ -9,6 +9,7 @@ use Rattle.std.proofs.lemmas.List.{length-set, length_push, get_or_push, get_or-
 use Rattle.std.proofs.lemmas.List.Elements.{All-push, All-set}
 use Rattle.std.proofs.lemmas.Option.{none-some, same_Some, slice_get_within}
 use Rattle.heap_class.specs.declared.ObjRef.{ObjRef}
+use Rattle.heap_region.proofs.Lookups.{used_below}
 use Rattle.heap_region.specs.RegionCopies.{Frozen, frozen, frozen_word_set, region_frozen}
 use Rattle.heap_region.specs.Legal.{IsCellTable}
 use Rattle.heap_region.specs.Limits.{cell_sizes, region_words}
@@ -28,7 +29,7 @@ use Rattle.heap_trail.specs.KeptCopies.{patched, touched, with_dead}
 use Rattle.heap_trail.specs.Walk.{TellsBefore, walked_copy}
 use Rattle.heap_trail.proofs.CoveringCopies.{covers_same}
 use Rattle.heap_trail.proofs.RecordCases.{by_region}
-use Rattle.heap_trail.proofs.RoomForCopies.{object_within, reclaim_within, used_within}
+use Rattle.heap_trail.proofs.RoomForCopies.{object_within, reclaim_within}
 use Rattle.heap_trail.proofs.Others.{length_undone}
 use Rattle.heap_past.specs.Newest.{AreCellSizes, id_by, storage_cell_size, sizes_before, written_at}
 use Rattle.heap_past.proofs.ToldObjects.{told}
@@ -209,7 +210,7 @@ pub sizes_all : (w : HeapState) (sizes : List ℕ) (n : ℕ) → n ≡ length w.
 sizes_all w sizes n e a = record {
   many = a.many ∙ e;
   small = a.small;
-  used = λ r u h. a.used r u (omega (arith, e, used_within w.regions r (subst IsSome (sym h) refl))) h;
+  used = λ r u h. a.used r u (omega (arith, e, used_below w.regions r (subst IsSome (sym h) refl))) h;
 }
 
 -- ---- the step before

@@ -5,6 +5,7 @@ use Rattle.std.specs.Option.{option_map_or}
 use Rattle.std.proofs.lemmas.Bool.{false≢true}
 use Rattle.std.proofs.lemmas.List.{length-replicate}
 use Rattle.std.proofs.lemmas.Option.{same_Some, slice_get_within}
+use Rattle.heap_region.proofs.PriorObjects.{same_place}
 use Rattle.heap_class.specs.declared.ObjKind.{ObjKind}
 use Rattle.heap_class.specs.declared.ObjKind.TheVariants.{Array, Instance, Prim}
 use Rattle.heap_class.specs.declared.ObjRef.{ObjRef}
@@ -13,9 +14,9 @@ use Rattle.heap_class.proofs.Refusals.{none_holds}
 use Rattle.heap_region.specs.Regions.{Object, Region, UsedRegion, id_of, object_at, object_of, ref_of, references_of, slot_kinds, used_at, with_object, with_word}
 use Rattle.heap_region.specs.Pool.{RegionPool, allocated, new_place, taken}
 use Rattle.heap_region.proofs.AllocatedRegions.{IsNewCell, new_cell}
-use Rattle.heap_region.proofs.ChangedLookups.{null_names_none, object_of_with_object, object_of_with_object_other, place_found, same_or_not}
+use Rattle.heap_region.proofs.ChangedLookups.{place_found, same_or_not}
 use Rattle.heap_region.proofs.FoundObjects.{ref_taken, taken_elsewhere, taken_there}
-use Rattle.heap_region.proofs.Ids.{ref_back}
+use Rattle.heap_region.proofs.Ids.{ref_back, found_elsewhere, found_there, null_names_none}
 use Rattle.heap_region.proofs.Lookups.{used_there}
 use Rattle.heap_region.proofs.References.{found_in, reference_was, references_by_slots, references_in}
 use Rattle.heap_world.specs.Phase.{Phase}
@@ -178,13 +179,13 @@ written_names w at x o slot word log p e may y z n = go (same_or_not y x)
 
     go : (y ≡ x) ⊎ (y ≢ x) → Names w y z ⊎ Contains w.registers z
     go (inl q) =
-        let here : object_of (with_object at f w.regions) y ≡ Some (f o) = object_of_with_object f w.regions at y (ap (ref_of w.regions) q ∙ p) ∙ ap (λ k. option_map f (object_of w.regions k)) q ∙ ap (option_map f) e in
+        let here : object_of (with_object at f w.regions) y ≡ Some (f o) = found_there w.regions y at f (ap (ref_of w.regions) q ∙ p) ∙ ap (λ k. option_map f (object_of w.regions k)) q ∙ ap (option_map f) e in
         let same : a.0 ≡ f o = same_Some a.0 (f o) (sym a.1 ∙ here) in
         elim (reference_was w.classes o slot word z (subst (λ (b : Object). Contains (references_of w.classes b) z) same a.2)) [
           | inl was ↦ inl (names_of w y z o (ap (object_of w.regions) q ∙ e) was)
           | inr new ↦ inr (subst (Contains w.registers) (sym new.0) (may new.1))
         ]
-    go (inr m) = inl (names_of w y z a.0 (sym (object_of_with_object_other f w.regions at x y p m) ∙ a.1) a.2)
+    go (inr m) = inl (names_of w y z a.0 (sym (found_elsewhere w.regions x y at f p (λ q. m (sym q))) ∙ a.1) a.2)
 
 form_less : (w v : HeapState) (x slot word : ℕ) → WriteForm w x slot word v → ReachesLess w v
 form_less w v x slot word f =
@@ -193,16 +194,6 @@ form_less w v x slot word f =
     (reached_before w (written w p.0 slot word f.1) (λ y c there. reaches_register w y c there) (written_names w p.0 x f.0 slot word f.1 p.1 f.2 f.3.reference)))
 
 -- ---- a new object
-
--- two places are one or not
-one_place : (a b : ObjRef) → (a ≡ b) ⊎ (a ≢ b)
-one_place a b = elim (same_or_not a.region b.region) [
-  | inl e ↦ elim (same_or_not a.cell b.cell) [
-    | inl f ↦ inl (λ i. record { region = e i; cell = f i })
-    | inr n ↦ inr (λ q. n (ap (λ (p : ObjRef). p.cell) q))
-  ]
-  | inr n ↦ inr (λ q. n (ap (λ (p : ObjRef). p.region) q))
-]
 
 record IsNew (w : HeapState) (at : ObjRef) (o : Object) (regions : RegionPool) : Type 0 where
   named : (x : ℕ) → (object_of regions.regions x ≡ object_of w.regions x) ⊎ (object_of regions.regions x ≡ Some o)
@@ -226,7 +217,7 @@ is_new w legal at fresh o place = subst (IsNew w at o) (sym c.is_taken) (record 
 
     go : (x : ℕ) (r : Option ObjRef) → ref_of before x ≡ r → (object_of after x ≡ object_of w.regions x) ⊎ (object_of after x ≡ Some o)
     go x None e = inl (ap (option_and_then (object_at after)) (ref_taken at o c.before x ∙ e) ∙ sym (ap (option_and_then (object_at before)) e) ∙ c.found x)
-    go x (Some b) e = elim (one_place at b) [
+    go x (Some b) e = elim (same_place at b) [
       | inl q ↦ inr (ap (option_and_then (object_at after)) (ref_taken at o c.before x ∙ e) ∙ ap (object_at after) (sym q) ∙ taken_there at o c.before c.region None c.used c.empty)
       | inr n ↦ inl (ap (option_and_then (object_at after)) (ref_taken at o c.before x ∙ e) ∙ taken_elsewhere at b o c.before n ∙ sym (ap (option_and_then (object_at before)) e) ∙ c.found x)
     ]

@@ -1,16 +1,18 @@
 -- Walking back: registers, classes, and what is there and live.
 use Rattle.std.proofs.Common.{◌≡◌, ◌≢◌, ◌⊎◌, ℕ, zero, suc, ◌-◌, ◌<◌, Bool, true, false, ◌&&◌, List, [], ◌∷◌, length, set, get_or, map, fold, take, Option, Some, None, IsSome, refl, sym, ap, subst, ◌∙◌, arith, length-take, length-set}
 use mathlib.Core.Logic.{inl, inr}
-use Rattle.std.specs.Prelude.{◌==◌, slice_set, option_map, if◌then◌else◌}
+use Rattle.std.specs.Prelude.{◌==◌, slice_set, option_and_then, option_map, if◌then◌else◌}
 use Rattle.std.specs.Option.{option_map_or}
 use Rattle.std.proofs.lemmas.List.{get_or-set_same, get_or-set_other}
 use Rattle.std.proofs.lemmas.Bool.{eqb-true, eq-eqb, ne_eqb}
+use Rattle.heap_region.proofs.References.{get_set}
+use Rattle.heap_region.proofs.PriorObjects.{same_place as place_or_not}
 use Rattle.heap_class.specs.declared.ObjRef.{ObjRef}
-use Rattle.heap_region.specs.Regions.{Object, UsedRegion, Region, Empty, InUse, used_at, object_at, cell_object, slot_object, ref_of, with_region, with_object, with_word, with_mark}
+use Rattle.heap_region.specs.Regions.{Object, UsedRegion, Region, Empty, InUse, used_part, used_at, object_at, cell_object, slot_object, ref_of, with_region, with_object, with_word, with_mark}
 use Rattle.heap_region.specs.Layout.{word_set}
 use Rattle.heap_region.specs.Pool.{RegionPool, unallocated, freed, released, restored, cell_freed}
-use Rattle.heap_region.proofs.ChangedLookups.{same_or_not, object_with_object, object_with_object_other}
-use Rattle.heap_region.proofs.Lookups.{used_there, used_elsewhere}
+use Rattle.heap_region.proofs.ChangedLookups.{same_or_not}
+use Rattle.heap_region.proofs.Lookups.{used_there, used_elsewhere, object_elsewhere, object_there}
 use Rattle.heap_region.proofs.ShownRegions.{object_of_used}
 use Rattle.heap_region.proofs.FoundObjects.{restored_elsewhere, released_elsewhere, freed_elsewhere}
 use Rattle.heap_world.specs.MarkSteps.{each_object, each_region, with_mark_of, unsnapped, unshaded, unmarked, undrained, unfinished, unfinished_region}
@@ -60,20 +62,12 @@ kept_state : (f : Object → Object) → ((o : Object) → (f o).live ≡ o.live
 kept_state f keeps None = refl
 kept_state f keeps (Some o) = ap (λ b. if b then 1 else 2) (keeps o)
 
-ref_or_not : (a b : ObjRef) → (b ≡ a) ⊎ (b ≢ a)
-ref_or_not a b = go (same_or_not b.region a.region) (same_or_not b.cell a.cell)
-  where
-    go : (b.region ≡ a.region) ⊎ (b.region ≢ a.region) → (b.cell ≡ a.cell) ⊎ (b.cell ≢ a.cell) → (b ≡ a) ⊎ (b ≢ a)
-    go (inl e) (inl d) = inl (λ i. record { region = e i; cell = d i })
-    go (inl e) (inr d) = inr (λ z. d (ap (λ (r : ObjRef). r.cell) z))
-    go (inr e) d = inr (λ z. e (ap (λ (r : ObjRef). r.region) z))
-
 changed_state : (f : Object → Object) → ((o : Object) → (f o).live ≡ o.live) → (at : ObjRef) (regions : List Region) (b : ObjRef) → states_of (with_object at f regions) b ≡ states_of regions b
-changed_state f keeps at regions b = go (ref_or_not at b)
+changed_state f keeps at regions b = go (place_or_not b at)
   where
     go : (b ≡ at) ⊎ (b ≢ at) → states_of (with_object at f regions) b ≡ states_of regions b
-    go (inl e) = ap (states_of (with_object at f regions)) e ∙ ap cell_state (object_with_object f regions at) ∙ kept_state f keeps (object_at regions at) ∙ ap (states_of regions) (sym e)
-    go (inr ne) = ap cell_state (object_with_object_other f regions at b ne)
+    go (inl e) = ap (states_of (with_object at f regions)) e ∙ ap cell_state (object_there at f regions) ∙ kept_state f keeps (object_at regions at) ∙ ap (states_of regions) (sym e)
+    go (inr ne) = ap cell_state (object_elsewhere at b f regions (λ q. ne (sym q)))
 
 word_state : (at : ObjRef) (slot old : ℕ) (regions : List Region) (b : ObjRef) → states_of (with_word at slot old regions) b ≡ states_of regions b
 unfolding with_word
@@ -169,7 +163,7 @@ freed_slot cell (Some u) = vacated u.cells cell
 
 free_state : (at : ObjRef) (s : RegionPool) (b : ObjRef) → states_of (freed at s).regions b ≡ (if same_place b at then 0 else states_of s.regions b)
 unfolding freed
-free_state at s b = go (ref_or_not at b)
+free_state at s b = go (place_or_not b at)
   where
     gone : object_at (freed at s).regions at ≡ None
     gone = object_of_used _ at ∙ ap (λ x. slot_object x at.cell) (used_there at.region (λ u. cell_freed u at.cell) s.regions) ∙ freed_slot at.cell (used_at s.regions at.region)
@@ -214,9 +208,7 @@ sweep_state region dead s b some fit = when_same b.region region (dead_state dea
 
 put_there : (r : ℕ) (u : UsedRegion) (regions : List Region) → r < length regions → used_at (set regions r (InUse u)) r ≡ Some u
 unfolding used_at
-put_there r u [] lt = absurd (omega (arith, lt))
-put_there zero u (x ∷ regions) lt = refl
-put_there (suc r) u (x ∷ regions) lt = put_there r u regions (omega (arith, lt))
+put_there r u regions lt = ap (option_and_then used_part) (get_set regions r (InUse u) lt)
 
 reclaim_state : (region : ℕ) (storage : UsedRegion) (s : RegionPool) (b : ObjRef) → region < length s.regions → states_of (restored region storage s).regions b ≡ (if b.region == region then cell_state (cell_object storage b.cell) else states_of s.regions b)
 unfolding restored

@@ -4,7 +4,9 @@ use mathlib.Core.Logic.{inl, inr}
 use Rattle.std.specs.Prelude.{slice_get, option_map}
 use Rattle.heap_class.specs.declared.ObjRef.{ObjRef}
 use Rattle.heap_region.specs.Regions.{Object, UsedRegion, Region, Empty, InUse, used_at, object_at, updated, in_used, with_region, with_object}
-use Rattle.heap_region.proofs.ChangedLookups.{same_or_not, get_updated, get_updated_other, used_with_region, used_with_region_other, object_with_object, object_with_object_other}
+use Rattle.heap_region.proofs.UpdatedLists.{updated_elsewhere, updated_there}
+use Rattle.heap_region.proofs.Lookups.{object_elsewhere, object_there, used_elsewhere, used_there}
+use Rattle.heap_region.proofs.ChangedLookups.{same_or_not}
 
 some_map : {A : Type 0} (f : A → A) (p : Option A) (y : A) → option_map f p ≡ Some y → (x : A) × (p ≡ Some x) × (y ≡ f x)
 some_map f None y h = cc
@@ -26,9 +28,9 @@ used_was_region f rs a r v h = go (same_or_not r a)
   where
     go : (r ≡ a) ⊎ (r ≢ a) → (u : UsedRegion) × (used_at rs r ≡ Some u) × (((r ≡ a) × (v ≡ f u)) ⊎ ((r ≢ a) × (v ≡ u)))
     go (inl e) =
-        let p = some_map f (used_at rs a) v (sym (used_with_region f rs a) ∙ ap (used_at (with_region a f rs)) (sym e) ∙ h) in
+        let p = some_map f (used_at rs a) v (sym (used_there a f rs) ∙ ap (used_at (with_region a f rs)) (sym e) ∙ h) in
         (p.0, ap (used_at rs) e ∙ p.1, inl (e, p.2))
-    go (inr n) = (v, sym (used_with_region_other f rs a r n) ∙ h, inr (n, refl))
+    go (inr n) = (v, sym (used_elsewhere a r f rs (λ q. n (sym q))) ∙ h, inr (n, refl))
 
 pub object_was : (f : Object → Object) (rs : List Region) (at b : ObjRef) (o' : Object) → object_at (with_object at f rs) b ≡ Some o'
     → (o : Object) × (object_at rs b ≡ Some o) × (((b ≡ at) × (o' ≡ f o)) ⊎ ((b ≢ at) × (o' ≡ o)))
@@ -36,9 +38,9 @@ object_was f rs at b o' h = go (same_place b at)
   where
     go : (b ≡ at) ⊎ (b ≢ at) → (o : Object) × (object_at rs b ≡ Some o) × (((b ≡ at) × (o' ≡ f o)) ⊎ ((b ≢ at) × (o' ≡ o)))
     go (inl e) =
-        let p = some_map f (object_at rs at) o' (sym (object_with_object f rs at) ∙ ap (object_at (with_object at f rs)) (sym e) ∙ h) in
+        let p = some_map f (object_at rs at) o' (sym (object_there at f rs) ∙ ap (object_at (with_object at f rs)) (sym e) ∙ h) in
         (p.0, ap (object_at rs) e ∙ p.1, inl (e, p.2))
-    go (inr n) = (o', sym (object_with_object_other f rs at b n) ∙ h, inr (n, refl))
+    go (inr n) = (o', sym (object_elsewhere at b f rs (λ q. n (sym q))) ∙ h, inr (n, refl))
 
 -- what holds of a region's number, whatever its cells, still holds
 pub part_with_region : (Q : UsedRegion → Type 0) (f : UsedRegion → UsedRegion) → ((u : UsedRegion) → Q u → Q (f u)) → (rs : List Region) (a r : ℕ) → IfSome (used_at rs r) Q → IfSome (used_at (with_region a f rs) r) Q
@@ -49,8 +51,8 @@ part_with_region Q f keep rs a r h = go (same_or_not r a)
     over (Some u) q = keep u q
 
     go : (r ≡ a) ⊎ (r ≢ a) → IfSome (used_at (with_region a f rs) r) Q
-    go (inl e) = subst (λ k. IfSome (used_at (with_region a f rs) k) Q) (sym e) (subst (λ p. IfSome p Q) (sym (used_with_region f rs a)) (over (used_at rs a) (subst (λ k. IfSome (used_at rs k) Q) e h)))
-    go (inr n) = subst (λ p. IfSome p Q) (sym (used_with_region_other f rs a r n)) h
+    go (inl e) = subst (λ k. IfSome (used_at (with_region a f rs) k) Q) (sym e) (subst (λ p. IfSome p Q) (sym (used_there a f rs)) (over (used_at rs a) (subst (λ k. IfSome (used_at rs k) Q) e h)))
+    go (inr n) = subst (λ p. IfSome p Q) (sym (used_elsewhere a r f rs (λ q. n (sym q)))) h
 
 pub part_with_object : (Q : UsedRegion → Type 0) → ((u : UsedRegion) (cs : List (Option Object)) → Q u → Q (record u { cells = cs })) → (f : Object → Object) (rs : List Region) (at : ObjRef) (r : ℕ) → IfSome (used_at rs r) Q → IfSome (used_at (with_object at f rs) r) Q
 unfolding with_object
@@ -68,9 +70,9 @@ same_updated g x alike xs a k = go (same_or_not k a)
   where
     go : (k ≡ a) ⊎ (k ≢ a) → (slice_get (updated a g xs) k ≡ Some x) ↔ (slice_get xs k ≡ Some x)
     go (inl e) =
-        let here : slice_get (updated a g xs) k ≡ option_map g (slice_get xs k) = ap (slice_get (updated a g xs)) e ∙ get_updated g xs a ∙ ap (λ i. option_map g (slice_get xs i)) (sym e) in
+        let here : slice_get (updated a g xs) k ≡ option_map g (slice_get xs k) = ap (slice_get (updated a g xs)) e ∙ updated_there a g xs ∙ ap (λ i. option_map g (slice_get xs i)) (sym e) in
         (λ h. (alike (slice_get xs k)).0 (sym here ∙ h), λ h. here ∙ (alike (slice_get xs k)).1 h)
-    go (inr n) = (λ h. sym (get_updated_other g xs a k n) ∙ h, λ h. get_updated_other g xs a k n ∙ h)
+    go (inr n) = (λ h. sym (updated_elsewhere a k g xs (λ q. n (sym q))) ∙ h, λ h. updated_elsewhere a k g xs (λ q. n (sym q)) ∙ h)
 
 -- a change of a region leaves the same regions empty
 pub empty_with_region : (f : UsedRegion → UsedRegion) (rs : List Region) (a r : ℕ) → (slice_get (with_region a f rs) r ≡ Some Empty) ↔ (slice_get rs r ≡ Some Empty)
@@ -90,5 +92,5 @@ pub inhabited_with_object : (f : Object → Object) (cells : List (Option Object
 inhabited_with_object f cells c k o h = go (same_or_not k c)
   where
     go : (k ≡ c) ⊎ (k ≢ c) → (p : Object) × (slice_get (updated c (option_map f) cells) k ≡ Some (Some p))
-    go (inl e) = (f o, ap (slice_get (updated c (option_map f) cells)) e ∙ get_updated (option_map f) cells c ∙ ap (λ i. option_map (option_map f) (slice_get cells i)) (sym e) ∙ ap (option_map (option_map f)) h)
-    go (inr n) = (o, get_updated_other (option_map f) cells c k n ∙ h)
+    go (inl e) = (f o, ap (slice_get (updated c (option_map f) cells)) e ∙ updated_there c (option_map f) cells ∙ ap (λ i. option_map (option_map f) (slice_get cells i)) (sym e) ∙ ap (option_map (option_map f)) h)
+    go (inr n) = (o, updated_elsewhere c k (option_map f) cells (λ q. n (sym q)) ∙ h)

@@ -5,10 +5,11 @@ use Rattle.std.specs.Prelude.{slice_get, option_map, option_and_then, nat_lt, On
 use Rattle.std.specs.Option.{option_map_or}
 use Rattle.std.proofs.lemmas.Option.{slice_get-map}
 use Rattle.std.proofs.lemmas.List.{length-map}
+use Rattle.heap_mark.proofs.Each.{used_each}
 use Rattle.heap_class.proofs.Refusals.{none_holds}
 use Rattle.heap_class.specs.declared.ObjRef.{ObjRef}
 use Rattle.heap_class.specs.Classes.{Class}
-use Rattle.heap_region.specs.Regions.{Object, UsedRegion, Region, Empty, InUse, used_part, used_at, object_of, object_at, ref_of, in_used, references_of, slot_kinds, cell_size_for}
+use Rattle.heap_region.specs.Regions.{Object, UsedRegion, Region, Empty, InUse, used_at, object_of, object_at, ref_of, in_used, references_of, slot_kinds, cell_size_for}
 use Rattle.heap_region.proofs.ChangedLookups.{ref_same, size_at, number_of, place_found}
 use Rattle.heap_region.proofs.References.{member_none}
 use Rattle.heap_mark.specs.declared.Phase.TheVariants.{Idle, Marking}
@@ -34,15 +35,6 @@ use Rattle.heap_world.proofs.Shapes.{KeepsShape}
 -- an object that a cycle finished with
 abbrev pub settled : Object → Object
 settled o = record o { live = o.mark; mark = false }
-
-used_each : (f : UsedRegion → UsedRegion) (rs : List Region) (r : ℕ) → used_at (each_region f rs) r ≡ option_map f (used_at rs r)
-unfolding used_at each_region in_used
-used_each f rs r = ap (option_and_then used_part) (slice_get-map (in_used f) rs r) ∙ go (slice_get rs r)
-  where
-    go : (p : Option Region) → option_and_then used_part (option_map (in_used f) p) ≡ option_map f (option_and_then used_part p)
-    go None = refl
-    go (Some Empty) = refl
-    go (Some (InUse u)) = refl
 
 object_settled : (rs : List Region) (at : ObjRef) → object_at (each_region finished_region rs) at ≡ option_map settled (object_at rs at)
 unfolding object_at finished_region each_object

@@ -1,7 +1,7 @@
 -- What the fields of a heap hold stays as it must.
-use Rattle.std.proofs.Common.{◌≡◌, ℕ, ◌*◌, ◌≤◌, Bool, true, false, List, length, sym, subst, ◌∙◌, arith}
+use Rattle.std.proofs.Common.{◌≡◌, ℕ, ◌*◌, ◌≤◌, Bool, true, false, length, sym, subst, ◌∙◌, arith}
 use Rattle.heap_class.specs.declared.ObjRef.{ObjRef}
-use Rattle.heap_region.specs.Regions.{Object, Region, with_region, with_word}
+use Rattle.heap_region.specs.Regions.{Object, with_region, with_word}
 use Rattle.heap_region.specs.Pool.{RegionPool, taken, restored, freed, released, allocated, unallocated}
 use Rattle.heap_region.proofs.UpdatedLists.{length_updated}
 use Rattle.heap_region.proofs.References.{length_set}
@@ -36,12 +36,9 @@ held_by v w room h l e = record { legal = l; ids = same_room v w room h e }
 
 -- ---- a word is written
 
-pub length_word : (at : ObjRef) (slot word : ℕ) (rs : List Region) → length (with_word at slot word rs) ≡ length rs
-length_word at slot word rs = length_written rs at slot word
-
 -- ---- what was done is taken back
 
 pub word_held : (w v : HeapState) (slot word room : ℕ) (at : ObjRef) (s : RegionPool) → IsSoundHeap w room → w ≡ v → s ≡ record { regions = with_word at slot word w.regions; pool = w.pool } → IsLegal (record v { regions = with_word at slot word v.regions }) → IsSoundHeap (with_pool s w) room
 word_held w v slot word room at s h e f l = subst (λ (t : RegionPool). IsSoundHeap (with_pool t w) room) (sym f)
     (held_by (record w { regions = with_word at slot word w.regions }) w room h
-    (subst (λ (u : HeapState). IsLegal (record u { regions = with_word at slot word u.regions })) (sym e) l) (length_word at slot word w.regions))
+    (subst (λ (u : HeapState). IsLegal (record u { regions = with_word at slot word u.regions })) (sym e) l) (length_written w.regions at slot word))

@@ -8,6 +8,7 @@ use Rattle.std.proofs.lemmas.Bool.{eqb-true}
 use Rattle.std.proofs.lemmas.List.{length-replicate}
 use Rattle.std.proofs.lemmas.List.FromFn.{length-range_with_len}
 use Rattle.std.proofs.lemmas.List.Elements.{All-cons}
+use Rattle.heap_region.proofs.Lookups.{is_used}
 use Rattle.heap_class.specs.declared.Kind.{Kind}
 use Rattle.heap_class.specs.declared.Kind.TheVariants.{Boolean, Char, Float, Double, Byte, Short, Int, Long}
 use Rattle.heap_class.specs.declared.ObjKind.{ObjKind}
@@ -36,7 +37,7 @@ use Rattle.heap_world.proofs.Tricolour.{Spares, spares_tricolour, spares_shelter
 use Rattle.heap_world.proofs.Registers.{IsSafe, namer, names_of, write_legal}
 use Rattle.heap_world.proofs.TakenCells.{HasRoom, IsTaken, is_taken, filled, first_of, object_at_same, object_at_used, size_same}
 use Rattle.heap_region.proofs.FoundObjects.{bare_cells}
-use Rattle.heap_world.proofs.Sweep.{object_in_none}
+use Rattle.heap_region.proofs.ShownRegions.{none_unused}
 
 -- ---- a region with room
 
@@ -83,10 +84,6 @@ place_cases None (Some r) q h = let e : (record { region = r; cell = 0 }, true) 
     pair_same a b e = cc
 place_cases None None q h = cc
 
-used_there : (rs : List Region) (r : ℕ) (u : UsedRegion) → slice_get rs r ≡ Some (InUse u) → used_at rs r ≡ Some u
-unfolding used_at
-used_there rs r u e = ap (option_and_then used_part) e
-
 -- a region in use has room where its free list isn't empty
 opened_in_use : (rs : List Region) (ps : List ℕ) (n : ℕ) (at : ObjRef) → ((k : ℕ) (u : UsedRegion) → used_at rs k ≡ Some u → IsPartition u) → NamesEach ps (λ k. slice_get rs k ≡ Some Empty)
     → slice_get (filter_map (free_place (cell_size_for n)) (enumerate_from 0 rs)) 0 ≡ Some at → IsOpened rs rs ps ps at (cell_size_for n)
@@ -104,7 +101,7 @@ opened_in_use rs ps n at tables pools h = record {
     f = first_place (cell_size_for n) 0 rs at h
 
     used : used_at rs at.region ≡ Some f.2.0
-    used = used_there rs at.region f.2.0 (ap (slice_get rs) (omega (arith, f.1)) ∙ f.2.1)
+    used = is_used rs at.region f.2.0 (ap (slice_get rs) (omega (arith, f.1)) ∙ f.2.1)
 
 -- ---- a region from the pool
 
@@ -200,7 +197,7 @@ opened_fresh rs ps n r pools h = record {
     none_there b e = object_at_used (set rs r (InUse fresh)) b fresh (ap (used_at (set rs r (InUse fresh))) e ∙ used) ∙ bare_cells (1024 / cell_size_for n) b.cell
 
     none_before : (b : ObjRef) → b.region ≡ r → object_at rs b ≡ None
-    none_before b e = object_in_none rs b (ap (used_at rs) e ∙ unused rs r empty)
+    none_before b e = none_unused rs b (ap (used_at rs) e ∙ unused rs r empty)
 
     places : (b : ObjRef) → object_at (set rs r (InUse fresh)) b ≡ object_at rs b
     places b = elim (same_or_not b.region r) [

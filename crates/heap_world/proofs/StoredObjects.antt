@@ -5,7 +5,7 @@ use Rattle.std.specs.Prelude.{slice_get, option_map}
 use Rattle.heap_class.specs.declared.ObjRef.{ObjRef}
 use Rattle.heap_class.specs.Classes.{Class}
 use Rattle.heap_region.specs.Regions.{Object, UsedRegion, Region, Empty, used_at, object_at, object_of, updated, with_object, cell_size_for}
-use Rattle.heap_region.proofs.ChangedLookups.{length_updated}
+use Rattle.heap_region.proofs.UpdatedLists.{length_updated}
 use Rattle.heap_region.proofs.PriorObjects.{object_was, used_was_region, part_with_object, empty_with_region, free_with_object, inhabited_with_object}
 use Rattle.std.specs.Prelude.{if◌then◌else◌}
 use Rattle.std.specs.Option.{option_map_or}
@@ -41,7 +41,7 @@ pub record Keeps (classes : List Class) (o p : Object) : Type 0 where
 
 table_kept : (f : Object → Object) (c : ℕ) (u : UsedRegion) → IsPartition u → IsPartition (record u { cells = updated c (option_map f) u.cells })
 table_kept f c u t = record {
-  cells = length_updated (option_map f) u.cells c ∙ t.cells;
+  cells = length_updated c (option_map f) u.cells ∙ t.cells;
   free = record { distinct = t.free.distinct; each = λ k. (λ m. (free_with_object f u.cells c k).1 ((t.free.each k).0 m), λ e. (t.free.each k).1 ((free_with_object f u.cells c k).0 e)) };
   inhabited = let p = inhabited_with_object f u.cells c t.inhabited.0 t.inhabited.1 t.inhabited.2 in (t.inhabited.0, p.0, p.1);
 }

@@ -6,7 +6,10 @@ use Rattle.std.specs.Option.{option_map_or}
 use Rattle.std.specs.List.{IsDistinct}
 use Rattle.heap_class.specs.declared.ObjRef.{ObjRef}
 use Rattle.heap_region.specs.Regions.{Object, UsedRegion, Region, Empty, used_at, object_of, object_at, id_of, ref_of, in_used, with_region}
-use Rattle.heap_region.proofs.ChangedLookups.{same_or_not, length_updated, used_with_region, used_with_region_other, ref_same, size_at, number_of, id_of_ref, object_at_ref}
+use Rattle.heap_region.proofs.Ids.{ref_is}
+use Rattle.heap_region.proofs.UpdatedLists.{length_updated}
+use Rattle.heap_region.proofs.Lookups.{used_elsewhere, used_there}
+use Rattle.heap_region.proofs.ChangedLookups.{same_or_not, ref_same, size_at, number_of, object_at_ref}
 use Rattle.heap_region.proofs.PriorObjects.{used_was_region, empty_with_region}
 use Rattle.heap_region.proofs.RoundTrip.{IsSize, ref_of_id}
 use Rattle.heap_region.proofs.References.{member_head, member_tail, member_cases, get_set, get_set_other, length_set, get_within}
@@ -55,7 +58,7 @@ object_at_same rs ts b e = ap (option_and_then (λ (u : UsedRegion). option_and_
 
 length_with : (f : UsedRegion → UsedRegion) (r : ℕ) (rs : List Region) → length (with_region r f rs) ≡ length rs
 unfolding with_region
-length_with f r rs = length_updated (in_used f) rs r
+length_with f r rs = length_updated r (in_used f) rs
 
 named_same : (rs ts : List Region) (x : ℕ) → ref_of ts x ≡ ref_of rs x → ((b : ObjRef) → ref_of rs x ≡ Some b → object_at ts b ≡ object_at rs b) → object_of ts x ≡ object_of rs x
 unfolding object_of
@@ -107,7 +110,7 @@ is_taken rs at o s h = record {
   others = λ b n. others b n (same_or_not b.region at.region);
   named = object_at_ref ts (id_of ts at) at ref ∙ here;
   was_none = object_at_ref rs (id_of ts at) at (sym (ref_same_all (id_of ts at)) ∙ ref) ∙ object_at_used rs at h.region h.used ∙ ap (option_and_then (λ (o : Option Object). o)) is_free;
-  still_named = λ x n. named_same rs ts x (ref_same_all x) (λ b f. others b (λ e. n (sym (id_of_ref ts x at (ref_same_all x ∙ f ∙ ap Some e)))) (same_or_not b.region at.region));
+  still_named = λ x n. named_same rs ts x (ref_same_all x) (λ b f. others b (λ e. n (sym (ref_is ts x at (ref_same_all x ∙ f ∙ ap Some e)))) (same_or_not b.region at.region));
   sizes = λ k u e. sizes k u e (same_or_not k at.region);
   size = (filled at.cell o h.region, used, h.size);
   tables = λ t k v e. table t k v (used_was_region (filled at.cell o) rs at.region k v e);
@@ -118,7 +121,7 @@ is_taken rs at o s h = record {
     ts = with_region at.region (filled at.cell o) rs
 
     used : used_at (with_region at.region (filled at.cell o) rs) at.region ≡ Some (filled at.cell o h.region)
-    used = used_with_region (filled at.cell o) rs at.region ∙ ap (option_map (filled at.cell o)) h.used
+    used = used_there at.region (filled at.cell o) rs ∙ ap (option_map (filled at.cell o)) h.used
 
     is_free : slice_get h.region.cells at.cell ≡ Some None
     is_free = (h.free.each at.cell).0 (subst (λ l. Contains l at.cell) (sym (first_of h.region.free at.cell h.first)) (member_head at.cell (drop 1 h.region.free)))
@@ -130,7 +133,7 @@ is_taken rs at o s h = record {
     here = object_at_used ts at (filled at.cell o h.region) used ∙ ap (option_and_then (λ (o : Option Object). o)) (get_set h.region.cells at.cell (Some o) within)
 
     others : (b : ObjRef) → b ≢ at → (b.region ≡ at.region) ⊎ (b.region ≢ at.region) → object_at (with_region at.region (filled at.cell o) rs) b ≡ object_at rs b
-    others b n (inr m) = object_at_same rs ts b (used_with_region_other (filled at.cell o) rs at.region b.region m)
+    others b n (inr m) = object_at_same rs ts b (used_elsewhere at.region b.region (filled at.cell o) rs (λ q. m (sym q)))
     others b n (inl e) =
         object_at_used ts b (filled at.cell o h.region) (ap (used_at ts) e ∙ used)
         ∙ ap (option_and_then (λ (o : Option Object). o)) (get_set_other h.region.cells at.cell b.cell (Some o) (λ c. n (λ i. record { region = e i; cell = c i })))
@@ -139,7 +142,7 @@ is_taken rs at o s h = record {
     size_all : (k d : ℕ) → size_at (with_region at.region (filled at.cell o) rs) k d ≡ size_at rs k d
     size_all k d = elim (same_or_not k at.region) [
       | inl e ↦ size_some ts k (filled at.cell o h.region) s d (ap (used_at ts) e ∙ used) h.size ∙ sym (size_some rs k h.region s d (ap (used_at rs) e ∙ h.used) h.size)
-      | inr n ↦ size_same rs ts k d (used_with_region_other (filled at.cell o) rs at.region k n)
+      | inr n ↦ size_same rs ts k d (used_elsewhere at.region k (filled at.cell o) rs (λ q. n (sym q)))
     ]
 
     ref_same_all : (x : ℕ) → ref_of (with_region at.region (filled at.cell o) rs) x ≡ ref_of rs x
@@ -152,8 +155,8 @@ is_taken rs at o s h = record {
     ref = ref_of_id ts at.region at.cell s h.is_size below (λ d. size_some ts at.region (filled at.cell o h.region) s d used h.size)
 
     sizes : (k : ℕ) (u : UsedRegion) → used_at rs k ≡ Some u → (k ≡ at.region) ⊎ (k ≢ at.region) → (v : UsedRegion) × (used_at (with_region at.region (filled at.cell o) rs) k ≡ Some v) × (v.cell_size ≡ u.cell_size) × (v.pending ≡ u.pending)
-    sizes k u e (inl q) = (filled at.cell o u, ap (used_at ts) q ∙ used_with_region (filled at.cell o) rs at.region ∙ ap (option_map (filled at.cell o)) (ap (used_at rs) (sym q) ∙ e), refl, refl)
-    sizes k u e (inr n) = (u, used_with_region_other (filled at.cell o) rs at.region k n ∙ e, refl, refl)
+    sizes k u e (inl q) = (filled at.cell o u, ap (used_at ts) q ∙ used_there at.region (filled at.cell o) rs ∙ ap (option_map (filled at.cell o)) (ap (used_at rs) (sym q) ∙ e), refl, refl)
+    sizes k u e (inr n) = (u, used_elsewhere at.region k (filled at.cell o) rs (λ q. n (sym q)) ∙ e, refl, refl)
 
     table : ((k : ℕ) (u : UsedRegion) → used_at rs k ≡ Some u → k ≢ at.region → IsPartition u) → (k : ℕ) (v : UsedRegion) → ((a : UsedRegion) × (used_at rs k ≡ Some a) × (((k ≡ at.region) × (v ≡ filled at.cell o a)) ⊎ ((k ≢ at.region) × (v ≡ a)))) → IsPartition v
     table t k v p = elim p.2 [

@@ -8,7 +8,9 @@ use Rattle.heap_class.specs.declared.ObjRef.{ObjRef}
 use Rattle.heap_class.specs.Classes.{Class}
 use Rattle.heap_class.specs.Kinds.{is_reference, value_limit}
 use Rattle.heap_region.specs.Regions.{Object, Region, object_of, object_at, ref_of, with_object, with_word, with_region, references_of, slot_kinds}
-use Rattle.heap_region.proofs.ChangedLookups.{same_or_not, length_updated, object_at_ref, object_of_with_object, object_of_with_object_other}
+use Rattle.heap_region.proofs.Ids.{found_elsewhere, found_there}
+use Rattle.heap_region.proofs.UpdatedLists.{length_updated}
+use Rattle.heap_region.proofs.ChangedLookups.{same_or_not, object_at_ref}
 use Rattle.heap_region.proofs.PriorObjects.{object_was}
 use Rattle.heap_region.proofs.References.{length_set, kinds_after_word, reference_was, reference_stays, reference_not_null}
 use Rattle.heap_mark.specs.declared.Phase.TheVariants.{Idle, Marking}
@@ -59,8 +61,8 @@ unfolding with_word
 is_written w at x o slot word log p e y = go (same_or_not y x)
   where
     go : (y ≡ x) ⊎ (y ≢ x) → (object_of (with_object at (with_object_word slot word) w.regions) y ≡ object_of w.regions y) ⊎ ((y ≡ x) × (object_of (with_object at (with_object_word slot word) w.regions) y ≡ Some (with_object_word slot word o)) × (object_of w.regions y ≡ Some o))
-    go (inl q) = inr (q, ap (object_of (with_object at (with_object_word slot word) w.regions)) q ∙ object_of_with_object (with_object_word slot word) w.regions at x p ∙ (λ i. option_map (with_object_word slot word) (e i)), ap (object_of w.regions) q ∙ e)
-    go (inr n) = inl (object_of_with_object_other (with_object_word slot word) w.regions at x y p n)
+    go (inl q) = inr (q, ap (object_of (with_object at (with_object_word slot word) w.regions)) q ∙ found_there w.regions x at (with_object_word slot word) p ∙ (λ i. option_map (with_object_word slot word) (e i)), ap (object_of w.regions) q ∙ e)
+    go (inr n) = inl (found_elsewhere w.regions x y at (with_object_word slot word) p (λ q. n (sym q)))
 
 -- what is true of an object, whatever its words, is so before and after
 bit_after : (w v : HeapState) (x : ℕ) (o : Object) (slot word : ℕ) (P : Object → Type 0) → ((b : Object) (ws : List ℕ) → P b → P (record b { words = ws })) → IsWritten w v x o slot word → (y : ℕ) → NamesOne w P y → NamesOne v P y
@@ -155,7 +157,7 @@ written_rewires w at x o slot word after phase p e may = record {
 
 pub length_written : (rs : List Region) (at : ObjRef) (slot word : ℕ) → length (with_word at slot word rs) ≡ length rs
 unfolding with_word with_object with_region
-length_written rs at slot word = length_updated _ rs at.region
+length_written rs at slot word = length_updated at.region _ rs
 
 stored_written : (classes : List Class) (rs : List Region) (ps : List ℕ) (at : ObjRef) (slot word : ℕ) → IsStored classes rs ps → ((b : Object) → object_at rs at ≡ Some b → Keeps classes b (with_object_word slot word b)) → IsStored classes (with_word at slot word rs) ps
 unfolding with_word

@@ -13,6 +13,7 @@ use Rattle.heap_world.specs.State.{HeapState, is_register, register, slot_kind, 
 use Rattle.heap_world.specs.Events.{put_refusal, lacks_slot, is_reference_slot, after_put, with_slot, store_refusal, after_store}
 use Rattle.heap_region.specs.Regions.{Object, Region, ref_of, with_word, object_of, with_object, slot_kinds}
 use Rattle.heap_region.specs.Pool.{RegionPool}
+use Rattle.heap_region.proofs.Ids.{found_elsewhere, found_there}
 use Rattle.heap_region.proofs.References.{length_set, member_head, member_none}
 use Rattle.heap_mark.specs.MarkSteps.{is_marking, MarkState, logged}
 use Rattle.heap_world.specs.Legal.{IsLegal}
@@ -25,7 +26,7 @@ use Rattle.heap_world.proofs.Slot.{slot_by, some_kind, HasSlot}
 use Rattle.heap_class.proofs.Refusals.{none_holds}
 use Rattle.heap_mark.specs.declared.Phase.{Phase}
 use Rattle.heap_mark.specs.declared.Phase.TheVariants.{Marking, Idle}
-use Rattle.heap_region.proofs.ChangedLookups.{same_or_not, place_found, object_of_with_object, object_of_with_object_other}
+use Rattle.heap_region.proofs.ChangedLookups.{same_or_not, place_found}
 use Rattle.heap_world.specs.Reach.{Names}
 use Rattle.std.proofs.lemmas.Bool.{eqb-true, eqb-false}
 use Rattle.std.proofs.lemmas.List.Elements.{Contains-append_left, Contains-append_right, Contains-push_cases}
@@ -64,11 +65,11 @@ word_shape : (rs : List Region) (at : ObjRef) (x y slot word : ℕ) (o : Object)
 unfolding with_word
 word_shape rs at x y slot word o r e = elim (same_or_not y x) [
   | inl q ↦ (with_object_word slot word o, found q, refl, length_set o.words slot word)
-  | inr n ↦ (o, object_of_with_object_other (with_object_word slot word) rs at x y r n ∙ e, refl, refl)
+  | inr n ↦ (o, found_elsewhere rs x y at (with_object_word slot word) r (λ q. n (sym q)) ∙ e, refl, refl)
 ]
   where
     found : y ≡ x → object_of (with_object at (with_object_word slot word) rs) y ≡ Some (with_object_word slot word o)
-    found q = object_of_with_object (with_object_word slot word) rs at y (ap (ref_of rs) q ∙ r) ∙ ap (option_map (with_object_word slot word)) e
+    found q = found_there rs y at (with_object_word slot word) (ap (ref_of rs) q ∙ r) ∙ ap (option_map (with_object_word slot word)) e
 
 pub form_shape : (w v : HeapState) (x slot word y : ℕ) → WriteForm w x slot word v → KeepsShape w v y
 unfolding place_of

@@ -1,12 +1,12 @@
-use Rattle.std.proofs.Common.{◌≡◌, length, refl, sym, ap, ◌∙◌, arith}
+use Rattle.std.proofs.Common.{◌≡◌, length, arith}
 use Rattle.std.proofs.lemmas.Option.{slice_get_within}
 use Rattle.heap_class.specs.declared.ObjKind.TheVariants.{Instance, Array, Prim}
 use Rattle.heap_class.specs.Classes.{slots_of}
 use Rattle.heap_region.specs.Regions.{object_of}
 use Rattle.heap_region.proofs.ChangedLookups.{object_at_ref}
-use Rattle.heap_mark.specs.Marker.{HasSlots, at_work}
+use Rattle.heap_mark.specs.Marker.{HasSlots}
 use Rattle.heap_mark.proofs.ShadeWalks.{some_there}
-use Rattle.heap_mark.proofs.Children.{instance_children, array_children, prim_children, named_field, named_element}
+use Rattle.heap_mark.proofs.Children.{named_field, named_element}
 use Rattle.heap_mark.proofs.marker.Marker.shade_children.Goals as goal
 
 pub shade_fields-requires-clause-names : goal.shade_fields-requires-clause-names

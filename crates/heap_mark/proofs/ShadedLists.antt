@@ -89,19 +89,9 @@ white_first s t x xs new white h = record {
 
 -- one id first, which isn't white, and then the others
 other_first : (s t : MarkState) (x : ℕ) (xs new : List ℕ) → is_white s.regions x ≡ false → IsShading s t xs new → IsShading s t (x ∷ xs) new
-other_first s t x xs new dark h = record {
-  gray = h.gray;
-  log = h.log;
-  drained = h.drained;
-  phase = h.phase;
-  each = λ y. (λ c. (is_later x y xs ((h.each y).0 c).0, ((h.each y).0 c).1), from y);
-  distinct = h.distinct;
-  places = h.places;
-  marked = h.marked;
-  others = h.others;
-  rest = h.rest;
-  back = h.back;
-}
+other_first s t x xs new dark h =
+    let each : (y : ℕ) → Contains new y ↔ (Contains (x ∷ xs) y × (is_white s.regions y ≡ true)) = (λ y. (λ c. (is_later x y xs ((h.each y).0 c).0, ((h.each y).0 c).1), from y)) in
+    assumption
   where
     from : (y : ℕ) → Contains (x ∷ xs) y × (is_white s.regions y ≡ true) → Contains new y
     from y c = go (in_rest x y xs c.0)

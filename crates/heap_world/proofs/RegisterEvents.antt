@@ -53,10 +53,6 @@ moved w m to from_m from x e = ap (λ y. with_register m to y w) e
 
 -- ---- a load
 
-pub load_no_register : (m to from slot : ℕ) (w : HeapState) → (is_register w m to ≡ false) ⊎ (is_register w m from ≡ false) → load_refusal m to from slot w ≡ Some BadRegister
-unfolding load_refusal
-load_no_register m to from slot w h = here _ _ _ (one_missing _ _ h)
-
 pub load_no_slot : (m to from slot : ℕ) (w : HeapState) (e : Refusal) → is_register w m to ≡ true → is_register w m from ≡ true
     → ((e ≡ NullRegister) × (register w m from ≡ 0)) ⊎ ((e ≡ BadSlot) × (register w m from ≢ 0) × (slot_kind w (register w m from) slot ≡ None)) → load_refusal m to from slot w ≡ Some e
 unfolding load_refusal

@@ -32,7 +32,7 @@ use Rattle.std.proofs.lemmas.Bool.{eqb-true, eqb-false}
 use Rattle.std.proofs.lemmas.List.Elements.{Contains-append_left, Contains-append_right, Contains-push_cases}
 use Rattle.heap_world.proofs.Tricolour.{Rewires}
 use Rattle.heap_world.proofs.KeptParts.{held_by}
-use Rattle.heap_world.proofs.NamedSlots.{one_missing, both_there, no_slot, with_named, by_kind}
+use Rattle.heap_world.proofs.NamedSlots.{both_there, no_slot, with_named, by_kind}
 use Rattle.heap_world.proofs.Shapes.{NamesLike, KeepsShape}
 
 -- ---- the form of a heap after a write
@@ -79,10 +79,6 @@ form_shape w v x slot word y f o e = let p = place_found w.regions x f.0 f.2 in
     (word_shape w.regions p.0 x y slot word o p.1 e))
 
 -- ---- store
-
-pub store_no_register : (m target slot source : ℕ) (w : HeapState) → (is_register w m target ≡ false) ⊎ (is_register w m source ≡ false) → store_refusal m target slot source w ≡ Some BadRegister
-unfolding store_refusal
-store_no_register m target slot source w h = here _ _ _ (one_missing _ _ h)
 
 pub store_no_slot : (m target slot source : ℕ) (w : HeapState) (e : Refusal) → is_register w m target ≡ true → is_register w m source ≡ true
     → ((e ≡ NullRegister) × (register w m target ≡ 0)) ⊎ ((e ≡ BadSlot) × (register w m target ≢ 0) × (slot_kind w (register w m target) slot ≡ None)) → store_refusal m target slot source w ≡ Some e

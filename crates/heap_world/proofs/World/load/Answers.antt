@@ -1,16 +1,19 @@
 use Rattle.std.proofs.Common.{inl, inr, sym, ◌∙◌}
 use Rattle.std.proofs.lemmas.Result.{err_from_is_err_and}
-use Rattle.heap_world.proofs.RegisterEvents.{load_no_register, load_no_slot, load_accepted, loaded_legal, load_reference, load_value}
-use Rattle.heap_world.proofs.NamedSlots.{reference_by, word_by}
+use Rattle.heap_world.specs.Events.{load_refusal}
+use Rattle.heap_world.proofs.FirstRefusals.{here}
+use Rattle.heap_world.proofs.RegisterEvents.{load_no_slot, load_accepted, loaded_legal, load_reference, load_value}
+use Rattle.heap_world.proofs.NamedSlots.{one_missing, reference_by, word_by}
 use Rattle.heap_world.proofs.Slot.{slot_by}
 use Rattle.heap_world.proofs.World.load.Goals.{then-not-has_register-via-then-not-has_register, then-not-has_register-via-else-not-has_register+then-not-has_register-2}
 use Rattle.heap_world.proofs.World.load.Goals as goal
 
 pub returns-then-not-has_register-clause-answered : goal.returns-then-not-has_register-clause-answered
-returns-then-not-has_register-clause-answered c = inl (load_no_register _ _ _ _ _ (elim c.then-not-has_register.branch [
+unfolding load_refusal
+returns-then-not-has_register-clause-answered c = inl (here _ _ _ (one_missing _ _ (elim c.then-not-has_register.branch [
   | then-not-has_register-via-then-not-has_register w ↦ inl (sym w.if-not-has_register.ensures)
   | then-not-has_register-via-else-not-has_register+then-not-has_register-2 w ↦ inr (sym w.if-not-has_register-2.ensures)
-]))
+])))
 
 pub returns-in_err-at-clause-answered : goal.returns-in_err-at-clause-answered
 returns-in_err-at-clause-answered c =

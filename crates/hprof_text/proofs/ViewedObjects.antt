@@ -2,22 +2,17 @@
 use Rattle.std.proofs.Common.{◌≡◌, ◌≤◌, ◌<◌, ℕ, ◌+◌, ◌-◌, List, length, get_or, sym, ap, ap₂, ◌∙◌, subst, arith, inl, inr}
 use Rattle.std.specs.Option.{option_map}
 use Rattle.std.proofs.lemmas.List.{length-map}
-use Rattle.std.specs.Prelude.{slice_get, Option, Some, None, IfSome, Contains}
-use Rattle.std.proofs.lemmas.Option.{slice_get_within, slice_get_cases, slice_get-map, slice_get-get_or, get_or_from_slice_get}
+use Rattle.std.specs.Prelude.{slice_get, Option, Some, None, IfSome}
+use Rattle.std.proofs.lemmas.Option.{slice_get_within, slice_get_cases, slice_get-map, get_or_from_slice_get}
 use Rattle.heap_class.specs.declared.IdSize.{IdSize}
 use Rattle.heap_class.specs.Classes.{Class}
 use Rattle.heap_class.specs.declared.ObjKind.{ObjKind}
 use Rattle.heap_class.specs.declared.ObjRef.{ObjRef}
 use Rattle.heap_class.specs.Limits.{array_limit}
+pub use Rattle.heap_class.proofs.Lists.{got_is_in as is_there}
 use Rattle.hprof_text.specs.Image.{Image, DumpedObject, IsKnown, IsDumpable}
 use Rattle.hprof_text.specs.Text.{dump_of, object_dump, object_records}
 use Rattle.hprof_text.proofs.Loops.{some_item}
-
-pub is_there : {X : Type 0} (xs : List X) (i : ℕ) (x : X) → slice_get xs i ≡ Some x → Contains xs x
-is_there xs i x e = (i, slice_get_within xs i x e, get_or_from_slice_get xs i x x e)
-
-pub place_of : {X : Type 0} (xs : List X) (x : X) → Contains xs x → (i : ℕ) × (slice_get xs i ≡ Some x)
-place_of xs x c = (c.0, slice_get-get_or xs c.0 x c.1 ∙ ap Some c.2)
 
 -- the object at a place, by what a view tells of it
 pub record IsHere (image : Image) (i : ℕ) (kind : ObjKind) (words : List ℕ) : Type 0 where

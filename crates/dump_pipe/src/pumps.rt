@@ -4,8 +4,8 @@ ghost use Rattle.dump_pump.specs.Pumps.{IsPumped, bytes_of};
 ghost use Rattle.dump_pipe.specs.Pipes.{byte_limit};
 
 use crate::counter::Counter;
-use dump_pump::transfer::put_all;
-use dump_pump::{Next, Outlet, Pumped, Source};
+use dump_pump::transfer::pump_part;
+use dump_pump::{Outlet, Pumped, Source};
 
 /// Puts out the parts of a source as `pump` does, and counts their bytes, part by part. Takes no memory of its own. The sum has
 /// room for the bytes of a dump.
@@ -23,26 +23,13 @@ pub fn pump_counted<S: Source, O: Outlet>(
     ensures counted { counter.new.sum ≡ counter.old.sum + bytes_of result }
 {
     let _most = source.parts_left();
-    let mut total: u64 = 0;
+    let mut total = 0;
     loop {
-        match source.next() {
-            Next::Part(piece) => {
-                let size = piece.bytes.as_slice().len();
-                let put = put_all(outlet, piece.bytes.as_slice());
-                total += put as u64;
-                counter.add(put as u64);
-                if put < size {
-                    return Pumped::OutletFailed { bytes: total };
-                }
-                if piece.last {
-                    return Pumped::Done { bytes: total };
-                }
-            }
-            Next::Lost(cause) => {
-                let bytes = total;
-                return Pumped::Lost { cause, bytes };
-            }
-            Next::Cancelled => return Pumped::Cancelled { bytes: total },
+        let before = total;
+        let ended = pump_part(source, outlet, &mut total);
+        counter.add(total - before);
+        if let Some(pumped) = ended {
+            return pumped;
         }
     }
 }

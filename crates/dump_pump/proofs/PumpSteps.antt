@@ -3,11 +3,13 @@ use Rattle.std.proofs.Common.{◌≡◌, ℕ, ◌+◌, ◌-◌, ◌*◌, ◌<◌
 use Rattle.std.proofs.lemmas.List.{append-nil, take-append-drop, length-take-le, length-drop, take_all}
 use Rattle.std.proofs.Math.Seq.{take-add}
 use Rattle.hprof_text.specs.declared.Piece.{Piece}
-use Rattle.dump_pump.specs.declared.source.Ending.TheVariants as End
+use Rattle.dump_pump.specs.declared.source.Ending.{Ending}
+use Rattle.dump_pump.specs.declared.transfer.Pumped.{Pumped}
 use Rattle.dump_pump.specs.declared.transfer.Pumped.TheVariants as Pumped
 use Rattle.dump_pump.specs.Outlets.{Outgoing}
 use Rattle.dump_pump.specs.Sources.{Supply, more, part_size_limit}
-use Rattle.dump_pump.specs.Pumps.{joined, ends, IsPumped}
+use Rattle.dump_pump.specs.Pumps.{joined, ends, FitsPump, IsPumped, PumpsOn}
+use Rattle.dump_pump.proofs.JoinedPieces.{joined_append}
 
 -- all parts that were given are out, and there may be more
 pub record IsOpen (a b : Supply) (w w' : Outgoing) (total : ℕ) : Type 0 where
@@ -45,43 +47,38 @@ put_more before bytes out out' at n le fits was is =
       is ∙ (λ i. was i ++ take n (rest i)) ∙ append_assoc before (take at bytes) (take n (drop at bytes)) ∙ ap (λ l. before ++ l) (sym (take-add at n bytes)),
     )
 
--- a part, whole
-pub opened : (a b c : Supply) (w w' w2 : Outgoing) (total : ℕ) (p : Piece) (k : ℕ) → IsOpen a b w w' total
-    → c.told ≡ more b.told (p ∷ []) → length p.bytes ≤ part_size_limit → c.left < b.left → 0 < c.left → k ≡ length p.bytes → w2.out ≡ w'.out ++ take k p.bytes → w2.failures ≡ w'.failures → IsOpen a c w w2 (total + k)
-opened a b c w w' w2 total p k o told small less left all out whole = record {
+pub ends_append : (ps qs : List Piece) → ends qs ≡ true → ends (ps ++ qs) ≡ true
+ends_append ps [] e = absurd (cc e)
+ends_append [] (q ∷ qs) e = e
+ends_append (p ∷ []) (q ∷ qs) e = e
+ends_append (p ∷ x ∷ ps) (q ∷ qs) e = ends_append (x ∷ ps) (q ∷ qs) e
+
+-- a part more is out
+pub opened : (a b c : Supply) (w w' w2 : Outgoing) (n n' : ℕ) → IsOpen a b w w' n → PumpsOn b c w' w2 n n' None → IsOpen a c w w2 n'
+opened a b c w w' w2 n n' o (p, told, small, less, left, out, whole, counted) = record {
   given = o.given ++ p ∷ [];
   told = told ∙ ap (λ t. more t (p ∷ [])) o.told ∙ more_more a.told o.given (p ∷ []);
-  grows = out ∙ (λ i. o.grows i ++ take_all k p.bytes (omega (arith, all)) i) ∙ append_assoc w.out (joined o.given) p.bytes ∙ ap (λ l. w.out ++ l) (sym (joined_push o.given p));
+  grows = out ∙ ap (λ l. l ++ p.bytes) o.grows ∙ append_assoc w.out (joined o.given) p.bytes ∙ ap (λ l. w.out ++ l) (sym (joined_push o.given p));
   whole = whole ∙ o.whole;
-  counted = omega (arith, all, o.counted, ap length (joined_push o.given p), length-append (joined o.given) p.bytes);
+  counted = omega (arith, counted, o.counted, ap length (joined_push o.given p), length-append (joined o.given) p.bytes);
   left = left;
-  room = omega (arith, all, o.room, small, less);
+  room = omega (arith, counted, o.room, small, less);
 }
 
--- the last part, whole
-pub done : (a b c : Supply) (w w' w2 : Outgoing) (total : ℕ) (p : Piece) (k : ℕ) → IsOpen a b w w' total
-    → c.told ≡ more b.told (p ∷ []) → p.last ≡ true → c.ended ≡ Some End.Whole → k ≡ length p.bytes → w2.out ≡ w'.out ++ take k p.bytes → w2.failures ≡ w'.failures → IsPumped a c w w2 (Pumped.Done (total + k))
-done a b c w w' w2 total p k o told last ended all out whole =
-    let bytes : take k p.bytes ≡ p.bytes = take_all k p.bytes (omega (arith, all)) in
-    record {
-      given = o.given ++ p ∷ [];
-      out = joined (o.given ++ p ∷ []);
-      told = told ∙ ap (λ t. more t (p ∷ [])) o.told ∙ more_more a.told o.given (p ∷ []);
-      grows = out ∙ (λ i. o.grows i ++ bytes i) ∙ append_assoc w.out (joined o.given) p.bytes ∙ ap (λ l. w.out ++ l) (sym (joined_push o.given p));
-      begins = ([], append-nil (joined (o.given ++ p ∷ [])));
-      counted = omega (arith, all, o.counted, ap length (joined_push o.given p), length-append (joined o.given) p.bytes);
-      fits = (refl, ends_push o.given p ∙ last, ended, whole ∙ o.whole);
-    }
+all_fit : (ps given : List Piece) (out : List ℕ) (ended : Option Ending) (f f' f2 : ℕ) (r : Pumped) → f' ≡ f → FitsPump given out ended f' f2 r → FitsPump (ps ++ given) (joined ps ++ out) ended f f2 r
+all_fit ps given out ended f f' f2 (Pumped.Done n) same h = (ap (λ l. joined ps ++ l) h.0 ∙ sym (joined_append ps given), ends_append ps given h.1, h.2, h.3 ∙ same)
+all_fit ps given out ended f f' f2 (Pumped.OutletFailed n) same h = h ∙ ap (λ n. n + 1) same
+all_fit ps given out ended f f' f2 (Pumped.Lost cause n) same h = (ap (λ l. joined ps ++ l) h.0 ∙ sym (joined_append ps given), h.1, h.2 ∙ same)
+all_fit ps given out ended f f' f2 (Pumped.Cancelled n) same h = (ap (λ l. joined ps ++ l) h.0 ∙ sym (joined_append ps given), h.1, h.2 ∙ same)
 
--- a part, of which a beginning is out
-pub failed_at : (a b c : Supply) (w w' w2 : Outgoing) (total : ℕ) (p : Piece) (k : ℕ) → IsOpen a b w w' total
-    → c.told ≡ more b.told (p ∷ []) → k ≤ length p.bytes → w2.out ≡ w'.out ++ take k p.bytes → w2.failures ≡ w'.failures + 1 → IsPumped a c w w2 (Pumped.OutletFailed (total + k))
-failed_at a b c w w' w2 total p k o told le out failed = record {
-  given = o.given ++ p ∷ [];
-  out = joined o.given ++ take k p.bytes;
-  told = told ∙ ap (λ t. more t (p ∷ [])) o.told ∙ more_more a.told o.given (p ∷ []);
-  grows = out ∙ ap (λ l. l ++ take k p.bytes) o.grows ∙ append_assoc w.out (joined o.given) (take k p.bytes);
-  begins = (drop k p.bytes, append_assoc (joined o.given) (take k p.bytes) (drop k p.bytes) ∙ ap (λ l. joined o.given ++ l) (take-append-drop k p.bytes) ∙ sym (joined_push o.given p));
-  counted = omega (arith, o.counted, length-take-le k p.bytes le, length-append (joined o.given) (take k p.bytes));
-  fits = failed ∙ ap (λ n. n + 1) o.whole;
+-- the pump has ended
+pub ended : (a b c : Supply) (w w' w2 : Outgoing) (n n' : ℕ) (r : Pumped) → IsOpen a b w w' n → PumpsOn b c w' w2 n n' (Some r) → IsPumped a c w w2 r
+ended a b c w w' w2 n n' r o (given, out, told, grows, begins, counted, bytes, fits) = record {
+  given = o.given ++ given;
+  out = joined o.given ++ out;
+  told = told ∙ ap (λ t. more t given) o.told ∙ more_more a.told o.given given;
+  grows = grows ∙ ap (λ l. l ++ out) o.grows ∙ append_assoc w.out (joined o.given) out;
+  begins = (begins.0, append_assoc (joined o.given) out begins.0 ∙ ap (λ l. joined o.given ++ l) begins.1 ∙ sym (joined_append o.given given));
+  counted = omega (arith, bytes, counted, o.counted, length-append (joined o.given) out);
+  fits = all_fit o.given given out c.ended w.failures w'.failures w2.failures r o.whole fits;
 }

@@ -1,5 +1,5 @@
 -- The effect of a pump.
-use Rattle.std.specs.Prelude.{◌≡◌, ℕ, ◌+◌, ◌<◌, ◌≤◌, Bool, true, false, List, [], ◌∷◌, ◌++◌, take, length, Option, Some}
+use Rattle.std.specs.Prelude.{◌≡◌, ℕ, ◌+◌, ◌<◌, ◌≤◌, Bool, true, false, List, [], ◌∷◌, ◌++◌, take, length, Option, Some, None}
 use mathlib.Core.List.{IsPrefix}
 use Rattle.hprof_text.specs.declared.Piece.{Piece}
 use Rattle.dump_pump.specs.declared.source.Ending.{Ending}
@@ -7,7 +7,7 @@ use Rattle.dump_pump.specs.declared.source.Ending.TheVariants as End
 use Rattle.dump_pump.specs.declared.transfer.Pumped.{Pumped}
 use Rattle.dump_pump.specs.declared.transfer.Pumped.TheVariants.{Done, OutletFailed, Lost, Cancelled}
 use Rattle.dump_pump.specs.Outlets.{Outgoing}
-use Rattle.dump_pump.specs.Sources.{Supply, more}
+use Rattle.dump_pump.specs.Sources.{Supply, more, part_size_limit}
 
 -- the bytes of the parts, one after another
 abbrev pub joined : List Piece → List ℕ
@@ -44,9 +44,19 @@ FitsPump given out ended failures failures' (Lost cause n) =
 FitsPump given out ended failures failures' (Cancelled n) =
     (out ≡ joined given) × (ended ≡ Some End.Cancelled) × (failures' ≡ failures)
 
+-- a pump that had put out n bytes went on: a part more is out, whole, and more may come; or it ended so
+abbrev pub PumpsOn : Supply → Supply → Outgoing → Outgoing → ℕ → ℕ → Option Pumped → Type 0
+PumpsOn a b w w' n n' None =
+    (p : Piece) × (b.told ≡ more a.told (p ∷ [])) × (length p.bytes ≤ part_size_limit)
+    × (b.left < a.left) × (0 < b.left) × (w'.out ≡ w.out ++ p.bytes)
+    × (w'.failures ≡ w.failures) × (n' ≡ n + length p.bytes)
+PumpsOn a b w w' n n' (Some r) =
+    (given : List Piece) × (out : List ℕ) × (b.told ≡ more a.told given) × (w'.out ≡ w.out ++ out)
+    × IsPrefix out (joined given) × (n' ≡ n + length out) × (bytes_of r ≡ n')
+    × FitsPump given out b.ended w.failures w'.failures r
+
 -- the source gave these parts, and a beginning of their bytes was put out, as many as the outcome says, and all of them unless
--- a
--- put failed
+-- a put failed
 pub record IsPumped (a b : Supply) (w w' : Outgoing) (r : Pumped) : Type 0 where
   pub given : List Piece
   pub out : List ℕ

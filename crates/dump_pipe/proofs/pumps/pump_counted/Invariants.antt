@@ -2,10 +2,10 @@ use Rattle.std.proofs.Common.{◌≡◌, ◌+◌}
 use Rattle.dump_pump.proofs.PumpSteps.{IsOpen}
 use Rattle.dump_pipe.proofs.pumps.pump_counted.Given as goal
 
-abbrev pub invariant-loop-piece : goal.invariant-loop-piece
-invariant-loop-piece g l =
+abbrev pub invariant-loop-pumped : goal.invariant-loop-pumped
+invariant-loop-pumped g l =
     IsOpen (g.S.Source.seen l.initial.source) (g.S.Source.seen l.source) (g.O.Outlet.seen l.initial.outlet) (g.O.Outlet.seen l.outlet) l.total
     × (g.S.Source.kept l.source ≡ g.S.Source.kept l.initial.source) × (l.counter.meter ≡ l.initial.counter.meter) × (l.counter.sum ≡ l.initial.counter.sum + l.total)
 
-abbrev pub decreases-loop-piece : goal.decreases-loop-piece
-decreases-loop-piece g l = (g.S.Source.seen l.source).left
+abbrev pub decreases-loop-pumped : goal.decreases-loop-pumped
+decreases-loop-pumped g l = (g.S.Source.seen l.source).left

@@ -1,37 +1,9 @@
-use Rattle.std.proofs.Common.{◌≡◌, ◌++◌, ℕ, List, take, length, sym, ap, ◌∙◌, arith}
-use Rattle.dump_pump.proofs.PumpSteps.{opened, done, failed_at}
+use Rattle.std.proofs.Common.{◌∙◌}
+use Rattle.dump_pump.proofs.PumpSteps.{opened, ended}
 use Rattle.dump_pump.proofs.transfer.pump.Goals as goal
 
-pub returns-then-put-size-clause-pumped : goal.returns-then-put-size-clause-pumped
-returns-then-put-size-clause-pumped g c =
-    let n = c.in-Part.ensures.next in
-    let p = c.put_all-put.ensures in
-    let a = ap (λ (l : List ℕ). length l) c.as_slice.ensures in
-    let z = ap (λ (l : List ℕ). length l) c.as_slice-size.ensures in
-    failed_at _ _ _ _ _ _ _ c.in-Part.piece c.put_all-put.result c.loop-piece.invariant.0 n.0 (omega (arith, p.0, a))
-    (p.1 ∙ ap (λ l. (g.O.Outlet.seen c.loop-piece.outlet).out ++ take c.put_all-put.result l) c.as_slice.ensures)
-    (p.3 (omega (arith, c.if-put-size.true, a, z)))
+pub returns-in-Some-clause-pumped : goal.returns-in-Some-clause-pumped
+returns-in-Some-clause-pumped g c = ended _ _ _ _ _ _ _ _ _ c.loop-pumped.invariant.0 c.in-Some.ensures.pumped
 
-pub returns-then-piece-clause-pumped : goal.returns-then-piece-clause-pumped
-returns-then-piece-clause-pumped g c =
-    let n = c.in-Part.ensures.next in
-    let p = c.put_all-put.ensures in
-    let a = ap (λ (l : List ℕ). length l) c.as_slice.ensures in
-    let z = ap (λ (l : List ℕ). length l) c.as_slice-size.ensures in
-    let all : c.put_all-put.result ≡ length c.in-Part.piece.bytes = omega (arith, p.0, c.if-put-size.false, a, z) in
-    done _ _ _ _ _ _ _ c.in-Part.piece c.put_all-put.result c.loop-piece.invariant.0 n.0 c.if-piece.true (n.4 c.if-piece.true) all
-    (p.1 ∙ ap (λ l. (g.O.Outlet.seen c.loop-piece.outlet).out ++ take c.put_all-put.result l) c.as_slice.ensures)
-    (p.2 (all ∙ sym a))
-
-pub loop-piece-preserved : goal.loop-piece-preserved
-loop-piece-preserved g c =
-    let n = c.in-Part.ensures.next in
-    let p = c.put_all-put.ensures in
-    let a = ap (λ (l : List ℕ). length l) c.as_slice.ensures in
-    let z = ap (λ (l : List ℕ). length l) c.as_slice-size.ensures in
-    let all : c.put_all-put.result ≡ length c.in-Part.piece.bytes = omega (arith, p.0, c.if-put-size.false, a, z) in (
-      opened _ _ _ _ _ _ _ c.in-Part.piece c.put_all-put.result c.loop-piece.invariant.0 n.0 n.1 n.2 (n.3 c.if-piece.false) all
-          (p.1 ∙ ap (λ l. (g.O.Outlet.seen c.loop-piece.outlet).out ++ take c.put_all-put.result l) c.as_slice.ensures)
-          (p.2 (all ∙ sym a)),
-      c.in-Part.ensures.kept ∙ c.loop-piece.invariant.1,
-    )
+pub loop-pumped-preserved : goal.loop-pumped-preserved
+loop-pumped-preserved g c = (opened _ _ _ _ _ _ _ _ c.loop-pumped.invariant.0 c.in-None.ensures.pumped, c.in-None.ensures.kept ∙ c.loop-pumped.invariant.1)

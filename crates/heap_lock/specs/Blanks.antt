@@ -22,6 +22,11 @@ pub record Maker : Type 0 where
   pub ledger : TableId
   pub seats : List Chair
 
+-- a heap of these settings, with these tables and this ledger, that drops old entries or doesn't
+abbrev pub IsNamed : HeapSettings → List TableId → TableId → Bool → Maker → Type 0
+IsNamed config tables ledger rolls b =
+    (b.config ≡ config) × (b.tables ≡ tables) × (b.ledger ≡ ledger) × (b.rolls ≡ rolls)
+
 -- seats of these roles, numbered from n, that have done nothing
 abbrev pub chairs : ℕ → List Role → List Chair
 chairs n [] = []

@@ -2,7 +2,7 @@
 ghost use Rattle.std.specs.Prelude.{◌≡◌, ◌∷◌, ◌≤◌, [], false, map, length, IfOk, IfErr, IfSome, IfNone};
 ghost use Rattle.heap_class.specs.declared.Refusal.TheVariants.{NoMemory};
 ghost use Rattle.heap_lock.specs.Limits.{seat_limit};
-ghost use Rattle.heap_lock.specs.Blanks.{chairs, chair_of, tables_of, AllFresh, AllStubs};
+ghost use Rattle.heap_lock.specs.Blanks.{chairs, chair_of, tables_of, AllFresh, AllStubs, IsNamed};
 
 use crate::desk::Desk;
 use crate::heap::{Heap, Kept, Seat, Shared};
@@ -150,8 +150,7 @@ impl Blank {
 
     /// Returns the heap under its lock, and its seats in order. Takes no memory.
     pub fn open<L: Heap>(self) -> (Shared<L>, Seats<L>)
-        requires { (self.config ≡ L.config) × (self.tables ≡ L.tables)
-            × (self.ledger ≡ L.ledger) × (self.rolls ≡ L.rolls) }
+        requires { IsNamed L.config L.tables L.ledger L.rolls self }
         ensures { result.1 ≡ self.seats }
     {
         let Blank {

@@ -43,13 +43,7 @@ fn cause_of(refusal: Refusal) -> LostCause
 
 impl<'a, L: Heap, R: Wait> LockedSource<'a, L, R> {
     /// Creates a source that has given nothing yet. Takes neither the lock nor memory.
-    pub fn new(
-        shared: &'a Shared<L>,
-        rt: &'a R,
-        witness: Witness<L>,
-        pin: u64,
-        time: u64,
-    ) -> LockedSource<'a, L, R>
+    pub fn new(shared: &'a Shared<L>, rt: &'a R, witness: Witness<L>, pin: u64, time: u64) -> Self
         ensures names { (result.pin ≡ pin) × (result.time ≡ time) × (result.witness ≡ witness)
             × (result.count ≡ 0) }
         ensures fresh { locked_supply result.count result.ending ≡ locked_supply 0 Nothing }

@@ -53,13 +53,7 @@ fn note(given: &mut Log<Piece, ()>, ended: &mut Option<Ending>, next: &Next)
 
 impl<'a, L: Heap, R: Wait> ToldSource<'a, L, R> {
     /// Creates a source that has given nothing yet. Takes neither the lock nor memory.
-    pub fn new(
-        shared: &'a Shared<L>,
-        rt: &'a R,
-        witness: Witness<L>,
-        pin: u64,
-        time: u64,
-    ) -> ToldSource<'a, L, R>
+    pub fn new(shared: &'a Shared<L>, rt: &'a R, witness: Witness<L>, pin: u64, time: u64) -> Self
         ensures { result ≡ nothing_of pin time witness }
     {
         let start = Log::new().and(&witness, &());

@@ -14,6 +14,7 @@ use Rattle.heap_region.specs.RegionCopies.{Frozen, frozen, frozen_word_set, regi
 use Rattle.heap_region.specs.Legal.{IsCellTable}
 use Rattle.heap_region.specs.Limits.{cell_sizes, region_words}
 use Rattle.heap_region.specs.Regions.{Object, Region, UsedRegion, id_of, object_at, object_base, used_at}
+use Rattle.heap_region.proofs.Lookups.{used_below}
 use Rattle.heap_region.proofs.References.{member_cases, member_none}
 use Rattle.heap_world.specs.State.{HeapState}
 use Rattle.heap_world.specs.Legal.{IsLegal}

@@ -117,13 +117,8 @@ impl<'a> Source for PinSource<'a> {
     ghost seen = { λ s. pin_supply s.pin s.time s.start.value s.machine.now s.count s.ended };
 
     fn next(&mut self) -> Next {
-        hand_out(
-            &mut *self.machine,
-            self.pin,
-            self.time,
-            &mut self.count,
-            &mut self.ended,
-        )
+        let (count, ended) = (&mut self.count, &mut self.ended);
+        hand_out(&mut *self.machine, self.pin, self.time, count, ended)
     }
 
     fn parts_left(&self) -> u64 {

@@ -1,7 +1,7 @@
 //! Dumps of the current state through a pipe.
-ghost use Rattle.std.specs.Prelude.{◌≡◌, All, length};
+ghost use Rattle.std.specs.Prelude.{◌≡◌};
 ghost use Rattle.dump_pump.specs.Pumps.{bytes_of};
-ghost use Rattle.dump_pipe.specs.Seats.{sum, sum_read};
+ghost use Rattle.dump_pipe.specs.Seats.{sum};
 ghost use Rattle.pin_dump.specs.FreshSupplies.{IsFresh};
 ghost use Rattle.pin_dump.specs.HandedPieces.{ungiven};
 ghost use Rattle.pin_dump.specs.PinDumps.{IsPlaceDumped, PutsPin};
@@ -63,43 +63,6 @@ fn stream_seen<'a, 'g, 'm, O: Outlet, G: Gauge, R: Threads + Wait + Sync>(
     (pumped, after, taken)
 }
 
-// Streams a pin by a new meter, whose progress a gauge sees.
-fn stream_metered<'a, O: Outlet, G: Gauge, R: Threads + Wait + Sync>(
-    rt: &R,
-    alloc: Global,
-    source: FreshSource<'a>,
-    outlet: O,
-    gauge: &mut G,
-    made: NewMeter,
-) -> (Pumped, FreshSource<'a>, O)
-    requires fresh { IsFresh source.pin source.machine.now source.count source.ended }
-    requires out { made.out ≡ sum made.meter 0 }
-    requires reader_count { length made.readers.items ≡ 1 }
-    requires readers { All (λ s. s ≡ sum_read made.meter 0) made.readers.items }
-    ensures put { PutsPin source.entry.pin source.entry.time source.entry.machine.now
-        (O.seen outlet) (O.seen result.2) result.0 }
-    ensures same { ungiven source.entry.pin result.1.machine.now
-        ≡ ungiven source.entry.pin source.entry.machine.now }
-    ensures machine { result.1.machine.ghost_name ≡ source.entry.machine.ghost_name }
-{
-    let NewMeter {
-        meter,
-        out,
-        mut readers,
-        askers: _,
-        feed: _,
-    } = made;
-    let Some(reader) = readers.pop() else {
-        unreachable!()
-    };
-    let seats = GaugeSeats {
-        meter: &meter,
-        out,
-        reader,
-    };
-    stream_seen(rt, alloc, source, outlet, gauge, seats)
-}
-
 // Returns the number of bytes that are out.
 fn bytes_of(pumped: Pumped) -> u64
     ensures { result ≡ bytes_of pumped }
@@ -112,7 +75,7 @@ fn bytes_of(pumped: Pumped) -> u64
     }
 }
 
-// Streams a pin, and shows a gauge its progress. The dump is lost by Memory, with 0 bytes, if a meter can't be allocated.
+// Streams a pin by a new meter, and shows a gauge its progress. The dump is lost by Memory, with 0 bytes, if a meter can't be allocated.
 fn stream_shown<'a, O: Outlet, G: Gauge, R: Threads + Wait + Sync>(
     rt: &R,
     alloc: Global,
@@ -127,15 +90,24 @@ fn stream_shown<'a, O: Outlet, G: Gauge, R: Threads + Wait + Sync>(
         ≡ ungiven source.entry.pin source.entry.machine.now }
     ensures machine { result.1.machine.ghost_name ≡ source.entry.machine.ghost_name }
 {
-    let Ok(made) = Meter::new(alloc, 1, 0) else {
+    let Ok(mut made) = Meter::new(alloc, 1, 0) else {
         let lost = Pumped::Lost {
             cause: LostCause::Memory,
             bytes: 0,
         };
         return (lost, source, outlet);
     };
+    let Some(reader) = made.readers.pop() else {
+        unreachable!()
+    };
+    let NewMeter { meter, out, .. } = made;
+    let seats = GaugeSeats {
+        meter: &meter,
+        out,
+        reader,
+    };
     gauge.begin(&*source.machine);
-    let (pumped, after, taken) = stream_metered(rt, alloc, source, outlet, gauge, made);
+    let (pumped, after, taken) = stream_seen(rt, alloc, source, outlet, gauge, seats);
     gauge.end(bytes_of(pumped));
     (pumped, after, taken)
 }

@@ -143,37 +143,20 @@ trace_ends queue here f slots turned register image r t e v =
 pub reached_as : (image : Image) (queue as' : List Found) → queue ≡ as' → IsSearched image queue → AreReached image as'
 reached_as image queue as' e s = subst (AreReached image) e s.reached
 
--- what was found first with this id
-first_found : (image : Image) (queue found traced : List Found) (index x register : ℕ) (slots : List ℕ) → found ≡ queue → traced ≡ queue → IsSearched image queue → Some index ≡ position (λ f. f.id == x) found
-    → ((f : Found) → AreReached image traced → slice_get traced index ≡ Some f → IsTraced image register slots f) → (f : Found) × (slice_get queue index ≡ Some f) × (f.id ≡ x) × IsTraced image register slots f
-first_found image queue found traced index x register slots a b s e t =
+-- what was found first with this id is an object, and the path that was traced to it is a shortest one
+pub path_traced : (image : Image) (queue found traced : List Found) (index x register : ℕ) (slots : List ℕ) → found ≡ queue → traced ≡ queue → IsSearched image queue → Some index ≡ position (λ f. f.id == x) found
+    → ((f : Found) → AreReached image traced → slice_get traced index ≡ Some f → IsTraced image register slots f)
+    → (f : Found) × (slice_get queue index ≡ Some f) × (f.id ≡ x) × IsPathTo image register slots x × ((r : ℕ) (others : List ℕ) → IsPathTo image r others x → length slots ≤ length others)
+path_traced image queue found traced index x register slots a b s e t =
     let p : position (λ f. f.id == x) queue ≡ Some index = ap (λ (q : List Found). position (λ f. f.id == x) q) (sym a) ∙ sym e in
     let w = found_within (λ f. f.id == x) queue index p in
     let f = some_item queue index w in
-    let q = position-Some (λ f. f.id == x) queue index f.0 p in (
+    let q = position-Some (λ f. f.id == x) queue index f.0 p in
+    let same : f.0.id ≡ x = eqb-true f.0.id x (ap (λ f. f.id == x) (sym (get_or_from_slice_get queue index f.0 f.0 f.1)) ∙ q.1) in
+    let l = t f.0 (reached_as image queue traced (sym b) s) (ap (λ (q : List Found). slice_get q index) b ∙ f.1) in (
       f.0,
       f.1,
-      eqb-true f.0.id x (ap (λ f. f.id == x) (sym (get_or_from_slice_get queue index f.0 f.0 f.1)) ∙ q.1),
-      t f.0 (reached_as image queue traced (sym b) s) (ap (λ (q : List Found). slice_get q index) b ∙ f.1),
+      same,
+      record { there = subst (HasId image) same (s.objects index f.0 f.1); leads = l.0 ∙ ap Some same },
+      λ r others o. let m = shortest image queue index f.0 r others x s p f.1 o in omega (arith, m, l.1),
     )
-
--- what was reached is an object, if a path leads there from a register that was looked at
-pub path_of : (image : Image) (queue found traced : List Found) (index x register : ℕ) (slots : List ℕ) → found ≡ queue → traced ≡ queue → IsSearched image queue → Some index ≡ position (λ f. f.id == x) found
-    → ((f : Found) → AreReached image traced → slice_get traced index ≡ Some f → IsTraced image register slots f) → IsPathTo image register slots x
-path_of image queue found traced index x register slots a b s e t =
-    let f = first_found image queue found traced index x register slots a b s e t in
-    record { there = subst (HasId image) f.2 (s.objects index f.0 f.1); leads = f.3.0 ∙ ap Some f.2 }
-
-pub path_is_shortest : (image : Image) (queue found traced : List Found) (index x register : ℕ) (slots : List ℕ) → found ≡ queue → traced ≡ queue → IsSearched image queue → Some index ≡ position (λ f. f.id == x) found
-    → ((f : Found) → AreReached image traced → slice_get traced index ≡ Some f → IsTraced image register slots f) → (r : ℕ) (others : List ℕ) → IsPathTo image r others x → length slots ≤ length others
-path_is_shortest image queue found traced index x register slots a b s e t r others p =
-    let f = first_found image queue found traced index x register slots a b s e t in
-    let q : position (λ f. f.id == x) queue ≡ Some index = ap (λ (q : List Found). position (λ f. f.id == x) q) (sym a) ∙ sym e in
-    let l = shortest image queue index f.0 r others x s q f.1 p in
-    omega (arith, l, f.3.1)
-
-pub path_is_first : (image : Image) (queue found traced : List Found) (index x register : ℕ) (slots : List ℕ) → found ≡ queue → traced ≡ queue → IsSearched image queue → Some index ≡ position (λ f. f.id == x) found
-    → ((f : Found) → AreReached image traced → slice_get traced index ≡ Some f → IsTraced image register slots f) → IsWayBack traced index register (reverse slots) → (f : Found) × (slice_get queue index ≡ Some f) × (f.id ≡ x) × IsWayBack queue index register (reverse slots)
-path_is_first image queue found traced index x register slots a b s e t i =
-    let f = first_found image queue found traced index x register slots a b s e t in
-    (f.0, f.1, f.2, subst (λ (q : List Found). IsWayBack q index register (reverse slots)) b i)

@@ -13,18 +13,9 @@ use std::marker::Model;
 /// Rows before those of the classes.
 pub const CLASS_ROWS: usize = 12;
 
-/// Some objects: how many there are, and the bytes of their values.
-#[derive(Clone, Copy, PartialEq, Eq, Debug)]
-pub struct Row {
-    pub objects: u64,
-    pub bytes: u64,
-}
-
 /// How many objects there are of each class, and how many arrays of values of each kind. Contracts see the rows.
 #[derive(Drop)]
-pub struct Histogram {
-    rows: Vec<Row>,
-}
+pub struct Histogram(Vec<Row>);
 
 impl Model for Histogram {
     ghost use Rattle.std.specs.Prelude.{List};
@@ -32,7 +23,7 @@ impl Model for Histogram {
 
     ghost Value = { List Row };
 
-    ghost view = { λ h. h.rows.items };
+    ghost view = { λ h. h.0.items };
 }
 
 impl Histogram {
@@ -40,8 +31,15 @@ impl Histogram {
     pub fn as_slice(&self) -> &[Row]
         ensures { result.now ≡ self.now }
     {
-        self.rows.as_slice()
+        self.0.as_slice()
     }
+}
+
+/// Some objects: how many there are, and the bytes of their values.
+#[derive(Clone, Copy, PartialEq, Eq, Debug)]
+pub struct Row {
+    pub objects: u64,
+    pub bytes: u64,
 }
 
 // Returns the number of the row in which an object of this kind is counted.
@@ -126,7 +124,7 @@ pub(crate) fn count_unmarked<V: View>(
         passed += 1;
         here = view.next(at);
     }
-    Ok(Histogram { rows })
+    Ok(Histogram(rows))
 }
 
 /// Counts the objects of a view: those of class `k` in row `k + 12`, and in the row of a kind's type code the arrays of values

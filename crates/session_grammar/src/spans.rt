@@ -20,9 +20,7 @@ pub struct FieldSpan {
 /// The fields of a line, none of them copied. All memory is allocated when the list is made, so that no line allocates before
 /// all its fields are known to be good. Contracts see the list.
 #[derive(Drop)]
-pub struct FieldSpans {
-    marks: Vec<FieldSpan>,
-}
+pub struct FieldSpans(Vec<FieldSpan>);
 
 impl Model for FieldSpans {
     ghost use Rattle.std.specs.Prelude.{◌≤◌, List, vec_capacity};
@@ -31,9 +29,9 @@ impl Model for FieldSpans {
 
     ghost Value = { List FieldSpan };
 
-    ghost view = { λ m. m.marks.items };
+    ghost view = { λ m. m.0.items };
 
-    ghost invariant = { λ m. SPAN_ROOM ≤ vec_capacity m.marks };
+    ghost invariant = { λ m. SPAN_ROOM ≤ vec_capacity m.0 };
 }
 
 impl FieldSpans {
@@ -41,23 +39,21 @@ impl FieldSpans {
     pub fn new(alloc: Global) -> Result<FieldSpans, AllocError>
         ensures { IfOk result (λ m. m ≡ []) }
     {
-        Ok(FieldSpans {
-            marks: Vec::with_capacity(alloc, SPAN_ROOM)?,
-        })
+        Ok(FieldSpans(Vec::with_capacity(alloc, SPAN_ROOM)?))
     }
 
     /// Returns the fields.
     pub fn as_slice(&self) -> &[FieldSpan]
         ensures { result.now ≡ self.now }
     {
-        self.marks.as_slice()
+        self.0.as_slice()
     }
 
     /// Drops all fields.
     pub fn clear(&mut self)
         ensures { self.new ≡ [] }
     {
-        self.marks.clear();
+        self.0.clear();
     }
 
     /// Adds a field.
@@ -65,6 +61,6 @@ impl FieldSpans {
         requires { length self.old < SPAN_ROOM }
         ensures { self.new ≡ self.old ++ mark ∷ [] }
     {
-        self.marks.push_reserved(mark);
+        self.0.push_reserved(mark);
     }
 }

@@ -40,8 +40,8 @@ fn is_word(word: &[u8], name: &[u8]) -> bool
     word == name
 }
 
-// Reads the number that the next word holds. Returns None if it holds none.
-fn next_number(words: &mut Words) -> Option<u64>
+/// Reads the number that the next word holds. Returns None if it holds none.
+pub fn next_number(words: &mut Words) -> Option<u64>
     ensures { IsNextWord (next_number (words_of_line words.old)) (words_of_line words.new) result }
 {
     let (value, size) = number_at(words.front()?);
@@ -84,8 +84,8 @@ fn next_name<'a>(words: &mut Words<'a>) -> Option<&'a [u8]>
     Some(&text[..size])
 }
 
-// Returns a value if no word is left.
-fn at_end<T: Drop>(value: T, mut words: Words) -> Option<T>
+/// Returns a value if no word is left.
+pub fn at_end<T: Drop>(value: T, mut words: Words) -> Option<T>
     ensures { result ≡ at_end value (words_of_line words.entry) }
 {
     if words.front().is_some() {
@@ -94,8 +94,8 @@ fn at_end<T: Drop>(value: T, mut words: Words) -> Option<T>
     Some(value)
 }
 
-// Returns the one number that the words are.
-fn one_number(mut words: Words) -> Option<u64>
+/// Returns the one number that the words are.
+pub fn one_number(mut words: Words) -> Option<u64>
     ensures { result ≡ one_number (words_of_line words.entry) }
 {
     let a = next_number(&mut words)?;

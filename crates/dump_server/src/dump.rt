@@ -56,9 +56,8 @@ fn dump_pin<L: Heap + Send + Sync, O: Outlet, R: Threads + Wait + Sync>(
     let NewMeter {
         meter,
         out,
-        readers: _,
-        askers: _,
         feed,
+        ..
     } = made;
     let seats = StreamSeats {
         meter: &meter,

@@ -245,9 +245,6 @@ pub moved_marks : (b : Bool) (m n k : Machine) → MarksLead m n → b ≡ true 
 moved_marks true m n k s e h = marks_on m n k s (one_mark n k h.0 h.1 h.2 h.3)
 moved_marks false m n k s e h = absurd (cc e)
 
-pub marks_stop : (D : Refusal → Type 0) (m n k : Machine) (e : Refusal) → MarksLead m n → StopsAt D IsMarkStep n e k → StopsAt D IsMarkStep m e k
-marks_stop D m n k e s t = stops_on D IsMarkStep m n k e s.0 s.1 t
-
 pub stops_marking : (D : Refusal → Type 0) (m x n : Machine) (a : ℕ) (e : Refusal) → SweepsLead m a x → StopsAt D IsMarkStep x e n → StopsAt D IsCycleStep m e n
 stops_marking D m x n a e s t =
     let p = of_sweeps m x a s in

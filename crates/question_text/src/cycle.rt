@@ -107,21 +107,6 @@ fn begin<S: Steps>(steps: &mut S, by: &mut S::By) -> Result<(), Refusal>
     Ok(())
 }
 
-// Drains one entry of the log. Tells whether there was one.
-fn drain<S: Steps>(steps: &mut S, by: &mut S::By) -> Result<bool, Refusal>
-    requires { S.may by.old }
-    ensures still { S.may by.new }
-    ensures moved { IfOk result (λ more. MovesOn more (S.seen steps.old) (S.seen steps.new)) }
-    ensures refused { IfErr result (MayRefuse S.denies IsMarkStep (S.seen steps.old)) }
-    ensures unchanged { OnErr result (S.seen steps.new ≡ S.seen steps.old) }
-{
-    match steps.take(by, Event::Drain) {
-        Ok(_) => Ok(true),
-        Err(Refusal::NothingToDrain) => Ok(false),
-        Err(refusal) => Err(refusal),
-    }
-}
-
 // Marks the newest gray object, or drains one entry of the log if no object is gray. Tells whether there was one.
 fn mark_or_drain<S: Steps>(steps: &mut S, by: &mut S::By) -> Result<bool, Refusal>
     requires { S.may by.old }
@@ -132,28 +117,16 @@ fn mark_or_drain<S: Steps>(steps: &mut S, by: &mut S::By) -> Result<bool, Refusa
 {
     match steps.take(by, Event::Mark) {
         Ok(_) => Ok(true),
-        Err(Refusal::NothingToMark) => drain(steps, by),
+        Err(Refusal::NothingToMark) => match steps.take(by, Event::Drain) {
+            Ok(_) => Ok(true),
+            Err(Refusal::NothingToDrain) => Ok(false),
+            Err(refusal) => Err(refusal),
+        },
         Err(refusal) => Err(refusal),
     }
 }
 
-// Marks and drains until no object is gray and no entry of the log is left.
-fn mark_all<S: Steps>(steps: &mut S, by: &mut S::By) -> Result<(), Refusal>
-    requires { S.may by.old }
-    ensures still { S.may by.new }
-    ensures marked { OnOk result (MarksLead (S.seen steps.old) (S.seen steps.new)) }
-    ensures refused { IfErr result
-        (λ e. StopsAt S.denies IsMarkStep (S.seen steps.old) e (S.seen steps.new)) }
-{
-    loop {
-        let more = mark_or_drain(steps, by)?;
-        if !more {
-            return Ok(());
-        }
-    }
-}
-
-// Begins a cycle, unless one runs, and marks and drains to its end.
+// Begins a cycle, unless one runs, and marks and drains until no object is gray and no entry of the log is left.
 fn mark_cycle<S: Steps>(steps: &mut S, by: &mut S::By) -> Result<(), Refusal>
     requires { S.may by.old }
     ensures still { S.may by.new }
@@ -162,7 +135,12 @@ fn mark_cycle<S: Steps>(steps: &mut S, by: &mut S::By) -> Result<(), Refusal>
         (λ e. StopsAt S.denies IsMarkStep (S.seen steps.old) e (S.seen steps.new)) }
 {
     begin(steps, by)?;
-    mark_all(steps, by)
+    loop {
+        let more = mark_or_drain(steps, by)?;
+        if !more {
+            return Ok(());
+        }
+    }
 }
 
 // Finishes the cycle, and returns the number of condemned objects.

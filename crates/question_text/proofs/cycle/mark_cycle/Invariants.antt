@@ -1,7 +1,7 @@
 use Rattle.std.proofs.Common.{◌-◌}
 use Rattle.heap_trail.specs.Limits.{last_place}
 use Rattle.question_text.specs.Collections.{MarksLead}
-use Rattle.question_text.proofs.cycle.mark_all.Given as goal
+use Rattle.question_text.proofs.cycle.mark_cycle.Given as goal
 
 abbrev pub invariant-loop-more : goal.invariant-loop-more
 invariant-loop-more g l = record {

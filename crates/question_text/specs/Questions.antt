@@ -42,67 +42,15 @@ abbrev pub at_and_id : List (List ℕ) → Option (At × ℕ)
 at_and_id ws =
     option_and_then (λ a. option_and_then (λ x. at_end (a.0, x.0) x.1) (next_id a.1)) (next_at ws)
 
--- `histogram AT`
-abbrev pub histogram_line : List (List ℕ) → Option Question
-histogram_line ws = option_map (λ at. Histogram at) (one_at ws)
-
--- `garbage AT`
-abbrev pub garbage_line : List (List ℕ) → Option Question
-garbage_line ws = option_map (λ at. Garbage at) (one_at ws)
-
--- `growth AT AT`
-abbrev pub growth_line : List (List ℕ) → Option Question
-growth_line ws = option_map (λ a. Growth a.0 a.1) (two_ats ws)
-
--- `registers AT`
-abbrev pub registers_line : List (List ℕ) → Option Question
-registers_line ws = option_map (λ at. Registers at) (one_at ws)
-
--- `classes AT`
-abbrev pub classes_line : List (List ℕ) → Option Question
-classes_line ws = option_map (λ at. Classes at) (one_at ws)
-
--- `referrers AT ID`
-abbrev pub referrers_line : List (List ℕ) → Option Question
-referrers_line ws = option_map (λ a. Referrers a.0 a.1) (at_and_id ws)
-
--- `path AT ID`
-abbrev pub path_line : List (List ℕ) → Option Question
-path_line ws = option_map (λ a. Path a.0 a.1) (at_and_id ws)
-
--- `show AT ID`
-abbrev pub show_line : List (List ℕ) → Option Question
-show_line ws = option_map (λ a. Show a.0 a.1) (at_and_id ws)
-
 -- the one id that the words name
 abbrev pub one_id : List (List ℕ) → Option ℕ
 one_id ws = option_and_then (λ x. at_end x.0 x.1) (next_id ws)
-
--- `born ID`
-abbrev pub born_line : List (List ℕ) → Option Question
-born_line ws = option_map (λ x. Born x) (one_id ws)
 
 -- the id and the number that the words name
 abbrev pub id_and_number : List (List ℕ) → Option (ℕ × ℕ)
 id_and_number ws =
     option_and_then (λ x. option_and_then (λ n. at_end (x.0, n.0) n.1) (next_number x.1))
     (next_id ws)
-
--- `wrote ID SLOT`
-abbrev pub wrote_line : List (List ℕ) → Option Question
-wrote_line ws = option_map (λ a. Wrote a.0 a.1) (id_and_number ws)
-
--- `dropped ID`
-abbrev pub dropped_line : List (List ℕ) → Option Question
-dropped_line ws = option_map (λ x. Dropped x) (one_id ws)
-
--- `history N`
-abbrev pub history_line : List (List ℕ) → Option Question
-history_line ws = option_map (λ n. History n) (one_number ws)
-
--- `pins`
-abbrev pub pins_line : List (List ℕ) → Option Question
-pins_line ws = at_end Pins ws
 
 -- ---- the table of questions
 
@@ -113,24 +61,24 @@ QuestionRule = List ℕ × (List (List ℕ) → Option Question)
 -- the questions about what retained steps did, and about pins
 unfoldable pub past_rules : List QuestionRule
 past_rules =
-    (codes "born", born_line)
-    ∷ (codes "wrote", wrote_line)
-    ∷ (codes "dropped", dropped_line)
-    ∷ (codes "history", history_line)
-    ∷ (codes "pins", pins_line)
+    (codes "born", λ ws. option_map (λ x. Born x) (one_id ws))
+    ∷ (codes "dropped", λ ws. option_map (λ x. Dropped x) (one_id ws))
+    ∷ (codes "pins", λ ws. at_end Pins ws)
+    ∷ (codes "history", λ ws. option_map (λ n. History n) (one_number ws))
+    ∷ (codes "wrote", λ ws. option_map (λ a. Wrote a.0 a.1) (id_and_number ws))
     ∷ []
 
 -- all questions: those about a state first
 unfoldable pub question_rules : List QuestionRule
 question_rules =
-    (codes "histogram", histogram_line)
-    ∷ (codes "garbage", garbage_line)
-    ∷ (codes "growth", growth_line)
-    ∷ (codes "registers", registers_line)
-    ∷ (codes "classes", classes_line)
-    ∷ (codes "referrers", referrers_line)
-    ∷ (codes "path", path_line)
-    ∷ (codes "show", show_line)
+    (codes "histogram", λ ws. option_map (λ at. Histogram at) (one_at ws))
+    ∷ (codes "garbage", λ ws. option_map (λ at. Garbage at) (one_at ws))
+    ∷ (codes "registers", λ ws. option_map (λ at. Registers at) (one_at ws))
+    ∷ (codes "growth", λ ws. option_map (λ a. Growth a.0 a.1) (two_ats ws))
+    ∷ (codes "classes", λ ws. option_map (λ at. Classes at) (one_at ws))
+    ∷ (codes "referrers", λ ws. option_map (λ a. Referrers a.0 a.1) (at_and_id ws))
+    ∷ (codes "path", λ ws. option_map (λ a. Path a.0 a.1) (at_and_id ws))
+    ∷ (codes "show", λ ws. option_map (λ a. Show a.0 a.1) (at_and_id ws))
     ∷ past_rules
 
 -- what the words after a keyword ask, by the first of these rules that has it

@@ -1,10 +1,11 @@
 //! The grammar of questions.
 ghost use Rattle.std.specs.Prelude.{◌≡◌};
-ghost use Rattle.session_grammar.specs.Grammar.{at_end, next_number, one_number, words_of_line};
+ghost use Rattle.session_grammar.specs.Grammar.{words_of_line};
 ghost use Rattle.session_grammar.specs.Reads.{IsNextWord};
-ghost use Rattle.question_text.specs.Questions.{at_and_id, at_of_word, born_line, classes_line, dropped_line, garbage_line, growth_line, histogram_line, history_line, id_and_number, next_at, next_id, one_at, one_id, past_rules, path_line, pins_line, question_by, question_of, referrers_line, registers_line, show_line, two_ats, wrote_line};
+ghost use Rattle.question_text.specs.Questions.{at_and_id, at_of_word, id_and_number, next_at, next_id, one_at, one_id, past_rules, question_by, question_of, two_ats};
 
 use crate::id::{id_of, is_word};
+use session_grammar::command::{at_end, next_number, one_number};
 use session_grammar::number::number_of;
 use session_grammar::words::Words;
 
@@ -72,22 +73,11 @@ fn next_at(words: &mut Words) -> Option<At>
     at_of(word)
 }
 
-// Returns a value if no word is left.
-fn at_end<T: Drop>(value: T, mut words: Words) -> Option<T>
-    ensures { result ≡ at_end value (words_of_line words.entry) }
-{
-    if words.front().is_some() {
-        return None;
-    }
-    Some(value)
-}
-
 // Returns the one state that the words name.
 fn one_at(mut words: Words) -> Option<At>
     ensures { result ≡ one_at (words_of_line words.entry) }
 {
-    let at = next_at(&mut words)?;
-    at_end(at, words)
+    at_end(next_at(&mut words)?, words)
 }
 
 // Reads the id that the next word is. Returns None if it is none.
@@ -102,154 +92,28 @@ fn next_id(words: &mut Words) -> Option<u64>
 fn at_and_id(mut words: Words) -> Option<(At, u64)>
     ensures { result ≡ at_and_id (words_of_line words.entry) }
 {
-    let at = next_at(&mut words)?;
-    let id = next_id(&mut words)?;
-    at_end((at, id), words)
-}
-
-// Reads the words of `histogram AT`.
-fn histogram_line(words: Words) -> Option<Question>
-    ensures { result ≡ histogram_line (words_of_line words.entry) }
-{
-    let at = one_at(words)?;
-    Some(Question::Histogram(at))
-}
-
-// Reads the words of `garbage AT`.
-fn garbage_line(words: Words) -> Option<Question>
-    ensures { result ≡ garbage_line (words_of_line words.entry) }
-{
-    let at = one_at(words)?;
-    Some(Question::Garbage(at))
+    at_end((next_at(&mut words)?, next_id(&mut words)?), words)
 }
 
 // Returns the two states that the words name.
 fn two_ats(mut words: Words) -> Option<(At, At)>
     ensures { result ≡ two_ats (words_of_line words.entry) }
 {
-    let older = next_at(&mut words)?;
-    let newer = next_at(&mut words)?;
-    at_end((older, newer), words)
-}
-
-// Reads the words of `growth AT AT`.
-fn growth_line(words: Words) -> Option<Question>
-    ensures { result ≡ growth_line (words_of_line words.entry) }
-{
-    let (older, newer) = two_ats(words)?;
-    Some(Question::Growth { older, newer })
-}
-
-// Reads the words of `registers AT`.
-fn registers_line(words: Words) -> Option<Question>
-    ensures { result ≡ registers_line (words_of_line words.entry) }
-{
-    let at = one_at(words)?;
-    Some(Question::Registers(at))
-}
-
-// Reads the words of `classes AT`.
-fn classes_line(words: Words) -> Option<Question>
-    ensures { result ≡ classes_line (words_of_line words.entry) }
-{
-    let at = one_at(words)?;
-    Some(Question::Classes(at))
-}
-
-// Reads the words of `referrers AT ID`.
-fn referrers_line(words: Words) -> Option<Question>
-    ensures { result ≡ referrers_line (words_of_line words.entry) }
-{
-    let (at, id) = at_and_id(words)?;
-    Some(Question::Referrers { at, id })
-}
-
-// Reads the words of `path AT ID`.
-fn path_line(words: Words) -> Option<Question>
-    ensures { result ≡ path_line (words_of_line words.entry) }
-{
-    let (at, id) = at_and_id(words)?;
-    Some(Question::Path { at, id })
-}
-
-// Reads the words of `show AT ID`.
-fn show_line(words: Words) -> Option<Question>
-    ensures { result ≡ show_line (words_of_line words.entry) }
-{
-    let (at, id) = at_and_id(words)?;
-    Some(Question::Show { at, id })
+    at_end((next_at(&mut words)?, next_at(&mut words)?), words)
 }
 
 // Returns the one id that the words name.
 fn one_id(mut words: Words) -> Option<u64>
     ensures { result ≡ one_id (words_of_line words.entry) }
 {
-    let id = next_id(&mut words)?;
-    at_end(id, words)
-}
-
-// Reads the words of `born ID`.
-fn born_line(words: Words) -> Option<Question>
-    ensures { result ≡ born_line (words_of_line words.entry) }
-{
-    let id = one_id(words)?;
-    Some(Question::Born(id))
-}
-
-// Reads the number that the next word is. Returns None if it is none.
-fn next_number(words: &mut Words) -> Option<u64>
-    ensures { IsNextWord (next_number (words_of_line words.old)) (words_of_line words.new) result }
-{
-    let word = words.next_word()?;
-    number_of(word)
+    at_end(next_id(&mut words)?, words)
 }
 
 // Returns the id and the number that the words name.
 fn id_and_number(mut words: Words) -> Option<(u64, u64)>
     ensures { result ≡ id_and_number (words_of_line words.entry) }
 {
-    let id = next_id(&mut words)?;
-    let number = next_number(&mut words)?;
-    at_end((id, number), words)
-}
-
-// Reads the words of `wrote ID SLOT`.
-fn wrote_line(words: Words) -> Option<Question>
-    ensures { result ≡ wrote_line (words_of_line words.entry) }
-{
-    let (id, slot) = id_and_number(words)?;
-    Some(Question::Wrote { id, slot })
-}
-
-// Reads the words of `dropped ID`.
-fn dropped_line(words: Words) -> Option<Question>
-    ensures { result ≡ dropped_line (words_of_line words.entry) }
-{
-    let id = one_id(words)?;
-    Some(Question::Dropped(id))
-}
-
-// Returns the one number that the words name.
-fn one_number(mut words: Words) -> Option<u64>
-    ensures { result ≡ one_number (words_of_line words.entry) }
-{
-    let number = next_number(&mut words)?;
-    at_end(number, words)
-}
-
-// Reads the words of `history N`.
-fn history_line(words: Words) -> Option<Question>
-    ensures { result ≡ history_line (words_of_line words.entry) }
-{
-    let count = one_number(words)?;
-    Some(Question::History(count))
-}
-
-// Reads the words of `pins`.
-fn pins_line(words: Words) -> Option<Question>
-    ensures { result ≡ pins_line (words_of_line words.entry) }
-{
-    at_end(Question::Pins, words)
+    at_end((next_id(&mut words)?, next_number(&mut words)?), words)
 }
 
 // Reads the words behind a keyword of a question about what retained steps did, or about pins.
@@ -258,19 +122,20 @@ fn past_question(keyword: &[u8], words: Words) -> Option<Question>
     ensures { result ≡ question_by past_rules keyword.now (words_of_line words.entry) }
 {
     if is_word(keyword, b"born") {
-        return born_line(words);
-    }
-    if is_word(keyword, b"wrote") {
-        return wrote_line(words);
+        return Some(Question::Born(one_id(words)?));
     }
     if is_word(keyword, b"dropped") {
-        return dropped_line(words);
-    }
-    if is_word(keyword, b"history") {
-        return history_line(words);
+        return Some(Question::Dropped(one_id(words)?));
     }
     if is_word(keyword, b"pins") {
-        return pins_line(words);
+        return at_end(Question::Pins, words);
+    }
+    if is_word(keyword, b"history") {
+        return Some(Question::History(one_number(words)?));
+    }
+    if is_word(keyword, b"wrote") {
+        let (id, slot) = id_and_number(words)?;
+        return Some(Question::Wrote { id, slot });
     }
     None
 }
@@ -283,28 +148,32 @@ pub fn question_of(line: &[u8]) -> Option<Question>
     let mut words = Words::new(line);
     let keyword = words.next_word()?;
     if is_word(keyword, b"histogram") {
-        return histogram_line(words);
+        return Some(Question::Histogram(one_at(words)?));
     }
     if is_word(keyword, b"garbage") {
-        return garbage_line(words);
-    }
-    if is_word(keyword, b"growth") {
-        return growth_line(words);
+        return Some(Question::Garbage(one_at(words)?));
     }
     if is_word(keyword, b"registers") {
-        return registers_line(words);
+        return Some(Question::Registers(one_at(words)?));
+    }
+    if is_word(keyword, b"growth") {
+        let (older, newer) = two_ats(words)?;
+        return Some(Question::Growth { older, newer });
     }
     if is_word(keyword, b"classes") {
-        return classes_line(words);
+        return Some(Question::Classes(one_at(words)?));
     }
     if is_word(keyword, b"referrers") {
-        return referrers_line(words);
+        let (at, id) = at_and_id(words)?;
+        return Some(Question::Referrers { at, id });
     }
     if is_word(keyword, b"path") {
-        return path_line(words);
+        let (at, id) = at_and_id(words)?;
+        return Some(Question::Path { at, id });
     }
     if is_word(keyword, b"show") {
-        return show_line(words);
+        let (at, id) = at_and_id(words)?;
+        return Some(Question::Show { at, id });
     }
     past_question(keyword, words)
 }

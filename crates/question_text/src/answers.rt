@@ -47,8 +47,7 @@ fn histogram(alloc: Global, machine: &Machine, at: At) -> Result<Vec<u8>, Unansw
         (told_text result) }
 {
     let moment = moment_at(machine, at)?;
-    let view = view_of(machine, &moment)?;
-    Ok(histogram_text(alloc, &view)?)
+    Ok(histogram_text(alloc, &view_of(machine, &moment)?)?)
 }
 
 // Returns the lines of `garbage AT`.
@@ -57,8 +56,7 @@ fn garbage(alloc: Global, machine: &Machine, at: At) -> Result<Vec<u8>, Unanswer
         (told_text result) }
 {
     let moment = moment_at(machine, at)?;
-    let view = view_of(machine, &moment)?;
-    Ok(garbage_text(alloc, &view)?)
+    Ok(garbage_text(alloc, &view_of(machine, &moment)?)?)
 }
 
 // Returns the lines of `growth AT AT`. Both states are held before either is looked at.
@@ -78,8 +76,7 @@ fn registers(alloc: Global, machine: &Machine, at: At) -> Result<Vec<u8>, Unansw
     ensures { IsAnswerAbout IsRegistersText (image_at at machine.now) (told_text result) }
 {
     let moment = moment_at(machine, at)?;
-    let view = view_of(machine, &moment)?;
-    Ok(registers_answer(alloc, &view)?)
+    Ok(registers_answer(alloc, &view_of(machine, &moment)?)?)
 }
 
 // Returns the lines of `classes AT`.
@@ -87,8 +84,7 @@ fn classes(alloc: Global, machine: &Machine, at: At) -> Result<Vec<u8>, Unanswer
     ensures { IsAnswerAbout IsClassesText (image_at at machine.now) (told_text result) }
 {
     let moment = moment_at(machine, at)?;
-    let view = view_of(machine, &moment)?;
-    Ok(classes_answer(alloc, &view)?)
+    Ok(classes_answer(alloc, &view_of(machine, &moment)?)?)
 }
 
 // Returns the lines of `referrers AT ID`.
@@ -96,8 +92,7 @@ fn referrers(alloc: Global, machine: &Machine, at: At, id: u64) -> Result<Vec<u8
     ensures { IsAnswerAbout (IsReferrersText id) (image_at at machine.now) (told_text result) }
 {
     let moment = moment_at(machine, at)?;
-    let view = view_of(machine, &moment)?;
-    referrers_answer(alloc, &view, id)
+    referrers_answer(alloc, &view_of(machine, &moment)?, id)
 }
 
 // Returns the lines of `path AT ID`.
@@ -105,8 +100,7 @@ fn path(alloc: Global, machine: &Machine, at: At, id: u64) -> Result<Vec<u8>, Un
     ensures { IsAnswerAbout (IsPathText id) (image_at at machine.now) (told_text result) }
 {
     let moment = moment_at(machine, at)?;
-    let view = view_of(machine, &moment)?;
-    path_answer(alloc, &view, id)
+    path_answer(alloc, &view_of(machine, &moment)?, id)
 }
 
 // Returns the lines of `show AT ID`.

@@ -98,31 +98,19 @@ pub fn settings(regions: u64, mutators: u64, keep: u64) -> Result<Config, Fail> 
     Ok(Config::new(regions, mutators, keep).ok_or("settings out of range")?)
 }
 
-// Defines the class of nodes, and applies events.
-fn begin(alloc: Global, world: &mut World, events: &[Event]) -> Result<(), Fail> {
-    let class = node(alloc)?;
-    apply_all(world, &[class])?;
-    apply_all(world, events)
-}
-
 /// Creates a heap, defines the class of nodes, and applies events.
 pub fn heap_after(alloc: Global, config: Config, events: &[Event]) -> Result<World, Fail> {
     let mut world = World::new(alloc, config)?;
-    begin(alloc, &mut world, events)?;
+    apply_all(&mut world, &[node(alloc)?])?;
+    apply_all(&mut world, events)?;
     Ok(world)
-}
-
-// Takes the class of nodes as a step, and then events.
-fn begin_machine(alloc: Global, machine: &mut Machine, events: &[Event]) -> Result<(), Fail> {
-    let class = node(alloc)?;
-    take(machine, &[class])?;
-    take(machine, events)
 }
 
 /// Creates a machine that takes the class of nodes as its first step, and then events.
 pub fn machine_after(alloc: Global, config: Config, events: &[Event]) -> Result<Machine, Fail> {
     let mut machine = Machine::new(alloc, config)?;
-    begin_machine(alloc, &mut machine, events)?;
+    take(&mut machine, &[node(alloc)?])?;
+    take(&mut machine, events)?;
     Ok(machine)
 }
 

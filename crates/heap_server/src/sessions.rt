@@ -1,5 +1,6 @@
 //! Sessions over one shared heap.
 ghost use Rattle.std.specs.Prelude.{◌≡◌, ◌+◌, ◌≤◌, IfOk, IfErr, length, vec_len, vec_capacity};
+ghost use Rattle.heap_lock.specs.Blanks.{IsNamed};
 ghost use Rattle.heap_lock.specs.Refusal.TheVariants.{NoMemory};
 ghost use Rattle.heap_lock.specs.declared.role.Role.TheVariants.{User};
 ghost use Rattle.heap_server.specs.SessionSeats.{AreUsers, IsFor, IsOver, session_limit};
@@ -237,8 +238,7 @@ fn serve_opened<L: Heap + Send + Sync, R: Clock + Eprint + Threads + Wait + Sync
     ports: Ports,
     terms: Terms,
 ) -> Result<ServedHeap, AllocError>
-    requires named { (blank.config ≡ L.config) × (blank.tables ≡ L.tables)
-        × (blank.ledger ≡ L.ledger) × (blank.rolls ≡ L.rolls) }
+    requires named { IsNamed L.config L.tables L.ledger L.rolls blank }
     requires users { AreUsers blank.seats }
     requires most { length blank.seats ≡ most }
     ensures { IfOk result (IsOver blank terms most) }

@@ -1,5 +1,6 @@
 //! Sessions over one shared heap whose collector is tended in two threads.
 ghost use Rattle.std.specs.Prelude.{◌≡◌, ◌∷◌, ◌≤◌, IfOk, IfErr, length, replicate};
+ghost use Rattle.heap_lock.specs.Blanks.{IsNamed};
 ghost use Rattle.heap_lock.specs.Refusal.TheVariants.{NoMemory};
 ghost use Rattle.heap_lock.specs.declared.role.Role.TheVariants as role;
 ghost use Rattle.heap_server.specs.SessionSeats.{IsFor, session_limit};
@@ -89,38 +90,6 @@ pub fn workers_and_users(alloc: Global, config: Config, sessions: u64) -> Result
     Blank::new(alloc, config, roles.as_slice())
 }
 
-// Begins the thread that tends the marker's seat. Fails if none can be had.
-fn begin_marker<'s, E, L: Heap + Send + Sync, R: Clock + Wait + Sync>(
-    scope: &Scope<'s, E>,
-    rt: &'s R,
-    shared: &'s Shared<L>,
-    seat: Seat<L>,
-    stop: &'s AtomicBool,
-) -> Result<PromisedHandle<Seat<L>, MarksFrom<L>>, AllocError>
-    requires { seat.role ≡ role.Marker }
-    ensures { IfOk result (λ h. h.promise.0.value ≡ seat) }
-{
-    let marks = MarksFrom(Snapshot::of(&seat));
-    let thread = scope.spawn_with(marks, move || tend_marker(rt, shared, seat, stop))?;
-    Ok(thread)
-}
-
-// Begins the thread that tends the sweeper's seat. Fails if none can be had.
-fn begin_sweeper<'s, E, L: Heap + Send + Sync, R: Clock + Wait + Sync>(
-    scope: &Scope<'s, E>,
-    rt: &'s R,
-    shared: &'s Shared<L>,
-    seat: Seat<L>,
-    stop: &'s AtomicBool,
-) -> Result<PromisedHandle<Seat<L>, SweepsFrom<L>>, AllocError>
-    requires { seat.role ≡ role.Sweeper }
-    ensures { IfOk result (λ h. h.promise.0.value ≡ seat) }
-{
-    let sweeps = SweepsFrom(Snapshot::of(&seat));
-    let thread = scope.spawn_with(sweeps, move || tend_sweeper(rt, shared, seat, stop))?;
-    Ok(thread)
-}
-
 // The threads of both workers.
 #[derive(Drop)]
 struct Workers<L: Heap> {
@@ -141,8 +110,11 @@ fn begin_workers<'s, E, L: Heap + Send + Sync, R: Clock + Threads + Wait + Sync>
     ensures { IfOk result
         (λ w. (w.marking.promise.0.value ≡ marker) × (w.sweeping.promise.0.value ≡ sweeper)) }
 {
-    let marking = begin_marker(scope, rt, shared, marker, stop)?;
-    let Ok(sweeping) = begin_sweeper(scope, rt, shared, sweeper, stop) else {
+    let marks = MarksFrom(Snapshot::of(&marker));
+    let marking = scope.spawn_with(marks, move || tend_marker(rt, shared, marker, stop))?;
+    let sweeps = SweepsFrom(Snapshot::of(&sweeper));
+    let tend = move || tend_sweeper(rt, shared, sweeper, stop);
+    let Ok(sweeping) = scope.spawn_with(sweeps, tend) else {
         stop.store(true, Ordering::SeqCst);
         let _ = marking.join(rt);
         return Err(AllocError);
@@ -238,8 +210,7 @@ fn serve_staffed<L: Heap + Send + Sync, R: Clock + Eprint + Threads + Wait + Syn
     ports: Ports,
     terms: Terms,
 ) -> Result<TendedHeap, AllocError>
-    requires named { (blank.config ≡ L.config) × (blank.tables ≡ L.tables)
-        × (blank.ledger ≡ L.ledger) × (blank.rolls ≡ L.rolls) }
+    requires named { IsNamed L.config L.tables L.ledger L.rolls blank }
     requires staff { AreStaff most blank.seats }
     ensures { IfOk result (IsTendedOver blank terms most) }
 {

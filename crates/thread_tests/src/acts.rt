@@ -1,8 +1,8 @@
 //! Acts in one thread: receipts around a rewind, and the calls of one who holds the lock.
-use crate::scenes::{Five, Scene, play_scene};
-use crate::shared::{did, undid};
+use crate::scenes::{Scene, Stage, play_scene};
+use crate::shared::did;
 use heap_class::{Kind, LostCause, Refusal};
-use heap_lock::{Heap, Kept, Outcome, Receipt, Role, Seat, Shared, Verdict, audit};
+use heap_lock::{Heap, Kept, Outcome, Receipt, Role, Seat, Verdict, audit};
 use heap_scripts::{Action, Answer, Event, FIRST, PinAt};
 use std::sync::Wait;
 use std::test::*;
@@ -33,13 +33,11 @@ fn is_audited<L: Heap>(kept: &Kept<L>, receipts: [Receipt; 3]) -> bool {
 
 /// Creates an object, undoes that and creates another. Returns whether both have one id, and an audit of the receipts holds.
 pub fn rewind_between<L: Heap + Send + Sync, R: Threads + Wait + Sync>(
-    rt: &R,
-    shared: &Shared<L>,
-    five: &mut Five<L>,
+    Stage(rt, _, shared, five): Stage<'_, L, R>,
 ) -> Option<bool> {
-    let first = did(rt, shared, &mut five.first, longs(0))?;
-    let between = undid(rt, shared, &mut five.user, 1)?;
-    let second = did(rt, shared, &mut five.second, longs(1))?;
+    let first = did(rt, shared, &mut five.first, Action::Step(longs(0)))?;
+    let between = did(rt, shared, &mut five.user, Action::Rewind(1))?;
+    let second = did(rt, shared, &mut five.second, Action::Step(longs(1)))?;
     Some(
         first.answer == Outcome::Answered(Answer::Object(FIRST))
             && between.answer == Outcome::Place(0)
@@ -105,9 +103,7 @@ fn all_held<L: Heap>(kept: &mut Kept<L>, seat: &mut Seat<L>) -> bool {
 
 /// Acts, rewinds, and opens and closes pins under one guard. Returns whether each is answered as it must be.
 pub fn five_calls<L: Heap + Send + Sync, R: Threads + Wait + Sync>(
-    rt: &R,
-    shared: &Shared<L>,
-    five: &mut Five<L>,
+    Stage(rt, _, shared, five): Stage<'_, L, R>,
 ) -> Option<bool> {
     Some(all_held(&mut *shared.lock(rt), &mut five.user))
 }

@@ -3,7 +3,7 @@ ghost use Rattle.std.specs.Prelude.{◌≡◌};
 
 use crate::meters::{FourSeats, new_meter};
 use crate::points::one_point;
-use crate::scenes::{Five, Scene, play_scene};
+use crate::scenes::{Scene, Stage, play_scene};
 use crate::shared::{closes_pin, opened_pin};
 use crate::sources::AskingSource;
 use dump_pipe::{AskSeat, FeedSeat, Meter, Watched};
@@ -71,10 +71,7 @@ fn goes<L: Heap, R: Wait>(
 
 /// Pumps three parts, cancelled after two, and never. Returns whether just the parts before are out.
 pub fn cancelled_pumps<L: Heap + Send + Sync, R: Threads + Wait + Sync>(
-    rt: &R,
-    alloc: Global,
-    shared: &Shared<L>,
-    five: &mut Five<L>,
+    Stage(rt, alloc, shared, five): Stage<'_, L, R>,
 ) -> Option<bool> {
     let text = one_point(rt, alloc, shared, &mut five.user)?;
     let after_two = Pumped::Cancelled { bytes: 292 };

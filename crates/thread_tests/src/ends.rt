@@ -8,7 +8,7 @@ ghost use Rattle.dump_pipe.specs.declared.end_view.EndView.TheVariants.{Sends, G
 
 use crate::meters::{FourSeats, new_meter};
 use crate::points::one_point;
-use crate::scenes::{Five, Scene, play_scene};
+use crate::scenes::{Scene, Stage, play_scene};
 use crate::shared::{closes_pin, has_points, opened_pin, pumped_now};
 use crate::sinks::reaches;
 use crate::sources::Counted;
@@ -136,10 +136,7 @@ fn piped<'a, L: Heap + Send + Sync, R: Threads + Wait + Sync>(
 /// Feeds the dump of 2,000 points, and drains none of it until the source was asked for a ninth part. Returns whether that is
 /// the most that it is asked for before, and all then comes out.
 pub fn nine_asked<L: Heap + Send + Sync, R: Threads + Wait + Sync>(
-    rt: &R,
-    alloc: Global,
-    shared: &Shared<L>,
-    five: &mut Five<L>,
+    Stage(rt, alloc, shared, five): Stage<'_, L, R>,
 ) -> Option<bool> {
     let sink = Sink::new(&[]);
     let made = has_points(rt, alloc, shared, &mut five.user, 2000);
@@ -202,10 +199,7 @@ fn each_fails_as_told<L: Heap + Send + Sync, R: Threads + Wait + Sync>(
 
 /// Drains the dump of one point into sinks that fail, by bytes and at once. Returns whether all goes as it must.
 pub fn failing_ends<L: Heap + Send + Sync, R: Threads + Wait + Sync>(
-    rt: &R,
-    alloc: Global,
-    shared: &Shared<L>,
-    five: &mut Five<L>,
+    Stage(rt, alloc, shared, five): Stage<'_, L, R>,
 ) -> Option<bool> {
     let text = one_point(rt, alloc, shared, &mut five.user)?;
     let sink = Sink::new(text.as_slice());

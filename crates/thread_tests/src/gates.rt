@@ -1,12 +1,11 @@
 //! Gates of workers: each is passed once before each act, and without the lock.
-use crate::scenes::{Five, Scene, play_scene};
+use crate::scenes::{Scene, Stage, play_scene};
 use crate::shared::did;
 use crate::sinks::reaches;
 use crate::workers::{began, marks, sweeps};
 use heap_lock::{Heap, Role, Seat, Shared};
-use heap_scripts::Event;
+use heap_scripts::{Action, Event};
 use heap_work::{Gate, MarkEnd, SweepEnd};
-use std::alloc::Global;
 use std::sync::Wait;
 use std::sync::atomic::{AtomicU64, Ordering};
 use std::test::*;
@@ -32,7 +31,8 @@ impl<'a> Gate for WatchedGate<'a> {
 
 // Returns the turn of an act, or 0 if it has none.
 fn clears<L: Heap, R: Wait>(rt: &R, shared: &Shared<L>, seat: &mut Seat<L>) -> u64 {
-    match did(rt, shared, seat, Event::Clear { m: 0, r: 5 }) {
+    let clear = Action::Step(Event::Clear { m: 0, r: 5 });
+    match did(rt, shared, seat, clear) {
         Some(receipt) => receipt.turn,
         None => 0,
     }
@@ -96,14 +96,12 @@ fn both_go<L: Heap + Send + Sync, R: Threads + Wait + Sync>(
     first: u64,
     turns: u64,
 ) -> bool {
-    let here = AtomicU64::new(0);
-    let seen = AtomicU64::new(0);
-    let here_now = &here;
-    let seen_now = &seen;
+    let here = &AtomicU64::new(0);
+    let seen = &AtomicU64::new(0);
     let (worked, acted) = thread::join(
         rt,
-        move || works(rt, shared, worker, turns, here_now, seen_now),
-        move || acts_at_each(rt, shared, user, first, turns, here_now, seen_now),
+        move || works(rt, shared, worker, turns, here, seen),
+        move || acts_at_each(rt, shared, user, first, turns, here, seen),
     );
     worked && acted
 }
@@ -111,10 +109,7 @@ fn both_go<L: Heap + Send + Sync, R: Threads + Wait + Sync>(
 /// Acts by a user at each pass of a marker, which has five turns, and then of a sweeper, which has one for each region. Returns
 /// whether both went as they must.
 pub fn watched_workers<L: Heap + Send + Sync, R: Threads + Wait + Sync>(
-    rt: &R,
-    alloc: Global,
-    shared: &Shared<L>,
-    five: &mut Five<L>,
+    Stage(rt, alloc, shared, five): Stage<'_, L, R>,
 ) -> Option<bool> {
     Some(
         began(rt, alloc, shared, &mut five.user)

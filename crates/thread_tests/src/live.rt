@@ -1,13 +1,13 @@
 //! Dumps of a shared heap's pin: beside a mutator, and cancelled by a third thread.
 ghost use Rattle.std.specs.Prelude.{◌≡◌};
 ghost use denote.Param.Send.{IsSync};
-ghost use Rattle.dump_pipe.specs.Seats.{sum};
 
-use crate::shared::{acts, pumped, put_x, streamed};
+use crate::shared::{acts, live_pin, pumped, put_x, streamed};
 use crate::sinks::{Gated, reaches};
-use dump_pipe::{AskSeat, Cancel, FeedSeat, Meter, OutSeat};
+use dump_pipe::{AskSeat, Cancel};
 use dump_pump::Pumped;
 use heap_lock::{Heap, Seat, Shared};
+use live_dump::{LivePin, StreamSeats};
 use std::alloc::Global;
 use std::sync::Wait;
 use std::sync::atomic::{AtomicU64, Ordering};
@@ -41,20 +41,31 @@ pub fn pumped_beside<L: Heap + Send + Sync, R: Threads + Wait + Sync>(
     mutator: &mut Seat<L>,
     text: &[u8],
 ) -> (bool, Seen) {
-    let here = AtomicU64::new(0);
-    let gate = AtomicU64::new(0);
-    let here_now = &here;
-    let gate_now = &gate;
-    let (written, seen) = thread::join(
+    let here = &AtomicU64::new(0);
+    let gate = &AtomicU64::new(0);
+    thread::join(
         rt,
-        move || write_once_held(rt, shared, mutator, here_now, gate_now),
+        move || write_once_held(rt, shared, mutator, here, gate),
         move || {
-            let writer = Gated::new(text, 0, here_now, gate_now);
+            let writer = Gated::new(text, 0, here, gate);
             let (pumped, _, writer) = pumped(rt, shared, pin, writer);
             (pumped, writer.sink.taken, writer.sink.is_text)
         },
-    );
-    (written, seen)
+    )
+}
+
+// Streams the dump of a pin into a gated sink. Returns how it went, and what is out.
+fn streamed_seen<L: Heap + Send + Sync, R: Threads + Wait + Sync>(
+    rt: &R,
+    alloc: Global,
+    live: LivePin<'_, L>,
+    writer: Gated<'_>,
+    seats: StreamSeats<'_>,
+) -> Seen
+    requires { seats.out.sum ≡ 0 }
+{
+    let (pumped, writer) = streamed(rt, alloc, live, writer, seats);
+    (pumped, writer.sink.taken, writer.sink.is_text)
 }
 
 /// Streams into an outlet whose first put is held until a write of a mutator was answered. Returns whether it was, how the
@@ -66,29 +77,22 @@ pub fn streamed_beside<L: Heap + Send + Sync, R: Threads + Wait + Sync>(
     pin: u64,
     mutator: &mut Seat<L>,
     text: &[u8],
-    meter: &Meter,
-    out: OutSeat,
-    feed: FeedSeat,
+    seats: StreamSeats<'_>,
 ) -> (bool, Seen)
-    requires out { out ≡ sum meter.now 0 }
-    requires feed { feed.meter ≡ meter.now }
+    requires { seats.out.sum ≡ 0 }
 {
-    let here = AtomicU64::new(0);
-    let gate = AtomicU64::new(0);
-    let here_now = &here;
-    let gate_now = &gate;
-    let (written, seen) = thread::join(
+    let here = &AtomicU64::new(0);
+    let gate = &AtomicU64::new(0);
+    thread::join(
         rt,
-        move || write_once_held(rt, shared, mutator, here_now, gate_now),
+        move || write_once_held(rt, shared, mutator, here, gate),
         move || -> (Pumped, usize, bool)
-            requires { IsSync R.row × (out ≡ sum meter.now 0) × (feed.meter ≡ meter.now) }
+            requires { IsSync R.row × (seats.out.sum ≡ 0) }
         {
-            let writer = Gated::new(text, 0, here_now, gate_now);
-            let (pumped, writer) = streamed(rt, alloc, shared, pin, writer, meter, out, feed);
-            (pumped, writer.sink.taken, writer.sink.is_text)
+            let writer = Gated::new(text, 0, here, gate);
+            streamed_seen(rt, alloc, live_pin(rt, shared, pin), writer, seats)
         },
-    );
-    (written, seen)
+    )
 }
 
 // Asks to cancel once an outlet is held, and then opens its gate. Returns whether it was held.
@@ -115,33 +119,27 @@ pub fn streamed_cancelled<L: Heap + Send + Sync, R: Threads + Wait + Sync>(
     pin: u64,
     text: &[u8],
     asker: AskSeat,
-    meter: &Meter,
-    out: OutSeat,
-    feed: FeedSeat,
+    seats: StreamSeats<'_>,
 ) -> (bool, Seen)
-    requires asker { asker.meter ≡ meter.now }
-    requires out { out ≡ sum meter.now 0 }
-    requires feed { feed.meter ≡ meter.now }
+    requires asker { asker.meter ≡ seats.meter.now }
+    requires out { seats.out.sum ≡ 0 }
 {
-    let here = AtomicU64::new(0);
-    let gate = AtomicU64::new(0);
-    let here_now = &here;
-    let gate_now = &gate;
-    let (held, seen) = thread::join(
+    let meter = seats.meter;
+    let here = &AtomicU64::new(0);
+    let gate = &AtomicU64::new(0);
+    thread::join(
         rt,
         move || -> bool
             requires { asker.meter ≡ meter.now }
         {
             let mut seat = asker;
-            ask_once_held(&meter.cancel(), &mut seat, here_now, gate_now)
+            ask_once_held(&meter.cancel(), &mut seat, here, gate)
         },
         move || -> (Pumped, usize, bool)
-            requires { IsSync R.row × (out ≡ sum meter.now 0) × (feed.meter ≡ meter.now) }
+            requires { IsSync R.row × (seats.out.sum ≡ 0) }
         {
-            let writer = Gated::new(text, 8000, here_now, gate_now);
-            let (pumped, writer) = streamed(rt, alloc, shared, pin, writer, meter, out, feed);
-            (pumped, writer.sink.taken, writer.sink.is_text)
+            let writer = Gated::new(text, 8000, here, gate);
+            streamed_seen(rt, alloc, live_pin(rt, shared, pin), writer, seats)
         },
-    );
-    (held, seen)
+    )
 }

@@ -1,9 +1,9 @@
 //! Dumps of a shared heap's pin, by `pump` and by `stream`.
 use crate::live::{Seen, pumped_beside, streamed_beside, streamed_cancelled};
 use crate::metered::unread;
-use crate::meters::{FourSeats, new_meter};
+use crate::meters::{FourSeats, new_meter, stream_seats};
 use crate::points::one_point;
-use crate::scenes::{Five, Scene, play_scene};
+use crate::scenes::{Scene, Stage, play_scene};
 use crate::shared::{has_points, opened_pin, pumped_now};
 use dump_pump::Pumped;
 use heap_lock::{Heap, Shared};
@@ -18,10 +18,7 @@ const WHOLE: Seen = (Pumped::Done { bytes: 301 }, 301, true);
 
 /// Pumps the dump of one point while a mutator writes to it. Returns whether it is that of its pin.
 pub fn pump_beside<L: Heap + Send + Sync, R: Threads + Wait + Sync>(
-    rt: &R,
-    alloc: Global,
-    shared: &Shared<L>,
-    five: &mut Five<L>,
+    Stage(rt, alloc, shared, five): Stage<'_, L, R>,
 ) -> Option<bool> {
     let text = one_point(rt, alloc, shared, &mut five.user)?;
     let pin = opened_pin(rt, shared)?;
@@ -37,10 +34,7 @@ fn gate_outlet_first_put(rt: HostRuntime) -> Result<(), Fail> {
 
 /// Streams the dump of one point while a mutator writes to it. Returns whether it is that of its pin.
 pub fn stream_beside<L: Heap + Send + Sync, R: Threads + Wait + Sync>(
-    rt: &R,
-    alloc: Global,
-    shared: &Shared<L>,
-    five: &mut Five<L>,
+    Stage(rt, alloc, shared, five): Stage<'_, L, R>,
 ) -> Option<bool> {
     let FourSeats {
         meter,
@@ -58,9 +52,7 @@ pub fn stream_beside<L: Heap + Send + Sync, R: Threads + Wait + Sync>(
         pin,
         &mut five.first,
         text.as_slice(),
-        &meter,
-        out,
-        feed,
+        stream_seats(&meter, out, feed),
     );
     Some(went == (true, WHOLE))
 }
@@ -86,8 +78,9 @@ fn is_beginning<L: Heap + Send + Sync, R: Threads + Wait + Sync>(
         feed,
     } = new_meter(alloc)?;
     let pin = opened_pin(rt, shared)?;
+    let seats = stream_seats(&meter, out, feed);
     let (held, (pumped, taken, is_text)) = streamed_cancelled(
-        rt, alloc, shared, pin, text, asker, &meter, out, feed,
+        rt, alloc, shared, pin, text, asker, seats,
     );
     let bytes = taken as u64;
     Some(held && pumped == Pumped::Cancelled { bytes } && 8000 <= bytes && bytes < 66412 && is_text)
@@ -96,10 +89,7 @@ fn is_beginning<L: Heap + Send + Sync, R: Threads + Wait + Sync>(
 /// Streams 2,000 points, whose dump has 66,412 bytes, and again, cancelled in the middle. Returns whether the first is whole
 /// and the second isn't.
 pub fn stream_cancelled<L: Heap + Send + Sync, R: Threads + Wait + Sync>(
-    rt: &R,
-    alloc: Global,
-    shared: &Shared<L>,
-    five: &mut Five<L>,
+    Stage(rt, alloc, shared, five): Stage<'_, L, R>,
 ) -> Option<bool> {
     if !has_points(rt, alloc, shared, &mut five.user, 2000) {
         return None;

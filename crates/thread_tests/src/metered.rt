@@ -3,14 +3,15 @@ ghost use Rattle.std.specs.Prelude.{◌≡◌};
 ghost use denote.Param.Send.{IsSync};
 ghost use Rattle.dump_pipe.specs.Seats.{sum};
 
-use crate::meters::{FourSeats, new_meter};
-use crate::scenes::{Five, Scene, play_scene};
-use crate::shared::{has_points, opened_pin, pumped_now, streamed};
+use crate::meters::{FourSeats, new_meter, stream_seats};
+use crate::scenes::{Scene, Stage, play_scene};
+use crate::shared::{has_points, live_pin, opened_pin, pumped_now, streamed};
 use crate::sinks::{Gated, TURNS, reaches};
-use dump_pipe::{Counter, FeedSeat, Meter, OutSeat, Progress, ReadSeat, pump_counted};
+use dump_pipe::{Counter, Meter, OutSeat, Progress, ReadSeat, pump_counted};
 use dump_pump::{Pumped, WriteOutlet};
 use heap_lock::{Heap, LockedSource, Shared};
 use heap_scripts::Sink;
+use live_dump::StreamSeats;
 use std::alloc::Global;
 use std::sync::Wait;
 use std::sync::atomic::{AtomicU64, Ordering};
@@ -56,44 +57,40 @@ fn read_from_held(
     (first, read_along(progress, seat, done))
 }
 
-// Streams the dump of a pin into a sink that is held after the first part, while another thread reads the progress. Returns how
-// it went, how many bytes are out, and what was read.
+// Streams the dump of a pin into a sink that is held after the first part, while another thread reads the progress. Returns
+// what was read, how the stream went, and how many bytes are out.
 fn read_by_two<L: Heap + Send + Sync, R: Threads + Wait + Sync>(
     rt: &R,
     alloc: Global,
     shared: &Shared<L>,
     pin: u64,
-    meter: &Meter,
-    out: OutSeat,
+    seats: StreamSeats<'_>,
     reader: ReadSeat,
-    feed: FeedSeat,
-) -> ((Pumped, usize), (u64, (u64, bool)))
-    requires out { out ≡ sum meter.now 0 }
-    requires reader { reader.meter ≡ meter.now }
-    requires feed { feed.meter ≡ meter.now }
+) -> ((u64, (u64, bool)), (Pumped, usize))
+    requires out { seats.out.sum ≡ 0 }
+    requires reader { reader.meter ≡ seats.meter.now }
 {
-    let here = AtomicU64::new(0);
-    let gate = AtomicU64::new(0);
-    let done = AtomicU64::new(0);
-    let (is_here, is_open, is_done) = (&here, &gate, &done);
-    let (read, went) = thread::join(
+    let meter = seats.meter;
+    let here = &AtomicU64::new(0);
+    let gate = &AtomicU64::new(0);
+    let done = &AtomicU64::new(0);
+    thread::join(
         rt,
         move || -> (u64, (u64, bool))
             requires { reader.meter ≡ meter.now }
         {
             let mut seat = reader;
-            read_from_held(&meter.progress(), &mut seat, is_here, is_open, is_done)
+            read_from_held(&meter.progress(), &mut seat, here, gate, done)
         },
         move || -> (Pumped, usize)
-            requires { IsSync R.row × (out ≡ sum meter.now 0) × (feed.meter ≡ meter.now) }
+            requires { IsSync R.row × (seats.out.sum ≡ 0) }
         {
-            let writer = Gated::new(&[], 1, is_here, is_open);
-            let (pumped, writer) = streamed(rt, alloc, shared, pin, writer, meter, out, feed);
-            is_done.store(1, Ordering::SeqCst);
+            let writer = Gated::new(&[], 1, here, gate);
+            let (pumped, writer) = streamed(rt, alloc, live_pin(rt, shared, pin), writer, seats);
+            done.store(1, Ordering::SeqCst);
             (pumped, writer.sink.taken)
         },
-    );
-    (went, read)
+    )
 }
 
 // Returns whether a stream of a pin is whole, and a reader sees the 143 bytes of the opening while it is held after them, and
@@ -111,7 +108,8 @@ fn is_read<L: Heap + Send + Sync, R: Threads + Wait + Sync>(
         asker: _,
         feed,
     } = new_meter(alloc)?;
-    let (went, read) = read_by_two(rt, alloc, shared, pin, &meter, out, reader, feed);
+    let seats = stream_seats(&meter, out, feed);
+    let (read, went) = read_by_two(rt, alloc, shared, pin, seats, reader);
     Some(went == (DONE, METERED_SIZE as usize) && read == (143, (METERED_SIZE, true)))
 }
 
@@ -135,17 +133,15 @@ pub fn unread<L: Heap + Send + Sync, R: Threads + Wait + Sync>(
     if asked {
         meter.cancel().ask(&mut asker);
     }
-    let (pumped, sink) = streamed(rt, alloc, shared, pin, sink, &meter, out, feed);
+    let seats = stream_seats(&meter, out, feed);
+    let (pumped, sink) = streamed(rt, alloc, live_pin(rt, shared, pin), sink, seats);
     Some((pumped, sink.taken))
 }
 
 /// Streams thirty points: read along, after somebody asked to cancel, and into a sink that fails. Returns whether each goes as
 /// it must, and a dump after them is whole.
 pub fn metered_streams<L: Heap + Send + Sync, R: Threads + Wait + Sync>(
-    rt: &R,
-    alloc: Global,
-    shared: &Shared<L>,
-    five: &mut Five<L>,
+    Stage(rt, alloc, shared, five): Stage<'_, L, R>,
 ) -> Option<bool> {
     if !has_points(rt, alloc, shared, &mut five.user, 30) {
         return None;
@@ -214,10 +210,7 @@ fn counted<L: Heap, R: Wait>(
 
 /// Puts out thirty points in one thread, whole and into a sink that fails. Returns whether the meter counts what is out.
 pub fn counted_pumps<L: Heap + Send + Sync, R: Threads + Wait + Sync>(
-    rt: &R,
-    alloc: Global,
-    shared: &Shared<L>,
-    five: &mut Five<L>,
+    Stage(rt, alloc, shared, five): Stage<'_, L, R>,
 ) -> Option<bool> {
     let made = has_points(rt, alloc, shared, &mut five.user, 30);
     let whole = counted(rt, alloc, shared, usize::MAX)?;

@@ -3,6 +3,7 @@ ghost use Rattle.std.specs.Prelude.{◌≡◌, IfSome, false};
 ghost use Rattle.dump_pipe.specs.Seats.{sum, sum_read, cancel_asked, cancel_found};
 
 use dump_pipe::{AskSeat, FeedSeat, Meter, NewMeter, OutSeat, ReadSeat};
+use live_dump::StreamSeats;
 use std::alloc::Global;
 
 /// A meter with one seat of each kind.
@@ -22,18 +23,14 @@ pub fn new_meter(alloc: Global) -> Option<FourSeats>
     ensures asker { IfSome result (λ m. m.asker ≡ cancel_asked m.meter false) }
     ensures feed { IfSome result (λ m. m.feed ≡ cancel_found m.meter false) }
 {
-    let Ok(made) = Meter::new(alloc, 1, 1) else {
-        return None;
-    };
+    let mut made = Meter::new(alloc, 1, 1).ok()?;
+    let (reader, asker) = (made.readers.pop()?, made.askers.pop()?);
     let NewMeter {
         meter,
         out,
-        mut readers,
-        mut askers,
         feed,
+        ..
     } = made;
-    let reader = readers.pop()?;
-    let asker = askers.pop()?;
     Some(FourSeats {
         meter,
         out,
@@ -41,4 +38,13 @@ pub fn new_meter(alloc: Global) -> Option<FourSeats>
         asker,
         feed,
     })
+}
+
+/// Returns the seats of a meter that a stream needs.
+pub fn stream_seats(meter: &Meter, out: OutSeat, feed: FeedSeat) -> StreamSeats<'_>
+    requires out { out ≡ sum meter.now 0 }
+    requires feed { feed.meter ≡ meter.now }
+    ensures { (result.meter.now ≡ meter.now) × (result.out.sum ≡ 0) }
+{
+    StreamSeats { meter, out, feed }
 }

@@ -1,11 +1,10 @@
 //! Pumps into outlets that fail: a worked example.
 use crate::points::one_point;
-use crate::scenes::{Five, Scene, play_scene};
+use crate::scenes::{Scene, Stage, play_scene};
 use crate::shared::pumped_now;
 use dump_pump::Pumped;
 use heap_lock::{Heap, Shared};
 use heap_scripts::Sink;
-use std::alloc::Global;
 use std::sync::Wait;
 use std::test::*;
 use std::thread::Threads;
@@ -52,10 +51,7 @@ fn all_go<L: Heap, R: Wait>(rt: &R, shared: &Shared<L>, sink: Sink<'_>) -> bool 
 
 /// Pumps the dump of one point into sinks that fail, by bytes and at once. Returns whether all goes as it must.
 pub fn failing_pumps<L: Heap + Send + Sync, R: Threads + Wait + Sync>(
-    rt: &R,
-    alloc: Global,
-    shared: &Shared<L>,
-    five: &mut Five<L>,
+    Stage(rt, alloc, shared, five): Stage<'_, L, R>,
 ) -> Option<bool> {
     let text = one_point(rt, alloc, shared, &mut five.user)?;
     let sink = Sink::new(text.as_slice());

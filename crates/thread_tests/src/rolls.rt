@@ -1,5 +1,5 @@
 //! A chronicle that drops its oldest entries, and audits of receipts whose entries it dropped.
-use crate::scenes::{Five, Scene, play_scene};
+use crate::scenes::{Scene, Stage, play_scene};
 use crate::shared::did;
 use heap_lock::{Heap, Kept, Outcome, Receipt, Seat, Shared, Verdict, audit};
 use heap_scripts::{Action, Answer, Event};
@@ -16,7 +16,8 @@ fn clear_often<L: Heap, R: Wait>(
 ) -> u64 {
     let mut done = 0;
     for _ in 0..count {
-        if let Some(receipt) = did(rt, shared, seat, Event::Clear { m: 0, r: 0 }) {
+        let clear = Action::Step(Event::Clear { m: 0, r: 0 });
+        if let Some(receipt) = did(rt, shared, seat, clear) {
             done = receipt.turn;
         }
     }
@@ -61,20 +62,20 @@ const GONE: [Verdict; 3] = [Verdict::Dropped; 3];
 
 const MISSING: [Verdict; 3] = [Verdict::Fails; 3];
 
+// Returns how many entries a chronicle has, and how many of them it dropped.
+fn counts<L: Heap>(kept: &Kept<L>) -> (usize, usize) {
+    let chronicle = kept.chronicle();
+    (chronicle.len(), chronicle.dropped_count())
+}
+
 // Tells whether a chronicle of 1,000,000 entries has all of them.
 fn is_whole<L: Heap>(kept: &Kept<L>) -> bool {
-    let chronicle = kept.chronicle();
-    chronicle.len() == 1_000_000
-        && chronicle.dropped_count() == 0
-        && verdicts(kept, 1) == KEPT
-        && verdicts(kept, 1_000_000) == KEPT
+    counts(kept) == (1_000_000, 0) && verdicts(kept, 1) == KEPT && verdicts(kept, 1_000_000) == KEPT
 }
 
 // Tells whether a chronicle of 1,000,001 entries dropped the first 500,000.
 fn is_rolled<L: Heap>(kept: &Kept<L>) -> bool {
-    let chronicle = kept.chronicle();
-    chronicle.len() == 1_000_001
-        && chronicle.dropped_count() == 500_000
+    counts(kept) == (1_000_001, 500_000)
         && verdicts(kept, 1) == GONE
         && verdicts(kept, 500_000) == GONE
         && verdicts(kept, 500_001) == KEPT
@@ -111,9 +112,7 @@ fn rolls_twice<L: Heap, R: Wait>(rt: &R, shared: &Shared<L>, seat: &mut Seat<L>)
 
 /// Acts 1,500,001 times. Returns whether the chronicle drops its oldest entries when it must, and audits say so.
 pub fn rolling<L: Heap + Send + Sync, R: Threads + Wait + Sync>(
-    rt: &R,
-    shared: &Shared<L>,
-    five: &mut Five<L>,
+    Stage(rt, _, shared, five): Stage<'_, L, R>,
 ) -> Option<bool> {
     Some(rolls_twice(rt, shared, &mut five.user))
 }

@@ -1,5 +1,5 @@
 //! Worked examples, each over a new heap under its lock.
-ghost use Rattle.std.specs.Prelude.{◌≡◌};
+ghost use Rattle.heap_lock.specs.Blanks.{IsNamed};
 
 use crate::acts::{five_calls, rewind_between};
 use crate::cancelling::cancelled_pumps;
@@ -61,30 +61,36 @@ fn five_of<L: Heap>(seats: &mut Seats<L>) -> Option<Five<L>> {
     })
 }
 
+/// What a scene is played with: the runtime, the allocator, a heap, and its seats.
+#[derive(Drop)]
+pub struct Stage<'a, L: Heap, R>(
+    pub &'a R,
+    pub Global,
+    pub &'a Shared<L>,
+    pub &'a mut Five<L>,
+);
+
 // Plays a scene. Returns whether all goes as it must, or None if something is refused first.
 fn play<L: Heap + Send + Sync, R: Threads + Wait + Sync>(
-    rt: &R,
-    alloc: Global,
-    shared: &Shared<L>,
-    five: &mut Five<L>,
+    stage: Stage<'_, L, R>,
     scene: Scene,
 ) -> Option<bool> {
     match scene {
-        Scene::RewindBetween => rewind_between(rt, shared, five),
-        Scene::FiveCalls => five_calls(rt, shared, five),
-        Scene::CancelledPumps => cancelled_pumps(rt, alloc, shared, five),
-        Scene::NineAsked => nine_asked(rt, alloc, shared, five),
-        Scene::FailingEnds => failing_ends(rt, alloc, shared, five),
-        Scene::WatchedWorkers => watched_workers(rt, alloc, shared, five),
-        Scene::PumpBeside => pump_beside(rt, alloc, shared, five),
-        Scene::StreamBeside => stream_beside(rt, alloc, shared, five),
-        Scene::StreamCancelled => stream_cancelled(rt, alloc, shared, five),
-        Scene::MeteredStreams => metered_streams(rt, alloc, shared, five),
-        Scene::CountedPumps => counted_pumps(rt, alloc, shared, five),
-        Scene::FailingPumps => failing_pumps(rt, alloc, shared, five),
-        Scene::Rolling => rolling(rt, shared, five),
-        Scene::FourThreads => four_threads(rt, alloc, shared, five),
-        Scene::Cycles => cycles(rt, alloc, shared, five),
+        Scene::RewindBetween => rewind_between(stage),
+        Scene::FiveCalls => five_calls(stage),
+        Scene::CancelledPumps => cancelled_pumps(stage),
+        Scene::NineAsked => nine_asked(stage),
+        Scene::FailingEnds => failing_ends(stage),
+        Scene::WatchedWorkers => watched_workers(stage),
+        Scene::PumpBeside => pump_beside(stage),
+        Scene::StreamBeside => stream_beside(stage),
+        Scene::StreamCancelled => stream_cancelled(stage),
+        Scene::MeteredStreams => metered_streams(stage),
+        Scene::CountedPumps => counted_pumps(stage),
+        Scene::FailingPumps => failing_pumps(stage),
+        Scene::Rolling => rolling(stage),
+        Scene::FourThreads => four_threads(stage),
+        Scene::Cycles => cycles(stage),
     }
 }
 
@@ -95,12 +101,11 @@ fn open_and_play<L: Heap + Send + Sync, R: Threads + Wait + Sync>(
     blank: Blank,
     scene: Scene,
 ) -> Option<bool>
-    requires { (blank.config ≡ L.config) × (blank.tables ≡ L.tables)
-        × (blank.ledger ≡ L.ledger) × (blank.rolls ≡ L.rolls) }
+    requires { IsNamed L.config L.tables L.ledger L.rolls blank }
 {
     let (shared, mut seats) = blank.open::<L>();
     match five_of(&mut seats) {
-        Some(mut five) => play(rt, alloc, &shared, &mut five, scene),
+        Some(mut five) => play(Stage(rt, alloc, &shared, &mut five), scene),
         None => None,
     }
 }

@@ -1,41 +1,37 @@
 //! What scenes do with heaps.
 ghost use Rattle.std.specs.Prelude.{◌≡◌};
-ghost use Rattle.dump_pipe.specs.Seats.{sum};
 
-use dump_pipe::{FeedSeat, Meter, OutSeat};
 use dump_pump::{Pumped, WriteOutlet, pump};
 use heap_lock::{Heap, LockedSource, Receipt, Role, Seat, Shared};
-use heap_scripts::{Event, new, point};
+use heap_scripts::{Action, Event, new, point};
 use live_dump::{LivePin, StreamSeats, stream};
 use std::alloc::Global;
 use std::io::Write;
 use std::sync::Wait;
 use std::thread::Threads;
 
-/// Does an act. Returns its receipt, or None if it has no entry.
+/// Does an event or a rewind, if the seat may. Returns its receipt, or None if it has no entry.
 pub fn did<L: Heap, R: Wait>(
     rt: &R,
     shared: &Shared<L>,
     seat: &mut Seat<L>,
-    event: Event,
+    action: Action,
 ) -> Option<Receipt> {
-    if !seat.may(&event) {
-        return None;
+    match action {
+        Action::Step(event) => {
+            if !seat.may(&event) {
+                return None;
+            }
+            shared.act(rt, seat, event).ok()
+        }
+        Action::Rewind(n) => {
+            if seat.role() != Role::User {
+                return None;
+            }
+            shared.rewind(rt, seat, n).ok()
+        }
+        _ => None,
     }
-    shared.act(rt, seat, event).ok()
-}
-
-/// Undoes steps. Returns the receipt, or None if that has no entry.
-pub fn undid<L: Heap, R: Wait>(
-    rt: &R,
-    shared: &Shared<L>,
-    seat: &mut Seat<L>,
-    n: u64,
-) -> Option<Receipt> {
-    if seat.role() != Role::User {
-        return None;
-    }
-    shared.rewind(rt, seat, n).ok()
 }
 
 /// Does an act. Returns whether it has an entry.
@@ -45,7 +41,7 @@ pub fn acts<L: Heap, R: Wait>(
     seat: &mut Seat<L>,
     event: Event,
 ) -> bool {
-    did(rt, shared, seat, event).is_some()
+    did(rt, shared, seat, Action::Step(event)).is_some()
 }
 
 /// Creates a write to x of the point in the first register.
@@ -94,27 +90,26 @@ pub fn closes_pin<L: Heap, R: Wait>(rt: &R, shared: &Shared<L>, pin: u64) -> boo
     shared.close_pin(rt, &mut shared.witness(rt), pin).is_ok()
 }
 
-/// Streams the dump of a pin into a writer. Returns how it went, and the writer.
-pub fn streamed<L: Heap + Send + Sync, W: Write + Drop, R: Threads + Wait + Sync>(
-    rt: &R,
-    alloc: Global,
-    shared: &Shared<L>,
-    pin: u64,
-    writer: W,
-    meter: &Meter,
-    out: OutSeat,
-    feed: FeedSeat,
-) -> (Pumped, W)
-    requires out { out ≡ sum meter.now 0 }
-    requires feed { feed.meter ≡ meter.now }
-{
-    let live = LivePin {
+/// Returns a pin of a heap as streams take it.
+pub fn live_pin<'a, L: Heap, R: Wait>(rt: &R, shared: &'a Shared<L>, pin: u64) -> LivePin<'a, L> {
+    LivePin {
         shared,
         witness: shared.witness(rt),
         pin,
         time: 0,
-    };
-    let seats = StreamSeats { meter, out, feed };
+    }
+}
+
+/// Streams the dump of a pin into a writer. Returns how it went, and the writer.
+pub fn streamed<L: Heap + Send + Sync, W: Write + Drop, R: Threads + Wait + Sync>(
+    rt: &R,
+    alloc: Global,
+    live: LivePin<'_, L>,
+    writer: W,
+    seats: StreamSeats<'_>,
+) -> (Pumped, W)
+    requires { seats.out.sum ≡ 0 }
+{
     let mut outlet = WriteOutlet::new(writer);
     let (pumped, _, _) = stream(rt, alloc, live, &mut outlet, seats);
     (pumped, outlet.into_writer())

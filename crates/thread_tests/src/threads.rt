@@ -1,6 +1,6 @@
 //! Seats in threads of their own, whose receipts agree with one history.
-use crate::scenes::{Five, Scene, play_scene};
-use crate::shared::{did, undid};
+use crate::scenes::{Five, Scene, Stage, play_scene};
+use crate::shared::did;
 use heap_class::Kind;
 use heap_lock::{Heap, Kept, Receipt, Role, Seat, Shared, Verdict, audit};
 use heap_scripts::{Action, Event};
@@ -66,20 +66,6 @@ fn drawn(role: Role, i: u64) -> Action {
     }
 }
 
-// Does an event or a rewind, if the seat may. Returns the receipt, or None if there is no entry.
-fn done<L: Heap, R: Wait>(
-    rt: &R,
-    shared: &Shared<L>,
-    seat: &mut Seat<L>,
-    action: Action,
-) -> Option<Receipt> {
-    match action {
-        Action::Step(event) => did(rt, shared, seat, event),
-        Action::Rewind(n) => undid(rt, shared, seat, n),
-        _ => None,
-    }
-}
-
 // Adds a seat's first thousand actions with their receipts. Returns whether memory was found.
 fn thousand<L: Heap, R: Wait>(
     rt: &R,
@@ -89,7 +75,7 @@ fn thousand<L: Heap, R: Wait>(
 ) -> bool {
     let role = seat.role();
     for i in 0..1000u64 {
-        if let Some(receipt) = done(rt, shared, seat, drawn(role, i)) {
+        if let Some(receipt) = did(rt, shared, seat, drawn(role, i)) {
             if claims.push((drawn(role, i), receipt)).is_err() {
                 return false;
             }
@@ -168,10 +154,7 @@ fn by_four<L: Heap + Send + Sync, R: Threads + Wait + Sync>(
 
 /// Acts by a mutator, a user, the marker and the sweeper, each in a thread of its own. Returns whether their receipts agree.
 pub fn four_threads<L: Heap + Send + Sync, R: Threads + Wait + Sync>(
-    rt: &R,
-    alloc: Global,
-    shared: &Shared<L>,
-    five: &mut Five<L>,
+    Stage(rt, alloc, shared, five): Stage<'_, L, R>,
 ) -> Option<bool> {
     Some(by_four(rt, alloc, shared, five))
 }

@@ -1,7 +1,7 @@
 //! Workers in one thread: a whole cycle, and gates that let no act begin.
 ghost use Rattle.std.specs.Prelude.{◌<◌, ◌≤◌};
 
-use crate::scenes::{Five, Scene, play_scene};
+use crate::scenes::{Five, Scene, Stage, play_scene};
 use crate::shared::acts;
 use heap_class::Refusal;
 use heap_lock::{Heap, Outcome, Receipt, Role, Seat, Shared, Verdict, audit};
@@ -150,10 +150,7 @@ fn stop_at_gates<L: Heap, R: Wait>(rt: &R, shared: &Shared<L>, five: &mut Five<L
 
 /// Runs the workers through a cycle over two objects, and to gates that close in the next. Returns whether all goes as it must.
 pub fn cycles<L: Heap + Send + Sync, R: Threads + Wait + Sync>(
-    rt: &R,
-    alloc: Global,
-    shared: &Shared<L>,
-    five: &mut Five<L>,
+    Stage(rt, alloc, shared, five): Stage<'_, L, R>,
 ) -> Option<bool> {
     Some(
         began(rt, alloc, shared, &mut five.user)

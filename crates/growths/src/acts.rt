@@ -1,5 +1,5 @@
 //! Acts under the lock of a heap, each refused one of which is done once more.
-ghost use Rattle.std.specs.Prelude.{◌≡◌};
+ghost use Rattle.heap_lock.specs.Blanks.{IsNamed};
 
 use crate::states::digest_of;
 use heap_class::{Kind, Refusal};
@@ -75,8 +75,7 @@ fn act_all<L: Heap>(kept: &mut Kept<L>, seat: &mut Seat<L>) -> Option<usize> {
 }
 
 fn run_in<L: Heap, R: Wait>(rt: &R, blank: Blank) -> Option<usize>
-    requires { (blank.config ≡ L.config) × (blank.tables ≡ L.tables)
-        × (blank.ledger ≡ L.ledger) × (blank.rolls ≡ L.rolls) }
+    requires { IsNamed L.config L.tables L.ledger L.rolls blank }
 {
     let (shared, mut seats) = blank.open::<L>();
     let mut user = seats.take()?;

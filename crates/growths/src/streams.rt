@@ -1,5 +1,6 @@
 //! Streams of a shared heap's dump, one of which may be lost for want of memory.
 ghost use Rattle.std.specs.Prelude.{◌≡◌, IfSome, false};
+ghost use Rattle.heap_lock.specs.Blanks.{IsNamed};
 ghost use Rattle.live_dump.specs.Seats.{sum, cancel_found};
 
 use crate::digest::Digest;
@@ -100,9 +101,7 @@ fn digest_of_readers<L: Heap, R: Wait>(rt: &R, shared: &Shared<L>) -> Digest {
 fn stream_behind<L: Heap + Send + Sync, R: Threads + Wait + Sync>(
     rt: &R,
     alloc: Global,
-    shared: &Shared<L>,
-    witness: Witness<L>,
-    pin: u64,
+    live: LivePin<'_, L>,
     made: NewMeter,
     text: Vec<u8>,
 ) -> (Pumped, Vec<u8>, Witness<L>)
@@ -112,17 +111,10 @@ fn stream_behind<L: Heap + Send + Sync, R: Threads + Wait + Sync>(
     let NewMeter {
         meter,
         out,
-        readers: _,
-        askers: _,
         feed,
+        ..
     } = made;
     let mut outlet = WriteOutlet::new(text);
-    let live = LivePin {
-        shared,
-        witness,
-        pin,
-        time: 7,
-    };
     let seats = StreamSeats {
         meter: &meter,
         out,
@@ -143,7 +135,13 @@ fn stream_once<L: Heap + Send + Sync, R: Threads + Wait + Sync>(
     let made = create_meter(alloc)?;
     let text = reserve(alloc)?;
     let before = digest_of_readers(rt, shared);
-    let (pumped, text, mut witness) = stream_behind(rt, alloc, shared, witness, pin, made, text);
+    let live = LivePin {
+        shared,
+        witness,
+        pin,
+        time: 7,
+    };
+    let (pumped, text, mut witness) = stream_behind(rt, alloc, live, made, text);
     let is_as_before = digest_of_readers(rt, shared) == before;
     shared.close_pin(rt, &mut witness, pin).ok()?;
     Some(Streamed {
@@ -182,8 +180,7 @@ fn run_in<L: Heap + Send + Sync, R: Threads + Wait + Sync>(
     alloc: Global,
     blank: Blank,
 ) -> Option<bool>
-    requires { (blank.config ≡ L.config) × (blank.tables ≡ L.tables)
-        × (blank.ledger ≡ L.ledger) × (blank.rolls ≡ L.rolls) }
+    requires { IsNamed L.config L.tables L.ledger L.rolls blank }
 {
     let (shared, mut seats) = blank.open::<L>();
     let mut user = seats.take()?;

@@ -46,26 +46,14 @@ fn is_finished(claim: &Claim) -> bool
 fn count_made(claims: &[Claim]) -> usize
     ensures { result ≡ count_by is_making claims.now }
 {
-    let mut made = 0usize;
-    for claim in claims {
-        if is_made(claim) {
-            made += 1;
-        }
-    }
-    made
+    claims.iter().filter(|claim| is_made(claim)).count()
 }
 
 // Returns the number of cycles that were finished.
 fn count_finished(claims: &[Claim]) -> usize
     ensures { result ≡ count_by is_finishing claims.now }
 {
-    let mut finished = 0usize;
-    for claim in claims {
-        if is_finished(claim) {
-            finished += 1;
-        }
-    }
-    finished
+    claims.iter().filter(|claim| is_finished(claim)).count()
 }
 
 /// Returns what the actors did if all claims of each of them stand in the history, as `Actor::audit` says. Fails with the first

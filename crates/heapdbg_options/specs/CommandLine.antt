@@ -106,17 +106,12 @@ named_line =
     (record named { top = record named.top { subcommand_required = true; has_version = true } })
     run_line.top
 
--- the same, with `explore` and `save`
-abbrev pub local_line : App
-local_line = with_subcommand (with_subcommand named_line explore_line.top) save_line.top
-
--- the same, with `draw` and `serve`
-abbrev pub serving_line : App
-serving_line = with_subcommand (with_subcommand local_line draw_line.top) serve_line.top
-
 -- all commands
 abbrev pub heapdbg_line : App
-heapdbg_line = with_subcommand (with_subcommand serving_line ask_line.top) fetch_line.top
+heapdbg_line =
+    let local = with_subcommand (with_subcommand named_line explore_line.top) save_line.top in
+    let serving = with_subcommand (with_subcommand local draw_line.top) serve_line.top in
+    with_subcommand (with_subcommand serving ask_line.top) fetch_line.top
 
 -- the number that a text of digits alone writes, if it lies from least to most
 abbrev pub number_in : ℕ → ℕ → Text → Option ℕ
@@ -324,9 +319,13 @@ IsTask (Serve port sessions workers dumps) =
 IsTask (Ask port) = (1 ≤ port) × (port ≤ port_limit)
 IsTask (Fetch port) = (1 ≤ port) × (port ≤ port_limit)
 
+-- the settings of the heap and its history are within their limits
+abbrev pub IsHeapWithin : Settings → Type 0
+IsHeapWithin s = AreHeapSettings s.regions s.mutators s.keep
+
 -- the settings are within their limits
 abbrev pub AreSettingsWithin : Settings → Type 0
-AreSettingsWithin s = AreHeapSettings s.regions s.mutators s.keep × IsTask s.task
+AreSettingsWithin s = IsHeapWithin s × IsTask s.task
 
 -- the number of sessions
 abbrev pub sessions_of : Task → ℕ

@@ -6,9 +6,9 @@ ghost use Rattle.std.specs.Char.{is_ascii_digit};
 ghost use Rattle.clap.specs.Words.{FailsBy, app_of, fault_of, found_of, kind_of, rows_of};
 ghost use Rattle.clap.specs.declared.builder.Command.TheViews.{out-Command};
 ghost use Rattle.clap.specs.Words.{rule_of, subcommand_of, subcommand_rows_of};
-ghost use Rattle.heapdbg_options.specs.CommandLine.{AreSettingsWithin, HasDefaults, IsBadWith, heap_line, heapdbg_line, local_line, named_line, number_in};
+ghost use Rattle.heapdbg_options.specs.CommandLine.{AreSettingsWithin, HasDefaults, IsBadWith, heap_line, heapdbg_line, named_line, number_in};
 ghost use Rattle.heapdbg_options.specs.CommandLine.{settings_in, settings_of, settings_under, texts, option_value};
-ghost use Rattle.heapdbg_options.specs.CommandLine.{id_size_in, id_size_of, flag_in, path_of, serving_line, session_line, task_in, value_option};
+ghost use Rattle.heapdbg_options.specs.CommandLine.{id_size_in, id_size_of, flag_in, path_of, session_line, task_in, value_option};
 ghost use Rattle.heapdbg_options.specs.Refusals.{IsMistake, IsMistakeIn, IsRefusalOf, version_text};
 
 use crate::refusal::{Mistake, VERSION, version};
@@ -84,27 +84,13 @@ fn parse<'a>(alloc: Global, words: &'a [&'a str]) -> Result<ArgMatches<'a>, Erro
 fn parser<'a>(alloc: Global) -> Result<Command<'a>, AllocError>
     ensures { IfOk result (λ c. app_of c ≡ heapdbg_line) }
 {
-    let ask = ask_parser(alloc)?;
-    let fetch = fetch_parser(alloc)?;
-    serving_parser(alloc)?.subcommand(ask)?.subcommand(fetch)
-}
-
-// Creates the parser of the program's name and of the commands that open a heap.
-fn serving_parser<'a>(alloc: Global) -> Result<Command<'a>, AllocError>
-    ensures { IfOk result (λ c. app_of c ≡ serving_line) }
-{
-    let draw = draw_parser(alloc)?;
-    let serve = serve_parser(alloc)?;
-    local_parser(alloc)?.subcommand(draw)?.subcommand(serve)
-}
-
-// Creates the parser of the program's name and of the commands `run`, `explore` and `save`.
-fn local_parser<'a>(alloc: Global) -> Result<Command<'a>, AllocError>
-    ensures { IfOk result (λ c. app_of c ≡ local_line) }
-{
-    let explore = explore_parser(alloc)?;
-    let save = save_parser(alloc)?;
-    named_parser(alloc)?.subcommand(explore)?.subcommand(save)
+    named_parser(alloc)?
+        .subcommand(explore_parser(alloc)?)?
+        .subcommand(save_parser(alloc)?)?
+        .subcommand(draw_parser(alloc)?)?
+        .subcommand(serve_parser(alloc)?)?
+        .subcommand(ask_parser(alloc)?)?
+        .subcommand(fetch_parser(alloc)?)
 }
 
 // Creates the parser of the program's name and of the command `run`.
@@ -152,11 +138,7 @@ pub(crate) fn path_arg<'a>(alloc: Global, name: &'a str, help: &'a str) -> Arg<'
     ensures rule { rule_of result ≡ value_option name.entry.now }
     ensures local { result.global ≡ false }
 {
-    Arg::new(alloc, name)
-        .long(name)
-        .action(ArgAction::Set)
-        .value_name("PATH")
-        .help(help)
+    value_arg(alloc, name, help).value_name("PATH")
 }
 
 // Creates the option `--NAME N`.

@@ -1,6 +1,6 @@
 //! The settings that a command line asks for.
 ghost use Rattle.std.specs.Prelude.{◌≡◌};
-ghost use Rattle.heap_world.specs.Limits.{AreHeapSettings};
+ghost use Rattle.heapdbg_options.specs.CommandLine.{IsHeapWithin};
 
 use heap_class::IdSize;
 use heap_world::Config;
@@ -87,7 +87,7 @@ pub enum LineFault {
 
 /// Returns the configuration of the heap that the settings ask for.
 pub fn config(settings: &Settings) -> Config
-    requires { AreHeapSettings settings.now.regions settings.now.mutators settings.now.keep }
+    requires { IsHeapWithin settings.now }
     ensures { result
         ≡ record {
           regions = settings.now.regions;

@@ -51,15 +51,3 @@ ends_anywhere makes others first time left m' between w' outlet talked ended pum
     go : (q : Bool) → EndsSave makes first time left m' between w' outlet talked ended pumped q → EndsSave others first time left m' between w' outlet talked ended pumped q
     go true (r, lands, is, line) = (r, lands_there (own_closed first left) m' outlet r lands, is, line)
     go false h = h
-
--- so is a session that is saved
-pub saved_anywhere : (makes others : Option Outgoing → Type 0) (first time : ℕ) (m m' : Machine) (a b : Incoming) (w w' : Outgoing) (outlet : Option Outgoing) (ended : Ended) (pumped : Option Pumped)
-    → ((o : Option Outgoing) → makes o → others o) → IsSaved makes first time m m' a b w w' outlet ended pumped → IsSaved others first time m m' a b w w' outlet ended pumped
-saved_anywhere makes others first time m m' a b w w' outlet ended pumped more s = record {
-  talked = s.talked;
-  left = s.left;
-  between = s.between;
-  session = s.session;
-  ends = s.ends;
-  goes = ends_anywhere makes others first time s.left m' s.between w' outlet s.talked ended pumped (is_whole_session s.talked) more s.goes;
-}

@@ -1,5 +1,5 @@
 -- The outcomes of a session whose last state is dumped. Files and sockets tell nothing of their bytes.
-use Rattle.std.specs.Prelude.{◌≡◌, ◌⊎◌, Bool, true, false, Option, Some, None, Result, Ok, Err, is_some}
+use Rattle.std.specs.Prelude.{◌≡◌, ◌⊎◌, ℕ, Bool, true, false, Option, Some, None, Result, Ok, Err, is_some}
 use Rattle.dump_pump.specs.declared.transfer.Pumped.{Pumped}
 use Rattle.dump_pump.specs.declared.transfer.Pumped.TheVariants.{Done, OutletFailed, Lost, Cancelled}
 use Rattle.dump_pump.specs.Outlets.{Outgoing}
@@ -8,6 +8,7 @@ use Rattle.session_text.specs.declared.Ended.{Ended}
 use Rattle.session_text.specs.Inlets.{Incoming}
 use Rattle.session_text.specs.Endings.{EndsSession}
 use Rattle.session_text.specs.Limits.{is_whole_session}
+use Rattle.session_text.specs.Session.{IsSession}
 use Rattle.question_text.specs.declared.asking.Asking.{Asking}
 use Rattle.question_text.specs.Sessions.{ServesAsking}
 use Rattle.heap_save.specs.Saves.{EndsSave, IsSaved}
@@ -40,6 +41,13 @@ save_outcome unmade made ended pumped =
 -- a place may make any outlet, or none
 abbrev pub any_outlet : Option Outgoing → Type 0
 any_outlet o = Unit {0}
+
+-- a session over a heap, with questions or without
+abbrev pub IsTalked : Bool → ℕ → Incoming → Incoming → Asking → Outgoing → Asking → Outgoing
+    → Ended → Type 0
+IsTalked true time a b c w c' w' ended = ServesAsking time a b c w c' w' ended
+IsTalked false time a b c w c' w' ended =
+    IsSession c.local.machine time a b w w' c'.local.machine ended
 
 -- a session with questions over a heap with these settings as it begins, and what was done after it
 pub record IsAskingSaved (s : Settings) (left : Machine) (a b : Incoming) (w w' : Outgoing)

@@ -1,6 +1,6 @@
 //! A session, and a picture of the regions of the state that it leaves.
 ghost use Rattle.std.specs.Prelude.{◌≡◌, ◌⊎◌, Ok, Err};
-ghost use Rattle.heapdbg_options.specs.HeapLimits.{AreHeapSettings};
+ghost use Rattle.heapdbg_options.specs.CommandLine.{IsHeapWithin};
 ghost use Rattle.heapdbg.specs.Runs.{IsDrawingOutcome, IsSessionDrawn};
 
 use crate::failure::{Fault, outcome};
@@ -22,8 +22,7 @@ pub fn draw<R: Files, I: Inlet, O: Outlet>(
     reader: &mut I,
     writer: &mut O,
 ) -> Result<(), Fault>
-    requires { AreHeapSettings request.settings.regions request.settings.mutators
-        request.settings.keep }
+    requires { IsHeapWithin request.settings }
     ensures { IsSessionDrawn request.entry.settings (I.seen reader.old) (I.seen reader.new)
         (O.seen writer.old) (O.seen writer.new) result }
 {

@@ -1,6 +1,6 @@
 //! A session with questions.
 ghost use Rattle.std.specs.Prelude.{◌≡◌, true, IfErr, IfOk};
-ghost use Rattle.heapdbg_options.specs.HeapLimits.{AreHeapSettings};
+ghost use Rattle.heapdbg_options.specs.CommandLine.{IsHeapWithin};
 ghost use Rattle.heapdbg.specs.Explorations.{IsSessionBegun, IsExplored, IsHindrance, IsOpening};
 
 use crate::failure::{Fault, outcome};
@@ -26,8 +26,7 @@ pub fn explore<R: AllocGlobal + Eprint + Files, I: Inlet, O: Outlet>(
     reader: &mut I,
     writer: &mut O,
 ) -> Result<(), Fault>
-    requires { AreHeapSettings request.settings.regions request.settings.mutators
-        request.settings.keep }
+    requires { IsHeapWithin request.settings }
     ensures { IsExplored from request.entry.settings (I.seen reader.old) (I.seen reader.new)
         (O.seen writer.old) (O.seen writer.new) result }
 {
@@ -48,8 +47,7 @@ fn begin<'a, R: AllocGlobal + Eprint + Files>(
     from: bool,
     watch: &'a Watch,
 ) -> Result<Asking<'a>, Fault>
-    requires { AreHeapSettings request.settings.regions request.settings.mutators
-        request.settings.keep }
+    requires { IsHeapWithin request.settings }
     ensures begun { IfOk result (IsSessionBegun from request.entry.settings) }
     ensures hindrance { IfErr result (IsHindrance from) }
 {
@@ -67,7 +65,7 @@ pub(crate) fn open<'a>(
     settings: &Settings,
     watch: &'a Watch,
 ) -> Result<Asking<'a>, Fault>
-    requires { AreHeapSettings settings.now.regions settings.now.mutators settings.now.keep }
+    requires { IsHeapWithin settings.now }
     ensures opening { IfOk result (IsOpening settings.now) }
     ensures first { IfOk result (λ c. c.local.first_pin ≡ 1) }
     ensures fault { IfErr result (λ f. f ≡ Fault.Memory) }

@@ -1,6 +1,6 @@
 //! The heap of a session of its own.
 ghost use Rattle.std.specs.Prelude.{◌≡◌, IfErr, IfOk};
-ghost use Rattle.heapdbg_options.specs.HeapLimits.{AreHeapSettings};
+ghost use Rattle.heapdbg_options.specs.CommandLine.{IsHeapWithin};
 ghost use Rattle.session_text.specs.Machine.{opening_machine};
 
 use crate::failure::Fault;
@@ -10,7 +10,7 @@ use std::alloc::Global;
 
 /// Opens the heap that the settings ask for, for one session. Fails with Memory if it can't be allocated.
 pub fn open_local(alloc: Global, settings: &Settings) -> Result<Local, Fault>
-    requires { AreHeapSettings settings.now.regions settings.now.mutators settings.now.keep }
+    requires { IsHeapWithin settings.now }
     ensures opening { IfOk result (λ l. l.machine ≡ opening_machine settings.now.ids
         settings.now.regions settings.now.mutators settings.now.keep) }
     ensures first { IfOk result (λ l. l.first_pin ≡ 1) }

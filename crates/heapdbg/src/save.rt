@@ -1,26 +1,27 @@
 //! A session whose last state is dumped to a file or a socket.
-ghost use Rattle.std.specs.Prelude.{◌≡◌, false, true};
-ghost use Rattle.heapdbg_options.specs.HeapLimits.{AreHeapSettings};
-ghost use Rattle.heapdbg.specs.SaveOutcomes.{IsSavedAs, IsSavedTo, save_outcome};
+ghost use Rattle.std.specs.Prelude.{◌≡◌};
+ghost use Rattle.session_text.specs.Endings.{EndsSession};
+ghost use Rattle.heapdbg_options.specs.CommandLine.{IsHeapWithin};
+ghost use Rattle.heapdbg.specs.SaveOutcomes.{IsSavedTo, IsTalked, save_outcome};
 
 use crate::explore::open;
 use crate::failure::{Fault, outcome};
-use crate::opening::open_local;
 use dump_pump::{Outlet, Pumped, WriteOutlet};
-use heap_save::{LastDump, Outlets, save_after, save_into};
+use heap_save::{LastDump, Outlets, save_after};
 use heapdbg_options::settings::Settings;
 use pin_dump::Gauge;
-use question_text::{Watch, serve_asking};
-use session_text::{Ended, Inlet};
+use question_text::{Asking, Watch, serve_asking};
+use session_text::{Ended, Inlet, serve_local};
+use std::alloc::Global;
 use std::fs;
 use std::fs::Files;
 use std::net::{Ipv4Addr, Net, TcpStream};
 use std::sync::Wait;
 use std::thread::Threads;
 
-// A file that is made, or cut to nothing if it is there.
+/// A file that is made, or cut to nothing if it is there.
 #[derive(Drop)]
-struct OutFile<'a, R> {
+pub struct OutFile<'a, R> {
     rt: &'a R,
     path: &'a str,
 }
@@ -38,14 +39,14 @@ impl<R: Files> Outlets for OutFile<'_, R> {
     }
 }
 
-// A port of this computer that is connected to.
+/// A port of this computer that is connected to.
 #[derive(Drop)]
-struct Peer<'a, R> {
+pub struct OutPort<'a, R> {
     rt: &'a R,
     port: u16,
 }
 
-impl<R: Net> Outlets for Peer<'_, R> {
+impl<R: Net> Outlets for OutPort<'_, R> {
     type Out = WriteOutlet<R::Stream>;
 
     ghost makes = { λ place outlet. Unit {0} };
@@ -58,129 +59,71 @@ impl<R: Net> Outlets for Peer<'_, R> {
     }
 }
 
-// Where a dump goes, and the fault of a session whose dump can't go there.
+/// Where a dump goes, and the fault of a session whose dump can't go there.
 #[derive(Drop)]
-struct Destination<P> {
-    place: P,
-    unmade: Fault,
+pub struct Destination<P> {
+    /// The place that makes its outlet.
+    pub place: P,
+    /// The fault if it makes none.
+    pub unmade: Fault,
 }
 
-/// Runs a session and dumps the state that it leaves to a file, which a gauge sees. Fails as a session does, with Out if the
-/// file can't be made or a write to it fails, and with Lost if the dump is lost. May wait.
-pub fn save_out<R, I: Inlet, O: Outlet, G: Gauge>(
-    rt: &R,
-    settings: &Settings,
-    path: &str,
-    reader: &mut I,
-    writer: &mut O,
-    gauge: &mut G,
-) -> Result<(), Fault>
-where
-    R: AllocGlobal + Files + Threads + Wait + Sync,
-    requires { AreHeapSettings settings.now.regions settings.now.mutators settings.now.keep }
-    ensures { IsSavedTo Fault.Out settings.now (I.seen reader.old) (I.seen reader.new)
-        (O.seen writer.old) (O.seen writer.new) result }
+/// Returns the file of a path as a destination. A session fails with Out if the file can't be made.
+pub fn out_file<'a, R: Files>(rt: &'a R, path: &'a str) -> Destination<OutFile<'a, R>>
+    ensures { result.unmade ≡ Fault.Out }
 {
-    let to = Destination {
+    Destination {
         place: OutFile { rt, path },
         unmade: Fault::Out,
-    };
-    save(rt, settings, reader, writer, to, gauge)
+    }
 }
 
-/// Runs a session and dumps the state that it leaves to a port, which a gauge sees. Fails as a session does, with Connect if no
-/// connection can be made, with Out if a write to it fails, and with Lost if the dump is lost. May wait.
-pub fn save_to<R, I: Inlet, O: Outlet, G: Gauge>(
+/// Returns a port as a destination. A session fails with Connect if no connection can be made.
+pub fn peer<R: Net>(rt: &R, port: u16) -> Destination<OutPort<'_, R>>
+    ensures { result.unmade ≡ Fault.Connect }
+{
+    Destination {
+        place: OutPort { rt, port },
+        unmade: Fault::Connect,
+    }
+}
+
+// Runs a session over a heap, in which questions are answered if the settings say so.
+fn talk<I: Inlet, O: Outlet>(
+    alloc: Global,
+    settings: &Settings,
+    reader: &mut I,
+    writer: &mut O,
+    asking: &mut Asking<'_>,
+) -> Ended
+    ensures ends { EndsSession (I.seen reader.old) (I.seen reader.new) (O.seen writer.old)
+        (O.seen writer.new) result }
+    ensures first { asking.new.local.first_pin ≡ asking.old.local.first_pin }
+    ensures session { IsTalked settings.now.questions settings.now.time (I.seen reader.old)
+        (I.seen reader.new) asking.old (O.seen writer.old) asking.new (O.seen writer.new) result }
+{
+    if settings.questions {
+        serve_asking(alloc, reader, writer, asking, settings.time)
+    } else {
+        serve_local(alloc, reader, writer, &mut asking.local, settings.time)
+    }
+}
+
+/// Runs a session, in which questions are answered if the settings say so, and dumps the state that it leaves to a destination,
+/// which a gauge sees. Fails as a session does, with `unmade` if the place makes no outlet, with Out if a write to it fails, and
+/// with Lost if the dump is lost. May wait.
+pub fn save<I: Inlet, O: Outlet, P: Outlets + Drop, G: Gauge, R>(
     rt: &R,
     settings: &Settings,
-    port: u16,
+    to: Destination<P>,
     reader: &mut I,
     writer: &mut O,
     gauge: &mut G,
 ) -> Result<(), Fault>
 where
-    R: AllocGlobal + Net + Threads + Wait + Sync,
-    requires { AreHeapSettings settings.now.regions settings.now.mutators settings.now.keep }
-    ensures { IsSavedTo Fault.Connect settings.now (I.seen reader.old) (I.seen reader.new)
-        (O.seen writer.old) (O.seen writer.new) result }
-{
-    let to = Destination {
-        place: Peer { rt, port },
-        unmade: Fault::Connect,
-    };
-    save(rt, settings, reader, writer, to, gauge)
-}
-
-// Runs a session, in which questions are answered if the settings say so, and dumps the state that it leaves into the outlet of
-// a place. Fails with `unmade` if none can be made.
-fn save<I: Inlet, O: Outlet, P: Outlets + Drop, G: Gauge, R: AllocGlobal + Threads + Wait + Sync>(
-    rt: &R,
-    settings: &Settings,
-    reader: &mut I,
-    writer: &mut O,
-    to: Destination<P>,
-    gauge: &mut G,
-) -> Result<(), Fault>
-    requires { AreHeapSettings settings.now.regions settings.now.mutators settings.now.keep }
+    R: AllocGlobal + Threads + Wait + Sync,
+    requires { IsHeapWithin settings.now }
     ensures { IsSavedTo to.unmade settings.now (I.seen reader.old) (I.seen reader.new)
-        (O.seen writer.old) (O.seen writer.new) result }
-{
-    if settings.questions {
-        save_asking(rt, settings, reader, writer, to, gauge)
-    } else {
-        save_session(rt, settings, reader, writer, to, gauge)
-    }
-}
-
-// Runs a session without questions, and dumps the state that it leaves.
-fn save_session<
-    I: Inlet,
-    O: Outlet,
-    P: Outlets + Drop,
-    G: Gauge,
-    R: AllocGlobal + Threads + Wait + Sync,
->(
-    rt: &R,
-    settings: &Settings,
-    reader: &mut I,
-    writer: &mut O,
-    to: Destination<P>,
-    gauge: &mut G,
-) -> Result<(), Fault>
-    requires { AreHeapSettings settings.now.regions settings.now.mutators settings.now.keep }
-    ensures { IsSavedAs false to.unmade settings.now (I.seen reader.old) (I.seen reader.new)
-        (O.seen writer.old) (O.seen writer.new) result }
-{
-    let alloc = rt.alloc();
-    match open_local(alloc, settings) {
-        Ok(mut local) => {
-            let Destination { place, unmade } = to;
-            let time = settings.time;
-            let dump = LastDump { place, gauge, time };
-            let saved = save_into(rt, alloc, &mut local, reader, writer, dump);
-            save_outcome(unmade, saved.outlet.is_some(), saved.ended, saved.pumped)
-        }
-        Err(fault) => Err(fault),
-    }
-}
-
-// Runs a session with questions, and dumps the state that it leaves.
-fn save_asking<
-    I: Inlet,
-    O: Outlet,
-    P: Outlets + Drop,
-    G: Gauge,
-    R: AllocGlobal + Threads + Wait + Sync,
->(
-    rt: &R,
-    settings: &Settings,
-    reader: &mut I,
-    writer: &mut O,
-    to: Destination<P>,
-    gauge: &mut G,
-) -> Result<(), Fault>
-    requires { AreHeapSettings settings.now.regions settings.now.mutators settings.now.keep }
-    ensures { IsSavedAs true to.unmade settings.now (I.seen reader.old) (I.seen reader.new)
         (O.seen writer.old) (O.seen writer.new) result }
 {
     let alloc = rt.alloc();
@@ -190,7 +133,7 @@ fn save_asking<
             let Destination { place, unmade } = to;
             let time = settings.time;
             let dump = LastDump { place, gauge, time };
-            let ended = serve_asking(alloc, reader, writer, &mut asking, time);
+            let ended = talk(alloc, settings, reader, writer, &mut asking);
             let saved = save_after(rt, alloc, ended, &mut asking.local, writer, dump);
             save_outcome(unmade, saved.outlet.is_some(), saved.ended, saved.pumped)
         }

@@ -1,7 +1,7 @@
 //! Sessions over one shared heap, for clients of this computer.
 ghost use Rattle.std.specs.Prelude.{◌≡◌, ◌⊎◌, ◌≤◌, [], IfErr, IfOk};
 ghost use Rattle.heap_server.specs.SessionSeats.{session_limit};
-ghost use Rattle.heapdbg_options.specs.HeapLimits.{AreHeapSettings};
+ghost use Rattle.heapdbg_options.specs.CommandLine.{IsHeapWithin};
 ghost use Rattle.heapdbg.specs.declared.failure.Fault.TheVariants.{Listen, Memory};
 ghost use Rattle.heapdbg.specs.ServeOutcomes.{IsHeapServed, IsReportTold, IsServed, IsTendedServed, served_outcome, terms_of};
 
@@ -66,7 +66,7 @@ pub fn serve_port<R, O: Outlet>(
 where
     R: Net<Listener = TcpListener, Stream = TcpStream> + Threads + Wait + Sync,
     R: Clock + Eprint,
-    requires heap { AreHeapSettings settings.now.regions settings.now.mutators settings.now.keep }
+    requires heap { IsHeapWithin settings.now }
     requires sessions { (1 ≤ service.sessions) × (service.sessions ≤ session_limit) }
     ensures { IsServed service.workers settings.now service.sessions (O.seen writer.old)
         (O.seen writer.new) result }
@@ -100,7 +100,7 @@ fn serve_users<R, O: Outlet>(
 where
     R: Net<Listener = TcpListener, Stream = TcpStream> + Threads + Wait + Sync,
     R: Clock + Eprint,
-    requires heap { AreHeapSettings settings.now.regions settings.now.mutators settings.now.keep }
+    requires heap { IsHeapWithin settings.now }
     requires sessions { (1 ≤ service.sessions) × (service.sessions ≤ session_limit) }
     ensures { IsHeapServed settings.now service.sessions (O.seen writer.old) (O.seen writer.new)
         result }
@@ -129,7 +129,7 @@ fn serve_staff<R, O: Outlet>(
 where
     R: Net<Listener = TcpListener, Stream = TcpStream> + Threads + Wait + Sync,
     R: Clock + Eprint,
-    requires heap { AreHeapSettings settings.now.regions settings.now.mutators settings.now.keep }
+    requires heap { IsHeapWithin settings.now }
     requires sessions { (1 ≤ service.sessions) × (service.sessions ≤ session_limit) }
     ensures { IsTendedServed settings.now service.sessions (O.seen writer.old) (O.seen writer.new)
         result }

@@ -1,11 +1,9 @@
 //! The tasks, from the words of the command line on.
-ghost use Rattle.std.specs.Prelude.{◌≡◌, Some, IfOk, IfErr, map, string_bytes};
+ghost use Rattle.std.specs.Prelude.{◌≡◌, ◌⊎◌, Some, IfOk, IfErr, map, string_bytes};
 ghost use Rattle.std.specs.IoError.{error_kind};
-ghost use Rattle.heapdbg_options.specs.CommandLine.{AreSettingsWithin, IsBadWith, settings_of};
-ghost use Rattle.heapdbg.specs.FetchOutcomes.{IsDumpFetched};
+ghost use Rattle.heapdbg_options.specs.CommandLine.{AreSettingsWithin, IsBadWith, IsHeapWithin, settings_of};
 ghost use Rattle.heapdbg_options.specs.Refusals.{IsRefusalOf};
-ghost use Rattle.heapdbg.specs.Runs.{IsTaskDone, IsRun, IsRunWith, IsPerformed, IsSavedOut};
-ghost use Rattle.heapdbg_options.specs.HeapLimits.{AreHeapSettings};
+ghost use Rattle.heapdbg.specs.Runs.{IsTaskDone, IsRun, IsRunWith, IsPerformed};
 
 use crate::ask::ask_port;
 use crate::draw::draw;
@@ -16,7 +14,7 @@ use crate::folder::has_folder;
 use crate::opening::open_local;
 use crate::progress::TerminalGauge;
 use crate::request::Request;
-use crate::save::{save_out, save_to};
+use crate::save::{out_file, peer, save};
 use crate::serve::{Service, serve_port};
 use crate::terminals::{Screen, Terminals};
 use dump_pump::{Outlet, WriteOutlet};
@@ -25,7 +23,6 @@ use heapdbg_options::command_line::{path_option, settings};
 use heapdbg_options::line_words::borrow_words;
 use heapdbg_options::refusal::bad;
 use heapdbg_options::settings::{LineFault, Settings, Target, Task};
-use pin_dump::Gauge;
 use question_text::Watch;
 use session_text::{Inlet, ReadInlet, serve_local};
 use std::alloc::Global;
@@ -123,7 +120,7 @@ where
     let line = line_of_words(alloc, words)?;
     let path = path_of_task(alloc, line.as_slice(), settings.task);
     let request = Request { settings, path };
-    work(rt, request, reader, input, writer, screen)?;
+    work(rt, request, screen, reader, input, writer)?;
     Ok(())
 }
 
@@ -152,10 +149,10 @@ fn path_of_task<'a>(alloc: Global, line: &'a [&'a str], task: Task) -> Option<&'
 fn work<R, I: Inlet + Send, J: Inlet + Send + Drop + 'static, O: Outlet>(
     rt: &R,
     request: Request<'_>,
+    screen: Screen<'_>,
     reader: &mut I,
     input: J,
     writer: &mut O,
-    screen: Screen<'_>,
 ) -> Result<(), Fault>
 where
     R: Net<Listener = TcpListener, Stream = TcpStream> + Threads + Wait,
@@ -164,16 +161,18 @@ where
     ensures { IsTaskDone request.entry.settings.task request.entry.settings (I.seen reader.old)
         (I.seen reader.new) (O.seen writer.old) (O.seen writer.new) result }
 {
-    let alloc = rt.alloc();
     let Request { settings, path } = request;
     let Screen { is_terminal, watch } = screen;
-    let mut gauge = TerminalGauge::new(rt, alloc, settings.ids, is_terminal);
+    let mut gauge = TerminalGauge::new(rt, rt.alloc(), settings.ids, is_terminal);
     match settings.task {
         Task::Run => run(rt, request, watch, reader, writer),
         Task::Explore { from } => explore(rt, request, from, watch, reader, writer),
-        Task::Draw => draw(rt, alloc, request, reader, writer),
-        Task::Save(Target::Out) => save_named(rt, request, reader, writer, &mut gauge),
-        Task::Save(Target::To(to)) => save_to(rt, &settings, to, reader, writer, &mut gauge),
+        Task::Draw => draw(rt, rt.alloc(), request, reader, writer),
+        Task::Save(Target::Out) => {
+            let to = out_file(rt, file_of(rt, path)?);
+            save(rt, &settings, to, reader, writer, &mut gauge)
+        }
+        Task::Save(Target::To(to)) => save(rt, &settings, peer(rt, to), reader, writer, &mut gauge),
         Task::Serve {
             port,
             sessions,
@@ -181,10 +180,10 @@ where
             dumps,
         } => {
             let service = Service::new(port, dumps, sessions, workers);
-            serve_port(rt, alloc, &settings, service, writer, is_terminal)
+            serve_port(rt, rt.alloc(), &settings, service, writer, is_terminal)
         }
-        Task::Ask { port } => ask_port(rt, alloc, port, input, writer),
-        Task::Fetch { port } => fetch_named(rt, path, port, writer, is_terminal),
+        Task::Ask { port } => ask_port(rt, rt.alloc(), port, input, writer),
+        Task::Fetch { port } => fetch_port(rt, port, file_of(rt, path)?, writer, is_terminal),
     }
 }
 
@@ -222,8 +221,7 @@ fn run<R: AllocGlobal + Eprint + Files, I: Inlet, O: Outlet>(
     reader: &mut I,
     writer: &mut O,
 ) -> Result<(), Fault>
-    requires { AreHeapSettings request.settings.regions request.settings.mutators
-        request.settings.keep }
+    requires { IsHeapWithin request.settings }
     ensures { IsRunWith request.entry.settings.questions request.entry.settings (I.seen reader.old)
         (I.seen reader.new) (O.seen writer.old) (O.seen writer.new) result }
 {
@@ -241,7 +239,7 @@ fn session<I: Inlet, O: Outlet>(
     reader: &mut I,
     writer: &mut O,
 ) -> Result<(), Fault>
-    requires { AreHeapSettings settings.now.regions settings.now.mutators settings.now.keep }
+    requires { IsHeapWithin settings.now }
     ensures { IsRun settings.now (I.seen reader.old) (I.seen reader.new) (O.seen writer.old)
         (O.seen writer.new) result }
 {
@@ -251,45 +249,12 @@ fn session<I: Inlet, O: Outlet>(
     }
 }
 
-// Runs one session over a private heap, and dumps its last state to the file of the path. Fails with Out, before the session, if
-// the folder of that file is not there.
-fn save_named<R, I: Inlet, O: Outlet, G: Gauge>(
-    rt: &R,
-    request: Request<'_>,
-    reader: &mut I,
-    writer: &mut O,
-    gauge: &mut G,
-) -> Result<(), Fault>
-where
-    R: AllocGlobal + Files + Threads + Wait + Sync,
-    requires { AreHeapSettings request.settings.regions request.settings.mutators
-        request.settings.keep }
-    ensures { IsSavedOut request.entry.settings (I.seen reader.old) (I.seen reader.new)
-        (O.seen writer.old) (O.seen writer.new) result }
-{
-    match request.path {
-        Some(path) if has_folder(rt, path) => {
-            save_out(rt, &request.settings, path, reader, writer, gauge)
-        }
-        Some(_) => Err(Fault::Out),
-        None => Err(Fault::Memory),
-    }
-}
-
-// Fetches a dump from a port into the file of a path. Fails with Out, before it connects, if the folder of that file is not there.
-fn fetch_named<R, O: Outlet>(
-    rt: &R,
-    path: Option<&str>,
-    port: u16,
-    writer: &mut O,
-    is_terminal: bool,
-) -> Result<(), Fault>
-where
-    R: Clock + Eprint + Files + Net + Wait,
-    ensures { IsDumpFetched (O.seen writer.old) (O.seen writer.new) result }
+// Returns the path of the task's file. Fails with Out if its folder is not there, and with Memory if there is no path.
+fn file_of<'a, R: Files>(rt: &R, path: Option<&'a str>) -> Result<&'a str, Fault>
+    ensures { IfErr result (λ f. (f ≡ Fault.Out) ⊎ (f ≡ Fault.Memory)) }
 {
     match path {
-        Some(path) if has_folder(rt, path) => fetch_port(rt, port, path, writer, is_terminal),
+        Some(path) if has_folder(rt, path) => Ok(path),
         Some(_) => Err(Fault::Out),
         None => Err(Fault::Memory),
     }

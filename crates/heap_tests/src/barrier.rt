@@ -71,7 +71,7 @@ fn shown(alloc: Global, world: &World) -> Result<String, AllocError> {
 }
 
 // Returns the sights as one text.
-fn joined(alloc: Global, sights: &[String]) -> Result<String, AllocError> {
+fn joined_text(alloc: Global, sights: &[String]) -> Result<String, AllocError> {
     let mut text = String::new(alloc);
     for sight in sights {
         text.push_str(sight.as_str())?;
@@ -80,7 +80,7 @@ fn joined(alloc: Global, sights: &[String]) -> Result<String, AllocError> {
 }
 
 // Returns the sights of a heap on the way there and back.
-fn walked(alloc: Global, world: &mut World) -> Result<String, Fail> {
+fn sights_of_way(alloc: Global, world: &mut World) -> Result<String, Fail> {
     let mut seen = Vec::new(alloc);
     there_and_back(
         world,
@@ -88,13 +88,13 @@ fn walked(alloc: Global, world: &mut World) -> Result<String, Fail> {
         &|world| Ok(shown(alloc, world)?),
         &mut seen,
     )?;
-    Ok(joined(alloc, seen.as_slice())?)
+    Ok(joined_text(alloc, seen.as_slice())?)
 }
 
 // Returns the sights of a new heap on the way there and back.
 fn seen(alloc: Global) -> Result<String, Fail> {
     let mut world = heap_after(alloc, settings(16, 2, 1024)?, &[])?;
-    walked(alloc, &mut world)
+    sights_of_way(alloc, &mut world)
 }
 
 #[test]

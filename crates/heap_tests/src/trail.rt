@@ -13,18 +13,18 @@ fn with_node(alloc: Global) -> Result<Machine, Fail> {
 }
 
 // Returns a machine's reply to an action.
-fn replied(machine: &mut Machine, action: Action) -> Reply {
+fn reply_to(machine: &mut Machine, action: Action) -> Reply {
     machine.act(&action)
 }
 
 // Returns a machine's answer to a step.
-fn answered(machine: &mut Machine, event: Event) -> Result<Answer, Refusal> {
+fn answer_to(machine: &mut Machine, event: Event) -> Result<Answer, Refusal> {
     machine.step(&event)
 }
 
 // Asserts that a third step is taken, and two are retained.
 fn a_step_is_kept_in(rt: &impl Abort, machine: &mut Machine) -> Result<(), Fail> {
-    assert_eq!(rt; answered(machine, new(0))?, Answer::Object(SECOND));
+    assert_eq!(rt; answer_to(machine, new(0))?, Answer::Object(SECOND));
     assert_eq!(rt; (machine.place(), machine.retained_count()), (3, 2));
     Ok(())
 }
@@ -63,7 +63,7 @@ fn steps_are_undone(rt: HostRuntime) -> Result<(), Fail> {
 
 // Returns whether a machine answers an action with a new object at the second address.
 fn makes_second(machine: &mut Machine) -> bool {
-    match replied(machine, Action::Step(new(0))) {
+    match reply_to(machine, Action::Step(new(0))) {
         Reply::Answered(answer) => answer == Answer::Object(SECOND),
         _ => false,
     }
@@ -71,7 +71,7 @@ fn makes_second(machine: &mut Machine) -> bool {
 
 // Returns whether a machine answers a rewind of one step with a place.
 fn goes_back_to(machine: &mut Machine, place: u64) -> bool {
-    match replied(machine, Action::Rewind(1)) {
+    match reply_to(machine, Action::Rewind(1)) {
         Reply::Place(to) => to == place,
         _ => false,
     }
@@ -79,7 +79,7 @@ fn goes_back_to(machine: &mut Machine, place: u64) -> bool {
 
 // Returns whether a machine answers an opening with a pin and its place.
 fn pins(machine: &mut Machine, asked: Option<u64>, number: u64, place: u64) -> bool {
-    match replied(machine, Action::OpenPin(asked)) {
+    match reply_to(machine, Action::OpenPin(asked)) {
         Reply::Pinned { pin, at } => pin == number && at == place,
         _ => false,
     }
@@ -87,7 +87,7 @@ fn pins(machine: &mut Machine, asked: Option<u64>, number: u64, place: u64) -> b
 
 // Returns whether a machine refuses an action with this refusal.
 fn refuses(machine: &mut Machine, action: Action, expected: Refusal) -> bool {
-    match replied(machine, action) {
+    match reply_to(machine, action) {
         Reply::Refused(refusal) => refusal == expected,
         _ => false,
     }
@@ -95,7 +95,7 @@ fn refuses(machine: &mut Machine, action: Action, expected: Refusal) -> bool {
 
 // Returns whether a machine answers with the first piece of a dump.
 fn begins(machine: &mut Machine, pin: u64) -> bool {
-    match replied(machine, Action::NextPiece { pin, time: 0 }) {
+    match reply_to(machine, Action::NextPiece { pin, time: 0 }) {
         Reply::Part(piece) => {
             !piece.last && piece.bytes.as_slice().starts_with(b"JAVA PROFILE 1.0.2")
         }
@@ -105,7 +105,7 @@ fn begins(machine: &mut Machine, pin: u64) -> bool {
 
 // Returns whether a machine closes a pin.
 fn closes(machine: &mut Machine, pin: u64) -> bool {
-    matches!(replied(machine, Action::ClosePin(pin)), Reply::Closed)
+    matches!(reply_to(machine, Action::ClosePin(pin)), Reply::Closed)
 }
 
 // Asserts the replies to each sort of action.
@@ -133,7 +133,7 @@ fn actions_are_done(rt: HostRuntime) -> Result<(), Fail> {
 // ---- lists of actions
 
 // Steps, a refused rewind, and what a dump asks for.
-fn listed(alloc: Global) -> Result<Vec<Action>, AllocError> {
+fn actions_of_dump(alloc: Global) -> Result<Vec<Action>, AllocError> {
     let mut actions = Vec::new(alloc);
     actions.push(Action::OpenPin(None))?;
     actions.push(Action::Step(new(0)))?;
@@ -160,7 +160,7 @@ fn are_replies(replies: &[Reply]) -> bool {
 #[test]
 fn lists_are_driven(rt: HostRuntime) -> Result<(), Fail> {
     let mut machine = with_node(rt.alloc())?;
-    let actions = listed(rt.alloc())?;
+    let actions = actions_of_dump(rt.alloc())?;
     let replies = machine.drive(&actions)?;
     assert!(rt; are_replies(&replies));
     assert_eq!(rt; (machine.place(), machine.retained_count()), (3, 2));

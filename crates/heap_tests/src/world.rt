@@ -139,7 +139,7 @@ fn settings_have_limits(rt: HostRuntime) -> Result<(), Fail> {
 }
 
 // Makes an array of two longs, loses it, and ends a cycle. Returns the number of objects that it condemns.
-fn condemned(world: &mut World) -> Result<u64, Fail> {
+fn condemned_count(world: &mut World) -> Result<u64, Fail> {
     world.new_prim(0, 0, Kind::Long, 2)?;
     world.clear_register(0, 0)?;
     world.snap()?;
@@ -158,7 +158,7 @@ fn a_region_without_live_objects_is_reclaimed_in(
     rt: &impl Abort,
     world: &mut World,
 ) -> Result<(), Fail> {
-    assert_eq!(rt; condemned(world)?, 1);
+    assert_eq!(rt; condemned_count(world)?, 1);
     assert_eq!(rt; swept(world)?, (1, true));
     Ok(())
 }

@@ -1,5 +1,5 @@
 //! A dump in the middle of which a write fails.
-use crate::sessions::{answers, is_answered, new_local, served};
+use crate::sessions::{answers, is_answered, new_local, serve_over};
 use heap_scripts::Sink;
 use session_text::{Ended, Local};
 use std::alloc::Global;
@@ -29,7 +29,7 @@ fn leaves_four_pins(alloc: Global, local: &mut Local, text: &[u8], room: usize) 
         room,
         ..Sink::new(text)
     };
-    let (ended, _, sink) = served(alloc, local, LONG_DUMP.as_bytes(), sink);
+    let (ended, _, sink) = serve_over(alloc, local, LONG_DUMP.as_bytes(), sink);
     ended == Ended::WriteFault
         && sink.has_first(room)
         && is_answered(alloc, local, FOUR_PINS.as_bytes(), FOUR_PINNED.as_bytes())

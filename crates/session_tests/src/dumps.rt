@@ -29,14 +29,14 @@ pub fn pump_state<O: Outlet>(machine: &mut Machine, outlet: &mut O) -> Option<Pu
 }
 
 // Dumps the current state. Returns how that ended, and the sink.
-fn dumped<'a>(machine: &mut Machine, sink: Sink<'a>) -> (Option<Pumped>, Sink<'a>) {
+fn dump_into<'a>(machine: &mut Machine, sink: Sink<'a>) -> (Option<Pumped>, Sink<'a>) {
     let mut outlet = WriteOutlet::new(sink);
     let pumped = pump_state(machine, &mut outlet);
     (pumped, outlet.into_writer())
 }
 
 // Returns how a dump must end of which this number of bytes can be put out.
-fn wanted(bytes: usize) -> Option<Pumped> {
+fn wanted_end(bytes: usize) -> Option<Pumped> {
     let out = bytes as u64;
     if bytes < POINT_SIZE {
         Some(Pumped::OutletFailed { bytes: out })
@@ -48,11 +48,11 @@ fn wanted(bytes: usize) -> Option<Pumped> {
 // Returns whether a sink to which so many bytes can be put out ends the dump as it must, and then a sound one gets it whole.
 fn ends(machine: &mut Machine, sink: Sink<'_>, bytes: usize) -> bool {
     let text = sink.rest;
-    let (pumped, sink) = dumped(machine, sink);
-    let (again, whole) = dumped(machine, Sink::new(text));
-    pumped == wanted(bytes)
+    let (pumped, sink) = dump_into(machine, sink);
+    let (again, whole) = dump_into(machine, Sink::new(text));
+    pumped == wanted_end(bytes)
         && sink.has_first(bytes)
-        && again == wanted(POINT_SIZE)
+        && again == wanted_end(POINT_SIZE)
         && whole.is_whole()
 }
 

@@ -1,6 +1,6 @@
 //! Readers and writers that fail.
 use crate::examples::{POINT_AND_DUMP, SWEPT_POINTS};
-use crate::sessions::{answers, is_answered, new_local, served};
+use crate::sessions::{answers, is_answered, new_local, serve_over};
 use crate::streams::ByteReader;
 use heap_scripts::Sink;
 use session_text::{Ended, Local};
@@ -61,7 +61,7 @@ fn is_as_after(alloc: Global, local: &mut Local, sound: &Sound) -> bool {
 
 // Tells whether a machine is so after a session of some lines.
 fn leads_in(alloc: Global, local: &mut Local, lines: &[u8], sound: &Sound) -> bool {
-    let (ended, _, _) = served(alloc, local, lines, Sink::new(&[]));
+    let (ended, _, _) = serve_over(alloc, local, lines, Sink::new(&[]));
     ended == Ended::Eof && is_as_after(alloc, local, sound)
 }
 
@@ -106,7 +106,7 @@ fn fails_in(alloc: Global, local: &mut Local, lines: &[u8], count: usize, sound:
         most: 1,
         ..Sink::new(sound.text.as_slice())
     };
-    let (ended, _, sink) = served(alloc, local, reader, sink);
+    let (ended, _, sink) = serve_over(alloc, local, reader, sink);
     ended == Ended::ReadFault && sink.is_whole() && is_as_after(alloc, local, sound)
 }
 
@@ -167,7 +167,7 @@ fn stops_in(
         reads_left: usize::MAX,
     };
     let count = sink.writes;
-    let (ended, reader, sink) = served(alloc, local, reader, sink);
+    let (ended, reader, sink) = serve_over(alloc, local, reader, sink);
     ended == Ended::WriteFault
         && sink.has_first(count)
         && reader.rest.len().saturating_add(read) == lines.len()
@@ -243,7 +243,7 @@ fn is_cut_in(alloc: Global, local: &mut Local, lines: &[u8], writes: usize, soun
         writes,
         ..Sink::new(sound.text.as_slice())
     };
-    let (ended, _, sink) = served(alloc, local, lines, sink);
+    let (ended, _, sink) = serve_over(alloc, local, lines, sink);
     ended == Ended::WriteFault && sink.has_first(writes) && is_as_after(alloc, local, sound)
 }
 

@@ -1,5 +1,5 @@
 //! Pins of others.
-use crate::saves::saved;
+use crate::saves::save_seen;
 use crate::sessions::new_machine;
 use heap_scripts::Machine;
 use pin_dump::Silent;
@@ -28,7 +28,7 @@ fn stay<R: Threads + Wait + Sync>(
     pins: u64,
     line: &str,
 ) -> (bool, u64, bool, bool) {
-    let done = saved(rt, alloc, local, "", line, &[], &mut Silent);
+    let done = save_seen(rt, alloc, local, "", line, &[], &mut Silent);
     let stay = local.machine.piece(1, 0).is_ok() && local.machine.piece(pins, 0).is_ok();
     (done.is_answered, done.asked, done.is_whole.is_some(), stay)
 }

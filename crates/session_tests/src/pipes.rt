@@ -1,6 +1,6 @@
 //! A dump of two pages, through the pipe, and what a gauge sees of it.
 use crate::dumps::pump_state;
-use crate::saves::saved;
+use crate::saves::save_seen;
 use crate::sessions::{is_answered, new_local};
 use dump_pump::{Pumped, WriteOutlet};
 use heap_scripts::{Machine, new};
@@ -86,7 +86,7 @@ fn saved_beside<R: Threads + Wait + Sync>(
         rises: true,
         ended: 0,
     };
-    let done = saved(rt, alloc, local, "", SAVED, text, &mut notes);
+    let done = save_seen(rt, alloc, local, "", SAVED, text, &mut notes);
     let whole = done.pumped == Some(Pumped::Done { bytes: 66412 });
     let same = text.len() == MANY_SIZE && done.is_whole == Some(true) && done.is_answered;
     (whole && same, notes)

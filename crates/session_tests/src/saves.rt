@@ -58,7 +58,7 @@ fn saved_at<I: Inlet, O: Outlet, P: Outlets, G: Gauge, R: Threads + Wait + Sync>
 }
 
 /// Saves a session of these lines, which a gauge sees, whose answers and whose dump have to be these.
-pub fn saved<G: Gauge, R: Threads + Wait + Sync>(
+pub fn save_seen<G: Gauge, R: Threads + Wait + Sync>(
     rt: &R,
     alloc: Global,
     local: &mut Local,
@@ -97,7 +97,7 @@ fn point_saved_in<R: Threads + Wait + Sync>(
 ) -> Option<SaveSight> {
     let text = hex::decode(alloc, DUMP_OF_ONE_POINT).ok()?;
     let text = text.as_slice();
-    Some(saved(rt, alloc, local, POINT, POINT_SAVED, text, &mut Silent))
+    Some(save_seen(rt, alloc, local, POINT, POINT_SAVED, text, &mut Silent))
 }
 
 // Does so on a new machine.

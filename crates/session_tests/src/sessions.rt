@@ -20,7 +20,7 @@ pub fn new_local(alloc: Global, regions: u64) -> Option<Local> {
 }
 
 /// Returns how a session ends, with its reader and its writer.
-pub fn served<R: Read + Drop, W: Write + Drop>(
+pub fn serve_over<R: Read + Drop, W: Write + Drop>(
     alloc: Global,
     local: &mut Local,
     reader: R,
@@ -34,7 +34,7 @@ pub fn served<R: Read + Drop, W: Write + Drop>(
 
 /// Returns what the session of some lines writes, or None if it doesn't end at their end.
 pub fn answers(alloc: Global, local: &mut Local, lines: &[u8]) -> Option<Vec<u8>> {
-    match served(alloc, local, lines, Vec::new(alloc)) {
+    match serve_over(alloc, local, lines, Vec::new(alloc)) {
         (Ended::Eof, _, text) => Some(text),
         _ => None,
     }
@@ -42,6 +42,6 @@ pub fn answers(alloc: Global, local: &mut Local, lines: &[u8]) -> Option<Vec<u8>
 
 /// Tells whether the session of some lines writes a text, and ends at their end.
 pub fn is_answered(alloc: Global, local: &mut Local, lines: &[u8], text: &[u8]) -> bool {
-    let (ended, _, sink) = served(alloc, local, lines, Sink::new(text));
+    let (ended, _, sink) = serve_over(alloc, local, lines, Sink::new(text));
     ended == Ended::Eof && sink.is_whole()
 }

@@ -31,7 +31,7 @@ type Went = (Ending, u64, u64, Pumped);
 
 // Feeds the parts of a pin to a pipe, and counts in a word how often the source is asked. Returns how that ended, and how many
 // parts were given.
-fn fed<L: Heap, R: Wait>(
+fn feed_counted<L: Heap, R: Wait>(
     rt: &R,
     shared: &Shared<L>,
     pin: u64,
@@ -51,7 +51,7 @@ fn fed<L: Heap, R: Wait>(
 }
 
 // Drains a pipe into a sink. Returns how that went, and the sink.
-fn drained<'a, R: Wait>(
+fn drain_into<'a, R: Wait>(
     rt: &R,
     receiver: &Receiver,
     end: End,
@@ -95,14 +95,14 @@ fn by_two<'a, L: Heap + Send + Sync, R: Threads + Wait + Sync>(
         rt,
         move || -> (Ending, u64)
             requires { IsSeatAt (sends_on sender) one × (view one ≡ Sends []) }
-        { fed(rt, shared, pin, &sender, one, asked_now) },
+        { feed_counted(rt, shared, pin, &sender, one, asked_now) },
         move || -> (u64, Pumped, Sink)
             requires { IsSeatAt (receives_on receiver) other × (view other ≡ Gets [])
                 × (out ≡ sum meter.now 0) }
         {
             reaches(asked_now, first);
             let count = asked_now.load(Ordering::SeqCst);
-            let (pumped, sink) = drained(rt, &receiver, other, sink, meter, out);
+            let (pumped, sink) = drain_into(rt, &receiver, other, sink, meter, out);
             (count, pumped, sink)
         },
     );
@@ -110,7 +110,7 @@ fn by_two<'a, L: Heap + Send + Sync, R: Threads + Wait + Sync>(
 }
 
 // Does so with a new pipe and a new meter, for a new pin, which is closed. None if one of them is refused.
-fn piped<'a, L: Heap + Send + Sync, R: Threads + Wait + Sync>(
+fn pipe_whole<'a, L: Heap + Send + Sync, R: Threads + Wait + Sync>(
     rt: &R,
     alloc: Global,
     shared: &Shared<L>,
@@ -140,7 +140,7 @@ pub fn nine_asked<L: Heap + Send + Sync, R: Threads + Wait + Sync>(
 ) -> Option<bool> {
     let sink = Sink::new(&[]);
     let made = has_points(rt, alloc, shared, &mut five.user, 2000);
-    let (went, sink) = piped(rt, alloc, shared, sink, 9)?;
+    let (went, sink) = pipe_whole(rt, alloc, shared, sink, 9)?;
     let wanted = (Ending::Whole, 19, 9, Pumped::Done { bytes: 66412 });
     Some(made && went == wanted && sink.taken == 66412)
 }
@@ -153,7 +153,7 @@ fn pipe_needs_two(rt: HostRuntime) -> Result<(), Fail> {
 
 // Returns how a pipe goes into an outlet that fails after this number of bytes of the dump of one point, if they are fewer than
 // all.
-fn wanted(most: usize) -> Pumped {
+fn wanted_end(most: usize) -> Pumped {
     let bytes = most as u64;
     if most < 301 {
         Pumped::OutletFailed { bytes }
@@ -172,12 +172,12 @@ fn fails_as_told<L: Heap + Send + Sync, R: Threads + Wait + Sync>(
 ) -> Option<bool> {
     let room = sink.room;
     let text = sink.rest;
-    let ((ending, given, _, pumped), sink) = piped(rt, alloc, shared, sink, 0)?;
+    let ((ending, given, _, pumped), sink) = pipe_whole(rt, alloc, shared, sink, 0)?;
     let (again, _, whole) = pumped_now(rt, shared, Sink::new(text))?;
     Some(
-        (ending, given, pumped) == (Ending::Whole, 3, wanted(room))
+        (ending, given, pumped) == (Ending::Whole, 3, wanted_end(room))
             && sink.has_first(room)
-            && again == wanted(301)
+            && again == wanted_end(301)
             && whole.is_whole(),
     )
 }

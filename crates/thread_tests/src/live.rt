@@ -2,7 +2,7 @@
 ghost use Rattle.std.specs.Prelude.{◌≡◌};
 ghost use denote.Param.Send.{IsSync};
 
-use crate::shared::{acts, live_pin, pumped, put_x, streamed};
+use crate::shared::{acts, live_pin, pump_into, put_x, stream_into};
 use crate::sinks::{Gated, reaches};
 use dump_pipe::{AskSeat, Cancel};
 use dump_pump::Pumped;
@@ -48,7 +48,7 @@ pub fn pumped_beside<L: Heap + Send + Sync, R: Threads + Wait + Sync>(
         move || write_once_held(rt, shared, mutator, here, gate),
         move || {
             let writer = Gated::new(text, 0, here, gate);
-            let (pumped, _, writer) = pumped(rt, shared, pin, writer);
+            let (pumped, _, writer) = pump_into(rt, shared, pin, writer);
             (pumped, writer.sink.taken, writer.sink.is_text)
         },
     )
@@ -64,7 +64,7 @@ fn streamed_seen<L: Heap + Send + Sync, R: Threads + Wait + Sync>(
 ) -> Seen
     requires { seats.out.sum ≡ 0 }
 {
-    let (pumped, writer) = streamed(rt, alloc, live, writer, seats);
+    let (pumped, writer) = stream_into(rt, alloc, live, writer, seats);
     (pumped, writer.sink.taken, writer.sink.is_text)
 }
 

@@ -5,7 +5,7 @@ ghost use Rattle.dump_pipe.specs.Seats.{sum};
 
 use crate::meters::{FourSeats, new_meter, stream_seats};
 use crate::scenes::{Scene, Stage, play_scene};
-use crate::shared::{has_points, live_pin, opened_pin, pumped_now, streamed};
+use crate::shared::{has_points, live_pin, opened_pin, pumped_now, stream_into};
 use crate::sinks::{Gated, TURNS, reaches};
 use dump_pipe::{Counter, Meter, OutSeat, Progress, ReadSeat, pump_counted};
 use dump_pump::{Pumped, WriteOutlet};
@@ -86,7 +86,7 @@ fn read_by_two<L: Heap + Send + Sync, R: Threads + Wait + Sync>(
             requires { IsSync R.row × (seats.out.sum ≡ 0) }
         {
             let writer = Gated::new(&[], 1, here, gate);
-            let (pumped, writer) = streamed(rt, alloc, live_pin(rt, shared, pin), writer, seats);
+            let (pumped, writer) = stream_into(rt, alloc, live_pin(rt, shared, pin), writer, seats);
             done.store(1, Ordering::SeqCst);
             (pumped, writer.sink.taken)
         },
@@ -134,7 +134,7 @@ pub fn unread<L: Heap + Send + Sync, R: Threads + Wait + Sync>(
         meter.cancel().ask(&mut asker);
     }
     let seats = stream_seats(&meter, out, feed);
-    let (pumped, sink) = streamed(rt, alloc, live_pin(rt, shared, pin), sink, seats);
+    let (pumped, sink) = stream_into(rt, alloc, live_pin(rt, shared, pin), sink, seats);
     Some((pumped, sink.taken))
 }
 
@@ -191,7 +191,7 @@ fn counted_of<L: Heap, R: Wait>(
 }
 
 // Does so with a new pin and a new meter.
-fn counted<L: Heap, R: Wait>(
+fn counted_run<L: Heap, R: Wait>(
     rt: &R,
     alloc: Global,
     shared: &Shared<L>,
@@ -213,8 +213,8 @@ pub fn counted_pumps<L: Heap + Send + Sync, R: Threads + Wait + Sync>(
     Stage(rt, alloc, shared, five): Stage<'_, L, R>,
 ) -> Option<bool> {
     let made = has_points(rt, alloc, shared, &mut five.user, 30);
-    let whole = counted(rt, alloc, shared, usize::MAX)?;
-    let failed = counted(rt, alloc, shared, 200)?;
+    let whole = counted_run(rt, alloc, shared, usize::MAX)?;
+    let failed = counted_run(rt, alloc, shared, 200)?;
     Some(
         made && whole == (DONE, 1258, 1258)
             && failed == (Pumped::OutletFailed { bytes: 200 }, 200, 200),

@@ -101,7 +101,7 @@ pub fn live_pin<'a, L: Heap, R: Wait>(rt: &R, shared: &'a Shared<L>, pin: u64) -
 }
 
 /// Streams the dump of a pin into a writer. Returns how it went, and the writer.
-pub fn streamed<L: Heap + Send + Sync, W: Write + Drop, R: Threads + Wait + Sync>(
+pub fn stream_into<L: Heap + Send + Sync, W: Write + Drop, R: Threads + Wait + Sync>(
     rt: &R,
     alloc: Global,
     live: LivePin<'_, L>,
@@ -116,7 +116,7 @@ pub fn streamed<L: Heap + Send + Sync, W: Write + Drop, R: Threads + Wait + Sync
 }
 
 /// Pumps the dump of a pin into a writer. Returns how it went, how many parts were given, and the writer.
-pub fn pumped<L: Heap, W: Write + Drop, R: Wait>(
+pub fn pump_into<L: Heap, W: Write + Drop, R: Wait>(
     rt: &R,
     shared: &Shared<L>,
     pin: u64,
@@ -135,7 +135,7 @@ pub fn pumped_now<L: Heap, W: Write + Drop, R: Wait>(
     writer: W,
 ) -> Option<(Pumped, u64, W)> {
     let pin = opened_pin(rt, shared)?;
-    let went = pumped(rt, shared, pin, writer);
+    let went = pump_into(rt, shared, pin, writer);
     closes_pin(rt, shared, pin);
     Some(went)
 }

@@ -133,6 +133,7 @@ fn rewound(alloc: Global, config: Config) -> Result<u64, Refusal> {
     machine.rewind(3)
 }
 
+// Runs the actors, dumps beside them, and prints what they did.
 fn main(rt: HostRuntime) -> io::Result<()> {
     let file = fs::create(&rt, FILE)?;
     let Some(config) = Config::new(REGIONS, 2, 1024) else {

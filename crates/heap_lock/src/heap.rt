@@ -137,6 +137,7 @@ fn take_step(machine: &mut Machine, action: &Action) -> Option<Outcome>
 }
 
 impl<L: Heap> Seat<L> {
+    // Makes a seat of its parts.
     pub(crate) fn of(number: u64, role: Role, share: Badge<SeatView>) -> Seat<L>
         requires { IsChair L.tables number share }
         ensures { result ≡ record { number = number; role = role; share = tally_in share.views } }
@@ -177,6 +178,7 @@ impl<L: Heap> Seat<L> {
 }
 
 impl<L: Heap> Kept<L> {
+    // Makes what the lock keeps of its parts.
     pub(crate) fn of(
         machine: Machine,
         chronicle: Chronicle,
@@ -295,6 +297,7 @@ pub struct Shared<L: Heap> {
 }
 
 impl<L: Heap> Shared<L> {
+    // Makes the heap that its users share of what the lock keeps.
     pub(crate) fn of(config: Config, kept: Kept<L>) -> Shared<L>
         requires { config ≡ L.config }
     {

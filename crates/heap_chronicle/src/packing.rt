@@ -130,7 +130,7 @@ fn pack_answer(answer: Answer) -> AnswerPack
 
 // Returns the numbers of what a sweep answers.
 fn pack_swept(dead: u64, emptied: bool) -> AnswerPack
-    ensures { outcome_by result ≡ Said (Swept dead emptied) }
+    ensures { outcome_by result ≡ Said (Swept emptied dead) }
 {
     if emptied {
         answer_pack(Told::Emptied, dead, 0)

@@ -15,24 +15,28 @@ use heap_class::{ClassNo, Kind, LostCause, Refusal};
 use heap_step::{Answer, Event};
 use heap_trail::Action;
 
+// Returns the action that makes an object array.
 fn new_array(m: u64, r: u64, class: ClassNo, len: u64) -> Action
     ensures { result ≡ Step (NewArray m r class len) }
 {
     Action::Step(Event::NewArray { m, r, class, len })
 }
 
+// Returns the action that makes an array of values.
 fn new_prim(m: u64, r: u64, kind: Kind, len: u64) -> Action
     ensures { result ≡ Step (NewPrim m r kind len) }
 {
     Action::Step(Event::NewPrim { m, r, kind, len })
 }
 
+// Returns the action that reads a slot.
 fn load(m: u64, to: u64, from: u64, slot: u64) -> Action
     ensures { result ≡ Step (Load m to from slot) }
 {
     Action::Step(Event::Load { m, to, from, slot })
 }
 
+// Returns the action that writes a reference slot.
 fn store(m: u64, target: u64, slot: u64, source: u64) -> Action
     ensures { result ≡ Step (Store m target slot source) }
 {
@@ -44,6 +48,7 @@ fn store(m: u64, target: u64, slot: u64, source: u64) -> Action
     })
 }
 
+// Returns the action that writes a value slot.
 fn put(m: u64, target: u64, slot: u64, value: u64) -> Action
     ensures { result ≡ Step (Put m target slot value) }
 {
@@ -55,6 +60,7 @@ fn put(m: u64, target: u64, slot: u64, value: u64) -> Action
     })
 }
 
+// Returns the action that copies a register.
 fn copy(m: u64, to: u64, from_m: u64, from: u64) -> Action
     ensures { result ≡ Step (Move m to from_m from) }
 {
@@ -148,8 +154,9 @@ fn refusal_from(number: u8, first: u64, second: u64) -> Refusal
     }
 }
 
+// Returns the answer of a sweep.
 fn swept(dead: u64, emptied: bool) -> Outcome
-    ensures { result ≡ Said (Swept dead emptied) }
+    ensures { result ≡ Said (Swept emptied dead) }
 {
     Outcome::Answered(Answer::Swept { dead, emptied })
 }

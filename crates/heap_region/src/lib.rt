@@ -98,6 +98,7 @@ impl Regions {
     /// Makes an object of `len` slots, each 0, and returns its place and whether its region was taken from the pool. Fails with
     /// TooLarge if `len` is more than 1,024, with HeapFull if no region has a free cell of its size and the pool is empty, and
     /// with NoMemory if a region's storage can't be allocated.
+    #[inline(always)]
     pub fn alloc(&mut self, kind: ObjKind, len: u64, mark: bool) -> Result<(ObjRef, bool), Refusal>
         ensures answered { IsAnswered (alloc_refusal len self.old) (is_fresh len self.old) result }
         ensures placed { IfOk result (λ p. new_place len self.old ≡ Some p) }
@@ -274,6 +275,7 @@ impl Regions {
     }
 
     /// Returns the id of a cell: the address of its first word.
+    #[inline(always)]
     pub fn id(&self, at: ObjRef) -> u64
         ensures value { result ≡ id_of self.now.regions at }
     {
@@ -552,6 +554,7 @@ impl Regions {
     }
 
     // Returns the head of the free list of the lowest region that has a free cell of this size.
+    #[inline(always)]
     fn place_for(&self, size: usize) -> Option<ObjRef>
         requires { IsCellSize size }
         ensures { result
@@ -574,6 +577,7 @@ impl Regions {
     }
 
     // Puts a new object into the cell that heads its region's free list.
+    #[inline(always)]
     #[tactic(auto, using(crate::proofs::SlotChanges::used_slots))]
     fn take_at(&mut self, at: ObjRef, kind: ObjKind, len: usize, mark: bool)
         requires { IsSomeAnd (used_at self.old.regions at.region)

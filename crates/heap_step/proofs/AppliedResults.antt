@@ -79,10 +79,10 @@ sweep_tells region s = go (is_emptied region s)
     go false = (refl, refl)
 
 pub sweep_answer_is : (w : HeapState) (region : ℕ) (r : Reclaimed) (dead : ℕ) (emptied : Bool) → r ≡ reclaimed region (pool_of w) → dead ≡ reclaimed_dead r → emptied ≡ reclaimed_emptied r
-    → Answer.Swept dead emptied ≡ Answer.Swept (length (dead_at region (pool_of w))) (is_emptied region (pool_of w))
+    → Answer.Swept emptied dead ≡ Answer.Swept (is_emptied region (pool_of w)) (length (dead_at region (pool_of w)))
 sweep_answer_is w region r dead emptied is counted told =
     let tells = sweep_tells region (pool_of w) in
-    λ i. Answer.Swept ((counted ∙ ap reclaimed_dead is ∙ tells.0) i) ((told ∙ ap reclaimed_emptied is ∙ tells.1) i)
+    λ i. Answer.Swept ((told ∙ ap reclaimed_emptied is ∙ tells.1) i) ((counted ∙ ap reclaimed_dead is ∙ tells.0) i)
 
 pub slot_answer_is : (w : HeapState) (x slot word : ℕ) (reference : Bool) → word ≡ word_of w x slot → reference ≡ is_reference_slot w x slot
     → (if reference then object_or_null word else Value word) ≡ (if is_reference_slot w x slot then object_or_null (word_of w x slot) else Value (word_of w x slot))

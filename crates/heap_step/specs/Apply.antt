@@ -157,7 +157,7 @@ model_of Event.Finish = record {
 model_of (Event.Sweep region) = record {
   refusal = λ w. sweep_refusal region (pool_of w);
   after = λ w. after_sweep region w;
-  answer = λ w v. Swept (length (dead_at region (pool_of w))) (is_emptied region (pool_of w));
+  answer = λ w v. Swept (is_emptied region (pool_of w)) (length (dead_at region (pool_of w)));
   left = λ w. sweep_record region w;
   may_grow = λ w. copies_dead region (pool_of w);
 }

@@ -15,11 +15,45 @@ use heap_class::{ClassNo, Fields, Kind, Name, Refusal};
 use heap_sweep::Reclaimed;
 use heap_world::{Created, Loaded, World};
 
-/// Applies an event by the function of its kind. `load` and `store` are never inlined: with them the function would be too
-/// large for the compiler to inline it into each caller, which knows the kind.
+/// Applies an event. Those that a mutator's line or `mark` asks for are inlined into each caller, which knows the kind: then no
+/// call is given the place of the result, which stays in registers. With more of them the compiler drops the attribute.
 #[inline(always)]
 #[tactic(auto, using(crate::proofs::AppliedResults::as_event))]
 pub fn dispatch(world: &mut World, event: &Event) -> Result<(Answer, Undo), Refusal>
+    requires { IsLegal world.old }
+    ensures { IsApplied event.now world.old world.new result }
+{
+    match event {
+        Event::New { m, r, class } => create(world, *m, *r, *class),
+        Event::Load { m, to, from, slot } => load(world, *m, *to, *from, *slot),
+        Event::Store {
+            m,
+            target,
+            slot,
+            source,
+        } => store(world, *m, *target, *slot, *source),
+        Event::Put {
+            m,
+            target,
+            slot,
+            value,
+        } => put(world, *m, *target, *slot, *value),
+        Event::Move {
+            m,
+            to,
+            from_m,
+            from,
+        } => copy(world, *m, *to, *from_m, *from),
+        Event::Clear { m, r } => clear(world, *m, *r),
+        Event::Mark => mark(world),
+        other => Ok(dispatch_any(world, other)?),
+    }
+}
+
+// Applies an event of any kind by its function.
+#[inline(never)]
+#[tactic(auto, using(crate::proofs::AppliedResults::as_event))]
+fn dispatch_any(world: &mut World, event: &Event) -> Result<(Answer, Undo), Refusal>
     requires { IsLegal world.old }
     ensures { IsApplied event.now world.old world.new result }
 {
@@ -79,6 +113,7 @@ fn define_array(world: &mut World, name: &Name) -> Result<(Answer, Undo), Refusa
 }
 
 // Applies an event that makes an instance of a class.
+#[inline(always)]
 fn create(world: &mut World, m: u64, r: u64, class: ClassNo) -> Result<(Answer, Undo), Refusal>
     requires { IsLegal world.old }
     ensures { IsApplied (Event.New m r class) world.old world.new result }
@@ -118,6 +153,7 @@ fn create_prim(
 }
 
 // Applies an event that reads a slot.
+#[inline(always)]
 fn load(world: &mut World, m: u64, to: u64, from: u64, slot: u64) -> Result<(Answer, Undo), Refusal>
     requires { IsLegal world.old }
     ensures { IsApplied (Event.Load m to from slot) world.old world.new result }
@@ -130,6 +166,7 @@ fn load(world: &mut World, m: u64, to: u64, from: u64, slot: u64) -> Result<(Ans
 }
 
 // Applies an event that writes a reference slot.
+#[inline(always)]
 fn store(
     world: &mut World,
     m: u64,

@@ -116,8 +116,11 @@ pub enum Answer {
     /// The number of objects of the heap that aren't live.
     Condemned(u64),
     /// The number of objects that were removed, and whether that left the region empty.
-    Swept { dead: u64, emptied: bool },
+    Swept { emptied: bool, dead: u64 },
 }
+
+// With the flag behind the number it would be half as large again.
+const _: () = prove!(size_of::<Answer>() <= 16);
 
 /// The record of an accepted event, by which it is undone.
 #[derive(Drop)]

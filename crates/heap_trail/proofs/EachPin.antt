@@ -72,6 +72,20 @@ all_kept left v (suc i) [] (t ∷ ts) k few = absurd (clash k)
 all_kept left v (suc i) (s ∷ ss) [] k few = absurd k
 all_kept left v (suc i) (s ∷ ss) (t ∷ ts) k few = (k.0, all_kept left v i ss ts k.1 (omega (arith, few)))
 
+-- ---- settled pins
+
+-- one more that stays as it is
+pub one_stays : (left : Undo) (v : HeapState) (i : ℕ) (ss : List NumberedPin) (s : NumberedPin) → KeptUpTo left v i ss ss → i < length ss → s ≡ slice_index_or ss i s → MayKeep left v s s → KeptUpTo left v (suc i) ss ss
+one_stays left v i [] s k lt e m = absurd (omega (arith, lt))
+one_stays left v zero (s0 ∷ ss) s k lt e m = (subst (λ (x : NumberedPin). MayKeep left v x x) e m, refl)
+one_stays left v (suc i) (s0 ∷ ss) s k lt e m = (k.0, one_stays left v i ss s k.1 (omega (arith, lt)) e m)
+
+-- one of them has a place for each region
+pub one_sized : (n i : ℕ) (ss : List NumberedPin) (s : NumberedPin) → EachSized n ss → i < length ss → s ≡ slice_index_or ss i s → IsSizedPin n s
+one_sized n i [] s z lt e = absurd (omega (arith, lt))
+one_sized n zero (s0 ∷ ss) s z lt e = subst (λ (x : NumberedPin). IsSizedPin n x) (sym e) z.0
+one_sized n (suc i) (s0 ∷ ss) s z lt e = one_sized n i ss s z.1 (omega (arith, lt)) e
+
 -- ---- a step that touches no region
 
 kept_none : (left : Undo) (v : HeapState) (p : PinContents) → touched left ≡ None → kept left v p ≡ p

@@ -182,7 +182,7 @@ FinishRefusedUntilReady = RepliesAs 16 1024
     ∷ does Drain (Pushed 0)
     ∷ does Drain (Pushed 0)
     ∷ does Finish (Condemned 0)
-    ∷ does (Sweep 0) (Swept 0 false)
+    ∷ does (Sweep 0) (Swept false 0)
     ∷ does Snap (Pushed 3)
     ∷ does Mark (Pushed 0)
     ∷ does Mark (Pushed 0)
@@ -238,7 +238,7 @@ SweepOrderAndReuse = RepliesAs 16 1024
     ∷ does Mark (Pushed 0)
     ∷ does Finish (Condemned 2)
     ∷ does (New 0 3 0) (Made 0x10000060)
-    ∷ does (Sweep 0) (Swept 2 false)
+    ∷ does (Sweep 0) (Swept false 2)
     ∷ does (New 0 4 0) (Made 0x10000020)
     ∷ rewinds 1 11
     ∷ does (New 0 4 0) (Made 0x10000020)
@@ -259,7 +259,7 @@ swept_and_rewound =
     ∷ does Mark (Pushed 0)
     ∷ does Finish (Condemned 1)
     ∷ does Snap (Pushed 1)
-    ∷ does (Sweep 0) (Swept 1 true)
+    ∷ does (Sweep 0) (Swept true 1)
     ∷ does (NewPrim 0 0 Long 17) (Made 0x10000000)
     ∷ rewinds 3 7
     ∷ []

@@ -47,7 +47,7 @@ impl NumberedPin {
     // Tells whether no write to a region matters to the pin: it has a copy of the region, or it is lost.
     #[inline(always)]
     #[tactic(auto, unfolding(crate::specs::OpenPins::is_settled))]
-    fn is_settled(&self, region: u64) -> bool
+    pub(crate) fn is_settled(&self, region: u64) -> bool
         requires { IsRegionWithin region self.now.held }
         ensures { result ≡ is_settled region self.now.held }
     {

@@ -1,7 +1,7 @@
 //! The machine: the current state, the retained past, and the pins on it.
 #![tactic(auto)]
 
-ghost use Rattle.std.specs.Prelude.{◌≡◌, ◌<◌, ◌≤◌, ◌+◌, ◌-◌, ◌^◌, ℕ, List, length, map, None, Some, IfOk, IfErr, OnOk, OnErr};
+ghost use Rattle.std.specs.Prelude.{◌≡◌, true, ◌<◌, ◌≤◌, ◌+◌, ◌-◌, ◌^◌, ℕ, List, length, map, None, Some, IfOk, IfErr, OnOk, OnErr};
 ghost use Rattle.heap_class.specs.declared.IdSize.{IdSize};
 ghost use Rattle.heap_class.specs.declared.Refusal.TheVariants.{NoMemory};
 ghost use Rattle.heap_step.specs.declared.Event.{Event};
@@ -135,12 +135,24 @@ fn keep_each(pins: &mut [NumberedPin], world: &World, left: &Undo)
     }
 }
 
-// Puts a record into the ring. Inlined into the function of each line it would cost more.
-#[inline(never)]
-fn add_record(records: &mut RecordRing, left: Undo)
-    ensures { records.new ≡ with_record left records.old }
+// Tells whether each pin is settled, so that the step that left this record and led to this state leaves all as they are.
+#[inline(always)]
+fn are_settled(pins: &[NumberedPin], world: &World, left: &Undo) -> bool
+    requires step { (e : Event) × (before : HeapState) × IsStep e before world.now left.now }
+    requires sized { EachSized (length world.now.regions) pins.now }
+    ensures { result ≡ true → EachMayKeep left.now world.now pins.now pins.now }
 {
-    records.push_front(left);
+    match touched_region(left) {
+        Some(region) => {
+            for i in 0..pins.len() {
+                if !pins[i].is_settled(region) {
+                    return false;
+                }
+            }
+            true
+        }
+        None => true,
+    }
 }
 
 // Has each pin keep what the step that left this record and led to this state overwrote, and puts the record into the ring.
@@ -155,7 +167,7 @@ fn keep_and_add(pins: &mut [NumberedPin], world: &World, records: &mut RecordRin
     records.push_front(left);
 }
 
-// Does what `keep_and_add` does. Without pins the record goes to the ring at once.
+// Does what `keep_and_add` does. If each pin is settled the record goes to the ring at once.
 #[inline(always)]
 fn remember(pins: &mut [NumberedPin], world: &World, records: &mut RecordRing, left: Undo)
     requires step { (e : Event) × (before : HeapState) × IsStep e before world.now left }
@@ -163,8 +175,8 @@ fn remember(pins: &mut [NumberedPin], world: &World, records: &mut RecordRing, l
     ensures pins { EachMayKeep left world.now pins.old pins.new }
     ensures records { records.new ≡ with_record left records.old }
 {
-    if pins.is_empty() {
-        add_record(records, left);
+    if are_settled(pins, world, &left) {
+        records.push_front(left);
     } else {
         keep_and_add(pins, world, records, left);
     }

@@ -361,6 +361,7 @@ impl World {
 
     /// Makes an instance of a class in register `r` of mutator `m`. Fails with BadRegister, NoClass, WrongKind (an array class)
     /// or HeapFull, in this order, and then with NoMemory if a region's storage can't be allocated.
+    #[inline(never)]
     pub fn new_instance(&mut self, m: u64, r: u64, class: ClassNo) -> Result<Created, Refusal>
         ensures answered { IsAnswered (new_refusal m r class self.old)
             (is_fresh (length (slots_of self.old.classes class)) (pool_of self.old)) result }
@@ -429,6 +430,7 @@ impl World {
     }
 
     // Returns the number of slots of an instance of the class. Fails with BadRegister, NoClass or WrongKind.
+    #[inline(always)]
     fn instance_len(&self, m: u64, r: u64, class: ClassNo) -> Result<u64, Refusal>
         ensures register { OnOk result (IsTrue (is_register self.now m r)) }
         ensures class { OnOk result (is_instance_class self.now.classes class ≡ true) }
@@ -448,6 +450,7 @@ impl World {
     }
 
     // Makes an object of a kind that exists, with `len` slots, in a register. Fails with HeapFull or NoMemory.
+    #[inline(always)]
     fn make(&mut self, m: u64, r: u64, kind: ObjKind, len: u64) -> Result<Created, Refusal>
         requires register { IsTrue (is_register self.old m r) }
         requires kind { HasKind self.old.classes kind len }

@@ -73,7 +73,7 @@ StopsAt Denies P m e n =
 
 -- the number of objects that an answer says were removed
 abbrev pub swept_of : Answer → ℕ
-swept_of (Swept dead emptied) = dead
+swept_of (Swept emptied dead) = dead
 swept_of a = 0
 
 -- the number of objects that an answer says were condemned

@@ -1,5 +1,5 @@
 -- The reading of lines, and which lines allocate for it.
-use Rattle.std.specs.Prelude.{◌≡◌, ◌⊎◌, ℕ, suc, get_or, ◌+◌, ◌-◌, ◌*◌, ◌^◌, ◌<◌, ◌≤◌, All, length, ◌==◌, nat_lt, List, [], ◌∷◌, ◌++◌, take, drop, codes, Option, Some, None, option_map, option_and_then, if◌then◌else◌}
+use Rattle.std.specs.Prelude.{◌≡◌, true, ◌⊎◌, ℕ, suc, get_or, ◌+◌, ◌-◌, ◌*◌, ◌^◌, ◌<◌, ◌≤◌, All, length, ◌==◌, nat_lt, List, [], ◌∷◌, ◌++◌, take, drop, codes, Option, Some, None, option_map, option_and_then, if◌then◌else◌}
 use Rattle.std.specs.Char.{is_ascii_digit}
 use Rattle.std.specs.List.{position_or_len}
 use Rattle.heap_class.specs.declared.Field.{Field}
@@ -103,6 +103,10 @@ IsNumberThen t at ender value end =
     × (NoLf (take at t) → NoLf (take end t))
     × ((n : ℕ) → n ≤ length t → (n ≡ end) ⊎ ((end < n) × (ender ≡ 32))
     → IsNumberFrom (take n t) at value (end + 1))
+
+-- the byte is a digit with this value
+abbrev pub IsDigit : ℕ → ℕ → Type 0
+IsDigit b value = (is_ascii_digit b ≡ true) × (value ≡ b - 48)
 
 -- ---- eight digits at once
 

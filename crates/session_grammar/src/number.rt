@@ -2,7 +2,7 @@
 ghost use Rattle.std.specs.Prelude.{◌≡◌, ◌+◌, ◌^◌, ◌≤◌, ◌<◌, length, drop, codes, IfSome, true};
 ghost use Rattle.std.specs.Str.{bytes_eq};
 ghost use Rattle.session_grammar.specs.Grammar.{number_of_word, number_or_dash};
-ghost use Rattle.session_grammar.specs.Reads.{first_word, with_digit, with_size, IsReadTo, IsReadIn, IsNumberAt, IsNumberThen, AreDigits, BeginsWithEight, four_value};
+ghost use Rattle.session_grammar.specs.Reads.{first_word, with_digit, with_size, IsReadTo, IsReadIn, IsNumberAt, IsNumberThen, AreDigits, BeginsWithEight, IsDigit, four_value};
 
 use crate::words::SPACE;
 
@@ -158,6 +158,19 @@ fn digits_in(text: &[u8], at: usize) -> (u64, usize)
     }
 }
 
+/// Returns the digit that a byte is, if this byte is next. Both are compared at once, as one number.
+#[inline(always)]
+pub fn digit_then(byte: u8, next: u8, ender: u8) -> Option<u64>
+    ensures { IfSome result (λ d. IsDigit byte d × (next ≡ ender)) }
+{
+    let both = u16::from(next) * 256 + u16::from(byte);
+    let digit = both.wrapping_sub(u16::from(ender) * 256 + 48);
+    if digit > 9 {
+        return None;
+    }
+    Some(u64::from(digit))
+}
+
 /// Returns the number at a place of a text, if this byte ends it, and that byte's place; or the text's end if there is no
 /// such number.
 #[inline(always)]
@@ -169,8 +182,8 @@ pub fn number_then(text: &[u8], at: usize, ender: u8) -> (u64, usize)
     if at + 1 >= text.len() {
         return (0, text.len());
     }
-    if text[at].is_ascii_digit() && text[at + 1] == ender {
-        return (u64::from(text[at]) - 48, at + 1);
+    if let Some(digit) = digit_then(text[at], text[at + 1], ender) {
+        return (digit, at + 1);
     }
     let (value, size) = digits_in(text, at);
     let end = at + size;

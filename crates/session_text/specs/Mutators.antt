@@ -1,6 +1,5 @@
 -- Lines that are answered at once.
-use Rattle.std.specs.Prelude.{◌≡◌, ℕ, ◌+◌, ◌-◌, ◌<◌, ◌≤◌, Bool, true, false, List, ◌∷◌, get_or, take, drop, length, codes}
-use Rattle.std.specs.Char.{is_ascii_digit}
+use Rattle.std.specs.Prelude.{◌≡◌, ℕ, ◌+◌, ◌<◌, ◌≤◌, Bool, true, false, List, ◌∷◌, get_or, take, drop, length, codes}
 use Rattle.dump_pump.specs.Outlets.{Outgoing}
 use Rattle.heap_trail.specs.declared.Action.{Action}
 use Rattle.heap_trail.specs.declared.Reply.{Reply}
@@ -14,7 +13,7 @@ use Rattle.session_text.specs.declared.mutator.Verb.TheVariants.{Load, Store, Pu
 use Rattle.session_text.specs.Dumps.{Acts}
 use Rattle.session_grammar.specs.Grammar.{words_of_line, command_of_text, without_cr}
 use Rattle.session_grammar.specs.Lines.{NoLf, IsLineAt}
-use Rattle.session_grammar.specs.Reads.{IsNumberThen}
+use Rattle.session_grammar.specs.Reads.{IsDigit, IsNumberThen}
 use Rattle.session_text.specs.Replies.{reply_text}
 use Rattle.session_text.specs.Writes.{IsTextAdded}
 
@@ -32,17 +31,16 @@ FollowsIn key text at =
 abbrev pub IsShortLine : ℕ → List ℕ → Type 0
 IsShortLine n text = IsLineAt n text × (n ≤ LINE_LIMIT) × (take n text ≡ without_cr (take n text))
 
--- a digit with this value stands at a place of a text, and a space behind it
-abbrev pub IsDigitThen : List ℕ → ℕ → ℕ → Type 0
-IsDigitThen text at value =
-    (at + 1 < length text) × (is_ascii_digit (get_or text at 0) ≡ true)
-    × (get_or text (at + 1) 0 ≡ 32) × (value ≡ get_or text at 0 - 48)
+-- a digit with this value stands at a place of a text, and this byte behind it
+abbrev pub IsDigitThen : List ℕ → ℕ → ℕ → ℕ → Type 0
+IsDigitThen text at ender value =
+    (at + 1 < length text) × IsDigit (get_or text at 0) value × (get_or text (at + 1) 0 ≡ ender)
 
--- three numbers stand at a place, and a space ends each, the last of them at `end`
-abbrev pub AreThreeThen : List ℕ → ℕ → ℕ → ℕ → ℕ → ℕ → Type 0
-AreThreeThen text at a b c end =
+-- three numbers stand at a place; a space ends the first two, and this byte, at `end`, the last
+abbrev pub AreThreeThen : List ℕ → ℕ → ℕ → ℕ → ℕ → ℕ → ℕ → Type 0
+AreThreeThen text at ender a b c end =
     (first : ℕ) × (second : ℕ) × IsNumberThen text at 32 a first
-    × IsNumberThen text (first + 1) 32 b second × IsNumberThen text (second + 1) 32 c end
+    × IsNumberThen text (first + 1) 32 b second × IsNumberThen text (second + 1) ender c end
 
 -- the verb is that of a text's beginning
 abbrev pub IsVerb : List ℕ → Verb → Type 0

@@ -28,7 +28,7 @@ answer_text (Value v) = codes "ok value" ++ and_number v
 answer_text Done = codes "ok"
 answer_text (Pushed n) = codes "ok pushed" ++ and_number n
 answer_text (Condemned n) = codes "ok condemned" ++ and_number n
-answer_text (Swept dead emptied) =
+answer_text (Swept emptied dead) =
     (codes "ok swept" ++ and_number dead) ++ (if emptied then codes " empty" else [])
 
 -- the word of a cause

@@ -8,7 +8,7 @@ ghost use Rattle.session_text.specs.Writes.{IsTextAdded};
 
 use crate::commands::Commands;
 use crate::page::Page;
-use crate::reply::{write_answer, write_reply};
+use crate::reply::{write_answer, write_object, write_reply};
 use crate::write::write_text;
 use dump_pump::Outlet;
 use heap_step::Answer;
@@ -39,6 +39,7 @@ pub fn answer_action<O: Outlet, C: Commands>(
         return write_text(page, writer, b"ok\n");
     }
     match reply {
+        Reply::Answered(Answer::Object(id)) => write_object(page, writer, id),
         Reply::Answered(answer) => write_answer(page, writer, answer),
         other => write_other(page, writer, other),
     }

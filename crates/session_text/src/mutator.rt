@@ -13,7 +13,7 @@ use crate::page::Page;
 use dump_pump::Outlet;
 use heap_step::Event;
 use heap_trail::Action;
-use session_grammar::number::number_then;
+use session_grammar::number::{digit_then, number_then};
 use session_grammar::words::SPACE;
 
 // The beginning of a line that may be answered at once.
@@ -127,6 +127,40 @@ fn two_in(text: &[u8], at: usize) -> Option<(u64, u64, usize)>
     Some((a, b, end))
 }
 
+// Returns the three numbers of one digit that a text begins with, each with a space behind it, and the last with this byte, or
+// None if it begins with others.
+#[inline(always)]
+fn three_digits(text: &[u8], ender: u8) -> Option<(u64, u64, u64)>
+    ensures { IfSome result
+        (λ r. IsDigitThen text.now 0 SPACE r.0 × IsDigitThen text.now 2 SPACE r.1
+        × IsDigitThen text.now 4 ender r.2) }
+{
+    let [a, after_a, b, after_b, c, after_c, ..] = text else {
+        return None;
+    };
+    let a = digit_then(*a, *after_a, SPACE)?;
+    let b = digit_then(*b, *after_b, SPACE)?;
+    let c = digit_then(*c, *after_c, ender)?;
+    Some((a, b, c))
+}
+
+// Returns the three numbers at a place, if a space ends the first two and this byte the last, and that byte's place; or the
+// text's end if there are no such numbers.
+#[inline(always)]
+fn three_then(text: &[u8], at: usize, ender: u8) -> (u64, u64, u64, usize)
+    requires { at ≤ length text.now }
+    ensures numbers { AreThreeThen text.now at ender result.0 result.1 result.2 result.3 }
+    ensures within { result.3 ≤ length text.now }
+{
+    if let Some((a, b, c)) = three_digits(&text[at..], ender) {
+        return (a, b, c, at + 5);
+    }
+    let (a, end) = number_then(text, at, SPACE);
+    let (b, end) = number_then(text, end + 1, SPACE);
+    let (c, end) = number_then(text, end + 1, ender);
+    (a, b, c, end)
+}
+
 // Returns the three numbers that the first line of a text has from a place on, and the line's end, or None if it has others.
 #[inline(always)]
 fn three_in(text: &[u8], at: usize) -> Option<(u64, u64, u64, usize)>
@@ -135,46 +169,11 @@ fn three_in(text: &[u8], at: usize) -> Option<(u64, u64, u64, usize)>
     ensures numbers { IfSome result
         (λ r. three_numbers (words_of_line (drop at (take r.3 text.now))) ≡ Some (r.0, r.1, r.2)) }
 {
-    let (a, end) = number_then(text, at, SPACE);
-    let (b, end) = number_then(text, end + 1, SPACE);
-    let (c, end) = number_then(text, end + 1, LF);
+    let (a, b, c, end) = three_then(text, at, LF);
     if end == text.len() {
         return None;
     }
     Some((a, b, c, end))
-}
-
-// Returns the three numbers of one digit that a text begins with, each with a space behind it, or None if it begins with
-// others.
-#[inline(always)]
-fn three_digits(text: &[u8]) -> Option<(u64, u64, u64)>
-    ensures { IfSome result
-        (λ r. IsDigitThen text.now 0 r.0 × IsDigitThen text.now 2 r.1 × IsDigitThen text.now 4 r.2) }
-{
-    let [a, SPACE, b, SPACE, c, SPACE, ..] = text else {
-        return None;
-    };
-    if !a.is_ascii_digit() || !b.is_ascii_digit() || !c.is_ascii_digit() {
-        return None;
-    }
-    Some((u64::from(*a) - 48, u64::from(*b) - 48, u64::from(*c) - 48))
-}
-
-// Returns the three numbers at a place, if a space ends each, and the place of the last space; or the text's end if there
-// are no such numbers.
-#[inline(always)]
-fn three_then(text: &[u8], at: usize) -> (u64, u64, u64, usize)
-    requires { at ≤ length text.now }
-    ensures numbers { AreThreeThen text.now at result.0 result.1 result.2 result.3 }
-    ensures within { result.3 ≤ length text.now }
-{
-    if let Some((a, b, c)) = three_digits(&text[at..]) {
-        return (a, b, c, at + 5);
-    }
-    let (a, end) = number_then(text, at, SPACE);
-    let (b, end) = number_then(text, end + 1, SPACE);
-    let (c, end) = number_then(text, end + 1, SPACE);
-    (a, b, c, end)
 }
 
 // Returns the four numbers that the first line of a text has from a place on, and the line's end, or None if it has others.
@@ -186,7 +185,7 @@ fn four_in(text: &[u8], at: usize) -> Option<(u64, u64, u64, u64, usize)>
         (λ r. four_numbers (words_of_line (drop at (take r.4 text.now)))
         ≡ Some (r.0, r.1, r.2, r.3)) }
 {
-    let (a, b, c, end) = three_then(text, at);
+    let (a, b, c, end) = three_then(text, at, SPACE);
     let (d, end) = number_then(text, end + 1, LF);
     if end == text.len() {
         return None;

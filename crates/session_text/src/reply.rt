@@ -29,7 +29,7 @@ fn add_object(page: &mut Page, id: u64)
 // Adds the answer of a sweep.
 fn add_swept(page: &mut Page, dead: u64, emptied: bool)
     requires { length page.old ≤ LINE_START }
-    ensures text { page.new ≡ page.old ++ answer_text (Swept dead emptied) }
+    ensures text { page.new ≡ page.old ++ answer_text (Swept emptied dead) }
     ensures short { length page.new ≤ length page.old + 35 }
 {
     page.add(b"ok swept");
@@ -201,6 +201,29 @@ pub fn write_answer<O: Outlet>(page: &mut Page, outlet: &mut O, answer: Answer) 
         return false;
     }
     add_answer_line(page, answer);
+    true
+}
+
+// Adds the line of the answer of an event that made or loaded an object.
+fn add_object_line(page: &mut Page, id: u64)
+    requires { length page.old ≤ LINE_START }
+    ensures { page.new ≡ page.old ++ line (answer_text (Object id)) }
+{
+    add_object(page, id);
+    page.add(b"\n");
+}
+
+/// Does what `write_answer` does with the answer of an event that made or loaded an object, which is the most frequent answer
+/// with a number.
+#[inline(never)]
+pub fn write_object<O: Outlet>(page: &mut Page, outlet: &mut O, id: u64) -> bool
+    ensures { IsTextAdded (reply_text (Answered (Object id))) page.old (O.seen outlet.old)
+        page.new (O.seen outlet.new) result }
+{
+    if !make_room(page, outlet) {
+        return false;
+    }
+    add_object_line(page, id);
     true
 }
 

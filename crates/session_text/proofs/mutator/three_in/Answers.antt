@@ -4,10 +4,12 @@ use Rattle.session_text.proofs.mutator.three_in.Goals as goal
 
 pub returns-clause-line : goal.returns-clause-line
 returns-clause-line c =
-    let lt : c.number_then-c.result.1 < length c.args.text.now = omega (arith, c.number_then-c.ensures.within, c.if-end-text.false) in
-    three_line c.args.text.now c.args.at c.number_then-a.result.0 c.number_then-a.result.1 c.number_then-b.result.0 c.number_then-b.result.1 c.number_then-c.result.0 c.number_then-c.result.1 c.requires.0 c.requires.2 c.number_then-a.ensures.number c.number_then-b.ensures.number c.number_then-c.ensures.number lt
+    let lt : c.three_then-a.result.3 < length c.args.text.now = omega (arith, c.three_then-a.ensures.within, c.if-end-text.false) in
+    let h = c.three_then-a.ensures.numbers in
+    three_line c.args.text.now c.args.at c.three_then-a.result.0 h.0 c.three_then-a.result.1 h.1 c.three_then-a.result.2 c.three_then-a.result.3 c.requires.0 c.requires.2 h.2 h.3 h.4 lt
 
 pub returns-clause-numbers : goal.returns-clause-numbers
 returns-clause-numbers c =
-    let lt : c.number_then-c.result.1 < length c.args.text.now = omega (arith, c.number_then-c.ensures.within, c.if-end-text.false) in
-    three_words c.args.text.now c.args.at c.number_then-a.result.0 c.number_then-a.result.1 c.number_then-b.result.0 c.number_then-b.result.1 c.number_then-c.result.0 c.number_then-c.result.1 c.number_then-a.ensures.number c.number_then-b.ensures.number c.number_then-c.ensures.number lt
+    let lt : c.three_then-a.result.3 < length c.args.text.now = omega (arith, c.three_then-a.ensures.within, c.if-end-text.false) in
+    let h = c.three_then-a.ensures.numbers in
+    three_words c.args.text.now c.args.at c.three_then-a.result.0 h.0 c.three_then-a.result.1 h.1 c.three_then-a.result.2 c.three_then-a.result.3 h.2 h.3 h.4 lt

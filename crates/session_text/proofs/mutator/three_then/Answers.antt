@@ -9,9 +9,9 @@ returns-in-Some-clause-numbers c =
     let h = c.in-Some.ensures in (
       at + 1,
       at + 3,
-      number_there t at 0 at (at + 1) _ (omega arith) (omega arith) c.requires h.0,
-      number_there t at 2 (at + 1 + 1) (at + 3) _ (omega arith) (omega arith) c.requires h.1,
-      number_there t at 4 (at + 3 + 1) (at + 5) _ (omega arith) (omega arith) c.requires h.2,
+      number_there t at 0 at 32 (at + 1) _ (omega arith) (omega arith) c.requires h.0,
+      number_there t at 2 (at + 1 + 1) 32 (at + 3) _ (omega arith) (omega arith) c.requires h.1,
+      number_there t at 4 (at + 3 + 1) c.args.ender (at + 5) _ (omega arith) (omega arith) c.requires h.2,
     )
 
 pub returns-clause-numbers : goal.returns-clause-numbers

@@ -1,6 +1,6 @@
 use Rattle.std.proofs.Common.{◌≡◌, length, arith}
 use Rattle.std.proofs.lemmas.Option.{slice_get_within}
-use Rattle.heap_class.specs.declared.ObjKind.TheVariants.{Instance, Array, Prim}
+use Rattle.heap_class.specs.declared.ObjKind.TheVariants.{Instance, Array}
 use Rattle.heap_class.specs.Classes.{slots_of}
 use Rattle.heap_region.specs.Regions.{object_of}
 use Rattle.heap_region.proofs.ChangedLookups.{object_at_ref}

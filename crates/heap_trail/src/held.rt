@@ -71,7 +71,8 @@ impl NumberedPin {
         }
     }
 
-    // Copies the region that the step touched, as it was before. The pin must have no copy of it, and is lost if memory for the copy can't be allocated.
+    // Copies the region that the step touched, as it was before. The pin must have no copy of it, and is lost if memory for the
+    // copy can't be allocated.
     #[inline(never)]
     fn copy_region(&mut self, world: &World, left: &Undo)
         requires step { (e : Event) × (before : HeapState) × IsStep e before world.now left.now }

@@ -423,8 +423,8 @@ fn answer_rewind<O: Outlet, C: Commands>(
     (quick, end)
 }
 
-/// Answers the first line of a text at once, if it is one of a mutator, `mark` or a rewind, in the shortest form: single spaces, none
-/// at the end. Returns the line's end, too.
+/// Answers the first line of a text at once, if it is one of a mutator, `mark` or a rewind, in the shortest form: single spaces,
+/// none at the end. Returns the line's end, too.
 #[inline(always)]
 pub fn answer_mutator<O: Outlet, C: Commands>(
     text: &[u8],

@@ -10,84 +10,55 @@ ghost use Rattle.heap_step.specs.declared.Undo.{Undo};
 ghost use Rattle.heap_step.specs.Apply.{object_or_null};
 ghost use Rattle.heap_step.specs.Laws.{IsApplied};
 
+use crate::kinds::IntoEvent;
 use crate::{Answer, Event, Undo};
 use heap_class::{ClassNo, Fields, Kind, Name, Refusal};
 use heap_sweep::Reclaimed;
 use heap_world::{Created, Loaded, World};
 
-/// Applies an event. Those that a mutator's line or `mark` asks for are inlined into each caller, which knows the kind: then no
-/// call is given the place of the result, which stays in registers. With more of them the compiler drops the attribute.
-#[inline(always)]
-#[tactic(auto, using(crate::proofs::AppliedResults::as_event))]
-pub fn dispatch(world: &mut World, event: &Event) -> Result<(Answer, Undo), Refusal>
-    requires { IsLegal world.old }
-    ensures { IsApplied event.now world.old world.new result }
-{
-    match event {
-        Event::New { m, r, class } => create(world, *m, *r, *class),
-        Event::Load { m, to, from, slot } => load(world, *m, *to, *from, *slot),
-        Event::Store {
-            m,
-            target,
-            slot,
-            source,
-        } => store(world, *m, *target, *slot, *source),
-        Event::Put {
-            m,
-            target,
-            slot,
-            value,
-        } => put(world, *m, *target, *slot, *value),
-        Event::Move {
-            m,
-            to,
-            from_m,
-            from,
-        } => copy(world, *m, *to, *from_m, *from),
-        Event::Clear { m, r } => clear(world, *m, *r),
-        Event::Mark => mark(world),
-        other => Ok(dispatch_any(world, other)?),
-    }
-}
+impl IntoEvent for Event {
+    ghost event = { λ e. e };
 
-// Applies an event of any kind by its function.
-#[inline(never)]
-#[tactic(auto, using(crate::proofs::AppliedResults::as_event))]
-fn dispatch_any(world: &mut World, event: &Event) -> Result<(Answer, Undo), Refusal>
-    requires { IsLegal world.old }
-    ensures { IsApplied event.now world.old world.new result }
-{
-    match event {
-        Event::Class { name, sup, fields } => define(world, name, *sup, fields),
-        Event::ArrayClass { name } => define_array(world, name),
-        Event::New { m, r, class } => create(world, *m, *r, *class),
-        Event::NewArray { m, r, class, len } => create_array(world, *m, *r, *class, *len),
-        Event::NewPrim { m, r, kind, len } => create_prim(world, *m, *r, *kind, *len),
-        Event::Load { m, to, from, slot } => load(world, *m, *to, *from, *slot),
-        Event::Store {
-            m,
-            target,
-            slot,
-            source,
-        } => store(world, *m, *target, *slot, *source),
-        Event::Put {
-            m,
-            target,
-            slot,
-            value,
-        } => put(world, *m, *target, *slot, *value),
-        Event::Move {
-            m,
-            to,
-            from_m,
-            from,
-        } => copy(world, *m, *to, *from_m, *from),
-        Event::Clear { m, r } => clear(world, *m, *r),
-        Event::Snap => snap(world),
-        Event::Mark => mark(world),
-        Event::Drain => drain(world),
-        Event::Finish => finish(world),
-        Event::Sweep { region } => sweep(world, *region),
+    #[inline(never)]
+    #[tactic(auto, using(crate::proofs::AppliedResults::as_event))]
+    fn apply_to(&self, world: &mut World) -> Result<(Answer, Undo), Refusal> {
+        match self {
+            Event::Class { name, sup, fields } => define(world, name, *sup, fields),
+            Event::ArrayClass { name } => define_array(world, name),
+            Event::New { m, r, class } => create(world, *m, *r, *class),
+            Event::NewArray { m, r, class, len } => create_array(world, *m, *r, *class, *len),
+            Event::NewPrim { m, r, kind, len } => create_prim(world, *m, *r, *kind, *len),
+            Event::Load { m, to, from, slot } => load(world, *m, *to, *from, *slot),
+            Event::Store {
+                m,
+                target,
+                slot,
+                source,
+            } => store(world, *m, *target, *slot, *source),
+            Event::Put {
+                m,
+                target,
+                slot,
+                value,
+            } => put(world, *m, *target, *slot, *value),
+            Event::Move {
+                m,
+                to,
+                from_m,
+                from,
+            } => copy(world, *m, *to, *from_m, *from),
+            Event::Clear { m, r } => clear(world, *m, *r),
+            Event::Snap => snap(world),
+            Event::Mark => mark(world),
+            Event::Drain => drain(world),
+            Event::Finish => finish(world),
+            Event::Sweep { region } => sweep(world, *region),
+        }
+    }
+
+    #[inline(always)]
+    fn into_event(self) -> Event {
+        self
     }
 }
 
@@ -114,7 +85,12 @@ fn define_array(world: &mut World, name: &Name) -> Result<(Answer, Undo), Refusa
 
 // Applies an event that makes an instance of a class.
 #[inline(always)]
-fn create(world: &mut World, m: u64, r: u64, class: ClassNo) -> Result<(Answer, Undo), Refusal>
+pub(crate) fn create(
+    world: &mut World,
+    m: u64,
+    r: u64,
+    class: ClassNo,
+) -> Result<(Answer, Undo), Refusal>
     requires { IsLegal world.old }
     ensures { IsApplied (Event.New m r class) world.old world.new result }
 {
@@ -154,7 +130,13 @@ fn create_prim(
 
 // Applies an event that reads a slot.
 #[inline(always)]
-fn load(world: &mut World, m: u64, to: u64, from: u64, slot: u64) -> Result<(Answer, Undo), Refusal>
+pub(crate) fn load(
+    world: &mut World,
+    m: u64,
+    to: u64,
+    from: u64,
+    slot: u64,
+) -> Result<(Answer, Undo), Refusal>
     requires { IsLegal world.old }
     ensures { IsApplied (Event.Load m to from slot) world.old world.new result }
 {
@@ -167,7 +149,7 @@ fn load(world: &mut World, m: u64, to: u64, from: u64, slot: u64) -> Result<(Ans
 
 // Applies an event that writes a reference slot.
 #[inline(always)]
-fn store(
+pub(crate) fn store(
     world: &mut World,
     m: u64,
     target: u64,
@@ -188,7 +170,7 @@ fn store(
 
 // Applies an event that writes a value slot.
 #[inline(always)]
-fn put(
+pub(crate) fn put(
     world: &mut World,
     m: u64,
     target: u64,
@@ -208,7 +190,7 @@ fn put(
 
 // Applies an event that copies a register.
 #[inline(always)]
-fn copy(
+pub(crate) fn copy(
     world: &mut World,
     m: u64,
     to: u64,
@@ -224,7 +206,7 @@ fn copy(
 
 // Applies an event that makes a register null.
 #[inline(always)]
-fn clear(world: &mut World, m: u64, r: u64) -> Result<(Answer, Undo), Refusal>
+pub(crate) fn clear(world: &mut World, m: u64, r: u64) -> Result<(Answer, Undo), Refusal>
     requires { IsLegal world.old }
     ensures { IsApplied (Event.Clear m r) world.old world.new result }
 {
@@ -242,7 +224,7 @@ fn snap(world: &mut World) -> Result<(Answer, Undo), Refusal>
 
 // Applies an event that marks the children of the newest gray object.
 #[inline(always)]
-fn mark(world: &mut World) -> Result<(Answer, Undo), Refusal>
+pub(crate) fn mark(world: &mut World) -> Result<(Answer, Undo), Refusal>
     ensures { IsApplied Event.Mark world.old world.new result }
 {
     let marked = world.mark()?;

@@ -9,12 +9,16 @@ ghost use Rattle.heap_step.specs.Apply.{refusal_of, state_after};
 ghost use Rattle.heap_step.specs.Laws.{FindsReached, FinishSpares, IdsFit, IsTakenBack, KeepsLegal, StaysFound, SweepSpares};
 
 mod events;
+mod kinds;
 pub mod step;
 
 use heap_class::{ClassNo, Fields, Kind, Name, ObjRef};
 use heap_mark::Log;
 use heap_region::Storage;
 use heap_sweep::DeadCells;
+pub use kinds::{
+    ClearEvent, IntoEvent, LoadEvent, MarkEvent, MoveEvent, NewEvent, PutEvent, StoreEvent,
+};
 use std::mem::size_of;
 pub use step::{apply, weight};
 

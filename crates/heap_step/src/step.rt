@@ -9,8 +9,8 @@ ghost use Rattle.heap_step.specs.Apply.{refusal_of, state_after, applied, event_
 ghost use Rattle.heap_step.specs.Records.{undo_record, weight};
 ghost use Rattle.heap_step.specs.Laws.{IsLight, IsStep, StaysFound};
 
-use crate::events::dispatch;
-use crate::{Answer, Event, Undo};
+use crate::kinds::IntoEvent;
+use crate::{Answer, Undo};
 use heap_class::Refusal;
 use heap_world::World;
 
@@ -18,22 +18,24 @@ use heap_world::World;
 /// nothing then. Fails with NoMemory only if the event may grow and nothing else refuses it. While a cycle runs, marked and
 /// sheltered objects stay marked or sheltered.
 #[inline(always)]
-pub fn apply(world: &mut World, event: &Event) -> Result<(Answer, Undo), Refusal>
-    ensures answered { IsAnswered (refusal_of event.now world.old)
-        (event_may_grow event.now world.old) result }
-    ensures state { IfOk result (λ p. world.new ≡ state_after event.now world.old) }
-    ensures done { IfOk result (λ p. applied event.now world.old ≡ Ok (world.new, p.0)) }
-    ensures recorded { IfOk result (λ p. p.1 ≡ undo_record event.now world.old) }
+pub fn apply<E: IntoEvent>(world: &mut World, event: &E) -> Result<(Answer, Undo), Refusal>
+    ensures answered { IsAnswered (refusal_of (E.event event.now) world.old)
+        (event_may_grow (E.event event.now) world.old) result }
+    ensures state { IfOk result (λ p. world.new ≡ state_after (E.event event.now) world.old) }
+    ensures done { IfOk result
+        (λ p. applied (E.event event.now) world.old ≡ Ok (world.new, p.0)) }
+    ensures recorded { IfOk result (λ p. p.1 ≡ undo_record (E.event event.now) world.old) }
     ensures refused { IfErr result
-        (λ e. (applied event.now world.old ≡ Err e)
-        ⊎ ((refusal_of event.now world.old ≡ None) × (event_may_grow event.now world.old ≡ true)
+        (λ e. (applied (E.event event.now) world.old ≡ Err e)
+        ⊎ ((refusal_of (E.event event.now) world.old ≡ None)
+        × (event_may_grow (E.event event.now) world.old ≡ true)
         × (e ≡ NoMemory))) }
     ensures unchanged { OnErr result (world.new ≡ world.old) }
     ensures legal { IsLegal world.new }
     ensures found { OnOk result (StaysFound world.old world.new) }
 {
     let _phase = world.phase();
-    dispatch(world, event)
+    event.apply_to(world)
 }
 
 /// Undoes the step that left this record and this state. There must be such a step. Takes no memory.

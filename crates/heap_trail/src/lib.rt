@@ -35,7 +35,7 @@ pub use examples::worked_examples;
 use heap_class::{IdSize, Refusal};
 use heap_pins::touched_region;
 use heap_step::step::undo;
-use heap_step::{Answer, Event, Undo, apply, undo_takes_back};
+use heap_step::{Answer, Event, IntoEvent, Undo, apply, undo_takes_back};
 use heap_world::{Config, World};
 use held::NumberedPin;
 use hprof_text::Piece;
@@ -230,16 +230,20 @@ impl Machine {
     /// reached when the cycle began, in the newest retained state in which none ran, is after its finish still there with its
     /// kind and as many words, and live: Yuasa's law.
     #[inline(always)]
-    pub fn step(&mut self, event: &Event) -> Result<Answer, Refusal>
-        ensures done { IfOk result (λ a. MayReply self.old (Step event.now) self.new (Answered a)) }
-        ensures refused { IfErr result (λ e. MayFail self.old (Step event.now) self.new e) }
+    pub fn step<E: IntoEvent>(&mut self, event: &E) -> Result<Answer, Refusal>
+        ensures done { IfOk result
+            (λ a. MayReply self.old (Step (E.event event.now)) self.new (Answered a)) }
+        ensures refused { IfErr result
+            (λ e. MayFail self.old (Step (E.event event.now)) self.new e) }
         ensures unchanged { OnErr result (self.new ≡ self.old) }
         ensures spares { OnOk result
-            ((region : ℕ) → event.now ≡ Sweep region
+            ((region : ℕ) → E.event event.now ≡ Sweep region
             → SparesReached self.old.trail.current self.new.trail.current) }
-        ensures live { OnOk result (event.now ≡ Finish → ReachesLive self.new.trail.current) }
+        ensures live { OnOk result
+            (E.event event.now ≡ Finish → ReachesLive self.new.trail.current) }
         ensures finds { OnOk result
-            (event.now ≡ Finish → FindsSnapshot self.old.trail.past self.new.trail.current) }
+            (E.event event.now ≡ Finish
+            → FindsSnapshot self.old.trail.past self.new.trail.current) }
     {
         if self.place >= LAST_PLACE {
             return Err(Refusal::ChronicleFull);
@@ -293,6 +297,18 @@ impl Machine {
         }
     }
 
+    /// Takes a step and returns its reply, as `act` does.
+    #[inline(always)]
+    pub fn reply_to<E: IntoEvent>(&mut self, event: &E) -> Reply
+        ensures reply { MayReply self.old (Step (E.event event.now)) self.new result }
+        ensures small { IsSmall result }
+    {
+        match self.step(event) {
+            Ok(answer) => Reply::Answered(answer),
+            Err(refusal) => Reply::Refused(refusal),
+        }
+    }
+
     /// Does an action and returns its reply.
     #[inline(always)]
     pub fn act(&mut self, action: &Action) -> Reply
@@ -300,10 +316,7 @@ impl Machine {
         ensures small { IsSmall result }
     {
         match action {
-            Action::Step(event) => match self.step(event) {
-                Ok(answer) => Reply::Answered(answer),
-                Err(refusal) => Reply::Refused(refusal),
-            },
+            Action::Step(event) => self.reply_to(event),
             Action::Rewind(n) => match self.rewind(*n) {
                 Ok(place) => Reply::Place(place),
                 Err(refusal) => Reply::Refused(refusal),

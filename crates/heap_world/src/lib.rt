@@ -361,7 +361,7 @@ impl World {
 
     /// Makes an instance of a class in register `r` of mutator `m`. Fails with BadRegister, NoClass, WrongKind (an array class)
     /// or HeapFull, in this order, and then with NoMemory if a region's storage can't be allocated.
-    #[inline(never)]
+    #[inline(always)]
     pub fn new_instance(&mut self, m: u64, r: u64, class: ClassNo) -> Result<Created, Refusal>
         ensures answered { IsAnswered (new_refusal m r class self.old)
             (is_fresh (length (slots_of self.old.classes class)) (pool_of self.old)) result }

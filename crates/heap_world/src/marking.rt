@@ -37,7 +37,7 @@ impl World {
     /// Pops the newest gray object, and marks and pushes its unmarked children in slot order. Returns the object and the number
     /// of children that were pushed. Fails with NotMarking if no cycle runs, or with NothingToMark if nothing is gray. Takes no
     /// memory.
-    #[inline(never)]
+    #[inline(always)]
     pub fn mark(&mut self) -> Result<Marked, Refusal>
         ensures answered { IsAnswered (mark_refusal (marking_of self.old)) false result }
         ensures marked { OnOk result (self.new ≡ after_mark self.old) }

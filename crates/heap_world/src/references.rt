@@ -13,7 +13,7 @@ use heap_class::{ObjRef, Refusal};
 impl World {
     /// Reads a slot of the object in register `from` of mutator `m`, and writes a reference to register `to`. Fails with
     /// BadRegister, NullRegister or BadSlot, in this order. Takes no memory.
-    #[inline(never)]
+    #[inline(always)]
     pub fn load(&mut self, m: u64, to: u64, from: u64, slot: u64) -> Result<Loaded, Refusal>
         ensures answered { IsAnswered (load_refusal m to from slot self.old) false result }
         ensures loaded { OnOk result (self.new ≡ after_load m to from slot self.old) }
@@ -45,7 +45,7 @@ impl World {
     /// Writes the word of register `source` of mutator `m` to a reference slot of the object in register `target`. Logs the old
     /// reference, if it isn't null, while a cycle runs. Fails with BadRegister, NullRegister, BadSlot or WrongKind (a value
     /// slot), in this order, and then with NoMemory if the log can't grow.
-    #[inline(never)]
+    #[inline(always)]
     pub fn store(
         &mut self,
         m: u64,

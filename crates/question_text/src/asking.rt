@@ -6,6 +6,7 @@ ghost use Rattle.question_text.specs.Sessions.{AnswersLine};
 use crate::answers::answer_line;
 use crate::cycle::{collect, is_collect};
 use crate::watch::Watch;
+use heap_step::IntoEvent;
 use heap_trail::{Action, Reply};
 use session_text::{Commands, LineAnswer, Local};
 use std::alloc::Global;
@@ -40,6 +41,13 @@ impl Commands for Asking<'_> {
     #[inline(always)]
     fn act(&mut self, action: Action) -> Reply {
         let reply = self.local.act(action);
+        self.watch.note_reply(self.local.machine.place(), &reply);
+        reply
+    }
+
+    #[inline(always)]
+    fn step<E: IntoEvent>(&mut self, event: E) -> Reply {
+        let reply = self.local.step(event);
         self.watch.note_reply(self.local.machine.place(), &reply);
         reply
     }

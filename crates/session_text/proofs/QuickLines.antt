@@ -1,20 +1,20 @@
 -- Lines that are answered at once.
-use Rattle.std.proofs.Common.{◌≡◌, Bool, true, false, cond, inl, inr, subst, ◌-◌, take, ne_eqb, ◌≤◌, ◌<◌, ◌+◌, ℕ, List, [], ◌∷◌, Some, codes, drop, length, get_or, arith, refl, ap, sym, ◌∙◌}
-use Rattle.std.specs.Prelude.{◌==◌, suc, unwrap_or, option_map, option_and_then}
-use Rattle.std.proofs.lemmas.List.{drop_all, length-take-le, get_or-take}
-use Rattle.heap_step.specs.declared.Event.TheVariants.{Load, Store, Put, Move, Clear, New, Mark}
-use Rattle.heap_trail.specs.declared.Action.TheVariants.{Step, Rewind}
+use Rattle.std.proofs.Common.{◌≡◌, Bool, true, false, cond, inl, inr, subst, ◌-◌, take, ne_eqb, ◌≤◌, ◌<◌, ◌+◌, ℕ, List, [], ◌∷◌, ◌++◌, Some, codes, drop, length, get_or, arith, refl, ap, sym, ◌∙◌}
+use Rattle.std.specs.Prelude.{◌==◌, suc, Option, unwrap_or, option_map, option_and_then}
+use Rattle.std.proofs.lemmas.List.{drop_all, length-take-le, get_or-take, take-append-drop, take-take}
+use Rattle.std.proofs.Math.Seq.{take-add}
+use Rattle.heap_step.specs.declared.Event.TheVariants.{Mark}
+use Rattle.heap_trail.specs.declared.Action.{Action}
 use Rattle.session_grammar.specs.declared.command.Command.{Command}
 use Rattle.session_grammar.specs.declared.command.Command.TheVariants.{Bad, Ask}
 use Rattle.session_grammar.specs.Grammar.{words_of_line, next_number, at_end, one_number, two_numbers, three_numbers, four_numbers, new_line, load_line, store_line, put_line, move_line, clear_line, step_line, rewind_line, making_rules, access_rules, marking_rules, session_rules, by_rule, without_cr, command_of_text, command_of}
 use Rattle.session_grammar.specs.Reads.{IsNumberFrom, IsNumberThen, plain_class_rules, plain_rules}
 use Rattle.session_grammar.specs.Lines.{NoLf}
-use Rattle.session_text.specs.Mutators.{Follows, FollowsIn, IsActionAsked, IsPassed, IsQuickIn, IsShortLine}
+use Rattle.session_text.specs.Mutators.{FollowsIn, IsActionAsked, IsActionDone, IsPassed, IsQuick, IsQuickIn, IsShortLine, quick_of}
 use Rattle.session_text.specs.declared.mutator.Quick.{Quick}
 use Rattle.session_text.specs.declared.mutator.Quick.TheVariants.{No, Next, Fault}
 use Rattle.dump_pump.specs.Outlets.{Outgoing}
-use Rattle.session_text.specs.declared.answer.Flow.{Flow as Outcome}
-use Rattle.session_text.specs.declared.answer.Flow.TheVariants.{Next as Goes, Fault as Fails}
+use Rattle.session_text.specs.declared.answer.Flow.{Flow}
 use Rattle.session_text.specs.Answers.{Reaction, AnswerRelation, AnswersCommand, Begins, AnswersTo, BeginsTo}
 use Rattle.session_text.specs.Dumps.{Acts}
 use Rattle.session_text.specs.Endings.{flow_of}
@@ -64,174 +64,84 @@ rewind_rule ws = refl
 
 -- ---- keywords
 
-byte_then : (t : List ℕ) (i b : ℕ) (l : List ℕ) → i < length t → get_or t i 0 ≡ b → drop (i + 1) t ≡ l → drop i t ≡ b ∷ l
-byte_then t i b l lt e rest = cut t i lt ∙ ap (λ x. x ∷ drop (i + 1) t) e ∙ ap (λ r. b ∷ r) rest
+other_byte : (t : List ℕ) (i b : ℕ) → get_or t i 0 ≡ b → (b == 10) ≡ false → (get_or t i 0 == 10) ≡ false
+other_byte t i b e other = ap (λ x. x == 10) e ∙ other
+
+-- a text's first bytes are these, and no line ends in them
+record Begun (t : List ℕ) (n : ℕ) (bytes : List ℕ) : Type 0 where
+  within : n ≤ length t
+  are : take n t ≡ bytes
+  one : NoLf (take n t)
+
+nothing : (t : List ℕ) → Begun t 0 []
+nothing t = record { within = omega arith; are = refl; one = none_yet t }
+
+-- one more byte
+more : (t : List ℕ) (i b : ℕ) (l : List ℕ) → i < length t → get_or t i 0 ≡ b → (b == 10) ≡ false → Begun t i l → Begun t (i + 1) (l ++ b ∷ [])
+more t i b l lt e other before = record {
+  within = omega (arith, lt);
+  are = take-add i 1 t ∙ ap (λ r. take i t ++ take 1 r) (cut t i lt) ∙ ap (λ x. take i t ++ x ∷ []) e ∙ ap (λ p. p ++ b ∷ []) before.are;
+  one = no_lf_more t i lt (other_byte t i b e other) before.one;
+}
+
+-- each line of a text that begins with a keyword and a space has the keyword, and the words behind it
+follows : (t key : List ℕ) (n : ℕ) (bytes : List ℕ) → ((r : List ℕ) → words_of_line (bytes ++ r) ≡ key ∷ words_of_line r) → Begun t n bytes → FollowsIn key t n
+follows t key n bytes read h = (
+  h.within,
+  h.one,
+  λ m low most.
+      let same : take m t ≡ bytes ++ drop n (take m t) = sym (take-append-drop n (take m t)) ∙ ap (λ l. l ++ drop n (take m t)) (take-take n m t low ∙ h.are) in
+      ap words_of_line same ∙ read (drop n (take m t)),
+)
 
 load_word : (r : List ℕ) → words_of_line (108 ∷ 111 ∷ 97 ∷ 100 ∷ 32 ∷ r) ≡ codes "load" ∷ words_of_line r
 unfolding words_of_line
 load_word r = refl
 
-load_follows : (t : List ℕ) → 5 ≤ length t → get_or t 0 0 ≡ 108 → get_or t 1 0 ≡ 111 → get_or t 2 0 ≡ 97 → get_or t 3 0 ≡ 100 → get_or t 4 0 ≡ 32 → Follows (codes "load") t 5
-load_follows t le e0 e1 e2 e3 e4 =
-    let t4 : drop 4 t ≡ 32 ∷ drop 5 t = byte_then t 4 32 (drop 5 t) (omega (arith, le)) e4 refl in
-    let t3 : drop 3 t ≡ 100 ∷ 32 ∷ drop 5 t = byte_then t 3 100 (32 ∷ drop 5 t) (omega (arith, le)) e3 t4 in
-    let t2 : drop 2 t ≡ 97 ∷ 100 ∷ 32 ∷ drop 5 t = byte_then t 2 97 (100 ∷ 32 ∷ drop 5 t) (omega (arith, le)) e2 t3 in
-    let t1 : drop 1 t ≡ 111 ∷ 97 ∷ 100 ∷ 32 ∷ drop 5 t = byte_then t 1 111 (97 ∷ 100 ∷ 32 ∷ drop 5 t) (omega (arith, le)) e1 t2 in
-    let t0 : drop 0 t ≡ 108 ∷ 111 ∷ 97 ∷ 100 ∷ 32 ∷ drop 5 t = byte_then t 0 108 (111 ∷ 97 ∷ 100 ∷ 32 ∷ drop 5 t) (omega (arith, le)) e0 t1 in
-    ap words_of_line t0 ∙ load_word (drop 5 t)
+pub load_in : (t : List ℕ) → 5 ≤ length t → get_or t 0 0 ≡ 108 → get_or t 1 0 ≡ 111 → get_or t 2 0 ≡ 97 → get_or t 3 0 ≡ 100 → get_or t 4 0 ≡ 32 → FollowsIn (codes "load") t 5
+load_in t le e0 e1 e2 e3 e4 = follows t (codes "load") 5 (codes "load ") load_word (more t 4 32 _ (omega (arith, le)) e4 refl (more t 3 100 _ (omega (arith, le)) e3 refl (more t 2 97 _ (omega (arith, le)) e2 refl (more t 1 111 _ (omega (arith, le)) e1 refl (more t 0 108 [] (omega (arith, le)) e0 refl (nothing t))))))
 
 store_word : (r : List ℕ) → words_of_line (115 ∷ 116 ∷ 111 ∷ 114 ∷ 101 ∷ 32 ∷ r) ≡ codes "store" ∷ words_of_line r
 unfolding words_of_line
 store_word r = refl
 
-store_follows : (t : List ℕ) → 6 ≤ length t → get_or t 0 0 ≡ 115 → get_or t 1 0 ≡ 116 → get_or t 2 0 ≡ 111 → get_or t 3 0 ≡ 114 → get_or t 4 0 ≡ 101 → get_or t 5 0 ≡ 32 → Follows (codes "store") t 6
-store_follows t le e0 e1 e2 e3 e4 e5 =
-    let t5 : drop 5 t ≡ 32 ∷ drop 6 t = byte_then t 5 32 (drop 6 t) (omega (arith, le)) e5 refl in
-    let t4 : drop 4 t ≡ 101 ∷ 32 ∷ drop 6 t = byte_then t 4 101 (32 ∷ drop 6 t) (omega (arith, le)) e4 t5 in
-    let t3 : drop 3 t ≡ 114 ∷ 101 ∷ 32 ∷ drop 6 t = byte_then t 3 114 (101 ∷ 32 ∷ drop 6 t) (omega (arith, le)) e3 t4 in
-    let t2 : drop 2 t ≡ 111 ∷ 114 ∷ 101 ∷ 32 ∷ drop 6 t = byte_then t 2 111 (114 ∷ 101 ∷ 32 ∷ drop 6 t) (omega (arith, le)) e2 t3 in
-    let t1 : drop 1 t ≡ 116 ∷ 111 ∷ 114 ∷ 101 ∷ 32 ∷ drop 6 t = byte_then t 1 116 (111 ∷ 114 ∷ 101 ∷ 32 ∷ drop 6 t) (omega (arith, le)) e1 t2 in
-    let t0 : drop 0 t ≡ 115 ∷ 116 ∷ 111 ∷ 114 ∷ 101 ∷ 32 ∷ drop 6 t = byte_then t 0 115 (116 ∷ 111 ∷ 114 ∷ 101 ∷ 32 ∷ drop 6 t) (omega (arith, le)) e0 t1 in
-    ap words_of_line t0 ∙ store_word (drop 6 t)
+pub store_in : (t : List ℕ) → 6 ≤ length t → get_or t 0 0 ≡ 115 → get_or t 1 0 ≡ 116 → get_or t 2 0 ≡ 111 → get_or t 3 0 ≡ 114 → get_or t 4 0 ≡ 101 → get_or t 5 0 ≡ 32 → FollowsIn (codes "store") t 6
+store_in t le e0 e1 e2 e3 e4 e5 = follows t (codes "store") 6 (codes "store ") store_word (more t 5 32 _ (omega (arith, le)) e5 refl (more t 4 101 _ (omega (arith, le)) e4 refl (more t 3 114 _ (omega (arith, le)) e3 refl (more t 2 111 _ (omega (arith, le)) e2 refl (more t 1 116 _ (omega (arith, le)) e1 refl (more t 0 115 [] (omega (arith, le)) e0 refl (nothing t)))))))
 
 put_word : (r : List ℕ) → words_of_line (112 ∷ 117 ∷ 116 ∷ 32 ∷ r) ≡ codes "put" ∷ words_of_line r
 unfolding words_of_line
 put_word r = refl
 
-put_follows : (t : List ℕ) → 4 ≤ length t → get_or t 0 0 ≡ 112 → get_or t 1 0 ≡ 117 → get_or t 2 0 ≡ 116 → get_or t 3 0 ≡ 32 → Follows (codes "put") t 4
-put_follows t le e0 e1 e2 e3 =
-    let t3 : drop 3 t ≡ 32 ∷ drop 4 t = byte_then t 3 32 (drop 4 t) (omega (arith, le)) e3 refl in
-    let t2 : drop 2 t ≡ 116 ∷ 32 ∷ drop 4 t = byte_then t 2 116 (32 ∷ drop 4 t) (omega (arith, le)) e2 t3 in
-    let t1 : drop 1 t ≡ 117 ∷ 116 ∷ 32 ∷ drop 4 t = byte_then t 1 117 (116 ∷ 32 ∷ drop 4 t) (omega (arith, le)) e1 t2 in
-    let t0 : drop 0 t ≡ 112 ∷ 117 ∷ 116 ∷ 32 ∷ drop 4 t = byte_then t 0 112 (117 ∷ 116 ∷ 32 ∷ drop 4 t) (omega (arith, le)) e0 t1 in
-    ap words_of_line t0 ∙ put_word (drop 4 t)
+pub put_in : (t : List ℕ) → 4 ≤ length t → get_or t 0 0 ≡ 112 → get_or t 1 0 ≡ 117 → get_or t 2 0 ≡ 116 → get_or t 3 0 ≡ 32 → FollowsIn (codes "put") t 4
+put_in t le e0 e1 e2 e3 = follows t (codes "put") 4 (codes "put ") put_word (more t 3 32 _ (omega (arith, le)) e3 refl (more t 2 116 _ (omega (arith, le)) e2 refl (more t 1 117 _ (omega (arith, le)) e1 refl (more t 0 112 [] (omega (arith, le)) e0 refl (nothing t)))))
 
 move_word : (r : List ℕ) → words_of_line (109 ∷ 111 ∷ 118 ∷ 101 ∷ 32 ∷ r) ≡ codes "move" ∷ words_of_line r
 unfolding words_of_line
 move_word r = refl
 
-move_follows : (t : List ℕ) → 5 ≤ length t → get_or t 0 0 ≡ 109 → get_or t 1 0 ≡ 111 → get_or t 2 0 ≡ 118 → get_or t 3 0 ≡ 101 → get_or t 4 0 ≡ 32 → Follows (codes "move") t 5
-move_follows t le e0 e1 e2 e3 e4 =
-    let t4 : drop 4 t ≡ 32 ∷ drop 5 t = byte_then t 4 32 (drop 5 t) (omega (arith, le)) e4 refl in
-    let t3 : drop 3 t ≡ 101 ∷ 32 ∷ drop 5 t = byte_then t 3 101 (32 ∷ drop 5 t) (omega (arith, le)) e3 t4 in
-    let t2 : drop 2 t ≡ 118 ∷ 101 ∷ 32 ∷ drop 5 t = byte_then t 2 118 (101 ∷ 32 ∷ drop 5 t) (omega (arith, le)) e2 t3 in
-    let t1 : drop 1 t ≡ 111 ∷ 118 ∷ 101 ∷ 32 ∷ drop 5 t = byte_then t 1 111 (118 ∷ 101 ∷ 32 ∷ drop 5 t) (omega (arith, le)) e1 t2 in
-    let t0 : drop 0 t ≡ 109 ∷ 111 ∷ 118 ∷ 101 ∷ 32 ∷ drop 5 t = byte_then t 0 109 (111 ∷ 118 ∷ 101 ∷ 32 ∷ drop 5 t) (omega (arith, le)) e0 t1 in
-    ap words_of_line t0 ∙ move_word (drop 5 t)
+pub move_in : (t : List ℕ) → 5 ≤ length t → get_or t 0 0 ≡ 109 → get_or t 1 0 ≡ 111 → get_or t 2 0 ≡ 118 → get_or t 3 0 ≡ 101 → get_or t 4 0 ≡ 32 → FollowsIn (codes "move") t 5
+move_in t le e0 e1 e2 e3 e4 = follows t (codes "move") 5 (codes "move ") move_word (more t 4 32 _ (omega (arith, le)) e4 refl (more t 3 101 _ (omega (arith, le)) e3 refl (more t 2 118 _ (omega (arith, le)) e2 refl (more t 1 111 _ (omega (arith, le)) e1 refl (more t 0 109 [] (omega (arith, le)) e0 refl (nothing t))))))
 
 clear_word : (r : List ℕ) → words_of_line (99 ∷ 108 ∷ 101 ∷ 97 ∷ 114 ∷ 32 ∷ r) ≡ codes "clear" ∷ words_of_line r
 unfolding words_of_line
 clear_word r = refl
 
-clear_follows : (t : List ℕ) → 6 ≤ length t → get_or t 0 0 ≡ 99 → get_or t 1 0 ≡ 108 → get_or t 2 0 ≡ 101 → get_or t 3 0 ≡ 97 → get_or t 4 0 ≡ 114 → get_or t 5 0 ≡ 32 → Follows (codes "clear") t 6
-clear_follows t le e0 e1 e2 e3 e4 e5 =
-    let t5 : drop 5 t ≡ 32 ∷ drop 6 t = byte_then t 5 32 (drop 6 t) (omega (arith, le)) e5 refl in
-    let t4 : drop 4 t ≡ 114 ∷ 32 ∷ drop 6 t = byte_then t 4 114 (32 ∷ drop 6 t) (omega (arith, le)) e4 t5 in
-    let t3 : drop 3 t ≡ 97 ∷ 114 ∷ 32 ∷ drop 6 t = byte_then t 3 97 (114 ∷ 32 ∷ drop 6 t) (omega (arith, le)) e3 t4 in
-    let t2 : drop 2 t ≡ 101 ∷ 97 ∷ 114 ∷ 32 ∷ drop 6 t = byte_then t 2 101 (97 ∷ 114 ∷ 32 ∷ drop 6 t) (omega (arith, le)) e2 t3 in
-    let t1 : drop 1 t ≡ 108 ∷ 101 ∷ 97 ∷ 114 ∷ 32 ∷ drop 6 t = byte_then t 1 108 (101 ∷ 97 ∷ 114 ∷ 32 ∷ drop 6 t) (omega (arith, le)) e1 t2 in
-    let t0 : drop 0 t ≡ 99 ∷ 108 ∷ 101 ∷ 97 ∷ 114 ∷ 32 ∷ drop 6 t = byte_then t 0 99 (108 ∷ 101 ∷ 97 ∷ 114 ∷ 32 ∷ drop 6 t) (omega (arith, le)) e0 t1 in
-    ap words_of_line t0 ∙ clear_word (drop 6 t)
+pub clear_in : (t : List ℕ) → 6 ≤ length t → get_or t 0 0 ≡ 99 → get_or t 1 0 ≡ 108 → get_or t 2 0 ≡ 101 → get_or t 3 0 ≡ 97 → get_or t 4 0 ≡ 114 → get_or t 5 0 ≡ 32 → FollowsIn (codes "clear") t 6
+clear_in t le e0 e1 e2 e3 e4 e5 = follows t (codes "clear") 6 (codes "clear ") clear_word (more t 5 32 _ (omega (arith, le)) e5 refl (more t 4 114 _ (omega (arith, le)) e4 refl (more t 3 97 _ (omega (arith, le)) e3 refl (more t 2 101 _ (omega (arith, le)) e2 refl (more t 1 108 _ (omega (arith, le)) e1 refl (more t 0 99 [] (omega (arith, le)) e0 refl (nothing t)))))))
 
 new_word : (r : List ℕ) → words_of_line (110 ∷ 101 ∷ 119 ∷ 32 ∷ r) ≡ codes "new" ∷ words_of_line r
 unfolding words_of_line
 new_word r = refl
 
-new_follows : (t : List ℕ) → 4 ≤ length t → get_or t 0 0 ≡ 110 → get_or t 1 0 ≡ 101 → get_or t 2 0 ≡ 119 → get_or t 3 0 ≡ 32 → Follows (codes "new") t 4
-new_follows t le e0 e1 e2 e3 =
-    let t3 : drop 3 t ≡ 32 ∷ drop 4 t = byte_then t 3 32 (drop 4 t) (omega (arith, le)) e3 refl in
-    let t2 : drop 2 t ≡ 119 ∷ 32 ∷ drop 4 t = byte_then t 2 119 (32 ∷ drop 4 t) (omega (arith, le)) e2 t3 in
-    let t1 : drop 1 t ≡ 101 ∷ 119 ∷ 32 ∷ drop 4 t = byte_then t 1 101 (119 ∷ 32 ∷ drop 4 t) (omega (arith, le)) e1 t2 in
-    let t0 : drop 0 t ≡ 110 ∷ 101 ∷ 119 ∷ 32 ∷ drop 4 t = byte_then t 0 110 (101 ∷ 119 ∷ 32 ∷ drop 4 t) (omega (arith, le)) e0 t1 in
-    ap words_of_line t0 ∙ new_word (drop 4 t)
+pub new_in : (t : List ℕ) → 4 ≤ length t → get_or t 0 0 ≡ 110 → get_or t 1 0 ≡ 101 → get_or t 2 0 ≡ 119 → get_or t 3 0 ≡ 32 → FollowsIn (codes "new") t 4
+new_in t le e0 e1 e2 e3 = follows t (codes "new") 4 (codes "new ") new_word (more t 3 32 _ (omega (arith, le)) e3 refl (more t 2 119 _ (omega (arith, le)) e2 refl (more t 1 101 _ (omega (arith, le)) e1 refl (more t 0 110 [] (omega (arith, le)) e0 refl (nothing t)))))
 
 rewind_word : (r : List ℕ) → words_of_line (114 ∷ 101 ∷ 119 ∷ 105 ∷ 110 ∷ 100 ∷ 32 ∷ r) ≡ codes "rewind" ∷ words_of_line r
 unfolding words_of_line
 rewind_word r = refl
 
-rewind_follows : (t : List ℕ) → 7 ≤ length t → get_or t 0 0 ≡ 114 → get_or t 1 0 ≡ 101 → get_or t 2 0 ≡ 119 → get_or t 3 0 ≡ 105 → get_or t 4 0 ≡ 110 → get_or t 5 0 ≡ 100 → get_or t 6 0 ≡ 32 → Follows (codes "rewind") t 7
-rewind_follows t le e0 e1 e2 e3 e4 e5 e6 =
-    let t6 : drop 6 t ≡ 32 ∷ drop 7 t = byte_then t 6 32 (drop 7 t) (omega (arith, le)) e6 refl in
-    let t5 : drop 5 t ≡ 100 ∷ 32 ∷ drop 7 t = byte_then t 5 100 (32 ∷ drop 7 t) (omega (arith, le)) e5 t6 in
-    let t4 : drop 4 t ≡ 110 ∷ 100 ∷ 32 ∷ drop 7 t = byte_then t 4 110 (100 ∷ 32 ∷ drop 7 t) (omega (arith, le)) e4 t5 in
-    let t3 : drop 3 t ≡ 105 ∷ 110 ∷ 100 ∷ 32 ∷ drop 7 t = byte_then t 3 105 (110 ∷ 100 ∷ 32 ∷ drop 7 t) (omega (arith, le)) e3 t4 in
-    let t2 : drop 2 t ≡ 119 ∷ 105 ∷ 110 ∷ 100 ∷ 32 ∷ drop 7 t = byte_then t 2 119 (105 ∷ 110 ∷ 100 ∷ 32 ∷ drop 7 t) (omega (arith, le)) e2 t3 in
-    let t1 : drop 1 t ≡ 101 ∷ 119 ∷ 105 ∷ 110 ∷ 100 ∷ 32 ∷ drop 7 t = byte_then t 1 101 (119 ∷ 105 ∷ 110 ∷ 100 ∷ 32 ∷ drop 7 t) (omega (arith, le)) e1 t2 in
-    let t0 : drop 0 t ≡ 114 ∷ 101 ∷ 119 ∷ 105 ∷ 110 ∷ 100 ∷ 32 ∷ drop 7 t = byte_then t 0 114 (101 ∷ 119 ∷ 105 ∷ 110 ∷ 100 ∷ 32 ∷ drop 7 t) (omega (arith, le)) e0 t1 in
-    ap words_of_line t0 ∙ rewind_word (drop 7 t)
-
--- ---- keywords of a text's first line
-
-first : (t : List ℕ) (n i : ℕ) → i < n → get_or (take n t) i 0 ≡ get_or t i 0
-first t n i lt = get_or-take n t i 0 lt
-
-other_byte : (t : List ℕ) (i b : ℕ) → get_or t i 0 ≡ b → (b == 10) ≡ false → (get_or t i 0 == 10) ≡ false
-other_byte t i b e other = ap (λ x. x == 10) e ∙ other
-
-pub load_in : (t : List ℕ) → 5 ≤ length t → get_or t 0 0 ≡ 108 → get_or t 1 0 ≡ 111 → get_or t 2 0 ≡ 97 → get_or t 3 0 ≡ 100 → get_or t 4 0 ≡ 32 → FollowsIn (codes "load") t 5
-load_in t le e0 e1 e2 e3 e4 =
-    let n0 : NoLf (take 1 t) = no_lf_more t 0 (omega (arith, le)) (other_byte t 0 108 e0 refl) (none_yet t) in
-    let n1 : NoLf (take 2 t) = no_lf_more t 1 (omega (arith, le)) (other_byte t 1 111 e1 refl) n0 in
-    let n2 : NoLf (take 3 t) = no_lf_more t 2 (omega (arith, le)) (other_byte t 2 97 e2 refl) n1 in
-    let n3 : NoLf (take 4 t) = no_lf_more t 3 (omega (arith, le)) (other_byte t 3 100 e3 refl) n2 in
-    let n4 : NoLf (take 5 t) = no_lf_more t 4 (omega (arith, le)) (other_byte t 4 32 e4 refl) n3 in
-    (le, n4, λ n low most. load_follows (take n t) (omega (arith, length-take-le n t most, low)) (first t n 0 (omega (arith, low)) ∙ e0) (first t n 1 (omega (arith, low)) ∙ e1) (first t n 2 (omega (arith, low)) ∙ e2) (first t n 3 (omega (arith, low)) ∙ e3) (first t n 4 (omega (arith, low)) ∙ e4))
-
-pub store_in : (t : List ℕ) → 6 ≤ length t → get_or t 0 0 ≡ 115 → get_or t 1 0 ≡ 116 → get_or t 2 0 ≡ 111 → get_or t 3 0 ≡ 114 → get_or t 4 0 ≡ 101 → get_or t 5 0 ≡ 32 → FollowsIn (codes "store") t 6
-store_in t le e0 e1 e2 e3 e4 e5 =
-    let n0 : NoLf (take 1 t) = no_lf_more t 0 (omega (arith, le)) (other_byte t 0 115 e0 refl) (none_yet t) in
-    let n1 : NoLf (take 2 t) = no_lf_more t 1 (omega (arith, le)) (other_byte t 1 116 e1 refl) n0 in
-    let n2 : NoLf (take 3 t) = no_lf_more t 2 (omega (arith, le)) (other_byte t 2 111 e2 refl) n1 in
-    let n3 : NoLf (take 4 t) = no_lf_more t 3 (omega (arith, le)) (other_byte t 3 114 e3 refl) n2 in
-    let n4 : NoLf (take 5 t) = no_lf_more t 4 (omega (arith, le)) (other_byte t 4 101 e4 refl) n3 in
-    let n5 : NoLf (take 6 t) = no_lf_more t 5 (omega (arith, le)) (other_byte t 5 32 e5 refl) n4 in
-    (le, n5, λ n low most. store_follows (take n t) (omega (arith, length-take-le n t most, low)) (first t n 0 (omega (arith, low)) ∙ e0) (first t n 1 (omega (arith, low)) ∙ e1) (first t n 2 (omega (arith, low)) ∙ e2) (first t n 3 (omega (arith, low)) ∙ e3) (first t n 4 (omega (arith, low)) ∙ e4) (first t n 5 (omega (arith, low)) ∙ e5))
-
-pub put_in : (t : List ℕ) → 4 ≤ length t → get_or t 0 0 ≡ 112 → get_or t 1 0 ≡ 117 → get_or t 2 0 ≡ 116 → get_or t 3 0 ≡ 32 → FollowsIn (codes "put") t 4
-put_in t le e0 e1 e2 e3 =
-    let n0 : NoLf (take 1 t) = no_lf_more t 0 (omega (arith, le)) (other_byte t 0 112 e0 refl) (none_yet t) in
-    let n1 : NoLf (take 2 t) = no_lf_more t 1 (omega (arith, le)) (other_byte t 1 117 e1 refl) n0 in
-    let n2 : NoLf (take 3 t) = no_lf_more t 2 (omega (arith, le)) (other_byte t 2 116 e2 refl) n1 in
-    let n3 : NoLf (take 4 t) = no_lf_more t 3 (omega (arith, le)) (other_byte t 3 32 e3 refl) n2 in
-    (le, n3, λ n low most. put_follows (take n t) (omega (arith, length-take-le n t most, low)) (first t n 0 (omega (arith, low)) ∙ e0) (first t n 1 (omega (arith, low)) ∙ e1) (first t n 2 (omega (arith, low)) ∙ e2) (first t n 3 (omega (arith, low)) ∙ e3))
-
-pub move_in : (t : List ℕ) → 5 ≤ length t → get_or t 0 0 ≡ 109 → get_or t 1 0 ≡ 111 → get_or t 2 0 ≡ 118 → get_or t 3 0 ≡ 101 → get_or t 4 0 ≡ 32 → FollowsIn (codes "move") t 5
-move_in t le e0 e1 e2 e3 e4 =
-    let n0 : NoLf (take 1 t) = no_lf_more t 0 (omega (arith, le)) (other_byte t 0 109 e0 refl) (none_yet t) in
-    let n1 : NoLf (take 2 t) = no_lf_more t 1 (omega (arith, le)) (other_byte t 1 111 e1 refl) n0 in
-    let n2 : NoLf (take 3 t) = no_lf_more t 2 (omega (arith, le)) (other_byte t 2 118 e2 refl) n1 in
-    let n3 : NoLf (take 4 t) = no_lf_more t 3 (omega (arith, le)) (other_byte t 3 101 e3 refl) n2 in
-    let n4 : NoLf (take 5 t) = no_lf_more t 4 (omega (arith, le)) (other_byte t 4 32 e4 refl) n3 in
-    (le, n4, λ n low most. move_follows (take n t) (omega (arith, length-take-le n t most, low)) (first t n 0 (omega (arith, low)) ∙ e0) (first t n 1 (omega (arith, low)) ∙ e1) (first t n 2 (omega (arith, low)) ∙ e2) (first t n 3 (omega (arith, low)) ∙ e3) (first t n 4 (omega (arith, low)) ∙ e4))
-
-pub clear_in : (t : List ℕ) → 6 ≤ length t → get_or t 0 0 ≡ 99 → get_or t 1 0 ≡ 108 → get_or t 2 0 ≡ 101 → get_or t 3 0 ≡ 97 → get_or t 4 0 ≡ 114 → get_or t 5 0 ≡ 32 → FollowsIn (codes "clear") t 6
-clear_in t le e0 e1 e2 e3 e4 e5 =
-    let n0 : NoLf (take 1 t) = no_lf_more t 0 (omega (arith, le)) (other_byte t 0 99 e0 refl) (none_yet t) in
-    let n1 : NoLf (take 2 t) = no_lf_more t 1 (omega (arith, le)) (other_byte t 1 108 e1 refl) n0 in
-    let n2 : NoLf (take 3 t) = no_lf_more t 2 (omega (arith, le)) (other_byte t 2 101 e2 refl) n1 in
-    let n3 : NoLf (take 4 t) = no_lf_more t 3 (omega (arith, le)) (other_byte t 3 97 e3 refl) n2 in
-    let n4 : NoLf (take 5 t) = no_lf_more t 4 (omega (arith, le)) (other_byte t 4 114 e4 refl) n3 in
-    let n5 : NoLf (take 6 t) = no_lf_more t 5 (omega (arith, le)) (other_byte t 5 32 e5 refl) n4 in
-    (le, n5, λ n low most. clear_follows (take n t) (omega (arith, length-take-le n t most, low)) (first t n 0 (omega (arith, low)) ∙ e0) (first t n 1 (omega (arith, low)) ∙ e1) (first t n 2 (omega (arith, low)) ∙ e2) (first t n 3 (omega (arith, low)) ∙ e3) (first t n 4 (omega (arith, low)) ∙ e4) (first t n 5 (omega (arith, low)) ∙ e5))
-
-pub new_in : (t : List ℕ) → 4 ≤ length t → get_or t 0 0 ≡ 110 → get_or t 1 0 ≡ 101 → get_or t 2 0 ≡ 119 → get_or t 3 0 ≡ 32 → FollowsIn (codes "new") t 4
-new_in t le e0 e1 e2 e3 =
-    let n0 : NoLf (take 1 t) = no_lf_more t 0 (omega (arith, le)) (other_byte t 0 110 e0 refl) (none_yet t) in
-    let n1 : NoLf (take 2 t) = no_lf_more t 1 (omega (arith, le)) (other_byte t 1 101 e1 refl) n0 in
-    let n2 : NoLf (take 3 t) = no_lf_more t 2 (omega (arith, le)) (other_byte t 2 119 e2 refl) n1 in
-    let n3 : NoLf (take 4 t) = no_lf_more t 3 (omega (arith, le)) (other_byte t 3 32 e3 refl) n2 in
-    (le, n3, λ n low most. new_follows (take n t) (omega (arith, length-take-le n t most, low)) (first t n 0 (omega (arith, low)) ∙ e0) (first t n 1 (omega (arith, low)) ∙ e1) (first t n 2 (omega (arith, low)) ∙ e2) (first t n 3 (omega (arith, low)) ∙ e3))
-
 pub rewind_in : (t : List ℕ) → 7 ≤ length t → get_or t 0 0 ≡ 114 → get_or t 1 0 ≡ 101 → get_or t 2 0 ≡ 119 → get_or t 3 0 ≡ 105 → get_or t 4 0 ≡ 110 → get_or t 5 0 ≡ 100 → get_or t 6 0 ≡ 32 → FollowsIn (codes "rewind") t 7
-rewind_in t le e0 e1 e2 e3 e4 e5 e6 =
-    let n0 : NoLf (take 1 t) = no_lf_more t 0 (omega (arith, le)) (other_byte t 0 114 e0 refl) (none_yet t) in
-    let n1 : NoLf (take 2 t) = no_lf_more t 1 (omega (arith, le)) (other_byte t 1 101 e1 refl) n0 in
-    let n2 : NoLf (take 3 t) = no_lf_more t 2 (omega (arith, le)) (other_byte t 2 119 e2 refl) n1 in
-    let n3 : NoLf (take 4 t) = no_lf_more t 3 (omega (arith, le)) (other_byte t 3 105 e3 refl) n2 in
-    let n4 : NoLf (take 5 t) = no_lf_more t 4 (omega (arith, le)) (other_byte t 4 110 e4 refl) n3 in
-    let n5 : NoLf (take 6 t) = no_lf_more t 5 (omega (arith, le)) (other_byte t 5 100 e5 refl) n4 in
-    let n6 : NoLf (take 7 t) = no_lf_more t 6 (omega (arith, le)) (other_byte t 6 32 e6 refl) n5 in
-    (le, n6, λ n low most. rewind_follows (take n t) (omega (arith, length-take-le n t most, low)) (first t n 0 (omega (arith, low)) ∙ e0) (first t n 1 (omega (arith, low)) ∙ e1) (first t n 2 (omega (arith, low)) ∙ e2) (first t n 3 (omega (arith, low)) ∙ e3) (first t n 4 (omega (arith, low)) ∙ e4) (first t n 5 (omega (arith, low)) ∙ e5) (first t n 6 (omega (arith, low)) ∙ e6))
+rewind_in t le e0 e1 e2 e3 e4 e5 e6 = follows t (codes "rewind") 7 (codes "rewind ") rewind_word (more t 6 32 _ (omega (arith, le)) e6 refl (more t 5 100 _ (omega (arith, le)) e5 refl (more t 4 110 _ (omega (arith, le)) e4 refl (more t 3 105 _ (omega (arith, le)) e3 refl (more t 2 119 _ (omega (arith, le)) e2 refl (more t 1 101 _ (omega (arith, le)) e1 refl (more t 0 114 [] (omega (arith, le)) e0 refl (nothing t))))))))
 
 pub mark_word : words_of_line (codes "mark") ≡ codes "mark" ∷ []
 unfolding words_of_line
@@ -242,17 +152,9 @@ no_cr_in_mark = refl
 
 pub mark_in : (t : List ℕ) → 5 ≤ length t → get_or t 0 0 ≡ 109 → get_or t 1 0 ≡ 97 → get_or t 2 0 ≡ 114 → get_or t 3 0 ≡ 107 → get_or t 4 0 ≡ 10 → IsShortLine 4 t × (take 4 t ≡ codes "mark")
 mark_in t le e0 e1 e2 e3 e4 =
-    let n0 : NoLf (take 1 t) = no_lf_more t 0 (omega (arith, le)) (other_byte t 0 109 e0 refl) (none_yet t) in
-    let n1 : NoLf (take 2 t) = no_lf_more t 1 (omega (arith, le)) (other_byte t 1 97 e1 refl) n0 in
-    let n2 : NoLf (take 3 t) = no_lf_more t 2 (omega (arith, le)) (other_byte t 2 114 e2 refl) n1 in
-    let n3 : NoLf (take 4 t) = no_lf_more t 3 (omega (arith, le)) (other_byte t 3 107 e3 refl) n2 in
-    let t3 : drop 3 t ≡ 107 ∷ drop 4 t = byte_then t 3 107 (drop 4 t) (omega (arith, le)) e3 refl in
-    let t2 : drop 2 t ≡ 114 ∷ 107 ∷ drop 4 t = byte_then t 2 114 (107 ∷ drop 4 t) (omega (arith, le)) e2 t3 in
-    let t1 : drop 1 t ≡ 97 ∷ 114 ∷ 107 ∷ drop 4 t = byte_then t 1 97 (114 ∷ 107 ∷ drop 4 t) (omega (arith, le)) e1 t2 in
-    let t0 : drop 0 t ≡ 109 ∷ 97 ∷ 114 ∷ 107 ∷ drop 4 t = byte_then t 0 109 (97 ∷ 114 ∷ 107 ∷ drop 4 t) (omega (arith, le)) e0 t1 in
-    let mark : take 4 t ≡ codes "mark" = ap (λ l. take 4 l) t0 in
     let lt : 4 < length t = omega (arith, le) in
-    (((lt, n3, split_at t 4 lt e4), omega arith, subst (λ l. l ≡ without_cr l) (sym mark) no_cr_in_mark), mark)
+    let h : Begun t 4 (codes "mark") = more t 3 107 _ (omega (arith, le)) e3 refl (more t 2 114 _ (omega (arith, le)) e2 refl (more t 1 97 _ (omega (arith, le)) e1 refl (more t 0 109 [] (omega (arith, le)) e0 refl (nothing t)))) in
+    (((lt, h.one, split_at t 4 lt e4), omega arith, subst (λ l. l ≡ without_cr l) (sym h.are) no_cr_in_mark), h.are)
 
 -- ---- numbers one after the other
 
@@ -401,26 +303,11 @@ four_words t at a e0 b e1 c e2 d e3 f g h i lt =
 
 -- ---- lines
 
-pub asks_load : (t : List ℕ) (a b c d : ℕ) → Follows (codes "load") t 5 → four_numbers (words_of_line (drop 5 t)) ≡ Some (a, b, c, d) → command_of_text t ≡ Ask (Step (Load a b c d))
-asks_load t a b c d key has = asks t (codes "load") (words_of_line (drop 5 t)) (Ask (Step (Load a b c d))) key (load_rule (words_of_line (drop 5 t)) ∙ ap (λ o. option_map (λ n. Ask (Step (Load n.0 n.1 n.2 n.3))) o) has)
-
-pub asks_store : (t : List ℕ) (a b c d : ℕ) → Follows (codes "store") t 6 → four_numbers (words_of_line (drop 6 t)) ≡ Some (a, b, c, d) → command_of_text t ≡ Ask (Step (Store a b c d))
-asks_store t a b c d key has = asks t (codes "store") (words_of_line (drop 6 t)) (Ask (Step (Store a b c d))) key (store_rule (words_of_line (drop 6 t)) ∙ ap (λ o. option_map (λ n. Ask (Step (Store n.0 n.1 n.2 n.3))) o) has)
-
-pub asks_put : (t : List ℕ) (a b c d : ℕ) → Follows (codes "put") t 4 → four_numbers (words_of_line (drop 4 t)) ≡ Some (a, b, c, d) → command_of_text t ≡ Ask (Step (Put a b c d))
-asks_put t a b c d key has = asks t (codes "put") (words_of_line (drop 4 t)) (Ask (Step (Put a b c d))) key (put_rule (words_of_line (drop 4 t)) ∙ ap (λ o. option_map (λ n. Ask (Step (Put n.0 n.1 n.2 n.3))) o) has)
-
-pub asks_move : (t : List ℕ) (a b c d : ℕ) → Follows (codes "move") t 5 → four_numbers (words_of_line (drop 5 t)) ≡ Some (a, b, c, d) → command_of_text t ≡ Ask (Step (Move a b c d))
-asks_move t a b c d key has = asks t (codes "move") (words_of_line (drop 5 t)) (Ask (Step (Move a b c d))) key (move_rule (words_of_line (drop 5 t)) ∙ ap (λ o. option_map (λ n. Ask (Step (Move n.0 n.1 n.2 n.3))) o) has)
-
-pub asks_clear : (t : List ℕ) (a b : ℕ) → Follows (codes "clear") t 6 → two_numbers (words_of_line (drop 6 t)) ≡ Some (a, b) → command_of_text t ≡ Ask (Step (Clear a b))
-asks_clear t a b key has = asks t (codes "clear") (words_of_line (drop 6 t)) (Ask (Step (Clear a b))) key (clear_rule (words_of_line (drop 6 t)) ∙ ap (λ o. option_map (λ n. Ask (Step (Clear n.0 n.1))) o) has)
-
-pub asks_new : (t : List ℕ) (a b c : ℕ) → Follows (codes "new") t 4 → three_numbers (words_of_line (drop 4 t)) ≡ Some (a, b, c) → command_of_text t ≡ Ask (Step (New a b c))
-asks_new t a b c key has = asks t (codes "new") (words_of_line (drop 4 t)) (Ask (Step (New a b c))) key (new_rule (words_of_line (drop 4 t)) ∙ ap (λ o. option_map (λ n. Ask (Step (New n.0 n.1 n.2))) o) has)
-
-pub asks_rewind : (t : List ℕ) (a : ℕ) → Follows (codes "rewind") t 7 → one_number (words_of_line (drop 7 t)) ≡ Some a → command_of_text t ≡ Ask (Rewind a)
-asks_rewind t a key has = asks t (codes "rewind") (words_of_line (drop 7 t)) (Ask (Rewind a)) key (rewind_rule (words_of_line (drop 7 t)) ∙ ap (λ o. option_map (λ n. Ask (Rewind n)) o) has)
+-- a short line asks for the action that its numbers give, by the rule of its keyword
+pub asks_by : {A : Type 0} (text key : List ℕ) (at : ℕ) (numbers : List (List ℕ) → Option A) (action : A → Action) (n : A) (end : ℕ) → ((ws : List (List ℕ)) → by_rule plain_rules key ws ≡ option_map (λ m. Ask (action m)) (numbers ws)) → FollowsIn key text at → IsShortLine end text → at ≤ end → numbers (words_of_line (drop at (take end text))) ≡ Some n → command_of_text (take end text) ≡ Ask (action n)
+asks_by text key at numbers action n end rule begins line low has =
+    let ws = words_of_line (drop at (take end text)) in
+    asks (take end text) key ws (Ask (action n)) (begins.2 end low (omega (arith, line.0.0))) (rule ws ∙ ap (λ o. option_map (λ m. Ask (action m)) o) has)
 
 -- ---- the answer of a line
 
@@ -438,28 +325,30 @@ step_quick acts unknown time line c page w c' page' w' r is h =
     subst (λ t. IsLineFlow (AnswersTo acts (unknown t) time (command_of_text t)) (BeginsTo acts (unknown t) time (command_of_text t)) (command_of_text t) c page w c' page' w' (flow_of r)) is (flow_asked acts (unknown line) time (command_of_text line) c page w c' page' w' r h)
 
 -- a line that is read without the CR at its end
-pub flow_read : {S : Type 0} (acts : Acts S) (unknown : AnswerRelation S) (time : ℕ) (line text : List ℕ) (c : S) (page : List ℕ) (w : Outgoing) (c' : S) (page' : List ℕ) (w' : Outgoing) (flow : Outcome)
+pub flow_read : {S : Type 0} (acts : Acts S) (unknown : AnswerRelation S) (time : ℕ) (line text : List ℕ) (c : S) (page : List ℕ) (w : Outgoing) (c' : S) (page' : List ℕ) (w' : Outgoing) (flow : Flow)
     → text ≡ without_cr line → IsLineFlow (AnswersTo acts (unknown text) time (command_of_text text)) (BeginsTo acts (unknown text) time (command_of_text text)) (command_of_text text) c page w c' page' w' flow → IsLineFlow (AnswersCommand acts unknown time line) (Begins acts unknown time line) (command_of line) c page w c' page' w' flow
 unfolding command_of
 flow_read acts unknown time line text c page w c' page' w' flow is h = subst (λ t. IsLineFlow (AnswersTo acts (unknown t) time (command_of_text t)) (BeginsTo acts (unknown t) time (command_of_text t)) (command_of_text t) c page w c' page' w' flow) is h
 
-pub passed : (t : List ℕ) (q : Quick) (n : ℕ) → IsShortLine n t → IsPassed t q n
+passed : (t : List ℕ) (q : Quick) (n : ℕ) → IsShortLine n t → IsPassed t q n
 passed t No n h = tt
 passed t Next n h = h
 passed t Fault n h = h
 
--- the first line of a text, by what has come of it
-pub quick_next : {S : Type 0} (acts : Acts S) (unknown : AnswerRelation S) (time : ℕ) (text : List ℕ) (q : Quick) (n : ℕ) (c : S) (page : List ℕ) (w : Outgoing) (c' : S) (page' : List ℕ) (w' : Outgoing)
-    → q ≡ Next → IsQuickIn acts text c page w c' page' w' (q, n) → IsShortLine n text × IsLineFlow (AnswersCommand acts unknown time (take n text)) (Begins acts unknown time (take n text)) (command_of (take n text)) c page w c' page' w' Goes
-quick_next acts unknown time text No n c page w c' page' w' e h = cc
-quick_next acts unknown time text Next n c page w c' page' w' e h = (h.0, step_quick acts unknown time (take n text) c page w c' page' w' true h.0.2 h.1)
-quick_next acts unknown time text Fault n c page w c' page' w' e h = cc
+-- a line that was answered, with its reply
+quick_asked : {S : Type 0} (acts : Acts S) (k : Command) (c : S) (page : List ℕ) (w : Outgoing) (c' : S) (page' : List ℕ) (w' : Outgoing) (written : Bool) → IsActionAsked acts k c page w c' page' w' written → IsQuick acts k c page w c' page' w' (quick_of written)
+quick_asked acts k c page w c' page' w' true h = h
+quick_asked acts k c page w c' page' w' false h = h
 
-pub quick_fault : {S : Type 0} (acts : Acts S) (unknown : AnswerRelation S) (time : ℕ) (text : List ℕ) (q : Quick) (n : ℕ) (c : S) (page : List ℕ) (w : Outgoing) (c' : S) (page' : List ℕ) (w' : Outgoing)
-    → q ≡ Fault → IsQuickIn acts text c page w c' page' w' (q, n) → IsShortLine n text × IsLineFlow (AnswersCommand acts unknown time (take n text)) (Begins acts unknown time (take n text)) (command_of (take n text)) c page w c' page' w' Fails
-quick_fault acts unknown time text No n c page w c' page' w' e h = cc
-quick_fault acts unknown time text Next n c page w c' page' w' e h = cc
-quick_fault acts unknown time text Fault n c page w c' page' w' e h = (h.0, step_quick acts unknown time (take n text) c page w c' page' w' false h.0.2 h.1)
+pub quick_in : {S : Type 0} (acts : Acts S) (text : List ℕ) (n : ℕ) (a : Action) (c : S) (page : List ℕ) (w : Outgoing) (c' : S) (page' : List ℕ) (w' : Outgoing) (written : Bool) (q : Quick) → IsShortLine n text → command_of_text (take n text) ≡ Ask a → IsActionDone acts a c page w c' page' w' written → q ≡ quick_of written → IsQuickIn acts text c page w c' page' w' (q, n)
+quick_in acts text n a c page w c' page' w' written q line asks done is =
+    subst (λ x. IsQuickIn acts text c page w c' page' w' (x, n)) (sym is) (passed text (quick_of written) n line, quick_asked acts (command_of_text (take n text)) c page w c' page' w' written (a, asks, done))
+
+-- the first line of a text, which was answered
+pub quick_flow : {S : Type 0} (acts : Acts S) (unknown : AnswerRelation S) (time : ℕ) (text : List ℕ) (written : Bool) (n : ℕ) (c : S) (page : List ℕ) (w : Outgoing) (c' : S) (page' : List ℕ) (w' : Outgoing)
+    → IsQuickIn acts text c page w c' page' w' (quick_of written, n) → IsShortLine n text × IsLineFlow (AnswersCommand acts unknown time (take n text)) (Begins acts unknown time (take n text)) (command_of (take n text)) c page w c' page' w' (flow_of written)
+quick_flow acts unknown time text true n c page w c' page' w' h = (h.0, step_quick acts unknown time (take n text) c page w c' page' w' true h.0.2 h.1)
+quick_flow acts unknown time text false n c page w c' page' w' h = (h.0, step_quick acts unknown time (take n text) c page w c' page' w' false h.0.2 h.1)
 
 pub quick_left : {S : Type 0} (acts : Acts S) (text : List ℕ) (q : Quick) (n : ℕ) (c : S) (page : List ℕ) (w : Outgoing) (c' : S) (page' : List ℕ) (w' : Outgoing)
     → q ≡ No → IsQuickIn acts text c page w c' page' w' (q, n) → (c' ≡ c) × (page' ≡ page) × (w' ≡ w)

@@ -75,6 +75,11 @@ IsQuick acts k c page w c' page' w' No = (c' ≡ c) × (page' ≡ page) × (w' �
 IsQuick acts k c page w c' page' w' Next = IsActionAsked acts k c page w c' page' w' true
 IsQuick acts k c page w c' page' w' Fault = IsActionAsked acts k c page w c' page' w' false
 
+-- the outcome of a line whose reply was written, or wasn't
+abbrev pub quick_of : Bool → Quick
+quick_of true = Next
+quick_of false = Fault
+
 -- if a text's first line was answered, it ends here
 abbrev pub IsPassed : List ℕ → Quick → ℕ → Type 0
 IsPassed text No n = Unit {0}

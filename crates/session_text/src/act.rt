@@ -1,6 +1,7 @@
 //! Actions and their replies.
 ghost use Rattle.std.specs.Prelude.{◌≡◌, true};
 ghost use Rattle.heap_step.specs.declared.Answer.TheVariants.{Done};
+ghost use Rattle.heap_trail.specs.declared.Action.TheVariants.{Step};
 ghost use Rattle.heap_trail.specs.declared.Reply.{Reply};
 ghost use Rattle.heap_trail.specs.declared.Reply.TheVariants.{Answered};
 ghost use Rattle.session_text.specs.Replies.{reply_text};
@@ -11,7 +12,7 @@ use crate::page::Page;
 use crate::reply::{write_answer, write_object, write_reply};
 use crate::write::write_text;
 use dump_pump::Outlet;
-use heap_step::Answer;
+use heap_step::{Answer, IntoEvent};
 use heap_trail::{Action, Reply};
 
 // Tells whether a reply prints no more than that an event was done.
@@ -35,6 +36,31 @@ pub fn answer_action<O: Outlet, C: Commands>(
         result }
 {
     let reply = commands.act(action);
+    add_reply(page, writer, reply)
+}
+
+/// Takes a step and adds its reply to a page. Returns false if a write failed.
+#[inline(always)]
+pub fn answer_step<E: IntoEvent, O: Outlet, C: Commands>(
+    event: E,
+    page: &mut Page,
+    writer: &mut O,
+    commands: &mut C,
+) -> bool
+    ensures { (r : Reply) × C.acts commands.old (Step (E.event event)) r commands.new
+        × IsTextAdded (reply_text r) page.old (O.seen writer.old) page.new (O.seen writer.new)
+        result }
+{
+    let reply = commands.step(event);
+    add_reply(page, writer, reply)
+}
+
+// Adds a reply to a page, which is flushed whenever it is full. Returns false if a write failed.
+#[inline(always)]
+fn add_reply<O: Outlet>(page: &mut Page, writer: &mut O, reply: Reply) -> bool
+    ensures { IsTextAdded (reply_text reply) page.old (O.seen writer.old) page.new
+        (O.seen writer.new) result }
+{
     if is_done(&reply) {
         return write_text(page, writer, b"ok\n");
     }

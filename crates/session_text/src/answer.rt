@@ -38,8 +38,9 @@ pub enum Flow {
     Fault,
 }
 
-// Returns Next, or Fault if a write failed.
-fn next_unless(written: bool) -> Flow
+/// Returns Next, or Fault if a write failed.
+#[inline(always)]
+pub(crate) fn next_unless(written: bool) -> Flow
     ensures { result ≡ flow_of written }
 {
     if written { Flow::Next } else { Flow::Fault }

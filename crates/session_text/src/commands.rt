@@ -2,6 +2,7 @@
 ghost use Rattle.std.specs.Prelude.{◌≡◌};
 ghost use Rattle.session_text.specs.Local.{own_closed};
 
+use heap_step::IntoEvent;
 use heap_trail::{Action, Machine, Reply};
 use std::alloc::Global;
 
@@ -23,6 +24,7 @@ pub enum LineAnswer {
 /// A performer of the actions of a session. Contracts see what an action may answer and leave.
 pub trait Commands {
     ghost use Rattle.heap_trail.specs.declared.Action.{Action};
+    ghost use Rattle.heap_trail.specs.declared.Action.TheVariants.{Step};
     ghost use Rattle.heap_trail.specs.declared.Reply.{Reply};
     ghost use Rattle.std.specs.Prelude.{ℕ, List};
     ghost use Rattle.heap_trail.specs.Machine.{IsSmall};
@@ -36,6 +38,14 @@ pub trait Commands {
     fn act(&mut self, action: Action) -> Reply
         ensures acts { acts self.old action result self.new }
         ensures small { IsSmall result };
+
+    /// Takes a step and returns its reply, as `act` does.
+    fn step<E: IntoEvent>(&mut self, event: E) -> Reply
+        ensures acts { acts self.old (Step (E.event event)) result self.new }
+        ensures small { IsSmall result }
+    {
+        self.act(Action::Step(event.into_event()))
+    }
 
     /// Answers a line that the grammar doesn't know.
     fn answer_unknown(&mut self, alloc: Global, line: &[u8]) -> LineAnswer
@@ -81,6 +91,11 @@ impl Commands for Local {
     #[inline(always)]
     fn act(&mut self, action: Action) -> Reply {
         self.machine.act(&action)
+    }
+
+    #[inline(always)]
+    fn step<E: IntoEvent>(&mut self, event: E) -> Reply {
+        self.machine.reply_to(&event)
     }
 
     fn answer_unknown(&mut self, _alloc: Global, _line: &[u8]) -> LineAnswer {

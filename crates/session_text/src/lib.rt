@@ -20,6 +20,7 @@ mod mutator;
 mod page;
 pub mod read_inlet;
 mod reply;
+mod short_lines;
 mod talk;
 mod write;
 

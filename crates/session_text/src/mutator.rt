@@ -1,19 +1,15 @@
 //! A fast reading of mutators' lines, in one pass that finds their end too.
-ghost use Rattle.std.specs.Prelude.{◌≡◌, ◌≤◌, Some, codes, length, take, drop, IfSome};
-ghost use Rattle.heap_trail.specs.declared.Action.TheVariants.{Step};
-ghost use Rattle.session_grammar.specs.declared.command.Command.TheVariants.{Ask};
-ghost use Rattle.session_grammar.specs.Grammar.{words_of_line, one_number, two_numbers, three_numbers, four_numbers, command_of_text};
-ghost use Rattle.session_grammar.specs.Lines.{NoLf};
-ghost use Rattle.session_text.specs.Mutators.{AreThreeThen, FollowsIn, IsDigitThen, IsVerb, IsQuick, IsQuickIn, IsShortLine};
+ghost use Rattle.std.specs.Prelude.{◌≡◌, codes};
+ghost use Rattle.session_text.specs.Mutators.{FollowsIn, IsVerb, IsQuickIn, quick_of};
 
-use crate::act::answer_action;
+use crate::act::{answer_action, answer_step};
 use crate::buffer::LF;
 use crate::commands::Commands;
 use crate::page::Page;
+use crate::short_lines::{ShortLine, one_in};
 use dump_pump::Outlet;
-use heap_step::Event;
+use heap_step::{ClearEvent, LoadEvent, MarkEvent, MoveEvent, NewEvent, PutEvent, StoreEvent};
 use heap_trail::Action;
-use session_grammar::number::{digit_then, number_then};
 use session_grammar::words::SPACE;
 
 // The beginning of a line that may be answered at once.
@@ -48,6 +44,14 @@ pub enum Quick {
     Next,
     /// A write failed in the line's answer.
     Fault,
+}
+
+// Returns the outcome of a line that was answered, and whose answer was written or not.
+#[inline(always)]
+fn quick_of(written: bool) -> Quick
+    ensures { result ≡ quick_of written }
+{
+    if written { Quick::Next } else { Quick::Fault }
 }
 
 // The first four bytes of each line that may be answered at once, as one number whose lowest byte is the first: `load`.
@@ -96,312 +100,23 @@ fn verb_of(text: &[u8]) -> Verb
     }
 }
 
-// Returns the number that the first line of a text has from a place on, and the line's end, or None if it has others.
-#[inline(always)]
-fn one_in(text: &[u8], at: usize) -> Option<(u64, usize)>
-    requires { (at ≤ 7) × (at ≤ length text.now) × NoLf (take at text.now) }
-    ensures line { IfSome result (λ r. IsShortLine r.1 text.now × (at ≤ r.1)) }
-    ensures number { IfSome result
-        (λ r. one_number (words_of_line (drop at (take r.1 text.now))) ≡ Some r.0) }
-{
-    let (n, end) = number_then(text, at, LF);
-    if end == text.len() {
-        return None;
-    }
-    Some((n, end))
-}
-
-// Returns the two numbers that the first line of a text has from a place on, and the line's end, or None if it has others.
-#[inline(always)]
-fn two_in(text: &[u8], at: usize) -> Option<(u64, u64, usize)>
-    requires { (at ≤ 6) × (at ≤ length text.now) × NoLf (take at text.now) }
-    ensures line { IfSome result (λ r. IsShortLine r.2 text.now × (at ≤ r.2)) }
-    ensures numbers { IfSome result
-        (λ r. two_numbers (words_of_line (drop at (take r.2 text.now))) ≡ Some (r.0, r.1)) }
-{
-    let (a, end) = number_then(text, at, SPACE);
-    let (b, end) = number_then(text, end + 1, LF);
-    if end == text.len() {
-        return None;
-    }
-    Some((a, b, end))
-}
-
-// Returns the three numbers of one digit that a text begins with, each with a space behind it, and the last with this byte, or
-// None if it begins with others.
-#[inline(always)]
-fn three_digits(text: &[u8], ender: u8) -> Option<(u64, u64, u64)>
-    ensures { IfSome result
-        (λ r. IsDigitThen text.now 0 SPACE r.0 × IsDigitThen text.now 2 SPACE r.1
-        × IsDigitThen text.now 4 ender r.2) }
-{
-    let [a, after_a, b, after_b, c, after_c, ..] = text else {
-        return None;
-    };
-    let a = digit_then(*a, *after_a, SPACE)?;
-    let b = digit_then(*b, *after_b, SPACE)?;
-    let c = digit_then(*c, *after_c, ender)?;
-    Some((a, b, c))
-}
-
-// Returns the three numbers at a place, if a space ends the first two and this byte the last, and that byte's place; or the
-// text's end if there are no such numbers.
-#[inline(always)]
-fn three_then(text: &[u8], at: usize, ender: u8) -> (u64, u64, u64, usize)
-    requires { at ≤ length text.now }
-    ensures numbers { AreThreeThen text.now at ender result.0 result.1 result.2 result.3 }
-    ensures within { result.3 ≤ length text.now }
-{
-    if let Some((a, b, c)) = three_digits(&text[at..], ender) {
-        return (a, b, c, at + 5);
-    }
-    let (a, end) = number_then(text, at, SPACE);
-    let (b, end) = number_then(text, end + 1, SPACE);
-    let (c, end) = number_then(text, end + 1, ender);
-    (a, b, c, end)
-}
-
-// Returns the three numbers that the first line of a text has from a place on, and the line's end, or None if it has others.
-#[inline(always)]
-fn three_in(text: &[u8], at: usize) -> Option<(u64, u64, u64, usize)>
-    requires { (at ≤ 6) × (at ≤ length text.now) × NoLf (take at text.now) }
-    ensures line { IfSome result (λ r. IsShortLine r.3 text.now × (at ≤ r.3)) }
-    ensures numbers { IfSome result
-        (λ r. three_numbers (words_of_line (drop at (take r.3 text.now))) ≡ Some (r.0, r.1, r.2)) }
-{
-    let (a, b, c, end) = three_then(text, at, LF);
-    if end == text.len() {
-        return None;
-    }
-    Some((a, b, c, end))
-}
-
-// Returns the four numbers that the first line of a text has from a place on, and the line's end, or None if it has others.
-#[inline(always)]
-fn four_in(text: &[u8], at: usize) -> Option<(u64, u64, u64, u64, usize)>
-    requires { (at ≤ 6) × (at ≤ length text.now) × NoLf (take at text.now) }
-    ensures line { IfSome result (λ r. IsShortLine r.4 text.now × (at ≤ r.4)) }
-    ensures numbers { IfSome result
-        (λ r. four_numbers (words_of_line (drop at (take r.4 text.now)))
-        ≡ Some (r.0, r.1, r.2, r.3)) }
-{
-    let (a, b, c, end) = three_then(text, at, SPACE);
-    let (d, end) = number_then(text, end + 1, LF);
-    if end == text.len() {
-        return None;
-    }
-    Some((a, b, c, d, end))
-}
-
-// Does an action and adds its reply.
-#[inline(always)]
-fn answer_quick<O: Outlet, C: Commands>(
-    action: Action,
-    line: &[u8],
-    page: &mut Page,
-    writer: &mut O,
-    commands: &mut C,
-) -> Quick
-    requires { command_of_text line.now ≡ Ask action }
-    ensures { IsQuick C.acts (command_of_text line.now) commands.old page.old (O.seen writer.old)
-        commands.new page.new (O.seen writer.new) result }
-{
-    if answer_action(action, page, writer, commands) {
-        Quick::Next
-    } else {
-        Quick::Fault
-    }
-}
-
-// Does an event and adds its reply.
-#[inline(always)]
-fn answer_event<O: Outlet, C: Commands>(
-    event: Event,
-    line: &[u8],
-    page: &mut Page,
-    writer: &mut O,
-    commands: &mut C,
-) -> Quick
-    requires { command_of_text line.now ≡ Ask (Step event) }
-    ensures { IsQuick C.acts (command_of_text line.now) commands.old page.old (O.seen writer.old)
-        commands.new page.new (O.seen writer.new) result }
-{
-    answer_quick(Action::Step(event), line, page, writer, commands)
-}
-
-// Answers `load M TO FROM SLOT`.
+// Answers the first line of a text if it asks for a step of this kind in the shortest form.
 #[inline(never)]
-fn answer_load<O: Outlet, C: Commands>(
+fn answer_short<E: ShortLine, O: Outlet, C: Commands>(
     text: &[u8],
     page: &mut Page,
     writer: &mut O,
     commands: &mut C,
 ) -> (Quick, usize)
-    requires { FollowsIn (codes "load") text.now 5 }
+    requires { E.begins text.now }
     ensures { IsQuickIn C.acts text.now commands.old page.old (O.seen writer.old) commands.new
         page.new (O.seen writer.new) result }
 {
-    let Some((m, to, from, slot, n)) = four_in(text, 5) else {
+    let Some((event, n)) = E::read(text) else {
         return (Quick::No, 0);
     };
-    let quick = answer_event(
-        Event::Load { m, to, from, slot },
-        &text[..n],
-        page,
-        writer,
-        commands,
-    );
+    let quick = quick_of(answer_step(event, page, writer, commands));
     (quick, n)
-}
-
-// Answers `store M TARGET SLOT SOURCE`.
-#[inline(never)]
-fn answer_store<O: Outlet, C: Commands>(
-    text: &[u8],
-    page: &mut Page,
-    writer: &mut O,
-    commands: &mut C,
-) -> (Quick, usize)
-    requires { FollowsIn (codes "store") text.now 6 }
-    ensures { IsQuickIn C.acts text.now commands.old page.old (O.seen writer.old) commands.new
-        page.new (O.seen writer.new) result }
-{
-    let Some((m, target, slot, source, n)) = four_in(text, 6) else {
-        return (Quick::No, 0);
-    };
-    let quick = answer_event(
-        Event::Store {
-            m,
-            target,
-            slot,
-            source,
-        },
-        &text[..n],
-        page,
-        writer,
-        commands,
-    );
-    (quick, n)
-}
-
-// Answers `put M TARGET SLOT VALUE`.
-#[inline(never)]
-fn answer_put<O: Outlet, C: Commands>(
-    text: &[u8],
-    page: &mut Page,
-    writer: &mut O,
-    commands: &mut C,
-) -> (Quick, usize)
-    requires { FollowsIn (codes "put") text.now 4 }
-    ensures { IsQuickIn C.acts text.now commands.old page.old (O.seen writer.old) commands.new
-        page.new (O.seen writer.new) result }
-{
-    let Some((m, target, slot, value, n)) = four_in(text, 4) else {
-        return (Quick::No, 0);
-    };
-    let quick = answer_event(
-        Event::Put {
-            m,
-            target,
-            slot,
-            value,
-        },
-        &text[..n],
-        page,
-        writer,
-        commands,
-    );
-    (quick, n)
-}
-
-// Answers `move M TO FROM_M FROM`.
-#[inline(never)]
-fn answer_move<O: Outlet, C: Commands>(
-    text: &[u8],
-    page: &mut Page,
-    writer: &mut O,
-    commands: &mut C,
-) -> (Quick, usize)
-    requires { FollowsIn (codes "move") text.now 5 }
-    ensures { IsQuickIn C.acts text.now commands.old page.old (O.seen writer.old) commands.new
-        page.new (O.seen writer.new) result }
-{
-    let Some((m, to, from_m, from, n)) = four_in(text, 5) else {
-        return (Quick::No, 0);
-    };
-    let quick = answer_event(
-        Event::Move {
-            m,
-            to,
-            from_m,
-            from,
-        },
-        &text[..n],
-        page,
-        writer,
-        commands,
-    );
-    (quick, n)
-}
-
-// Answers `clear M R`.
-#[inline(never)]
-fn answer_clear<O: Outlet, C: Commands>(
-    text: &[u8],
-    page: &mut Page,
-    writer: &mut O,
-    commands: &mut C,
-) -> (Quick, usize)
-    requires { FollowsIn (codes "clear") text.now 6 }
-    ensures { IsQuickIn C.acts text.now commands.old page.old (O.seen writer.old) commands.new
-        page.new (O.seen writer.new) result }
-{
-    let Some((m, r, n)) = two_in(text, 6) else {
-        return (Quick::No, 0);
-    };
-    let quick = answer_event(Event::Clear { m, r }, &text[..n], page, writer, commands);
-    (quick, n)
-}
-
-// Answers `new M R CLASS`.
-#[inline(never)]
-fn answer_new<O: Outlet, C: Commands>(
-    text: &[u8],
-    page: &mut Page,
-    writer: &mut O,
-    commands: &mut C,
-) -> (Quick, usize)
-    requires { FollowsIn (codes "new") text.now 4 }
-    ensures { IsQuickIn C.acts text.now commands.old page.old (O.seen writer.old) commands.new
-        page.new (O.seen writer.new) result }
-{
-    let Some((m, r, class, n)) = three_in(text, 4) else {
-        return (Quick::No, 0);
-    };
-    let quick = answer_event(
-        Event::New { m, r, class },
-        &text[..n],
-        page,
-        writer,
-        commands,
-    );
-    (quick, n)
-}
-
-// Answers `mark`.
-#[inline(never)]
-fn answer_mark<O: Outlet, C: Commands>(
-    text: &[u8],
-    page: &mut Page,
-    writer: &mut O,
-    commands: &mut C,
-) -> (Quick, usize)
-    requires { IsShortLine 4 text.now × (take 4 text.now ≡ codes "mark") }
-    ensures { IsQuickIn C.acts text.now commands.old page.old (O.seen writer.old) commands.new
-        page.new (O.seen writer.new) result }
-{
-    let quick = answer_event(Event::Mark, &text[..4], page, writer, commands);
-    (quick, 4)
 }
 
 // Answers `rewind N`.
@@ -419,7 +134,7 @@ fn answer_rewind<O: Outlet, C: Commands>(
     let Some((n, end)) = one_in(text, 7) else {
         return (Quick::No, 0);
     };
-    let quick = answer_quick(Action::Rewind(n), &text[..end], page, writer, commands);
+    let quick = quick_of(answer_action(Action::Rewind(n), page, writer, commands));
     (quick, end)
 }
 
@@ -436,13 +151,13 @@ pub fn answer_mutator<O: Outlet, C: Commands>(
         page.new (O.seen writer.new) result }
 {
     match verb_of(text) {
-        Verb::Load => answer_load(text, page, writer, commands),
-        Verb::Store => answer_store(text, page, writer, commands),
-        Verb::Put => answer_put(text, page, writer, commands),
-        Verb::Move => answer_move(text, page, writer, commands),
-        Verb::Clear => answer_clear(text, page, writer, commands),
-        Verb::New => answer_new(text, page, writer, commands),
-        Verb::Mark => answer_mark(text, page, writer, commands),
+        Verb::Load => answer_short::<LoadEvent, O, C>(text, page, writer, commands),
+        Verb::Store => answer_short::<StoreEvent, O, C>(text, page, writer, commands),
+        Verb::Put => answer_short::<PutEvent, O, C>(text, page, writer, commands),
+        Verb::Move => answer_short::<MoveEvent, O, C>(text, page, writer, commands),
+        Verb::Clear => answer_short::<ClearEvent, O, C>(text, page, writer, commands),
+        Verb::New => answer_short::<NewEvent, O, C>(text, page, writer, commands),
+        Verb::Mark => answer_short::<MarkEvent, O, C>(text, page, writer, commands),
         Verb::Rewind => answer_rewind(text, page, writer, commands),
         Verb::Other => (Quick::No, 0),
     }

@@ -1,22 +1,18 @@
 use Rattle.std.proofs.Common.{sym, subst}
 use Rattle.heap_trail.specs.declared.Action.{Action}
-use Rattle.heap_trail.specs.declared.Action.TheVariants.{Step, Rewind, OpenPin, NextPiece, ClosePin}
+use Rattle.heap_trail.specs.declared.Action.TheVariants.{Rewind, OpenPin, NextPiece, ClosePin}
 use Rattle.heap_trail.specs.declared.Reply.TheVariants.{Place, Pinned, Part, Closed, Refused}
 use Rattle.heap_trail.specs.Machine.{MayReply}
 use Rattle.heap_trail.proofs.Replies.{replies_fine, replies_refusing}
 use Rattle.heap_trail.proofs.Machine.act.Goals as goal
 
+pub returns-in-Ok-clause-reply : goal.returns-in-Ok-clause-reply
+returns-in-Ok-clause-reply c = subst (λ (a : Action). MayReply c.args.self.now a c.rewind.new.self (Place c.in-Ok.place)) (sym c.in-Rewind.is)
+    (replies_fine c.args.self.now (Rewind c.in-Rewind.n) c.rewind.new.self (Place c.in-Ok.place) c.in-Ok.ensures.done)
+
 pub returns-in-Err-clause-reply : goal.returns-in-Err-clause-reply
-returns-in-Err-clause-reply c = subst (λ (a : Action). MayReply c.args.self.now a c.step.new.self (Refused c.in-Err.refusal)) (sym c.in-Step.is)
-    (replies_refusing c.args.self.now (Step c.in-Step.event) c.step.new.self c.in-Err.refusal c.in-Err.ensures.unchanged c.in-Err.ensures.refused)
-
-pub returns-in-Ok-rewind-clause-reply : goal.returns-in-Ok-rewind-clause-reply
-returns-in-Ok-rewind-clause-reply c = subst (λ (a : Action). MayReply c.args.self.now a c.rewind.new.self (Place c.in-Ok-rewind.place)) (sym c.in-Rewind.is)
-    (replies_fine c.args.self.now (Rewind c.in-Rewind.n) c.rewind.new.self (Place c.in-Ok-rewind.place) c.in-Ok-rewind.ensures.done)
-
-pub returns-in-Err-rewind-clause-reply : goal.returns-in-Err-rewind-clause-reply
-returns-in-Err-rewind-clause-reply c = subst (λ (a : Action). MayReply c.args.self.now a c.rewind.new.self (Refused c.in-Err-rewind.refusal)) (sym c.in-Rewind.is)
-    (replies_fine c.args.self.now (Rewind c.in-Rewind.n) c.rewind.new.self (Refused c.in-Err-rewind.refusal) c.in-Err-rewind.ensures.refused)
+returns-in-Err-clause-reply c = subst (λ (a : Action). MayReply c.args.self.now a c.rewind.new.self (Refused c.in-Err.refusal)) (sym c.in-Rewind.is)
+    (replies_fine c.args.self.now (Rewind c.in-Rewind.n) c.rewind.new.self (Refused c.in-Err.refusal) c.in-Err.ensures.refused)
 
 pub returns-in-Ok-open_pin-clause-reply : goal.returns-in-Ok-open_pin-clause-reply
 returns-in-Ok-open_pin-clause-reply c = subst (λ (a : Action). MayReply c.args.self.now a c.open_pin.new.self (Pinned c.in-Ok-open_pin.field-0.pin c.in-Ok-open_pin.field-0.at)) (sym c.in-OpenPin.is)

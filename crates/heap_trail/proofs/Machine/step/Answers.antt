@@ -22,77 +22,77 @@ use Rattle.heap_trail.proofs.ReachedObjects.{sweep_leaves, finish_lives, finish_
 use Rattle.heap_trail.proofs.Machine.step.Goals as goal
 
 pub returns-then-self-ge-LAST_PLACE-clause-refused : goal.returns-then-self-ge-LAST_PLACE-clause-refused
-returns-then-self-ge-LAST_PLACE-clause-refused c =
-    inl (subst (λ (m : Machine). acted m (Step c.args.event.now) ≡ (m, Refused ChronicleFull)) c.self.view_is
-    (step_full c.self.inside.ids c.args.event.now c.self.inside.world c.self.inside.records c.self.inside.place c.self.inside.keep (pins_of c.self.inside.world c.self.inside.next c.self.inside.pins.items) c.if-self-ge-LAST_PLACE.true))
+returns-then-self-ge-LAST_PLACE-clause-refused g c =
+    inl (subst (λ (m : Machine). acted m (Step (g.E.IntoEvent.event c.args.event.now)) ≡ (m, Refused ChronicleFull)) c.self.view_is
+    (step_full c.self.inside.ids (g.E.IntoEvent.event c.args.event.now) c.self.inside.world c.self.inside.records c.self.inside.place c.self.inside.keep (pins_of c.self.inside.world c.self.inside.next c.self.inside.pins.items) c.if-self-ge-LAST_PLACE.true))
 
 pub returns-in_err-answer-clause-refused : goal.returns-in_err-answer-clause-refused
-returns-in_err-answer-clause-refused c =
+returns-in_err-answer-clause-refused g c =
     let p = err_from_is_err_and c.from_residual.result c.from_residual.ensures.1 in
     let under : c.self.inside.place < last_place = c.if-self-ge-LAST_PLACE.false in
     rw (p.1, p.2)
-    (subst (λ (m : Machine). (acted m (Step c.args.event.now) ≡ (machine_of c.self.inside.ids c.apply.new.world c.self.inside.records c.self.inside.place c.self.inside.keep c.self.inside.next c.self.inside.pins.items, Refused c.in_err-answer.field-0.0)) ⊎ (MayStand m (Step c.args.event.now, Denied) × (c.in_err-answer.field-0.0 ≡ NoMemory))) c.self.view_is
-    (subst (λ (w : HeapState). (acted (machine_of c.self.inside.ids c.self.inside.world c.self.inside.records c.self.inside.place c.self.inside.keep c.self.inside.next c.self.inside.pins.items) (Step c.args.event.now) ≡ (machine_with c.self.inside.ids c.apply.new.world c.self.inside.records c.self.inside.place c.self.inside.keep (pins_of w c.self.inside.next c.self.inside.pins.items), Refused c.in_err-answer.field-0.0)) ⊎ (MayStand (machine_of c.self.inside.ids c.self.inside.world c.self.inside.records c.self.inside.place c.self.inside.keep c.self.inside.next c.self.inside.pins.items) (Step c.args.event.now, Denied) × (c.in_err-answer.field-0.0 ≡ NoMemory))) (sym c.in_err-answer.ensures.unchanged)
-    (step_err c.self.inside.ids c.args.event.now c.self.inside.world c.apply.new.world c.self.inside.records c.self.inside.place c.self.inside.keep (pins_of c.self.inside.world c.self.inside.next c.self.inside.pins.items) c.in_err-answer.field-0.0 under c.in_err-answer.ensures.unchanged c.in_err-answer.ensures.refused)))
+    (subst (λ (m : Machine). (acted m (Step (g.E.IntoEvent.event c.args.event.now)) ≡ (machine_of c.self.inside.ids c.apply.new.world c.self.inside.records c.self.inside.place c.self.inside.keep c.self.inside.next c.self.inside.pins.items, Refused c.in_err-answer.field-0.0)) ⊎ (MayStand m (Step (g.E.IntoEvent.event c.args.event.now), Denied) × (c.in_err-answer.field-0.0 ≡ NoMemory))) c.self.view_is
+    (subst (λ (w : HeapState). (acted (machine_of c.self.inside.ids c.self.inside.world c.self.inside.records c.self.inside.place c.self.inside.keep c.self.inside.next c.self.inside.pins.items) (Step (g.E.IntoEvent.event c.args.event.now)) ≡ (machine_with c.self.inside.ids c.apply.new.world c.self.inside.records c.self.inside.place c.self.inside.keep (pins_of w c.self.inside.next c.self.inside.pins.items), Refused c.in_err-answer.field-0.0)) ⊎ (MayStand (machine_of c.self.inside.ids c.self.inside.world c.self.inside.records c.self.inside.place c.self.inside.keep c.self.inside.next c.self.inside.pins.items) (Step (g.E.IntoEvent.event c.args.event.now), Denied) × (c.in_err-answer.field-0.0 ≡ NoMemory))) (sym c.in_err-answer.ensures.unchanged)
+    (step_err c.self.inside.ids (g.E.IntoEvent.event c.args.event.now) c.self.inside.world c.apply.new.world c.self.inside.records c.self.inside.place c.self.inside.keep (pins_of c.self.inside.world c.self.inside.next c.self.inside.pins.items) c.in_err-answer.field-0.0 under c.in_err-answer.ensures.unchanged c.in_err-answer.ensures.refused)))
 
 pub remember-requires-clause-sized : goal.remember-requires-clause-sized
-remember-requires-clause-sized c =
-    let a : IsAccepted c.args.event.now c.self.inside.world c.apply.new.world c.in_ok-answer.left = record {
+remember-requires-clause-sized g c =
+    let a : IsAccepted (g.E.IntoEvent.event c.args.event.now) c.self.inside.world c.apply.new.world c.in_ok-answer.left = record {
       accepted = c.in_ok-answer.ensures.answered;
       gave = c.in_ok-answer.ensures.state;
       recorded = c.in_ok-answer.ensures.recorded;
       after = c.in_ok-answer.ensures.legal;
-      law = c.undo_takes_back.ensures c.args.event.now c.self.inside.world;
+      law = c.undo_takes_back.ensures (g.E.IntoEvent.event c.args.event.now) c.self.inside.world;
     } in
-    let back : undone c.in_ok-answer.left c.apply.new.world ≡ c.self.inside.world = leads_back c.args.event.now c.self.inside.world c.apply.new.world c.in_ok-answer.left c.self.invariant.0.legal a in
+    let back : undone c.in_ok-answer.left c.apply.new.world ≡ c.self.inside.world = leads_back (g.E.IntoEvent.event c.args.event.now) c.self.inside.world c.apply.new.world c.in_ok-answer.left c.self.invariant.0.legal a in
     subst (λ (ss : List NumberedPin). EachSized (length c.apply.new.world.regions) ss) (sym c.deref_mut.ensures.value)
     (sized_after c.self.inside.ids c.in_ok-answer.left c.apply.new.world c.self.inside.world (past_of c.self.inside.world c.self.inside.records.items) c.self.inside.place c.self.inside.next c.self.inside.pins.items back c.self.invariant.1.held)
 
 pub invariant_of-self-2 : goal.invariant_of-self-2
-invariant_of-self-2 c =
-    let a : IsAccepted c.args.event.now c.self.inside.world c.apply.new.world c.in_ok-answer.left = record {
+invariant_of-self-2 g c =
+    let a : IsAccepted (g.E.IntoEvent.event c.args.event.now) c.self.inside.world c.apply.new.world c.in_ok-answer.left = record {
       accepted = c.in_ok-answer.ensures.answered;
       gave = c.in_ok-answer.ensures.state;
       recorded = c.in_ok-answer.ensures.recorded;
       after = c.in_ok-answer.ensures.legal;
-      law = c.undo_takes_back.ensures c.args.event.now c.self.inside.world;
+      law = c.undo_takes_back.ensures (g.E.IntoEvent.event c.args.event.now) c.self.inside.world;
     } in
     let each : EachMayKeep c.in_ok-answer.left c.apply.new.world c.self.inside.pins.items c.remember.new.pins = subst (λ (ss : List NumberedPin). EachMayKeep c.in_ok-answer.left c.apply.new.world ss c.remember.new.pins) c.deref_mut.ensures.value c.remember.ensures.pins in
     let items : take c.self.inside.pins.len (c.remember.new.pins ++ drop (length c.remember.new.pins) c.self.inside.pins.items) ≡ c.remember.new.pins
     = take_at c.remember.new.pins (drop (length c.remember.new.pins) c.self.inside.pins.items) c.self.inside.pins.len (omega (arith, same_length _ _ _ _ each, c.self.inside.pins.ok.0)) in
     rw items
     (subst (λ (r : Buffer Undo). IsWholeMachine c.self.inside.ids c.apply.new.world r (c.self.inside.place + 1) c.self.inside.keep c.self.inside.next c.remember.new.pins (vec_capacity c.self.inside.pins)) (sym c.remember.ensures.records) (
-      kept_after_step c.args.event.now c.self.inside.world c.apply.new.world c.in_ok-answer.left c.self.inside.records c.self.inside.place c.self.inside.keep c.self.invariant.0 a c.if-self-ge-LAST_PLACE.false,
-      pinning_after c.self.inside.ids c.args.event.now c.self.inside.world c.apply.new.world c.in_ok-answer.left c.self.inside.records c.self.inside.place c.self.inside.keep c.self.inside.next c.self.inside.pins.items c.remember.new.pins c.self.invariant.0 c.self.invariant.1 a each,
+      kept_after_step (g.E.IntoEvent.event c.args.event.now) c.self.inside.world c.apply.new.world c.in_ok-answer.left c.self.inside.records c.self.inside.place c.self.inside.keep c.self.invariant.0 a c.if-self-ge-LAST_PLACE.false,
+      pinning_after c.self.inside.ids (g.E.IntoEvent.event c.args.event.now) c.self.inside.world c.apply.new.world c.in_ok-answer.left c.self.inside.records c.self.inside.place c.self.inside.keep c.self.inside.next c.self.inside.pins.items c.remember.new.pins c.self.invariant.0 c.self.invariant.1 a each,
       c.self.invariant.2,
     ))
 
 pub returns-clause-done : goal.returns-clause-done
-returns-clause-done c =
-    let a : IsAccepted c.args.event.now c.self.inside.world c.apply.new.world c.in_ok-answer.left = record {
+returns-clause-done g c =
+    let a : IsAccepted (g.E.IntoEvent.event c.args.event.now) c.self.inside.world c.apply.new.world c.in_ok-answer.left = record {
       accepted = c.in_ok-answer.ensures.answered;
       gave = c.in_ok-answer.ensures.state;
       recorded = c.in_ok-answer.ensures.recorded;
       after = c.in_ok-answer.ensures.legal;
-      law = c.undo_takes_back.ensures c.args.event.now c.self.inside.world;
+      law = c.undo_takes_back.ensures (g.E.IntoEvent.event c.args.event.now) c.self.inside.world;
     } in
     let each : EachMayKeep c.in_ok-answer.left c.apply.new.world c.self.inside.pins.items c.remember.new.pins = subst (λ (ss : List NumberedPin). EachMayKeep c.in_ok-answer.left c.apply.new.world ss c.remember.new.pins) c.deref_mut.ensures.value c.remember.ensures.pins in
     let items : take c.self.inside.pins.len (c.remember.new.pins ++ drop (length c.remember.new.pins) c.self.inside.pins.items) ≡ c.remember.new.pins
     = take_at c.remember.new.pins (drop (length c.remember.new.pins) c.self.inside.pins.items) c.self.inside.pins.len (omega (arith, same_length _ _ _ _ each, c.self.inside.pins.ok.0)) in
-    subst (λ (ts : List NumberedPin). MayAnswer c.args.self.now c.args.event.now (machine_of c.self.inside.ids c.apply.new.world c.remember.new.records (c.self.inside.place + 1) c.self.inside.keep c.self.inside.next ts) c.in_ok-answer.answer) (sym items)
-    (subst (λ (r : Buffer Undo). MayAnswer c.args.self.now c.args.event.now (machine_of c.self.inside.ids c.apply.new.world r (c.self.inside.place + 1) c.self.inside.keep c.self.inside.next c.remember.new.pins) c.in_ok-answer.answer) (sym c.remember.ensures.records)
-    (subst (λ (m : Machine). MayAnswer m c.args.event.now (machine_of c.self.inside.ids c.apply.new.world (with_record c.in_ok-answer.left c.self.inside.records) (c.self.inside.place + 1) c.self.inside.keep c.self.inside.next c.remember.new.pins) c.in_ok-answer.answer) c.self.view_is
-    (step_pinned c.self.inside.ids c.args.event.now c.self.inside.world c.apply.new.world c.in_ok-answer.left c.self.inside.records c.self.inside.place c.self.inside.keep c.self.inside.next c.self.inside.pins.items c.remember.new.pins c.in_ok-answer.answer c.self.invariant.0 c.self.invariant.1 a c.if-self-ge-LAST_PLACE.false c.in_ok-answer.ensures.done each)))
+    subst (λ (ts : List NumberedPin). MayAnswer c.args.self.now (g.E.IntoEvent.event c.args.event.now) (machine_of c.self.inside.ids c.apply.new.world c.remember.new.records (c.self.inside.place + 1) c.self.inside.keep c.self.inside.next ts) c.in_ok-answer.answer) (sym items)
+    (subst (λ (r : Buffer Undo). MayAnswer c.args.self.now (g.E.IntoEvent.event c.args.event.now) (machine_of c.self.inside.ids c.apply.new.world r (c.self.inside.place + 1) c.self.inside.keep c.self.inside.next c.remember.new.pins) c.in_ok-answer.answer) (sym c.remember.ensures.records)
+    (subst (λ (m : Machine). MayAnswer m (g.E.IntoEvent.event c.args.event.now) (machine_of c.self.inside.ids c.apply.new.world (with_record c.in_ok-answer.left c.self.inside.records) (c.self.inside.place + 1) c.self.inside.keep c.self.inside.next c.remember.new.pins) c.in_ok-answer.answer) c.self.view_is
+    (step_pinned c.self.inside.ids (g.E.IntoEvent.event c.args.event.now) c.self.inside.world c.apply.new.world c.in_ok-answer.left c.self.inside.records c.self.inside.place c.self.inside.keep c.self.inside.next c.self.inside.pins.items c.remember.new.pins c.in_ok-answer.answer c.self.invariant.0 c.self.invariant.1 a c.if-self-ge-LAST_PLACE.false c.in_ok-answer.ensures.done each)))
 
 pub returns-clause-spares : goal.returns-clause-spares
-returns-clause-spares c =
-    subst (λ (m : Machine). (region : ℕ) → c.args.event.now ≡ Sweep region → SparesReached m.trail.current c.apply.new.world) c.self.view_is
-    (sweep_leaves c.self.inside.world c.apply.new.world c.args.event.now c.self.invariant.0.legal (c.in_ok-answer.ensures.answered, c.in_ok-answer.ensures.state))
+returns-clause-spares g c =
+    subst (λ (m : Machine). (region : ℕ) → (g.E.IntoEvent.event c.args.event.now) ≡ Sweep region → SparesReached m.trail.current c.apply.new.world) c.self.view_is
+    (sweep_leaves c.self.inside.world c.apply.new.world (g.E.IntoEvent.event c.args.event.now) c.self.invariant.0.legal (c.in_ok-answer.ensures.answered, c.in_ok-answer.ensures.state))
 
 pub returns-clause-live : goal.returns-clause-live
-returns-clause-live c = finish_lives c.self.inside.world c.apply.new.world c.args.event.now c.self.invariant.0.legal (c.in_ok-answer.ensures.answered, c.in_ok-answer.ensures.state)
+returns-clause-live g c = finish_lives c.self.inside.world c.apply.new.world (g.E.IntoEvent.event c.args.event.now) c.self.invariant.0.legal (c.in_ok-answer.ensures.answered, c.in_ok-answer.ensures.state)
 
 pub returns-clause-finds : goal.returns-clause-finds
-returns-clause-finds c =
-    subst (λ (m : Machine). c.args.event.now ≡ Finish → FindsSnapshot m.trail.past c.apply.new.world) c.self.view_is
-    (finish_finds c.self.inside.world c.apply.new.world c.args.event.now c.self.inside.records c.self.inside.place c.self.inside.keep c.self.invariant.0 (c.in_ok-answer.ensures.answered, c.in_ok-answer.ensures.state))
+returns-clause-finds g c =
+    subst (λ (m : Machine). (g.E.IntoEvent.event c.args.event.now) ≡ Finish → FindsSnapshot m.trail.past c.apply.new.world) c.self.view_is
+    (finish_finds c.self.inside.world c.apply.new.world (g.E.IntoEvent.event c.args.event.now) c.self.inside.records c.self.inside.place c.self.inside.keep c.self.invariant.0 (c.in_ok-answer.ensures.answered, c.in_ok-answer.ensures.state))

@@ -3,7 +3,9 @@ use Rattle.std.proofs.lemmas.List.{length-drop}
 use Rattle.std.proofs.Math.Seq.{drop-drop}
 use Rattle.session_grammar.specs.Lines.{IsLineAt}
 use Rattle.session_text.specs.Answers.{AnswersCommand, Begins}
-use Rattle.session_text.proofs.QuickLines.{quick_next, quick_fault, quick_left}
+use Rattle.session_text.specs.Mutators.{IsQuickIn}
+use Rattle.session_text.specs.declared.mutator.Quick.{Quick}
+use Rattle.session_text.proofs.QuickLines.{quick_flow, quick_left}
 use Rattle.session_text.proofs.AnsweredLines.{talk_none, talk_then, line_answered, line_cut, answered_left, rest_of}
 use Rattle.session_text.proofs.PageTexts.{added_here, added_more}
 use Rattle.session_text.proofs.answer.answer_mutators.Goals as goal
@@ -20,15 +22,15 @@ loop-n-preserved g c =
     let n = c.answer_mutator.result.1 in
     let s = take (length t - at) (drop at t) in
     let rest : s ≡ drop at t = rest_of t at in
-    let h = c.answer_mutator.ensures in
-    let line : IsLineAt n (drop at t) = subst (λ l. IsLineAt n l) rest (quick_next g.C.Commands.acts g.C.Commands.unknown 0 s c.answer_mutator.result.0 n c.loop-n.commands c.loop-n.page (g.O.Outlet.seen c.loop-n.writer) c.answer_mutator.new.commands c.answer_mutator.new.page (g.O.Outlet.seen c.answer_mutator.new.writer) c.in-Next-default.is-0 h).0.0 in (
+    let h = subst (λ (q : Quick). IsQuickIn g.C.Commands.acts s c.loop-n.commands c.loop-n.page (g.O.Outlet.seen c.loop-n.writer) c.answer_mutator.new.commands c.answer_mutator.new.page (g.O.Outlet.seen c.answer_mutator.new.writer) (q, n)) c.in-Next-default.is-0 c.answer_mutator.ensures in
+    let line : IsLineAt n (drop at t) = subst (λ l. IsLineAt n l) rest h.0.0 in (
       omega (arith, line.0, length-drop at t, i.0),
       λ time.
           let says = AnswersCommand g.C.Commands.acts g.C.Commands.unknown time in
           let w0 = g.O.Outlet.seen c.args.writer.now in
           let w1 = g.O.Outlet.seen c.loop-n.writer in
           let w2 = g.O.Outlet.seen c.answer_mutator.new.writer in
-          let q = quick_next g.C.Commands.acts g.C.Commands.unknown time s c.answer_mutator.result.0 n c.loop-n.commands c.loop-n.page w1 c.answer_mutator.new.commands c.answer_mutator.new.page w2 c.in-Next-default.is-0 h in
+          let q = quick_flow g.C.Commands.acts g.C.Commands.unknown time s true n c.loop-n.commands c.loop-n.page w1 c.answer_mutator.new.commands c.answer_mutator.new.page w2 h in
           let e = q.1 in
           let a = i.1 time in
           let more = line_answered says (drop at t) s (drop (at + (n + 1)) t) n c.loop-n.commands e.0 c.answer_mutator.new.commands rest (sym (drop-drop (n + 1) at t)) q.0.1 line e.1 in (
@@ -53,7 +55,8 @@ returns-in-Fault-default-clause-cut g c = λ _ time.
     let w0 = g.O.Outlet.seen c.args.writer.now in
     let w1 = g.O.Outlet.seen c.loop-n.writer in
     let w2 = g.O.Outlet.seen c.answer_mutator.new.writer in
-    let q = quick_fault g.C.Commands.acts g.C.Commands.unknown time s c.answer_mutator.result.0 n c.loop-n.commands c.loop-n.page w1 c.answer_mutator.new.commands c.answer_mutator.new.page w2 c.in-Fault-default.is-0 c.answer_mutator.ensures in
+    let h = subst (λ (q : Quick). IsQuickIn g.C.Commands.acts s c.loop-n.commands c.loop-n.page w1 c.answer_mutator.new.commands c.answer_mutator.new.page w2 (q, n)) c.in-Fault-default.is-0 c.answer_mutator.ensures in
+    let q = quick_flow g.C.Commands.acts g.C.Commands.unknown time s false n c.loop-n.commands c.loop-n.page w1 c.answer_mutator.new.commands c.answer_mutator.new.page w2 h in
     let e = q.1 in
     let a = c.loop-n.invariant.1 time in
     let b = line_cut begins (drop at t) s n c.loop-n.commands e.0 c.answer_mutator.new.commands (rest_of t at) q.0.1 q.0.0 e.1 in

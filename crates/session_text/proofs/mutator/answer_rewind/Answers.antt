@@ -1,11 +1,11 @@
-use Rattle.std.proofs.Common.{◌≤◌, take, length, arith}
-use Rattle.session_text.proofs.QuickLines.{asks_rewind, passed}
+use Rattle.std.proofs.Common.{codes}
+use Rattle.heap_trail.specs.declared.Action.TheVariants.{Rewind}
+use Rattle.session_grammar.specs.Grammar.{one_number}
+use Rattle.session_text.proofs.QuickLines.{asks_by, quick_in, rewind_rule}
 use Rattle.session_text.proofs.mutator.answer_rewind.Goals as goal
 
-pub answer_quick-quick-requires : goal.answer_quick-quick-requires
-answer_quick-quick-requires g c =
-    let le : c.in-Some.end ≤ length c.args.text.now = omega (arith, c.in-Some.ensures.line.0.0.0) in
-    asks_rewind (take c.in-Some.end c.args.text.now) c.in-Some.n (c.requires.2 c.in-Some.end c.in-Some.ensures.line.1 le) c.in-Some.ensures.number
-
 pub returns : goal.returns
-returns g c = (passed c.args.text.now c.answer_quick-quick.result c.in-Some.end c.in-Some.ensures.line.0, c.answer_quick-quick.ensures)
+returns g c =
+    let l = c.in-Some.ensures.line in
+    let asks = asks_by c.args.text.now (codes "rewind") 7 one_number (λ n. Rewind n) c.in-Some.n c.in-Some.end rewind_rule c.requires l.0 l.1 c.in-Some.ensures.number in
+    quick_in g.C.Commands.acts c.args.text.now c.in-Some.end (Rewind c.in-Some.n) c.args.commands.now c.args.page.now (g.O.Outlet.seen c.args.writer.now) c.answer_action.new.commands c.answer_action.new.page (g.O.Outlet.seen c.answer_action.new.writer) c.answer_action.result c.quick_of-quick.result l.0 asks c.answer_action.ensures c.quick_of-quick.ensures

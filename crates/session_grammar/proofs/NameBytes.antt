@@ -262,8 +262,8 @@ size_colon t n h is =
     let whole : word_size t ≡ n + word_size (drop n t) = size_is t ∙ ap (λ m. m + word_size (drop m t)) (sym p.1) in
     omega (arith, whole, rest)
 
--- the kind that follows, as a slice has it
-behind : (t : List ℕ) (m : ℕ) → take (length t - m) (drop m t) ≡ drop m t
+-- the rest of a text, as a slice has it
+pub behind : (t : List ℕ) (m : ℕ) → take (length t - m) (drop m t) ≡ drop m t
 behind t m = take_all (length t - m) (drop m t) (omega (arith, length-drop m t))
 
 pub field_unkind : (t kind : List ℕ) (n : ℕ) → Some n ≡ position is_stop t → get_or t n 0 ≡ 58 → kind ≡ take (length t - (n + 1)) (drop (n + 1) t) → None ≡ with_size kind (kind_of_word (first_word kind)) → None ≡ with_size t (plain_field (first_word t))

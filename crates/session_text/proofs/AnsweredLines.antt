@@ -11,7 +11,8 @@ use Rattle.heap_class.specs.declared.Refusal.TheVariants.{NoMemory as NoRoom}
 use Rattle.heap_trail.specs.declared.Reply.TheVariants.{Refused}
 use Rattle.session_text.specs.declared.Ended.{Ended}
 use Rattle.session_text.specs.declared.Ended.TheVariants.{Quit, Eof, CutLine, TooLong, ReadFault, TooManyReads, WriteFault, NoMemory}
-use Rattle.session_text.specs.declared.answer.Flow.TheVariants.{Next, Fault}
+use Rattle.session_text.specs.declared.answer.Flow.{Flow}
+use Rattle.session_text.specs.declared.answer.Flow.TheVariants.{Next, Quit as Stop, Long, Fault}
 use Rattle.session_grammar.specs.declared.command.Command.{Command}
 use Rattle.session_grammar.specs.declared.command.Command.TheVariants.{Blank, Bad, Ask, Piece, Dump, DumpNow, End}
 use Rattle.session_text.specs.Answers.{Reaction, AnswerRelation, AnswersTo, BeginsTo}
@@ -22,7 +23,7 @@ use Rattle.session_text.specs.Inlets.{Incoming, whole}
 use Rattle.session_grammar.specs.Lines.{NoLf, IsLineAt}
 use Rattle.session_grammar.specs.Reads.{TakesMemory}
 use Rattle.session_text.specs.Replies.{reply_text}
-use Rattle.session_text.specs.Talks.{AreFirstAnswered, AreLinesAnswered, IsFirstCut, IsLine, IsLong, AnswersAll, stream, IsTalk, BeginsWith, IsQuit, IsLineFlow, EndsCleanly, FailsWhileWriting, IsTruncatedRun, IsLastRead, IsSessionServed, Serves}
+use Rattle.session_text.specs.Talks.{AreFirstAnswered, AreLinesAnswered, IsFirst, IsFirstCut, IsLine, IsLong, AnswersAll, stream, IsTalk, BeginsWith, IsQuit, IsLineFlow, EndsCleanly, FailsWhileWriting, IsTruncatedRun, IsLastRead, IsSessionServed, Serves}
 use Rattle.session_text.specs.Writes.{IsCutShort, IsTextWritten, IsTextAdded}
 use Rattle.session_text.proofs.PageTexts.{added_here, added_more}
 
@@ -59,11 +60,6 @@ pub flow_dumped : {S : Type 0} (acts : Acts S) (unknown : Reaction S) (time pin 
     → Dump pin ≡ k → WritesDump (DumpsPin acts pin time) c c' page w page' w' r → IsLineFlow (AnswersTo acts unknown time k) (BeginsTo acts unknown time k) k c page w c' page' w' (flow_of r)
 flow_dumped acts unknown time pin k c page w c' page' w' true e h = subst (λ x. IsLineFlow (AnswersTo acts unknown time x) (BeginsTo acts unknown time x) x c page w c' page' w' (flow_of true)) e (h.0, h.1, h.2)
 flow_dumped acts unknown time pin k c page w c' page' w' false e h = subst (λ x. IsLineFlow (AnswersTo acts unknown time x) (BeginsTo acts unknown time x) x c page w c' page' w' (flow_of false)) e (h.1, (h.0, h.2, h.3), h.4)
-
-pub flow_dumped_now : {S : Type 0} (acts : Acts S) (unknown : Reaction S) (time : ℕ) (k : Command) (c : S) (page : List ℕ) (w : Outgoing) (c' : S) (page' : List ℕ) (w' : Outgoing) (r : Bool)
-    → DumpNow ≡ k → WritesDump (DumpsNow acts time) c c' page w page' w' r → IsLineFlow (AnswersTo acts unknown time k) (BeginsTo acts unknown time k) k c page w c' page' w' (flow_of r)
-flow_dumped_now acts unknown time k c page w c' page' w' true e h = subst (λ x. IsLineFlow (AnswersTo acts unknown time x) (BeginsTo acts unknown time x) x c page w c' page' w' (flow_of true)) e (h.0, h.1, h.2)
-flow_dumped_now acts unknown time k c page w c' page' w' false e h = subst (λ x. IsLineFlow (AnswersTo acts unknown time x) (BeginsTo acts unknown time x) x c page w c' page' w' (flow_of false)) e (h.1, (h.0, h.2, h.3), h.4)
 
 -- a line found no memory for its reading
 unread : {S : Type 0} (acts : Acts S) (unknown : Reaction S) (time : ℕ) (k : Command) (c : S) → TakesMemory k → AnswersTo acts unknown time k c (reply_text (Refused NoRoom)) c × BeginsTo acts unknown time k c (reply_text (Refused NoRoom)) c
@@ -126,10 +122,6 @@ begins_with bytes n most at = (line_is bytes n most at, drop (n + 1) bytes, at.2
 pub line_quits : (bytes s : List ℕ) (n : ℕ) → s ≡ bytes → n ≤ 4096 → IsLineAt n bytes → command_of (take n s) ≡ End → IsQuit bytes
 line_quits bytes s n e most at is = (take n bytes, begins_with bytes n most at, subst (λ l. command_of (take n l) ≡ End) e is)
 
--- the rest of a text, as a part of it
-pub rest_of : (t : List ℕ) (at : ℕ) → take (length t - at) (drop at t) ≡ drop at t
-rest_of t at = take_all (length t - at) (drop at t) (omega (arith, length-drop at t))
-
 -- a text begins with the line whose answer was cut short
 pub line_cut : {S : Type 0} (begins : AnswerRelation S) (bytes s : List ℕ) (n : ℕ) (c : S) (tail : List ℕ) (c' : S) → s ≡ bytes → n ≤ 4096 → IsLineAt n s → begins (take n s) c tail c' → (l : List ℕ) × BeginsWith l bytes × begins l c tail c'
 line_cut begins bytes s n c tail c' e most at h = (take n s, subst (λ l. BeginsWith (take n s) l) e (begins_with s n most at), h)
@@ -167,13 +159,37 @@ so_far_more says bytes c w rest c1 page1 w1 s size rest2 c2 page2 w2 i e passed 
     let talk = subst (λ r. IsTalk says rest c1 r h.0 c2) there from in
     (i.0 ++ h.0, talk_then says bytes c rest i.0 c1 rest2 h.0 c2 i.1 talk, added_more i.0 h.0 [] w page1 w1 page2 w2 true i.2 h.2)
 
-pub so_far_left : {S : Type 0} (says : AnswerRelation S) (bytes : List ℕ) (c : S) (w : Outgoing) (rest : List ℕ) (c1 : S) (page1 : List ℕ) (w1 : Outgoing) (rest2 : List ℕ) (c2 : S) (page2 : List ℕ) (w2 : Outgoing)
+so_far_left : {S : Type 0} (says : AnswerRelation S) (bytes : List ℕ) (c : S) (w : Outgoing) (rest : List ℕ) (c1 : S) (page1 : List ℕ) (w1 : Outgoing) (rest2 : List ℕ) (c2 : S) (page2 : List ℕ) (w2 : Outgoing)
     → IsSoFar says bytes c w rest c1 page1 w1 → rest2 ≡ rest → c2 ≡ c1 → page2 ≡ page1 → w2 ≡ w1 → IsSoFar says bytes c w rest2 c2 page2 w2
 so_far_left says bytes c w rest c1 page1 w1 rest2 c2 page2 w2 i er ec ep ew =
     let a = subst (λ x. IsSoFar says bytes c w x c1 page1 w1) (sym er) i in
     let b = subst (λ x. IsSoFar says bytes c w rest2 x page1 w1) (sym ec) a in
     let d = subst (λ x. IsSoFar says bytes c w rest2 c2 x w1) (sym ep) b in
     subst (λ x. IsSoFar says bytes c w rest2 c2 page2 x) (sym ew) d
+
+-- what came of the lines so far and of the first of the rest
+abbrev pub IsSoFarThen : {S : Type 0} → AnswerRelation S → AnswerRelation S → List ℕ → S → Outgoing → List ℕ → S → List ℕ → Outgoing → Option Flow → Type 0
+IsSoFarThen says begins bytes c w rest c' page' w' None = AreLinesAnswered says begins bytes c w rest c' page' w' Next
+IsSoFarThen says begins bytes c w rest c' page' w' (Some Next) = IsSoFar says bytes c w rest c' page' w'
+IsSoFarThen says begins bytes c w rest c' page' w' (Some Stop) = AreLinesAnswered says begins bytes c w rest c' page' w' Stop
+IsSoFarThen says begins bytes c w rest c' page' w' (Some Long) = AreLinesAnswered says begins bytes c w rest c' page' w' Long
+IsSoFarThen says begins bytes c w rest c' page' w' (Some Fault) = AreLinesAnswered says begins bytes c w rest c' page' w' Fault
+
+pub so_far_then : {S : Type 0} (says begins : AnswerRelation S) (bytes : List ℕ) (c : S) (w : Outgoing) (rest : List ℕ) (c1 : S) (page1 : List ℕ) (w1 : Outgoing) (rest2 : List ℕ) (c2 : S) (page2 : List ℕ) (w2 : Outgoing) (flow : Option Flow)
+    → IsSoFar says bytes c w rest c1 page1 w1 → IsFirst says begins rest c1 page1 w1 rest2 c2 page2 w2 flow → IsSoFarThen says begins bytes c w rest2 c2 page2 w2 flow
+so_far_then says begins bytes c w rest c1 page1 w1 rest2 c2 page2 w2 None i h =
+    let l = so_far_left says bytes c w rest c1 page1 w1 rest2 c2 page2 w2 i h.0 h.2 h.3 h.4 in
+    (l.0, l.1, h.1, l.2)
+so_far_then says begins bytes c w rest c1 page1 w1 rest2 c2 page2 w2 (Some Next) i h =
+    (i.0 ++ h.1, talk_then says bytes c rest i.0 c1 rest2 h.1 c2 i.1 h.2, added_more i.0 h.1 [] w page1 w1 page2 w2 true i.2 h.3)
+so_far_then says begins bytes c w rest c1 page1 w1 rest2 c2 page2 w2 (Some Stop) i h =
+    let l = so_far_left says bytes c w rest c1 page1 w1 rest2 c2 page2 w2 i h.0 h.2 h.3 h.4 in
+    (l.0, l.1, h.1, l.2)
+so_far_then says begins bytes c w rest c1 page1 w1 rest2 c2 page2 w2 (Some Long) i h =
+    let l = so_far_left says bytes c w rest c1 page1 w1 rest2 c2 page2 w2 i h.0 h.2 h.3 h.4 in
+    (l.0, l.1, h.1, l.2)
+so_far_then says begins bytes c w rest c1 page1 w1 rest2 c2 page2 w2 (Some Fault) i h =
+    (rest, i.0, c1, i.1, (h.0, h.1, h.2, h.3, added_more i.0 h.1 [] w page1 w1 page2 w2 false i.2 h.4))
 
 -- the answer of a line behind these was cut short
 pub so_far_cut : {S : Type 0} (says begins : AnswerRelation S) (bytes : List ℕ) (c : S) (w : Outgoing) (rest : List ℕ) (c1 : S) (page1 : List ℕ) (w1 : Outgoing) (s after : List ℕ) (c2 : S) (page2 : List ℕ) (w2 : Outgoing)

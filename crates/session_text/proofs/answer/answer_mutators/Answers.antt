@@ -2,11 +2,12 @@ use Rattle.std.proofs.Common.{◌≡◌, ◌+◌, ◌-◌, ◌++◌, [], true, f
 use Rattle.std.proofs.lemmas.List.{length-drop}
 use Rattle.std.proofs.Math.Seq.{drop-drop}
 use Rattle.session_grammar.specs.Lines.{IsLineAt}
+use Rattle.session_grammar.proofs.NameBytes.{behind}
 use Rattle.session_text.specs.Answers.{AnswersCommand, Begins}
 use Rattle.session_text.specs.Mutators.{IsQuickIn}
 use Rattle.session_text.specs.declared.mutator.Quick.{Quick}
 use Rattle.session_text.proofs.QuickLines.{quick_flow, quick_left}
-use Rattle.session_text.proofs.AnsweredLines.{talk_none, talk_then, line_answered, line_cut, answered_left, rest_of}
+use Rattle.session_text.proofs.AnsweredLines.{talk_none, talk_then, line_answered, line_cut, answered_left}
 use Rattle.session_text.proofs.PageTexts.{added_here, added_more}
 use Rattle.session_text.proofs.answer.answer_mutators.Goals as goal
 
@@ -21,7 +22,7 @@ loop-n-preserved g c =
     let at = c.loop-n.passed in
     let n = c.answer_mutator.result.1 in
     let s = take (length t - at) (drop at t) in
-    let rest : s ≡ drop at t = rest_of t at in
+    let rest : s ≡ drop at t = behind t at in
     let h = subst (λ (q : Quick). IsQuickIn g.C.Commands.acts s c.loop-n.commands c.loop-n.page (g.O.Outlet.seen c.loop-n.writer) c.answer_mutator.new.commands c.answer_mutator.new.page (g.O.Outlet.seen c.answer_mutator.new.writer) (q, n)) c.in-Next-default.is-0 c.answer_mutator.ensures in
     let line : IsLineAt n (drop at t) = subst (λ l. IsLineAt n l) rest h.0.0 in (
       omega (arith, line.0, length-drop at t, i.0),
@@ -59,5 +60,5 @@ returns-in-Fault-default-clause-cut g c = λ _ time.
     let q = quick_flow g.C.Commands.acts g.C.Commands.unknown time s false n c.loop-n.commands c.loop-n.page w1 c.answer_mutator.new.commands c.answer_mutator.new.page w2 h in
     let e = q.1 in
     let a = c.loop-n.invariant.1 time in
-    let b = line_cut begins (drop at t) s n c.loop-n.commands e.0 c.answer_mutator.new.commands (rest_of t at) q.0.1 q.0.0 e.1 in
+    let b = line_cut begins (drop at t) s n c.loop-n.commands e.0 c.answer_mutator.new.commands (behind t at) q.0.1 q.0.0 e.1 in
     (drop at t, a.0, c.loop-n.commands, a.1, b.0, e.0, b.1, b.2, added_more a.0 e.0 c.args.page.now w0 c.loop-n.page w1 c.answer_mutator.new.page w2 false a.2 e.2)

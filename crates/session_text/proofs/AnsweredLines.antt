@@ -303,23 +303,32 @@ pub came_read : {S : Type 0} (says : AnswerRelation S) (a : Incoming) (c : S) (w
 came_read says a c w b rest c' w' reads b' rest' more reads' o line is taken read =
     inr (o.bytes, more, rest, taken ∙ ap (λ l. l ++ more) o.taken ∙ append_assoc a.taken o.bytes more, is, last_read says a c w b rest c' w' reads b' more o line read)
 
+-- the session was served up to an ending that no failed write made
+served : {S : Type 0} (says begins : AnswerRelation S) (bytes : List ℕ) (a b : Incoming) (c : S) (w : Outgoing) (c' : S) (w' : Outgoing) (ended : Ended) (rest text tail : List ℕ) → IsTalk says bytes c rest text c' → EndsCleanly rest a b ended tail → IsTextWritten (text ++ tail) w w' true → IsSessionServed says begins bytes a b c w c' w' ended
+served says begins bytes a b c w c' w' Quit rest text tail t h out = (rest, text, tail, t, h, out)
+served says begins bytes a b c w c' w' Eof rest text tail t h out = (rest, text, tail, t, h, out)
+served says begins bytes a b c w c' w' CutLine rest text tail t h out = (rest, text, tail, t, h, out)
+served says begins bytes a b c w c' w' TooLong rest text tail t h out = (rest, text, tail, t, h, out)
+served says begins bytes a b c w c' w' ReadFault rest text tail t h out = (rest, text, tail, t, h, out)
+served says begins bytes a b c w c' w' TooManyReads rest text tail t h out = (rest, text, tail, t, h, out)
+served says begins bytes a b c w c' w' WriteFault rest text tail t h out = absurd h
+served says begins bytes a b c w c' w' NoMemory rest text tail t h out = absurd h
+
 -- the lines of the buffer, and what an ending prints, unless a write fails
 pub ends_saying : {S : Type 0} (says begins : AnswerRelation S) (a : Incoming) (c : S) (w : Outgoing) (b : Incoming) (rest : List ℕ) (c1 : S) (w1 : Outgoing) (reads : ℕ) (rest' text : List ℕ) (c' : S) (b' : Incoming) (w2 : Outgoing) (ended : Ended) (tail : List ℕ) (r : Bool)
-    → (o : IsOpen says a c w b rest c1 w1 reads) → IsTalk says rest c1 rest' text c' → b'.taken ≡ b.taken → Keeps (whole b) (whole b') → EndsCleanly rest' a b' ended tail → IsTextWritten (text ++ tail) w1 w2 r
-    → ((rest : List ℕ) × (text : List ℕ) × (tail : List ℕ) × IsTalk says o.bytes c rest text c' × EndsCleanly rest a b' ended tail × IsTextWritten (text ++ tail) w w2 true → IsSessionServed says begins o.bytes a b' c w c' w2 ended)
+    → IsOpen says a c w b rest c1 w1 reads → IsTalk says rest c1 rest' text c' → b'.taken ≡ b.taken → Keeps (whole b) (whole b') → EndsCleanly rest' a b' ended tail → IsTextWritten (text ++ tail) w1 w2 r
     → (IsTextWritten (text ++ tail) w1 w2 false → Serves says begins a b' c w c' w2 WriteFault) → Serves says begins a b' c w c' w2 (ended_of ended r)
-ends_saying says begins a c w b rest c1 w1 reads rest' text c' b' w2 ended tail true o t taken same closes h is fault =
+ends_saying says begins a c w b rest c1 w1 reads rest' text c' b' w2 ended tail true o t taken same closes h fault =
     let all = subst (λ l. IsTextWritten l w w2 true) (sym (append_assoc o.text text tail)) (written_more o.text (text ++ tail) w w1 w2 true o.written h) in
-    (o.bytes, taken ∙ o.taken, keeps_then (whole a) (whole b) (whole b') o.keeps same, is (rest', o.text ++ text, tail, talk_then says o.bytes c rest o.text c1 rest' text c' o.talk t, closes, all))
-ends_saying says begins a c w b rest c1 w1 reads rest' text c' b' w2 ended tail false o t taken same closes h is fault = fault h
+    (o.bytes, taken ∙ o.taken, keeps_then (whole a) (whole b) (whole b') o.keeps same, served says begins o.bytes a b' c w c' w2 ended rest' (o.text ++ text) tail (talk_then says o.bytes c rest o.text c1 rest' text c' o.talk t) closes all)
+ends_saying says begins a c w b rest c1 w1 reads rest' text c' b' w2 ended tail false o t taken same closes h fault = fault h
 
 -- the session ends, and prints nothing more
 pub ends_plainly : {S : Type 0} (says begins : AnswerRelation S) (a : Incoming) (c : S) (w : Outgoing) (b : Incoming) (rest : List ℕ) (c' : S) (w1 : Outgoing) (reads : ℕ) (b' : Incoming) (ended : Ended)
-    → (o : IsOpen says a c w b rest c' w1 reads) → b'.taken ≡ b.taken → Keeps (whole b) (whole b') → EndsCleanly rest a b' ended []
-    → ((rest : List ℕ) × (text : List ℕ) × (tail : List ℕ) × IsTalk says o.bytes c rest text c' × EndsCleanly rest a b' ended tail × IsTextWritten (text ++ tail) w w1 true → IsSessionServed says begins o.bytes a b' c w c' w1 ended)
+    → IsOpen says a c w b rest c' w1 reads → b'.taken ≡ b.taken → Keeps (whole b) (whole b') → EndsCleanly rest a b' ended []
     → Serves says begins a b' c w c' w1 ended
-ends_plainly says begins a c w b rest c' w1 reads b' ended o taken same closes is =
-    (o.bytes, taken ∙ o.taken, keeps_then (whole a) (whole b) (whole b') o.keeps same, is (rest, o.text, [], o.talk, closes, written_more o.text [] w w1 w1 true o.written (written_none w1)))
+ends_plainly says begins a c w b rest c' w1 reads b' ended o taken same closes =
+    (o.bytes, taken ∙ o.taken, keeps_then (whole a) (whole b) (whole b') o.keeps same, served says begins o.bytes a b' c w c' w1 ended rest o.text [] o.talk closes (written_more o.text [] w w1 w1 true o.written (written_none w1)))
 
 -- ---- failed writes
 

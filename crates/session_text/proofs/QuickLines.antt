@@ -3,8 +3,9 @@ use Rattle.std.proofs.Common.{◌≡◌, Bool, true, false, cond, inl, inr, subs
 use Rattle.std.specs.Prelude.{◌==◌, suc, Option, unwrap_or, option_map, option_and_then}
 use Rattle.std.proofs.lemmas.List.{drop_all, length-take-le, get_or-take, take-append-drop, take-take}
 use Rattle.std.proofs.Math.Seq.{take-add}
-use Rattle.heap_step.specs.declared.Event.TheVariants.{Mark}
+use Rattle.heap_step.specs.declared.Event.TheVariants.{Load, Store, Put, Move, Clear, New, Mark}
 use Rattle.heap_trail.specs.declared.Action.{Action}
+use Rattle.heap_trail.specs.declared.Action.TheVariants.{Step}
 use Rattle.session_grammar.specs.declared.command.Command.{Command}
 use Rattle.session_grammar.specs.declared.command.Command.TheVariants.{Bad, Ask}
 use Rattle.session_grammar.specs.Grammar.{words_of_line, next_number, at_end, one_number, two_numbers, three_numbers, four_numbers, new_line, load_line, store_line, put_line, move_line, clear_line, step_line, rewind_line, making_rules, access_rules, marking_rules, session_rules, by_rule, without_cr, command_of_text, command_of}
@@ -30,27 +31,27 @@ use Rattle.session_grammar.proofs.NumberDigits.{none_yet, no_lf_more}
 pub asks : (t key : List ℕ) (ws : List (List ℕ)) (k : Command) → words_of_line t ≡ key ∷ ws → by_rule plain_rules key ws ≡ Some k → command_of_text t ≡ k
 asks t key ws k e is = sym (text_read t key ws e) ∙ ap (λ o. unwrap_or o Bad) is
 
-pub load_rule : (ws : List (List ℕ)) → by_rule plain_rules (codes "load") ws ≡ load_line ws
+load_rule : (ws : List (List ℕ)) → by_rule plain_rules (codes "load") ws ≡ load_line ws
 unfolding by_rule plain_class_rules making_rules access_rules marking_rules session_rules
 load_rule ws = refl
 
-pub store_rule : (ws : List (List ℕ)) → by_rule plain_rules (codes "store") ws ≡ store_line ws
+store_rule : (ws : List (List ℕ)) → by_rule plain_rules (codes "store") ws ≡ store_line ws
 unfolding by_rule plain_class_rules making_rules access_rules marking_rules session_rules
 store_rule ws = refl
 
-pub put_rule : (ws : List (List ℕ)) → by_rule plain_rules (codes "put") ws ≡ put_line ws
+put_rule : (ws : List (List ℕ)) → by_rule plain_rules (codes "put") ws ≡ put_line ws
 unfolding by_rule plain_class_rules making_rules access_rules marking_rules session_rules
 put_rule ws = refl
 
-pub move_rule : (ws : List (List ℕ)) → by_rule plain_rules (codes "move") ws ≡ move_line ws
+move_rule : (ws : List (List ℕ)) → by_rule plain_rules (codes "move") ws ≡ move_line ws
 unfolding by_rule plain_class_rules making_rules access_rules marking_rules session_rules
 move_rule ws = refl
 
-pub clear_rule : (ws : List (List ℕ)) → by_rule plain_rules (codes "clear") ws ≡ clear_line ws
+clear_rule : (ws : List (List ℕ)) → by_rule plain_rules (codes "clear") ws ≡ clear_line ws
 unfolding by_rule plain_class_rules making_rules access_rules marking_rules session_rules
 clear_rule ws = refl
 
-pub new_rule : (ws : List (List ℕ)) → by_rule plain_rules (codes "new") ws ≡ new_line ws
+new_rule : (ws : List (List ℕ)) → by_rule plain_rules (codes "new") ws ≡ new_line ws
 unfolding by_rule plain_class_rules making_rules access_rules marking_rules session_rules
 new_rule ws = refl
 
@@ -308,6 +309,24 @@ pub asks_by : {A : Type 0} (text key : List ℕ) (at : ℕ) (numbers : List (Lis
 asks_by text key at numbers action n end rule begins line low has =
     let ws = words_of_line (drop at (take end text)) in
     asks (take end text) key ws (Ask (action n)) (begins.2 end low (omega (arith, line.0.0))) (rule ws ∙ ap (λ o. option_map (λ m. Ask (action m)) o) has)
+
+pub load_asks : (text : List ℕ) (m to from slot end : ℕ) → FollowsIn (codes "load") text 5 → IsShortLine end text → 5 ≤ end → four_numbers (words_of_line (drop 5 (take end text))) ≡ Some (m, to, from, slot) → command_of_text (take end text) ≡ Ask (Step (Load m to from slot))
+load_asks text m to from slot end = asks_by text (codes "load") 5 four_numbers (λ n. Step (Load n.0 n.1 n.2 n.3)) (m, to, from, slot) end load_rule
+
+pub store_asks : (text : List ℕ) (m target slot source end : ℕ) → FollowsIn (codes "store") text 6 → IsShortLine end text → 6 ≤ end → four_numbers (words_of_line (drop 6 (take end text))) ≡ Some (m, target, slot, source) → command_of_text (take end text) ≡ Ask (Step (Store m target slot source))
+store_asks text m target slot source end = asks_by text (codes "store") 6 four_numbers (λ n. Step (Store n.0 n.1 n.2 n.3)) (m, target, slot, source) end store_rule
+
+pub put_asks : (text : List ℕ) (m target slot value end : ℕ) → FollowsIn (codes "put") text 4 → IsShortLine end text → 4 ≤ end → four_numbers (words_of_line (drop 4 (take end text))) ≡ Some (m, target, slot, value) → command_of_text (take end text) ≡ Ask (Step (Put m target slot value))
+put_asks text m target slot value end = asks_by text (codes "put") 4 four_numbers (λ n. Step (Put n.0 n.1 n.2 n.3)) (m, target, slot, value) end put_rule
+
+pub move_asks : (text : List ℕ) (m to from_m from end : ℕ) → FollowsIn (codes "move") text 5 → IsShortLine end text → 5 ≤ end → four_numbers (words_of_line (drop 5 (take end text))) ≡ Some (m, to, from_m, from) → command_of_text (take end text) ≡ Ask (Step (Move m to from_m from))
+move_asks text m to from_m from end = asks_by text (codes "move") 5 four_numbers (λ n. Step (Move n.0 n.1 n.2 n.3)) (m, to, from_m, from) end move_rule
+
+pub clear_asks : (text : List ℕ) (m r end : ℕ) → FollowsIn (codes "clear") text 6 → IsShortLine end text → 6 ≤ end → two_numbers (words_of_line (drop 6 (take end text))) ≡ Some (m, r) → command_of_text (take end text) ≡ Ask (Step (Clear m r))
+clear_asks text m r end = asks_by text (codes "clear") 6 two_numbers (λ n. Step (Clear n.0 n.1)) (m, r) end clear_rule
+
+pub new_asks : (text : List ℕ) (m r class end : ℕ) → FollowsIn (codes "new") text 4 → IsShortLine end text → 4 ≤ end → three_numbers (words_of_line (drop 4 (take end text))) ≡ Some (m, r, class) → command_of_text (take end text) ≡ Ask (Step (New m r class))
+new_asks text m r class end = asks_by text (codes "new") 4 three_numbers (λ n. Step (New n.0 n.1 n.2)) (m, r, class) end new_rule
 
 -- ---- the answer of a line
 

@@ -135,6 +135,7 @@ impl ShortLine for LoadEvent {
     ghost begins = { λ text. FollowsIn (codes "load") text 5 };
 
     #[inline(always)]
+    #[tactic(auto, using(crate::proofs::QuickLines::load_asks))]
     fn read(text: &[u8]) -> Option<(LoadEvent, usize)> {
         let (m, to, from, slot, end) = four_in(text, 5)?;
         Some((LoadEvent { m, to, from, slot }, end))
@@ -149,6 +150,7 @@ impl ShortLine for StoreEvent {
     ghost begins = { λ text. FollowsIn (codes "store") text 6 };
 
     #[inline(always)]
+    #[tactic(auto, using(crate::proofs::QuickLines::store_asks))]
     fn read(text: &[u8]) -> Option<(StoreEvent, usize)> {
         let (m, target, slot, source, end) = four_in(text, 6)?;
         Some((
@@ -171,6 +173,7 @@ impl ShortLine for PutEvent {
     ghost begins = { λ text. FollowsIn (codes "put") text 4 };
 
     #[inline(always)]
+    #[tactic(auto, using(crate::proofs::QuickLines::put_asks))]
     fn read(text: &[u8]) -> Option<(PutEvent, usize)> {
         let (m, target, slot, value, end) = four_in(text, 4)?;
         Some((
@@ -193,6 +196,7 @@ impl ShortLine for MoveEvent {
     ghost begins = { λ text. FollowsIn (codes "move") text 5 };
 
     #[inline(always)]
+    #[tactic(auto, using(crate::proofs::QuickLines::move_asks))]
     fn read(text: &[u8]) -> Option<(MoveEvent, usize)> {
         let (m, to, from_m, from, end) = four_in(text, 5)?;
         Some((
@@ -215,6 +219,7 @@ impl ShortLine for ClearEvent {
     ghost begins = { λ text. FollowsIn (codes "clear") text 6 };
 
     #[inline(always)]
+    #[tactic(auto, using(crate::proofs::QuickLines::clear_asks))]
     fn read(text: &[u8]) -> Option<(ClearEvent, usize)> {
         let (m, r, end) = two_in(text, 6)?;
         Some((ClearEvent { m, r }, end))
@@ -229,6 +234,7 @@ impl ShortLine for NewEvent {
     ghost begins = { λ text. FollowsIn (codes "new") text 4 };
 
     #[inline(always)]
+    #[tactic(auto, using(crate::proofs::QuickLines::new_asks))]
     fn read(text: &[u8]) -> Option<(NewEvent, usize)> {
         let (m, r, class, end) = three_in(text, 4)?;
         Some((NewEvent { m, r, class }, end))

@@ -31,30 +31,6 @@ use Rattle.session_grammar.proofs.NumberDigits.{none_yet, no_lf_more}
 pub asks : (t key : List ℕ) (ws : List (List ℕ)) (k : Command) → words_of_line t ≡ key ∷ ws → by_rule plain_rules key ws ≡ Some k → command_of_text t ≡ k
 asks t key ws k e is = sym (text_read t key ws e) ∙ ap (λ o. unwrap_or o Bad) is
 
-load_rule : (ws : List (List ℕ)) → by_rule plain_rules (codes "load") ws ≡ load_line ws
-unfolding by_rule plain_class_rules making_rules access_rules marking_rules session_rules
-load_rule ws = refl
-
-store_rule : (ws : List (List ℕ)) → by_rule plain_rules (codes "store") ws ≡ store_line ws
-unfolding by_rule plain_class_rules making_rules access_rules marking_rules session_rules
-store_rule ws = refl
-
-put_rule : (ws : List (List ℕ)) → by_rule plain_rules (codes "put") ws ≡ put_line ws
-unfolding by_rule plain_class_rules making_rules access_rules marking_rules session_rules
-put_rule ws = refl
-
-move_rule : (ws : List (List ℕ)) → by_rule plain_rules (codes "move") ws ≡ move_line ws
-unfolding by_rule plain_class_rules making_rules access_rules marking_rules session_rules
-move_rule ws = refl
-
-clear_rule : (ws : List (List ℕ)) → by_rule plain_rules (codes "clear") ws ≡ clear_line ws
-unfolding by_rule plain_class_rules making_rules access_rules marking_rules session_rules
-clear_rule ws = refl
-
-new_rule : (ws : List (List ℕ)) → by_rule plain_rules (codes "new") ws ≡ new_line ws
-unfolding by_rule plain_class_rules making_rules access_rules marking_rules session_rules
-new_rule ws = refl
-
 pub mark_rule : (ws : List (List ℕ)) → by_rule plain_rules (codes "mark") ws ≡ step_line Mark ws
 unfolding by_rule plain_class_rules making_rules access_rules marking_rules session_rules
 mark_rule ws = refl
@@ -95,54 +71,33 @@ follows t key n bytes read h = (
       ap words_of_line same ∙ read (drop n (take m t)),
 )
 
-load_word : (r : List ℕ) → words_of_line (108 ∷ 111 ∷ 97 ∷ 100 ∷ 32 ∷ r) ≡ codes "load" ∷ words_of_line r
-unfolding words_of_line
-load_word r = refl
-
 pub load_in : (t : List ℕ) → 5 ≤ length t → get_or t 0 0 ≡ 108 → get_or t 1 0 ≡ 111 → get_or t 2 0 ≡ 97 → get_or t 3 0 ≡ 100 → get_or t 4 0 ≡ 32 → FollowsIn (codes "load") t 5
-load_in t le e0 e1 e2 e3 e4 = follows t (codes "load") 5 (codes "load ") load_word (more t 4 32 _ (omega (arith, le)) e4 refl (more t 3 100 _ (omega (arith, le)) e3 refl (more t 2 97 _ (omega (arith, le)) e2 refl (more t 1 111 _ (omega (arith, le)) e1 refl (more t 0 108 [] (omega (arith, le)) e0 refl (nothing t))))))
-
-store_word : (r : List ℕ) → words_of_line (115 ∷ 116 ∷ 111 ∷ 114 ∷ 101 ∷ 32 ∷ r) ≡ codes "store" ∷ words_of_line r
 unfolding words_of_line
-store_word r = refl
+load_in t le e0 e1 e2 e3 e4 = follows t (codes "load") 5 (codes "load ") (λ r. refl) (more t 4 32 _ (omega (arith, le)) e4 refl (more t 3 100 _ (omega (arith, le)) e3 refl (more t 2 97 _ (omega (arith, le)) e2 refl (more t 1 111 _ (omega (arith, le)) e1 refl (more t 0 108 [] (omega (arith, le)) e0 refl (nothing t))))))
 
 pub store_in : (t : List ℕ) → 6 ≤ length t → get_or t 0 0 ≡ 115 → get_or t 1 0 ≡ 116 → get_or t 2 0 ≡ 111 → get_or t 3 0 ≡ 114 → get_or t 4 0 ≡ 101 → get_or t 5 0 ≡ 32 → FollowsIn (codes "store") t 6
-store_in t le e0 e1 e2 e3 e4 e5 = follows t (codes "store") 6 (codes "store ") store_word (more t 5 32 _ (omega (arith, le)) e5 refl (more t 4 101 _ (omega (arith, le)) e4 refl (more t 3 114 _ (omega (arith, le)) e3 refl (more t 2 111 _ (omega (arith, le)) e2 refl (more t 1 116 _ (omega (arith, le)) e1 refl (more t 0 115 [] (omega (arith, le)) e0 refl (nothing t)))))))
-
-put_word : (r : List ℕ) → words_of_line (112 ∷ 117 ∷ 116 ∷ 32 ∷ r) ≡ codes "put" ∷ words_of_line r
 unfolding words_of_line
-put_word r = refl
+store_in t le e0 e1 e2 e3 e4 e5 = follows t (codes "store") 6 (codes "store ") (λ r. refl) (more t 5 32 _ (omega (arith, le)) e5 refl (more t 4 101 _ (omega (arith, le)) e4 refl (more t 3 114 _ (omega (arith, le)) e3 refl (more t 2 111 _ (omega (arith, le)) e2 refl (more t 1 116 _ (omega (arith, le)) e1 refl (more t 0 115 [] (omega (arith, le)) e0 refl (nothing t)))))))
 
 pub put_in : (t : List ℕ) → 4 ≤ length t → get_or t 0 0 ≡ 112 → get_or t 1 0 ≡ 117 → get_or t 2 0 ≡ 116 → get_or t 3 0 ≡ 32 → FollowsIn (codes "put") t 4
-put_in t le e0 e1 e2 e3 = follows t (codes "put") 4 (codes "put ") put_word (more t 3 32 _ (omega (arith, le)) e3 refl (more t 2 116 _ (omega (arith, le)) e2 refl (more t 1 117 _ (omega (arith, le)) e1 refl (more t 0 112 [] (omega (arith, le)) e0 refl (nothing t)))))
-
-move_word : (r : List ℕ) → words_of_line (109 ∷ 111 ∷ 118 ∷ 101 ∷ 32 ∷ r) ≡ codes "move" ∷ words_of_line r
 unfolding words_of_line
-move_word r = refl
+put_in t le e0 e1 e2 e3 = follows t (codes "put") 4 (codes "put ") (λ r. refl) (more t 3 32 _ (omega (arith, le)) e3 refl (more t 2 116 _ (omega (arith, le)) e2 refl (more t 1 117 _ (omega (arith, le)) e1 refl (more t 0 112 [] (omega (arith, le)) e0 refl (nothing t)))))
 
 pub move_in : (t : List ℕ) → 5 ≤ length t → get_or t 0 0 ≡ 109 → get_or t 1 0 ≡ 111 → get_or t 2 0 ≡ 118 → get_or t 3 0 ≡ 101 → get_or t 4 0 ≡ 32 → FollowsIn (codes "move") t 5
-move_in t le e0 e1 e2 e3 e4 = follows t (codes "move") 5 (codes "move ") move_word (more t 4 32 _ (omega (arith, le)) e4 refl (more t 3 101 _ (omega (arith, le)) e3 refl (more t 2 118 _ (omega (arith, le)) e2 refl (more t 1 111 _ (omega (arith, le)) e1 refl (more t 0 109 [] (omega (arith, le)) e0 refl (nothing t))))))
-
-clear_word : (r : List ℕ) → words_of_line (99 ∷ 108 ∷ 101 ∷ 97 ∷ 114 ∷ 32 ∷ r) ≡ codes "clear" ∷ words_of_line r
 unfolding words_of_line
-clear_word r = refl
+move_in t le e0 e1 e2 e3 e4 = follows t (codes "move") 5 (codes "move ") (λ r. refl) (more t 4 32 _ (omega (arith, le)) e4 refl (more t 3 101 _ (omega (arith, le)) e3 refl (more t 2 118 _ (omega (arith, le)) e2 refl (more t 1 111 _ (omega (arith, le)) e1 refl (more t 0 109 [] (omega (arith, le)) e0 refl (nothing t))))))
 
 pub clear_in : (t : List ℕ) → 6 ≤ length t → get_or t 0 0 ≡ 99 → get_or t 1 0 ≡ 108 → get_or t 2 0 ≡ 101 → get_or t 3 0 ≡ 97 → get_or t 4 0 ≡ 114 → get_or t 5 0 ≡ 32 → FollowsIn (codes "clear") t 6
-clear_in t le e0 e1 e2 e3 e4 e5 = follows t (codes "clear") 6 (codes "clear ") clear_word (more t 5 32 _ (omega (arith, le)) e5 refl (more t 4 114 _ (omega (arith, le)) e4 refl (more t 3 97 _ (omega (arith, le)) e3 refl (more t 2 101 _ (omega (arith, le)) e2 refl (more t 1 108 _ (omega (arith, le)) e1 refl (more t 0 99 [] (omega (arith, le)) e0 refl (nothing t)))))))
-
-new_word : (r : List ℕ) → words_of_line (110 ∷ 101 ∷ 119 ∷ 32 ∷ r) ≡ codes "new" ∷ words_of_line r
 unfolding words_of_line
-new_word r = refl
+clear_in t le e0 e1 e2 e3 e4 e5 = follows t (codes "clear") 6 (codes "clear ") (λ r. refl) (more t 5 32 _ (omega (arith, le)) e5 refl (more t 4 114 _ (omega (arith, le)) e4 refl (more t 3 97 _ (omega (arith, le)) e3 refl (more t 2 101 _ (omega (arith, le)) e2 refl (more t 1 108 _ (omega (arith, le)) e1 refl (more t 0 99 [] (omega (arith, le)) e0 refl (nothing t)))))))
 
 pub new_in : (t : List ℕ) → 4 ≤ length t → get_or t 0 0 ≡ 110 → get_or t 1 0 ≡ 101 → get_or t 2 0 ≡ 119 → get_or t 3 0 ≡ 32 → FollowsIn (codes "new") t 4
-new_in t le e0 e1 e2 e3 = follows t (codes "new") 4 (codes "new ") new_word (more t 3 32 _ (omega (arith, le)) e3 refl (more t 2 119 _ (omega (arith, le)) e2 refl (more t 1 101 _ (omega (arith, le)) e1 refl (more t 0 110 [] (omega (arith, le)) e0 refl (nothing t)))))
-
-rewind_word : (r : List ℕ) → words_of_line (114 ∷ 101 ∷ 119 ∷ 105 ∷ 110 ∷ 100 ∷ 32 ∷ r) ≡ codes "rewind" ∷ words_of_line r
 unfolding words_of_line
-rewind_word r = refl
+new_in t le e0 e1 e2 e3 = follows t (codes "new") 4 (codes "new ") (λ r. refl) (more t 3 32 _ (omega (arith, le)) e3 refl (more t 2 119 _ (omega (arith, le)) e2 refl (more t 1 101 _ (omega (arith, le)) e1 refl (more t 0 110 [] (omega (arith, le)) e0 refl (nothing t)))))
 
 pub rewind_in : (t : List ℕ) → 7 ≤ length t → get_or t 0 0 ≡ 114 → get_or t 1 0 ≡ 101 → get_or t 2 0 ≡ 119 → get_or t 3 0 ≡ 105 → get_or t 4 0 ≡ 110 → get_or t 5 0 ≡ 100 → get_or t 6 0 ≡ 32 → FollowsIn (codes "rewind") t 7
-rewind_in t le e0 e1 e2 e3 e4 e5 e6 = follows t (codes "rewind") 7 (codes "rewind ") rewind_word (more t 6 32 _ (omega (arith, le)) e6 refl (more t 5 100 _ (omega (arith, le)) e5 refl (more t 4 110 _ (omega (arith, le)) e4 refl (more t 3 105 _ (omega (arith, le)) e3 refl (more t 2 119 _ (omega (arith, le)) e2 refl (more t 1 101 _ (omega (arith, le)) e1 refl (more t 0 114 [] (omega (arith, le)) e0 refl (nothing t))))))))
+unfolding words_of_line
+rewind_in t le e0 e1 e2 e3 e4 e5 e6 = follows t (codes "rewind") 7 (codes "rewind ") (λ r. refl) (more t 6 32 _ (omega (arith, le)) e6 refl (more t 5 100 _ (omega (arith, le)) e5 refl (more t 4 110 _ (omega (arith, le)) e4 refl (more t 3 105 _ (omega (arith, le)) e3 refl (more t 2 119 _ (omega (arith, le)) e2 refl (more t 1 101 _ (omega (arith, le)) e1 refl (more t 0 114 [] (omega (arith, le)) e0 refl (nothing t))))))))
 
 pub mark_word : words_of_line (codes "mark") ≡ codes "mark" ∷ []
 unfolding words_of_line
@@ -311,22 +266,28 @@ asks_by text key at numbers action n end rule begins line low has =
     asks (take end text) key ws (Ask (action n)) (begins.2 end low (omega (arith, line.0.0))) (rule ws ∙ ap (λ o. option_map (λ m. Ask (action m)) o) has)
 
 pub load_asks : (text : List ℕ) (m to from slot end : ℕ) → FollowsIn (codes "load") text 5 → IsShortLine end text → 5 ≤ end → four_numbers (words_of_line (drop 5 (take end text))) ≡ Some (m, to, from, slot) → command_of_text (take end text) ≡ Ask (Step (Load m to from slot))
-load_asks text m to from slot end = asks_by text (codes "load") 5 four_numbers (λ n. Step (Load n.0 n.1 n.2 n.3)) (m, to, from, slot) end load_rule
+unfolding by_rule plain_class_rules making_rules access_rules marking_rules session_rules
+load_asks text m to from slot end = asks_by text (codes "load") 5 four_numbers (λ n. Step (Load n.0 n.1 n.2 n.3)) (m, to, from, slot) end (λ ws. refl)
 
 pub store_asks : (text : List ℕ) (m target slot source end : ℕ) → FollowsIn (codes "store") text 6 → IsShortLine end text → 6 ≤ end → four_numbers (words_of_line (drop 6 (take end text))) ≡ Some (m, target, slot, source) → command_of_text (take end text) ≡ Ask (Step (Store m target slot source))
-store_asks text m target slot source end = asks_by text (codes "store") 6 four_numbers (λ n. Step (Store n.0 n.1 n.2 n.3)) (m, target, slot, source) end store_rule
+unfolding by_rule plain_class_rules making_rules access_rules marking_rules session_rules
+store_asks text m target slot source end = asks_by text (codes "store") 6 four_numbers (λ n. Step (Store n.0 n.1 n.2 n.3)) (m, target, slot, source) end (λ ws. refl)
 
 pub put_asks : (text : List ℕ) (m target slot value end : ℕ) → FollowsIn (codes "put") text 4 → IsShortLine end text → 4 ≤ end → four_numbers (words_of_line (drop 4 (take end text))) ≡ Some (m, target, slot, value) → command_of_text (take end text) ≡ Ask (Step (Put m target slot value))
-put_asks text m target slot value end = asks_by text (codes "put") 4 four_numbers (λ n. Step (Put n.0 n.1 n.2 n.3)) (m, target, slot, value) end put_rule
+unfolding by_rule plain_class_rules making_rules access_rules marking_rules session_rules
+put_asks text m target slot value end = asks_by text (codes "put") 4 four_numbers (λ n. Step (Put n.0 n.1 n.2 n.3)) (m, target, slot, value) end (λ ws. refl)
 
 pub move_asks : (text : List ℕ) (m to from_m from end : ℕ) → FollowsIn (codes "move") text 5 → IsShortLine end text → 5 ≤ end → four_numbers (words_of_line (drop 5 (take end text))) ≡ Some (m, to, from_m, from) → command_of_text (take end text) ≡ Ask (Step (Move m to from_m from))
-move_asks text m to from_m from end = asks_by text (codes "move") 5 four_numbers (λ n. Step (Move n.0 n.1 n.2 n.3)) (m, to, from_m, from) end move_rule
+unfolding by_rule plain_class_rules making_rules access_rules marking_rules session_rules
+move_asks text m to from_m from end = asks_by text (codes "move") 5 four_numbers (λ n. Step (Move n.0 n.1 n.2 n.3)) (m, to, from_m, from) end (λ ws. refl)
 
 pub clear_asks : (text : List ℕ) (m r end : ℕ) → FollowsIn (codes "clear") text 6 → IsShortLine end text → 6 ≤ end → two_numbers (words_of_line (drop 6 (take end text))) ≡ Some (m, r) → command_of_text (take end text) ≡ Ask (Step (Clear m r))
-clear_asks text m r end = asks_by text (codes "clear") 6 two_numbers (λ n. Step (Clear n.0 n.1)) (m, r) end clear_rule
+unfolding by_rule plain_class_rules making_rules access_rules marking_rules session_rules
+clear_asks text m r end = asks_by text (codes "clear") 6 two_numbers (λ n. Step (Clear n.0 n.1)) (m, r) end (λ ws. refl)
 
 pub new_asks : (text : List ℕ) (m r class end : ℕ) → FollowsIn (codes "new") text 4 → IsShortLine end text → 4 ≤ end → three_numbers (words_of_line (drop 4 (take end text))) ≡ Some (m, r, class) → command_of_text (take end text) ≡ Ask (Step (New m r class))
-new_asks text m r class end = asks_by text (codes "new") 4 three_numbers (λ n. Step (New n.0 n.1 n.2)) (m, r, class) end new_rule
+unfolding by_rule plain_class_rules making_rules access_rules marking_rules session_rules
+new_asks text m r class end = asks_by text (codes "new") 4 three_numbers (λ n. Step (New n.0 n.1 n.2)) (m, r, class) end (λ ws. refl)
 
 -- ---- the answer of a line
 

@@ -2,6 +2,8 @@
 use Rattle.std.proofs.Common.{◌≡◌, ◌⊎◌, ℕ, ◌+◌, ◌-◌, Bool, true, false, List, length, Option, Some, None, Result, Ok, Err, inl, inr, refl, sym, ap, subst, ◌∙◌, IfOk, OnOk}
 use Rattle.std.specs.Prelude.{IfErr, slice_index, unwrap_or, if◌then◌else◌}
 use Rattle.std.specs.Option.{option_map_or}
+use Rattle.std.specs.Result.{IsErrAnd}
+use Rattle.std.proofs.lemmas.Result.{err_from_is_err_and}
 use Rattle.heap_class.specs.declared.ObjRef.{ObjRef}
 use Rattle.heap_class.specs.declared.Refusal.{Refusal}
 use Rattle.heap_class.specs.declared.Refusal.TheVariants.{NoMemory}
@@ -24,8 +26,10 @@ use Rattle.heap_step.specs.Laws.{IsApplied, StaysFound}
 use Rattle.heap_step.proofs.EventLaws.{keeps_legal, stays_found}
 
 -- a refusal
-pub refused_is : (e : Event) (before after : HeapState) (r : Refusal) → IsAnswered {A = Answer × Undo} (refusal_of e before) (event_may_grow e before) (Err r) → after ≡ before → IsApplied e before after (Err r)
-refused_is e before after r answered same = record { answered = answered; state = tt; answer = tt; recorded = tt; unchanged = same }
+pub refused_as : (e : Event) (before after : HeapState) (result : Result (Answer × Undo) Refusal) (r : Refusal) → IsErrAnd result (λ d. d ≡ r) → IsAnswered {A = Answer × Undo} (refusal_of e before) (event_may_grow e before) (Err r) → after ≡ before → IsApplied e before after result
+refused_as e before after result r is answered same =
+    let p = err_from_is_err_and result is in
+    rw (p.1, p.2) (record { answered = answered; state = tt; answer = tt; recorded = tt; unchanged = same })
 
 -- an answer with its record
 pub done_is : (e : Event) (before after : HeapState) (a : Answer) (u : Undo) → refusal_of e before ≡ None → after ≡ state_after e before → a ≡ answer_of e before after → u ≡ undo_record e before → IsApplied e before after (Ok (a, u))

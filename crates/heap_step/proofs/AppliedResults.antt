@@ -13,9 +13,9 @@ use Rattle.heap_region.specs.Pool.{RegionPool, new_place, fresh_region}
 use Rattle.heap_sweep.specs.declared.Reclaimed.{Reclaimed}
 use Rattle.heap_sweep.specs.declared.Reclaimed.TheVariants.{Swept, Emptied}
 use Rattle.heap_sweep.specs.Sweep.{is_emptied, dead_at, reclaimed, reclaimed_dead, reclaimed_emptied}
-use Rattle.heap_world.specs.State.{HeapState, pool_of, register, place_of, word_of}
+use Rattle.heap_world.specs.State.{HeapState, pool_of, register, word_of}
 use Rattle.heap_world.specs.Legal.{IsLegal}
-use Rattle.heap_world.specs.Events.{is_reference_slot, is_logged, after_mark, after_drain}
+use Rattle.heap_world.specs.Events.{is_reference_slot, after_mark, after_drain}
 use Rattle.heap_step.specs.declared.Answer.{Answer}
 use Rattle.heap_step.specs.declared.Answer.TheVariants.{Value}
 use Rattle.heap_step.specs.declared.Event.{Event}
@@ -45,13 +45,6 @@ new_record_is w m r n at fresh old place held =
 pub reg_record_is : (w : HeapState) (m r old : ℕ) → old ≡ register w m r → Undo.Reg m r old ≡ reg_record m r w
 unfolding reg_record
 reg_record_is w m r old held = ap (λ x. Undo.Reg m r x) held
-
-pub put_record_is : (w : HeapState) (m target slot : ℕ) (at : ObjRef) (old : ℕ) → at ≡ place_of w (register w m target) → old ≡ word_of w (register w m target) slot → Undo.Put at slot old ≡ Undo.Put (place_of w (register w m target)) slot (word_of w (register w m target) slot)
-put_record_is w m target slot at old place held = λ i. Undo.Put (place i) slot (held i)
-
-pub store_record_is : (w : HeapState) (m target slot : ℕ) (at : ObjRef) (old : ℕ) (logged : Bool) → at ≡ place_of w (register w m target) → old ≡ word_of w (register w m target) slot → logged ≡ is_logged w (register w m target) slot
-    → Undo.Store at slot old logged ≡ Undo.Store (place_of w (register w m target)) slot (word_of w (register w m target) slot) (is_logged w (register w m target) slot)
-store_record_is w m target slot at old logged place held log = λ i. Undo.Store (place i) slot (held i) (log i)
 
 pub mark_record_is : (w v : HeapState) (parent pushed : ℕ) → v ≡ after_mark w → parent ≡ slice_index w.gray 0 → pushed ≡ length v.gray + 1 - length w.gray → Undo.Mark parent pushed ≡ Undo.Mark (slice_index w.gray 0) (length (after_mark w).gray + 1 - length w.gray)
 mark_record_is w v parent pushed state named grown = λ i. Undo.Mark (named i) ((grown ∙ ap (λ (u : HeapState). length u.gray + 1 - length w.gray) state) i)

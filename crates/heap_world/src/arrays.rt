@@ -1,10 +1,9 @@
 //! Arrays and their classes.
-ghost use Rattle.std.specs.Prelude.{◌≡◌, length, Some, true, IsTrue, IfOk, IfErr, OnOk, OnErr};
+ghost use Rattle.std.specs.Prelude.{◌≡◌, length, Some, true, IfOk, IfErr, OnOk, OnErr};
 ghost use Rattle.heap_class.specs.Classes.{array_class, class_refusal};
 ghost use Rattle.heap_class.specs.Refusals.{IsAnswered};
 ghost use Rattle.heap_class.specs.declared.ObjKind.TheVariants.{Array, Prim};
-ghost use Rattle.heap_world.specs.State.{is_register};
-ghost use Rattle.heap_world.specs.Legal.{HasKind};
+ghost use Rattle.heap_world.specs.Legal.{MayHold};
 ghost use Rattle.heap_world.specs.Events.{after_class, new_array_refusal, new_prim_refusal, IsNewObject};
 
 use super::{ARRAY_LIMIT, Created, World};
@@ -53,8 +52,7 @@ impl World {
 
     // Checks that such an object array may be made if there is room. Fails with BadRegister, NoClass, WrongKind or TooLarge.
     fn allow_array(&self, m: u64, r: u64, class: ClassNo, len: u64) -> Result<(), Refusal>
-        ensures register { OnOk result (IsTrue (is_register self.now m r)) }
-        ensures kind { OnOk result (HasKind self.now.classes (Array class) len) }
+        ensures allowed { OnOk result (MayHold self.now m r (Array class) len) }
         ensures refused { IfErr result (λ e. new_array_refusal m r class len self.now ≡ Some e) }
     {
         if !self.has_register(m, r) {
@@ -74,8 +72,7 @@ impl World {
 
     // Checks that such an array of values may be made if there is room. Fails with BadRegister, WrongKind or TooLarge.
     fn allow_prim(&self, m: u64, r: u64, kind: Kind, len: u64) -> Result<(), Refusal>
-        ensures register { OnOk result (IsTrue (is_register self.now m r)) }
-        ensures kind { OnOk result (HasKind self.now.classes (Prim kind) len) }
+        ensures allowed { OnOk result (MayHold self.now m r (Prim kind) len) }
         ensures refused { IfErr result (λ e. new_prim_refusal m r kind len self.now ≡ Some e) }
     {
         if !self.has_register(m, r) {

@@ -10,8 +10,8 @@ ghost use Rattle.heap_class.specs.declared.Refusal.TheVariants.{NoMemory, NullRe
 ghost use Rattle.heap_region.specs.Regions.{object_at, ref_of, slot_kinds, with_word};
 ghost use Rattle.heap_region.specs.Pool.{new_place, is_fresh, unallocated};
 ghost use Rattle.heap_world.specs.Limits.{AreHeapSettings, HeapSettings, mutator_limit, registers_each};
-ghost use Rattle.heap_world.specs.State.{HeapState, opening_state, is_register, register, with_register, pool_of, with_pool, slot_kind};
-ghost use Rattle.heap_world.specs.Legal.{IsLegal, HasKind};
+ghost use Rattle.heap_world.specs.State.{HeapState, opening_state, is_register, register, with_register, pool_of, with_pool, place_in, slot_kind};
+ghost use Rattle.heap_world.specs.Legal.{IsLegal, MayHold};
 ghost use Rattle.heap_world.specs.Events.{after_class, is_full, new_refusal, after_new, put_refusal, after_put, IsNewObject, IsSlotAt};
 
 mod arrays;
@@ -438,8 +438,7 @@ impl World {
     // Makes an object of a kind that exists, with `len` slots, in a register. Fails with HeapFull or NoMemory.
     #[inline(always)]
     fn make(&mut self, m: u64, r: u64, kind: ObjKind, len: u64) -> Result<Created, Refusal>
-        requires register { IsTrue (is_register self.old m r) }
-        requires kind { HasKind self.old.classes kind len }
+        requires { MayHold self.old m r kind len }
         ensures room { OnOk result (is_full len self.old ≡ false) }
         ensures refused { IfErr result
             (λ e. ((e ≡ HeapFull) × (is_full len self.old ≡ true))
@@ -499,8 +498,7 @@ impl World {
     fn put_place(&self, m: u64, target: u64, slot: u64, value: u64) -> Result<ObjRef, Refusal>
         ensures accepted { OnOk result (put_refusal m target slot value self.now ≡ None) }
         ensures refused { IfErr result (λ e. put_refusal m target slot value self.now ≡ Some e) }
-        ensures placed { IfOk result
-            (λ at. ref_of self.now.regions (register self.now m target) ≡ Some at) }
+        ensures placed { IfOk result (λ at. place_in self.now m target ≡ Some at) }
     {
         if !self.has_register(m, target) {
             return Err(Refusal::BadRegister);

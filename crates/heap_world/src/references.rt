@@ -1,8 +1,8 @@
 //! Slots of references, and registers.
 ghost use Rattle.std.specs.Prelude.{◌≡◌, ◌<◌, length, Some, None, false, IsTrue, IsSome, IfSome, IfOk, IfErr, OnOk, OnErr, if◌then◌else◌};
 ghost use Rattle.heap_class.specs.Refusals.{IsAnswered};
-ghost use Rattle.heap_region.specs.Regions.{object_at, ref_of, with_word};
-ghost use Rattle.heap_world.specs.State.{is_register, register, with_register, word_of};
+ghost use Rattle.heap_region.specs.Regions.{object_at, with_word};
+ghost use Rattle.heap_world.specs.State.{is_register, register, with_register, place_in, word_of};
 ghost use Rattle.heap_world.specs.Legal.{IsLegal};
 ghost use Rattle.heap_world.specs.Events.{is_reference_slot, load_refusal, after_load, is_logged, without_last, store_refusal, after_store, move_refusal, after_move, clear_refusal, IsSlotAt};
 
@@ -151,8 +151,7 @@ impl World {
     fn store_place(&self, m: u64, target: u64, slot: u64, source: u64) -> Result<ObjRef, Refusal>
         ensures accepted { OnOk result (store_refusal m target slot source self.now ≡ None) }
         ensures refused { IfErr result (λ e. store_refusal m target slot source self.now ≡ Some e) }
-        ensures placed { IfOk result
-            (λ at. ref_of self.now.regions (register self.now m target) ≡ Some at) }
+        ensures placed { IfOk result (λ at. place_in self.now m target ≡ Some at) }
     {
         if !self.has_register(m, target) || !self.has_register(m, source) {
             return Err(Refusal::BadRegister);

@@ -1,9 +1,9 @@
 use Rattle.std.proofs.Common.{refl}
 use Rattle.heap_step.specs.Apply.{refusal_of, state_after, answer_of}
 use Rattle.heap_step.specs.Records.{undo_record}
-use Rattle.heap_step.proofs.AppliedResults.{done_is, put_record_is}
+use Rattle.heap_step.proofs.AppliedResults.{done_is}
 use Rattle.heap_step.proofs.events.put.Goals as goal
 
 pub returns : goal.returns
 unfolding refusal_of state_after answer_of undo_record
-returns c = let h = c.in_ok-overwritten.ensures in done_is _ _ _ _ _ h.answered h.written refl (put_record_is c.args.world.now c.args.m c.args.target c.args.slot c.in_ok-overwritten.overwritten.at c.in_ok-overwritten.overwritten.old h.slot.placed h.slot.held)
+returns c = let h = c.in_ok-overwritten.ensures in done_is _ _ _ _ _ h.answered h.written refl (cc (h.slot.placed, h.slot.held))

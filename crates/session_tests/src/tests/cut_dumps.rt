@@ -1,5 +1,5 @@
 //! A dump in the middle of which a write fails.
-use crate::sessions::{answers, is_answered, new_local, serve_over};
+use super::sessions::{answers, is_answered, new_local, serve_over};
 use heap_scripts::Sink;
 use session_text::{Ended, Local};
 use std::alloc::Global;

@@ -1,6 +1,6 @@
 //! Dumps of one point through the pump, into outlets that fail.
-use crate::examples::{DUMP_OF_ONE_POINT, POINT, POINT_MADE};
-use crate::sessions::{is_answered, new_local};
+use super::examples::{DUMP_OF_ONE_POINT, POINT, POINT_MADE};
+use super::sessions::{is_answered, new_local};
 use dump_pump::{Outlet, Pumped, WriteOutlet, pump};
 use heap_scripts::{Machine, Sink};
 use pin_dump::{LostCause, PinSource};

@@ -1,7 +1,7 @@
 //! Readers and writers that fail.
-use crate::examples::{POINT_AND_DUMP, SWEPT_POINTS};
-use crate::sessions::{answers, is_answered, new_local, serve_over};
-use crate::streams::ByteReader;
+use super::examples::{POINT_AND_DUMP, SWEPT_POINTS};
+use super::sessions::{answers, is_answered, new_local, serve_over};
+use super::streams::ByteReader;
 use heap_scripts::Sink;
 use session_text::{Ended, Local};
 use std::alloc::Global;

@@ -1,6 +1,6 @@
 //! Pins of others.
-use crate::saves::save_seen;
-use crate::sessions::new_machine;
+use super::saves::save_seen;
+use super::sessions::new_machine;
 use heap_scripts::Machine;
 use pin_dump::Silent;
 use session_text::Local;

@@ -1,7 +1,7 @@
 //! A dump of two pages, through the pipe, and what a gauge sees of it.
-use crate::dumps::pump_state;
-use crate::saves::save_seen;
-use crate::sessions::{is_answered, new_local};
+use super::dumps::pump_state;
+use super::saves::save_seen;
+use super::sessions::{is_answered, new_local};
 use dump_pump::{Pumped, WriteOutlet};
 use heap_scripts::{Machine, new};
 use pin_dump::Gauge;

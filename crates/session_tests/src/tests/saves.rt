@@ -1,6 +1,6 @@
 //! Sessions that are saved into memory.
-use crate::examples::{DUMP_OF_ONE_POINT, POINT, POINT_SAVED};
-use crate::sessions::new_local;
+use super::examples::{DUMP_OF_ONE_POINT, POINT, POINT_SAVED};
+use super::sessions::new_local;
 use dump_pump::{Outlet, Pumped, WriteOutlet};
 use heap_save::{LastDump, Outlets, Saved, save_into};
 use heap_scripts::Sink;

@@ -1,6 +1,6 @@
 //! Acts in one thread: receipts around a rewind, and the calls of one who holds the lock.
-use crate::scenes::{Scene, Stage, play_scene};
-use crate::shared::did;
+use super::scenes::{Scene, Stage, play_scene};
+use super::shared::did;
 use heap_class::{Kind, LostCause, Refusal};
 use heap_lock::{Heap, Kept, Outcome, Receipt, Role, Seat, Verdict, audit};
 use heap_scripts::{Action, Answer, Event, FIRST, PinAt};

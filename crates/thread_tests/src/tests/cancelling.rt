@@ -1,11 +1,11 @@
 //! Pumps that are cancelled between two parts.
 ghost use Rattle.std.specs.Prelude.{◌≡◌};
 
-use crate::meters::{FourSeats, new_meter};
-use crate::points::one_point;
-use crate::scenes::{Scene, Stage, play_scene};
-use crate::shared::{closes_pin, opened_pin};
-use crate::sources::AskingSource;
+use super::meters::{FourSeats, new_meter};
+use super::points::one_point;
+use super::scenes::{Scene, Stage, play_scene};
+use super::shared::{closes_pin, opened_pin};
+use super::sources::AskingSource;
 use dump_pipe::{AskSeat, FeedSeat, Meter, Watched};
 use dump_pump::{Pumped, WriteOutlet, pump};
 use heap_lock::{Heap, LockedSource, Shared};

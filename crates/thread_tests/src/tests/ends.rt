@@ -6,12 +6,12 @@ ghost use Rattle.dump_pipe.specs.Ends.{sends_on, receives_on};
 ghost use Rattle.dump_pipe.specs.Seats.{sum};
 ghost use Rattle.dump_pipe.specs.declared.end_view.EndView.TheVariants.{Sends, Gets};
 
-use crate::meters::{FourSeats, new_meter};
-use crate::points::one_point;
-use crate::scenes::{Scene, Stage, play_scene};
-use crate::shared::{closes_pin, has_points, opened_pin, pumped_now};
-use crate::sinks::reaches;
-use crate::sources::Counted;
+use super::meters::{FourSeats, new_meter};
+use super::points::one_point;
+use super::scenes::{Scene, Stage, play_scene};
+use super::shared::{closes_pin, has_points, opened_pin, pumped_now};
+use super::sinks::reaches;
+use super::sources::Counted;
 use dump_pipe::start::Start;
 use dump_pipe::{
     BothEnds, Counter, End, Knowledge, Meter, OutSeat, Receiver, Sender, drain_pipe, feed, pipe,

@@ -1,8 +1,8 @@
 //! Gates of workers: each is passed once before each act, and without the lock.
-use crate::scenes::{Scene, Stage, play_scene};
-use crate::shared::did;
-use crate::sinks::reaches;
-use crate::workers::{began, marks, sweeps};
+use super::scenes::{Scene, Stage, play_scene};
+use super::shared::did;
+use super::sinks::reaches;
+use super::workers::{began, marks, sweeps};
 use heap_lock::{Heap, Role, Seat, Shared};
 use heap_scripts::{Action, Event};
 use heap_work::{Gate, MarkEnd, SweepEnd};

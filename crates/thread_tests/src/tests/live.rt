@@ -2,8 +2,8 @@
 ghost use Rattle.std.specs.Prelude.{◌≡◌};
 ghost use denote.Param.Send.{IsSync};
 
-use crate::shared::{acts, live_pin, pump_into, put_x, stream_into};
-use crate::sinks::{Gated, reaches};
+use super::shared::{acts, live_pin, pump_into, put_x, stream_into};
+use super::sinks::{Gated, reaches};
 use dump_pipe::{AskSeat, Cancel};
 use dump_pump::Pumped;
 use heap_lock::{Heap, Seat, Shared};

@@ -1,10 +1,10 @@
 //! Dumps of a shared heap's pin, by `pump` and by `stream`.
-use crate::live::{Seen, pumped_beside, streamed_beside, streamed_cancelled};
-use crate::metered::unread;
-use crate::meters::{FourSeats, new_meter, stream_seats};
-use crate::points::one_point;
-use crate::scenes::{Scene, Stage, play_scene};
-use crate::shared::{has_points, opened_pin, pumped_now};
+use super::live::{Seen, pumped_beside, streamed_beside, streamed_cancelled};
+use super::metered::unread;
+use super::meters::{FourSeats, new_meter, stream_seats};
+use super::points::one_point;
+use super::scenes::{Scene, Stage, play_scene};
+use super::shared::{has_points, opened_pin, pumped_now};
 use dump_pump::Pumped;
 use heap_lock::{Heap, Shared};
 use heap_scripts::Sink;

@@ -3,10 +3,10 @@ ghost use Rattle.std.specs.Prelude.{◌≡◌};
 ghost use denote.Param.Send.{IsSync};
 ghost use Rattle.dump_pipe.specs.Seats.{sum};
 
-use crate::meters::{FourSeats, new_meter, stream_seats};
-use crate::scenes::{Scene, Stage, play_scene};
-use crate::shared::{has_points, live_pin, opened_pin, pumped_now, stream_into};
-use crate::sinks::{Gated, TURNS, reaches};
+use super::meters::{FourSeats, new_meter, stream_seats};
+use super::scenes::{Scene, Stage, play_scene};
+use super::shared::{has_points, live_pin, opened_pin, pumped_now, stream_into};
+use super::sinks::{Gated, TURNS, reaches};
 use dump_pipe::{Counter, Meter, OutSeat, Progress, ReadSeat, pump_counted};
 use dump_pump::{Pumped, WriteOutlet};
 use heap_lock::{Heap, LockedSource, Shared};

@@ -1,5 +1,5 @@
 //! One point, and its dump by hand.
-use crate::shared::has_points;
+use super::shared::has_points;
 use heap_lock::{Heap, Seat, Shared};
 use std::alloc::Global;
 use std::sync::Wait;

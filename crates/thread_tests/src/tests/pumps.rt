@@ -1,7 +1,7 @@
 //! Pumps into outlets that fail: a worked example.
-use crate::points::one_point;
-use crate::scenes::{Scene, Stage, play_scene};
-use crate::shared::pumped_now;
+use super::points::one_point;
+use super::scenes::{Scene, Stage, play_scene};
+use super::shared::pumped_now;
 use dump_pump::Pumped;
 use heap_lock::{Heap, Shared};
 use heap_scripts::Sink;

@@ -1,6 +1,6 @@
 //! A chronicle that drops its oldest entries, and audits of receipts whose entries it dropped.
-use crate::scenes::{Scene, Stage, play_scene};
-use crate::shared::did;
+use super::scenes::{Scene, Stage, play_scene};
+use super::shared::did;
 use heap_lock::{Heap, Kept, Outcome, Receipt, Seat, Shared, Verdict, audit};
 use heap_scripts::{Action, Answer, Event};
 use std::sync::Wait;

@@ -1,16 +1,16 @@
 //! Worked examples, each over a new heap under its lock.
 ghost use Rattle.heap_lock.specs.Blanks.{IsNamed};
 
-use crate::acts::{five_calls, rewind_between};
-use crate::cancelling::cancelled_pumps;
-use crate::ends::{failing_ends, nine_asked};
-use crate::gates::watched_workers;
-use crate::live_tests::{pump_beside, stream_beside, stream_cancelled};
-use crate::metered::{counted_pumps, metered_streams};
-use crate::pumps::failing_pumps;
-use crate::rolls::rolling;
-use crate::threads::four_threads;
-use crate::workers::cycles;
+use super::acts::{five_calls, rewind_between};
+use super::cancelling::cancelled_pumps;
+use super::ends::{failing_ends, nine_asked};
+use super::gates::watched_workers;
+use super::live_tests::{pump_beside, stream_beside, stream_cancelled};
+use super::metered::{counted_pumps, metered_streams};
+use super::pumps::failing_pumps;
+use super::rolls::rolling;
+use super::threads::four_threads;
+use super::workers::cycles;
 use heap_lock::{Blank, Heap, Role, Seat, Seats, Shared};
 use heap_scripts::Config;
 use std::alloc::Global;

@@ -1,6 +1,6 @@
 //! Seats in threads of their own, whose receipts agree with one history.
-use crate::scenes::{Five, Scene, Stage, play_scene};
-use crate::shared::did;
+use super::scenes::{Five, Scene, Stage, play_scene};
+use super::shared::did;
 use heap_class::Kind;
 use heap_lock::{Heap, Kept, Receipt, Role, Seat, Shared, Verdict, audit};
 use heap_scripts::{Action, Event};

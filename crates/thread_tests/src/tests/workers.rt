@@ -1,8 +1,8 @@
 //! Workers in one thread: a whole cycle, and gates that let no act begin.
 ghost use Rattle.std.specs.Prelude.{◌<◌, ◌≤◌};
 
-use crate::scenes::{Five, Scene, Stage, play_scene};
-use crate::shared::acts;
+use super::scenes::{Five, Scene, Stage, play_scene};
+use super::shared::acts;
 use heap_class::Refusal;
 use heap_lock::{Heap, Outcome, Receipt, Role, Seat, Shared, Verdict, audit};
 use heap_scripts::{Action, Answer, Event, new, node};

@@ -2,8 +2,8 @@
 use super::scenes::{Scene, Stage, play_scene};
 use super::shared::did;
 use super::sinks::reaches;
-use super::workers::{began, marks, sweeps};
-use heap_lock::{Heap, Role, Seat, Shared};
+use super::workers::{WorkEnd, began, run_worker};
+use heap_lock::{Heap, Seat, Shared};
 use heap_scripts::{Action, Event};
 use heap_work::{Gate, MarkEnd, SweepEnd};
 use std::sync::Wait;
@@ -78,11 +78,10 @@ fn works<L: Heap, R: Wait>(
         here,
         seen,
     };
-    let ended = if seat.role() == Role::Marker {
-        marks(rt, shared, seat, &mut gate, turns) == Some(MarkEnd::TurnsOver)
-    } else {
-        sweeps(rt, shared, seat, &mut gate, turns) == Some(SweepEnd::Swept)
-    };
+    let ended = matches!(
+        run_worker(rt, shared, seat, &mut gate, turns),
+        Some(WorkEnd::Marked(MarkEnd::TurnsOver) | WorkEnd::Swept(SweepEnd::Swept))
+    );
     ended && gate.passes == turns
 }
 

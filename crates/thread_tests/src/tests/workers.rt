@@ -12,32 +12,28 @@ use std::sync::Wait;
 use std::test::*;
 use std::thread::Threads;
 
-/// Runs the worker of the marker's seat. Returns how it ended, or None if the seat isn't the marker's.
-pub fn marks<L: Heap, R: Wait, G: Gate>(
-    rt: &R,
-    shared: &Shared<L>,
-    seat: &mut Seat<L>,
-    gate: &mut G,
-    turns: u64,
-) -> Option<MarkEnd> {
-    if seat.role() == Role::Marker {
-        return Some(mark_worker(shared, rt, seat, gate, turns));
-    }
-    None
+/// How a worker ended.
+#[derive(Clone, Copy, PartialEq, Eq, Debug)]
+pub enum WorkEnd {
+    /// The end of the marker's work.
+    Marked(MarkEnd),
+    /// The end of the sweeper's work.
+    Swept(SweepEnd),
 }
 
-/// Runs the worker of the sweeper's seat. Returns how it ended, or None if the seat isn't the sweeper's.
-pub fn sweeps<L: Heap, R: Wait, G: Gate>(
+/// Runs the worker of a seat. Returns how it ended, or None if the seat is neither the marker's nor the sweeper's.
+pub fn run_worker<L: Heap, R: Wait, G: Gate>(
     rt: &R,
     shared: &Shared<L>,
     seat: &mut Seat<L>,
     gate: &mut G,
     turns: u64,
-) -> Option<SweepEnd> {
-    if seat.role() == Role::Sweeper {
-        return Some(sweep_worker(shared, rt, seat, gate, turns));
+) -> Option<WorkEnd> {
+    match seat.role() {
+        Role::Marker => Some(WorkEnd::Marked(mark_worker(shared, rt, seat, gate, turns))),
+        Role::Sweeper => Some(WorkEnd::Swept(sweep_worker(shared, rt, seat, gate, turns))),
+        _ => None,
     }
-    None
 }
 
 /// Defines the class of nodes and creates two, in the first two registers. Returns whether all was answered.
@@ -59,9 +55,9 @@ fn entries<L: Heap, R: Wait>(rt: &R, shared: &Shared<L>) -> usize {
     shared.lock(rt).chronicle().len()
 }
 
-fn is_finished(end: Option<MarkEnd>) -> bool {
+fn is_finished(end: Option<WorkEnd>) -> bool {
     match end {
-        Some(MarkEnd::Finished(receipt)) => {
+        Some(WorkEnd::Marked(MarkEnd::Finished(receipt))) => {
             receipt.turn == 9 && receipt.answer == Outcome::Answered(Answer::Condemned(0))
         }
         _ => false,
@@ -116,11 +112,13 @@ fn all_are_swept<L: Heap, R: Wait>(rt: &R, shared: &Shared<L>) -> bool {
 
 // Returns whether six marks finish a cycle, after three entries, fifteen sweeps don't finish the heap, and sixteen do.
 fn cycle_goes<L: Heap, R: Wait>(rt: &R, shared: &Shared<L>, five: &mut Five<L>) -> bool {
-    is_finished(marks(rt, shared, &mut five.marker, &mut Open, 6))
+    is_finished(run_worker(rt, shared, &mut five.marker, &mut Open, 6))
         && entries(rt, shared) == 9
-        && sweeps(rt, shared, &mut five.sweeper, &mut Open, 15) == Some(SweepEnd::TurnsOver)
+        && run_worker(rt, shared, &mut five.sweeper, &mut Open, 15)
+            == Some(WorkEnd::Swept(SweepEnd::TurnsOver))
         && entries(rt, shared) == 24
-        && sweeps(rt, shared, &mut five.sweeper, &mut Open, 16) == Some(SweepEnd::Swept)
+        && run_worker(rt, shared, &mut five.sweeper, &mut Open, 16)
+            == Some(WorkEnd::Swept(SweepEnd::Swept))
         && entries(rt, shared) == 40
         && all_are_swept(rt, shared)
 }
@@ -142,9 +140,11 @@ impl Gate for Closing {
 fn stop_at_gates<L: Heap, R: Wait>(rt: &R, shared: &Shared<L>, five: &mut Five<L>) -> bool {
     let mut third = Closing { turn: 3 };
     let mut second = Closing { turn: 2 };
-    marks(rt, shared, &mut five.marker, &mut third, 6) == Some(MarkEnd::Stopped)
+    run_worker(rt, shared, &mut five.marker, &mut third, 6)
+        == Some(WorkEnd::Marked(MarkEnd::Stopped))
         && entries(rt, shared) == 42
-        && sweeps(rt, shared, &mut five.sweeper, &mut second, 16) == Some(SweepEnd::Stopped)
+        && run_worker(rt, shared, &mut five.sweeper, &mut second, 16)
+            == Some(WorkEnd::Swept(SweepEnd::Stopped))
         && entries(rt, shared) == 43
 }
 

@@ -37,10 +37,10 @@ module _ (names : List (List ℕ)) (es : List ClassEntry) (t : IsEntryTable name
     (above_is : above ≡ option_map_or (slots_of v) c.sup [])
     (sized : AreSizes e.slots.items e.sizes) where
   entry_is : class_of_entry names' e ≡ c
-  entry_is = λ i. record { name = named.name_is i; sup = sup_is i; fields = named.fields_are i; is_array = kind_is i }
+  entry_is = λ i. record { name = named.name_is i; sup = sup_is i; fields = named.of_fields.fields_are i; is_array = kind_is i }
 
   within : IsEntryWithin (length names') e
-  within = record { own = named.name_within; each = named.fields_within }
+  within = record { own = named.name_within; each = named.of_fields.within }
 
   not_refused : class_refusal (map (class_of_entry names) es) c ≡ None
   not_refused = subst (λ l. class_refusal l c ≡ None) (sym view_is) accepted

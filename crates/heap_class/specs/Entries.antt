@@ -32,13 +32,17 @@ pub record IsEntryWithin (n : ℕ) (e : ClassEntry) : Type 0 where
   pub own : e.name < n
   pub each : All (λ (f : OwnField). f.name < n) e.fields.items
 
+-- `own` stands for the fields, each name by its place among the names
+pub record AreOwn (names : List (List ℕ)) (fields : List Field) (own : List OwnField) : Type 0 where
+  pub within : All (λ (f : OwnField). f.name < length names) own
+  pub fields_are : map (field_of_entry names) own ≡ fields
+
 -- `at` is the place of the name among the names, and `own` stands for the fields
 pub record AreNamed (names : List (List ℕ)) (name : List ℕ) (fields : List Field) (at : ℕ)
     (own : List OwnField) : Type 0 where
   pub name_within : at < length names
   pub name_is : slice_index_or names at [] ≡ name
-  pub fields_within : All (λ (f : OwnField). f.name < length names) own
-  pub fields_are : map (field_of_entry names) own ≡ fields
+  pub of_fields : AreOwn names fields own
 
 -- the names are those of the entries, newest first, each of which appended those of its names that were new
 abbrev pub IsPlaced : List (List ℕ) → List ClassEntry → Type 0

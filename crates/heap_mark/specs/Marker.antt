@@ -7,6 +7,7 @@ use Rattle.heap_class.specs.declared.ObjKind.TheVariants.{Instance, Array, Prim}
 use Rattle.heap_class.specs.Kinds.{is_reference}
 use Rattle.heap_class.specs.Classes.{Class, slots_of}
 use Rattle.heap_region.specs.Regions.{Object, Region, object_of}
+use Rattle.heap_region.specs.Pool.{RegionPool}
 use Rattle.heap_region.specs.Legal.{EachObject}
 use Rattle.heap_mark.specs.declared.Phase.{Phase}
 use Rattle.heap_mark.specs.declared.Phase.TheVariants.{Idle}
@@ -33,6 +34,14 @@ idle_marker room = record { gray = []; room = room; log = []; drained = 0; phase
 abbrev pub at_work : List Region → MarkerState → MarkState
 at_work regions m =
     record { regions = regions; gray = m.gray; log = m.log; drained = m.drained; phase = m.phase }
+
+-- the marker at work on the regions of this pool
+abbrev pub work : RegionPool → MarkerState → MarkState
+work pool m = at_work pool.regions m
+
+-- the pool after work that led to this state
+abbrev pub pool_with : MarkState → RegionPool → RegionPool
+pool_with s pool = record pool { regions = s.regions }
 
 -- the marker after work that led to this state; the stack's room stays
 abbrev pub after_work : MarkState → MarkerState → MarkerState

@@ -8,7 +8,7 @@ ghost use Rattle.heap_class.specs.declared.Refusal.TheVariants.{NoMemory};
 ghost use Rattle.heap_region.specs.Regions.{object_at, object_of};
 ghost use Rattle.heap_region.specs.Legal.{EachObject};
 ghost use Rattle.heap_mark.specs.MarkSteps.{MarkState, shaded, unshaded, is_marking, children_of, snap_refusal, snapped, unsnapped, mark_refusal, marked, unmarked, drain_refusal, drained_once, undrained, finish_refusal, finished, unfinished, dead_count};
-ghost use Rattle.heap_mark.specs.Marker.{references_among, MarkerState, at_work, after_work, idle_marker, IsNullOrNames, IsGraySound, HasSlots, IsIdle};
+ghost use Rattle.heap_mark.specs.Marker.{references_among, MarkerState, work, after_work, pool_with, idle_marker, IsNullOrNames, IsGraySound, HasSlots, IsIdle};
 
 use crate::Phase;
 use crate::finish::{finish_all, first_pending, unfinish_all};
@@ -139,17 +139,11 @@ impl Marker {
     pub fn snap(&mut self, regions: &mut Regions, roots: &[u64]) -> Result<u64, Refusal>
         requires sound { IsGraySound regions.old.regions self.old }
         requires roots { (x : ℕ) → Contains roots.now x → IsNullOrNames regions.old.regions x }
-        ensures answered { IsAnswered (snap_refusal (at_work regions.old.regions self.old)) false
-            result }
+        ensures answered { IsAnswered (snap_refusal (work regions.old self.old)) false result }
         ensures marker { OnOk result
-            (self.new
-            ≡ after_work (snapped roots.now (at_work regions.old.regions self.old)) self.old) }
+            (self.new ≡ after_work (snapped roots.now (work regions.old self.old)) self.old) }
         ensures regions { OnOk result
-            (regions.new
-            ≡ record regions.old {
-              regions = (snapped roots.now
-                  (at_work regions.old.regions self.old)).regions;
-            }) }
+            (regions.new ≡ pool_with (snapped roots.now (work regions.old self.old)) regions.old) }
         ensures pushed { IfOk result (λ n. n ≡ length self.new.gray) }
         ensures unchanged { OnErr result ((self.new ≡ self.old) × (regions.new ≡ regions.old)) }
     {
@@ -165,17 +159,13 @@ impl Marker {
     /// memory.
     pub fn unsnap(&mut self, regions: &mut Regions)
         requires snapped { (before : MarkState) × (roots : List ℕ) × IsIdle before
-            × (at_work regions.old.regions self.old ≡ snapped roots before) }
-        ensures marker { self.new
-            ≡ after_work (unsnapped (at_work regions.old.regions self.old)) self.old }
+            × (work regions.old self.old ≡ snapped roots before) }
+        ensures marker { self.new ≡ after_work (unsnapped (work regions.old self.old)) self.old }
         ensures regions { regions.new
-            ≡ record regions.old {
-              regions = (unsnapped
-                  (at_work regions.old.regions self.old)).regions;
-            } }
+            ≡ pool_with (unsnapped (work regions.old self.old)) regions.old }
         ensures back { (before : MarkState) (roots : List ℕ) → IsIdle before
-            → at_work regions.old.regions self.old ≡ snapped roots before
-            → at_work regions.new.regions self.new ≡ before }
+            → work regions.old self.old ≡ snapped roots before
+            → work regions.new self.new ≡ before }
     {
         let count = self.gray.len() as u64;
         self.unshade(regions, count);
@@ -193,17 +183,11 @@ impl Marker {
         requires children { (x : ℕ) → Contains self.old.gray x → (y : ℕ)
             → Contains (children_of classes.now regions.old.regions x) y
             → IsSome (object_of regions.old.regions y) }
-        ensures answered { IsAnswered (mark_refusal (at_work regions.old.regions self.old)) false
-            result }
+        ensures answered { IsAnswered (mark_refusal (work regions.old self.old)) false result }
         ensures marker { OnOk result
-            (self.new
-            ≡ after_work (marked classes.now (at_work regions.old.regions self.old)) self.old) }
+            (self.new ≡ after_work (marked classes.now (work regions.old self.old)) self.old) }
         ensures regions { OnOk result
-            (regions.new
-            ≡ record regions.old {
-              regions = (marked classes.now
-                  (at_work regions.old.regions self.old)).regions;
-            }) }
+            (regions.new ≡ pool_with (marked classes.now (work regions.old self.old)) regions.old) }
         ensures parent { IfOk result (λ p. p.parent ≡ slice_index self.old.gray 0) }
         ensures pushed { IfOk result
             (λ p. p.pushed ≡ length self.new.gray + 1 - length self.old.gray) }
@@ -226,21 +210,17 @@ impl Marker {
     pub fn unmark(&mut self, regions: &mut Regions, parent: u64, pushed: u64)
         requires sound { IsGraySound regions.old.regions self.old }
         requires within { pushed ≤ length self.old.gray }
-        requires given { IsGraySound
-            (unmarked parent pushed (at_work regions.old.regions self.old)).regions
-            (after_work (unmarked parent pushed (at_work regions.old.regions self.old)) self.old) }
+        requires given { IsGraySound (unmarked parent pushed (work regions.old self.old)).regions
+            (after_work (unmarked parent pushed (work regions.old self.old)) self.old) }
         ensures marker { self.new
-            ≡ after_work (unmarked parent pushed (at_work regions.old.regions self.old)) self.old }
+            ≡ after_work (unmarked parent pushed (work regions.old self.old)) self.old }
         ensures regions { regions.new
-            ≡ record regions.old {
-              regions = (unmarked parent pushed
-                  (at_work regions.old.regions self.old)).regions;
-            } }
+            ≡ pool_with (unmarked parent pushed (work regions.old self.old)) regions.old }
         ensures back { (before : MarkState) (classes : List Class) → mark_refusal before ≡ None
-            → at_work regions.old.regions self.old ≡ marked classes before
+            → work regions.old self.old ≡ marked classes before
             → parent ≡ slice_index before.gray 0
             → pushed ≡ length self.old.gray + 1 - length before.gray
-            → at_work regions.new.regions self.new ≡ before }
+            → work regions.new self.new ≡ before }
     {
         self.unshade(regions, pushed);
         let _count = regions.count();
@@ -254,16 +234,11 @@ impl Marker {
         requires sound { IsGraySound regions.old.regions self.old }
         requires entries { (x : ℕ) → Contains self.old.log x
             → IsSome (object_of regions.old.regions x) }
-        ensures answered { IsAnswered (drain_refusal (at_work regions.old.regions self.old)) false
-            result }
+        ensures answered { IsAnswered (drain_refusal (work regions.old self.old)) false result }
         ensures marker { OnOk result
-            (self.new ≡ after_work (drained_once (at_work regions.old.regions self.old)) self.old) }
+            (self.new ≡ after_work (drained_once (work regions.old self.old)) self.old) }
         ensures regions { OnOk result
-            (regions.new
-            ≡ record regions.old {
-              regions = (drained_once
-                  (at_work regions.old.regions self.old)).regions;
-            }) }
+            (regions.new ≡ pool_with (drained_once (work regions.old self.old)) regions.old) }
         ensures pushed { IfOk result (λ n. n ≡ length self.new.gray - length self.old.gray) }
         ensures unchanged { OnErr result ((self.new ≡ self.old) × (regions.new ≡ regions.old)) }
     {
@@ -287,16 +262,12 @@ impl Marker {
         requires within { pushed ≤ length self.old.gray }
         requires drained { 0 < self.old.drained }
         ensures marker { self.new
-            ≡ after_work (undrained pushed (at_work regions.old.regions self.old)) self.old }
+            ≡ after_work (undrained pushed (work regions.old self.old)) self.old }
         ensures regions { regions.new
-            ≡ record regions.old {
-              regions = (undrained pushed
-                  (at_work regions.old.regions self.old)).regions;
-            } }
-        ensures back { (before : MarkState)
-            → at_work regions.old.regions self.old ≡ drained_once before
+            ≡ pool_with (undrained pushed (work regions.old self.old)) regions.old }
+        ensures back { (before : MarkState) → work regions.old self.old ≡ drained_once before
             → pushed ≡ length self.old.gray - length before.gray
-            → at_work regions.new.regions self.new ≡ before }
+            → work regions.new self.new ≡ before }
     {
         self.unshade(regions, pushed);
         self.drained -= 1;
@@ -307,16 +278,11 @@ impl Marker {
     /// if an object is gray or an entry of the log is left, or with SweepPending and the lowest region that waits to be swept,
     /// if one does. Takes no memory.
     pub fn finish(&mut self, regions: &mut Regions) -> Result<Finished, Refusal>
-        ensures answered { IsAnswered (finish_refusal (at_work regions.old.regions self.old)) false
-            result }
+        ensures answered { IsAnswered (finish_refusal (work regions.old self.old)) false result }
         ensures marker { OnOk result
-            (self.new ≡ after_work (finished (at_work regions.old.regions self.old)) self.old) }
+            (self.new ≡ after_work (finished (work regions.old self.old)) self.old) }
         ensures regions { OnOk result
-            (regions.new
-            ≡ record regions.old {
-              regions = (finished
-                  (at_work regions.old.regions self.old)).regions;
-            }) }
+            (regions.new ≡ pool_with (finished (work regions.old self.old)) regions.old) }
         ensures condemned { IfOk result (λ f. f.condemned ≡ dead_count regions.new.regions) }
         ensures log { IfOk result (λ f. f.log ≡ self.old.log) }
         ensures unchanged { OnErr result ((self.new ≡ self.old) × (regions.new ≡ regions.old)) }
@@ -345,16 +311,13 @@ impl Marker {
     /// wait to be swept, and has the log drained. Takes no memory.
     pub fn unfinish(&mut self, regions: &mut Regions, log: Log)
         ensures marker { self.new
-            ≡ after_work (unfinished log (at_work regions.old.regions self.old)) self.old }
+            ≡ after_work (unfinished log (work regions.old self.old)) self.old }
         ensures regions { regions.new
-            ≡ record regions.old {
-              regions = (unfinished log
-                  (at_work regions.old.regions self.old)).regions;
-            } }
+            ≡ pool_with (unfinished log (work regions.old self.old)) regions.old }
         ensures back { (before : MarkState) → finish_refusal before ≡ None
             → EachObject before.regions (λ at o. o.live ≡ true) → before.drained ≤ length before.log
-            → log ≡ before.log → at_work regions.old.regions self.old ≡ finished before
-            → at_work regions.new.regions self.new ≡ before }
+            → log ≡ before.log → work regions.old self.old ≡ finished before
+            → work regions.new self.new ≡ before }
     {
         unfinish_all(regions);
         self.drained = log.len();
@@ -400,13 +363,9 @@ impl Marker {
     fn shade(&mut self, regions: &mut Regions, id: u64)
         requires sound { IsGraySound regions.old.regions self.old }
         requires names { IsNullOrNames regions.old.regions id }
-        ensures marker { self.new
-            ≡ after_work (shaded (at_work regions.old.regions self.old) id) self.old }
+        ensures marker { self.new ≡ after_work (shaded (work regions.old self.old) id) self.old }
         ensures regions { regions.new
-            ≡ record regions.old {
-              regions = (shaded (at_work regions.old.regions self.old)
-                  id).regions;
-            } }
+            ≡ pool_with (shaded (work regions.old self.old) id) regions.old }
     {
         if id == 0 {
             return;
@@ -427,12 +386,9 @@ impl Marker {
         requires sound { IsGraySound regions.old.regions self.old }
         requires names { (x : ℕ) → Contains ids.now x → IsNullOrNames regions.old.regions x }
         ensures marker { self.new
-            ≡ after_work (fold shaded (at_work regions.old.regions self.old) ids.now) self.old }
+            ≡ after_work (fold shaded (work regions.old self.old) ids.now) self.old }
         ensures regions { regions.new
-            ≡ record regions.old {
-              regions = (fold shaded (at_work regions.old.regions self.old)
-                  ids.now).regions;
-            } }
+            ≡ pool_with (fold shaded (work regions.old self.old) ids.now) regions.old }
     {
         for id in ids {
             self.shade(regions, *id);
@@ -449,14 +405,11 @@ impl Marker {
             → Contains (children_of classes.now regions.old.regions parent) y
             → IsSome (object_of regions.old.regions y) }
         ensures marker { self.new
-            ≡ after_work
-            (fold shaded (at_work regions.old.regions self.old)
+            ≡ after_work (fold shaded (work regions.old self.old)
             (children_of classes.now regions.old.regions parent)) self.old }
         ensures regions { regions.new
-            ≡ record regions.old {
-              regions = (fold shaded (at_work regions.old.regions self.old)
-                  (children_of classes.now regions.old.regions parent)).regions;
-            } }
+            ≡ pool_with (fold shaded (work regions.old self.old)
+            (children_of classes.now regions.old.regions parent)) regions.old }
     {
         let at = regions.place(parent);
         match regions.kind(at) {
@@ -477,15 +430,12 @@ impl Marker {
             → IsNullOrNames regions.old.regions (slice_index o.words slot)) }
         ensures marker { IfSome (object_at regions.old.regions at)
             (λ o. self.new
-            ≡ after_work
-            (fold shaded (at_work regions.old.regions self.old)
+            ≡ after_work (fold shaded (work regions.old self.old)
             (references_among kinds.now o.words)) self.old) }
         ensures regions { IfSome (object_at regions.old.regions at)
             (λ o. regions.new
-            ≡ record regions.old {
-              regions = (fold shaded (at_work regions.old.regions self.old)
-                  (references_among kinds.now o.words)).regions;
-            }) }
+            ≡ pool_with (fold shaded (work regions.old self.old)
+            (references_among kinds.now o.words)) regions.old) }
     {
         for (slot, kind) in kinds.iter().enumerate() {
             if kind.is_reference() {
@@ -501,13 +451,10 @@ impl Marker {
             (λ o. (y : ℕ) → Contains o.words y → IsNullOrNames regions.old.regions y) }
         ensures marker { IfSome (object_at regions.old.regions at)
             (λ o. self.new
-            ≡ after_work (fold shaded (at_work regions.old.regions self.old) o.words) self.old) }
+            ≡ after_work (fold shaded (work regions.old self.old) o.words) self.old) }
         ensures regions { IfSome (object_at regions.old.regions at)
             (λ o. regions.new
-            ≡ record regions.old {
-              regions = (fold shaded (at_work regions.old.regions self.old)
-                  o.words).regions;
-            }) }
+            ≡ pool_with (fold shaded (work regions.old self.old) o.words) regions.old) }
     {
         for slot in 0..regions.len(at) {
             self.shade(regions, regions.word(at, slot));
@@ -520,12 +467,9 @@ impl Marker {
         requires names { (x : ℕ) → Contains self.old.gray x
             → IsSome (object_of regions.old.regions x) }
         ensures marker { self.new
-            ≡ after_work (unshaded count (at_work regions.old.regions self.old)) self.old }
+            ≡ after_work (unshaded count (work regions.old self.old)) self.old }
         ensures regions { regions.new
-            ≡ record regions.old {
-              regions = (unshaded count
-                  (at_work regions.old.regions self.old)).regions;
-            } }
+            ≡ pool_with (unshaded count (work regions.old self.old)) regions.old }
     {
         for _step in 0..count {
             self.unshade_top(regions);
@@ -536,13 +480,9 @@ impl Marker {
     fn unshade_top(&mut self, regions: &mut Regions)
         requires within { 0 < length self.old.gray }
         requires names { IsSome (object_of regions.old.regions (slice_index self.old.gray 0)) }
-        ensures marker { self.new
-            ≡ after_work (unshaded 1 (at_work regions.old.regions self.old)) self.old }
+        ensures marker { self.new ≡ after_work (unshaded 1 (work regions.old self.old)) self.old }
         ensures regions { regions.new
-            ≡ record regions.old {
-              regions = (unshaded 1
-                  (at_work regions.old.regions self.old)).regions;
-            } }
+            ≡ pool_with (unshaded 1 (work regions.old self.old)) regions.old }
     {
         let Some(id) = self.gray.pop() else {
             unreachable!();

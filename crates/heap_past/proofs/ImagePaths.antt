@@ -22,8 +22,8 @@ use Rattle.heap_world.specs.State.{HeapState}
 use Rattle.heap_world.proofs.Registers.{namer, names_of, object_not_null}
 use Rattle.heap_world.proofs.Shelter.{reach_induction, end_more}
 use Rattle.heap_trail.specs.Image.{DumpedObject}
-use Rattle.heap_trail.specs.Images.{dumped_objects, image_of}
-use Rattle.heap_trail.proofs.LiveCounts.{Stands, live_stand}
+use Rattle.heap_pins.specs.Images.{dumped_objects, image_of}
+use Rattle.heap_pins.proofs.LiveCounts.{Stands, live_stand}
 use Rattle.heap_questions.specs.Graph.{HasId, followed, slot_refers, named, object_with, slot_names}
 use Rattle.heap_questions.proofs.Reaching.{leads_more}
 use Rattle.heap_questions.proofs.TracedPaths.{first_object}

@@ -6,27 +6,28 @@ use Rattle.std.proofs.lemmas.Bool.{cases_eq, false≢true}
 use Rattle.std.proofs.lemmas.Option.{none-some, same_Some}
 use Rattle.heap_class.specs.declared.ObjRef.{ObjRef}
 use Rattle.heap_region.specs.Regions.{Object, Region, UsedRegion, id_of, object_at, used_at}
-use Rattle.heap_region.specs.RegionCopies.{frozen_word_set, region_frozen}
+use Rattle.heap_region.specs.RegionCopies.{region_frozen}
 use Rattle.heap_region.proofs.ChangedLookups.{object_at_ref}
 use Rattle.heap_world.specs.Legal.{IsLegal}
 use Rattle.heap_world.specs.Reach.{IsObject, Reaches}
 use Rattle.heap_world.specs.State.{HeapState}
 use Rattle.heap_step.specs.declared.Event.{Event}
 use Rattle.heap_step.specs.declared.Undo.{Undo}
-use Rattle.heap_step.specs.declared.Undo.TheVariants.{Put, Store, Sweep, Reclaim}
+use Rattle.heap_step.specs.declared.Undo.TheVariants.{Reclaim}
 use Rattle.heap_step.specs.Apply.{refusal_of, state_after}
 use Rattle.heap_step.specs.Laws.{IsStep}
 use Rattle.heap_step.specs.Records.{undo_record}
-use Rattle.heap_trail.specs.KeptCopies.{patched, touched, with_dead}
-use Rattle.heap_trail.specs.Walk.{TellsBefore, walked_copy}
-use Rattle.heap_trail.proofs.CoveringCopies.{covers_same}
-use Rattle.heap_trail.proofs.RecordCases.{by_region}
+use Rattle.heap_pins.specs.KeptCopies.{patched, touched}
+use Rattle.heap_pins.specs.Covers.{Covers}
+use Rattle.heap_pins.specs.Walk.{TellsBefore}
+use Rattle.heap_pins.proofs.CoveringCopies.{covers_same}
+use Rattle.heap_pins.proofs.RecordCases.{by_patch}
 use Rattle.heap_trail.specs.Laws.{AreSteps, IsTrail}
 use Rattle.heap_trail.specs.Trail.{Trail, retained, state_ago}
 use Rattle.heap_trail.proofs.RetainedStates.{steps_legal}
 use Rattle.heap_past.specs.Losses.{StoodFor, UnreachedFor, id_now}
 use Rattle.heap_past.proofs.ImagePaths.{id_back}
-use Rattle.heap_past.proofs.Sizes.{covered_size, dead_size, patched_size, used_of, word_size}
+use Rattle.heap_past.proofs.Sizes.{covered_size, patched_size, used_of}
 use Rattle.heap_past.proofs.ToldObjects.{reclaimed_none, told}
 use Rattle.heap_past.proofs.UnreachedObjects.{stays_unreached}
 use Rattle.heap_past.proofs.Walk.{now_is}
@@ -45,19 +46,13 @@ none_touched : (left : Undo) (before after : HeapState) (r : ℕ) (u : UsedRegio
 none_touched left before after r u n t e = untouched_sized left before after r u t (λ z. none-some r (sym n ∙ z)) e
 
 sized : (left : Undo) (before after : HeapState) (r : ℕ) (u : UsedRegion) → TellsBefore left before after → ((storage : UsedRegion) → left ≡ Reclaim r storage → ⊥) → used_at before.regions r ≡ Some u → StaysSized after r u
-unfolding touched walked_copy patched region_frozen
-sized left before after r u t n e = by_region (λ k. TellsBefore k before after → left ≡ k → StaysSized after r u)
-    (λ at slot old t is. elim (cases_eq r at.region) [
-      | inl q ↦ patched_size (frozen_word_set at.cell slot old) (word_size at.cell slot old) (used_at before.regions r) (used_at after.regions r) u (t.touched_region r (region_frozen after.regions r) (ap Some (sym q)) (covers_same _ _ refl)) e
-      | inr q ↦ untouched_sized (Put at slot old) before after r u t (λ z. q (sym (same_Some at.region r z))) e
-    ])
-    (λ at slot old logged t is. elim (cases_eq r at.region) [
-      | inl q ↦ patched_size (frozen_word_set at.cell slot old) (word_size at.cell slot old) (used_at before.regions r) (used_at after.regions r) u (t.touched_region r (region_frozen after.regions r) (ap Some (sym q)) (covers_same _ _ refl)) e
-      | inr q ↦ untouched_sized (Store at slot old logged) before after r u t (λ z. q (sym (same_Some at.region r z))) e
-    ])
-    (λ region dead t is. elim (cases_eq r region) [
-      | inl q ↦ patched_size (with_dead dead) (dead_size dead) (used_at before.regions r) (used_at after.regions r) u (t.touched_region r (region_frozen after.regions r) (ap Some (sym q)) (covers_same _ _ refl)) e
-      | inr q ↦ untouched_sized (Sweep region dead) before after r u t (λ z. q (sym (same_Some region r z))) e
+unfolding touched region_frozen
+sized left before after r u t n e = by_patch (λ k. TellsBefore k before after → left ≡ k → StaysSized after r u)
+    (λ k region p t is. elim (cases_eq r region) [
+      | inl q ↦
+          let covers = t.touched_region r (region_frozen after.regions r) (p.region ∙ ap Some (sym q)) (covers_same _ _ refl) in
+          patched_size (patched k) p.size (used_at before.regions r) (used_at after.regions r) u (subst (Covers (region_frozen before.regions r)) (p.walk (region_frozen after.regions r)) covers) e
+      | inr q ↦ untouched_sized k before after r u t (λ z. q (sym (same_Some region r (sym p.region ∙ z)))) e
     ])
     (λ region storage t is. elim (cases_eq r region) [
       | inl q ↦ absurd (n storage (is ∙ ap (λ k. Reclaim k storage) (sym q)))

@@ -9,7 +9,7 @@ use Rattle.heap_region.specs.Regions.{id_of, object_at}
 use Rattle.heap_world.specs.Legal.{IsLegal}
 use Rattle.heap_world.specs.Reach.{Reaches}
 use Rattle.heap_world.specs.State.{HeapState, pool_of}
-use Rattle.heap_trail.specs.Images.{image_of}
+use Rattle.heap_pins.specs.Images.{image_of}
 use Rattle.heap_questions.specs.Graph.{IsPathTo, IsUnreached}
 use Rattle.heap_questions.specs.declared.paths.Path.{Path}
 use Rattle.heap_trail.specs.Laws.{IsTrail}

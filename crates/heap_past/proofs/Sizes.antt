@@ -25,13 +25,13 @@ use Rattle.heap_step.specs.Laws.{IsStep}
 use Rattle.heap_step.specs.Records.{undone}
 use Rattle.heap_step.proofs.EventLaws.{undo_takes_back}
 use Rattle.heap_step.proofs.Steps.{new_there, put_there, reclaim_inhabited, store_there}
-use Rattle.heap_trail.specs.Covers.{Covers}
-use Rattle.heap_trail.specs.KeptCopies.{patched, touched, with_dead}
-use Rattle.heap_trail.specs.Walk.{TellsBefore, walked_copy}
-use Rattle.heap_trail.proofs.CoveringCopies.{covers_same}
-use Rattle.heap_trail.proofs.RecordCases.{by_region}
-use Rattle.heap_trail.proofs.RoomForCopies.{object_within, reclaim_within}
-use Rattle.heap_trail.proofs.Others.{length_undone}
+use Rattle.heap_pins.specs.Covers.{Covers}
+use Rattle.heap_pins.specs.KeptCopies.{patched, touched, with_dead}
+use Rattle.heap_pins.specs.Walk.{TellsBefore, walked_copy}
+use Rattle.heap_pins.proofs.CoveringCopies.{covers_same}
+use Rattle.heap_pins.proofs.RecordCases.{by_region, dead_size}
+use Rattle.heap_pins.proofs.RoomForCopies.{object_within, reclaim_within}
+use Rattle.heap_pins.proofs.Others.{length_undone}
 use Rattle.heap_past.specs.Newest.{AreCellSizes, id_by, storage_cell_size, sizes_before, written_at}
 use Rattle.heap_past.proofs.ToldObjects.{told}
 
@@ -80,14 +80,9 @@ patched_size f same before after u c e =
     go None g h s = absurd (none-some g h)
     go (Some v) g h s = (v, refl, sym (same (frozen v)) ∙ ap (λ (f : Frozen). f.cell_size) (same_Some (f (frozen v)) g h) ∙ s)
 
-pub word_size : (cell slot word : ℕ) (f : Frozen) → (frozen_word_set cell slot word f).cell_size ≡ f.cell_size
+word_size : (cell slot word : ℕ) (f : Frozen) → (frozen_word_set cell slot word f).cell_size ≡ f.cell_size
 unfolding frozen_word_set
 word_size cell slot word f = refl
-
-pub dead_size : (dead : List (ℕ × Object)) (f : Frozen) → (with_dead dead f).cell_size ≡ f.cell_size
-unfolding with_dead
-dead_size [] f = refl
-dead_size (d ∷ dead) f = dead_size dead (record f { cells = set f.cells d.0 (Some d.1) })
 
 -- the regions of a record that took all of one
 reclaimed_size : (before : Option UsedRegion) (storage u : UsedRegion) → Covers (option_map frozen before) (Some (frozen storage)) → before ≡ Some u → length storage.cells ≡ length u.cells

@@ -8,7 +8,7 @@ use Rattle.heap_world.specs.Reach.{IsObject, Reaches}
 use Rattle.heap_world.specs.State.{HeapState}
 use Rattle.heap_step.specs.declared.Event.{Event}
 use Rattle.heap_step.specs.Apply.{refusal_of, state_after}
-use Rattle.heap_trail.specs.Images.{image_of}
+use Rattle.heap_pins.specs.Images.{image_of}
 use Rattle.heap_questions.specs.Graph.{IsPathTo}
 use Rattle.heap_trail.specs.Trail.{Trail, retained, state_ago}
 use Rattle.heap_past.specs.declared.losses.Loss.{Loss}

@@ -1,14 +1,15 @@
 -- The records by what they change: a region, the registers or the classes. What holds of the others holds by one case.
-use Rattle.std.proofs.Common.{◌≡◌, ℕ, Bool, List, Some, None, refl, sym, ◌∙◌}
+use Rattle.std.proofs.Common.{◌≡◌, ℕ, Bool, List, [], ◌∷◌, set, Option, Some, None, refl, sym, ◌∙◌}
+use Rattle.std.specs.Prelude.{option_map}
 use Rattle.heap_class.specs.declared.ObjRef.{ObjRef}
 use Rattle.heap_region.specs.Regions.{Object, UsedRegion}
-use Rattle.heap_region.specs.RegionCopies.{Frozen}
+use Rattle.heap_region.specs.RegionCopies.{Frozen, frozen_word_set, region_frozen}
 use Rattle.heap_world.specs.State.{HeapState}
 use Rattle.heap_step.specs.declared.Undo.{Undo}
 use Rattle.heap_step.specs.declared.Undo.TheVariants.{Put, Store, Reg, New, Class, Sweep, Reclaim}
 use Rattle.heap_step.specs.Records.{undone}
-use Rattle.heap_pins.specs.KeptCopies.{touched, patched}
-use Rattle.heap_pins.specs.Walk.{registers_before, classes_before}
+use Rattle.heap_pins.specs.KeptCopies.{touched, with_dead, patched, copy_for}
+use Rattle.heap_pins.specs.Walk.{walked_copy, registers_before, classes_before}
 
 pub named : (q r : ℕ) → Some q ≡ Some r → q ≡ r
 named q r e = cc
@@ -39,6 +40,26 @@ by_region P put store sweep reclaim other (Store at slot old logged) = store at 
 by_region P put store sweep reclaim other (Sweep region dead) = sweep region dead
 by_region P put store sweep reclaim other (Reclaim region storage) = reclaim region storage
 by_region P put store sweep reclaim other left = other left (record { none = refl; patch = λ f. refl })
+
+pub dead_size : (dead : List (ℕ × Object)) (f : Frozen) → (with_dead dead f).cell_size ≡ f.cell_size
+unfolding with_dead
+dead_size [] f = refl
+dead_size (d ∷ dead) f = dead_size dead (record f { cells = set f.cells d.0 (Some d.1) })
+
+-- the record patches the copy of a region, and leaves the size of its cells
+pub record PatchesRegion (left : Undo) (r : ℕ) : Type 0 where
+  pub region : touched left ≡ Some r
+  pub copy : (v : HeapState) (q : ℕ) → copy_for left v q ≡ option_map (patched left) (region_frozen v.regions q)
+  pub walk : (f : Option Frozen) → walked_copy left f ≡ option_map (patched left) f
+  pub size : (f : Frozen) → (patched left f).cell_size ≡ f.cell_size
+
+-- each record that patches a region, each that reclaims one, and the others
+pub by_patch : (P : Undo → Type 0) → ((left : Undo) (r : ℕ) → PatchesRegion left r → P left) → ((region : ℕ) (storage : UsedRegion) → P (Reclaim region storage)) → ((left : Undo) → TouchesNone left → P left) → (left : Undo) → P left
+unfolding touched patched copy_for walked_copy frozen_word_set
+by_patch P patches = by_region P
+    (λ at slot old. patches (Put at slot old) at.region (record { region = refl; copy = λ v q. refl; walk = λ f. refl; size = λ f. refl }))
+    (λ at slot old logged. patches (Store at slot old logged) at.region (record { region = refl; copy = λ v q. refl; walk = λ f. refl; size = λ f. refl }))
+    (λ region dead. patches (Sweep region dead) region (record { region = refl; copy = λ v q. refl; walk = λ f. refl; size = dead_size dead }))
 
 -- ---- registers and classes
 

@@ -6,14 +6,14 @@ use Rattle.heap_region.specs.Layout.{word_set}
 use Rattle.heap_region.specs.RegionCopies.{Frozen, frozen_object, frozen_with, frozen_word_set, region_frozen}
 use Rattle.heap_world.specs.State.{HeapState}
 use Rattle.heap_step.specs.declared.Undo.{Undo}
-use Rattle.heap_step.specs.declared.Undo.TheVariants.{Put, Store, Sweep, Reclaim}
+use Rattle.heap_step.specs.declared.Undo.TheVariants.{Reclaim}
 use Rattle.heap_step.specs.Records.{undone}
 use Rattle.heap_pins.specs.Covers.{HasAll, Covers}
 use Rattle.heap_pins.specs.KeptCopies.{touched, with_dead, patched, copy_for}
 use Rattle.heap_pins.specs.Walk.{walked_copy}
 use Rattle.heap_pins.proofs.CoveringCopies.{covers_then}
 use Rattle.heap_pins.proofs.CopiedRegions.{copy_covers}
-use Rattle.heap_pins.proofs.RecordCases.{by_region, touches_none}
+use Rattle.heap_pins.proofs.RecordCases.{by_patch, by_region, touches_none}
 
 -- what stands in a cell of both stands so after both are written there
 abbrev Stands : List (Option Object) → List (Option Object) → Type 0
@@ -82,13 +82,11 @@ patched_covers left (Some x) b h f e =
 -- the pin's part of the touched region, of which it had all after the step, has all before it once patched
 pub walked_covers : (left : Undo) (x : HeapState) (r : ℕ) (g : Option Frozen) → touched left ≡ Some r → Covers (region_frozen x.regions r) g → Covers (region_frozen (undone left x).regions r) (walked_copy left g)
 unfolding walked_copy copy_for
-walked_covers left x r g = by_region (λ u. touched u ≡ Some r → Covers (region_frozen x.regions r) g → Covers (region_frozen (undone u x).regions r) (walked_copy u g))
-    (λ at slot old t. patch (Put at slot old) (copy_covers (Put at slot old) x r t))
-    (λ at slot old logged t. patch (Store at slot old logged) (copy_covers (Store at slot old logged) x r t))
-    (λ region dead t. patch (Sweep region dead) (copy_covers (Sweep region dead) x r t))
+walked_covers left x r g = by_patch (λ u. touched u ≡ Some r → Covers (region_frozen x.regions r) g → Covers (region_frozen (undone u x).regions r) (walked_copy u g))
+    (λ u q p t h.
+        let before = region_frozen (undone u x).regions r in
+        let copied : Covers before (option_map (patched u) (region_frozen x.regions r)) = subst (Covers before) (p.copy x r) (copy_covers u x r t) in
+        subst (Covers before) (sym (p.walk g)) (covers_then _ _ _ copied (patched_covers u (region_frozen x.regions r) g h)))
     (λ region storage t h. copy_covers (Reclaim region storage) x r t)
     (λ u n. touches_none u n r _)
     left
-  where
-    patch : (u : Undo) → Covers (region_frozen (undone u x).regions r) (option_map (patched u) (region_frozen x.regions r)) → Covers (region_frozen x.regions r) g → Covers (region_frozen (undone u x).regions r) (option_map (patched u) g)
-    patch u c h = covers_then _ _ _ c (patched_covers u (region_frozen x.regions r) g h)

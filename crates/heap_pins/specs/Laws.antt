@@ -25,7 +25,7 @@ KeepsOthers left v =
 abbrev pub RecordExtends : Undo → HeapState → Type 0
 RecordExtends left v = take (length (undone left v).classes) v.classes ≡ (undone left v).classes
 
--- an accepted event leaves the kind and the words of each object, but for one region that a Put, a Store or a Sweep touches
+-- an accepted event leaves the kind and the words of each object, but for one region that a write or a sweep touches
 abbrev pub EventKeeps : Event → HeapState → Type 0
 EventKeeps e w =
     IsLegal w → refusal_of e w ≡ None → (r : ℕ) → touched (undo_record e w) ≢ Some r

@@ -157,22 +157,13 @@ all_children image queue x n d w h s y e o = h s y (w s y e) e o
 -- so the search is one step further
 pub stepped : (image : Image) (nodes : List Node) (seen : List Bool) (queue : List Found) (head : ℕ) (f : Found) → IsSearching image nodes seen queue head → slice_get queue head ≡ Some f → HasAllChildren image queue f.id (f.depth + 1) → IsSearching image nodes seen queue (head + 1)
 stepped image nodes seen queue head f s g c =
-    record {
-      reached = s.reached;
-      placed = s.placed;
-      early = s.early;
-      rising = s.rising;
-      marked = s.marked;
-      found = s.found;
-      as_many = s.as_many;
-      counted = s.counted;
-      closed = λ k e l h. elim (cases_eq k head) [
-        | inl p ↦
-            let q : e ≡ f = got_same queue head e f (ap (slice_get queue) (sym p) ∙ h) g in
-            subst (λ (e : Found). HasAllChildren image queue e.id (e.depth + 1)) (sym q) c
-        | inr p ↦ s.closed k e (omega (arith, l, p)) h
-      ];
-    }
+    let closed : (k : ℕ) (e : Found) → k < head + 1 → slice_get queue k ≡ Some e → HasAllChildren image queue e.id (e.depth + 1) = λ k e l h. elim (cases_eq k head) [
+      | inl p ↦
+          let q : e ≡ f = got_same queue head e f (ap (slice_get queue) (sym p) ∙ h) g in
+          subst (λ (e : Found). HasAllChildren image queue e.id (e.depth + 1)) (sym q) c
+      | inr p ↦ s.closed k e (omega (arith, l, p)) h
+    ] in
+    assumption
 
 -- nothing is deeper than one step below what is looked at next
 pub near_next : (queue : List Found) (head : ℕ) (f : Found) → IsRising queue → slice_get queue head ≡ Some f → IsWithin queue (f.depth + 1) → IsNear queue (head + 1)

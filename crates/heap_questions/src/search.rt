@@ -44,23 +44,16 @@ pub(crate) fn found_at(queue: &[Found], index: usize) -> Found
 }
 
 // Adds an object to what was found, unless it was found before or there is none with this id. Fails with NoMemory.
-fn offer(
-    nodes: &NodeList,
-    seen: &mut Vec<bool>,
-    queue: &mut Vec<Found>,
-    id: u64,
-    depth: u64,
-    via: Via,
-) -> Result<(), Refusal>
-    requires many { length seen.old.items ≡ length nodes.now }
+fn offer(nodes: &NodeList, reach: &mut Reach, id: u64, depth: u64, via: Via) -> Result<(), Refusal>
+    requires many { length reach.old.seen.items ≡ length nodes.now }
     ensures done { OnOk result (IsOfferedTo nodes.now id depth via
-        seen.old.items queue.old.items seen.new.items queue.new.items) }
+        reach.old.seen.items reach.old.queue.items reach.new.seen.items reach.new.queue.items) }
     ensures refused { IfErr result (λ e. e ≡ NoMemory) }
 {
     if let Some(node) = nodes.find(id) {
-        if !seen[node] {
-            seen[node] = true;
-            queue.push(Found {
+        if !reach.seen[node] {
+            reach.seen[node] = true;
+            reach.queue.push(Found {
                 node,
                 id,
                 depth,
@@ -72,26 +65,22 @@ fn offer(
 }
 
 // Finds what the registers name. Fails with NoMemory.
-fn find_roots<V: View>(
-    view: &V,
-    nodes: &NodeList,
-    seen: &mut Vec<bool>,
-    queue: &mut Vec<Found>,
-) -> Result<(), Refusal>
+fn find_roots<V: View>(view: &V, nodes: &NodeList, reach: &mut Reach) -> Result<(), Refusal>
     requires nodes { AreNodes (V.image view.now) (V.places view.now) nodes.now }
-    requires search { IsSearching (V.image view.now) nodes.now seen.old.items queue.old.items 0 }
-    requires within { IsWithin queue.old.items 0 }
-    requires ordered { IsOrdered (V.image view.now) queue.old.items (Register 0) }
+    requires search { IsSearching (V.image view.now)
+        nodes.now reach.old.seen.items reach.old.queue.items 0 }
+    requires within { IsWithin reach.old.queue.items 0 }
+    requires ordered { IsOrdered (V.image view.now) reach.old.queue.items (Register 0) }
     ensures search { OnOk result (IsSearching (V.image view.now)
-        nodes.now seen.new.items queue.new.items 0) }
-    ensures within { OnOk result (IsWithin queue.new.items 0) }
-    ensures roots { OnOk result (HasAllRoots (V.image view.now) queue.new.items) }
-    ensures ordered { OnOk result (IsOrdered (V.image view.now) queue.new.items (Slot 0 0)) }
+        nodes.now reach.new.seen.items reach.new.queue.items 0) }
+    ensures within { OnOk result (IsWithin reach.new.queue.items 0) }
+    ensures roots { OnOk result (HasAllRoots (V.image view.now) reach.new.queue.items) }
+    ensures ordered { OnOk result (IsOrdered (V.image view.now) reach.new.queue.items (Slot 0 0)) }
     ensures refused { IfErr result (λ e. e ≡ NoMemory) }
 {
     let registers = view.registers();
     for r in 0..registers.len() {
-        offer(nodes, seen, queue, registers[r], 0, Via::Register(r as u64))?;
+        offer(nodes, reach, registers[r], 0, Via::Register(r as u64))?;
     }
     Ok(())
 }
@@ -100,26 +89,27 @@ fn find_roots<V: View>(
 fn expand<V: View>(
     view: &V,
     nodes: &NodeList,
-    seen: &mut Vec<bool>,
-    queue: &mut Vec<Found>,
+    reach: &mut Reach,
     head: usize,
 ) -> Result<(), Refusal>
     requires nodes { AreNodes (V.image view.now) (V.places view.now) nodes.now }
-    requires search { IsSearching (V.image view.now) nodes.now seen.old.items queue.old.items head }
-    requires there { head < length queue.old.items }
-    requires near { IsNear queue.old.items head }
-    requires roots { HasAllRoots (V.image view.now) queue.old.items }
-    requires ordered { IsOrdered (V.image view.now) queue.old.items (Slot head 0) }
+    requires search { IsSearching (V.image view.now)
+        nodes.now reach.old.seen.items reach.old.queue.items head }
+    requires there { head < length reach.old.queue.items }
+    requires near { IsNear reach.old.queue.items head }
+    requires roots { HasAllRoots (V.image view.now) reach.old.queue.items }
+    requires ordered { IsOrdered (V.image view.now) reach.old.queue.items (Slot head 0) }
     ensures search { OnOk result (IsSearching (V.image view.now)
-        nodes.now seen.new.items queue.new.items (head + 1)) }
-    ensures near { OnOk result (IsNear queue.new.items (head + 1)) }
-    ensures longer { OnOk result (length queue.old.items ≤ length queue.new.items) }
-    ensures roots { OnOk result (KeepsRoots (V.image view.now) queue.old.items queue.new.items) }
+        nodes.now reach.new.seen.items reach.new.queue.items (head + 1)) }
+    ensures near { OnOk result (IsNear reach.new.queue.items (head + 1)) }
+    ensures longer { OnOk result (length reach.old.queue.items ≤ length reach.new.queue.items) }
+    ensures roots { OnOk result (KeepsRoots (V.image view.now)
+        reach.old.queue.items reach.new.queue.items) }
     ensures ordered { OnOk result (IsOrdered (V.image view.now)
-        queue.new.items (Slot (head + 1) 0)) }
+        reach.new.queue.items (Slot (head + 1) 0)) }
     ensures refused { IfErr result (λ e. e ≡ NoMemory) }
 {
-    let found = found_at(queue.as_slice(), head);
+    let found = found_at(reach.queue.as_slice(), head);
     let at = nodes.place(found.node);
     let classes = view.classes();
     let kind = view.kind(at);
@@ -130,7 +120,7 @@ fn expand<V: View>(
                 parent: head,
                 slot: slot as u64,
             };
-            offer(nodes, seen, queue, words[slot], found.depth + 1, via)?;
+            offer(nodes, reach, words[slot], found.depth + 1, via)?;
         }
     }
     Ok(())
@@ -145,13 +135,14 @@ pub(crate) fn search<V: View>(alloc: Global, view: &V, nodes: &NodeList) -> Resu
     ensures order { IfOk result (λ r. HasSearchOrder (V.image view.now) r.queue.items) }
     ensures refused { IfErr result (λ e. e ≡ NoMemory) }
 {
-    let mut seen = vec![in alloc; false; nodes.len()]?;
-    let mut queue = Vec::with_capacity(alloc, nodes.len())?;
-    find_roots(view, nodes, &mut seen, &mut queue)?;
+    let seen = vec![in alloc; false; nodes.len()]?;
+    let queue = Vec::with_capacity(alloc, nodes.len())?;
+    let mut reach = Reach { seen, queue };
+    find_roots(view, nodes, &mut reach)?;
     let mut head = 0;
-    while head < queue.len() {
-        expand(view, nodes, &mut seen, &mut queue, head)?;
+    while head < reach.queue.len() {
+        expand(view, nodes, &mut reach, head)?;
         head += 1;
     }
-    Ok(Reach { seen, queue })
+    Ok(reach)
 }

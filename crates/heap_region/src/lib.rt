@@ -1,7 +1,7 @@
 //! Regions of equal size, the objects in their cells, free lists and the pool.
 #![tactic(auto)]
 
-ghost use Rattle.std.specs.Prelude.{◌≡◌, ◌≢◌, ◌+◌, ◌<◌, ◌≤◌, ℕ, length, Some, None, true, false, IsSome, IfSome, IfOk, IfErr, OnErr, is_some, option_map, Bool, slice_get, slice_index, reverse, MatchOption, IsSomeAnd};
+ghost use Rattle.std.specs.Prelude.{◌≡◌, ◌≢◌, ◌+◌, ◌<◌, ◌≤◌, ℕ, length, Some, None, true, false, IsSome, IfSome, IfOk, IfErr, OnErr, is_some, option_map, slice_get, slice_index, reverse, MatchOption, IsSomeAnd};
 ghost use Rattle.std.specs.List.{enumerate_from, filter_map};
 ghost use Rattle.std.specs.Option.{option_map_or};
 ghost use Rattle.heap_class.specs.Refusals.{IsAnswered};
@@ -9,11 +9,11 @@ ghost use Rattle.heap_class.specs.declared.ObjRef.{ObjRef};
 ghost use Rattle.heap_class.specs.declared.Refusal.TheVariants.{NoMemory};
 ghost use Rattle.heap_region.specs.Limits.{region_limit, region_words, cell_limit};
 ghost use Rattle.heap_region.specs.RegionCopies.{region_frozen};
-ghost use Rattle.heap_region.specs.Regions.{FitsWords, Object, UsedRegion, object_at, object_of, used_at, id_of, ref_of, with_mark, with_object, with_word};
+ghost use Rattle.heap_region.specs.Regions.{FitsWords, Object, UsedRegion, object_at, object_of, used_at, id_of, ref_of, with_object, with_word};
 ghost use Rattle.heap_region.specs.Pool.{RegionPool, opening_pool, alloc_refusal, is_fresh, free_place, new_place, taken, freed, released, restored, allocated, unallocated, blank_object};
 ghost use Rattle.heap_region.specs.Legal.{IsCellTable, IsRegionPool};
 ghost use Rattle.heap_region.specs.Layout.{IsCellSize, bit_set};
-ghost use Rattle.heap_region.specs.Changes.{with_live, with_pending};
+ghost use Rattle.heap_region.specs.Changes.{WritesLive, WritesMark, WritesPending};
 ghost use Rattle.heap_region.specs.Live.{cells_of};
 
 mod cell;
@@ -325,29 +325,17 @@ impl Regions {
     }
 
     /// Writes the `mark` bit of an object, which must be there. A call with the old bit undoes it. Takes no memory.
-    #[tactic(auto, unfolding(crate::specs::Regions::with_mark))]
     pub fn set_mark(&mut self, at: ObjRef, mark: bool)
         requires { IsSome (object_at self.old.regions at) }
-        ensures state { self.new
-            ≡ record self.old { regions = with_mark mark at self.old.regions } }
-        ensures back { (before : RegionPool) (was : Bool)
-            → IfSome (object_at before.regions at) (λ o. o.mark ≡ mark)
-            → self.old ≡ record before { regions = with_mark was at before.regions }
-            → self.new ≡ before }
+        ensures { WritesMark at mark self.old self.new }
     {
         self.set_bit(at, Bit::Mark, mark)
     }
 
     /// Writes the `live` bit of an object, which must be there. A call with the old bit undoes it. Takes no memory.
-    #[tactic(auto, unfolding(crate::specs::Changes::with_live))]
     pub fn set_live(&mut self, at: ObjRef, live: bool)
         requires { IsSome (object_at self.old.regions at) }
-        ensures state { self.new
-            ≡ record self.old { regions = with_live live at self.old.regions } }
-        ensures back { (before : RegionPool) (was : Bool)
-            → IfSome (object_at before.regions at) (λ o. o.live ≡ live)
-            → self.old ≡ record before { regions = with_live was at before.regions }
-            → self.new ≡ before }
+        ensures { WritesLive at live self.old self.new }
     {
         self.set_bit(at, Bit::Live, live)
     }
@@ -356,12 +344,7 @@ impl Regions {
     #[tactic(auto, using(crate::proofs::SlotChanges::used_slots))]
     pub fn set_pending(&mut self, region: u64, pending: bool)
         requires { IsSome (used_at self.old.regions region) }
-        ensures state { self.new
-            ≡ record self.old { regions = with_pending pending region self.old.regions } }
-        ensures back { (before : RegionPool) (was : Bool)
-            → IfSome (used_at before.regions region) (λ u. u.pending ≡ pending)
-            → self.old ≡ record before { regions = with_pending was region before.regions }
-            → self.new ≡ before }
+        ensures { WritesPending region pending self.old self.new }
     {
         set_pending_in(&mut self.slots[region as usize], pending);
     }

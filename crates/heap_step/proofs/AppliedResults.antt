@@ -2,6 +2,8 @@
 use Rattle.std.proofs.Common.{◌≡◌, ◌⊎◌, ℕ, ◌+◌, ◌-◌, Bool, true, false, List, length, Option, Some, None, Result, Ok, Err, inl, inr, refl, sym, ap, subst, ◌∙◌, IfOk, OnOk}
 use Rattle.std.specs.Prelude.{IfErr, slice_index, unwrap_or, if◌then◌else◌}
 use Rattle.std.specs.Option.{option_map_or}
+use Rattle.std.specs.Result.{IsErrAnd}
+use Rattle.std.proofs.lemmas.Result.{err_from_is_err_and}
 use Rattle.heap_class.specs.declared.ObjRef.{ObjRef}
 use Rattle.heap_class.specs.declared.Refusal.{Refusal}
 use Rattle.heap_class.specs.declared.Refusal.TheVariants.{NoMemory}
@@ -11,9 +13,9 @@ use Rattle.heap_region.specs.Pool.{RegionPool, new_place, fresh_region}
 use Rattle.heap_sweep.specs.declared.Reclaimed.{Reclaimed}
 use Rattle.heap_sweep.specs.declared.Reclaimed.TheVariants.{Swept, Emptied}
 use Rattle.heap_sweep.specs.Sweep.{is_emptied, dead_at, reclaimed, reclaimed_dead, reclaimed_emptied}
-use Rattle.heap_world.specs.State.{HeapState, pool_of, register, place_of, word_of}
+use Rattle.heap_world.specs.State.{HeapState, pool_of, register, word_of}
 use Rattle.heap_world.specs.Legal.{IsLegal}
-use Rattle.heap_world.specs.Events.{is_reference_slot, is_logged, after_mark, after_drain}
+use Rattle.heap_world.specs.Events.{is_reference_slot, after_mark, after_drain}
 use Rattle.heap_step.specs.declared.Answer.{Answer}
 use Rattle.heap_step.specs.declared.Answer.TheVariants.{Value}
 use Rattle.heap_step.specs.declared.Event.{Event}
@@ -24,8 +26,10 @@ use Rattle.heap_step.specs.Laws.{IsApplied, StaysFound}
 use Rattle.heap_step.proofs.EventLaws.{keeps_legal, stays_found}
 
 -- a refusal
-pub refused_is : (e : Event) (before after : HeapState) (r : Refusal) → IsAnswered {A = Answer × Undo} (refusal_of e before) (event_may_grow e before) (Err r) → after ≡ before → IsApplied e before after (Err r)
-refused_is e before after r answered same = record { answered = answered; state = tt; answer = tt; recorded = tt; unchanged = same }
+pub refused_as : (e : Event) (before after : HeapState) (result : Result (Answer × Undo) Refusal) (r : Refusal) → IsErrAnd result (λ d. d ≡ r) → IsAnswered {A = Answer × Undo} (refusal_of e before) (event_may_grow e before) (Err r) → after ≡ before → IsApplied e before after result
+refused_as e before after result r is answered same =
+    let p = err_from_is_err_and result is in
+    rw (p.1, p.2) (record { answered = answered; state = tt; answer = tt; recorded = tt; unchanged = same })
 
 -- an answer with its record
 pub done_is : (e : Event) (before after : HeapState) (a : Answer) (u : Undo) → refusal_of e before ≡ None → after ≡ state_after e before → a ≡ answer_of e before after → u ≡ undo_record e before → IsApplied e before after (Ok (a, u))
@@ -41,13 +45,6 @@ new_record_is w m r n at fresh old place held =
 pub reg_record_is : (w : HeapState) (m r old : ℕ) → old ≡ register w m r → Undo.Reg m r old ≡ reg_record m r w
 unfolding reg_record
 reg_record_is w m r old held = ap (λ x. Undo.Reg m r x) held
-
-pub put_record_is : (w : HeapState) (m target slot : ℕ) (at : ObjRef) (old : ℕ) → at ≡ place_of w (register w m target) → old ≡ word_of w (register w m target) slot → Undo.Put at slot old ≡ Undo.Put (place_of w (register w m target)) slot (word_of w (register w m target) slot)
-put_record_is w m target slot at old place held = λ i. Undo.Put (place i) slot (held i)
-
-pub store_record_is : (w : HeapState) (m target slot : ℕ) (at : ObjRef) (old : ℕ) (logged : Bool) → at ≡ place_of w (register w m target) → old ≡ word_of w (register w m target) slot → logged ≡ is_logged w (register w m target) slot
-    → Undo.Store at slot old logged ≡ Undo.Store (place_of w (register w m target)) slot (word_of w (register w m target) slot) (is_logged w (register w m target) slot)
-store_record_is w m target slot at old logged place held log = λ i. Undo.Store (place i) slot (held i) (log i)
 
 pub mark_record_is : (w v : HeapState) (parent pushed : ℕ) → v ≡ after_mark w → parent ≡ slice_index w.gray 0 → pushed ≡ length v.gray + 1 - length w.gray → Undo.Mark parent pushed ≡ Undo.Mark (slice_index w.gray 0) (length (after_mark w).gray + 1 - length w.gray)
 mark_record_is w v parent pushed state named grown = λ i. Undo.Mark (named i) ((grown ∙ ap (λ (u : HeapState). length u.gray + 1 - length w.gray) state) i)

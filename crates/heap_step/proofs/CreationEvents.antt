@@ -1,5 +1,5 @@
 -- The events that make objects are sound.
-use Rattle.std.proofs.Common.{Bool, None, Option, Some, ap, arith, false, length, refl, sym, true, ℕ, ◌&&◌, ◌*◌, ◌+◌, ◌∙◌, ◌≡◌, ◌≢◌, ◌≤◌}
+use Rattle.std.proofs.Common.{Bool, None, Option, Some, ap, arith, false, length, refl, subst, sym, true, ℕ, ◌&&◌, ◌*◌, ◌+◌, ◌∙◌, ◌≡◌, ◌≢◌, ◌≤◌}
 use Rattle.std.specs.Option.{option_map_or}
 use Rattle.std.specs.Prelude.{is_none, nat_lt}
 use mathlib.Core.Logic.{inr}
@@ -14,9 +14,12 @@ use Rattle.heap_region.specs.Pool.{new_place}
 use Rattle.heap_world.proofs.New.{new_found, new_legal}
 use Rattle.heap_world.proofs.CreationEvents.{new_phase, new_shape}
 use Rattle.heap_world.specs.Events.{after_new, is_full, new_array_refusal, new_object, new_prim_refusal, new_refusal}
-use Rattle.heap_world.specs.Legal.{HasKind, IsLegal}
+use Rattle.heap_world.proofs.Clauses.{HasClauses}
+use Rattle.heap_world.proofs.Shapes.{KeepsShape}
+use Rattle.heap_world.specs.Legal.{IsLegal, MayHold}
 use Rattle.heap_world.specs.State.{HeapState, is_register, pool_of, register}
 use Rattle.heap_step.specs.Apply.{refusal_of, state_after, new_record, reg_record}
+use Rattle.heap_step.specs.Laws.{StaysFound}
 use Rattle.heap_step.specs.Records.{undo_record, undone}
 use Rattle.heap_step.specs.declared.Event.{Event}
 use Rattle.heap_step.specs.declared.Undo.{Undo}
@@ -34,29 +37,21 @@ no_reference k h e = let a : true ≡ false = sym (ap is_reference e) ∙ h in c
     clash : true ≡ false → ⊥
     clash b = cc
 
-new_room : (w : HeapState) (m r class : ℕ) → new_refusal m r class w ≡ None → HasKind w.classes (Instance class) (length (slots_of w.classes class)) × (is_full (length (slots_of w.classes class)) w ≡ false)
+-- the register may hold such an object, and there is room for it
+abbrev MayMake : HeapState → ℕ → ℕ → ObjKind → ℕ → Type 0
+MayMake w m r kind n = MayHold w m r kind n × (is_full n w ≡ false)
+
+may_make_instance : (w : HeapState) (m r class : ℕ) → new_refusal m r class w ≡ None → MayMake w m r (Instance class) (length (slots_of w.classes class))
 unfolding new_refusal
-new_room w m r class accepted = ((not_false _ (none_holds _ accepted).1.1.0, refl), (none_holds _ accepted).1.1.1.0)
+may_make_instance w m r class accepted = let h = none_holds _ accepted in (record { there = not_false _ h.0; of_kind = (not_false _ h.1.1.0, refl) }, h.1.1.1.0)
 
-new_array_room : (w : HeapState) (m r class len : ℕ) → new_array_refusal m r class len w ≡ None → HasKind w.classes (Array class) len × (is_full len w ≡ false)
+may_make_array : (w : HeapState) (m r class len : ℕ) → new_array_refusal m r class len w ≡ None → MayMake w m r (Array class) len
 unfolding new_array_refusal
-new_array_room w m r class len accepted = ((not_false _ (none_holds _ accepted).1.1.0, at_most len (none_holds _ accepted).1.1.1.0), (none_holds _ accepted).1.1.1.1.0)
+may_make_array w m r class len accepted = let h = none_holds _ accepted in (record { there = not_false _ h.0; of_kind = (not_false _ h.1.1.0, at_most len h.1.1.1.0) }, h.1.1.1.1.0)
 
-new_prim_room : (w : HeapState) (m r : ℕ) (kind : Kind) (len : ℕ) → new_prim_refusal m r kind len w ≡ None → HasKind w.classes (Prim kind) len × (is_full len w ≡ false)
+may_make_prim : (w : HeapState) (m r : ℕ) (kind : Kind) (len : ℕ) → new_prim_refusal m r kind len w ≡ None → MayMake w m r (Prim kind) len
 unfolding new_prim_refusal
-new_prim_room w m r kind len accepted = ((no_reference kind (none_holds _ accepted).1.0, at_most len (none_holds _ accepted).1.1.0), (none_holds _ accepted).1.1.1.0)
-
-new_there : (w : HeapState) (m : ℕ) (r : ℕ) (class : ℕ) → new_refusal m r class w ≡ None → is_register w m r ≡ true
-unfolding new_refusal
-new_there w m r class accepted = not_false _ (none_holds _ accepted).0
-
-new_array_there : (w : HeapState) (m : ℕ) (r : ℕ) (class : ℕ) (len : ℕ) → new_array_refusal m r class len w ≡ None → is_register w m r ≡ true
-unfolding new_array_refusal
-new_array_there w m r class len accepted = not_false _ (none_holds _ accepted).0
-
-new_prim_there : (w : HeapState) (m : ℕ) (r : ℕ) (kind : Kind) (len : ℕ) → new_prim_refusal m r kind len w ≡ None → is_register w m r ≡ true
-unfolding new_prim_refusal
-new_prim_there w m r kind len accepted = not_false _ (none_holds _ accepted).0
+may_make_prim w m r kind len accepted = let h = none_holds _ accepted in (record { there = not_false _ h.0; of_kind = (no_reference kind h.1.0, at_most len h.1.1.0) }, h.1.1.1.0)
 
 -- a new object in a register that is there
 created_fits : (w : HeapState) (m r n : ℕ) (kind : ObjKind) → IsLegal w → is_register w m r ≡ true → is_full n w ≡ false → Fits (new_record m r n w) (after_new m r kind n w)
@@ -70,35 +65,25 @@ created_fits w m r n kind legal there room = go (new_place n (pool_of w)) refl r
       ap (λ k. nat_lt r 8 && nat_lt (8 * m + r) k) (new_registers w m r n kind p.0 p.1 place) ∙ there,
     )
 
-pub new_sound : (m : ℕ) (r : ℕ) (class : ℕ) → IsSound (Event.New m r class)
-unfolding refusal_of state_after undo_record undone
-new_sound m r class = record {
-  legal = λ w l accepted. let f = new_room w m r class accepted in new_legal w m r (Instance class) (length (slots_of w.classes class)) l f.0 f.1;
-  back = λ w legal accepted. created_back w m r (length (slots_of w.classes class)) (Instance class) legal (new_room w m r class accepted).1;
-  fits = λ w legal accepted. created_fits w m r (length (slots_of w.classes class)) (Instance class) legal (new_there w m r class accepted) (new_room w m r class accepted).1;
-  found = λ w l accepted i j x h. let f = new_room w m r class accepted in new_found w m r (Instance class) (length (slots_of w.classes class)) l f.0 f.1 i x h;
-  shape = λ w l accepted x live. new_shape w m r (Instance class) (length (slots_of w.classes class)) x l;
-  run = λ w i. inr (sym (new_phase w m r (Instance class) (length (slots_of w.classes class))) ∙ i);
+-- an event that makes an object is sound
+created_sound : (e : Event) (m r : ℕ) (kind : ObjKind) (len : HeapState → ℕ) → ((w : HeapState) → refusal_of e w ≡ None → MayMake w m r kind (len w)) → ((w : HeapState) → state_after e w ≡ after_new m r kind (len w) w) → ((w : HeapState) → undo_record e w ≡ new_record m r (len w) w) → IsSound e
+created_sound e m r kind len may after left = record {
+  legal = λ w l accepted. let h = may w accepted in subst HasClauses (sym (after w)) (new_legal w m r kind (len w) l h.0.of_kind h.1);
+  back = λ w legal accepted. (λ i. undone (left w i) (after w i)) ∙ created_back w m r (len w) kind legal (may w accepted).1;
+  fits = λ w legal accepted. let h = may w accepted in subst (Fits (undo_record e w)) (sym (after w)) (subst (λ (u : Undo). Fits u (after_new m r kind (len w) w)) (sym (left w)) (created_fits w m r (len w) kind legal h.0.there h.1));
+  found = λ w l accepted. let h = may w accepted in subst (StaysFound w) (sym (after w)) (λ i j x h'. new_found w m r kind (len w) l h.0.of_kind h.1 i x h');
+  shape = λ w l accepted x live. subst (λ (v : HeapState). KeepsShape w v x) (sym (after w)) (new_shape w m r kind (len w) x l);
+  run = λ w i. inr (sym (new_phase w m r kind (len w)) ∙ sym (ap (λ (v : HeapState). v.phase) (after w)) ∙ i);
 }
+
+pub new_sound : (m : ℕ) (r : ℕ) (class : ℕ) → IsSound (Event.New m r class)
+unfolding refusal_of state_after undo_record
+new_sound m r class = created_sound _ m r (Instance class) (λ w. length (slots_of w.classes class)) (λ w. may_make_instance w m r class) (λ w. refl) (λ w. refl)
 
 pub new_array_sound : (m : ℕ) (r : ℕ) (class : ℕ) (len : ℕ) → IsSound (Event.NewArray m r class len)
-unfolding refusal_of state_after undo_record undone
-new_array_sound m r class len = record {
-  legal = λ w l accepted. let f = new_array_room w m r class len accepted in new_legal w m r (Array class) (len) l f.0 f.1;
-  back = λ w legal accepted. created_back w m r (len) (Array class) legal (new_array_room w m r class len accepted).1;
-  fits = λ w legal accepted. created_fits w m r (len) (Array class) legal (new_array_there w m r class len accepted) (new_array_room w m r class len accepted).1;
-  found = λ w l accepted i j x h. let f = new_array_room w m r class len accepted in new_found w m r (Array class) (len) l f.0 f.1 i x h;
-  shape = λ w l accepted x live. new_shape w m r (Array class) (len) x l;
-  run = λ w i. inr (sym (new_phase w m r (Array class) (len)) ∙ i);
-}
+unfolding refusal_of state_after undo_record
+new_array_sound m r class len = created_sound _ m r (Array class) (λ w. len) (λ w. may_make_array w m r class len) (λ w. refl) (λ w. refl)
 
 pub new_prim_sound : (m : ℕ) (r : ℕ) (kind : Kind) (len : ℕ) → IsSound (Event.NewPrim m r kind len)
-unfolding refusal_of state_after undo_record undone
-new_prim_sound m r kind len = record {
-  legal = λ w l accepted. let f = new_prim_room w m r kind len accepted in new_legal w m r (Prim kind) (len) l f.0 f.1;
-  back = λ w legal accepted. created_back w m r (len) (Prim kind) legal (new_prim_room w m r kind len accepted).1;
-  fits = λ w legal accepted. created_fits w m r (len) (Prim kind) legal (new_prim_there w m r kind len accepted) (new_prim_room w m r kind len accepted).1;
-  found = λ w l accepted i j x h. let f = new_prim_room w m r kind len accepted in new_found w m r (Prim kind) (len) l f.0 f.1 i x h;
-  shape = λ w l accepted x live. new_shape w m r (Prim kind) (len) x l;
-  run = λ w i. inr (sym (new_phase w m r (Prim kind) (len)) ∙ i);
-}
+unfolding refusal_of state_after undo_record
+new_prim_sound m r kind len = created_sound _ m r (Prim kind) (λ w. len) (λ w. may_make_prim w m r kind len) (λ w. refl) (λ w. refl)

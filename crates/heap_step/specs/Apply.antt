@@ -2,6 +2,7 @@
 use Rattle.std.specs.Prelude.{ℕ, ◌+◌, ◌-◌, Bool, true, false, ◌==◌, length, slice_index, unwrap_or, Option, Some, None, Result, Ok, Err, if◌then◌else◌}
 use Rattle.std.specs.Option.{option_map_or}
 use Rattle.heap_class.specs.declared.Refusal.{Refusal}
+use Rattle.heap_class.specs.declared.ObjKind.{ObjKind}
 use Rattle.heap_class.specs.declared.ObjKind.TheVariants.{Instance, Array, Prim}
 use Rattle.heap_class.specs.Classes.{class_refusal, instance_class, array_class, slots_of}
 use Rattle.heap_region.specs.Regions.{used_at}
@@ -49,6 +50,16 @@ sweep_record region w =
     then Undo.Reclaim region (unwrap_or (used_at w.regions region) (fresh_region 4))
     else Undo.Sweep region (dead_at region (pool_of w))
 
+-- what an event does that makes an object of so many slots in register r of mutator m, unless there is this refusal
+abbrev pub creation : ℕ → ℕ → ObjKind → (HeapState → ℕ) → (HeapState → Option Refusal) → EventModel
+creation m r kind len refusal = record {
+  refusal = refusal;
+  after = λ w. after_new m r kind (len w) w;
+  answer = λ w v. Object (register v m r);
+  left = λ w. new_record m r (len w) w;
+  may_grow = λ w. is_fresh (len w) (pool_of w);
+}
+
 -- what each event does
 abbrev pub model_of : Event → EventModel
 model_of (Event.Class name sup fields) = record {
@@ -65,27 +76,12 @@ model_of (Event.ArrayClass name) = record {
   left = λ w. Undo.Class;
   may_grow = λ w. true;
 }
-model_of (Event.New m r class) = record {
-  refusal = λ w. new_refusal m r class w;
-  after = λ w. after_new m r (Instance class) (length (slots_of w.classes class)) w;
-  answer = λ w v. Object (register v m r);
-  left = λ w. new_record m r (length (slots_of w.classes class)) w;
-  may_grow = λ w. is_fresh (length (slots_of w.classes class)) (pool_of w);
-}
-model_of (Event.NewArray m r class len) = record {
-  refusal = λ w. new_array_refusal m r class len w;
-  after = λ w. after_new m r (Array class) len w;
-  answer = λ w v. Object (register v m r);
-  left = λ w. new_record m r len w;
-  may_grow = λ w. is_fresh len (pool_of w);
-}
-model_of (Event.NewPrim m r kind len) = record {
-  refusal = λ w. new_prim_refusal m r kind len w;
-  after = λ w. after_new m r (Prim kind) len w;
-  answer = λ w v. Object (register v m r);
-  left = λ w. new_record m r len w;
-  may_grow = λ w. is_fresh len (pool_of w);
-}
+model_of (Event.New m r class) =
+    creation m r (Instance class) (λ w. length (slots_of w.classes class)) (new_refusal m r class)
+model_of (Event.NewArray m r class len) =
+    creation m r (Array class) (λ w. len) (new_array_refusal m r class len)
+model_of (Event.NewPrim m r kind len) =
+    creation m r (Prim kind) (λ w. len) (new_prim_refusal m r kind len)
 model_of (Event.Load m to from slot) = record {
   refusal = λ w. load_refusal m to from slot w;
   after = λ w. after_load m to from slot w;

@@ -1,4 +1,6 @@
 //! The effect of each event on the heap, with its answer and its record.
+#![tactic(auto, using(crate::proofs::AppliedResults::refused_as), unfolding(crate::specs::Apply::refusal_of, crate::specs::Apply::event_may_grow))]
+
 ghost use Rattle.std.specs.Prelude.{◌≡◌, ℕ, List, if◌then◌else◌};
 ghost use Rattle.heap_region.specs.Regions.{Object, UsedRegion};
 ghost use Rattle.heap_sweep.specs.declared.Reclaimed.TheVariants.{Swept, Emptied};

@@ -2,12 +2,4 @@
 #![tactic(auto)]
 
 #[cfg(test)]
-mod barrier;
-#[cfg(test)]
-mod classes;
-#[cfg(test)]
-mod dump_text;
-#[cfg(test)]
-mod trail;
-#[cfg(test)]
-mod world;
+mod tests;

@@ -1,5 +1,5 @@
 -- The worked examples, by computation.
-use Rattle.std.proofs.Common.{refl}
+use Rattle.std.proofs.Common.{refl, rules}
 use Rattle.heap_class.specs.Functions.{class_functions as open_heap_class}
 use Rattle.heap_world.specs.Regions.{used_at, object_at, objects_of_region, objects_in, id_of, cell_around, ref_of, object_of, slot_kinds, references_of, updated, in_used, with_region, with_object, with_word, with_mark, cell_size_for}
 use Rattle.heap_world.specs.Pool.{fresh_region, opening_pool, blank_object, free_place, place_or_fresh, new_place, is_fresh, taken, restored, allocated, freed, released, unallocated}
@@ -61,14 +61,4 @@ sweep_and_reuse_rewound = (refl, refl)
 
 pub barrier_logs_old_values : BarrierLogsOldValues
 unfolding open_heap_class open_heap_region open_heap_mark open_heap_sweep open_heap_world open_heap_step open_heap_trail
-barrier_logs_old_values = record {
-  replies = refl;
-  null_overwritten = refl;
-  null_again = refl;
-  itself_overwritten = refl;
-  second_null = refl;
-  second_overwritten = refl;
-  rewound_one = (refl, refl);
-  rewound_three = (refl, refl);
-  rewound_two = (refl, refl);
-}
+barrier_logs_old_values = search rules

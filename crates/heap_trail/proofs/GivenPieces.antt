@@ -27,7 +27,7 @@ use Rattle.heap_trail.specs.declared.held.NumberedPin.{NumberedPin}
 use Rattle.heap_trail.specs.Laws.{IsPieceOfLegal}
 use Rattle.heap_trail.specs.Pins.{PinState, if_kept, each_kept, with_piece_given, pin_at}
 use Rattle.heap_trail.specs.Pins.{Kept as KeptState, Gone}
-use Rattle.heap_trail.specs.Machine.{Machine, Denied, MayStand, acted, after_piece, counted, may_grow, is_accepted}
+use Rattle.heap_trail.specs.Machine.{Machine, Denied, MayFail, MayStand, acted, after_piece, counted, may_grow, is_accepted}
 use Rattle.heap_trail.specs.OpenPins.{state_of, pins_of, IsGivenOf, IsGiven, HoldsAt, CanGive, given_after, HasGiven, RefusesPiece, AreAbove, AreHeld}
 use Rattle.heap_trail.specs.Records.{past_of, IsPinning, machine_of, machine_with}
 use Rattle.heap_trail.proofs.PinSearch.{seen, IsThere, above_there, pin_found}
@@ -140,7 +140,7 @@ given_none : (w : HeapState) (s t : NumberedPin) (at : ℕ) (pin : PinContents) 
 unfolding state_of
 given_none w s t at pin cursor next given same was is = (λ j. (same j, state_of w (is j))) ∙ ap (λ h. (s.number, state_of w h)) (sym was)
 
-pub piece_done : (ids : IdSize) (w : HeapState) (ring : Buffer Undo) (place keep next : ℕ) (ss : List NumberedPin) (i time : ℕ) (s t : NumberedPin) (piece : Piece) → IsPinning ids w ring place next ss → IsThere ss i s → t.number ≡ s.number → HasGiven ids w time piece s.held t.held
+piece_done : (ids : IdSize) (w : HeapState) (ring : Buffer Undo) (place keep next : ℕ) (ss : List NumberedPin) (i time : ℕ) (s t : NumberedPin) (piece : Piece) → IsPinning ids w ring place next ss → IsThere ss i s → t.number ≡ s.number → HasGiven ids w time piece s.held t.held
     → acted (machine_of ids w ring place keep next ss) (NextPiece s.number time) ≡ (machine_of ids w ring place keep next (set ss i t), Part piece)
 unfolding acted after_piece counted state_of given_after
 piece_done ids w ring place keep next ss i time s t piece p there same given =
@@ -177,10 +177,27 @@ piece_refused ids w ring place keep next ss i time s e p there may =
     go (Kept at pin cursor given) k = inr ((refl, refl), k)
     go (Lost cause) k = inl (ap (λ x. (m, Refused x)) (sym k))
 
-pub piece_not_given : (ids : IdSize) (w : HeapState) (ring : Buffer Undo) (place keep next : ℕ) (ss : List NumberedPin) (i time : ℕ) (s t : NumberedPin) (r : Result Piece Refusal) → IsPinning ids w ring place next ss → IsThere ss i s → IfErr r (λ e. RefusesPiece s.held e) → OnErr r (t ≡ s)
+piece_not_given : (ids : IdSize) (w : HeapState) (ring : Buffer Undo) (place keep next : ℕ) (ss : List NumberedPin) (i time : ℕ) (s t : NumberedPin) (r : Result Piece Refusal) → IsPinning ids w ring place next ss → IsThere ss i s → IfErr r (λ e. RefusesPiece s.held e) → OnErr r (t ≡ s)
     → IfErr r (λ e. (acted (machine_of ids w ring place keep next ss) (NextPiece s.number time) ≡ (machine_of ids w ring place keep next (set ss i t), Refused e)) ⊎ (MayStand (machine_of ids w ring place keep next ss) (NextPiece s.number time, Denied) × (e ≡ NoMemory)))
 piece_not_given ids w ring place keep next ss i time s t (Ok piece) p there may same = tt
 piece_not_given ids w ring place keep next ss i time s t (Err e) p there may same =
     let m : Machine = machine_of ids w ring place keep next ss in
     subst (λ l. (acted m (NextPiece s.number time) ≡ (machine_of ids w ring place keep next l, Refused e)) ⊎ (MayStand m (NextPiece s.number time, Denied) × (e ≡ NoMemory)))
     (sym (ap (set ss i) (same ∙ there.here) ∙ set-get_or ss i s)) (piece_refused ids w ring place keep next ss i time s e p there may)
+
+-- what a slot's piece says, or its refusal, of the pin with the slot's number
+pub piece_answered : (ids : IdSize) (w : HeapState) (ring : Buffer Undo) (place keep next : ℕ) (ss : List NumberedPin) (i pin time : ℕ) (s t : NumberedPin) (r : Result Piece Refusal) → IsPinning ids w ring place next ss → IsThere ss i s × (s.number ≡ pin) → t.number ≡ s.number
+    → IfOk r (λ p. HasGiven ids w time p s.held t.held) → IfErr r (λ e. RefusesPiece s.held e) → OnErr r (t ≡ s) → let m : Machine = machine_of ids w ring place keep next ss in let n : Machine = machine_of ids w ring place keep next (set ss i t) in
+    IfOk r (λ p. acted m (NextPiece pin time) ≡ (n, Part p)) × IfErr r (λ e. MayFail m (NextPiece pin time) n e)
+piece_answered ids w ring place keep next ss i pin time s t r p there same given refused kept =
+    subst (λ k. IfOk r (λ p. acted m (NextPiece k time) ≡ (n, Part p)) × IfErr r (λ e. MayFail m (NextPiece k time) n e)) there.1 (go r given refused kept)
+  where
+    m : Machine
+    m = machine_of ids w ring place keep next ss
+
+    n : Machine
+    n = machine_of ids w ring place keep next (set ss i t)
+
+    go : (r : Result Piece Refusal) → IfOk r (λ p. HasGiven ids w time p s.held t.held) → IfErr r (λ e. RefusesPiece s.held e) → OnErr r (t ≡ s) → IfOk r (λ p. acted m (NextPiece s.number time) ≡ (n, Part p)) × IfErr r (λ e. MayFail m (NextPiece s.number time) n e)
+    go (Ok piece) given refused kept = (piece_done ids w ring place keep next ss i time s t piece p there.0 same given, tt)
+    go (Err e) given refused kept = (tt, piece_not_given ids w ring place keep next ss i time s t (Err e) p there.0 refused kept)

@@ -35,9 +35,3 @@ pub mod RewindsOver
 pub mod OpenedPins
 pub mod RetainedRecords
 pub mod ShownPins
-pub use Rattle.heap_pins.proofs.CoveringCopies
-pub use Rattle.heap_pins.proofs.LiveCounts
-pub use Rattle.heap_pins.proofs.Others
-pub use Rattle.heap_pins.proofs.RecordCases
-pub use Rattle.heap_pins.proofs.RoomForCopies
-pub use Rattle.heap_pins.proofs.States

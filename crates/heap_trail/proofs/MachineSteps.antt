@@ -30,6 +30,9 @@ pub record IsAccepted (e : Event) (w v : HeapState) (left : Undo) : Type 0 where
   pub after : IsLegal v
   pub law : IsTakenBack e w
 
+pub accepted_as : (e : Event) (w v : HeapState) (left : Undo) → refusal_of e w ≡ None → v ≡ state_after e w → left ≡ undo_record e w → IsLegal v → IsTakenBack e w → IsAccepted e w v left
+accepted_as e w v left accepted gave recorded after law = record { accepted = accepted; gave = gave; recorded = recorded; after = after; law = law }
+
 -- its record leads back
 pub leads_back : (e : Event) (w v : HeapState) (left : Undo) → IsLegal w → IsAccepted e w v left → undone left v ≡ w
 leads_back e w v left legal a = (λ i. undone (a.recorded i) (a.gave i)) ∙ a.law legal a.accepted

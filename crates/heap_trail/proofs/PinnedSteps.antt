@@ -1,8 +1,9 @@
 -- What a step makes of a machine with pins.
 use Rattle.heap_class.specs.declared.IdSize.{IdSize}
 use Rattle.std.specs.Prelude.{is_some}
-use Rattle.std.proofs.Common.{◌≡◌, ℕ, suc, ◌+◌, ◌<◌, ◌≤◌, Bool, true, List, [], ◌∷◌, length, map, refl, sym, ap, subst, ◌∙◌, Option, Some, None, IsSome, Ok, inl, inr}
+use Rattle.std.proofs.Common.{◌≡◌, ℕ, suc, ◌+◌, ◌<◌, ◌≤◌, Bool, true, List, [], ◌∷◌, ◌++◌, length, take, drop, map, refl, sym, ap, subst, ◌∙◌, Option, Some, None, IsSome, Ok, inl, inr}
 use Rattle.std.specs.Option.{option_map_or}
+use Rattle.std.proofs.lemmas.List.{take_at}
 use Rattle.circular_buffer.specs.Buffer.{Buffer}
 use Rattle.heap_class.specs.declared.ObjRef.{ObjRef}
 use Rattle.heap_class.specs.Classes.{slots_of}
@@ -36,6 +37,12 @@ same_length left v [] [] e = refl
 same_length left v [] (t ∷ ts) e = absurd e
 same_length left v (s ∷ ss) [] e = absurd e
 same_length left v (s ∷ ss) (t ∷ ts) e = ap suc (same_length left v ss ts e.1)
+
+-- a list of pins, given by a slice, and the one that has its place
+pub list_after : (left : Undo) (v : HeapState) (ss slice ts : List NumberedPin) (n : ℕ) → slice ≡ ss → EachMayKeep left v slice ts → n ≡ length ss → EachMayKeep left v ss ts × (take n (ts ++ drop (length ts) ss) ≡ ts)
+list_after left v ss slice ts n same each count =
+    let kept : EachMayKeep left v ss ts = subst (λ (l : List NumberedPin). EachMayKeep left v l ts) same each in
+    (kept, take_at ts (drop (length ts) ss) n (same_length left v ss ts kept ∙ sym count))
 
 pub pinning_after : (ids : IdSize) (e : Event) (w v : HeapState) (left : Undo) (ring : Buffer Undo) (place keep next : ℕ) (ss ts : List NumberedPin) → IsRetaining w ring place keep → IsPinning ids w ring place next ss → IsAccepted e w v left → EachMayKeep left v ss ts
     → IsPinning ids v (with_record left ring) (place + 1) next ts

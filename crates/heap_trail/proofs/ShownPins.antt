@@ -1,5 +1,5 @@
 -- What pins show.
-use Rattle.std.proofs.Common.{◌≡◌, ℕ, List, Some, None, sym, ap, ◌∙◌}
+use Rattle.std.proofs.Common.{◌≡◌, ℕ, List, Some, None, Result, Ok, Err, IfOk, IfErr, sym, ap, subst, ◌∙◌}
 use Rattle.circular_buffer.specs.Buffer.{Buffer}
 use Rattle.heap_class.specs.declared.IdSize.{IdSize}
 use Rattle.heap_class.specs.declared.Refusal.{Refusal}
@@ -37,7 +37,7 @@ can_show ids w (Kept place pin cursor given) c = c.0
 can_show ids w (Lost cause) c = tt
 
 -- the view of a pin that is found shows its image
-pub view_of : (m : Machine) (pin : ℕ) (h : Held) (v : PinShown) → pin_at pin m.pins ≡ Some (state_of m.trail.current h) → IsViewBeside m.ids m.trail.current h v → IsViewOf m pin v
+view_of : (m : Machine) (pin : ℕ) (h : Held) (v : PinShown) → pin_at pin m.pins ≡ Some (state_of m.trail.current h) → IsViewBeside m.ids m.trail.current h v → IsViewOf m pin v
 unfolding state_of
 view_of m pin (Kept place p cursor given) v found is = record {
   ids = ap (λ (v : PinShown). v.ids) is;
@@ -45,10 +45,16 @@ view_of m pin (Kept place p cursor given) v found is = record {
 }
 view_of m pin (Lost cause) v found is = absurd is
 
-pub lost_view : (m : Machine) (pin : ℕ) (h : Held) (e : Refusal) → pin_at pin m.pins ≡ Some (state_of m.trail.current h) → RefusesView h e → view_refusal (pin_at pin m.pins) ≡ Some e
+lost_view : (m : Machine) (pin : ℕ) (h : Held) (e : Refusal) → pin_at pin m.pins ≡ Some (state_of m.trail.current h) → RefusesView h e → view_refusal (pin_at pin m.pins) ≡ Some e
 unfolding state_of view_refusal
 lost_view m pin (Kept place p cursor given) e found is = absurd is
 lost_view m pin (Lost cause) e found is = ap view_refusal found ∙ ap Some (sym is)
+
+-- what the view of a slot says, or its refusal, of the pin with the slot's number
+pub viewed : (m : Machine) (s : NumberedPin) (pin : ℕ) (r : Result PinShown Refusal) → pin_at s.number m.pins ≡ Some (state_of m.trail.current s.held) → s.number ≡ pin → IfOk r (λ v. IsViewBeside m.ids m.trail.current s.held v) → IfErr r (λ e. RefusesView s.held e)
+    → IfOk r (λ v. IsViewOf m pin v) × IfErr r (λ e. view_refusal (pin_at pin m.pins) ≡ Some e)
+viewed m s pin (Ok v) found named view refused = (subst (λ n. IsViewOf m n v) named (view_of m s.number s.held v found view), tt)
+viewed m s pin (Err e) found named view refused = (tt, subst (λ n. view_refusal (pin_at n m.pins) ≡ Some e) named (lost_view m s.number s.held e found refused))
 
 pub no_view : (m : Machine) (pin : ℕ) → pin_at pin m.pins ≡ None → view_refusal (pin_at pin m.pins) ≡ view_refusal None
 no_view m pin none = ap view_refusal none

@@ -84,6 +84,14 @@ node_fields =
 abbrev pub node : Event
 node = Event.Class (codes "Node") None node_fields
 
+-- the first lines of a script: the event defines a class, and two instances of it go to the first registers
+abbrev pub two_of : Event → Script
+two_of class =
+    does class (Answer.Class 0)
+    ∷ does (New 0 0 0) (Made 0x10000000)
+    ∷ does (New 0 1 0) (Made 0x10000020)
+    ∷ []
+
 -- ---- regions and cells
 
 -- one region holds one array of 1,024 elements
@@ -109,10 +117,8 @@ LowestRegionFirst = RepliesAs 2 1024
 -- a rewind gives cells back
 abbrev pub RewindGivesBackCells : Type 0
 RewindGivesBackCells = RepliesAs 16 1024
-    (does point (Answer.Class 0)
-    ∷ does (New 0 0 0) (Made 0x10000000)
-    ∷ does (New 0 1 0) (Made 0x10000020)
-    ∷ rewinds 2 1
+    (two_of point
+    ++ rewinds 2 1
     ∷ does (New 0 0 0) (Made 0x10000000)
     ∷ [])
 
@@ -121,10 +127,8 @@ RewindGivesBackCells = RepliesAs 16 1024
 -- a machine that keeps one record rewinds one step, and no second one
 abbrev pub KeepOne : Type 0
 KeepOne = RepliesAs 16 1
-    (does point (Answer.Class 0)
-    ∷ does (New 0 0 0) (Made 0x10000000)
-    ∷ does (New 0 1 0) (Made 0x10000020)
-    ∷ (Rewind 2, Refused (TooFar 2 1))
+    (two_of point
+    ++ (Rewind 2, Refused (TooFar 2 1))
     ∷ rewinds 1 2
     ∷ does (New 0 2 0) (Made 0x10000020)
     ∷ rewinds 0 3
@@ -167,10 +171,8 @@ RefusalsOfMutators = RepliesAs 16 1024
 -- a finish is refused while the log is undrained, and while a region is yet to be swept
 abbrev pub FinishRefusedUntilReady : Type 0
 FinishRefusedUntilReady = RepliesAs 16 1024
-    (does node (Answer.Class 0)
-    ∷ does (New 0 0 0) (Made 0x10000000)
-    ∷ does (New 0 1 0) (Made 0x10000020)
-    ∷ does (NewPrim 0 2 Long 5) (Made 0x10002000)
+    (two_of node
+    ++ does (NewPrim 0 2 Long 5) (Made 0x10002000)
     ∷ does (Store 0 0 0 1) Done
     ∷ does Snap (Pushed 3)
     ∷ does (Store 0 0 0 0) Done
@@ -193,10 +195,8 @@ FinishRefusedUntilReady = RepliesAs 16 1024
 -- a cycle begins with one node in a register, which names another
 abbrev pub two_nodes_snapped : Script
 two_nodes_snapped =
-    does node (Answer.Class 0)
-    ∷ does (New 0 0 0) (Made 0x10000000)
-    ∷ does (New 0 1 0) (Made 0x10000020)
-    ∷ does (Store 0 0 0 1) Done
+    two_of node
+    ++ does (Store 0 0 0 1) Done
     ∷ does (Clear 0 1) Done
     ∷ does Snap (Pushed 1)
     ∷ []
@@ -228,10 +228,8 @@ MarkUndonePushesBack = RepliesAs 16 1024
 -- the cells of dead objects are used again, the highest first
 abbrev pub SweepOrderAndReuse : Type 0
 SweepOrderAndReuse = RepliesAs 16 1024
-    (does point (Answer.Class 0)
-    ∷ does (New 0 0 0) (Made 0x10000000)
-    ∷ does (New 0 1 0) (Made 0x10000020)
-    ∷ does (New 0 2 0) (Made 0x10000040)
+    (two_of point
+    ++ does (New 0 2 0) (Made 0x10000040)
     ∷ does (Clear 0 0) Done
     ∷ does (Clear 0 1) Done
     ∷ does Snap (Pushed 1)

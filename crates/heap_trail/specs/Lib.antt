@@ -18,9 +18,4 @@ pub use Rattle.heap_world.specs.MarkSteps
 pub use Rattle.heap_world.specs.State
 pub use Rattle.heap_world.specs.Sweep
 pub use Rattle.heap_pins.specs.Images
-pub use Rattle.heap_pins.specs.Covers
-pub use Rattle.heap_pins.specs.KeptCopies
-pub use Rattle.heap_pins.specs.Pin
-pub use Rattle.heap_pins.specs.View
-pub use Rattle.heap_pins.specs.Walk
 pub use Rattle.hprof_text.specs.Image

@@ -1,6 +1,6 @@
 -- The events that make an object: their refusals, what they leave, and what undoes them. The heap after a new object is legal by `New`.
 use Rattle.std.proofs.Common.{◌≡◌, ◌≢◌, ◌⊎◌, ℕ, ◌<◌, ◌≤◌, Bool, true, false, List, [], ◌∷◌, Option, Some, None, Result, Ok, Err, length, refl, sym, ap, subst, ◌∙◌, inl, inr, arith}
-use Rattle.std.specs.Prelude.{cond, not, nat_le, nat_lt, is_none, OnOk, IfErr, slice_get, slice_set, is_some, IsSome, option_map, option_and_then}
+use Rattle.std.specs.Prelude.{cond, not, nat_le, nat_lt, is_none, IfOk, OnOk, IfErr, OnErr, slice_get, slice_set, is_some, IsSome, option_map, option_and_then}
 use Rattle.std.specs.Option.{option_map_or}
 use Rattle.heap_class.specs.declared.Kind.{Kind}
 use Rattle.heap_class.specs.declared.ObjRef.{ObjRef}
@@ -12,9 +12,11 @@ use Rattle.heap_class.specs.Refusals.{first_refusal, IsAnswered}
 use Rattle.heap_class.proofs.Slots.{instance_within}
 use Rattle.heap_region.specs.Pool.{alloc_refusal, is_fresh, new_place, RegionPool, freed, allocated, unallocated, blank_object}
 use Rattle.heap_region.specs.Limits.{region_words}
-use Rattle.heap_world.specs.State.{HeapState, is_register, pool_of, with_pool, register_index, with_register}
-use Rattle.heap_world.specs.Events.{is_full, new_refusal, after_new, new_object, new_array_refusal, new_prim_refusal}
+use Rattle.heap_world.specs.State.{HeapState, is_register, register, pool_of, with_pool, register_index, with_register}
+use Rattle.heap_world.specs.declared.Created.{Created}
+use Rattle.heap_world.specs.Events.{is_full, new_refusal, after_new, IsNewObject, new_object, new_array_refusal, new_prim_refusal}
 use Rattle.std.proofs.lemmas.Option.{option_and_then_some, slice_get_within}
+use Rattle.std.proofs.lemmas.Result.{on_ok_weaker}
 use Rattle.heap_class.proofs.Lists.{got_set, got_set_elsewhere, got_is_in}
 use Rattle.heap_region.specs.Legal.{IsCellTable, IsRegionPool}
 use Rattle.heap_class.specs.declared.ObjKind.{ObjKind}
@@ -78,6 +80,15 @@ pub refused_by : (w v : HeapState) (n room : ℕ) (kind : ObjKind) (e : Refusal)
 refused_by w v n room kind e h same k answered = subst (λ (u : HeapState). IsRefusedRoom n u e) same
     (alloc_answered n w e (few_words w.classes h.legal.classes kind n (subst (λ (u : HeapState). HasKind u.classes kind n) (sym same) k)) answered)
 
+-- ---- a call that makes an object
+
+pub not_made : (m r : ℕ) (kind : ObjKind) (n : ℕ) (refusal : Option Refusal) (w : HeapState) (e : Refusal) → refusal ≡ Some e → IsNewObject m r kind n refusal w w (Err e)
+not_made m r kind n refusal w e refused = record { answered = inl refused; made = tt; placed = tt; held = tt; in_register = tt; unchanged = refl }
+
+pub new_made : (m r : ℕ) (kind : ObjKind) (n : ℕ) (refusal : Option Refusal) (w v : HeapState) (result : Result Created Refusal) → IsAnswered refusal (is_fresh n (pool_of w)) result → OnOk result (v ≡ after_new m r kind n w) → IfOk result (λ c. new_place n (pool_of w) ≡ Some (c.at, c.fresh))
+    → IfOk result (λ c. (c.id ≡ register v m r) × (c.old ≡ register w m r)) → is_register w m r ≡ true → OnErr result (v ≡ w) → IsNewObject m r kind n refusal w v result
+new_made m r kind n refusal w v result answered made placed held there unchanged = record { answered = answered; made = made; placed = placed; held = held; in_register = on_ok_weaker result (λ _. there) made; unchanged = unchanged }
+
 -- ---- a new instance
 
 pub new_no_register : (m r class : ℕ) (w : HeapState) → is_register w m r ≡ false → new_refusal m r class w ≡ Some BadRegister
@@ -99,14 +110,14 @@ new_by_room m r class w x e h k f = later _ _ _ _ (ap not e) (later _ _ _ _ (gri
 
 -- what a new instance answers, where there are its register and its class
 pub new_answered : {A : Type 0} (m r class n : ℕ) (w : HeapState) (result : Result A Refusal) → is_register w m r ≡ true → is_instance_class w.classes class ≡ true → n ≡ length (slots_of w.classes class)
-    → OnOk result (is_full n w ≡ false) → IfErr result (IsRefusedRoom n w) → IsAnswered (new_refusal m r class w) (is_fresh (length (slots_of w.classes class)) (pool_of w)) result
+    → OnOk result (is_full n w ≡ false) → IfErr result (IsRefusedRoom n w) → IsAnswered (new_refusal m r class w) (is_fresh n (pool_of w)) result
 new_answered m r class n w (Ok a) e k l room refused =
     new_by_room m r class w None e (instance_within w.classes class k) k (later _ _ _ _ (subst (λ i. is_full i w ≡ false) l room) none_left)
 new_answered m r class n w (Err x) e k l room (inl p) =
     inl (new_by_room m r class w (Some x) e (instance_within w.classes class k) k (here _ _ _ (subst (λ i. is_full i w ≡ true) l p.1) ∙ ap (λ y. Some y) (sym p.0)))
 new_answered m r class n w (Err x) e k l room (inr p) =
     let fresh : is_fresh (length (slots_of w.classes class)) (pool_of w) ≡ true = subst (λ i. is_fresh i (pool_of w) ≡ true) l p.1 in
-    inr (new_by_room m r class w None e (instance_within w.classes class k) k (later _ _ _ _ (fresh_room (length (slots_of w.classes class)) w fresh) none_left), fresh, p.0)
+    inr (new_by_room m r class w None e (instance_within w.classes class k) k (later _ _ _ _ (fresh_room (length (slots_of w.classes class)) w fresh) none_left), p.1, p.0)
 
 -- ---- an object array
 

@@ -1,18 +1,21 @@
 -- For each event, its refusal, and the state after it if it is accepted.
-use Rattle.std.specs.Prelude.{ℕ, Bool, true, false, not, ◌-◌, ◌&&◌, ◌==◌, nat_lt, nat_le, List, [], ◌∷◌, ◌++◌, length, take, replicate, Option, is_none, if◌then◌else◌}
+use Rattle.std.specs.Prelude.{◌≡◌, ◌<◌, ℕ, Bool, true, false, not, ◌-◌, ◌&&◌, ◌==◌, nat_lt, nat_le, List, [], ◌∷◌, ◌++◌, length, take, replicate, Option, Some, is_none, Result, IfOk, OnOk, OnErr, IsTrue, if◌then◌else◌}
 use Rattle.std.specs.Option.{option_map_or}
 use Rattle.heap_class.specs.declared.Kind.{Kind}
 use Rattle.heap_class.specs.declared.Refusal.{Refusal}
 use Rattle.heap_class.specs.declared.Refusal.TheVariants.{NoClass, BadRegister, NullRegister, BadSlot, WrongKind, OutOfRange, TooLarge, HeapFull}
 use Rattle.heap_class.specs.declared.ObjKind.{ObjKind}
+use Rattle.heap_class.specs.declared.ObjRef.{ObjRef}
 use Rattle.heap_class.specs.Kinds.{is_reference, value_limit}
 use Rattle.heap_class.specs.Limits.{array_limit}
-use Rattle.heap_class.specs.Refusals.{first_refusal}
+use Rattle.heap_class.specs.Refusals.{first_refusal, IsAnswered}
 use Rattle.heap_class.specs.Classes.{Class, is_instance_class, is_array_class, slots_of}
 use Rattle.heap_region.specs.Regions.{Object, with_word, id_of}
-use Rattle.heap_region.specs.Pool.{new_place, allocated}
+use Rattle.heap_region.specs.Limits.{region_words}
+use Rattle.heap_region.specs.Pool.{is_fresh, new_place, allocated}
 use Rattle.heap_mark.specs.MarkSteps.{is_marking, logged, snapped, marked, drained_once, finished}
 use Rattle.heap_sweep.specs.Sweep.{swept}
+use Rattle.heap_world.specs.declared.Created.{Created}
 use Rattle.heap_world.specs.State.{HeapState, pool_of, with_pool, marking_of, with_marking, is_register, register, with_register, place_of, slot_kind, word_of}
 
 -- the state after a class is defined
@@ -36,6 +39,16 @@ after_new m r kind n w =
 -- whether there is no place for an object of n slots
 unfoldable pub is_full : ℕ → HeapState → Bool
 is_full n w = is_none (new_place n (pool_of w))
+
+-- a call that makes an object of n slots in register r of mutator m, unless there is this refusal, had this result
+pub record IsNewObject (m r : ℕ) (kind : ObjKind) (n : ℕ) (refusal : Option Refusal)
+    (before after : HeapState) (result : Result Created Refusal) : Type 0 where
+  pub answered : IsAnswered refusal (is_fresh n (pool_of before)) result
+  pub made : OnOk result (after ≡ after_new m r kind n before)
+  pub placed : IfOk result (λ c. new_place n (pool_of before) ≡ Some (c.at, c.fresh))
+  pub held : IfOk result (λ c. (c.id ≡ register after m r) × (c.old ≡ register before m r))
+  pub in_register : OnOk result (IsTrue (is_register before m r))
+  pub unchanged : OnErr result (after ≡ before)
 
 -- the refusal of a new instance, or None if it is accepted
 unfoldable pub new_refusal : ℕ → ℕ → ℕ → HeapState → Option Refusal
@@ -74,6 +87,12 @@ lacks_slot w x slot = is_none (slot_kind w x slot)
 -- whether the object x has such a slot, of kind Object
 unfoldable pub is_reference_slot : HeapState → ℕ → ℕ → Bool
 is_reference_slot w x slot = option_map_or is_reference (slot_kind w x slot) false
+
+-- a slot of the object that a register names: its place and its word
+pub record IsSlotAt (w : HeapState) (m target slot : ℕ) (at : ObjRef) (word : ℕ) : Type 0 where
+  pub placed : at ≡ place_of w (register w m target)
+  pub held : word ≡ word_of w (register w m target) slot
+  pub within : slot < region_words
 
 -- the refusal of a load, or None if it is accepted
 unfoldable pub load_refusal : ℕ → ℕ → ℕ → ℕ → HeapState → Option Refusal

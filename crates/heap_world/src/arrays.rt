@@ -1,12 +1,10 @@
 //! Arrays and their classes.
-ghost use Rattle.std.specs.Prelude.{◌≡◌, length, Some, true, IsTrue, IfOk, IfErr, OnOk, OnErr};
+ghost use Rattle.std.specs.Prelude.{◌≡◌, length, Some, true, IfOk, IfErr, OnOk, OnErr};
 ghost use Rattle.heap_class.specs.Classes.{array_class, class_refusal};
 ghost use Rattle.heap_class.specs.Refusals.{IsAnswered};
 ghost use Rattle.heap_class.specs.declared.ObjKind.TheVariants.{Array, Prim};
-ghost use Rattle.heap_region.specs.Pool.{new_place, is_fresh};
-ghost use Rattle.heap_world.specs.State.{is_register, register, pool_of};
-ghost use Rattle.heap_world.specs.Legal.{HasKind};
-ghost use Rattle.heap_world.specs.Events.{after_class, new_array_refusal, new_prim_refusal, after_new};
+ghost use Rattle.heap_world.specs.Legal.{MayHold};
+ghost use Rattle.heap_world.specs.Events.{after_class, new_array_refusal, new_prim_refusal, IsNewObject};
 
 use super::{ARRAY_LIMIT, Created, World};
 use heap_class::{ClassNo, Kind, Name, ObjKind, Refusal};
@@ -34,15 +32,8 @@ impl World {
         class: ClassNo,
         len: u64,
     ) -> Result<Created, Refusal>
-        ensures answered { IsAnswered (new_array_refusal m r class len self.old)
-            (is_fresh len (pool_of self.old)) result }
-        ensures made { OnOk result (self.new ≡ after_new m r (Array class) len self.old) }
-        ensures placed { IfOk result
-            (λ c. new_place len (pool_of self.old) ≡ Some (c.at, c.fresh)) }
-        ensures held { IfOk result
-            (λ c. (c.id ≡ register self.new m r) × (c.old ≡ register self.old m r)) }
-        ensures register { OnOk result (IsTrue (is_register self.old m r)) }
-        ensures unchanged { OnErr result (self.new ≡ self.old) }
+        ensures { IsNewObject m r (Array class) len (new_array_refusal m r class len self.old)
+            self.old self.new result }
     {
         self.allow_array(m, r, class, len)?;
         self.make(m, r, ObjKind::Array(class), len)
@@ -52,15 +43,8 @@ impl World {
     /// (the kind is Object), TooLarge (more than 1,024 elements) or HeapFull, in this order, and then with NoMemory if a
     /// region's storage can't be allocated.
     pub fn new_prim(&mut self, m: u64, r: u64, kind: Kind, len: u64) -> Result<Created, Refusal>
-        ensures answered { IsAnswered (new_prim_refusal m r kind len self.old)
-            (is_fresh len (pool_of self.old)) result }
-        ensures made { OnOk result (self.new ≡ after_new m r (Prim kind) len self.old) }
-        ensures placed { IfOk result
-            (λ c. new_place len (pool_of self.old) ≡ Some (c.at, c.fresh)) }
-        ensures held { IfOk result
-            (λ c. (c.id ≡ register self.new m r) × (c.old ≡ register self.old m r)) }
-        ensures register { OnOk result (IsTrue (is_register self.old m r)) }
-        ensures unchanged { OnErr result (self.new ≡ self.old) }
+        ensures { IsNewObject m r (Prim kind) len (new_prim_refusal m r kind len self.old) self.old
+            self.new result }
     {
         self.allow_prim(m, r, kind, len)?;
         self.make(m, r, ObjKind::Prim(kind), len)
@@ -68,8 +52,7 @@ impl World {
 
     // Checks that such an object array may be made if there is room. Fails with BadRegister, NoClass, WrongKind or TooLarge.
     fn allow_array(&self, m: u64, r: u64, class: ClassNo, len: u64) -> Result<(), Refusal>
-        ensures register { OnOk result (IsTrue (is_register self.now m r)) }
-        ensures kind { OnOk result (HasKind self.now.classes (Array class) len) }
+        ensures allowed { OnOk result (MayHold self.now m r (Array class) len) }
         ensures refused { IfErr result (λ e. new_array_refusal m r class len self.now ≡ Some e) }
     {
         if !self.has_register(m, r) {
@@ -89,8 +72,7 @@ impl World {
 
     // Checks that such an array of values may be made if there is room. Fails with BadRegister, WrongKind or TooLarge.
     fn allow_prim(&self, m: u64, r: u64, kind: Kind, len: u64) -> Result<(), Refusal>
-        ensures register { OnOk result (IsTrue (is_register self.now m r)) }
-        ensures kind { OnOk result (HasKind self.now.classes (Prim kind) len) }
+        ensures allowed { OnOk result (MayHold self.now m r (Prim kind) len) }
         ensures refused { IfErr result (λ e. new_prim_refusal m r kind len self.now ≡ Some e) }
     {
         if !self.has_register(m, r) {

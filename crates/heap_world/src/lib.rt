@@ -10,10 +10,9 @@ ghost use Rattle.heap_class.specs.declared.Refusal.TheVariants.{NoMemory, NullRe
 ghost use Rattle.heap_region.specs.Regions.{object_at, ref_of, slot_kinds, with_word};
 ghost use Rattle.heap_region.specs.Pool.{new_place, is_fresh, unallocated};
 ghost use Rattle.heap_world.specs.Limits.{AreHeapSettings, HeapSettings, mutator_limit, registers_each};
-ghost use Rattle.heap_world.specs.State.{HeapState, opening_state, is_register, register, with_register, pool_of, with_pool, place_of, slot_kind, word_of};
-ghost use Rattle.heap_world.specs.Legal.{IsLegal, HasKind};
-ghost use Rattle.heap_world.specs.Events.{after_class, is_full, new_refusal, after_new, put_refusal, after_put};
-ghost use Rattle.heap_region.specs.Limits.{region_words};
+ghost use Rattle.heap_world.specs.State.{HeapState, opening_state, is_register, register, with_register, pool_of, with_pool, place_in, slot_kind};
+ghost use Rattle.heap_world.specs.Legal.{IsLegal, MayHold};
+ghost use Rattle.heap_world.specs.Events.{after_class, is_full, new_refusal, after_new, put_refusal, after_put, IsNewObject, IsSlotAt};
 
 mod arrays;
 mod marking;
@@ -363,18 +362,8 @@ impl World {
     /// or HeapFull, in this order, and then with NoMemory if a region's storage can't be allocated.
     #[inline(always)]
     pub fn new_instance(&mut self, m: u64, r: u64, class: ClassNo) -> Result<Created, Refusal>
-        ensures answered { IsAnswered (new_refusal m r class self.old)
-            (is_fresh (length (slots_of self.old.classes class)) (pool_of self.old)) result }
-        ensures made { OnOk result
-            (self.new
-            ≡ after_new m r (Instance class) (length (slots_of self.old.classes class)) self.old) }
-        ensures placed { IfOk result
-            (λ c. new_place (length (slots_of self.old.classes class)) (pool_of self.old)
-            ≡ Some (c.at, c.fresh)) }
-        ensures held { IfOk result
-            (λ c. (c.id ≡ register self.new m r) × (c.old ≡ register self.old m r)) }
-        ensures register { OnOk result (IsTrue (is_register self.old m r)) }
-        ensures unchanged { OnErr result (self.new ≡ self.old) }
+        ensures { IsNewObject m r (Instance class) (length (slots_of self.old.classes class))
+            (new_refusal m r class self.old) self.old self.new result }
     {
         let len = self.instance_len(m, r, class)?;
         self.make(m, r, ObjKind::Instance(class), len)
@@ -406,10 +395,7 @@ impl World {
     ) -> Result<Overwritten, Refusal>
         ensures answered { IsAnswered (put_refusal m target slot value self.old) false result }
         ensures written { OnOk result (self.new ≡ after_put m target slot value self.old) }
-        ensures placed { IfOk result (λ p. p.at ≡ place_of self.old (register self.old m target)) }
-        ensures old { IfOk result
-            (λ p. p.old ≡ word_of self.old (register self.old m target) slot) }
-        ensures slot { OnOk result (slot < region_words) }
+        ensures slot { IfOk result (λ p. IsSlotAt self.old m target slot p.at p.old) }
         ensures unchanged { OnErr result (self.new ≡ self.old) }
     {
         let at = self.put_place(m, target, slot, value)?;
@@ -452,8 +438,7 @@ impl World {
     // Makes an object of a kind that exists, with `len` slots, in a register. Fails with HeapFull or NoMemory.
     #[inline(always)]
     fn make(&mut self, m: u64, r: u64, kind: ObjKind, len: u64) -> Result<Created, Refusal>
-        requires register { IsTrue (is_register self.old m r) }
-        requires kind { HasKind self.old.classes kind len }
+        requires { MayHold self.old m r kind len }
         ensures room { OnOk result (is_full len self.old ≡ false) }
         ensures refused { IfErr result
             (λ e. ((e ≡ HeapFull) × (is_full len self.old ≡ true))
@@ -513,8 +498,7 @@ impl World {
     fn put_place(&self, m: u64, target: u64, slot: u64, value: u64) -> Result<ObjRef, Refusal>
         ensures accepted { OnOk result (put_refusal m target slot value self.now ≡ None) }
         ensures refused { IfErr result (λ e. put_refusal m target slot value self.now ≡ Some e) }
-        ensures placed { IfOk result
-            (λ at. ref_of self.now.regions (register self.now m target) ≡ Some at) }
+        ensures placed { IfOk result (λ at. place_in self.now m target ≡ Some at) }
     {
         if !self.has_register(m, target) {
             return Err(Refusal::BadRegister);

@@ -1,11 +1,10 @@
 //! Slots of references, and registers.
 ghost use Rattle.std.specs.Prelude.{◌≡◌, ◌<◌, length, Some, None, false, IsTrue, IsSome, IfSome, IfOk, IfErr, OnOk, OnErr, if◌then◌else◌};
 ghost use Rattle.heap_class.specs.Refusals.{IsAnswered};
-ghost use Rattle.heap_region.specs.Regions.{object_at, ref_of, with_word};
-ghost use Rattle.heap_world.specs.State.{is_register, register, with_register, place_of, word_of};
+ghost use Rattle.heap_region.specs.Regions.{object_at, with_word};
+ghost use Rattle.heap_world.specs.State.{is_register, register, with_register, place_in, word_of};
 ghost use Rattle.heap_world.specs.Legal.{IsLegal};
-ghost use Rattle.heap_world.specs.Events.{is_reference_slot, load_refusal, after_load, is_logged, without_last, store_refusal, after_store, move_refusal, after_move, clear_refusal};
-ghost use Rattle.heap_region.specs.Limits.{region_words};
+ghost use Rattle.heap_world.specs.Events.{is_reference_slot, load_refusal, after_load, is_logged, without_last, store_refusal, after_store, move_refusal, after_move, clear_refusal, IsSlotAt};
 
 use super::{Loaded, Replaced, World, write_register};
 use heap_class::{ObjRef, Refusal};
@@ -56,12 +55,9 @@ impl World {
         ensures answered { IsAnswered (store_refusal m target slot source self.old)
             (is_logged self.old (register self.old m target) slot) result }
         ensures stored { OnOk result (self.new ≡ after_store m target slot source self.old) }
-        ensures placed { IfOk result (λ p. p.at ≡ place_of self.old (register self.old m target)) }
-        ensures old { IfOk result
-            (λ p. p.old ≡ word_of self.old (register self.old m target) slot) }
+        ensures slot { IfOk result (λ p. IsSlotAt self.old m target slot p.at p.old) }
         ensures logged { IfOk result
             (λ p. p.logged ≡ is_logged self.old (register self.old m target) slot) }
-        ensures slot { OnOk result (slot < region_words) }
         ensures unchanged { OnErr result (self.new ≡ self.old) }
     {
         let at = self.store_place(m, target, slot, source)?;
@@ -155,8 +151,7 @@ impl World {
     fn store_place(&self, m: u64, target: u64, slot: u64, source: u64) -> Result<ObjRef, Refusal>
         ensures accepted { OnOk result (store_refusal m target slot source self.now ≡ None) }
         ensures refused { IfErr result (λ e. store_refusal m target slot source self.now ≡ Some e) }
-        ensures placed { IfOk result
-            (λ at. ref_of self.now.regions (register self.now m target) ≡ Some at) }
+        ensures placed { IfOk result (λ at. place_in self.now m target ≡ Some at) }
     {
         if !self.has_register(m, target) || !self.has_register(m, source) {
             return Err(Refusal::BadRegister);

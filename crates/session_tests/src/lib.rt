@@ -5,20 +5,4 @@
 #![tactic(auto)]
 
 #[cfg(test)]
-mod cut_dumps;
-#[cfg(test)]
-mod dumps;
-#[cfg(test)]
-mod examples;
-#[cfg(test)]
-mod faults;
-#[cfg(test)]
-mod pins;
-#[cfg(test)]
-mod pipes;
-#[cfg(test)]
-mod saves;
-#[cfg(test)]
-mod sessions;
-#[cfg(test)]
-mod streams;
+mod tests;

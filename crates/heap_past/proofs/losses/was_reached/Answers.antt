@@ -1,8 +1,8 @@
 use Rattle.std.proofs.Common.{sym, ap, subst, ◌∙◌}
 use Rattle.std.specs.Prelude.{◌↔◌, IsTrue}
 use Rattle.heap_world.specs.Reach.{Reaches}
-use Rattle.heap_trail.specs.Pin.{pin_image}
-use Rattle.heap_trail.specs.View.{PinShown}
+use Rattle.heap_pins.specs.Pin.{pin_image}
+use Rattle.heap_pins.specs.View.{PinShown}
 use Rattle.heap_trail.specs.Trail.{state_ago}
 use Rattle.heap_past.proofs.PastIds.{legal_ago}
 use Rattle.heap_past.proofs.PastLosses.{told_by_path}

@@ -1,9 +1,9 @@
-use Rattle.std.proofs.Common.{ℕ, Vec, Global, Bool, List, ◌≡◌, ◌<◌, ◌+◌, length, get_or, sym, ap, ap₂, ◌∙◌, subst, arith}
+use Rattle.std.proofs.Common.{ℕ, List, ◌≡◌, ◌<◌, ◌+◌, length, get_or, sym, ap, ap₂, ◌∙◌, subst, arith}
 use Rattle.std.proofs.lemmas.List.{get_or_default}
 use Rattle.hprof_text.specs.Image.{IsKnown}
 use Rattle.hprof_text.proofs.ViewedObjects.{is_there}
 use Rattle.heap_questions.specs.Graph.{slot_refers}
-use Rattle.heap_questions.specs.declared.search.Found.{Found}
+use Rattle.heap_questions.specs.declared.search.Reach.{Reach}
 use Rattle.heap_questions.specs.declared.search.Via.TheVariants.{Slot}
 use Rattle.heap_questions.proofs.Looking.{found_here, looking_as, looking_begins, looked_at, looked_past, looked_through, named_is, read, slot_is, slot_is_none, stands}
 use Rattle.heap_questions.proofs.NodePlaces.{node_within}
@@ -28,7 +28,7 @@ words-words-requires g c =
 
 pub loop-slot-init : goal.loop-slot-init
 loop-slot-init g c =
-    looking_begins (g.V.View.image c.args.view.now) c.args.nodes.now c.args.queue.now.items c.args.head c.found_at-found.result c.args.seen.now.items c.requires.search c.requires.near c.requires.roots c.requires.ordered
+    looking_begins (g.V.View.image c.args.view.now) c.args.nodes.now c.args.reach.now.queue.items c.args.head c.found_at-found.result c.args.reach.now.seen.items c.requires.search c.requires.near c.requires.roots c.requires.ordered
     (found_here _ _ c.args.head c.found_at-found.result c.as_slice.ensures.value c.found_at-found.ensures)
 
 pub is_reference_slot-requires-clause-known : goal.is_reference_slot-requires-clause-known
@@ -53,14 +53,14 @@ loop-slot-preserved g c =
     let re : c.is_reference_slot.result ≡ slot_refers image.classes r.object.kind s = c.is_reference_slot.ensures ∙ ap₂ (λ cs k. slot_refers cs k s) c.classes-classes.ensures.value r.same_kind in
     elim c.if-is_reference_slot.branch [
       | then-is_reference_slot+in_ok-offer w ↦
-          looking_as image c.args.nodes.now c.args.queue.now.items c.args.head f w.offer.new.seen.items c.if-is_reference_slot.seen.items w.offer.new.queue.items c.if-is_reference_slot.queue.items (s + 1)
-          (ap (λ (m : Vec Bool Global). m.items) w.seen-is) (ap (λ (q : Vec Found Global). q.items) w.queue-is)
-          (looked_at image (g.V.View.places c.args.view.now) c.args.nodes.now c.args.queue.now.items c.args.head f c.loop-slot.seen.items c.loop-slot.queue.items s x w.offer.new.seen.items w.offer.new.queue.items c.requires.nodes c.loop-slot.invariant
+          looking_as image c.args.nodes.now c.args.reach.now.queue.items c.args.head f w.offer.new.reach.seen.items c.if-is_reference_slot.reach.seen.items w.offer.new.reach.queue.items c.if-is_reference_slot.reach.queue.items (s + 1)
+          (ap (λ (r : Reach). r.seen.items) w.reach-is) (ap (λ (r : Reach). r.queue.items) w.reach-is)
+          (looked_at image (g.V.View.places c.args.view.now) c.args.nodes.now c.args.reach.now.queue.items c.args.head f c.loop-slot.reach.seen.items c.loop-slot.reach.queue.items s x w.offer.new.reach.seen.items w.offer.new.reach.queue.items c.requires.nodes c.loop-slot.invariant
           (named_is image f.id s r.object r.there ∙ slot_is image.classes r.object s x (omega (arith, lt, r.many)) xe (sym re ∙ w.if-is_reference_slot.true)) w.in_ok-offer.ensures.done)
       | else-is_reference_slot w ↦
-          looking_as image c.args.nodes.now c.args.queue.now.items c.args.head f c.loop-slot.seen.items c.if-is_reference_slot.seen.items c.loop-slot.queue.items c.if-is_reference_slot.queue.items (s + 1)
-          (ap (λ (m : Vec Bool Global). m.items) w.seen-is) (ap (λ (q : Vec Found Global). q.items) w.queue-is)
-          (looked_past image c.args.nodes.now c.args.queue.now.items c.args.head f c.loop-slot.seen.items c.loop-slot.queue.items s c.loop-slot.invariant
+          looking_as image c.args.nodes.now c.args.reach.now.queue.items c.args.head f c.loop-slot.reach.seen.items c.if-is_reference_slot.reach.seen.items c.loop-slot.reach.queue.items c.if-is_reference_slot.reach.queue.items (s + 1)
+          (ap (λ (r : Reach). r.seen.items) w.reach-is) (ap (λ (r : Reach). r.queue.items) w.reach-is)
+          (looked_past image c.args.nodes.now c.args.reach.now.queue.items c.args.head f c.loop-slot.reach.seen.items c.loop-slot.reach.queue.items s c.loop-slot.invariant
           (named_is image f.id s r.object r.there ∙ slot_is_none image.classes r.object s (sym re ∙ w.if-is_reference_slot.false)))
     ]
 
@@ -69,10 +69,10 @@ returns-clause-search g c =
     let f = c.found_at-found.result in
     let r = read _ (g.V.View.places c.args.view.now) c.args.nodes.now f c.place-at.result c.kind-kind.result c.words-words.result.now c.requires.nodes (c.requires.search.placed c.args.head f (found_here _ _ c.args.head f c.as_slice.ensures.value c.found_at-found.ensures)) c.place-at.ensures
     c.classes-classes.ensures.limits c.classes-classes.ensures.placed c.kind-kind.ensures c.words-words.ensures in
-    looked_through (g.V.View.image c.args.view.now) c.args.nodes.now c.args.queue.now.items c.args.head f c.loop-slot.seen.items c.loop-slot.queue.items c.loop-slot.slot r.object c.loop-slot.invariant r.there (omega (arith, r.many))
+    looked_through (g.V.View.image c.args.view.now) c.args.nodes.now c.args.reach.now.queue.items c.args.head f c.loop-slot.reach.seen.items c.loop-slot.reach.queue.items c.loop-slot.slot r.object c.loop-slot.invariant r.there (omega (arith, r.many))
 
 pub returns-clause-ordered : goal.returns-clause-ordered
 returns-clause-ordered g c =
     let head = c.args.head in
     let s = c.loop-slot.slot in
-    ordered_next (g.V.View.image c.args.view.now) c.loop-slot.queue.items (Slot head s) (Slot (head + 1) 0) (next_head head s) c.loop-slot.invariant.ordered
+    ordered_next (g.V.View.image c.args.view.now) c.loop-slot.reach.queue.items (Slot head s) (Slot (head + 1) 0) (next_head head s) c.loop-slot.invariant.ordered

@@ -5,11 +5,11 @@ use Rattle.heap_questions.proofs.search.search.Given as goal
 
 abbrev pub invariant-loop-head : goal.invariant-loop-head
 invariant-loop-head g l = record {
-  search : IsSearching (g.V.View.image l.view) l.nodes l.seen.items l.queue.items l.head;
-  near : IsNear l.queue.items l.head;
-  roots : HasRoots (g.V.View.image l.view) l.queue.items (length (g.V.View.image l.view).registers);
-  within : l.head ≤ length l.queue.items;
-  ordered : IsOrdered (g.V.View.image l.view) l.queue.items (Slot l.head 0);
+  search : IsSearching (g.V.View.image l.view) l.nodes l.reach.seen.items l.reach.queue.items l.head;
+  near : IsNear l.reach.queue.items l.head;
+  roots : HasRoots (g.V.View.image l.view) l.reach.queue.items (length (g.V.View.image l.view).registers);
+  within : l.head ≤ length l.reach.queue.items;
+  ordered : IsOrdered (g.V.View.image l.view) l.reach.queue.items (Slot l.head 0);
 }
 
 abbrev pub decreases-loop-head : goal.decreases-loop-head

@@ -1,14 +1,9 @@
 use Rattle.std.proofs.Common.{refl}
-use Rattle.std.proofs.lemmas.Result.{err_from_is_err_and}
-use Rattle.heap_step.specs.Apply.{refusal_of, state_after, answer_of, event_may_grow}
+use Rattle.heap_step.specs.Apply.{refusal_of, state_after, answer_of}
 use Rattle.heap_step.specs.Records.{undo_record}
-use Rattle.heap_step.proofs.AppliedResults.{refused_is, done_is, store_record_is}
+use Rattle.heap_step.proofs.AppliedResults.{done_is}
 use Rattle.heap_step.proofs.events.store.Goals as goal
-
-pub returns-in_err-replaced : goal.returns-in_err-replaced
-unfolding refusal_of event_may_grow
-returns-in_err-replaced c = let p = err_from_is_err_and c.from_residual.result c.from_residual.ensures.1 in rw (p.1, p.2) (refused_is _ _ _ _ c.in_err-replaced.ensures.answered c.in_err-replaced.ensures.unchanged)
 
 pub returns : goal.returns
 unfolding refusal_of state_after answer_of undo_record
-returns c = let h = c.in_ok-replaced.ensures in done_is _ _ _ _ _ h.answered h.stored refl (store_record_is c.args.world.now c.args.m c.args.target c.args.slot c.in_ok-replaced.replaced.at c.in_ok-replaced.replaced.old c.in_ok-replaced.replaced.logged h.placed h.old h.logged)
+returns c = let h = c.in_ok-replaced.ensures in done_is _ _ _ _ _ h.answered h.stored refl (cc (h.slot.placed, h.slot.held, h.logged))

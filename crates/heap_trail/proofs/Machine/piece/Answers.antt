@@ -1,14 +1,14 @@
-use Rattle.std.proofs.Common.{◌≡◌, ◌⊎◌, ◌∷◌, set, IfOk, IfErr, subst, inl}
+use Rattle.std.proofs.Common.{◌≡◌, ◌∷◌, set, IfOk, IfErr, subst, inl}
 use Rattle.std.proofs.lemmas.Result.{IfOk-weaker}
-use Rattle.heap_class.specs.declared.Refusal.TheVariants.{NoMemory, NoPin}
+use Rattle.heap_class.specs.declared.Refusal.TheVariants.{NoPin}
 use Rattle.heap_trail.specs.declared.Action.TheVariants.{NextPiece}
 use Rattle.heap_trail.specs.declared.Reply.TheVariants.{Part, Refused}
 use Rattle.heap_trail.specs.Laws.{IsPieceOfLegal}
-use Rattle.heap_trail.specs.Machine.{Machine, Denied, MayStand, acted}
+use Rattle.heap_trail.specs.Machine.{Machine, MayFail, acted}
 use Rattle.heap_trail.specs.OpenPins.{HasGiven}
 use Rattle.heap_trail.specs.Records.{past_of, machine_of}
 use Rattle.heap_trail.proofs.PinSearch.{slot_found, pin_missing, held_there}
-use Rattle.heap_trail.proofs.GivenPieces.{can_give, holds_after, of_legal, pinning_set, piece_done, piece_missing, piece_not_given}
+use Rattle.heap_trail.proofs.GivenPieces.{can_give, holds_after, of_legal, pinning_set, piece_missing, piece_answered}
 use Rattle.heap_trail.proofs.Machine.piece.Goals as goal
 
 pub next_piece-requires : goal.next_piece-requires
@@ -33,14 +33,10 @@ pub returns-in-Some-clause-done : goal.returns-in-Some-clause-done
 returns-in-Some-clause-done c =
     let i = c.self.inside in
     let s = c.index_mut.result.now in
-    let t = c.next_piece.new.self in
     let there = slot_found c.args.pin i.pins.items c.deref.result.now c.slot_of.result c.in-Some.slot s c.deref.ensures.value c.slot_of.ensures c.in-Some.is c.index_mut.ensures.value in
-    let new : Machine = machine_of i.ids i.world i.records i.place i.keep i.next (set i.pins.items c.in-Some.slot t) in
-    IfOk-weaker c.next_piece.result (λ p. HasGiven i.ids i.world c.args.time p s.held t.held) (λ p. acted c.args.self.now (NextPiece c.args.pin c.args.time) ≡ (new, Part p))
-    (λ p given. subst (λ (m : Machine). acted m (NextPiece c.args.pin c.args.time) ≡ (new, Part p)) c.self.view_is
-    (subst (λ n. acted (machine_of i.ids i.world i.records i.place i.keep i.next i.pins.items) (NextPiece n c.args.time) ≡ (new, Part p)) there.1
-    (piece_done i.ids i.world i.records i.place i.keep i.next i.pins.items c.in-Some.slot c.args.time s t p c.self.invariant.1 there.0 c.next_piece.ensures.number given)))
-    c.next_piece.ensures.given
+    subst (λ (m : Machine). IfOk c.next_piece.result (λ p. acted m (NextPiece c.args.pin c.args.time) ≡ (machine_of i.ids i.world i.records i.place i.keep i.next (set i.pins.items c.in-Some.slot c.next_piece.new.self), Part p))) c.self.view_is
+    (piece_answered i.ids i.world i.records i.place i.keep i.next i.pins.items c.in-Some.slot c.args.pin c.args.time s c.next_piece.new.self c.next_piece.result
+    c.self.invariant.1 there c.next_piece.ensures.number c.next_piece.ensures.given c.next_piece.ensures.refused c.next_piece.ensures.unchanged).0
 
 pub returns-in-Some-clause-legal : goal.returns-in-Some-clause-legal
 returns-in-Some-clause-legal c =
@@ -58,12 +54,10 @@ pub returns-in-Some-clause-refused : goal.returns-in-Some-clause-refused
 returns-in-Some-clause-refused c =
     let i = c.self.inside in
     let s = c.index_mut.result.now in
-    let t = c.next_piece.new.self in
     let there = slot_found c.args.pin i.pins.items c.deref.result.now c.slot_of.result c.in-Some.slot s c.deref.ensures.value c.slot_of.ensures c.in-Some.is c.index_mut.ensures.value in
-    let new : Machine = machine_of i.ids i.world i.records i.place i.keep i.next (set i.pins.items c.in-Some.slot t) in
-    subst (λ (m : Machine). IfErr c.next_piece.result (λ e. (acted m (NextPiece c.args.pin c.args.time) ≡ (new, Refused e)) ⊎ (MayStand m (NextPiece c.args.pin c.args.time, Denied) × (e ≡ NoMemory)))) c.self.view_is
-    (subst (λ n. IfErr c.next_piece.result (λ e. (acted (machine_of i.ids i.world i.records i.place i.keep i.next i.pins.items) (NextPiece n c.args.time) ≡ (new, Refused e)) ⊎ (MayStand (machine_of i.ids i.world i.records i.place i.keep i.next i.pins.items) (NextPiece n c.args.time, Denied) × (e ≡ NoMemory)))) there.1
-    (piece_not_given i.ids i.world i.records i.place i.keep i.next i.pins.items c.in-Some.slot c.args.time s t c.next_piece.result c.self.invariant.1 there.0 c.next_piece.ensures.refused c.next_piece.ensures.unchanged))
+    subst (λ (m : Machine). IfErr c.next_piece.result (MayFail m (NextPiece c.args.pin c.args.time) (machine_of i.ids i.world i.records i.place i.keep i.next (set i.pins.items c.in-Some.slot c.next_piece.new.self)))) c.self.view_is
+    (piece_answered i.ids i.world i.records i.place i.keep i.next i.pins.items c.in-Some.slot c.args.pin c.args.time s c.next_piece.new.self c.next_piece.result
+    c.self.invariant.1 there c.next_piece.ensures.number c.next_piece.ensures.given c.next_piece.ensures.refused c.next_piece.ensures.unchanged).1
 
 pub returns-in-None-clause-refused : goal.returns-in-None-clause-refused
 returns-in-None-clause-refused c =

@@ -1,5 +1,4 @@
-use Rattle.std.proofs.Common.{◌≡◌, vec_capacity, ◌⊎◌, ℕ, ◌+◌, ◌<◌, ◌++◌, length, take, drop, List, inl, sym, subst, arith}
-use Rattle.std.proofs.lemmas.List.{take_at}
+use Rattle.std.proofs.Common.{◌≡◌, vec_capacity, ◌⊎◌, ℕ, ◌+◌, ◌<◌, length, List, inl, sym, subst, arith}
 use Rattle.std.proofs.lemmas.Result.{err_from_is_err_and}
 use Rattle.circular_buffer.specs.Buffer.{Buffer}
 use Rattle.heap_class.specs.declared.Refusal.TheVariants.{NoMemory, ChronicleFull}
@@ -13,10 +12,10 @@ use Rattle.heap_trail.specs.declared.held.NumberedPin.{NumberedPin}
 use Rattle.heap_trail.specs.Limits.{last_place}
 use Rattle.heap_trail.specs.Machine.{Machine, Denied, MayStand, acted}
 use Rattle.heap_trail.specs.Laws.{SparesReached, FindsSnapshot}
-use Rattle.heap_trail.specs.OpenPins.{pins_of, EachSized, EachMayKeep}
+use Rattle.heap_trail.specs.OpenPins.{pins_of, EachSized}
 use Rattle.heap_trail.specs.Records.{past_of, IsWholeMachine, machine_of, machine_with, with_record}
-use Rattle.heap_trail.proofs.MachineSteps.{IsAccepted, leads_back, kept_after_step, step_full, step_err}
-use Rattle.heap_trail.proofs.PinnedSteps.{MayAnswer, same_length, pinning_after, step_pinned}
+use Rattle.heap_trail.proofs.MachineSteps.{accepted_as, leads_back, kept_after_step, step_full, step_err}
+use Rattle.heap_trail.proofs.PinnedSteps.{MayAnswer, list_after, pinning_after, step_pinned}
 use Rattle.heap_trail.proofs.EachPin.{sized_after}
 use Rattle.heap_trail.proofs.ReachedObjects.{sweep_leaves, finish_lives, finish_finds}
 use Rattle.heap_trail.proofs.Machine.step.Goals as goal
@@ -37,52 +36,33 @@ returns-in_err-answer-clause-refused g c =
 
 pub remember-requires-clause-sized : goal.remember-requires-clause-sized
 remember-requires-clause-sized g c =
-    let a : IsAccepted (g.E.IntoEvent.event c.args.event.now) c.self.inside.world c.apply.new.world c.in_ok-answer.left = record {
-      accepted = c.in_ok-answer.ensures.answered;
-      gave = c.in_ok-answer.ensures.state;
-      recorded = c.in_ok-answer.ensures.recorded;
-      after = c.in_ok-answer.ensures.legal;
-      law = c.undo_takes_back.ensures (g.E.IntoEvent.event c.args.event.now) c.self.inside.world;
-    } in
+    let h = c.in_ok-answer.ensures in
+    let a = accepted_as (g.E.IntoEvent.event c.args.event.now) c.self.inside.world c.apply.new.world c.in_ok-answer.left h.answered h.state h.recorded h.legal (c.undo_takes_back.ensures (g.E.IntoEvent.event c.args.event.now) c.self.inside.world) in
     let back : undone c.in_ok-answer.left c.apply.new.world ≡ c.self.inside.world = leads_back (g.E.IntoEvent.event c.args.event.now) c.self.inside.world c.apply.new.world c.in_ok-answer.left c.self.invariant.0.legal a in
     subst (λ (ss : List NumberedPin). EachSized (length c.apply.new.world.regions) ss) (sym c.deref_mut.ensures.value)
     (sized_after c.self.inside.ids c.in_ok-answer.left c.apply.new.world c.self.inside.world (past_of c.self.inside.world c.self.inside.records.items) c.self.inside.place c.self.inside.next c.self.inside.pins.items back c.self.invariant.1.held)
 
 pub invariant_of-self-2 : goal.invariant_of-self-2
 invariant_of-self-2 g c =
-    let a : IsAccepted (g.E.IntoEvent.event c.args.event.now) c.self.inside.world c.apply.new.world c.in_ok-answer.left = record {
-      accepted = c.in_ok-answer.ensures.answered;
-      gave = c.in_ok-answer.ensures.state;
-      recorded = c.in_ok-answer.ensures.recorded;
-      after = c.in_ok-answer.ensures.legal;
-      law = c.undo_takes_back.ensures (g.E.IntoEvent.event c.args.event.now) c.self.inside.world;
-    } in
-    let each : EachMayKeep c.in_ok-answer.left c.apply.new.world c.self.inside.pins.items c.remember.new.pins = subst (λ (ss : List NumberedPin). EachMayKeep c.in_ok-answer.left c.apply.new.world ss c.remember.new.pins) c.deref_mut.ensures.value c.remember.ensures.pins in
-    let items : take c.self.inside.pins.len (c.remember.new.pins ++ drop (length c.remember.new.pins) c.self.inside.pins.items) ≡ c.remember.new.pins
-    = take_at c.remember.new.pins (drop (length c.remember.new.pins) c.self.inside.pins.items) c.self.inside.pins.len (omega (arith, same_length _ _ _ _ each, c.self.inside.pins.ok.0)) in
-    rw items
+    let h = c.in_ok-answer.ensures in
+    let a = accepted_as (g.E.IntoEvent.event c.args.event.now) c.self.inside.world c.apply.new.world c.in_ok-answer.left h.answered h.state h.recorded h.legal (c.undo_takes_back.ensures (g.E.IntoEvent.event c.args.event.now) c.self.inside.world) in
+    let pins = list_after c.in_ok-answer.left c.apply.new.world c.self.inside.pins.items _ c.remember.new.pins c.self.inside.pins.len c.deref_mut.ensures.value c.remember.ensures.pins (omega (arith, c.self.inside.pins.ok.0)) in
+    rw pins.1
     (subst (λ (r : Buffer Undo). IsWholeMachine c.self.inside.ids c.apply.new.world r (c.self.inside.place + 1) c.self.inside.keep c.self.inside.next c.remember.new.pins (vec_capacity c.self.inside.pins)) (sym c.remember.ensures.records) (
       kept_after_step (g.E.IntoEvent.event c.args.event.now) c.self.inside.world c.apply.new.world c.in_ok-answer.left c.self.inside.records c.self.inside.place c.self.inside.keep c.self.invariant.0 a c.if-self-ge-LAST_PLACE.false,
-      pinning_after c.self.inside.ids (g.E.IntoEvent.event c.args.event.now) c.self.inside.world c.apply.new.world c.in_ok-answer.left c.self.inside.records c.self.inside.place c.self.inside.keep c.self.inside.next c.self.inside.pins.items c.remember.new.pins c.self.invariant.0 c.self.invariant.1 a each,
+      pinning_after c.self.inside.ids (g.E.IntoEvent.event c.args.event.now) c.self.inside.world c.apply.new.world c.in_ok-answer.left c.self.inside.records c.self.inside.place c.self.inside.keep c.self.inside.next c.self.inside.pins.items c.remember.new.pins c.self.invariant.0 c.self.invariant.1 a pins.0,
       c.self.invariant.2,
     ))
 
 pub returns-clause-done : goal.returns-clause-done
 returns-clause-done g c =
-    let a : IsAccepted (g.E.IntoEvent.event c.args.event.now) c.self.inside.world c.apply.new.world c.in_ok-answer.left = record {
-      accepted = c.in_ok-answer.ensures.answered;
-      gave = c.in_ok-answer.ensures.state;
-      recorded = c.in_ok-answer.ensures.recorded;
-      after = c.in_ok-answer.ensures.legal;
-      law = c.undo_takes_back.ensures (g.E.IntoEvent.event c.args.event.now) c.self.inside.world;
-    } in
-    let each : EachMayKeep c.in_ok-answer.left c.apply.new.world c.self.inside.pins.items c.remember.new.pins = subst (λ (ss : List NumberedPin). EachMayKeep c.in_ok-answer.left c.apply.new.world ss c.remember.new.pins) c.deref_mut.ensures.value c.remember.ensures.pins in
-    let items : take c.self.inside.pins.len (c.remember.new.pins ++ drop (length c.remember.new.pins) c.self.inside.pins.items) ≡ c.remember.new.pins
-    = take_at c.remember.new.pins (drop (length c.remember.new.pins) c.self.inside.pins.items) c.self.inside.pins.len (omega (arith, same_length _ _ _ _ each, c.self.inside.pins.ok.0)) in
-    subst (λ (ts : List NumberedPin). MayAnswer c.args.self.now (g.E.IntoEvent.event c.args.event.now) (machine_of c.self.inside.ids c.apply.new.world c.remember.new.records (c.self.inside.place + 1) c.self.inside.keep c.self.inside.next ts) c.in_ok-answer.answer) (sym items)
+    let h = c.in_ok-answer.ensures in
+    let a = accepted_as (g.E.IntoEvent.event c.args.event.now) c.self.inside.world c.apply.new.world c.in_ok-answer.left h.answered h.state h.recorded h.legal (c.undo_takes_back.ensures (g.E.IntoEvent.event c.args.event.now) c.self.inside.world) in
+    let pins = list_after c.in_ok-answer.left c.apply.new.world c.self.inside.pins.items _ c.remember.new.pins c.self.inside.pins.len c.deref_mut.ensures.value c.remember.ensures.pins (omega (arith, c.self.inside.pins.ok.0)) in
+    subst (λ (ts : List NumberedPin). MayAnswer c.args.self.now (g.E.IntoEvent.event c.args.event.now) (machine_of c.self.inside.ids c.apply.new.world c.remember.new.records (c.self.inside.place + 1) c.self.inside.keep c.self.inside.next ts) c.in_ok-answer.answer) (sym pins.1)
     (subst (λ (r : Buffer Undo). MayAnswer c.args.self.now (g.E.IntoEvent.event c.args.event.now) (machine_of c.self.inside.ids c.apply.new.world r (c.self.inside.place + 1) c.self.inside.keep c.self.inside.next c.remember.new.pins) c.in_ok-answer.answer) (sym c.remember.ensures.records)
     (subst (λ (m : Machine). MayAnswer m (g.E.IntoEvent.event c.args.event.now) (machine_of c.self.inside.ids c.apply.new.world (with_record c.in_ok-answer.left c.self.inside.records) (c.self.inside.place + 1) c.self.inside.keep c.self.inside.next c.remember.new.pins) c.in_ok-answer.answer) c.self.view_is
-    (step_pinned c.self.inside.ids (g.E.IntoEvent.event c.args.event.now) c.self.inside.world c.apply.new.world c.in_ok-answer.left c.self.inside.records c.self.inside.place c.self.inside.keep c.self.inside.next c.self.inside.pins.items c.remember.new.pins c.in_ok-answer.answer c.self.invariant.0 c.self.invariant.1 a c.if-self-ge-LAST_PLACE.false c.in_ok-answer.ensures.done each)))
+    (step_pinned c.self.inside.ids (g.E.IntoEvent.event c.args.event.now) c.self.inside.world c.apply.new.world c.in_ok-answer.left c.self.inside.records c.self.inside.place c.self.inside.keep c.self.inside.next c.self.inside.pins.items c.remember.new.pins c.in_ok-answer.answer c.self.invariant.0 c.self.invariant.1 a c.if-self-ge-LAST_PLACE.false h.done pins.0)))
 
 pub returns-clause-spares : goal.returns-clause-spares
 returns-clause-spares g c =

@@ -7,10 +7,10 @@ use Rattle.heap_world.proofs.World.make.Goals as goal
 pub returns-in_err-at-clause-refused : goal.returns-in_err-at-clause-refused
 returns-in_err-at-clause-refused c =
     let p = err_from_is_err_and c.from_residual.result c.from_residual.ensures.1 in
-    rw (p.1, p.2) (refused_by _ _ _ _ c.args.kind _ c.self.invariant c.self.view_is c.requires.kind c.in_err-at.ensures.answered)
+    rw (p.1, p.2) (refused_by _ _ _ _ c.args.kind _ c.self.invariant c.self.view_is c.requires.of_kind c.in_err-at.ensures.answered)
 
 pub invariant_of-self-2 : goal.invariant_of-self-2
-invariant_of-self-2 c = made_held _ _ _ _ _ _ _ _ _ _ _ _ _ c.self.invariant c.self.view_is c.requires.kind (c.is_marking-mark.ensures ∙ ap is_marking c.phase.ensures) c.in_ok-at.ensures.placed c.in_ok-at.ensures.allocated c.id-id.ensures.value c.write_register.ensures
+invariant_of-self-2 c = made_held _ _ _ _ _ _ _ _ _ _ _ _ _ c.self.invariant c.self.view_is c.requires.of_kind (c.is_marking-mark.ensures ∙ ap is_marking c.phase.ensures) c.in_ok-at.ensures.placed c.in_ok-at.ensures.allocated c.id-id.ensures.value c.write_register.ensures
 
 pub returns-clause-room : goal.returns-clause-room
 returns-clause-room c = room_by _ _ c.args.len c.in_ok-at.at c.in_ok-at.fresh c.self.view_is c.in_ok-at.ensures.placed

@@ -1,15 +1,13 @@
-use Rattle.std.proofs.lemmas.Result.{on_ok_weaker}
-use Rattle.heap_world.proofs.CreationEvents.{new_answered}
+use Rattle.std.proofs.lemmas.Result.{err_from_is_err_and}
+use Rattle.heap_world.proofs.CreationEvents.{new_answered, not_made, new_made}
 use Rattle.heap_world.proofs.World.new_instance.Goals as goal
 
-pub make-requires-clause-register : goal.make-requires-clause-register
-make-requires-clause-register c = c.in_ok-len.ensures.register
+pub make-requires : goal.make-requires
+make-requires c = let there = c.in_ok-len.ensures in record { there = there.register; of_kind = (there.class, there.value) }
 
-pub make-requires-clause-kind : goal.make-requires-clause-kind
-make-requires-clause-kind c = (c.in_ok-len.ensures.class, c.in_ok-len.ensures.value)
+pub returns-in_err-len : goal.returns-in_err-len
+returns-in_err-len c = let p = err_from_is_err_and c.from_residual.result c.from_residual.ensures.1 in rw (p.1, p.2) (not_made _ _ _ _ _ _ _ c.in_err-len.ensures.refused)
 
-pub returns-clause-answered : goal.returns-clause-answered
-returns-clause-answered c = new_answered _ _ _ _ _ c.make.result c.in_ok-len.ensures.register c.in_ok-len.ensures.class c.in_ok-len.ensures.value c.make.ensures.room c.make.ensures.refused
-
-pub returns-clause-register : goal.returns-clause-register
-returns-clause-register c = on_ok_weaker c.make.result (λ h. c.in_ok-len.ensures.register) c.make.ensures.room
+pub returns : goal.returns
+returns c = let h = c.make.ensures in let there = c.in_ok-len.ensures in
+    rw (← there.value) (new_made _ _ _ _ _ _ _ c.make.result (new_answered _ _ _ _ _ c.make.result there.register there.class there.value h.room h.refused) h.made h.placed h.held there.register h.unchanged)

@@ -21,12 +21,11 @@ invariant_of-self c = put_held_by _ _ c.args.m c.args.target c.args.slot c.args.
 pub returns-clause-written : goal.returns-clause-written
 returns-clause-written c = put_written_by _ _ c.args.m c.args.target c.args.slot c.args.value _ _ c.self.view_is c.in_ok-at.ensures.placed c.set_word.ensures
 
-pub returns-clause-placed : goal.returns-clause-placed
-returns-clause-placed c = sym (place_is c.args.self.now _ _ c.in_ok-at.ensures.placed)
-
-pub returns-clause-old : goal.returns-clause-old
-returns-clause-old c = (put_by _ _ _ _ _ _ _ _ c.self.invariant c.self.view_is c.in_ok-at.ensures.accepted c.in_ok-at.ensures.placed).word _ c.word-old.ensures
-    ∙ ap (λ (v : HeapState). word_of v (register c.args.self.now c.args.m c.args.target) c.args.slot) c.self.view_is
-
 pub returns-clause-slot : goal.returns-clause-slot
-returns-clause-slot c = (put_by _ _ _ _ _ _ _ _ c.self.invariant c.self.view_is c.in_ok-at.ensures.accepted c.in_ok-at.ensures.placed).few
+returns-clause-slot c =
+    let by = put_by _ _ _ _ _ _ _ _ c.self.invariant c.self.view_is c.in_ok-at.ensures.accepted c.in_ok-at.ensures.placed in
+    record {
+      placed = sym (place_is c.args.self.now _ _ c.in_ok-at.ensures.placed);
+      held = by.word _ c.word-old.ensures ∙ ap (λ (v : HeapState). word_of v (register c.args.self.now c.args.m c.args.target) c.args.slot) c.self.view_is;
+      within = by.few;
+    }

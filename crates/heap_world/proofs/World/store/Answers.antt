@@ -37,14 +37,12 @@ returns-clause-stored c =
     store_made _ _ _ _ _ _ _ _ _ _ _ _ _ c.self.view_is c.in_ok-at.ensures.placed old c.register-word.ensures
     (logs _ _ _ _ _ _ _ c.self.view_is old c.in_ok-logged.ensures.logged) c.in_ok-logged.ensures.log c.set_word.ensures
 
-pub returns-clause-placed : goal.returns-clause-placed
-returns-clause-placed c = sym (place_is c.args.self.now _ _ c.in_ok-at.ensures.placed)
-
-pub returns-clause-old : goal.returns-clause-old
-returns-clause-old c = old_by _ _ _ _ _ _ _ _ _ c.self.invariant c.self.view_is c.in_ok-at.ensures.accepted c.in_ok-at.ensures.placed c.word-old.ensures
+pub returns-clause-slot : goal.returns-clause-slot
+returns-clause-slot c = record {
+  placed = sym (place_is c.args.self.now _ _ c.in_ok-at.ensures.placed);
+  held = old_by _ _ _ _ _ _ _ _ _ c.self.invariant c.self.view_is c.in_ok-at.ensures.accepted c.in_ok-at.ensures.placed c.word-old.ensures;
+  within = (store_by _ _ _ _ _ c.args.source _ _ c.self.invariant c.self.view_is c.in_ok-at.ensures.accepted c.in_ok-at.ensures.placed).few;
+}
 
 pub returns-clause-logged : goal.returns-clause-logged
 returns-clause-logged c = logs _ _ _ _ _ _ _ c.self.view_is (old_by _ _ _ _ _ _ _ _ _ c.self.invariant c.self.view_is c.in_ok-at.ensures.accepted c.in_ok-at.ensures.placed c.word-old.ensures) c.in_ok-logged.ensures.logged
-
-pub returns-clause-slot : goal.returns-clause-slot
-returns-clause-slot c = (store_by _ _ _ _ _ c.args.source _ _ c.self.invariant c.self.view_is c.in_ok-at.ensures.accepted c.in_ok-at.ensures.placed).few

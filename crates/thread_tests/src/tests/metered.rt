@@ -1,0 +1,228 @@
+//! Dumps of a shared heap's pin that count their bytes by a meter: read, failing, and cancelled before they begin.
+ghost use Rattle.std.specs.Prelude.{◌≡◌};
+ghost use denote.Param.Send.{IsSync};
+ghost use Rattle.dump_pipe.specs.Seats.{sum};
+
+use super::meters::{FourSeats, new_meter, stream_seats};
+use super::scenes::{Scene, Stage, play_scene};
+use super::shared::{has_points, live_pin, opened_pin, pumped_now, stream_into};
+use super::sinks::{Gated, TURNS, reaches};
+use dump_pipe::{Counter, Meter, OutSeat, Progress, ReadSeat, pump_counted};
+use dump_pump::{Pumped, WriteOutlet};
+use heap_lock::{Heap, LockedSource, Shared};
+use heap_scripts::Sink;
+use live_dump::StreamSeats;
+use std::alloc::Global;
+use std::sync::Wait;
+use std::sync::atomic::{AtomicU64, Ordering};
+use std::test::*;
+use std::thread;
+use std::thread::{Threads, yield_now};
+
+// Bytes of the dump of thirty points.
+const METERED_SIZE: u64 = 1258;
+
+const DONE: Pumped = Pumped::Done {
+    bytes: METERED_SIZE,
+};
+
+// Reads the progress until a stream is done. Returns what was read last, and whether nothing above the size was read.
+fn read_along(progress: &Progress<'_>, seat: &mut ReadSeat, done: &AtomicU64) -> (u64, bool)
+    requires { seat.old.meter ≡ progress.now }
+{
+    for _ in 0..TURNS {
+        let is_done = done.load(Ordering::SeqCst) == 1;
+        let read = progress.read(seat);
+        if is_done || read > METERED_SIZE {
+            return (read, read <= METERED_SIZE);
+        }
+        yield_now();
+    }
+    (0, false)
+}
+
+// Reads the progress once an outlet is held, opens its gate, and reads along. Returns what was read first, and what then.
+fn read_from_held(
+    progress: &Progress<'_>,
+    seat: &mut ReadSeat,
+    here: &AtomicU64,
+    gate: &AtomicU64,
+    done: &AtomicU64,
+) -> (u64, (u64, bool))
+    requires { seat.old.meter ≡ progress.now }
+{
+    reaches(here, 1);
+    let first = progress.read(seat);
+    gate.store(1, Ordering::SeqCst);
+    (first, read_along(progress, seat, done))
+}
+
+// Streams the dump of a pin into a sink that is held after the first part, while another thread reads the progress. Returns
+// what was read, how the stream went, and how many bytes are out.
+fn read_by_two<L: Heap + Send + Sync, R: Threads + Wait + Sync>(
+    rt: &R,
+    alloc: Global,
+    shared: &Shared<L>,
+    pin: u64,
+    seats: StreamSeats<'_>,
+    reader: ReadSeat,
+) -> ((u64, (u64, bool)), (Pumped, usize))
+    requires out { seats.out.sum ≡ 0 }
+    requires reader { reader.meter ≡ seats.meter.now }
+{
+    let meter = seats.meter;
+    let here = &AtomicU64::new(0);
+    let gate = &AtomicU64::new(0);
+    let done = &AtomicU64::new(0);
+    thread::join(
+        rt,
+        move || -> (u64, (u64, bool))
+            requires { reader.meter ≡ meter.now }
+        {
+            let mut seat = reader;
+            read_from_held(&meter.progress(), &mut seat, here, gate, done)
+        },
+        move || -> (Pumped, usize)
+            requires { IsSync R.row × (seats.out.sum ≡ 0) }
+        {
+            let writer = Gated::new(&[], 1, here, gate);
+            let (pumped, writer) = stream_into(rt, alloc, live_pin(rt, shared, pin), writer, seats);
+            done.store(1, Ordering::SeqCst);
+            (pumped, writer.sink.taken)
+        },
+    )
+}
+
+// Returns whether a stream of a pin is whole, and a reader sees the 143 bytes of the opening while it is held after them, and
+// all once it is done.
+fn is_read<L: Heap + Send + Sync, R: Threads + Wait + Sync>(
+    rt: &R,
+    alloc: Global,
+    shared: &Shared<L>,
+    pin: u64,
+) -> Option<bool> {
+    let FourSeats {
+        meter,
+        out,
+        reader,
+        asker: _,
+        feed,
+    } = new_meter(alloc)?;
+    let seats = stream_seats(&meter, out, feed);
+    let (read, went) = read_by_two(rt, alloc, shared, pin, seats, reader);
+    Some(went == (DONE, METERED_SIZE as usize) && read == (143, (METERED_SIZE, true)))
+}
+
+/// Streams the dump of a pin into a sink, with a new meter, after somebody asked to cancel it if they `asked`. Returns how it
+/// went, and how many bytes are out.
+pub fn unread<L: Heap + Send + Sync, R: Threads + Wait + Sync>(
+    rt: &R,
+    alloc: Global,
+    shared: &Shared<L>,
+    pin: u64,
+    asked: bool,
+    sink: Sink<'_>,
+) -> Option<(Pumped, usize)> {
+    let FourSeats {
+        meter,
+        out,
+        reader: _,
+        mut asker,
+        feed,
+    } = new_meter(alloc)?;
+    if asked {
+        meter.cancel().ask(&mut asker);
+    }
+    let seats = stream_seats(&meter, out, feed);
+    let (pumped, sink) = stream_into(rt, alloc, live_pin(rt, shared, pin), sink, seats);
+    Some((pumped, sink.taken))
+}
+
+/// Streams thirty points: read along, after somebody asked to cancel, and into a sink that fails. Returns whether each goes as
+/// it must, and a dump after them is whole.
+pub fn metered_streams<L: Heap + Send + Sync, R: Threads + Wait + Sync>(
+    Stage(rt, alloc, shared, five): Stage<'_, L, R>,
+) -> Option<bool> {
+    if !has_points(rt, alloc, shared, &mut five.user, 30) {
+        return None;
+    }
+    let sink = Sink::new(&[]);
+    let read = is_read(rt, alloc, shared, opened_pin(rt, shared)?)?;
+    let cancelled = unread(rt, alloc, shared, opened_pin(rt, shared)?, true, sink)?;
+    let short = Sink { room: 100, ..sink };
+    let failed = unread(rt, alloc, shared, opened_pin(rt, shared)?, false, short)?;
+    let (pumped, _, _) = pumped_now(rt, shared, sink)?;
+    Some(
+        read && cancelled == (Pumped::Cancelled { bytes: 0 }, 0)
+            && failed == (Pumped::OutletFailed { bytes: 100 }, 100)
+            && pumped == DONE,
+    )
+}
+
+#[test]
+fn stream_with_progress_and_cancel(rt: HostRuntime) -> Result<(), Fail> {
+    assert!(rt; play_scene(&rt, rt.alloc(), Scene::MeteredStreams) == Some(true));
+    Ok(())
+}
+
+// Puts out the parts of a pin in one thread, into a sink that takes `room` bytes. Returns how it went, how many bytes are out,
+// and what is read then.
+fn counted_of<L: Heap, R: Wait>(
+    rt: &R,
+    shared: &Shared<L>,
+    pin: u64,
+    room: usize,
+    meter: &Meter,
+    out: OutSeat,
+    reader: &mut ReadSeat,
+) -> (Pumped, usize, u64)
+    requires out { out ≡ sum meter.now 0 }
+    requires reader { reader.old.meter ≡ meter.now }
+{
+    let mut source = LockedSource::new(shared, rt, shared.witness(rt), pin, 0);
+    let mut outlet = WriteOutlet::new(Sink {
+        room,
+        ..Sink::new(&[])
+    });
+    let mut counter = Counter::new(meter.progress(), out);
+    let pumped = pump_counted(&mut source, &mut outlet, &mut counter);
+    let read = meter.progress().read(reader);
+    (pumped, outlet.into_writer().taken, read)
+}
+
+// Does so with a new pin and a new meter.
+fn counted_run<L: Heap, R: Wait>(
+    rt: &R,
+    alloc: Global,
+    shared: &Shared<L>,
+    room: usize,
+) -> Option<(Pumped, usize, u64)> {
+    let pin = opened_pin(rt, shared)?;
+    let FourSeats {
+        meter,
+        out,
+        mut reader,
+        asker: _,
+        feed: _,
+    } = new_meter(alloc)?;
+    Some(counted_of(rt, shared, pin, room, &meter, out, &mut reader))
+}
+
+/// Puts out thirty points in one thread, whole and into a sink that fails. Returns whether the meter counts what is out.
+pub fn counted_pumps<L: Heap + Send + Sync, R: Threads + Wait + Sync>(
+    Stage(rt, alloc, shared, five): Stage<'_, L, R>,
+) -> Option<bool> {
+    let made = has_points(rt, alloc, shared, &mut five.user, 30);
+    let whole = counted_run(rt, alloc, shared, usize::MAX)?;
+    let failed = counted_run(rt, alloc, shared, 200)?;
+    Some(
+        made && whole == (DONE, 1258, 1258)
+            && failed == (Pumped::OutletFailed { bytes: 200 }, 200, 200),
+    )
+}
+
+#[test]
+fn one_thread_counts_what_is_out(rt: HostRuntime) -> Result<(), Fail> {
+    assert!(rt; play_scene(&rt, rt.alloc(), Scene::CountedPumps) == Some(true));
+    Ok(())
+}

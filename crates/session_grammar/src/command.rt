@@ -40,6 +40,16 @@ fn is_word(word: &[u8], name: &[u8]) -> bool
     word == name
 }
 
+// Returns what the row with this word gives, or what stands last if no row has the word.
+macro_rules! by_word {
+    ($word:expr; $($name:literal => $line:expr,)* _ => $else:expr) => {{
+        $(if is_word($word, $name) {
+            return $line;
+        })*
+        $else
+    }};
+}
+
 /// Reads the number that the next word holds. Returns None if it holds none.
 pub fn next_number(words: &mut Words) -> Option<u64>
     ensures { IsNextWord (next_number (words_of_line words.old)) (words_of_line words.new) result }
@@ -337,16 +347,12 @@ fn making_line(word: &[u8], words: Words) -> Option<Command>
         ≡ by_rule (making_rules ++ (access_rules ++ (marking_rules ++ session_rules))) word.now
         (words_of_line words.entry) }
 {
-    if is_word(word, b"new") {
-        return new_line(words);
-    }
-    if is_word(word, b"newarray") {
-        return newarray_line(words);
-    }
-    if is_word(word, b"newprim") {
-        return newprim_line(words);
-    }
-    access_line(word, words)
+    by_word!(word;
+        b"new" => new_line(words),
+        b"newarray" => newarray_line(words),
+        b"newprim" => newprim_line(words),
+        _ => access_line(word, words)
+    )
 }
 
 // Reads a line by its first word, if that reads or writes a slot or a register or `marking_line` knows it.
@@ -356,22 +362,14 @@ fn access_line(word: &[u8], words: Words) -> Option<Command>
         ≡ by_rule (access_rules ++ (marking_rules ++ session_rules)) word.now
         (words_of_line words.entry) }
 {
-    if is_word(word, b"load") {
-        return load_line(words);
-    }
-    if is_word(word, b"store") {
-        return store_line(words);
-    }
-    if is_word(word, b"put") {
-        return put_line(words);
-    }
-    if is_word(word, b"move") {
-        return move_line(words);
-    }
-    if is_word(word, b"clear") {
-        return clear_line(words);
-    }
-    marking_line(word, words)
+    by_word!(word;
+        b"load" => load_line(words),
+        b"store" => store_line(words),
+        b"put" => put_line(words),
+        b"move" => move_line(words),
+        b"clear" => clear_line(words),
+        _ => marking_line(word, words)
+    )
 }
 
 // Reads a line by its first word, if that marks or sweeps or `session_line` knows it.
@@ -380,22 +378,14 @@ fn marking_line(word: &[u8], words: Words) -> Option<Command>
     ensures { result
         ≡ by_rule (marking_rules ++ session_rules) word.now (words_of_line words.entry) }
 {
-    if is_word(word, b"snap") {
-        return step_line(Event::Snap, words);
-    }
-    if is_word(word, b"mark") {
-        return step_line(Event::Mark, words);
-    }
-    if is_word(word, b"drain") {
-        return step_line(Event::Drain, words);
-    }
-    if is_word(word, b"finish") {
-        return step_line(Event::Finish, words);
-    }
-    if is_word(word, b"sweep") {
-        return sweep_line(words);
-    }
-    session_line(word, words)
+    by_word!(word;
+        b"snap" => step_line(Event::Snap, words),
+        b"mark" => step_line(Event::Mark, words),
+        b"drain" => step_line(Event::Drain, words),
+        b"finish" => step_line(Event::Finish, words),
+        b"sweep" => sweep_line(words),
+        _ => session_line(word, words)
+    )
 }
 
 // Reads a line by its first word, if that asks the machine or the session for something.
@@ -403,25 +393,15 @@ fn marking_line(word: &[u8], words: Words) -> Option<Command>
 fn session_line(word: &[u8], words: Words) -> Option<Command>
     ensures { result ≡ by_rule session_rules word.now (words_of_line words.entry) }
 {
-    if is_word(word, b"rewind") {
-        return rewind_line(words);
-    }
-    if is_word(word, b"open") {
-        return open_line(words);
-    }
-    if is_word(word, b"piece") {
-        return piece_line(words);
-    }
-    if is_word(word, b"dump") {
-        return dump_line(words);
-    }
-    if is_word(word, b"close") {
-        return close_line(words);
-    }
-    if is_word(word, b"end") {
-        return end_line(words);
-    }
-    None
+    by_word!(word;
+        b"rewind" => rewind_line(words),
+        b"open" => open_line(words),
+        b"piece" => piece_line(words),
+        b"dump" => dump_line(words),
+        b"close" => close_line(words),
+        b"end" => end_line(words),
+        _ => None
+    )
 }
 
 // Reads a line from its first word and the words after it. Returns None if it is none of the grammar's. Fails if an
@@ -437,13 +417,11 @@ fn line_after(
     ensures { MatchResult result (λ c. c ≡ by_rule plain_rules word.now (words_of_line words.entry))
         (λ _. MayTakeMemory (by_rule plain_rules word.now (words_of_line words.entry))) }
 {
-    if is_word(word, b"class") {
-        return class_line(alloc, marks, words);
-    }
-    if is_word(word, b"array") {
-        return array_line(alloc, words);
-    }
-    Ok(making_line(word, words))
+    by_word!(word;
+        b"class" => class_line(alloc, marks, words),
+        b"array" => array_line(alloc, words),
+        _ => Ok(making_line(word, words))
+    )
 }
 
 /// Returns the line without a CR at its end.

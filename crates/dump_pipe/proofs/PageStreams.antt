@@ -63,18 +63,14 @@ next_page told a b given ended x x' (Given.Part q) p = (refl, p.says.3, p.says.4
 next_page told a b given ended x x' (Given.Lost cause) p = (refl, refl)
 next_page told a b given ended x x' Given.Cancelled p = (refl, refl)
 
--- the same, at values that are known
-pub pages_as : (start : Option (List Piece)) (a b : Supply) (given given2 : List Piece) (ended ended2 : Option Ending) (x x2 : Option Surplus) (r : Next) → given2 ≡ parts_with given r → ended2 ≡ ended_by_page r
-    → ArePages start a given ended x → IsPaged a b x x2 r → ArePages start b given2 ended2 x2
-pages_as start a b given given2 ended ended2 x x2 r gives ends h p =
-    subst (λ (k : List Piece × Option Ending). ArePages start b k.0 k.1 x2) (λ i. (sym gives i, sym ends i))
-    (pages_more start a b given ended x x2 (parts_left x a.left) r h (p (more start h.parts) h.ahead))
-
-pub next_as : (start : Option (List Piece)) (a b : Supply) (given given2 : List Piece) (ended ended2 : Option Ending) (x x2 : Option Surplus) (r : Next) → given2 ≡ parts_with given r → ended2 ≡ ended_by_page r
-    → ArePages start a given ended x → IsPaged a b x x2 r → IsNextPart (paged_supply given ended x a.left) (paged_supply given2 ended2 x2 b.left) r
-next_as start a b given given2 ended ended2 x x2 r gives ends h p =
-    subst (λ (k : List Piece × Option Ending). IsNextPart (paged_supply given ended x a.left) (paged_supply k.0 k.1 x2 b.left) r) (λ i. (sym gives i, sym ends i))
-    (next_page (more start h.parts) a b given ended x x2 r (p (more start h.parts) h.ahead))
+-- both, at values that are known
+pub page_as : (start : Option (List Piece)) (a b : Supply) (given given2 : List Piece) (ended ended2 : Option Ending) (x x2 : Option Surplus) (r : Next) → given2 ≡ parts_with given r → ended2 ≡ ended_by_page r
+    → ArePages start a given ended x → IsPaged a b x x2 r
+    → ArePages start b given2 ended2 x2 × IsNextPart (paged_supply given ended x a.left) (paged_supply given2 ended2 x2 b.left) r
+page_as start a b given given2 ended ended2 x x2 r gives ends h p =
+    let paged = p (more start h.parts) h.ahead in
+    subst (λ (k : List Piece × Option Ending). ArePages start b k.0 k.1 x2 × IsNextPart (paged_supply given ended x a.left) (paged_supply k.0 k.1 x2 b.left) r) (λ i. (sym gives i, sym ends i))
+    (pages_more start a b given ended x x2 (parts_left x a.left) r h paged, next_page (more start h.parts) a b given ended x x2 r paged)
 
 -- ---- a stream
 

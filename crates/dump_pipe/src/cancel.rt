@@ -2,32 +2,17 @@
 ghost use Rattle.std.specs.Prelude.{◌≡◌, true};
 ghost use Rattle.dump_pipe.specs.Seats.{cancel_asked, cancel_found};
 
-use crate::meter_view::MeterView;
-use crate::rule::{Asks, Counts, Looks};
+use crate::rule::{Asks, Looks};
 use crate::seats::{AskSeat, FeedSeat};
-use atomic_table::Shared;
-use std::marker::Model;
+use crate::word::Word;
+
+/// The name of the cancel word.
+pub struct Marks;
 
 /// The cancel word of a meter: whether one of its askers asked. Contracts see the meter.
-#[derive(Drop)]
-pub struct Cancel<'a> {
-    pub(crate) table: &'a Shared<(), MeterView, (), Counts>,
-}
+pub type Cancel<'a> = Word<'a, Marks>;
 
-impl<'a> Model for Cancel<'a> {
-    ghost use Rattle.std.specs.Prelude.{◌≡◌};
-    ghost use Rattle.atomic_table.specs.Seated.{TableId, table_id_coded};
-
-    ghost Value = { TableId };
-
-    ghost coded = { table_id_coded };
-
-    ghost view = { λ c. c.table.now.table_id };
-
-    ghost invariant = { λ c. c.table.now.table_id.words ≡ 2 };
-}
-
-impl<'a> Cancel<'a> {
+impl<'a> Word<'a, Marks> {
     /// Asks to cancel, by a seat of this meter. The request can't be withdrawn. Waits for nothing.
     pub fn ask(&self, seat: &mut AskSeat)
         requires { seat.old.meter ≡ self.now }

@@ -22,6 +22,7 @@ pub mod start;
 pub mod streams;
 pub mod surplus;
 pub mod watched;
+pub mod word;
 
 pub use cancel::Cancel;
 pub use channel::{BothEnds, End, Knowledge, Receiver, Sender, pipe};

@@ -7,6 +7,7 @@ use crate::meter_view::MeterView;
 use crate::progress::Progress;
 use crate::rule::{Counts, NewAsker, NewFeeder, NewReader};
 use crate::seats::{AskSeat, FeedSeat, OutSeat, ReadSeat};
+use crate::word::Word;
 use atomic_table::{Seat, Shared, Table};
 use std::alloc::{AllocError, Global};
 use std::marker::Model;
@@ -119,17 +120,13 @@ impl Meter {
     pub fn progress(&self) -> Progress<'_>
         ensures { result ≡ self.now }
     {
-        Progress {
-            table: &self.table.shared,
-        }
+        Word::of(&self.table.shared)
     }
 
     /// Returns the cancel word, lent.
     pub fn cancel(&self) -> Cancel<'_>
         ensures { result ≡ self.now }
     {
-        Cancel {
-            table: &self.table.shared,
-        }
+        Word::of(&self.table.shared)
     }
 }

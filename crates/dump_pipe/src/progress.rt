@@ -2,32 +2,17 @@
 ghost use Rattle.std.specs.Prelude.{◌≡◌, ◌+◌, ◌<◌, ◌≤◌, ◌^◌};
 ghost use Rattle.dump_pipe.specs.Seats.{sum, sum_read};
 
-use crate::meter_view::MeterView;
-use crate::rule::{Adds, Counts, Reads};
+use crate::rule::{Adds, Reads};
 use crate::seats::{OutSeat, ReadSeat};
-use atomic_table::Shared;
-use std::marker::Model;
+use crate::word::Word;
+
+/// The name of the progress word.
+pub struct Sums;
 
 /// The progress word of a meter: the bytes that its out seat added. Contracts see the meter.
-#[derive(Drop)]
-pub struct Progress<'a> {
-    pub(crate) table: &'a Shared<(), MeterView, (), Counts>,
-}
+pub type Progress<'a> = Word<'a, Sums>;
 
-impl<'a> Model for Progress<'a> {
-    ghost use Rattle.std.specs.Prelude.{◌≡◌};
-    ghost use Rattle.atomic_table.specs.Seated.{TableId, table_id_coded};
-
-    ghost Value = { TableId };
-
-    ghost coded = { table_id_coded };
-
-    ghost view = { λ p. p.table.now.table_id };
-
-    ghost invariant = { λ p. p.table.now.table_id.words ≡ 2 };
-}
-
-impl<'a> Progress<'a> {
+impl<'a> Word<'a, Sums> {
     /// Adds `n` bytes to the sum of a seat of this meter. The sum must stay below 2^64. Waits for nothing.
     pub fn add(&self, seat: &mut OutSeat, n: u64)
         requires meter { seat.old.meter ≡ self.now }

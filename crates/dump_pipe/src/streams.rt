@@ -60,46 +60,8 @@ fn drain_begun<O: Outlet, R: Wait>(
     Some(drain_pipe(rt, receiver, end, outlet, counter))
 }
 
-// Feeds in a new thread, and drains in the caller's.
-fn join_ends<S: Source + Send, O: Outlet, R: Threads + Wait + Sync>(
-    rt: &R,
-    ends: &BothEnds,
-    known: &mut Knowledge,
-    source: &mut S,
-    outlet: &mut O,
-    counter: &mut Counter<'_>,
-) -> (Option<Ending>, Option<Pumped>)
-    requires source { 0 < (S.seen source.old).left }
-    requires one { IsSeatAt (sends_on ends.now.sender) known.old.one
-        × (view known.old.one ≡ Sends []) }
-    requires other { IsSeatAt (receives_on ends.now.receiver) known.old.other
-        × (view known.old.other ≡ Gets []) }
-    requires room { counter.old.sum + byte_limit < 2 ^ 64 }
-    ensures one { IsSeatAt (sends_on ends.now.sender) known.new.one }
-    ensures other { IsSeatAt (receives_on ends.now.receiver) known.new.other }
-    ensures fed { MayFeed (S.seen source.old) (S.seen source.new) (view known.new.one) result.0 }
-    ensures kept { S.kept source.new ≡ S.kept source.old }
-    ensures drained { MayDrain (view known.new.other) (O.seen outlet.old) (O.seen outlet.new)
-        result.1 }
-    ensures meter { counter.new.meter ≡ counter.old.meter }
-    ensures counted { counter.new.sum ≡ counter.old.sum + drained_bytes result.1 }
-{
-    let start = Start::new();
-    let (sender, receiver) = (&ends.sender, &ends.receiver);
-    let one = &mut known.one;
-    let other = &mut known.other;
-    let mut feeder = || -> Option<Ending>
-        requires { CanFeed (S.seen source.now) (view one.now)
-            × IsSeatAt (sends_on sender.now) one.now }
-    { begin_feed(rt, &start, source, sender, one) };
-    let mut drainer = || -> Option<Pumped>
-        requires { CanDrain (view other.now) counter.now
-            × IsSeatAt (receives_on receiver.now) other.now }
-    { drain_begun(rt, &start, receiver, other, outlet, counter) };
-    join_mut(rt, &mut feeder, &mut drainer)
-}
-
-// Feeds and drains. If only the feeding was begun, drains once it has ended. Returns None if neither was begun.
+// Feeds in a new thread, and drains in the caller's. If only the feeding was begun, drains once it has ended. Returns None if
+// neither was begun.
 fn pass_parts<S: Source + Send, O: Outlet, R: Threads + Wait + Sync>(
     rt: &R,
     ends: &BothEnds,
@@ -122,12 +84,22 @@ fn pass_parts<S: Source + Send, O: Outlet, R: Threads + Wait + Sync>(
     ensures meter { counter.new.meter ≡ counter.old.meter }
     ensures counted { counter.new.sum ≡ counter.old.sum + drained_bytes result }
 {
-    let (fed, drained) = join_ends(rt, ends, known, source, outlet, counter);
+    let start = Start::new();
+    let (sender, receiver) = (&ends.sender, &ends.receiver);
+    let (one, other) = (&mut known.one, &mut known.other);
+    let mut feeder = || -> Option<Ending>
+        requires { CanFeed (S.seen source.now) (view one.now)
+            × IsSeatAt (sends_on sender.now) one.now }
+    { begin_feed(rt, &start, source, sender, one) };
+    let mut drainer = || -> Option<Pumped>
+        requires { CanDrain (view other.now) counter.now
+            × IsSeatAt (receives_on receiver.now) other.now }
+    { drain_begun(rt, &start, receiver, other, outlet, counter) };
+    let (fed, drained) = join_mut(rt, &mut feeder, &mut drainer);
     if let Some(pumped) = drained {
         return Some(pumped);
     }
     fed?;
-    let (receiver, other) = (&ends.receiver, &mut known.other);
     Some(drain_pipe(rt, receiver, other, outlet, counter))
 }
 

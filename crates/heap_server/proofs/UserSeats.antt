@@ -19,16 +19,16 @@ length_copies : (k : ℕ) → length (replicate k User) ≡ k
 length_copies zero = refl
 length_copies (suc k) = ap suc (length_copies k)
 
--- seats of a result, where there are any
-pub seated : {A E : Type 0} (r : Result A E) (seats : A → List Chair) (roles : List Role) (k : ℕ)
-    → IfOk r (λ b. seats b ≡ chairs 0 roles) → roles ≡ replicate k User → IfOk r (λ b. AreUsers (seats b) × (length (seats b) ≡ k))
-seated (Ok b) seats roles k is all =
-    (subst AreUsers (sym (is ∙ ap (λ l. chairs 0 l) all)) (users k 0), ap length is ∙ length_chairs 0 roles ∙ ap length all ∙ length_copies k)
-seated (Err e) seats roles k is all = tt
+-- the seats of users
+pub user_seats : (roles : List Role) (k : ℕ) → roles ≡ replicate k User → AreUsers (chairs 0 roles) × (length (chairs 0 roles) ≡ k)
+user_seats roles k all = (subst (λ r. AreUsers (chairs 0 r)) (sym all) (users k 0), length_chairs 0 roles ∙ ap length all ∙ length_copies k)
 
--- seats of workers and users of a result, where there are any
-pub staffed : {A E : Type 0} (r : Result A E) (seats : A → List Chair) (roles : List Role) (k : ℕ)
-    → IfOk r (λ b. seats b ≡ chairs 0 roles) → roles ≡ Marker ∷ Sweeper ∷ replicate k User → IfOk r (λ b. AreStaff k (seats b))
-staffed (Ok b) seats roles k is all =
-    subst (AreStaff k) (sym (is ∙ ap (λ l. chairs 0 l) all)) (refl, refl, users k 2, length_chairs 2 (replicate k User) ∙ length_copies k)
-staffed (Err e) seats roles k is all = tt
+-- the seats of workers and users
+pub staff_seats : (roles : List Role) (k : ℕ) → roles ≡ Marker ∷ Sweeper ∷ replicate k User → AreStaff k (chairs 0 roles)
+staff_seats roles k all = subst (λ r. AreStaff k (chairs 0 r)) (sym all) (refl, refl, users k 2, length_chairs 2 (replicate k User) ∙ length_copies k)
+
+-- what holds of the seats of these roles holds of those of a result, where there are any
+pub seated : {A E : Type 0} (Holds : List Chair → Type 0) (r : Result A E) (seats : A → List Chair) (roles : List Role)
+    → IfOk r (λ b. seats b ≡ chairs 0 roles) → Holds (chairs 0 roles) → IfOk r (λ b. Holds (seats b))
+seated Holds (Ok b) seats roles is all = subst Holds (sym is) all
+seated Holds (Err e) seats roles is all = tt

@@ -230,31 +230,24 @@ IsWordFree name met = IsFree name met.0 × IsStepFree name met.1
 abbrev pub IsMetFree : Text → Held × Outcome → Type 0
 IsMetFree name met = IsFree name met.0 × IsOutcomeFree name met.1
 
-option_met_free : (name : Text) (c : List Rule) (a : Rule) (v : Option Text) (h : Held) → IsPlainRules name c → IsPlainRule name a
-    → bytes_eq a.id name ≡ false → IsFree name h → IsMetFree name (option_met c a v h)
-option_met_free name c a (Some v) h all plain_a other free = (reacted_free name c a (v ∷ []) h all plain_a other free, tt)
-option_met_free name c a None h all plain_a other free = (record { rows = settled_free name c h all free; pending = other }, other)
-
-flag_met_free : (name : Text) (c : List Rule) (a : Rule) (v : Option Text) (h : Held) → IsPlainRules name c → IsPlainRule name a
-    → bytes_eq a.id name ≡ false → IsFree name h → IsMetFree name (flag_met c a v h)
-flag_met_free name c a (Some v) h all plain_a other free = (free, tt)
-flag_met_free name c a None h all plain_a other free = (reacted_free name c a [] h all plain_a other free, tt)
+-- an option or a flag that isn't of this name
+met_free : (name : Text) (c : List Rule) (a : Rule) (v : Option Text) (h : Held) (takes_value : Bool) → IsPlainRules name c → IsPlainRule name a
+    → bytes_eq a.id name ≡ false → IsFree name h → IsMetFree name (cond takes_value (option_met c a v h) (flag_met c a v h))
+met_free name c a (Some v) h true all plain_a other free = (reacted_free name c a (v ∷ []) h all plain_a other free, tt)
+met_free name c a None h true all plain_a other free = (record { rows = settled_free name c h all free; pending = other }, other)
+met_free name c a (Some v) h false all plain_a other free = (free, tt)
+met_free name c a None h false all plain_a other free = (reacted_free name c a [] h all plain_a other free, tt)
 
 long_met_free : (name n : Text) (c : List Rule) (v : Option Text) (h : Held) → IsPlainRules name c → bytes_eq n name ≡ false
     → IsFree name h → IsMetFree name (long_met c (arg_by_long c n) v h)
 long_met_free name n c v h all other free = go (arg_by_long c n) refl
   where
-    by : (a : Rule) → IsPlainRule name a → bytes_eq a.id name ≡ false → (b : Bool)
-        → IsMetFree name (cond b (option_met c a v h) (flag_met c a v h))
-    by a plain_a not_a true = option_met_free name c a v h all plain_a not_a free
-    by a plain_a not_a false = flag_met_free name c a v h all plain_a not_a free
-
     go : (o : Option Rule) → arg_by_long c n ≡ o → IsMetFree name (long_met c o v h)
     go None e = (free, tt)
     go (Some a) e =
         let found = found_passes (λ r. not (is_some r.index) && has_long r n) (is_plain_rule name) c a all e in
         let plain_a = plain_rule name a found.0 in
-        by a plain_a (same_not a.id n name (plain_a.long n (both_true _ _ found.1).1) other) _
+        met_free name c a v h _ all plain_a (same_not a.id n name (plain_a.long n (both_true _ _ found.1).1) other) free
 
 short_met_free : (name : Text) (x : ℕ) (c : List Rule) (rest : Text) (h : Held) (more : Held → Held × Outcome) → IsPlainRules name c
     → ((g : Held) → IsFree name g → IsMetFree name (more g)) → IsFree name h → IsMetFree name (short_met c (arg_by_short c x) rest h more)
@@ -262,7 +255,7 @@ short_met_free name x c rest h more all then free = go (arg_by_short c x) refl
   where
     by : (a : Rule) → IsPlainRule name a → bytes_eq a.id name ≡ false → (b : Bool)
         → IsMetFree name (cond b (option_met c a (attached_value rest) h) (more (reacted c a [] h)))
-    by a plain_a not_a true = option_met_free name c a (attached_value rest) h all plain_a not_a free
+    by a plain_a not_a true = met_free name c a (attached_value rest) h true all plain_a not_a free
     by a plain_a not_a false = then _ (reacted_free name c a [] h all plain_a not_a free)
 
     go : (o : Option Rule) → arg_by_short c x ≡ o → IsMetFree name (short_met c o rest h more)

@@ -149,9 +149,9 @@ impl SegmentBytes {
         ensures limit { self.new.limit ≡ self.old.limit }
     {
         self.u4(size);
-        self.u2(0);
-        self.u2(0);
-        self.u2(fields);
+        self.number(2, 0);
+        self.number(2, 0);
+        self.number(2, u64::from(fields));
     }
 
     /// Appends an own field in a CLASS DUMP: the id of its name, and its kind. There must be room.

@@ -2,7 +2,7 @@
 ghost use Rattle.std.specs.Prelude.{◌≡◌, ◌≤◌, ◌++◌, length, drop, [], IfOk};
 ghost use Rattle.hprof_text.specs.Records.{record_head};
 ghost use Rattle.hprof_text.specs.SegmentContents.{HasRoom};
-ghost use Rattle.hprof_text.specs.Text.{u1, u2, u4, id};
+ghost use Rattle.hprof_text.specs.Text.{u1, u4, id};
 ghost use Rattle.byteorder.specs.Endian.{big_bytes};
 
 use byteorder::{BigEndian, ByteOrder};
@@ -116,18 +116,6 @@ impl SegmentBytes {
         ensures limit { self.new.limit ≡ self.old.limit }
     {
         self.bytes(&[value]);
-    }
-
-    /// Appends a number of 2 bytes. There must be room. Takes no memory.
-    #[inline(always)]
-    pub fn u2(&mut self, value: u16)
-        requires { HasRoom self.old (u2 value) }
-        ensures written { self.new.written ≡ self.old.written ++ u2 value }
-        ensures limit { self.new.limit ≡ self.old.limit }
-    {
-        let mut bytes = [0; 2];
-        BigEndian::write_u16(&mut bytes, value);
-        self.bytes(&bytes);
     }
 
     /// Appends a number of 4 bytes. There must be room. Takes no memory.

@@ -3,7 +3,7 @@ use Rattle.std.proofs.Common.{◌≡◌, ◌∙◌, ℕ, zero, suc, Bool, true, 
 use Rattle.std.specs.Prelude.{slice_index_or, sum_by, ◌==◌, filter}
 use Rattle.std.specs.List.{AllByRecursion, range_with_len}
 use Rattle.std.proofs.lemmas.List.Sums.{count_by-le-length, length-filter, sum_by-cons, sum_by-le}
-use Rattle.std.proofs.lemmas.List.Elements.{recursion_from_All}
+use Rattle.std.proofs.lemmas.List.Elements.{All-from_recursion, recursion_from_All}
 use Rattle.std.proofs.lemmas.List.FromFn.{length-map-range_with_len}
 use Rattle.std.proofs.lemmas.Bool.{cases_eq, eq-eqb, ne_eqb}
 use Rattle.heap_class.specs.declared.IdSize.{IdSize}
@@ -137,15 +137,9 @@ rows_there : (classes : List Class) (objects : List DumpedObject) → AreCountab
 rows_there classes [] all = tt
 rows_there classes (o ∷ os) all = (kind_row classes o.kind (length o.words) all.0.0, rows_there classes os all.1)
 
--- countable objects have few bytes together
-pub bytes_few : (ids : IdSize) (classes : List Class) (objects : List DumpedObject) → AreCountable classes objects
-    → (total_of ids classes objects).bytes ≤ length objects * 8192
-bytes_few ids classes [] all = omega arith
-bytes_few ids classes (o ∷ os) all =
-    let e = sum_by-cons (object_bytes ids classes) o os in
-    let h = value_small ids classes o.kind (length o.words) all.0.0 all.0.1 in
-    let r = bytes_few ids classes os all.1 in
-    omega (arith, e, h, r)
+-- a countable object has few bytes
+bytes_small : (ids : IdSize) (classes : List Class) (o : DumpedObject) → IsCountable classes o → object_bytes ids classes o ≤ 8192
+bytes_small ids classes o k = value_small ids classes o.kind (length o.words) k.0 k.1
 
 -- the objects of an image can be counted
 pub countable : (image : Image) → IsDumpable image → AreCountable image.classes image.objects
@@ -202,7 +196,8 @@ sums_small ids classes objects rows e each few =
     let t = ap (λ (rs : List Row). sum_of rs) e ∙ total ids classes objects each in
     let a : (sum_of rows).objects ≡ length objects = ap (λ (r : Row). r.objects) t in
     let b : (sum_of rows).bytes ≡ (total_of ids classes objects).bytes = ap (λ (r : Row). r.bytes) t in
-    (omega (arith, a, few), omega (arith, b, bytes_few ids classes objects each, few))
+    let small = sum_by-le (object_bytes ids classes) 8192 objects (λ i o h. bytes_small ids classes (slice_index_or objects i o) (All-from_recursion (IsCountable classes) objects each i o h)) in
+    (omega (arith, a, few), omega (arith, b, small, few))
 
 -- so are those of all objects of an image, and of some of them
 pub all_rows_small : (ids : IdSize) (image : Image) (rows : List Row) → IsDumpable image → rows ≡ rows_of ids image.classes image.objects → ((sum_of rows).objects < 2 ^ 64) × ((sum_of rows).bytes < 2 ^ 64)

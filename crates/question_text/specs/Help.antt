@@ -14,21 +14,9 @@ pub record LineForm : Type 0 where
 abbrev form_of : List ℕ → List ℕ → List ℕ → LineForm
 form_of key form example = record { key = key; form = form; example = example }
 
--- questions about the past and about pins, `collect` and `help`
-unfoldable pub past_forms : List LineForm
-past_forms =
-    form_of (codes "born") (codes "born ID") (codes "born 0x10000020")
-    ∷ form_of (codes "wrote") (codes "wrote ID SLOT") (codes "wrote 0x10000020 1")
-    ∷ form_of (codes "dropped") (codes "dropped ID") (codes "dropped 0x10000020")
-    ∷ form_of (codes "history") (codes "history N") (codes "history 10")
-    ∷ form_of (codes "pins") (codes "pins") (codes "pins")
-    ∷ form_of (codes "collect") (codes "collect") (codes "collect")
-    ∷ form_of (codes "help") (codes "help WORD") (codes "help path")
-    ∷ []
-
--- questions about a moment, and those above
-unfoldable pub image_forms : List LineForm
-image_forms =
+-- questions, `collect` and `help`
+unfoldable pub question_forms : List LineForm
+question_forms =
     form_of (codes "histogram") (codes "histogram AT") (codes "histogram -")
     ∷ form_of (codes "garbage") (codes "garbage AT") (codes "garbage 1")
     ∷ form_of (codes "growth") (codes "growth AT AT") (codes "growth @120 -")
@@ -37,53 +25,50 @@ image_forms =
     ∷ form_of (codes "referrers") (codes "referrers AT ID") (codes "referrers - 0x10000020")
     ∷ form_of (codes "path") (codes "path AT ID") (codes "path @120 0x10000020")
     ∷ form_of (codes "show") (codes "show AT ID") (codes "show - 0x10000020")
-    ∷ past_forms
+    ∷ form_of (codes "born") (codes "born ID") (codes "born 0x10000020")
+    ∷ form_of (codes "wrote") (codes "wrote ID SLOT") (codes "wrote 0x10000020 1")
+    ∷ form_of (codes "dropped") (codes "dropped ID") (codes "dropped 0x10000020")
+    ∷ form_of (codes "history") (codes "history N") (codes "history 10")
+    ∷ form_of (codes "pins") (codes "pins") (codes "pins")
+    ∷ form_of (codes "collect") (codes "collect") (codes "collect")
+    ∷ form_of (codes "help") (codes "help WORD") (codes "help path")
+    ∷ []
 
--- lines of rewinds, pins and the session, and those above
-unfoldable pub pin_forms : List LineForm
-pin_forms =
-    form_of (codes "rewind") (codes "rewind N") (codes "rewind 1")
-    ∷ form_of (codes "open") (codes "open AT") (codes "open -")
-    ∷ form_of (codes "piece") (codes "piece PIN") (codes "piece 1")
-    ∷ form_of (codes "dump") (codes "dump PIN") (codes "dump 1")
-    ∷ form_of (codes "close") (codes "close PIN") (codes "close 1")
-    ∷ form_of (codes "end") (codes "end") (codes "end")
-    ∷ image_forms
-
--- lines of a marking cycle, and those above
-unfoldable pub cycle_forms : List LineForm
-cycle_forms =
+-- lines of the collector, of the trail, of pins and of the session, and those above
+unfoldable pub act_forms : List LineForm
+act_forms =
     form_of (codes "snap") (codes "snap") (codes "snap")
     ∷ form_of (codes "mark") (codes "mark") (codes "mark")
     ∷ form_of (codes "drain") (codes "drain") (codes "drain")
     ∷ form_of (codes "finish") (codes "finish") (codes "finish")
     ∷ form_of (codes "sweep") (codes "sweep REGION") (codes "sweep 0")
-    ∷ pin_forms
+    ∷ form_of (codes "rewind") (codes "rewind N") (codes "rewind 1")
+    ∷ form_of (codes "open") (codes "open AT") (codes "open -")
+    ∷ form_of (codes "piece") (codes "piece PIN") (codes "piece 1")
+    ∷ form_of (codes "dump") (codes "dump PIN") (codes "dump 1")
+    ∷ form_of (codes "close") (codes "close PIN") (codes "close 1")
+    ∷ form_of (codes "end") (codes "end") (codes "end")
+    ∷ question_forms
 
--- lines that read and write slots and registers, and those above
-unfoldable pub access_forms : List LineForm
-access_forms =
-    form_of (codes "load") (codes "load M TO FROM SLOT") (codes "load 0 4 1 0")
-    ∷ form_of (codes "store") (codes "store M TARGET SLOT SOURCE") (codes "store 0 1 0 2")
-    ∷ form_of (codes "put") (codes "put M TARGET SLOT VALUE") (codes "put 0 1 1 42")
-    ∷ form_of (codes "move") (codes "move M TO FROM_M FROM") (codes "move 0 5 1 0")
-    ∷ form_of (codes "clear") (codes "clear M R") (codes "clear 0 1")
-    ∷ cycle_forms
-
--- lines that define classes and make objects, and those above
-unfoldable pub making_forms : List LineForm
-making_forms =
+-- lines that make objects, or read or write slots and registers, and those above
+unfoldable pub write_forms : List LineForm
+write_forms =
     form_of (codes "class") (codes "class NAME SUPER FIELD ..")
     (codes "class Node - next:object value:int")
     ∷ form_of (codes "array") (codes "array NAME") (codes "array Nodes")
     ∷ form_of (codes "new") (codes "new M R CLASS") (codes "new 0 1 0")
     ∷ form_of (codes "newarray") (codes "newarray M R CLASS LEN") (codes "newarray 0 2 1 100")
     ∷ form_of (codes "newprim") (codes "newprim M R KIND LEN") (codes "newprim 0 3 byte 64")
-    ∷ access_forms
+    ∷ form_of (codes "load") (codes "load M TO FROM SLOT") (codes "load 0 4 1 0")
+    ∷ form_of (codes "store") (codes "store M TARGET SLOT SOURCE") (codes "store 0 1 0 2")
+    ∷ form_of (codes "put") (codes "put M TARGET SLOT VALUE") (codes "put 0 1 1 42")
+    ∷ form_of (codes "move") (codes "move M TO FROM_M FROM") (codes "move 0 5 1 0")
+    ∷ form_of (codes "clear") (codes "clear M R") (codes "clear 0 1")
+    ∷ act_forms
 
 -- all lines
 abbrev pub all_forms : List LineForm
-all_forms = making_forms
+all_forms = write_forms
 
 -- a row of these words
 abbrev pub help_row : List ℕ → List ℕ

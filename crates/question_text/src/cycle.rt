@@ -2,15 +2,15 @@
 ghost use Rattle.std.specs.Prelude.{◌≡◌, ◌≤◌, IfErr, IfOk, OnErr, OnOk};
 ghost use Rattle.heap_class.specs.declared.Refusal.TheVariants.{NoMemory};
 ghost use Rattle.session_text.specs.Replies.{line_answer_text};
+ghost use Rattle.question_text.specs.Appends.{GivesText};
 ghost use Rattle.question_text.specs.Collections.{Collects, Finishes, IsCycleAnswer, IsCycleStep, IsMarkStep, IsSweep, IsWholeCycle, MarksLead, MayRefuse, MovesOn, NoneDenies, StopsAt, SweepsLead, collected_text, condemned_of, is_collect, swept_of};
 
-use crate::id::is_word;
 use crate::rows::{push_number, push_words};
 use crate::steps::Steps;
 use heap_class::Refusal;
 use heap_step::{Answer, Event};
 use heap_trail::{Machine, Reply};
-use session_grammar::words::Words;
+use session_grammar::words::{Words, is_word};
 use session_text::LineAnswer;
 use std::alloc::Global;
 
@@ -177,9 +177,7 @@ pub fn run_cycle<S: Steps>(steps: &mut S, by: &mut S::By) -> Result<CycleCounts,
 
 // Returns the line of a whole cycle. Fails with NoMemory.
 fn cycle_line(alloc: Global, counts: CycleCounts) -> Result<Vec<u8>, Refusal>
-    ensures text { IfOk result
-        (λ text. text.items ≡ collected_text counts.condemned counts.swept) }
-    ensures refused { IfErr result (λ e. e ≡ NoMemory) }
+    ensures { GivesText (λ text. text ≡ collected_text counts.condemned counts.swept) result }
 {
     let mut text = Vec::new(alloc);
     push_words(&mut text, b"ok condemned")?;

@@ -1,15 +1,14 @@
 //! The answer of `growth`.
-ghost use Rattle.std.specs.Prelude.{◌≡◌, ◌++◌, ◌<◌, ◌+◌, ◌≤◌, length, count_by, IfErr, IfOk};
+ghost use Rattle.std.specs.Prelude.{◌≡◌, ◌++◌, ◌<◌, ◌+◌, ◌≤◌, length, count_by};
 ghost use Rattle.heap_class.specs.declared.Refusal.TheVariants.{NoMemory};
 ghost use Rattle.heap_questions.specs.Histogram.{class_rows};
-ghost use Rattle.question_text.specs.Appends.{Appends};
+ghost use Rattle.question_text.specs.Appends.{Appends, GivesText};
 ghost use Rattle.question_text.specs.Referrers.{count_text};
 ghost use Rattle.question_text.specs.Growths.{IsGrowthText, changed_text, changed_texts, differs};
 
 use crate::histogram::push_counts;
 use crate::names::push_row_name;
-use crate::referrers::push_count;
-use crate::rows::push_words;
+use crate::rows::{push_count, push_words};
 use heap_class::{FirstClasses, Refusal};
 use heap_questions::{Change, compare, count_by_class};
 use hprof_text::View;
@@ -78,9 +77,9 @@ fn changes_text(
     changes: &[Change],
 ) -> Result<Vec<u8>, Refusal>
     requires { length changes.now ≤ class_rows + length classes.now }
-    ensures text { IfOk result (λ text. text.items
-        ≡ changed_texts classes.now 0 changes.now ++ count_text (count_by differs changes.now)) }
-    ensures refused { IfErr result (λ e. e ≡ NoMemory) }
+    ensures { GivesText (λ text. text
+        ≡ changed_texts classes.now 0 changes.now ++ count_text (count_by differs changes.now))
+        result }
 {
     let mut text = Vec::new(alloc);
     push_changes(&mut text, classes, changes)?;
@@ -96,10 +95,8 @@ pub(crate) fn growth_answer<V: View>(
     newer: &V,
 ) -> Result<Vec<u8>, Refusal>
     requires { V.ids older.now ≡ V.ids newer.now }
-    ensures text { IfOk result
-        (λ text. IsGrowthText (V.ids newer.now) (V.image older.now) (V.image newer.now)
-        text.items) }
-    ensures refused { IfErr result (λ e. e ≡ NoMemory) }
+    ensures { GivesText
+        (IsGrowthText (V.ids newer.now) (V.image older.now) (V.image newer.now)) result }
 {
     let before = count_by_class(alloc, older)?;
     let after = count_by_class(alloc, newer)?;

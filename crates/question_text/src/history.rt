@@ -1,14 +1,13 @@
 //! The answer of `history`.
-ghost use Rattle.std.specs.Prelude.{◌≡◌, ◌++◌, flat_map, IfErr, IfOk};
+ghost use Rattle.std.specs.Prelude.{◌≡◌, ◌++◌};
 ghost use Rattle.heap_class.specs.declared.Refusal.TheVariants.{NoMemory};
-ghost use Rattle.question_text.specs.Appends.{Appends};
-ghost use Rattle.question_text.specs.Histories.{IsHistoryText, IsNewestText, and_overwritten, and_slot, event_words, past_step_line};
+ghost use Rattle.question_text.specs.Appends.{Appends, GivesText};
+ghost use Rattle.question_text.specs.Histories.{IsHistoryText, IsNewestText, and_overwritten, and_slot, event_words};
 ghost use Rattle.question_text.specs.Moments.{told_text};
 ghost use Rattle.session_text.specs.Replies.{and_number};
 
 use crate::id::{push_id, push_reference};
-use crate::referrers::push_count;
-use crate::rows::{Unanswered, push_number, push_row, push_words};
+use crate::rows::{Lined, Unanswered, counted_lines, push_number, push_row, push_words};
 use heap_class::Refusal;
 use heap_past::{PastEvent, PastStep, history};
 use heap_trail::Machine;
@@ -80,36 +79,25 @@ fn push_event(text: &mut Vec<u8>, event: PastEvent) -> Result<(), Refusal>
     }
 }
 
-// Appends the line of a step. Fails with NoMemory.
-#[tactic(auto, unfolding(crate::specs::Histories::past_step_line))]
-fn push_step(text: &mut Vec<u8>, step: PastStep) -> Result<(), Refusal>
-    ensures { Appends (past_step_line step) text.old.items text.new.items result }
-{
-    push_row(text, step.place)?;
-    push_event(text, step.event)?;
-    push_words(text, b"\n")
-}
+impl Lined for PastStep {
+    ghost use Rattle.question_text.specs.Histories.{past_step_line};
 
-// Appends the lines of some steps. Fails with NoMemory.
-fn push_steps(text: &mut Vec<u8>, steps: &[PastStep]) -> Result<(), Refusal>
-    ensures { Appends (flat_map past_step_line steps.now) text.old.items text.new.items result }
-{
-    for step in steps {
-        push_step(text, *step)?;
+    ghost line = { past_step_line };
+
+    #[tactic(auto, unfolding(crate::specs::Histories::past_step_line))]
+    fn push_line(self, text: &mut Vec<u8>) -> Result<(), Refusal> {
+        push_row(text, self.place)?;
+        push_event(text, self.event)?;
+        push_words(text, b"\n")
     }
-    Ok(())
 }
 
 // Returns the lines of the newest steps, and their number. Fails with NoMemory.
 fn newest_text(alloc: Global, machine: &Machine, count: u64) -> Result<Vec<u8>, Refusal>
-    ensures text { IfOk result (λ text. IsNewestText count machine.now.trail text.items) }
-    ensures refused { IfErr result (λ e. e ≡ NoMemory) }
+    ensures { GivesText (IsNewestText count machine.now.trail) result }
 {
     let steps = history(alloc, machine, count)?;
-    let mut text = Vec::new(alloc);
-    push_steps(&mut text, steps.as_slice())?;
-    push_count(&mut text, steps.len() as u64)?;
-    Ok(text)
+    counted_lines(alloc, steps.as_slice())
 }
 
 // Returns the answer of `history`. Fails with NoMemory if an allocation fails. Reads each record once.

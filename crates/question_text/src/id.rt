@@ -1,21 +1,14 @@
 //! Ids, as lines have them.
 ghost use Rattle.std.specs.Prelude.{◌≡◌, ◌<◌, ◌^◌, option_and_then};
-ghost use Rattle.std.specs.Str.{bytes_eq};
 ghost use Rattle.question_text.specs.Appends.{Appends};
 ghost use Rattle.question_text.specs.Ids.{and_id, and_reference, hex_digit, hex_from, id_of_word, with_hex};
 
 use crate::rows::push_words;
 use heap_class::Refusal;
+use session_grammar::words::is_word;
 
 // The number of bytes of an id in a line.
 const ID_SIZE: usize = 10;
-
-// Tells whether a word is this one.
-pub(crate) fn is_word(word: &[u8], name: &[u8]) -> bool
-    ensures { result ≡ bytes_eq word.now name.now }
-{
-    word == name
-}
 
 // Returns the value of a lower-case hexadecimal digit.
 fn hex_digit(b: u8) -> Option<u64>

@@ -1,14 +1,14 @@
 //! The answer of `path`.
-ghost use Rattle.std.specs.Prelude.{◌≡◌, Some, IfErr, IfOk, IsSome};
+ghost use Rattle.std.specs.Prelude.{◌≡◌, Some, IsSome};
 ghost use Rattle.heap_class.specs.declared.Refusal.TheVariants.{NoMemory};
 ghost use Rattle.heap_questions.specs.Graph.{IsPathTo, followed, named};
-ghost use Rattle.question_text.specs.Appends.{Appends};
+ghost use Rattle.question_text.specs.Appends.{Appends, GivesText};
 ghost use Rattle.question_text.specs.Moments.{IsToldOf, told_text};
 ghost use Rattle.question_text.specs.Paths.{IsPathText, IsRouteText, root_text, step_text, step_texts};
 
 use crate::id::push_id;
-use crate::referrers::{push_count, push_register};
-use crate::rows::{Unanswered, push_number, push_words};
+use crate::referrers::push_register;
+use crate::rows::{Unanswered, push_count, push_number, push_words};
 use heap_class::Refusal;
 use heap_questions::{ObjectIndex, Path, object_with, shortest_path};
 use hprof_text::View;
@@ -71,9 +71,8 @@ fn push_root(text: &mut Vec<u8>, register: u64, id: u64) -> Result<(), Refusal>
 // Returns the lines of a path to an object. Fails with NoMemory.
 fn route_text<V: View>(alloc: Global, view: &V, path: &Path, id: u64) -> Result<Vec<u8>, Refusal>
     requires { IsPathTo (V.image view.now) path.now.register path.now.slots.items id }
-    ensures text { IfOk result (λ text. IsRouteText (V.image view.now) path.now.register
-        path.now.slots.items text.items) }
-    ensures refused { IfErr result (λ e. e ≡ NoMemory) }
+    ensures { GivesText
+        (IsRouteText (V.image view.now) path.now.register path.now.slots.items) result }
 {
     let start = view.registers()[path.register as usize];
     let index = ObjectIndex::new(alloc, view)?;

@@ -1,14 +1,13 @@
 //! The answer of `pins`.
-ghost use Rattle.std.specs.Prelude.{◌≡◌, flat_map, length, map, IfErr, IfOk};
+ghost use Rattle.std.specs.Prelude.{◌≡◌, flat_map, length, map, IfOk};
 ghost use Rattle.heap_class.specs.declared.Refusal.TheVariants.{NoMemory};
 ghost use Rattle.heap_trail.specs.Listings.{listed_pin};
 ghost use Rattle.session_text.specs.Replies.{cause_text};
-ghost use Rattle.question_text.specs.Appends.{Appends};
+ghost use Rattle.question_text.specs.Appends.{Appends, GivesText};
 ghost use Rattle.question_text.specs.Moments.{told_text};
 ghost use Rattle.question_text.specs.PinLists.{IsPinsText, pin_text, pins_text, status_words};
 
-use crate::referrers::push_count;
-use crate::rows::{Unanswered, push_number, push_row, push_words};
+use crate::rows::{Unanswered, push_count, push_number, push_row, push_words};
 use heap_class::{LostCause, Refusal};
 use heap_trail::{ListedPin, Machine, PinStatus};
 use std::alloc::Global;
@@ -68,8 +67,7 @@ fn push_pins(text: &mut Vec<u8>, machine: &Machine) -> Result<u64, Refusal>
 
 // Returns the lines of the open pins, and their number. Fails with NoMemory.
 fn pins_text(alloc: Global, machine: &Machine) -> Result<Vec<u8>, Refusal>
-    ensures text { IfOk result (λ text. text.items ≡ pins_text machine.now.pins) }
-    ensures refused { IfErr result (λ e. e ≡ NoMemory) }
+    ensures { GivesText (λ text. text ≡ pins_text machine.now.pins) result }
 {
     let mut text = Vec::new(alloc);
     let count = push_pins(&mut text, machine)?;

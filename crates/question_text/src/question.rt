@@ -4,10 +4,10 @@ ghost use Rattle.session_grammar.specs.Grammar.{words_of_line};
 ghost use Rattle.session_grammar.specs.Reads.{IsNextWord};
 ghost use Rattle.question_text.specs.Questions.{at_and_id, at_of_word, id_and_number, next_at, next_id, one_at, one_id, past_rules, question_by, question_of, two_ats};
 
-use crate::id::{id_of, is_word};
+use crate::id::id_of;
 use session_grammar::command::{at_end, next_number, one_number};
 use session_grammar::number::number_of;
-use session_grammar::words::Words;
+use session_grammar::words::{Words, is_word};
 
 /// The state that a question is about.
 #[derive(Clone, Copy, PartialEq, Eq, Debug)]

@@ -1,13 +1,13 @@
 //! The answer of `referrers`.
-ghost use Rattle.std.specs.Prelude.{◌≡◌, flat_map, IfErr, IfOk};
+ghost use Rattle.std.specs.Prelude.{◌≡◌};
 ghost use Rattle.heap_class.specs.declared.Refusal.TheVariants.{NoMemory};
 ghost use Rattle.heap_questions.specs.Referrers.{referrers_of};
-ghost use Rattle.question_text.specs.Appends.{Appends};
+ghost use Rattle.question_text.specs.Appends.{Appends, GivesText};
 ghost use Rattle.question_text.specs.Moments.{IsToldOf, told_text};
-ghost use Rattle.question_text.specs.Referrers.{IsReferrersText, and_register, count_text, referrer_text, referrer_words, referrers_text};
+ghost use Rattle.question_text.specs.Referrers.{IsReferrersText, and_register, referrer_words, referrers_text};
 
 use crate::id::push_id;
-use crate::rows::{Unanswered, push_number, push_words};
+use crate::rows::{Lined, Unanswered, counted_lines, push_number, push_words};
 use heap_class::Refusal;
 use heap_questions::{Referrer, object_with, referrers};
 use heap_world::REGISTERS_EACH;
@@ -20,15 +20,6 @@ pub(crate) fn push_register(text: &mut Vec<u8>, register: u64) -> Result<(), Ref
 {
     push_number(text, register / REGISTERS_EACH)?;
     push_number(text, register % REGISTERS_EACH)
-}
-
-// Appends the last line of an answer that counts its rows. Fails with NoMemory.
-pub(crate) fn push_count(text: &mut Vec<u8>, count: u64) -> Result<(), Refusal>
-    ensures { Appends (count_text count) text.old.items text.new.items result }
-{
-    push_words(text, b"ok")?;
-    push_number(text, count)?;
-    push_words(text, b"\n")
 }
 
 // Appends what names an object. Fails with NoMemory.
@@ -44,37 +35,26 @@ fn push_names(text: &mut Vec<u8>, referrer: Referrer) -> Result<(), Refusal>
     }
 }
 
-// Appends the line of what names an object. Fails with NoMemory.
-#[tactic(auto, unfolding(crate::specs::Referrers::referrer_text))]
-fn push_referrer(text: &mut Vec<u8>, referrer: Referrer) -> Result<(), Refusal>
-    ensures { Appends (referrer_text referrer) text.old.items text.new.items result }
-{
-    push_words(text, b"row")?;
-    push_names(text, referrer)?;
-    push_words(text, b"\n")
-}
+impl Lined for Referrer {
+    ghost use Rattle.question_text.specs.Referrers.{referrer_text};
 
-// Appends the lines of all that names an object. Fails with NoMemory.
-fn push_referrers(text: &mut Vec<u8>, all: &[Referrer]) -> Result<(), Refusal>
-    ensures { Appends (flat_map referrer_text all.now) text.old.items text.new.items result }
-{
-    for referrer in all {
-        push_referrer(text, *referrer)?;
+    ghost line = { referrer_text };
+
+    #[tactic(auto, unfolding(crate::specs::Referrers::referrer_text))]
+    fn push_line(self, text: &mut Vec<u8>) -> Result<(), Refusal> {
+        push_words(text, b"row")?;
+        push_names(text, self)?;
+        push_words(text, b"\n")
     }
-    Ok(())
 }
 
 // Returns the lines of all that names an id, and their number. Fails with NoMemory.
 fn referrer_lines<V: View>(alloc: Global, view: &V, id: u64) -> Result<Vec<u8>, Refusal>
-    ensures text { IfOk result
-        (λ text. text.items ≡ referrers_text (referrers_of (V.image view.now) id)) }
-    ensures refused { IfErr result (λ e. e ≡ NoMemory) }
+    ensures { GivesText
+        (λ text. text ≡ referrers_text (referrers_of (V.image view.now) id)) result }
 {
     let all = referrers(alloc, view, id)?;
-    let mut text = Vec::new(alloc);
-    push_referrers(&mut text, all.as_slice())?;
-    push_count(&mut text, all.len() as u64)?;
-    Ok(text)
+    counted_lines(alloc, all.as_slice())
 }
 
 // Returns the answer of `referrers` about a view. Fails with NoObject if the id names no object, and with NoMemory if an

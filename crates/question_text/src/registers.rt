@@ -1,13 +1,13 @@
 //! The answer of `registers`.
-ghost use Rattle.std.specs.Prelude.{◌≡◌, ◌<◌, All, IfErr, IfOk};
+ghost use Rattle.std.specs.Prelude.{◌≡◌, ◌<◌, All};
 ghost use Rattle.heap_class.specs.declared.Refusal.TheVariants.{NoMemory};
-ghost use Rattle.question_text.specs.Appends.{Appends};
+ghost use Rattle.question_text.specs.Appends.{Appends, GivesText};
 ghost use Rattle.question_text.specs.Registers.{IsRegistersText, NamesKnown, named_words, register_text, register_texts};
 
 use crate::id::push_id;
 use crate::names::push_class_name;
-use crate::referrers::{push_count, push_register};
-use crate::rows::push_words;
+use crate::referrers::push_register;
+use crate::rows::{push_count, push_words};
 use heap_class::{FirstClasses, Refusal};
 use heap_questions::{NamedObject, named_by_registers};
 use hprof_text::View;
@@ -67,8 +67,7 @@ fn push_lines(
 
 // Returns the answer of `registers` about a view. Fails with NoMemory if an allocation fails. Reads each id once.
 pub(crate) fn registers_answer<V: View>(alloc: Global, view: &V) -> Result<Vec<u8>, Refusal>
-    ensures text { IfOk result (λ text. IsRegistersText (V.image view.now) text.items) }
-    ensures refused { IfErr result (λ e. e ≡ NoMemory) }
+    ensures { GivesText (IsRegistersText (V.image view.now)) result }
 {
     let all = named_by_registers(alloc, view)?;
     let classes = view.classes();

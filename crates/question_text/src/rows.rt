@@ -1,12 +1,15 @@
 //! The lines of an answer.
-ghost use Rattle.std.specs.Prelude.{◌≡◌, ◌++◌, codes};
+ghost use Rattle.std.specs.Prelude.{◌≡◌, ◌++◌, codes, flat_map, length};
+ghost use Rattle.heap_class.specs.declared.Refusal.TheVariants.{NoMemory};
 ghost use Rattle.session_text.specs.Replies.{and_number, line_answer_text};
-ghost use Rattle.question_text.specs.Appends.{Appends};
+ghost use Rattle.question_text.specs.Appends.{Appends, GivesText};
 ghost use Rattle.question_text.specs.Moments.{unanswered_text};
+ghost use Rattle.question_text.specs.Referrers.{count_text};
 
 use heap_class::Refusal;
 use heap_trail::Reply;
 use session_text::LineAnswer;
+use std::alloc::Global;
 
 // The reason why a question has no answer.
 #[derive(Clone, Copy, PartialEq, Eq, Debug)]
@@ -63,4 +66,46 @@ pub(crate) fn push_row(text: &mut Vec<u8>, n: u64) -> Result<(), Refusal>
 {
     push_words(text, b"row")?;
     push_number(text, n)
+}
+
+// What an answer has a line for.
+pub(crate) trait Lined: Copy {
+    ghost use Rattle.std.specs.Prelude.{ℕ, List};
+    ghost use Rattle.question_text.specs.Appends.{Appends};
+
+    ghost line: { Self → List ℕ };
+
+    // Appends its line. Fails with NoMemory.
+    fn push_line(self, text: &mut Vec<u8>) -> Result<(), Refusal>
+        ensures { Appends (line self) text.old.items text.new.items result };
+}
+
+// Appends the lines of all. Fails with NoMemory.
+fn push_lines<T: Lined>(text: &mut Vec<u8>, all: &[T]) -> Result<(), Refusal>
+    ensures { Appends (flat_map T.line all.now) text.old.items text.new.items result }
+{
+    for one in all {
+        one.push_line(text)?;
+    }
+    Ok(())
+}
+
+// Appends the last line of an answer that counts its rows. Fails with NoMemory.
+pub(crate) fn push_count(text: &mut Vec<u8>, count: u64) -> Result<(), Refusal>
+    ensures { Appends (count_text count) text.old.items text.new.items result }
+{
+    push_words(text, b"ok")?;
+    push_number(text, count)?;
+    push_words(text, b"\n")
+}
+
+// Returns the lines of all, and their number. Fails with NoMemory.
+pub(crate) fn counted_lines<T: Lined>(alloc: Global, all: &[T]) -> Result<Vec<u8>, Refusal>
+    ensures { GivesText
+        (λ text. text ≡ flat_map T.line all.now ++ count_text (length all.now)) result }
+{
+    let mut text = Vec::new(alloc);
+    push_lines(&mut text, all)?;
+    push_count(&mut text, all.len() as u64)?;
+    Ok(text)
 }

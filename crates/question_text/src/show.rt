@@ -1,8 +1,8 @@
 //! The answer of `show`.
-ghost use Rattle.std.specs.Prelude.{◌≡◌, ◌<◌, ◌≤◌, Some, drop, length, min, IfErr, IfOk, IfSome, slice_get};
+ghost use Rattle.std.specs.Prelude.{◌≡◌, ◌<◌, ◌≤◌, Some, drop, length, min, IfSome, slice_get};
 ghost use Rattle.heap_class.specs.Classes.{fields_of};
 ghost use Rattle.heap_class.specs.declared.Refusal.TheVariants.{NoMemory};
-ghost use Rattle.question_text.specs.Appends.{Appends};
+ghost use Rattle.question_text.specs.Appends.{Appends, GivesText};
 ghost use Rattle.question_text.specs.Moments.{IsToldOf, told_text};
 ghost use Rattle.question_text.specs.Names.{IsClassThere};
 ghost use Rattle.question_text.specs.Objects.{IsShowText, and_value, element_row, element_rows, field_row, field_rows, fields_up, is_marked, mark_text, object_line, object_text, shows_mark, slot_rows, value_text};
@@ -199,8 +199,7 @@ fn object_lines(
     marked: bool,
 ) -> Result<Vec<u8>, Refusal>
     requires { IsClassThere classes.now object.now.kind }
-    ensures text { IfOk result (λ text. text.items ≡ object_text classes.now object.now marked) }
-    ensures refused { IfErr result (λ e. e ≡ NoMemory) }
+    ensures { GivesText (λ text. text ≡ object_text classes.now object.now marked) result }
 {
     let words = object.words();
     let mut text = Vec::new(alloc);

@@ -1,14 +1,14 @@
 //! Commands: the requests of lines.
 ghost use Rattle.std.specs.Prelude.{◌≡◌, ◌≤◌, ◌++◌, length, option_map, MatchResult};
-ghost use Rattle.std.specs.Str.{bytes_eq};
-ghost use Rattle.session_grammar.specs.Grammar.{words_of_line, next_number, next_number_or_dash, next_kind, at_end, one_number, one_number_or_dash, three_numbers, two_numbers, four_numbers, new_line, newarray_line, newprim_line, load_line, store_line, put_line, move_line, clear_line, step_line, sweep_line, rewind_line, open_line, piece_line, dump_line, close_line, end_line, making_rules, access_rules, marking_rules, session_rules, by_rule, without_cr, command_of_text};
+ghost use Rattle.session_grammar.specs.Grammar.{words_of_line, next_number, next_number_or_dash, next_kind, at_end, one_number, one_number_or_dash, three_numbers, two_numbers, four_numbers, newprim_line, step_line, dump_line, end_line, making_rules, access_rules, marking_rules, session_rules, by_rule, without_cr, command_of_text};
 ghost use Rattle.session_grammar.specs.Reads.{TakesMemory, MayTakeMemory, IsNextWord, next_name, plain_class, plain_array, plain_rules};
 ghost use Rattle.session_grammar.specs.declared.TheConstants.{LINE_LIMIT};
 
+use crate::by_word;
 use crate::fields::{copied_all, kind_at, name_at, read_fields};
 use crate::number::{number_at, number_or_dash_at};
 use crate::spans::FieldSpans;
-use crate::words::Words;
+use crate::words::{Words, is_word};
 use heap_class::{Kind, Name};
 use heap_step::Event;
 use heap_trail::Action;
@@ -33,11 +33,16 @@ pub enum Command {
     End,
 }
 
-// Tells whether a word is this one.
-fn is_word(word: &[u8], name: &[u8]) -> bool
-    ensures { result ≡ bytes_eq word.now name.now }
-{
-    word == name
+// Returns the step that the row with this word names, whose parts are the numbers that are read as the row says, or what stands
+// last if no row has the word.
+macro_rules! by_numbers {
+    ($word:expr, $words:expr; $($name:literal => $read:ident as $event:ident { $($part:ident),* },)* _ => $else:expr) => {{
+        $(if is_word($word, $name) {
+            let ($($part),*) = $read($words)?;
+            return Some(Command::Ask(Action::Step(Event::$event { $($part),* })));
+        })*
+        $else
+    }};
 }
 
 /// Reads the number that the next word holds. Returns None if it holds none.
@@ -181,22 +186,6 @@ fn array_line(alloc: Global, mut words: Words) -> Result<Option<Command>, AllocE
     Ok(Some(Command::Ask(Action::Step(Event::ArrayClass { name }))))
 }
 
-// Reads the words of `new M R CLASS`.
-fn new_line(words: Words) -> Option<Command>
-    ensures { result ≡ new_line (words_of_line words.entry) }
-{
-    let (m, r, class) = three_numbers(words)?;
-    Some(Command::Ask(Action::Step(Event::New { m, r, class })))
-}
-
-// Reads the words of `newarray M R CLASS LEN`.
-fn newarray_line(words: Words) -> Option<Command>
-    ensures { result ≡ newarray_line (words_of_line words.entry) }
-{
-    let (m, r, class, len) = four_numbers(words)?;
-    Some(Command::Ask(Action::Step(Event::NewArray { m, r, class, len })))
-}
-
 // Reads the words of `newprim M R KIND LEN`.
 fn newprim_line(mut words: Words) -> Option<Command>
     ensures { result ≡ newprim_line (words_of_line words.entry) }
@@ -211,98 +200,11 @@ fn newprim_line(mut words: Words) -> Option<Command>
     )
 }
 
-// Reads the words of `load M TO FROM SLOT`.
-fn load_line(words: Words) -> Option<Command>
-    ensures { result ≡ load_line (words_of_line words.entry) }
-{
-    let (m, to, from, slot) = four_numbers(words)?;
-    Some(Command::Ask(Action::Step(Event::Load { m, to, from, slot })))
-}
-
-// Reads the words of `store M TARGET SLOT SOURCE`.
-fn store_line(words: Words) -> Option<Command>
-    ensures { result ≡ store_line (words_of_line words.entry) }
-{
-    let (m, target, slot, source) = four_numbers(words)?;
-    Some(Command::Ask(Action::Step(Event::Store {
-        m,
-        target,
-        slot,
-        source,
-    })))
-}
-
-// Reads the words of `put M TARGET SLOT VALUE`.
-fn put_line(words: Words) -> Option<Command>
-    ensures { result ≡ put_line (words_of_line words.entry) }
-{
-    let (m, target, slot, value) = four_numbers(words)?;
-    Some(Command::Ask(Action::Step(Event::Put {
-        m,
-        target,
-        slot,
-        value,
-    })))
-}
-
-// Reads the words of `move M TO FROM_M FROM`.
-fn move_line(words: Words) -> Option<Command>
-    ensures { result ≡ move_line (words_of_line words.entry) }
-{
-    let (m, to, from_m, from) = four_numbers(words)?;
-    Some(Command::Ask(Action::Step(Event::Move {
-        m,
-        to,
-        from_m,
-        from,
-    })))
-}
-
-// Reads the words of `clear M R`.
-fn clear_line(words: Words) -> Option<Command>
-    ensures { result ≡ clear_line (words_of_line words.entry) }
-{
-    let (m, r) = two_numbers(words)?;
-    Some(Command::Ask(Action::Step(Event::Clear { m, r })))
-}
-
 // Returns a step that takes no words, if there are none.
 fn step_line(event: Event, words: Words) -> Option<Command>
     ensures { result ≡ step_line event (words_of_line words.entry) }
 {
     at_end(Command::Ask(Action::Step(event)), words)
-}
-
-// Reads the words of `sweep REGION`.
-fn sweep_line(words: Words) -> Option<Command>
-    ensures { result ≡ sweep_line (words_of_line words.entry) }
-{
-    let region = one_number(words)?;
-    Some(Command::Ask(Action::Step(Event::Sweep { region })))
-}
-
-// Reads the words of `rewind N`.
-fn rewind_line(words: Words) -> Option<Command>
-    ensures { result ≡ rewind_line (words_of_line words.entry) }
-{
-    let n = one_number(words)?;
-    Some(Command::Ask(Action::Rewind(n)))
-}
-
-// Reads the words of `open AT`.
-fn open_line(words: Words) -> Option<Command>
-    ensures { result ≡ open_line (words_of_line words.entry) }
-{
-    let at = one_number_or_dash(words)?;
-    Some(Command::Ask(Action::OpenPin(at)))
-}
-
-// Reads the words of `piece PIN`.
-fn piece_line(words: Words) -> Option<Command>
-    ensures { result ≡ piece_line (words_of_line words.entry) }
-{
-    let pin = one_number(words)?;
-    Some(Command::Piece(pin))
 }
 
 // Reads the words of `dump PIN` or `dump -`.
@@ -313,14 +215,6 @@ fn dump_line(words: Words) -> Option<Command>
         Some(pin) => Some(Command::Dump(pin)),
         None => Some(Command::DumpNow),
     }
-}
-
-// Reads the words of `close PIN`.
-fn close_line(words: Words) -> Option<Command>
-    ensures { result ≡ close_line (words_of_line words.entry) }
-{
-    let pin = one_number(words)?;
-    Some(Command::Ask(Action::ClosePin(pin)))
 }
 
 // Reads the words of `end`, of which there must be none.
@@ -337,16 +231,14 @@ fn making_line(word: &[u8], words: Words) -> Option<Command>
         ≡ by_rule (making_rules ++ (access_rules ++ (marking_rules ++ session_rules))) word.now
         (words_of_line words.entry) }
 {
-    if is_word(word, b"new") {
-        return new_line(words);
-    }
-    if is_word(word, b"newarray") {
-        return newarray_line(words);
-    }
-    if is_word(word, b"newprim") {
-        return newprim_line(words);
-    }
-    access_line(word, words)
+    by_numbers!(word, words;
+        b"new" => three_numbers as New { m, r, class },
+        b"newarray" => four_numbers as NewArray { m, r, class, len },
+        _ => by_word!(word;
+            b"newprim" => newprim_line(words),
+            _ => access_line(word, words)
+        )
+    )
 }
 
 // Reads a line by its first word, if that reads or writes a slot or a register or `marking_line` knows it.
@@ -356,22 +248,14 @@ fn access_line(word: &[u8], words: Words) -> Option<Command>
         ≡ by_rule (access_rules ++ (marking_rules ++ session_rules)) word.now
         (words_of_line words.entry) }
 {
-    if is_word(word, b"load") {
-        return load_line(words);
-    }
-    if is_word(word, b"store") {
-        return store_line(words);
-    }
-    if is_word(word, b"put") {
-        return put_line(words);
-    }
-    if is_word(word, b"move") {
-        return move_line(words);
-    }
-    if is_word(word, b"clear") {
-        return clear_line(words);
-    }
-    marking_line(word, words)
+    by_numbers!(word, words;
+        b"load" => four_numbers as Load { m, to, from, slot },
+        b"store" => four_numbers as Store { m, target, slot, source },
+        b"put" => four_numbers as Put { m, target, slot, value },
+        b"move" => four_numbers as Move { m, to, from_m, from },
+        b"clear" => two_numbers as Clear { m, r },
+        _ => marking_line(word, words)
+    )
 }
 
 // Reads a line by its first word, if that marks or sweeps or `session_line` knows it.
@@ -380,22 +264,14 @@ fn marking_line(word: &[u8], words: Words) -> Option<Command>
     ensures { result
         ≡ by_rule (marking_rules ++ session_rules) word.now (words_of_line words.entry) }
 {
-    if is_word(word, b"snap") {
-        return step_line(Event::Snap, words);
-    }
-    if is_word(word, b"mark") {
-        return step_line(Event::Mark, words);
-    }
-    if is_word(word, b"drain") {
-        return step_line(Event::Drain, words);
-    }
-    if is_word(word, b"finish") {
-        return step_line(Event::Finish, words);
-    }
-    if is_word(word, b"sweep") {
-        return sweep_line(words);
-    }
-    session_line(word, words)
+    by_word!(word;
+        b"snap" => step_line(Event::Snap, words),
+        b"mark" => step_line(Event::Mark, words),
+        b"drain" => step_line(Event::Drain, words),
+        b"finish" => step_line(Event::Finish, words),
+        b"sweep" => Some(Command::Ask(Action::Step(Event::Sweep { region: one_number(words)? }))),
+        _ => session_line(word, words)
+    )
 }
 
 // Reads a line by its first word, if that asks the machine or the session for something.
@@ -403,25 +279,15 @@ fn marking_line(word: &[u8], words: Words) -> Option<Command>
 fn session_line(word: &[u8], words: Words) -> Option<Command>
     ensures { result ≡ by_rule session_rules word.now (words_of_line words.entry) }
 {
-    if is_word(word, b"rewind") {
-        return rewind_line(words);
-    }
-    if is_word(word, b"open") {
-        return open_line(words);
-    }
-    if is_word(word, b"piece") {
-        return piece_line(words);
-    }
-    if is_word(word, b"dump") {
-        return dump_line(words);
-    }
-    if is_word(word, b"close") {
-        return close_line(words);
-    }
-    if is_word(word, b"end") {
-        return end_line(words);
-    }
-    None
+    by_word!(word;
+        b"rewind" => Some(Command::Ask(Action::Rewind(one_number(words)?))),
+        b"open" => Some(Command::Ask(Action::OpenPin(one_number_or_dash(words)?))),
+        b"piece" => Some(Command::Piece(one_number(words)?)),
+        b"dump" => dump_line(words),
+        b"close" => Some(Command::Ask(Action::ClosePin(one_number(words)?))),
+        b"end" => end_line(words),
+        _ => None
+    )
 }
 
 // Reads a line from its first word and the words after it. Returns None if it is none of the grammar's. Fails if an
@@ -437,13 +303,11 @@ fn line_after(
     ensures { MatchResult result (λ c. c ≡ by_rule plain_rules word.now (words_of_line words.entry))
         (λ _. MayTakeMemory (by_rule plain_rules word.now (words_of_line words.entry))) }
 {
-    if is_word(word, b"class") {
-        return class_line(alloc, marks, words);
-    }
-    if is_word(word, b"array") {
-        return array_line(alloc, words);
-    }
-    Ok(making_line(word, words))
+    by_word!(word;
+        b"class" => class_line(alloc, marks, words),
+        b"array" => array_line(alloc, words),
+        _ => Ok(making_line(word, words))
+    )
 }
 
 /// Returns the line without a CR at its end.

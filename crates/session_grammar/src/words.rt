@@ -1,6 +1,7 @@
 //! The words of a line.
 ghost use Rattle.std.specs.Prelude.{◌≡◌, ◌+◌, ◌<◌, ◌≤◌, ◌==◌, not, [], ◌∷◌, length, drop, IfSome, MatchOption};
 ghost use Rattle.std.specs.List.{position};
+ghost use Rattle.std.specs.Str.{bytes_eq};
 ghost use Rattle.session_grammar.specs.Grammar.{words_of_line};
 ghost use Rattle.session_grammar.specs.Reads.{word_size, IsFront, IsRestOf};
 
@@ -14,6 +15,24 @@ pub const SPACE: u8 = b' ';
 #[derive(Drop)]
 pub struct Words<'a> {
     rest: &'a [u8],
+}
+
+/// Returns what the row with this word gives, or what stands last if no row has the word.
+#[macro_export]
+macro_rules! by_word {
+    ($word:expr; $($name:literal => $line:expr,)* _ => $else:expr) => {{
+        $(if $crate::words::is_word($word, $name) {
+            return $line;
+        })*
+        $else
+    }};
+}
+
+/// Tells whether a word is this one.
+pub fn is_word(word: &[u8], name: &[u8]) -> bool
+    ensures { result ≡ bytes_eq word.now name.now }
+{
+    word == name
 }
 
 // Returns the place at which the first word begins.

@@ -21,18 +21,20 @@ rows_text-requires-clause-bytes g c =
     let h = c.in_ok-histogram.ensures.rows in
     (some_rows_small (g.V.View.ids c.args.view.now) (g.V.View.image c.args.view.now) h.0 c.in_ok-histogram.histogram c.classes-classes.ensures.limits h.2).1
 
-pub returns-clause-text : goal.returns-clause-text
-returns-clause-text g c =
+pub returns : goal.returns
+returns g c =
     let v = c.args.view.now in
     let image = g.V.View.image v in
     let rows = c.in_ok-histogram.histogram in
-    let h = c.in_ok-histogram.ensures.rows in
-    IfOk-weaker c.rows_text.result (λ text. IsRowsText c.classes-classes.result rows (sum_of rows) text.items)
-    (λ text. IsGarbageText (g.V.View.ids v) image text.items)
-    (λ text told. (
-      h.0,
-      h.1,
-      as_count (g.V.View.ids v) image.classes (filter h.0 image.objects) rows text.items h.2
-          (some_countable image.classes h.0 image.objects (countable image c.classes-classes.ensures.limits))
-          (subst (λ (cs : List Class). IsRowsText cs rows (sum_of rows) text.items) c.classes-classes.ensures.value told),
-    )) c.rows_text.ensures.text
+    let h = c.in_ok-histogram.ensures.rows in (
+      IfOk-weaker c.rows_text.result (λ text. IsRowsText c.classes-classes.result rows (sum_of rows) text.items)
+          (λ text. IsGarbageText (g.V.View.ids v) image text.items)
+          (λ text told. (
+            h.0,
+            h.1,
+            as_count (g.V.View.ids v) image.classes (filter h.0 image.objects) rows text.items h.2
+                (some_countable image.classes h.0 image.objects (countable image c.classes-classes.ensures.limits))
+                (subst (λ (cs : List Class). IsRowsText cs rows (sum_of rows) text.items) c.classes-classes.ensures.value told),
+          )) c.rows_text.ensures.0,
+      c.rows_text.ensures.1,
+    )

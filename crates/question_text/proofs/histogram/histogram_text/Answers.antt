@@ -15,12 +15,14 @@ rows_text-requires-clause-objects g c = (all_rows_small (g.V.View.ids c.args.vie
 pub rows_text-requires-clause-bytes : goal.rows_text-requires-clause-bytes
 rows_text-requires-clause-bytes g c = (all_rows_small (g.V.View.ids c.args.view.now) (g.V.View.image c.args.view.now) c.in_ok-histogram.histogram c.classes-classes.ensures.limits c.in_ok-histogram.ensures.rows).1
 
-pub returns-clause-text : goal.returns-clause-text
-returns-clause-text g c =
+pub returns : goal.returns
+returns g c =
     let v = c.args.view.now in
     let image = g.V.View.image v in
-    let rows = c.in_ok-histogram.histogram in
-    IfOk-weaker c.rows_text.result (λ text. IsRowsText c.classes-classes.result rows (sum_of rows) text.items)
-    (λ text. IsHistogramText (g.V.View.ids v) image text.items)
-    (λ text h. as_count (g.V.View.ids v) image.classes image.objects rows text.items c.in_ok-histogram.ensures.rows (countable image c.classes-classes.ensures.limits)
-    (subst (λ (cs : List Class). IsRowsText cs rows (sum_of rows) text.items) c.classes-classes.ensures.value h)) c.rows_text.ensures.text
+    let rows = c.in_ok-histogram.histogram in (
+      IfOk-weaker c.rows_text.result (λ text. IsRowsText c.classes-classes.result rows (sum_of rows) text.items)
+          (λ text. IsHistogramText (g.V.View.ids v) image text.items)
+          (λ text h. as_count (g.V.View.ids v) image.classes image.objects rows text.items c.in_ok-histogram.ensures.rows (countable image c.classes-classes.ensures.limits)
+          (subst (λ (cs : List Class). IsRowsText cs rows (sum_of rows) text.items) c.classes-classes.ensures.value h)) c.rows_text.ensures.0,
+      c.rows_text.ensures.1,
+    )

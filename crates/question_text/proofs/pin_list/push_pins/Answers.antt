@@ -1,4 +1,4 @@
-use Rattle.std.proofs.Common.{◌≡◌, ◌∙◌, ◌+◌, ◌++◌, List, Some, ap, arith, map, sym, take}
+use Rattle.std.proofs.Common.{◌≡◌, ◌∙◌, ◌++◌, List, Some, ap, arith, map, sym, take}
 use Rattle.std.specs.Prelude.{flat_map, option_map, slice_get}
 use Rattle.std.proofs.lemmas.List.{flat_map_more}
 use Rattle.heap_trail.specs.declared.listing.ListedPin.{ListedPin}

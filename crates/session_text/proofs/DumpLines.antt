@@ -91,23 +91,25 @@ Onward {S} acts pin time start number c total text = (n : ℕ) (more : List ℕ)
 pub onward_none : {S : Type 0} (acts : Acts S) (pin time : ℕ) (c : S) → Onward acts pin time c 0 c 0 []
 onward_none acts pin time c n more c' d = let e : n ≡ 0 + n = omega arith in subst (λ k. Dumps acts pin time k c 0 more c') e d
 
-pub onward_piece : {S : Type 0} (acts : Acts S) (pin time : ℕ) (start : S) (number : ℕ) (c : S) (total : ℕ) (text : List ℕ) (p : Piece) (r : Reply) (c1 : S) (total' : ℕ)
-    → Onward acts pin time start number c total text → acts c (NextPiece pin time) r c1 → piece_in r ≡ Some p → p.last ≡ false → total' ≡ total + length p.bytes → Onward acts pin time start (number + 1) c1 total' (text ++ data_lines p.bytes)
-onward_piece acts pin time start number c total text p r c1 total' o given is last e n more c' d =
-    let count : number + suc n ≡ (number + 1) + n = omega arith in
-    let made = o (suc n) (data_lines p.bytes ++ more) c' (piece_then acts pin time n c total p r c1 more c' given is last (subst (λ t. Dumps acts pin time n c1 t more c') e d)) in
-    subst (λ k. Dumps acts pin time k start 0 ((text ++ data_lines p.bytes) ++ more) c') count (subst (λ l. Dumps acts pin time (number + suc n) start 0 l c') (sym (append_assoc text (data_lines p.bytes) more)) made)
-
 -- the pieces before one, it, and those that may come after it make the limit
 room_for : (number : ℕ) → number < 66178 → number + suc (66177 - number) ≡ 66178
 room_for number h = omega (arith, h)
 
-pub dump_last : {S : Type 0} (acts : Acts S) (pin time : ℕ) (start : S) (number : ℕ) (c : S) (total : ℕ) (text : List ℕ) (p : Piece) (r : Reply) (c1 : S) (total' : ℕ)
-    → Onward acts pin time start number c total text → number < 66178 → acts c (NextPiece pin time) r c1 → piece_in r ≡ Some p → p.last ≡ true → total' ≡ total + length p.bytes → Dumps acts pin time 66178 start 0 ((text ++ data_lines p.bytes) ++ total_line total') c1
-dump_last acts pin time start number c total text p r c1 total' o less given is last e =
+-- what a piece leads to: the whole dump, if it is the last, or the pieces behind it
+abbrev pub AfterPiece : {S : Type 0} → Acts S → ℕ → ℕ → S → ℕ → S → ℕ → List ℕ → Bool → Type 0
+AfterPiece acts pin time start number c total text true = Dumps acts pin time 66178 start 0 (text ++ total_line total) c
+AfterPiece acts pin time start number c total text false = Onward acts pin time start (number + 1) c total text
+
+pub after_piece : {S : Type 0} (acts : Acts S) (pin time : ℕ) (start : S) (number : ℕ) (c : S) (total : ℕ) (text : List ℕ) (p : Piece) (r : Reply) (c1 : S) (total' : ℕ) (last : Bool)
+    → Onward acts pin time start number c total text → number < 66178 → acts c (NextPiece pin time) r c1 → piece_in r ≡ Some p → p.last ≡ last → total' ≡ total + length p.bytes → AfterPiece acts pin time start number c1 total' (text ++ data_lines p.bytes) last
+after_piece acts pin time start number c total text p r c1 total' true o less given is last e =
     let made = o (suc (66177 - number)) (data_lines p.bytes ++ total_line total') c1 (subst (λ t. Dumps acts pin time (suc (66177 - number)) c total (data_lines p.bytes ++ total_line t) c1) (sym e) (piece_last acts pin time (66177 - number) c total p r c1 given is last)) in
     subst (λ k. Dumps acts pin time k start 0 ((text ++ data_lines p.bytes) ++ total_line total') c1) (room_for number less)
     (subst (λ l. Dumps acts pin time (number + suc (66177 - number)) start 0 l c1) (sym (append_assoc text (data_lines p.bytes) (total_line total'))) made)
+after_piece acts pin time start number c total text p r c1 total' false o less given is last e = λ n more c' d.
+    let count : number + suc n ≡ (number + 1) + n = omega arith in
+    let made = o (suc n) (data_lines p.bytes ++ more) c' (piece_then acts pin time n c total p r c1 more c' given is last (subst (λ t. Dumps acts pin time n c1 t more c') e d)) in
+    subst (λ k. Dumps acts pin time k start 0 ((text ++ data_lines p.bytes) ++ more) c') count (subst (λ l. Dumps acts pin time (number + suc n) start 0 l c') (sym (append_assoc text (data_lines p.bytes) more)) made)
 
 pub dump_refused : {S : Type 0} (acts : Acts S) (pin time : ℕ) (start : S) (number : ℕ) (c : S) (total : ℕ) (text : List ℕ) (r : Reply) (c1 : S)
     → Onward acts pin time start number c total text → number < 66178 → acts c (NextPiece pin time) r c1 → piece_in r ≡ None → Dumps acts pin time 66178 start 0 (text ++ reply_text r) c1
@@ -135,10 +137,10 @@ writes_whole acts pin time c c' text page a page' b r d h = writes_text (DumpsPi
 cut_in : {S : Type 0} (acts : Acts S) (pin time : ℕ) (start : S) (number : ℕ) (c : S) (total : ℕ) (text : List ℕ) (p : Piece) (r : Reply) (c1 : S) (page : List ℕ) (a : Outgoing) (page' : List ℕ) (b : Outgoing) (last : Bool)
     → Onward acts pin time start number c total text → number < 66178 → acts c (NextPiece pin time) r c1 → piece_in r ≡ Some p → p.last ≡ last → IsTextAdded (text ++ data_lines p.bytes) page a page' b false → WritesDump (DumpsPin acts pin time) start c1 page a page' b false
 cut_in acts pin time start number c total text p r c1 page a page' b true o less given is last h =
-    writes_whole acts pin time start c1 ((text ++ data_lines p.bytes) ++ total_line (total + length p.bytes)) page a page' b false (dump_last acts pin time start number c total text p r c1 (total + length p.bytes) o less given is last refl)
+    writes_whole acts pin time start c1 ((text ++ data_lines p.bytes) ++ total_line (total + length p.bytes)) page a page' b false (after_piece acts pin time start number c total text p r c1 (total + length p.bytes) true o less given is last refl)
     (added_short (text ++ data_lines p.bytes) (total_line (total + length p.bytes)) page a page' b page' h)
 cut_in acts pin time start number c total text p r c1 page a page' b false o less given is last h =
-    let d = onward_piece acts pin time start number c total text p r c1 (total + length p.bytes) o given is last refl 0 [] c1 (refl, refl) in
+    let d = after_piece acts pin time start number c total text p r c1 (total + length p.bytes) false o less given is last refl 0 [] c1 (refl, refl) in
     ((number + 1) + 0, (text ++ data_lines p.bytes) ++ [], omega (arith, less), d, added_short (text ++ data_lines p.bytes) [] page a page' b page' h)
 
 -- a write failed in a piece's data lines

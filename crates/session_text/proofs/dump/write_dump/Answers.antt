@@ -3,7 +3,7 @@ use Rattle.session_text.specs.Dumps.{total_line}
 use Rattle.session_text.specs.Replies.{reply_text, data_lines}
 use Rattle.session_text.specs.Writes.{IsTextAdded}
 use Rattle.session_text.proofs.PageTexts.{added_more}
-use Rattle.session_text.proofs.DumpLines.{small_piece, onward_piece, dump_last, dump_refused, dump_over, writes_whole, writes_cut}
+use Rattle.session_text.proofs.DumpLines.{small_piece, after_piece, dump_refused, dump_over, writes_whole, writes_cut}
 use Rattle.session_text.proofs.dump.write_dump.Goals as goal
 
 pub returns-in_default : goal.returns-in_default
@@ -39,7 +39,7 @@ returns-then-piece g c =
     let left = c.act-reply.new.self in
     let total = c.loop-number.total + length c.as_slice-in-loop-number.result.now in
     let w : IsTextAdded (data_lines p.bytes) c.loop-number.page (g.O.Outlet.seen c.loop-number.outlet) c.write_data.new.page b true = subst (λ l. IsTextAdded (data_lines l) c.loop-number.page (g.O.Outlet.seen c.loop-number.outlet) c.write_data.new.page b true) c.as_slice.ensures c.if-not-write_data.ensures in
-    let d = dump_last acts c.args.pin c.args.time c.args.commands.now c.loop-number.number c.loop-number.commands c.loop-number.total i.1 p c.act-reply.result left total i.3
+    let d = after_piece acts c.args.pin c.args.time c.args.commands.now c.loop-number.number c.loop-number.commands c.loop-number.total i.1 p c.act-reply.result left total true i.3
     (omega (arith, c.loop-number-test.true)) c.act-reply.ensures.acts c.in-Some.ensures c.if-piece.true (ap (λ l. c.loop-number.total + length l) c.as_slice-in-loop-number.ensures) in
     let lines = added_more i.1 (data_lines p.bytes) c.args.page.now a c.loop-number.page (g.O.Outlet.seen c.loop-number.outlet) c.write_data.new.page b true i.2 w in
     writes_whole acts c.args.pin c.args.time c.args.commands.now left ((i.1 ++ data_lines p.bytes) ++ total_line total) c.args.page.now a c.write_total.new.page (g.O.Outlet.seen c.write_total.new.outlet) c.write_total.result d
@@ -56,7 +56,7 @@ loop-number-preserved g c =
       omega (arith, i.0, small_piece c.act-reply.result p c.act-reply.ensures.small c.in-Some.ensures, ap (λ l. length l) c.as_slice-in-loop-number.ensures),
       i.1 ++ data_lines p.bytes,
       added_more i.1 (data_lines p.bytes) c.args.page.now a c.loop-number.page (g.O.Outlet.seen c.loop-number.outlet) c.write_data.new.page b true i.2 w,
-      onward_piece g.C.Commands.acts c.args.pin c.args.time c.args.commands.now c.loop-number.number c.loop-number.commands c.loop-number.total i.1 p c.act-reply.result c.act-reply.new.self total i.3
+      after_piece g.C.Commands.acts c.args.pin c.args.time c.args.commands.now c.loop-number.number c.loop-number.commands c.loop-number.total i.1 p c.act-reply.result c.act-reply.new.self total false i.3 (omega (arith, c.loop-number-test.true))
           c.act-reply.ensures.acts c.in-Some.ensures c.if-piece.false (ap (λ l. c.loop-number.total + length l) c.as_slice-in-loop-number.ensures),
     )
 

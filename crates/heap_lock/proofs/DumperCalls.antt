@@ -32,13 +32,13 @@ refused_moves m m' a e (inl is) same = done_moves m m' a (Refused e) is
 refused_moves m m' a e (inr t) same = (Denied, t.0, λ i. (sym same i, Refused (sym t.1 i)))
 
 all_as : (l l' : Ledger) (calls : List Call) → CallsAs l l' calls → all_in l' ≡ calls
-all_as l l' calls as' = ap (λ m. calls_of m.0) as'.2
+all_as l l' calls as' = ap (λ m. calls_of m.0) as'.1.1
 
 -- a ledger that has these calls now
 pub gained : (config : HeapSettings) (table : TableId) (m : Machine) (es : List Entry) (l l' : Ledger) (calls : List Call) → HasCalls table (all_in l) l → IsLedger config m es calls → CallsAs l l' calls → HasLedger config table m es l'
 gained config table m es l l' calls has is as' =
     let all = all_as l l' calls as' in
-    ((has.0, as'.0 ∙ has.1, as'.1 ∙ has.2, as'.2 ∙ ap (λ cs. (Full cs, [])) (sym all)), subst (IsLedger config m es) (sym all) is)
+    ((has.0, as'.0 ∙ has.1, (as'.1.0 ∙ has.2.0, as'.1.1 ∙ ap (λ cs. (Full cs, [])) (sym all))), subst (IsLedger config m es) (sym all) is)
 
 -- a ledger that gained the call of an act has all calls
 pub acted_has : (config : HeapSettings) (table : TableId) (m m' : Machine) (es : List Entry) (l l' : Ledger) (e : Entry) → HasLedger config table m es l → is_dump_action e.action ≡ false → MayReply m e.action m' (reply_of e.answer)

@@ -1,5 +1,5 @@
 -- Cycles, one after another.
-use Rattle.std.specs.Prelude.{◌≡◌, ℕ, suc, zero, ◌<◌, ◌-◌, ◌^◌, [], ◌∷◌, ◌++◌}
+use Rattle.std.specs.Prelude.{◌≡◌, ℕ, suc, zero, ◌<◌, ◌-◌, ◌^◌, [], ◌∷◌, ◌++◌, Result, IfOk, IfErr}
 use Rattle.heap_lock.specs.HeapLimits.{HeapSettings}
 use Rattle.heap_lock.specs.Event.TheVariants as Events
 use Rattle.heap_lock.specs.Action.TheVariants.{Step}
@@ -22,6 +22,14 @@ abbrev pub HaltsWithin : (ActorState → ActorState → Type 0)
     → (ActorState → Halt → ActorState → Type 0) → ℕ → ActorState → Halt → ActorState → Type 0
 HaltsWithin Takes Stops n a h a' =
     (k : ℕ) × (b : ActorState) × (k < n) × StepsInTurn Takes k a b × Stops b h a'
+
+-- so many steps, or a halt within them
+abbrev pub TakesTurns : (ActorState → ActorState → Type 0)
+    → (ActorState → Halt → ActorState → Type 0) → ℕ → ActorState → Result Unit Halt → ActorState
+    → Type 0
+TakesTurns Takes Stops n a result a' =
+    IfOk result (λ _. StepsInTurn Takes n a a')
+    × IfErr result (λ h. HaltsWithin Takes Stops n a h a')
 
 -- the turns of a worker that has no limit
 abbrev pub all_turns : ℕ
@@ -53,3 +61,11 @@ HaltsSweeping config a (Denied d) a' = IsActorIdle Sweeper a d a'
 HaltsSweeping config a (Marking end) a' = ⊥
 HaltsSweeping config a (Sweeping end) a' =
     IsSweepWork config a.seat a'.seat all_turns end × (a'.claims ≡ a.claims)
+
+-- so many cycles were marked, or fewer and then it halts
+abbrev pub MarksCycles : HeapSettings → ℕ → ActorState → Result Unit Halt → ActorState → Type 0
+MarksCycles config = TakesTurns (MarksCycle config) (HaltsMarking config)
+
+-- so many cycles were swept, or fewer and then it halts
+abbrev pub SweepsCycles : HeapSettings → ℕ → ActorState → Result Unit Halt → ActorState → Type 0
+SweepsCycles config = TakesTurns (SweepsCycle config) (HaltsSweeping config)

@@ -1,6 +1,5 @@
 //! Cycles one after another, at the pace of the mutators.
-ghost use Rattle.std.specs.Prelude.{IfOk, IfErr};
-ghost use Rattle.heap.specs.Cycles.{HaltsMarking, HaltsSweeping, HaltsWithin, StepsInTurn, MarksCycle, SweepsCycle};
+ghost use Rattle.heap.specs.Cycles.{MarksCycles, SweepsCycles};
 
 use crate::actor::{Actor, Denial};
 use crate::pace::Pace;
@@ -25,10 +24,7 @@ impl<'a, L: Heap, R: Wait> Actor<'a, L, R> {
     /// Marks `cycles` cycles as `mark_cycle` does, each once the pace allows it, and keeps the claims of their ends. Fails at the
     /// first that it can't finish, and says why. May wait.
     pub fn mark_cycles(&mut self, pace: &Pace, cycles: u64) -> Result<(), Halt>
-        ensures marked { IfOk result
-            (λ _. StepsInTurn (MarksCycle L.config) cycles self.old self.new) }
-        ensures halted { IfErr result (λ h. HaltsWithin (MarksCycle L.config)
-            (HaltsMarking L.config) cycles self.old h self.new) }
+        ensures { MarksCycles L.config cycles self.old result self.new }
     {
         for cycle in 0..cycles {
             pace.begin_marking(cycle).ok_or(Halt::GaveUp)?;
@@ -44,10 +40,7 @@ impl<'a, L: Heap, R: Wait> Actor<'a, L, R> {
     /// Sweeps all regions after each of `cycles` cycles as `sweep_regions` does, once the pace allows it, and keeps no claims. Fails
     /// at the first cycle after which it can't sweep all, and says why. May wait.
     pub fn sweep_cycles(&mut self, pace: &Pace, cycles: u64) -> Result<(), Halt>
-        ensures swept { IfOk result
-            (λ _. StepsInTurn (SweepsCycle L.config) cycles self.old self.new) }
-        ensures halted { IfErr result (λ h. HaltsWithin (SweepsCycle L.config)
-            (HaltsSweeping L.config) cycles self.old h self.new) }
+        ensures { SweepsCycles L.config cycles self.old result self.new }
     {
         for cycle in 0..cycles {
             pace.begin_sweeping(cycle).ok_or(Halt::GaveUp)?;

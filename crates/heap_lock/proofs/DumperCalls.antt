@@ -1,6 +1,5 @@
 -- A dumper's call moves the machine and leaves what else lies under the lock.
 use Rattle.std.proofs.Common.{◌≡◌, List, [], ◌∷◌, ◌++◌, true, false, Result, Ok, Err, IfOk, IfErr, OnErr, refl, sym, ap, ◌∙◌, subst, inl, inr}
-use mathlib.Core.List.{IsPrefix}
 use Rattle.atomic_table.specs.Seated.{TableId}
 use Rattle.heap_class.specs.declared.Refusal.{Refusal}
 use Rattle.heap_world.specs.Limits.{HeapSettings}
@@ -14,7 +13,7 @@ use Rattle.heap_lock.specs.declared.ledger.Ledger.{Ledger}
 use Rattle.atomic_table.specs.declared.badge.Badge.{Badge}
 use Rattle.heap_lock.specs.declared.sight.Sight.{Sight}
 use Rattle.heap_lock.specs.declared.sight.Sight.TheVariants.{Full, Seen}
-use Rattle.heap_lock.specs.Calls.{Call, call_of, IsLedger, IsLegalLedger, Witnesses}
+use Rattle.heap_lock.specs.Calls.{Call, call_of, IsLedger, IsLegalLedger}
 use Rattle.heap_chronicle.specs.History.{reply_of}
 use Rattle.heap_lock.specs.Sights.{calls_of}
 use Rattle.heap_lock.specs.Ledgers.{table_of, all_in, calls_in, HasCalls, HasLedger, IsSight, CallsAs}
@@ -32,13 +31,13 @@ refused_moves m m' a e (inl is) same = done_moves m m' a (Refused e) is
 refused_moves m m' a e (inr t) same = (Denied, t.0, λ i. (sym same i, Refused (sym t.1 i)))
 
 all_as : (l l' : Ledger) (calls : List Call) → CallsAs l l' calls → all_in l' ≡ calls
-all_as l l' calls as' = ap (λ m. calls_of m.0) as'.2
+all_as l l' calls as' = ap (λ m. calls_of m.0) as'.1.1
 
 -- a ledger that has these calls now
 pub gained : (config : HeapSettings) (table : TableId) (m : Machine) (es : List Entry) (l l' : Ledger) (calls : List Call) → HasCalls table (all_in l) l → IsLedger config m es calls → CallsAs l l' calls → HasLedger config table m es l'
 gained config table m es l l' calls has is as' =
     let all = all_as l l' calls as' in
-    ((has.0, as'.0 ∙ has.1, as'.1 ∙ has.2, as'.2 ∙ ap (λ cs. (Full cs, [])) (sym all)), subst (IsLedger config m es) (sym all) is)
+    ((has.0, as'.0 ∙ has.1, (as'.1.0 ∙ has.2.0, as'.1.1 ∙ ap (λ cs. (Full cs, [])) (sym all))), subst (IsLedger config m es) (sym all) is)
 
 -- a ledger that gained the call of an act has all calls
 pub acted_has : (config : HeapSettings) (table : TableId) (m m' : Machine) (es : List Entry) (l l' : Ledger) (e : Entry) → HasLedger config table m es l → is_dump_action e.action ≡ false → MayReply m e.action m' (reply_of e.answer)
@@ -90,12 +89,3 @@ pub sighted : (config : HeapSettings) (tables : List TableId) (table : TableId) 
 sighted config tables table m es desks l b k has s =
     let here : calls_in b.views ≡ all_in l = ap calls_in s.1 in
     ((s.0 ∙ has.0.1, s.1 ∙ ap (λ (cs : List Call). Seen cs ∷ []) (sym here)), subst (IsLegalLedger config) (sym here) (legal_of config tables table m es desks l k has))
-
--- what a witness knows of a call that is the last of the calls that it is shown
-pub witnessed : {A : Type 0} (config : HeapSettings) (k l : LockState) (a : Action) (reply : A → Reply) (r : Result A Refusal) (before after : List Call)
-    → IsPrefix before k.ledger → after ≡ l.ledger → IsLegalLedger config l.ledger → IfOk r (λ p. IsDumperAct a k (reply p) l) → IfErr r (λ e. IsDumperAct a k (Refused e) l)
-    → IfOk r (λ p. Witnesses config before a (reply p) after) × IfErr r (λ e. Witnesses config before a (Refused e) after)
-witnessed config k l a reply (Ok p) before after begins is legal done refused =
-    ((begins.0, is ∙ done.2 ∙ ap (λ cs. cs ++ (a, reply p) ∷ []) (sym begins.1), subst (IsLegalLedger config) (sym is) legal), tt)
-witnessed config k l a reply (Err e) before after begins is legal done refused =
-    (tt, (begins.0, is ∙ refused.2 ∙ ap (λ cs. cs ++ (a, Refused e) ∷ []) (sym begins.1), subst (IsLegalLedger config) (sym is) legal))

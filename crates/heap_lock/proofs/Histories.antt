@@ -37,6 +37,12 @@ unfolding history_trail
 goes_on keep t [] e legal due = (due, tt)
 goes_on keep t (f ∷ es) e legal due = (legal.0, goes_on keep (trail_after keep t f.action) es e legal.1 due)
 
+-- the last entry of a legal history is due there
+pub last_due : (keep : ℕ) (t : Trail) (es : List Entry) (e : Entry) → IsLegalHistory keep t (es ++ e ∷ []) → IsDue keep (history_trail keep t es) e
+unfolding history_trail
+last_due keep t [] e h = h.0
+last_due keep t (f ∷ es) e h = last_due keep (trail_after keep t f.action) es e h.1
+
 pub ends_at : (keep : ℕ) (t : Trail) (es : List Entry) (e : Entry) → history_trail keep t (es ++ e ∷ []) ≡ trail_after keep (history_trail keep t es) e.action
 unfolding history_trail
 ends_at keep t [] e = refl

@@ -98,9 +98,9 @@ opens_here config m ds opened fresh = record {
 pub opens_ledger : (config config' : HeapSettings) (table : TableId) (m : Machine) (l : Ledger) → config ≡ config' → table_of l ≡ table → m ≡ opening_machine config.ids config.regions config.mutators config.keep → HasCalls (table_of l) [] l → HasLedger config' table m [] l
 opens_ledger config config' table m l same is opened has =
     let calls : HasCalls (table_of l) [] l = has in
-    gained config' table m [] l l [] (subst (λ t. HasCalls t (all_in l) l) is (calls.0, calls.1, calls.2, calls.3 ∙ ap (λ cs. (Full cs, [])) (sym (ap (λ x. calls_of x.0) calls.3))))
+    gained config' table m [] l l [] (subst (λ t. HasCalls t (all_in l) l) is (calls.0, calls.1, (calls.2.0, calls.2.1 ∙ ap (λ cs. (Full cs, [])) (sym (ap (λ x. calls_of x.0) calls.2.1)))))
     (subst (λ (x : HeapSettings × Machine). IsLedger x.0 x.1 [] []) (λ i. (same i, sym opened i)) (none_yet config))
-    (refl, refl, calls.3)
+    (refl, (refl, calls.2.1))
 
 -- a blank heap may be kept, with nothing done yet
 pub opens : (config config' : HeapSettings) (tables : List TableId) (m : Machine) (ds : List Desk) → config ≡ config' → tables_of ds ≡ tables → m ≡ opening_machine config.ids config.regions config.mutators config.keep → AllFresh ds → IsUnderLock config' tables m [] ds

@@ -40,6 +40,17 @@ chair_of s = record { number = s.number; role = s.role; share = tally_in s.share
 abbrev pub tables_of : List Desk → List TableId
 tables_of desks = map (λ d. d.table.shared.table_id) desks
 
+-- a heap that is made of these settings, desks, ledger and seats
+abbrev pub maker_of : HeapSettings → Bool → List Desk → Ledger → List Stub → Maker
+maker_of config rolls desks ledger stubs =
+    record {
+      config = config;
+      rolls = rolls;
+      tables = tables_of desks;
+      ledger = table_of ledger;
+      seats = map chair_of stubs;
+    }
+
 -- each half of a seat fits its table
 abbrev pub AllStubs : List TableId → List Stub → Type 0
 AllStubs tables [] = Unit {0}

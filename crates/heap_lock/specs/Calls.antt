@@ -1,10 +1,11 @@
 -- Calls: what was asked of a heap, each with what it replied, dumps too.
-use Rattle.std.specs.Prelude.{◌≡◌, not, List, [], ◌∷◌, ◌++◌, map, filter}
+use Rattle.std.specs.Prelude.{◌≡◌, not, List, [], ◌∷◌, ◌++◌, map, filter, Result, IfOk, IfErr}
+use Rattle.heap_class.specs.declared.Refusal.{Refusal}
 use Rattle.heap_world.specs.Limits.{HeapSettings}
 use Rattle.heap_trail.specs.declared.Action.{Action}
 use Rattle.heap_trail.specs.declared.Action.TheVariants.{Rewind}
 use Rattle.heap_trail.specs.declared.Reply.{Reply}
-use Rattle.heap_trail.specs.declared.Reply.TheVariants.{Place}
+use Rattle.heap_trail.specs.declared.Reply.TheVariants.{Place, Refused}
 use Rattle.heap_trail.specs.Machine.{Machine, MayDrive, opening_machine, is_dump_action}
 use Rattle.heap_chronicle.specs.declared.entry.Entry.{Entry}
 use Rattle.heap_chronicle.specs.History.{reply_of, opening, IsLegalHistory}
@@ -48,3 +49,9 @@ abbrev pub Witnesses : HeapSettings → List Call → Action → Reply → List 
 Witnesses config before action reply after =
     (between : List Call) × (after ≡ (before ++ between) ++ (action, reply) ∷ [])
     × IsLegalLedger config after
+
+-- a call with this result is the last of all calls, with the reply that its result is
+pub record IsWitnessed {A : Type 0} (config : HeapSettings) (before : List Call) (action : Action)
+    (reply : A → Reply) (result : Result A Refusal) (after : List Call) : Type 0 where
+  pub done : IfOk result (λ a. Witnesses config before action (reply a) after)
+  pub refused : IfErr result (λ e. Witnesses config before action (Refused e) after)

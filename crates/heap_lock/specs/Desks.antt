@@ -5,6 +5,7 @@ use Rattle.atomic_table.specs.declared.badge.Badge.{Badge}
 use Rattle.heap_lock.specs.declared.desk.Desk.{Desk}
 use Rattle.heap_lock.specs.declared.view.SeatView.{SeatView}
 use Rattle.heap_lock.specs.declared.view.SeatView.TheVariants.{Whole, Book, Share}
+use Rattle.heap_lock.specs.TableSeats.{IsBadgeOf, IsSeatOf}
 use Rattle.heap_lock.specs.Tally.{TurnedEntry, tally_of}
 
 -- the table of a desk
@@ -13,24 +14,21 @@ table_of d = d.table.shared.table_id
 
 -- no share is split off yet, and nothing is noted
 abbrev pub IsUnsplit : Desk → Type 0
-IsUnsplit d =
-    ((table_of d).words ≡ 1) × (d.book.table_id ≡ table_of d) × (d.book.me ≡ (Whole [] [], []))
+IsUnsplit d = ((table_of d).words ≡ 1) × IsSeatOf (table_of d) (Whole [] []) d.book
 
 -- the share is split off, and the book has its list
 abbrev pub HasBook : Desk → Type 0
 HasBook d =
-    ((table_of d).words ≡ 1) × (d.book.table_id ≡ table_of d)
-    × (d.book.me ≡ (Book (tally_of d.book.me.0), []))
+    ((table_of d).words ≡ 1) × IsSeatOf (table_of d) (Book (tally_of d.book.me.0)) d.book
 
 -- the same tables, and a book with this list
 abbrev pub BooksAs : Desk → Desk → List TurnedEntry → Type 0
 BooksAs d d' marks =
-    (table_of d' ≡ table_of d) × (d'.book.table_id ≡ d.book.table_id)
-    × (d'.book.me ≡ (Book marks, []))
+    (table_of d' ≡ table_of d) × IsSeatOf d.book.table_id (Book marks) d'.book
 
 -- a share of this table with this list
 abbrev pub IsShare : TableId → List TurnedEntry → Badge SeatView → Type 0
-IsShare table marks b = (b.table_id ≡ table) × (b.views ≡ Share marks ∷ [])
+IsShare table marks b = IsBadgeOf table (Share marks) b
 
 -- the list of the book with an entry more
 abbrev pub book_with : Desk → TurnedEntry → List TurnedEntry

@@ -9,6 +9,7 @@ use Rattle.heap_lock.specs.declared.ledger.Ledger.{Ledger}
 use Rattle.heap_lock.specs.declared.sight.Sight.{Sight}
 use Rattle.heap_lock.specs.declared.sight.Sight.TheVariants.{Full, Seen}
 use Rattle.heap_lock.specs.Calls.{Call, IsLedger}
+use Rattle.heap_lock.specs.TableSeats.{IsBadgeOf, IsSeatOf}
 use Rattle.heap_lock.specs.Sights.{calls_of}
 
 -- the table of a ledger
@@ -27,18 +28,16 @@ calls_in (v ∷ vs) = calls_of v
 -- a ledger of this table with these calls
 abbrev pub HasCalls : TableId → List Call → Ledger → Type 0
 HasCalls table calls l =
-    (table.words ≡ 1) × (table_of l ≡ table) × (l.full.table_id ≡ table)
-    × (l.full.me ≡ (Full calls, []))
+    (table.words ≡ 1) × (table_of l ≡ table) × IsSeatOf table (Full calls) l.full
 
 -- the same tables, and these calls
 abbrev pub CallsAs : Ledger → Ledger → List Call → Type 0
 CallsAs l l' calls =
-    (table_of l' ≡ table_of l) × (l'.full.table_id ≡ l.full.table_id)
-    × (l'.full.me ≡ (Full calls, []))
+    (table_of l' ≡ table_of l) × IsSeatOf l.full.table_id (Full calls) l'.full
 
 -- these calls were seen of the ledger of this table
 abbrev pub IsSight : TableId → List Call → Badge Sight → Type 0
-IsSight table calls b = (b.table_id ≡ table) × (b.views ≡ Seen calls ∷ [])
+IsSight table calls b = IsBadgeOf table (Seen calls) b
 
 -- the ledger of this table has all calls of a heap with this machine and this chronicle
 abbrev pub HasLedger : HeapSettings → TableId → Machine → List Entry → Ledger → Type 0

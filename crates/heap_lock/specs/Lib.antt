@@ -1,5 +1,6 @@
 pub mod Limits
 pub mod Tally
+pub mod TableSeats
 pub mod Calls
 pub mod Sights
 pub mod Ledgers
@@ -27,7 +28,6 @@ pub use Rattle.heap_trail.specs.Images
 pub use Rattle.heap_trail.specs.Laws as TrailLaws
 pub use Rattle.heap_trail.specs.Limits as TrailLimits
 pub use Rattle.heap_trail.specs.Machine
-pub use Rattle.heap_trail.specs.Trail
 pub use Rattle.heap_trail.specs.declared.Action
 pub use Rattle.heap_trail.specs.declared.Reply
 pub use Rattle.heap_chronicle.specs.History

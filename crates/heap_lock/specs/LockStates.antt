@@ -1,5 +1,5 @@
 -- What lies under the lock, what a seat has, and what an act does to both.
-use Rattle.std.specs.Prelude.{◌≡◌, ℕ, ◌+◌, ◌<◌, ◌≤◌, ◌⊎◌, Bool, List, [], ◌∷◌, ◌++◌, length, slice_index_or}
+use Rattle.std.specs.Prelude.{◌≡◌, ℕ, ◌+◌, ◌<◌, ◌≤◌, ◌⊎◌, Bool, List, [], ◌∷◌, ◌++◌, length, slice_index_or, Result, IfOk, IfErr, OnErr}
 use mathlib.Core.Option.{some}
 use lib.ListN.{get_elem?}
 use Rattle.atomic_table.specs.Seated.{TableId}
@@ -140,6 +140,15 @@ Stands config s turn action answer =
     × IsLegalHistory config.keep (opening config) (before ++ entry s.number action answer ∷ [])
     × (length before + 1 ≡ turn)
     × (tally s.number (before ++ entry s.number action answer ∷ []) ≡ s.share)
+
+-- what an act had as its result: it is done, has its entry and a receipt that stands, or nothing has changed
+pub record IsHeldAct (config : HeapSettings) (action : Action) (k : LockState) (s : Chair)
+    (result : Result Receipt Refusal) (k' : LockState) (s' : Chair) : Type 0 where
+  pub moves : IfOk result (λ r. IsMoved config action k r k')
+  pub act : IfOk result (λ r. IsAct action k s r k' s')
+  pub stands : IfOk result (λ r. Stands config s' r.turn action r.answer)
+  pub refused : IfErr result (λ e. IsRefused k e)
+  pub unchanged : OnErr result ((k' ≡ k) × (s' ≡ s))
 
 -- what a dumper's action does: the machine goes on as the model says and replies this, the chronicle stays, and the ledger gains
 -- the call

@@ -30,20 +30,11 @@ pub struct Blank {
 }
 
 impl Model for Blank {
-    ghost use Rattle.std.specs.Prelude.{map};
-    ghost use Rattle.heap_lock.specs.Blanks.{Maker, tables_of, chair_of, IsBlank};
-    ghost use Rattle.heap_lock.specs.Ledgers.{table_of};
+    ghost use Rattle.heap_lock.specs.Blanks.{Maker, maker_of, IsBlank};
 
     ghost Value = { Maker };
 
-    ghost view = { λ b.
-        record {
-          config = b.config;
-          rolls = b.rolls;
-          tables = tables_of b.desks.items;
-          ledger = table_of b.ledger;
-          seats = map chair_of b.stubs.items;
-        } };
+    ghost view = { λ b. maker_of b.config b.rolls b.desks.items b.ledger b.stubs.items };
 
     ghost invariant = { λ b. IsBlank b.config b.machine b.desks.items b.stubs.items b.ledger };
 }

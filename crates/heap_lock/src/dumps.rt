@@ -3,7 +3,7 @@ ghost use Rattle.std.specs.Prelude.{◌≡◌, ◌^◌, ◌≤◌, length, IfOk,
 ghost use Rattle.heap_trail.specs.declared.Action.TheVariants.{OpenPin, NextPiece, ClosePin};
 ghost use Rattle.heap_trail.specs.declared.Reply.TheVariants.{Pinned as PinnedReply, Part, Closed, Refused};
 ghost use Rattle.heap_trail.specs.Laws.{IsPieceOfLegal};
-ghost use Rattle.heap_lock.specs.Calls.{Witnesses};
+ghost use Rattle.heap_lock.specs.Calls.{IsWitnessed};
 ghost use Rattle.heap_lock.specs.LockStates.{IsDumperAct};
 
 use crate::heap::{Heap, Kept, Shared};
@@ -68,11 +68,8 @@ impl<L: Heap> Shared<L> {
         witness: &mut Witness<L>,
         at: Option<u64>,
     ) -> Result<PinAt, Refusal>
-        ensures done { IfOk result
-            (λ p. Witnesses L.config witness.old (OpenPin at) (PinnedReply p.pin p.at)
-            witness.new) }
-        ensures refused { IfErr result
-            (λ e. Witnesses L.config witness.old (OpenPin at) (Refused e) witness.new) }
+        ensures { IsWitnessed L.config witness.old (OpenPin at) (λ p. PinnedReply p.pin p.at) result
+            witness.new }
     {
         let mut kept = self.lock(rt);
         kept.show(witness);
@@ -90,12 +87,10 @@ impl<L: Heap> Shared<L> {
         pin: u64,
         time: u64,
     ) -> Result<Piece, Refusal>
-        ensures done { IfOk result
-            (λ p. Witnesses L.config witness.old (NextPiece pin time) (Part p) witness.new) }
+        ensures witnessed { IsWitnessed L.config witness.old (NextPiece pin time) Part result
+            witness.new }
         ensures legal { IfOk result (λ p. IsPieceOfLegal L.config.ids time p) }
         ensures small { IfOk result (λ p. length p.bytes ≤ 2 ^ 24) }
-        ensures refused { IfErr result
-            (λ e. Witnesses L.config witness.old (NextPiece pin time) (Refused e) witness.new) }
     {
         let mut kept = self.lock(rt);
         kept.show(witness);
@@ -112,10 +107,7 @@ impl<L: Heap> Shared<L> {
         witness: &mut Witness<L>,
         pin: u64,
     ) -> Result<(), Refusal>
-        ensures done { IfOk result
-            (λ u. Witnesses L.config witness.old (ClosePin pin) Closed witness.new) }
-        ensures refused { IfErr result
-            (λ e. Witnesses L.config witness.old (ClosePin pin) (Refused e) witness.new) }
+        ensures { IsWitnessed L.config witness.old (ClosePin pin) (λ u. Closed) result witness.new }
     {
         let mut kept = self.lock(rt);
         kept.show(witness);

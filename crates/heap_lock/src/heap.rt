@@ -10,7 +10,7 @@ ghost use Rattle.heap_chronicle.specs.History.{opening, Enters, IsLegalHistory};
 ghost use Rattle.heap_lock.specs.Blanks.{chair_of};
 ghost use Rattle.heap_lock.specs.Roles.{may};
 ghost use Rattle.heap_lock.specs.Ledgers.{all_in, HasLedger};
-ghost use Rattle.heap_lock.specs.LockStates.{AllSeated, Folds, Stands, IsMoved, IsAct, IsReceived, IsRefused, IsNoEntry, IsChair, IsUnderLock, lock_state};
+ghost use Rattle.heap_lock.specs.LockStates.{AllSeated, Folds, Stands, IsMoved, IsAct, IsHeldAct, IsReceived, IsRefused, IsNoEntry, IsChair, IsUnderLock, lock_state};
 
 use crate::desk::Desk;
 use crate::ledger::Ledger;
@@ -266,11 +266,7 @@ impl<L: Heap> Kept<L> {
     /// takes no more entries, and with NoMemory; then nothing has changed.
     pub fn act_held(&mut self, seat: &mut Seat<L>, event: Event) -> Result<Receipt, Refusal>
         requires { may seat.old.role event ≡ true }
-        ensures moves { IfOk result (λ r. IsMoved L.config (Step event) self.old r self.new) }
-        ensures act { IfOk result (λ r. IsAct (Step event) self.old seat.old r self.new seat.new) }
-        ensures stands { IfOk result (λ r. Stands L.config seat.new r.turn (Step event) r.answer) }
-        ensures refused { IfErr result (λ e. IsRefused self.old e) }
-        ensures unchanged { OnErr result ((self.new ≡ self.old) × (seat.new ≡ seat.old)) }
+        ensures { IsHeldAct L.config (Step event) self.old seat.old result self.new seat.new }
     {
         self.do_held(seat, Action::Step(event))
     }
@@ -278,11 +274,7 @@ impl<L: Heap> Kept<L> {
     /// Undoes the last `n` steps for one who holds the lock. Has its entry and fails as `act_held` does.
     pub fn rewind_held(&mut self, seat: &mut Seat<L>, n: u64) -> Result<Receipt, Refusal>
         requires { seat.old.role ≡ User }
-        ensures moves { IfOk result (λ r. IsMoved L.config (Rewind n) self.old r self.new) }
-        ensures act { IfOk result (λ r. IsAct (Rewind n) self.old seat.old r self.new seat.new) }
-        ensures stands { IfOk result (λ r. Stands L.config seat.new r.turn (Rewind n) r.answer) }
-        ensures refused { IfErr result (λ e. IsRefused self.old e) }
-        ensures unchanged { OnErr result ((self.new ≡ self.old) × (seat.new ≡ seat.old)) }
+        ensures { IsHeldAct L.config (Rewind n) self.old seat.old result self.new seat.new }
     {
         self.do_held(seat, Action::Rewind(n))
     }

@@ -84,9 +84,9 @@ pub walked_covers : (left : Undo) (x : HeapState) (r : ℕ) (g : Option Frozen) 
 unfolding walked_copy copy_for
 walked_covers left x r g = by_patch (λ u. touched u ≡ Some r → Covers (region_frozen x.regions r) g → Covers (region_frozen (undone u x).regions r) (walked_copy u g))
     (λ u q p t h.
-        let before = region_frozen (undone u x).regions r in
-        let copied : Covers before (option_map (patched u) (region_frozen x.regions r)) = subst (Covers before) (p.copy x r) (copy_covers u x r t) in
-        subst (Covers before) (sym (p.walk g)) (covers_then _ _ _ copied (patched_covers u (region_frozen x.regions r) g h)))
+    let before = region_frozen (undone u x).regions r in
+    let copied : Covers before (option_map (patched u) (region_frozen x.regions r)) = subst (Covers before) (p.copy x r) (copy_covers u x r t) in
+    subst (Covers before) (sym (p.walk g)) (covers_then _ _ _ copied (patched_covers u (region_frozen x.regions r) g h)))
     (λ region storage t h. copy_covers (Reclaim region storage) x r t)
     (λ u n. touches_none u n r _)
     left

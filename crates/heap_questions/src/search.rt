@@ -22,9 +22,9 @@ pub(crate) enum Via {
 // An object that was found: which node it is, its id, how many slots lead to it, and the last of them.
 #[derive(Clone, Copy)]
 pub(crate) struct Found {
-    pub(crate) node: usize,
+    node: usize,
     pub(crate) id: u64,
-    pub(crate) depth: u64,
+    depth: u64,
     pub(crate) via: Via,
 }
 

@@ -25,7 +25,7 @@ take_step-requires-clause-place g c =
 pub gain-requires-clause-desk : goal.gain-requires-clause-desk
 gain-requires-clause-desk g c =
     let d = desk_of _ _ _ _ _ c.seat.inside.number c.index_mut-desk.result.now c.self.invariant.0 c.seat.invariant.0 c.index_mut-desk.ensures.value in
-    (d.0, d.2 ∙ sym d.1, d.3 ∙ ap (λ m. (Book (tally_of m.0), [])) (sym d.3))
+    (d.0, (d.2 ∙ sym d.1, d.3 ∙ ap (λ m. (Book (tally_of m.0), [])) (sym d.3)))
 
 pub gain-requires-clause-share : goal.gain-requires-clause-share
 gain-requires-clause-share g c =
@@ -44,8 +44,8 @@ invariant_of-self-2 g c =
     let desk : IsDesk (table_at g.L.Heap.tables n) (tally n (es ++ e ∷ [])) c.gain.new.self = (
       ap (λ (z : TableId). z.words) t.0 ∙ d.0,
       t.0 ∙ d.1,
-      t.1 ∙ d.2,
-      t.2 ∙ (λ i. (Book (tally_of (d.3 i).0 ++ (sym turn i, e) ∷ []), [])) ∙ ap (λ l. (Book l, [])) (sym (tally_here n es e refl)),
+      t.1.0 ∙ d.2,
+      t.1.1 ∙ (λ i. (Book (tally_of (d.3 i).0 ++ (sym turn i, e) ∷ []), [])) ∙ ap (λ l. (Book l, [])) (sym (tally_here n es e refl)),
     ) in
     let both = subst (λ (l : List Entry). IsUnderLock g.L.Heap.config g.L.Heap.tables c.take_step.new.machine l (set c.self.inside.desks.items n c.gain.new.self) × HasLedger g.L.Heap.config g.L.Heap.ledger c.take_step.new.machine l c.note.new.self) (sym (c.push.ensures.entries ∙ ap (λ l. l ++ e ∷ []) (ap (λ (x : ChronicleState). x.entries) c.reserve.ensures.entries))) (
       kept_more _ _ _ _ es _ e c.gain.new.self c.self.invariant.0 c.seat.invariant.0 c.requires c.in-Some.ensures.0 c.in-Some.ensures.1 desk,

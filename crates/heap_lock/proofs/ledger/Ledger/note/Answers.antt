@@ -5,4 +5,4 @@ use Rattle.heap_lock.proofs.ledger.Ledger.note.Goals as goal
 pub load-requires : goal.load-requires
 load-requires g c =
     let d = c.requires in
-    (d.2, omega (arith, d.0), adds_as _ _ _ _ _ d.3)
+    (d.2.0, omega (arith, d.0), adds_as _ _ _ _ _ d.2.1)

@@ -5,4 +5,4 @@ use Rattle.heap_lock.proofs.ledger.Ledger.sight.Goals as goal
 pub split_seat-requires : goal.split_seat-requires
 split_seat-requires c =
     let d = c.requires in
-    (d.2, omega (arith, d.0), splits_as _ _ _ (ap (λ m. m.0) d.3))
+    (d.2.0, omega (arith, d.0), splits_as _ _ _ (ap (λ m. m.0) d.2.1))

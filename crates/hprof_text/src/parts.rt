@@ -140,9 +140,7 @@ impl SegmentBytes {
         self.trace();
     }
 
-    /// Appends the sub-record of an object of at most 1,024 words. There must be room. Inlined, and so is that of an instance, since
-    /// most objects are instances.
-    #[inline(always)]
+    /// Appends the sub-record of an object of at most 1,024 words. There must be room.
     #[tactic(auto, unfolding(crate::specs::Text::dump_of))]
     pub fn object_dump(
         &mut self,

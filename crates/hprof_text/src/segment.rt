@@ -1,6 +1,7 @@
 //! A segment as it is filled: each sub-record is offered to it, and is written if there is room.
 ghost use Rattle.std.specs.Prelude.{◌+◌, ◌≡◌, ◌<◌, ◌≤◌, [], length, IfOk, IfErr};
 ghost use Rattle.heap_class.specs.Limits.{class_limit, array_limit};
+ghost use Rattle.heap_class.specs.declared.ObjKind.TheVariants.{Instance};
 ghost use Rattle.heap_class.specs.declared.Refusal.TheVariants.{NoMemory};
 ghost use Rattle.hprof_text.specs.SegmentFilling.{takes, IsOffered};
 ghost use Rattle.hprof_text.specs.Image.{IsKnown};
@@ -104,9 +105,33 @@ impl Segment {
         taken
     }
 
-    /// Offers the sub-record of an object, and tells whether it was taken.
+    // Offers the sub-record of an instance, and tells whether it was taken.
     #[inline(always)]
-    pub fn offer_object(
+    fn offer_instance(
+        &mut self,
+        ids: IdSize,
+        classes: &FirstClasses<'_>,
+        object: u64,
+        class: ClassNo,
+        words: &[u64],
+    ) -> bool
+        requires known { IsKnown classes.now (Instance class) (length words.now) }
+        requires small { length words.now ≤ array_limit }
+        ensures { IsOffered (dump_of ids classes.now object (Instance class) words.now) self.old
+            self.new result }
+    {
+        let _count = classes.len();
+        let kind = ObjKind::Instance(class);
+        let taken = self.takes(dump_size(ids, classes, kind, words.len() as u64));
+        if taken {
+            self.buffer
+                .instance_dump(ids, classes, object, class, words);
+        }
+        taken
+    }
+
+    // Offers the sub-record of an object of any kind, and tells whether it was taken.
+    fn offer(
         &mut self,
         ids: IdSize,
         classes: &FirstClasses<'_>,
@@ -124,6 +149,28 @@ impl Segment {
             self.buffer.object_dump(ids, classes, object, kind, words);
         }
         taken
+    }
+
+    /// Offers the sub-record of an object, and tells whether it was taken. Offers an instance by a call of its own, since most
+    /// objects are instances.
+    #[inline(always)]
+    pub fn offer_object(
+        &mut self,
+        ids: IdSize,
+        classes: &FirstClasses<'_>,
+        object: u64,
+        kind: ObjKind,
+        words: &[u64],
+    ) -> bool
+        requires known { IsKnown classes.now kind (length words.now) }
+        requires small { length words.now ≤ array_limit }
+        ensures { IsOffered (dump_of ids classes.now object kind words.now) self.old self.new
+            result }
+    {
+        match kind {
+            ObjKind::Instance(class) => self.offer_instance(ids, classes, object, class, words),
+            _ => self.offer(ids, classes, object, kind, words),
+        }
     }
 
     /// Offers the root of a register that isn't null, and tells whether it was taken.

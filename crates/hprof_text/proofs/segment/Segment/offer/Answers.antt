@@ -2,7 +2,7 @@ use Rattle.std.proofs.Common.{sym, ◌∙◌}
 use Rattle.hprof_text.specs.Text.{dump_of}
 use Rattle.hprof_text.proofs.Lengths.{dump_length}
 use Rattle.hprof_text.proofs.RecordOffers.{room_taken, still_segment, offer_taken, offer_left}
-use Rattle.hprof_text.proofs.segment.Segment.offer_object.Goals as goal
+use Rattle.hprof_text.proofs.segment.Segment.offer.Goals as goal
 
 pub object_dump-requires-clause-room : goal.object_dump-requires-clause-room
 object_dump-requires-clause-room c = room_taken c.self.inside.buffer c.args.self.now (dump_of c.args.ids c.args.classes.now c.args.object c.args.kind c.args.words.now) c.dump_size.result c.self.view_is c.self.invariant (c.dump_size.ensures.value ∙ sym (dump_length c.args.ids c.args.classes.now c.args.object c.args.kind c.args.words.now c.requires.known)) c.dump_size.ensures.limit (sym c.takes-taken.ensures ∙ c.if-taken.true)

@@ -21,22 +21,12 @@ use heap_world::{Created, Loaded, World};
 impl IntoEvent for Event {
     ghost event = { λ e. e };
 
-    #[inline(never)]
+    // Some events are inlined, without a call that is given the place of the result, which then stays in registers.
+    #[inline(always)]
     #[tactic(auto, using(crate::proofs::AppliedResults::as_event))]
     fn apply_to(&self, world: &mut World) -> Result<(Answer, Undo), Refusal> {
         match self {
-            Event::Class { name, sup, fields } => define(world, name, *sup, fields),
-            Event::ArrayClass { name } => define_array(world, name),
-            Event::New { m, r, class } => create(world, *m, *r, *class),
-            Event::NewArray { m, r, class, len } => create_array(world, *m, *r, *class, *len),
-            Event::NewPrim { m, r, kind, len } => create_prim(world, *m, *r, *kind, *len),
             Event::Load { m, to, from, slot } => load(world, *m, *to, *from, *slot),
-            Event::Store {
-                m,
-                target,
-                slot,
-                source,
-            } => store(world, *m, *target, *slot, *source),
             Event::Put {
                 m,
                 target,
@@ -50,17 +40,54 @@ impl IntoEvent for Event {
                 from,
             } => copy(world, *m, *to, *from_m, *from),
             Event::Clear { m, r } => clear(world, *m, *r),
-            Event::Snap => snap(world),
-            Event::Mark => mark(world),
-            Event::Drain => drain(world),
-            Event::Finish => finish(world),
-            Event::Sweep { region } => sweep(world, *region),
+            other => Ok(apply_any(world, other)?),
         }
     }
 
     #[inline(always)]
     fn into_event(self) -> Event {
         self
+    }
+}
+
+// Applies an event of any kind.
+#[inline(never)]
+#[tactic(auto, using(crate::proofs::AppliedResults::as_event))]
+fn apply_any(world: &mut World, event: &Event) -> Result<(Answer, Undo), Refusal>
+    requires { IsLegal world.old }
+    ensures { IsApplied event.now world.old world.new result }
+{
+    match event {
+        Event::Class { name, sup, fields } => define(world, name, *sup, fields),
+        Event::ArrayClass { name } => define_array(world, name),
+        Event::New { m, r, class } => create(world, *m, *r, *class),
+        Event::NewArray { m, r, class, len } => create_array(world, *m, *r, *class, *len),
+        Event::NewPrim { m, r, kind, len } => create_prim(world, *m, *r, *kind, *len),
+        Event::Load { m, to, from, slot } => load(world, *m, *to, *from, *slot),
+        Event::Store {
+            m,
+            target,
+            slot,
+            source,
+        } => store(world, *m, *target, *slot, *source),
+        Event::Put {
+            m,
+            target,
+            slot,
+            value,
+        } => put(world, *m, *target, *slot, *value),
+        Event::Move {
+            m,
+            to,
+            from_m,
+            from,
+        } => copy(world, *m, *to, *from_m, *from),
+        Event::Clear { m, r } => clear(world, *m, *r),
+        Event::Snap => snap(world),
+        Event::Mark => mark(world),
+        Event::Drain => drain(world),
+        Event::Finish => finish(world),
+        Event::Sweep { region } => sweep(world, *region),
     }
 }
 

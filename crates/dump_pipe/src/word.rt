@@ -1,5 +1,6 @@
 //! A word of a meter, lent.
 ghost use Rattle.std.specs.Prelude.{◌≡◌};
+
 use crate::meter_view::MeterView;
 use crate::rule::Counts;
 use atomic_table::Shared;

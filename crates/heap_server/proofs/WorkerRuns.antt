@@ -9,22 +9,29 @@ use Rattle.heap_work.specs.declared.MarkEnd.TheVariants.{Finished, NotMarking, P
 use Rattle.heap_work.specs.declared.Stage.{Stage}
 use Rattle.heap_work.specs.declared.SweepEnd.{SweepEnd}
 use Rattle.heap_work.specs.Rule.{EndsMarking, IsMarkWork, IsSweepWork}
-use Rattle.heap_server.specs.Tending.{AreRuns, Marks, MarksOnce, Sweeps, SweepsOnce}
+use Rattle.heap_server.specs.Tending.{AreRuns, MarksOnce, SweepsOnce, Tends, role_for, turn_limit}
+use Rattle.heap_server.specs.declared.tending.Duty.{Duty}
+use Rattle.heap_server.specs.declared.tending.Duty.TheVariants.{Mark, Sweep}
 
 joined : {E : Type 0} (W : Chair → Chair → E → Type 0) (runs more : List (Chair × E)) (s m s' : Chair) → AreRuns W s runs m → AreRuns W m more s' → AreRuns W s (runs ++ more) s'
 joined W [] more s m s' is next = subst (λ t. AreRuns W t more s') is next
 joined W (run ∷ runs) more s m s' is next = (is.0, joined W runs more run.0 m s' is.1 next)
 
--- ---- the marker
+runs_more : {E : Type 0} (W : Chair → Chair → E → Type 0) (s m s' : Chair) → (runs : List (Chair × E)) × AreRuns W s runs m → (more : List (Chair × E)) × AreRuns W m more s'
+    → (all : List (Chair × E)) × AreRuns W s all s'
+runs_more W s m s' a b = (a.0 ++ b.0, joined W a.0 b.0 s m s' a.1 b.1)
 
-pub marks_none : (config : HeapSettings) (s : Chair) → Marks config s s
-marks_none config s = ([], refl)
+-- ---- runs of a work
 
-pub marks_once : (config : HeapSettings) (s s' : Chair) (end : MarkEnd) → MarksOnce config s s' end → Marks config s s'
-marks_once config s s' end work = ((s', end) ∷ [], (work, refl))
+pub works_none : (duty : Duty) (config : HeapSettings) (s : Chair) → Tends duty config s s
+works_none Mark config s = ([], refl)
+works_none Sweep config s = ([], refl)
 
-pub marks_more : (config : HeapSettings) (s m s' : Chair) → Marks config s m → Marks config m s' → Marks config s s'
-marks_more config s m s' a b = (a.0 ++ b.0, joined (MarksOnce config) a.0 b.0 s m s' a.1 b.1)
+pub works_more : (duty : Duty) (config : HeapSettings) (s m s' : Chair) → Tends duty config s m → Tends duty config m s' → Tends duty config s s'
+works_more Mark config s m s' a b = runs_more (MarksOnce config) s m s' a b
+works_more Sweep config s m s' a b = runs_more (SweepsOnce config) s m s' a b
+
+-- ---- one run
 
 end_keeps : (config : HeapSettings) (s s' : Chair) (turns : ℕ) (gained : List (ℕ × Entry)) (next : Stage) (end : MarkEnd) → EndsMarking config s s' turns gained next end → s'.role ≡ s.role
 end_keeps config s s' turns gained next (Finished r) e = ap (λ (c : Chair). c.role) e.3
@@ -34,19 +41,24 @@ end_keeps config s s' turns gained next (Refused f) e = ap (λ (c : Chair). c.ro
 end_keeps config s s' turns gained next Stopped e = ap (λ (c : Chair). c.role) e.1
 end_keeps config s s' turns gained next TurnsOver e = ap (λ (c : Chair). c.role) e.1
 
-pub marker_stays : (config : HeapSettings) (s s' : Chair) (turns : ℕ) (end : MarkEnd) → IsMarkWork config s s' turns end → s.role ≡ Marker → s'.role ≡ Marker
-marker_stays config s s' turns end w is = end_keeps config s s' turns w.gained w.next end w.ends ∙ is
+pub is_marker : (duty : Duty) (s : Chair) → duty ≡ Mark → s.role ≡ role_for duty → s.role ≡ Marker
+is_marker Mark s is role = role
+is_marker Sweep s is role = absurd cc
 
--- ---- the sweeper
+pub marked : (duty : Duty) (config : HeapSettings) (s s' : Chair) (end : MarkEnd) → duty ≡ Mark → IsMarkWork config s s' turn_limit end → Tends duty config s s'
+marked Mark config s s' end is w = ((s', end) ∷ [], (w, refl))
+marked Sweep config s s' end is w = absurd cc
 
-pub sweeps_none : (config : HeapSettings) (s : Chair) → Sweeps config s s
-sweeps_none config s = ([], refl)
+pub role_stays : (duty : Duty) (config : HeapSettings) (s s' : Chair) (turns : ℕ) (end : MarkEnd) → IsMarkWork config s s' turns end → s.role ≡ role_for duty → s'.role ≡ role_for duty
+role_stays duty config s s' turns end w is = end_keeps config s s' turns w.gained w.next end w.ends ∙ is
 
-pub sweeps_once : (config : HeapSettings) (s s' : Chair) (end : SweepEnd) → SweepsOnce config s s' end → Sweeps config s s'
-sweeps_once config s s' end work = ((s', end) ∷ [], (work, refl))
+pub is_sweeper : (duty : Duty) (s : Chair) → duty ≡ Sweep → s.role ≡ role_for duty → s.role ≡ Sweeper
+is_sweeper Mark s is role = absurd cc
+is_sweeper Sweep s is role = role
 
-pub sweeps_more : (config : HeapSettings) (s m s' : Chair) → Sweeps config s m → Sweeps config m s' → Sweeps config s s'
-sweeps_more config s m s' a b = (a.0 ++ b.0, joined (SweepsOnce config) a.0 b.0 s m s' a.1 b.1)
+pub swept : (duty : Duty) (config : HeapSettings) (s s' : Chair) (end : SweepEnd) → duty ≡ Sweep → IsSweepWork config s s' turn_limit end → Tends duty config s s'
+swept Mark config s s' end is w = absurd cc
+swept Sweep config s s' end is w = ((s', end) ∷ [], (w, refl))
 
-pub sweeper_stays : (config : HeapSettings) (s s' : Chair) (turns : ℕ) (end : SweepEnd) → IsSweepWork config s s' turns end → s.role ≡ Sweeper → s'.role ≡ Sweeper
-sweeper_stays config s s' turns end w is = ap (λ (c : Chair). c.role) w.seat ∙ is
+pub role_keeps : (duty : Duty) (config : HeapSettings) (s s' : Chair) (turns : ℕ) (end : SweepEnd) → IsSweepWork config s s' turns end → s.role ≡ role_for duty → s'.role ≡ role_for duty
+role_keeps duty config s s' turns end w is = ap (λ (c : Chair). c.role) w.seat ∙ is

@@ -1,6 +1,7 @@
 -- What the threads did that tend the collector of a served heap.
 use Rattle.std.specs.Prelude.{◌≡◌, ℕ, List, [], ◌∷◌, length}
 use Rattle.heap_lock.specs.HeapLimits.{HeapSettings}
+use Rattle.heap_lock.specs.declared.role.Role.{Role}
 use Rattle.heap_lock.specs.declared.role.Role.TheVariants.{Marker, Sweeper}
 use Rattle.heap_lock.specs.declared.stub.Stub.{Stub}
 use Rattle.heap_lock.specs.ChronicleLimits.{chronicle_limit}
@@ -12,6 +13,8 @@ use Rattle.heap_work.specs.Rule.{IsMarkWork, IsSweepWork}
 use Rattle.heap_server.specs.SessionSeats.{AreUsers, IsOver}
 use Rattle.heap_server.specs.declared.sessions.Terms.{Terms}
 use Rattle.heap_server.specs.declared.tended.TendedHeap.{TendedHeap}
+use Rattle.heap_server.specs.declared.tending.Duty.{Duty}
+use Rattle.heap_server.specs.declared.tending.Duty.TheVariants.{Mark, Sweep}
 
 -- the acts of a run at most: as many as a chronicle keeps
 abbrev pub turn_limit : ℕ
@@ -38,6 +41,16 @@ Marks config s s' = (runs : List (Chair × MarkEnd)) × AreRuns (MarksOnce confi
 -- the seat's share is what it was and what runs of a sweep worker gained
 abbrev pub Sweeps : HeapSettings → Chair → Chair → Type 0
 Sweeps config s s' = (runs : List (Chair × SweepEnd)) × AreRuns (SweepsOnce config) s runs s'
+
+-- the role of the seat for this work
+abbrev pub role_for : Duty → Role
+role_for Mark = Marker
+role_for Sweep = Sweeper
+
+-- the seat's share is what it was and what runs of this work's worker gained
+abbrev pub Tends : Duty → HeapSettings → Chair → Chair → Type 0
+Tends Mark config s s' = Marks config s s'
+Tends Sweep config s s' = Sweeps config s s'
 
 -- the marker's seat, the sweeper's, and those of `most` users
 abbrev pub AreStaff : ℕ → List Chair → Type 0

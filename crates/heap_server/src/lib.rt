@@ -19,6 +19,6 @@ pub use dump_server::DumpListener;
 pub use joined::Joined;
 pub use laws::served_dumps_are_text;
 pub use report::{tell_sessions, word};
-pub use sessions::{Ports, Served, ServedHeap, Terms, serve_clients, serve_heap, users};
+pub use sessions::{Opening, Ports, Served, ServedHeap, Terms, serve_clients, serve_heap, users};
 pub use tended::{Staff, Tended, TendedHeap, serve_tended, serve_tended_heap, workers_and_users};
-pub use tending::{tend_marker, tend_sweeper};
+pub use tending::{Duty, tend};

@@ -37,6 +37,14 @@ pub struct Terms {
     pub questions: bool,
 }
 
+/// What a heap is opened for: the number of sessions, the listeners for their clients, and what the sessions have in common.
+#[derive(Drop)]
+pub struct Opening {
+    pub most: usize,
+    pub ports: Ports,
+    pub terms: Terms,
+}
+
 /// How the sessions ended, in order of acceptance, and whether an accept failed.
 #[derive(Drop)]
 pub struct Served {
@@ -218,15 +226,13 @@ pub fn serve_heap<R: Clock + Eprint + Threads + Wait + Sync>(
     rt: &R,
     alloc: Global,
     blank: Blank,
-    most: usize,
-    ports: Ports,
-    terms: Terms,
+    opening: Opening,
 ) -> Result<ServedHeap, AllocError>
     requires users { AreUsers blank.seats }
-    requires most { length blank.seats ≡ most }
-    ensures { IfOk result (IsOver blank terms most) }
+    requires most { length blank.seats ≡ opening.most }
+    ensures { IfOk result (IsOver blank opening.terms opening.most) }
 {
-    serve_opened::<Brand, R>(rt, alloc, blank, most, ports, terms)
+    serve_opened::<Brand, R>(rt, alloc, blank, opening)
 }
 
 // Does so for a heap that a type names.
@@ -234,17 +240,16 @@ fn serve_opened<L: Heap + Send + Sync, R: Clock + Eprint + Threads + Wait + Sync
     rt: &R,
     alloc: Global,
     blank: Blank,
-    most: usize,
-    ports: Ports,
-    terms: Terms,
+    opening: Opening,
 ) -> Result<ServedHeap, AllocError>
     requires named { IsNamed L.config L.tables L.ledger L.rolls blank }
     requires users { AreUsers blank.seats }
-    requires most { length blank.seats ≡ most }
-    ensures { IfOk result (IsOver blank terms most) }
+    requires most { length blank.seats ≡ opening.most }
+    ensures { IfOk result (IsOver blank opening.terms opening.most) }
 {
     let made = Snapshot::of(&blank);
     let (shared, seats) = blank.open::<L>();
+    let Opening { ports, terms, .. } = opening;
     let served = serve_clients(rt, alloc, &shared, seats, ports, terms)?;
     Ok(ServedHeap {
         served,

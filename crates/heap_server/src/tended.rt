@@ -6,8 +6,8 @@ ghost use Rattle.heap_lock.specs.declared.role.Role.TheVariants as role;
 ghost use Rattle.heap_server.specs.SessionSeats.{IsFor, session_limit};
 ghost use Rattle.heap_server.specs.Tending.{AreStaff, IsTendedOver, Marks, Sweeps};
 
-use crate::sessions::{Ports, Served, ServedHeap, Terms, serve_clients};
-use crate::tending::{tend_marker, tend_sweeper};
+use crate::sessions::{Opening, Ports, Served, ServedHeap, Terms, serve_clients};
+use crate::tending::{Duty, tend};
 use heap_lock::{Blank, Config, Heap, Refusal, Role, Seat, Seats, Shared, Stub};
 use std::alloc::{AllocError, Global};
 use std::marker::Brand;
@@ -111,10 +111,11 @@ fn begin_workers<'s, E, L: Heap + Send + Sync, R: Clock + Threads + Wait + Sync>
         (λ w. (w.marking.promise.0.value ≡ marker) × (w.sweeping.promise.0.value ≡ sweeper)) }
 {
     let marks = MarksFrom(Snapshot::of(&marker));
-    let marking = scope.spawn_with(marks, move || tend_marker(rt, shared, marker, stop))?;
+    let mark = move || tend(rt, shared, marker, Duty::Mark, stop);
+    let marking = scope.spawn_with(marks, mark)?;
     let sweeps = SweepsFrom(Snapshot::of(&sweeper));
-    let tend = move || tend_sweeper(rt, shared, sweeper, stop);
-    let Ok(sweeping) = scope.spawn_with(sweeps, tend) else {
+    let sweep = move || tend(rt, shared, sweeper, Duty::Sweep, stop);
+    let Ok(sweeping) = scope.spawn_with(sweeps, sweep) else {
         stop.store(true, Ordering::SeqCst);
         let _ = marking.join(rt);
         return Err(AllocError);
@@ -170,14 +171,12 @@ pub fn serve_tended_heap<R: Clock + Eprint + Threads + Wait + Sync>(
     rt: &R,
     alloc: Global,
     blank: Blank,
-    most: usize,
-    ports: Ports,
-    terms: Terms,
+    opening: Opening,
 ) -> Result<TendedHeap, AllocError>
-    requires { AreStaff most blank.seats }
-    ensures { IfOk result (IsTendedOver blank terms most) }
+    requires { AreStaff opening.most blank.seats }
+    ensures { IfOk result (IsTendedOver blank opening.terms opening.most) }
 {
-    serve_staffed::<Brand, R>(rt, alloc, blank, most, ports, terms)
+    serve_staffed::<Brand, R>(rt, alloc, blank, opening)
 }
 
 // Returns the marker's seat, the sweeper's, and those of `most` users.
@@ -206,16 +205,15 @@ fn serve_staffed<L: Heap + Send + Sync, R: Clock + Eprint + Threads + Wait + Syn
     rt: &R,
     alloc: Global,
     blank: Blank,
-    most: usize,
-    ports: Ports,
-    terms: Terms,
+    opening: Opening,
 ) -> Result<TendedHeap, AllocError>
     requires named { IsNamed L.config L.tables L.ledger L.rolls blank }
-    requires staff { AreStaff most blank.seats }
-    ensures { IfOk result (IsTendedOver blank terms most) }
+    requires staff { AreStaff opening.most blank.seats }
+    ensures { IfOk result (IsTendedOver blank opening.terms opening.most) }
 {
     let made = Snapshot::of(&blank);
     let (shared, seats) = blank.open::<L>();
+    let Opening { most, ports, terms } = opening;
     let staff = staff_of(seats, most);
     let Tended {
         served,

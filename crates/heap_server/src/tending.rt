@@ -1,7 +1,6 @@
 //! Threads that tend the collector of a shared heap.
 ghost use Rattle.std.specs.Prelude.{◌≡◌};
-ghost use Rattle.heap_lock.specs.declared.role.Role.TheVariants.{Marker, Sweeper};
-ghost use Rattle.heap_server.specs.Tending.{Marks, Sweeps};
+ghost use Rattle.heap_server.specs.Tending.{Tends, role_for};
 
 use heap_lock::{Heap, Phase, Seat, Shared};
 use heap_work::{Gate, MarkEnd, SweepEnd, mark_worker, sweep_worker};
@@ -32,98 +31,78 @@ fn pause<R: Clock>(rt: &R) {
     thread::sleep(rt, Duration::from_millis(1));
 }
 
-/// Marks each cycle that others begin, by runs of a mark worker, until the stop word is set or an act is refused, NoMemory or
-/// ChronicleFull. Returns the seat within one act of the stop, or within a millisecond if it sleeps. May wait.
-#[tactic(auto, using(crate::proofs::WorkerRuns::marks_none))]
-pub fn tend_marker<L: Heap, R: Clock + Wait>(
+/// The work of a thread that tends the collector.
+#[derive(Clone, Copy, PartialEq, Eq, Debug)]
+pub enum Duty {
+    /// To mark each cycle that others begin, by runs of a mark worker.
+    Mark,
+    /// To sweep the regions that wait for it, by runs of a sweep worker.
+    Sweep,
+}
+
+/// Does its work until the stop word is set or an act is refused, NoMemory or ChronicleFull. Returns the seat within one act of
+/// the stop, or within a millisecond if it sleeps. May wait.
+#[tactic(auto, using(crate::proofs::WorkerRuns::works_none))]
+pub fn tend<L: Heap, R: Clock + Wait>(
     rt: &R,
     shared: &Shared<L>,
     seat: Seat<L>,
+    duty: Duty,
     stop: &AtomicBool,
 ) -> Seat<L>
-    requires { seat.role ≡ Marker }
-    ensures { Marks L.config seat result }
+    requires { seat.role ≡ role_for duty }
+    ensures { Tends duty L.config seat result }
 {
     let mut seat = seat;
     for _ in rt.forever() {
         if stop.load(Ordering::SeqCst) {
             return seat;
         }
-        if !marks_on(rt, shared, &mut seat, stop) {
+        if !works_on(rt, shared, &mut seat, duty, stop) {
             return seat;
         }
     }
     unreachable!()
 }
 
-// Runs the mark worker if a cycle runs, and sleeps if none does or a region has to be swept first. Returns whether to go on.
-#[tactic(auto, using(crate::proofs::WorkerRuns::marks_none, crate::proofs::WorkerRuns::marks_once, crate::proofs::WorkerRuns::marker_stays))]
-fn marks_on<L: Heap, R: Clock + Wait>(
-    rt: &R,
-    shared: &Shared<L>,
-    seat: &mut Seat<L>,
-    stop: &AtomicBool,
-) -> bool
-    requires { seat.old.role ≡ Marker }
-    ensures marks { Marks L.config seat.old seat.new }
-    ensures role { seat.new.role ≡ Marker }
-{
-    if shared.phase(rt) == Phase::Idle {
-        pause(rt);
-        return true;
-    }
-    match mark_worker(shared, rt, seat, &mut Unstopped { stop }, RUN_TURNS) {
-        MarkEnd::Refused(_) => false,
-        MarkEnd::Pending(_) => {
-            pause(rt);
-            true
-        }
-        _ => true,
+// Tells whether there is nothing to do: no cycle runs, or no region waits to be swept.
+fn is_idle<L: Heap, R: Wait>(rt: &R, shared: &Shared<L>, duty: Duty) -> bool {
+    match duty {
+        Duty::Mark => shared.phase(rt) == Phase::Idle,
+        Duty::Sweep => shared.pending(rt).is_none(),
     }
 }
 
-/// Sweeps the regions that wait for it, by runs of a sweep worker, until the stop word is set or an act is refused, NoMemory
-/// or ChronicleFull. Returns the seat within one act of the stop, or within a millisecond if it sleeps. May wait.
-#[tactic(auto, using(crate::proofs::WorkerRuns::sweeps_none))]
-pub fn tend_sweeper<L: Heap, R: Clock + Wait>(
-    rt: &R,
-    shared: &Shared<L>,
-    seat: Seat<L>,
-    stop: &AtomicBool,
-) -> Seat<L>
-    requires { seat.role ≡ Sweeper }
-    ensures { Sweeps L.config seat result }
-{
-    let mut seat = seat;
-    for _ in rt.forever() {
-        if stop.load(Ordering::SeqCst) {
-            return seat;
-        }
-        if !sweeps_on(rt, shared, &mut seat, stop) {
-            return seat;
-        }
-    }
-    unreachable!()
-}
-
-// Runs the sweep worker if a region waits to be swept, and sleeps if none does. Returns whether to go on.
-#[tactic(auto, using(crate::proofs::WorkerRuns::sweeps_none, crate::proofs::WorkerRuns::sweeps_once, crate::proofs::WorkerRuns::sweeper_stays))]
-fn sweeps_on<L: Heap, R: Clock + Wait>(
+// Runs the worker, or sleeps if there is nothing to do or a region has to be swept before a cycle. Returns whether to go on.
+#[tactic(auto, using(crate::proofs::WorkerRuns::works_none, crate::proofs::WorkerRuns::is_marker, crate::proofs::WorkerRuns::marked, crate::proofs::WorkerRuns::role_stays, crate::proofs::WorkerRuns::is_sweeper, crate::proofs::WorkerRuns::swept, crate::proofs::WorkerRuns::role_keeps))]
+fn works_on<L: Heap, R: Clock + Wait>(
     rt: &R,
     shared: &Shared<L>,
     seat: &mut Seat<L>,
+    duty: Duty,
     stop: &AtomicBool,
 ) -> bool
-    requires { seat.old.role ≡ Sweeper }
-    ensures sweeps { Sweeps L.config seat.old seat.new }
-    ensures role { seat.new.role ≡ Sweeper }
+    requires { seat.old.role ≡ role_for duty }
+    ensures works { Tends duty L.config seat.old seat.new }
+    ensures role { seat.new.role ≡ role_for duty }
 {
-    if shared.pending(rt).is_none() {
+    if is_idle(rt, shared, duty) {
         pause(rt);
         return true;
     }
-    match sweep_worker(shared, rt, seat, &mut Unstopped { stop }, RUN_TURNS) {
-        SweepEnd::Refused(_) => false,
-        _ => true,
+    let mut gate = Unstopped { stop };
+    match duty {
+        Duty::Mark => match mark_worker(shared, rt, seat, &mut gate, RUN_TURNS) {
+            MarkEnd::Refused(_) => false,
+            MarkEnd::Pending(_) => {
+                pause(rt);
+                true
+            }
+            _ => true,
+        },
+        Duty::Sweep => match sweep_worker(shared, rt, seat, &mut gate, RUN_TURNS) {
+            SweepEnd::Refused(_) => false,
+            _ => true,
+        },
     }
 }

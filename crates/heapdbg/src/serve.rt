@@ -8,8 +8,8 @@ ghost use Rattle.heapdbg.specs.ServeOutcomes.{IsHeapServed, IsReportTold, IsServ
 use crate::failure::Fault;
 use dump_pump::Outlet;
 use heap_server::{
-    DumpListener, Ports, Served, Terms, serve_heap, serve_tended_heap, tell_sessions, users,
-    workers_and_users,
+    DumpListener, Opening, Ports, Served, Terms, serve_heap, serve_tended_heap, tell_sessions,
+    users, workers_and_users,
 };
 use heapdbg_options::settings::{Settings, config};
 use session_text::write_all;
@@ -109,9 +109,13 @@ where
         return Err(Fault::Memory);
     };
     blank.set_rolls(settings.rolls);
-    let most = service.sessions as usize;
     let (ports, report) = listen(rt, alloc, service, is_terminal)?;
-    match serve_heap(rt, alloc, blank, most, ports, terms(settings)) {
+    let opening = Opening {
+        most: service.sessions as usize,
+        ports,
+        terms: terms(settings),
+    };
+    match serve_heap(rt, alloc, blank, opening) {
         Ok(heap) => tell(&heap.served, report, writer),
         Err(_) => Err(Fault::Memory),
     }
@@ -138,9 +142,13 @@ where
         return Err(Fault::Memory);
     };
     blank.set_rolls(settings.rolls);
-    let most = service.sessions as usize;
     let (ports, report) = listen(rt, alloc, service, is_terminal)?;
-    match serve_tended_heap(rt, alloc, blank, most, ports, terms(settings)) {
+    let opening = Opening {
+        most: service.sessions as usize,
+        ports,
+        terms: terms(settings),
+    };
+    match serve_tended_heap(rt, alloc, blank, opening) {
         Ok(tended) => tell(&tended.heap.served, report, writer),
         Err(_) => Err(Fault::Memory),
     }

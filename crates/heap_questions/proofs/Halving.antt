@@ -1,7 +1,8 @@
 -- Finding a node by halves.
-use Rattle.std.proofs.Common.{◌≡◌, ◌≢◌, ℕ, ◌+◌, ◌-◌, ◌<◌, ◌≤◌, false, cond, List, length, get_or, sym, ap, subst, ◌∙◌, inl, inr, arith}
+use Rattle.std.proofs.Common.{◌≡◌, ◌≢◌, ℕ, ◌+◌, ◌-◌, ◌<◌, ◌≤◌, true, false, ltb, ltb-true, ltb-false, cond, List, length, get_or, sym, ap, subst, ◌∙◌, inl, inr, arith}
 use Rattle.std.specs.Prelude.{slice_get, Some, None, ◌==◌}
-use Rattle.std.specs.List.{position_or_len}
+use Rattle.std.specs.List.{AllWithin, position_or_len}
+use Rattle.std.specs.List.Sorted.{IsNonDecreasingBy}
 use Rattle.std.proofs.lemmas.Option.{slice_get_within, slice_get-get_or, get_or_from_slice_get}
 use Rattle.std.proofs.lemmas.List.Sums.{position_or_len_is}
 use Rattle.std.proofs.lemmas.Bool.{cases_eq, eq-eqb, ne_eqb, le-ltb, cases_lt}
@@ -88,3 +89,17 @@ all_below nodes p x d r nz l h =
 
 pub none_from : (nodes : List Node) (p x : ℕ) → p ≡ length nodes → AreFrom nodes p x
 none_from nodes p x z k n l e = absurd (omega (arith, z, l, slice_get_within nodes k n e))
+
+-- rising nodes have rising ids
+pub rising_ids : (nodes : List Node) → AreRising nodes → IsNonDecreasingBy (λ (n : Node). n.id) nodes
+rising_ids nodes r i j d l w = r i j (get_or nodes i d) (get_or nodes j d) l (slice_get-get_or nodes i d (omega (arith, l, w))) (slice_get-get_or nodes j d w)
+
+pub smaller_before : (nodes : List Node) (i x : ℕ) → AllWithin (λ (n : Node). ltb n.id x ≡ true) nodes 0 i → AreSmallerBefore nodes i x
+smaller_before nodes i x h k n l e =
+    let same : (get_or nodes k n).id ≡ n.id = ap (λ (m : Node). m.id) (get_or_from_slice_get nodes k n n e) in
+    omega (arith, same, ltb-true _ _ (h k n (omega arith) l))
+
+pub from_there : (nodes : List Node) (i x : ℕ) → AllWithin (λ (n : Node). ltb n.id x ≡ false) nodes i (length nodes) → AreFrom nodes i x
+from_there nodes i x h k n l e =
+    let same : (get_or nodes k n).id ≡ n.id = ap (λ (m : Node). m.id) (get_or_from_slice_get nodes k n n e) in
+    omega (arith, same, ltb-false _ _ (h k n l (slice_get_within nodes k n e)))

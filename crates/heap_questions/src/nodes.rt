@@ -107,17 +107,7 @@ fn first_by_halves(nodes: &[Node], id: u64) -> usize
     ensures below { AreSmallerBefore nodes.now result id }
     ensures above { AreFrom nodes.now result id }
 {
-    let mut low = 0;
-    let mut high = nodes.len();
-    while low < high {
-        let middle = low + (high - low) / 2;
-        if nodes[middle].id < id {
-            low = middle + 1;
-        } else {
-            high = middle;
-        }
-    }
-    low
+    nodes.partition_point(|node| node.id < id)
 }
 
 // Finds the first node whose id is at least this, of nodes whose ids rise: at the guess if it is right, and else by halves.

@@ -1,6 +1,6 @@
 -- Sessions with questions.
 use Rattle.std.specs.Prelude.{◌≡◌, ℕ, Bool, true, false}
-use Rattle.dump_pump.specs.Outlets.{Outgoing}
+use Rattle.session_text.specs.Outlets.{Outgoing}
 use Rattle.session_text.specs.declared.Ended.{Ended}
 use Rattle.session_text.specs.Answers.{AnswerRelation, AnswersCommand, Begins}
 use Rattle.session_text.specs.Dumps.{Acts}

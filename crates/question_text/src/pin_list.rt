@@ -3,25 +3,15 @@ ghost use Rattle.std.specs.Prelude.{◌≡◌, flat_map, length, map, IfOk};
 ghost use Rattle.heap_class.specs.declared.Refusal.TheVariants.{NoMemory};
 ghost use Rattle.heap_trail.specs.Listings.{listed_pin};
 ghost use Rattle.session_text.specs.Replies.{cause_text};
-ghost use Rattle.question_text.specs.Appends.{Appends, GivesText};
+ghost use Rattle.question_text.specs.Appends.{Appends, IsTextOrNoMemory};
 ghost use Rattle.question_text.specs.Moments.{told_text};
 ghost use Rattle.question_text.specs.PinLists.{IsPinsText, pin_text, pins_text, status_words};
 
 use crate::rows::{Unanswered, push_count, push_number, push_row, push_words};
-use heap_class::{LostCause, Refusal};
+use heap_class::Refusal;
 use heap_trail::{ListedPin, Machine, PinStatus};
+use session_text::cause_word;
 use std::alloc::Global;
-
-// Returns the word of a cause.
-fn cause_word(cause: LostCause) -> &'static [u8]
-    ensures { result.now ≡ cause_text cause }
-{
-    match cause {
-        LostCause::Rewound => b"Rewound",
-        LostCause::Memory => b"Memory",
-        LostCause::Closed => b"Closed",
-    }
-}
 
 // Appends a kept pin's place and the number of the pieces given, or why the pin is lost. Fails with NoMemory.
 #[tactic(auto, unfolding(crate::specs::PinLists::status_words))]
@@ -67,7 +57,7 @@ fn push_pins(text: &mut Vec<u8>, machine: &Machine) -> Result<u64, Refusal>
 
 // Returns the lines of the open pins, and their number. Fails with NoMemory.
 fn pins_text(alloc: Global, machine: &Machine) -> Result<Vec<u8>, Refusal>
-    ensures { GivesText (λ text. text ≡ pins_text machine.now.pins) result }
+    ensures { IsTextOrNoMemory (λ text. text ≡ pins_text machine.now.pins) result }
 {
     let mut text = Vec::new(alloc);
     let count = push_pins(&mut text, machine)?;

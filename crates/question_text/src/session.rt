@@ -4,8 +4,7 @@ ghost use Rattle.session_text.specs.Endings.{EndsSession};
 ghost use Rattle.question_text.specs.Sessions.{ServesAsking};
 
 use crate::asking::Asking;
-use dump_pump::Outlet;
-use session_text::{Ended, Inlet, serve};
+use session_text::{Ended, Inlet, Outlet, serve};
 use std::alloc::Global;
 
 /// Serves a session of a private machine as `serve` does: each line of the grammar of sessions is answered as without

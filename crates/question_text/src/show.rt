@@ -2,7 +2,7 @@
 ghost use Rattle.std.specs.Prelude.{◌≡◌, ◌<◌, ◌≤◌, Some, drop, length, min, IfSome, slice_get};
 ghost use Rattle.heap_class.specs.Classes.{fields_of};
 ghost use Rattle.heap_class.specs.declared.Refusal.TheVariants.{NoMemory};
-ghost use Rattle.question_text.specs.Appends.{Appends, GivesText};
+ghost use Rattle.question_text.specs.Appends.{Appends, IsTextOrNoMemory};
 ghost use Rattle.question_text.specs.Moments.{IsToldOf, told_text};
 ghost use Rattle.question_text.specs.Names.{IsClassThere};
 ghost use Rattle.question_text.specs.Objects.{IsShowText, and_value, element_row, element_rows, field_row, field_rows, fields_up, is_marked, mark_text, object_line, object_text, shows_mark, slot_rows, value_text};
@@ -147,13 +147,14 @@ fn push_fields(
 fn push_slots(
     text: &mut Vec<u8>,
     classes: &FirstClasses<'_>,
-    kind: ObjKind,
-    words: &[u64],
+    object: &ShownObject<'_>,
 ) -> Result<(), Refusal>
-    requires { IsClassThere classes.now kind }
-    ensures { Appends (slot_rows classes.now kind words.now) text.old.items text.new.items result }
+    requires { IsClassThere classes.now object.now.kind }
+    ensures { Appends (slot_rows classes.now object.now.kind object.now.words)
+        text.old.items text.new.items result }
 {
-    match kind {
+    let words = object.words();
+    match object.kind() {
         ObjKind::Instance(class) => push_fields(text, classes, class, words),
         ObjKind::Array(_) => push_elements(text, Kind::Object, words),
         ObjKind::Prim(kind) => push_elements(text, kind, words),
@@ -176,17 +177,17 @@ fn push_mark(text: &mut Vec<u8>, marked: bool) -> Result<(), Refusal>
 fn push_object(
     text: &mut Vec<u8>,
     classes: &FirstClasses<'_>,
-    kind: ObjKind,
-    slots: u64,
+    object: &ShownObject<'_>,
     marked: bool,
 ) -> Result<(), Refusal>
-    requires { IsClassThere classes.now kind }
-    ensures { Appends (object_line classes.now kind slots marked)
+    requires { IsClassThere classes.now object.now.kind }
+    ensures { Appends
+        (object_line classes.now object.now.kind (length object.now.words) marked)
         text.old.items text.new.items result }
 {
     push_words(text, b"ok object ")?;
-    push_class_name(text, classes, kind)?;
-    push_number(text, slots)?;
+    push_class_name(text, classes, object.kind())?;
+    push_number(text, object.words().len() as u64)?;
     push_mark(text, marked)?;
     push_words(text, b"\n")
 }
@@ -199,18 +200,11 @@ fn object_lines(
     marked: bool,
 ) -> Result<Vec<u8>, Refusal>
     requires { IsClassThere classes.now object.now.kind }
-    ensures { GivesText (λ text. text ≡ object_text classes.now object.now marked) result }
+    ensures { IsTextOrNoMemory (λ text. text ≡ object_text classes.now object.now marked) result }
 {
-    let words = object.words();
     let mut text = Vec::new(alloc);
-    push_slots(&mut text, classes, object.kind(), words)?;
-    push_object(
-        &mut text,
-        classes,
-        object.kind(),
-        words.len() as u64,
-        marked,
-    )?;
+    push_slots(&mut text, classes, object)?;
+    push_object(&mut text, classes, object, marked)?;
     Ok(text)
 }
 

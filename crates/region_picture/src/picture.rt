@@ -9,7 +9,6 @@ use heap_class::{FirstClasses, Refusal};
 use heap_questions::{CLASS_ROWS, Row, count_by_class, ranking};
 use heap_region::Regions;
 use heap_trail::Machine;
-use heap_world::World;
 use hprof_text::View;
 use std::alloc::{AllocError, Global};
 
@@ -78,8 +77,12 @@ fn add_sort(
 }
 
 // Appends the cells of all regions.
-fn add_regions(text: &mut Vec<u8>, world: &World, palette: &Palette) -> Result<(), AllocError> {
-    let regions = world.regions();
+fn add_regions(
+    text: &mut Vec<u8>,
+    regions: &Regions,
+    gray: &[u64],
+    palette: &Palette,
+) -> Result<(), AllocError> {
     add_labels(text, regions)?;
     add_sort(text, regions, palette, CellSort::Free, b"#eeeeee", b"9")?;
     for color in 0..COLORS.len() {
@@ -95,7 +98,7 @@ fn add_regions(text: &mut Vec<u8>, world: &World, palette: &Palette) -> Result<(
     add_sort(text, regions, palette, CellSort::Dead, b"url(#dead)", b"9")?;
     add_sort(text, regions, palette, CellSort::Marked, b"#000000", b"2")?;
     add_path_begin(text, b"#e00000", b"2")?;
-    add_gray(text, regions, world.gray())?;
+    add_gray(text, regions, gray)?;
     add_path_end(text)
 }
 
@@ -143,13 +146,14 @@ pub fn picture_of(alloc: Global, machine: &Machine) -> Result<Vec<u8>, Refusal> 
     let rows = histogram.as_slice();
     let palette = Palette::new(alloc, rows.len(), ranked.as_slice())?;
     let world = machine.world();
-    let legend = middle_of(world.regions().count()).saturating_add(LEGEND_STEP);
+    let regions = world.regions();
+    let legend = middle_of(regions.count()).saturating_add(LEGEND_STEP);
     let behind = legend.saturating_add(LEGEND_STEP.saturating_mul(class_lines(ranked.as_slice())));
     let height = behind.saturating_add(LEGEND_STEP.saturating_mul(OTHER_LINES));
     let mut text = Vec::new(alloc);
     add_head(&mut text, height)?;
     add_title(&mut text, machine.place(), rows)?;
-    add_regions(&mut text, world, &palette)?;
+    add_regions(&mut text, regions, world.gray(), &palette)?;
     add_rows(
         alloc,
         &mut text,

@@ -1,6 +1,6 @@
 -- Lines that are answered, and a session so far.
-use Rattle.std.proofs.Common.{◌≡◌, ℕ, ◌+◌, ◌-◌, ◌<◌, ◌≤◌, ◌⊎◌, inl, inr, Bool, true, false, List, [], ◌∷◌, ◌++◌, take, drop, length, length-append, Option, Some, None, refl, ap, sym, ◌∙◌, subst, arith, append_assoc}
-use Rattle.std.proofs.lemmas.List.{append-nil, length-drop, length-take-le, take-take, take_all}
+use Rattle.std.proofs.Common.{◌≡◌, ℕ, ◌+◌, ◌<◌, ◌≤◌, ◌⊎◌, inl, inr, Bool, true, false, List, [], ◌∷◌, ◌++◌, take, drop, length, length-append, Option, Some, None, refl, ap, sym, ◌∙◌, subst, arith, append_assoc}
+use Rattle.std.proofs.lemmas.List.{append-nil, length-take-le, take-take}
 use Rattle.std.proofs.lemmas.List.Elements.{All-nil, All-cons, All-append, All-take}
 use Rattle.std.specs.Bool.{◌==◌}
 use Rattle.std.proofs.lemmas.Grind.{flat_map-append}
@@ -16,7 +16,7 @@ use Rattle.session_text.specs.declared.answer.Flow.TheVariants.{Next, Quit as St
 use Rattle.session_grammar.specs.declared.command.Command.{Command}
 use Rattle.session_grammar.specs.declared.command.Command.TheVariants.{Blank, Bad, Ask, Piece, Dump, DumpNow, End}
 use Rattle.session_text.specs.Answers.{Reaction, AnswerRelation, AnswersTo, BeginsTo}
-use Rattle.session_text.specs.Dumps.{Acts, DumpsPin, DumpsNow, WritesDump}
+use Rattle.session_text.specs.Dumps.{Acts, DumpsPin, WritesDump}
 use Rattle.session_text.specs.Endings.{EndsSession, ended_of, flow_of}
 use Rattle.session_grammar.specs.Grammar.{command_of}
 use Rattle.session_text.specs.Inlets.{Incoming, whole}
@@ -127,12 +127,12 @@ pub line_cut : {S : Type 0} (begins : AnswerRelation S) (bytes s : List ℕ) (n 
 line_cut begins bytes s n c tail c' e most at h = (take n s, subst (λ l. BeginsWith (take n s) l) e (begins_with s n most at), h)
 
 -- nothing has changed since lines were answered
-pub answered_left : {S : Type 0} (says : AnswerRelation S) (text : List ℕ) (size : ℕ) (c : S) (page : List ℕ) (w : Outgoing) (c1 : S) (page1 : List ℕ) (w1 : Outgoing) (c2 : S) (page2 : List ℕ) (w2 : Outgoing)
-    → (c2 ≡ c1) × (page2 ≡ page1) × (w2 ≡ w1) → AreFirstAnswered says text size c page w c1 page1 w1 → AreFirstAnswered says text size c page w c2 page2 w2
-answered_left says text size c page w c1 page1 w1 c2 page2 w2 same h =
-    let a = subst (λ x. AreFirstAnswered says text size c page w x page1 w1) (sym same.0) h in
-    let b = subst (λ x. AreFirstAnswered says text size c page w c2 x w1) (sym same.1) a in
-    subst (λ x. AreFirstAnswered says text size c page w c2 page2 x) (sym same.2) b
+pub answered_left : {S : Type 0} (says : AnswerRelation S) (bytes : List ℕ) (c : S) (page : List ℕ) (w : Outgoing) (rest : List ℕ) (c1 : S) (page1 : List ℕ) (w1 : Outgoing) (c2 : S) (page2 : List ℕ) (w2 : Outgoing)
+    → (c2 ≡ c1) × (page2 ≡ page1) × (w2 ≡ w1) → AreFirstAnswered says bytes c page w rest c1 page1 w1 → AreFirstAnswered says bytes c page w rest c2 page2 w2
+answered_left says bytes c page w rest c1 page1 w1 c2 page2 w2 same h =
+    let a = subst (λ x. AreFirstAnswered says bytes c page w rest x page1 w1) (sym same.0) h in
+    let b = subst (λ x. AreFirstAnswered says bytes c page w rest c2 x w1) (sym same.1) a in
+    subst (λ x. AreFirstAnswered says bytes c page w rest c2 page2 x) (sym same.2) b
 
 -- ---- lines that are too long
 
@@ -151,13 +151,8 @@ long_rest bytes more none = (more, All-take (λ b. (b == 10) ≡ false) 4097 byt
 abbrev pub IsSoFar : {S : Type 0} → AnswerRelation S → List ℕ → S → Outgoing → List ℕ → S → List ℕ → Outgoing → Type 0
 IsSoFar says bytes c w rest c' page' w' = (text : List ℕ) × IsTalk says bytes c rest text c' × IsTextAdded text [] w page' w' true
 
-pub so_far_more : {S : Type 0} (says : AnswerRelation S) (bytes : List ℕ) (c : S) (w : Outgoing) (rest : List ℕ) (c1 : S) (page1 : List ℕ) (w1 : Outgoing) (s : List ℕ) (size : ℕ) (rest2 : List ℕ) (c2 : S) (page2 : List ℕ) (w2 : Outgoing)
-    → IsSoFar says bytes c w rest c1 page1 w1 → s ≡ rest → rest2 ≡ drop size rest → AreFirstAnswered says s size c1 page1 w1 c2 page2 w2 → IsSoFar says bytes c w rest2 c2 page2 w2
-so_far_more says bytes c w rest c1 page1 w1 s size rest2 c2 page2 w2 i e passed h =
-    let there : drop size s ≡ rest2 = ap (drop size) e ∙ sym passed in
-    let from = subst (λ b. IsTalk says b c1 (drop size s) h.0 c2) e h.1 in
-    let talk = subst (λ r. IsTalk says rest c1 r h.0 c2) there from in
-    (i.0 ++ h.0, talk_then says bytes c rest i.0 c1 rest2 h.0 c2 i.1 talk, added_more i.0 h.0 [] w page1 w1 page2 w2 true i.2 h.2)
+pub so_far_more : {S : Type 0} (says : AnswerRelation S) (bytes : List ℕ) (c : S) (w : Outgoing) (rest : List ℕ) (c1 : S) (page1 : List ℕ) (w1 : Outgoing) (rest2 : List ℕ) (c2 : S) (page2 : List ℕ) (w2 : Outgoing) → IsSoFar says bytes c w rest c1 page1 w1 → AreFirstAnswered says rest c1 page1 w1 rest2 c2 page2 w2 → IsSoFar says bytes c w rest2 c2 page2 w2
+so_far_more says bytes c w rest c1 page1 w1 rest2 c2 page2 w2 i h = (i.0 ++ h.0, talk_then says bytes c rest i.0 c1 rest2 h.0 c2 i.1 h.1, added_more i.0 h.0 [] w page1 w1 page2 w2 true i.2 h.2)
 
 so_far_left : {S : Type 0} (says : AnswerRelation S) (bytes : List ℕ) (c : S) (w : Outgoing) (rest : List ℕ) (c1 : S) (page1 : List ℕ) (w1 : Outgoing) (rest2 : List ℕ) (c2 : S) (page2 : List ℕ) (w2 : Outgoing)
     → IsSoFar says bytes c w rest c1 page1 w1 → rest2 ≡ rest → c2 ≡ c1 → page2 ≡ page1 → w2 ≡ w1 → IsSoFar says bytes c w rest2 c2 page2 w2
@@ -192,13 +187,12 @@ so_far_then says begins bytes c w rest c1 page1 w1 rest2 c2 page2 w2 (Some Fault
     (rest, i.0, c1, i.1, (h.0, h.1, h.2, h.3, added_more i.0 h.1 [] w page1 w1 page2 w2 false i.2 h.4))
 
 -- the answer of a line behind these was cut short
-pub so_far_cut : {S : Type 0} (says begins : AnswerRelation S) (bytes : List ℕ) (c : S) (w : Outgoing) (rest : List ℕ) (c1 : S) (page1 : List ℕ) (w1 : Outgoing) (s after : List ℕ) (c2 : S) (page2 : List ℕ) (w2 : Outgoing)
-    → IsSoFar says bytes c w rest c1 page1 w1 → s ≡ rest → IsFirstCut says begins s c1 page1 w1 c2 page2 w2 → AreLinesAnswered says begins bytes c w after c2 page2 w2 Fault
-so_far_cut says begins bytes c w rest c1 page1 w1 s after c2 page2 w2 i e h =
-    let talk = subst (λ b. IsTalk says b c1 h.0 h.1 h.2) e h.3 in
+pub so_far_cut : {S : Type 0} (says begins : AnswerRelation S) (bytes : List ℕ) (c : S) (w : Outgoing) (rest : List ℕ) (c1 : S) (page1 : List ℕ) (w1 : Outgoing) (after : List ℕ) (c2 : S) (page2 : List ℕ) (w2 : Outgoing)
+    → IsSoFar says bytes c w rest c1 page1 w1 → IsFirstCut says begins rest c1 page1 w1 c2 page2 w2 → AreLinesAnswered says begins bytes c w after c2 page2 w2 Fault
+so_far_cut says begins bytes c w rest c1 page1 w1 after c2 page2 w2 i h =
     let cut = added_more i.0 (h.1 ++ h.5) [] w page1 w1 page2 w2 false i.2 h.8 in
     let all = subst (λ t. IsTextWritten t w w2 false) (sym (append_assoc i.0 h.1 h.5)) cut in
-    (h.0, i.0 ++ h.1, h.2, talk_then says bytes c rest i.0 c1 h.0 h.1 h.2 i.1 talk, (h.4, h.5, h.6, h.7, all))
+    (h.0, i.0 ++ h.1, h.2, talk_then says bytes c rest i.0 c1 h.0 h.1 h.2 i.1 h.3, (h.4, h.5, h.6, h.7, all))
 
 -- ---- sessions
 

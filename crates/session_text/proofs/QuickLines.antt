@@ -8,7 +8,7 @@ use Rattle.heap_trail.specs.declared.Action.{Action}
 use Rattle.heap_trail.specs.declared.Action.TheVariants.{Step}
 use Rattle.session_grammar.specs.declared.command.Command.{Command}
 use Rattle.session_grammar.specs.declared.command.Command.TheVariants.{Bad, Ask}
-use Rattle.session_grammar.specs.Grammar.{words_of_line, next_number, at_end, one_number, two_numbers, three_numbers, four_numbers, new_line, load_line, store_line, put_line, move_line, clear_line, step_line, rewind_line, making_rules, access_rules, marking_rules, session_rules, by_rule, without_cr, command_of_text, command_of}
+use Rattle.session_grammar.specs.Grammar.{words_of_line, next_number, at_end, one_number, two_numbers, three_numbers, four_numbers, step_line, rewind_line, making_rules, access_rules, marking_rules, session_rules, by_rule, without_cr, command_of_text, command_of}
 use Rattle.session_grammar.specs.Reads.{IsNumberFrom, IsNumberThen, plain_class_rules, plain_rules}
 use Rattle.session_grammar.specs.Lines.{NoLf}
 use Rattle.session_text.specs.Mutators.{FollowsIn, IsActionAsked, IsActionDone, IsPassed, IsQuick, IsQuickIn, IsShortLine, quick_of}

@@ -1,5 +1,5 @@
 -- Sessions: the lines that were read, and the texts written for them.
-use Rattle.std.specs.Prelude.{◌≡◌, ℕ, ◌+◌, ◌≤◌, ◌<◌, ◌⊎◌, true, false, List, [], ◌∷◌, ◌++◌, take, drop, length, flat_map, codes, All, Option, Some, None}
+use Rattle.std.specs.Prelude.{◌≡◌, ℕ, ◌+◌, ◌≤◌, ◌<◌, ◌⊎◌, true, false, List, [], ◌∷◌, ◌++◌, take, length, flat_map, codes, All, Option, Some, None}
 use Rattle.std.specs.Io.KnownBytes.{Keeps}
 use Rattle.dump_pump.specs.Outlets.{Outgoing}
 use Rattle.session_text.specs.declared.Ended.{Ended}
@@ -93,20 +93,20 @@ AreLinesAnswered {S} says begins bytes c w rest c' page' w' Fault =
     (left : List ℕ) × (text : List ℕ) × (between : S) × IsTalk says bytes c left text between
     × IsBrokenOff begins text left between w c' w'
 
--- the first lines of a text, which have this size, were answered, and the answers added to a page
-abbrev pub AreFirstAnswered : {S : Type 0} → AnswerRelation S → List ℕ → ℕ → S → List ℕ → Outgoing
-    → S
+-- the first lines of some bytes were answered, and the answers added to a page
+abbrev pub AreFirstAnswered : {S : Type 0} → AnswerRelation S → List ℕ → S → List ℕ → Outgoing
+    → List ℕ → S
     → List ℕ → Outgoing → Type 0
-AreFirstAnswered says text size c page w c' page' w' =
-    (answers : List ℕ) × IsTalk says text c (drop size text) answers c'
+AreFirstAnswered says bytes c page w rest c' page' w' =
+    (answers : List ℕ) × IsTalk says bytes c rest answers c'
     × IsTextAdded answers page w page' w' true
 
--- the first lines of a text were answered, and a write failed in the answer of the next
+-- the first lines of some bytes were answered, and a write failed in the answer of the next
 abbrev pub IsFirstCut : {S : Type 0} → AnswerRelation S → AnswerRelation S → List ℕ → S → List ℕ
     → Outgoing → S
     → List ℕ → Outgoing → Type 0
-IsFirstCut {S} says begins text c page w c' page' w' =
-    (left : List ℕ) × (answers : List ℕ) × (between : S) × IsTalk says text c left answers between
+IsFirstCut {S} says begins bytes c page w c' page' w' =
+    (left : List ℕ) × (answers : List ℕ) × (between : S) × IsTalk says bytes c left answers between
     × (l : List ℕ) × (tail : List ℕ) × BeginsWith l left × begins l between tail c'
     × IsTextAdded (answers ++ tail) page w page' w' false
 

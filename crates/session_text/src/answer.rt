@@ -9,13 +9,12 @@ ghost use Rattle.session_text.specs.Writes.{IsTextAdded};
 ghost use Rattle.session_grammar.specs.declared.TheConstants.{LINE_LIMIT};
 
 use crate::act::answer_action;
-use crate::buffer::Buffer;
 use crate::commands::{Commands, LineAnswer};
-use crate::context::Context;
 use crate::dump::{write_dump, write_dump_now};
 use crate::mutator::{Quick, answer_mutator};
 use crate::page::Page;
 use crate::reply::write_reply;
+use crate::session::{Context, Session};
 use crate::write::{write_long, write_number_line, write_text};
 use dump_pump::Outlet;
 use heap_class::Refusal;
@@ -83,7 +82,7 @@ fn answer_unknown<O: Outlet, C: Commands>(
 #[inline(never)]
 fn answer_text<O: Outlet, C: Commands>(
     context: Context,
-    marks: &mut FieldSpans,
+    spans: &mut FieldSpans,
     text: &[u8],
     page: &mut Page,
     writer: &mut O,
@@ -97,7 +96,7 @@ fn answer_text<O: Outlet, C: Commands>(
         (O.seen writer.new) result }
 {
     let Context { alloc, time } = context;
-    match command_of_text(alloc, marks, text) {
+    match command_of_text(alloc, spans, text) {
         Err(_) => next_unless(write_reply(page, writer, &Reply::Refused(Refusal::NoMemory))),
         Ok(Command::Blank) => Flow::Next,
         Ok(Command::Bad) => next_unless(answer_unknown(alloc, text, page, writer, commands)),
@@ -112,39 +111,25 @@ fn answer_text<O: Outlet, C: Commands>(
     }
 }
 
-// Adds the answer to a line to a page, which is flushed whenever it is full.
-fn answer_line<O: Outlet, C: Commands>(
-    context: Context,
-    marks: &mut FieldSpans,
-    line: &[u8],
-    page: &mut Page,
-    writer: &mut O,
-    commands: &mut C,
-) -> Flow
-    requires { length line.now ≤ LINE_LIMIT }
-    ensures { IsLineFlow (AnswersCommand C.acts C.unknown context.time line.now)
-        (Begins C.acts C.unknown context.time line.now) (command_of line.now) commands.old page.old
-        (O.seen writer.old) commands.new page.new (O.seen writer.new) result }
-{
-    answer_text(context, marks, without_cr(line), page, writer, commands)
-}
-
 // Answers the first line of a buffer if it is whole, and adds the answer to a page, which is flushed whenever it is full.
 // Returns None if no line is whole.
 #[inline(never)]
 fn answer_first<O: Outlet, C: Commands>(
     context: Context,
-    marks: &mut FieldSpans,
-    buffer: &mut Buffer,
-    page: &mut Page,
+    session: &mut Session,
     writer: &mut O,
     commands: &mut C,
 ) -> Option<Flow>
     ensures { IsFirst (AnswersCommand C.acts C.unknown context.time)
         (Begins C.acts C.unknown context.time)
-        buffer.old commands.old page.old (O.seen writer.old) buffer.new commands.new page.new
-        (O.seen writer.new) result }
+        session.old.buffer commands.old session.old.page (O.seen writer.old) session.new.buffer
+        commands.new session.new.page (O.seen writer.new) result }
 {
+    let Session {
+        buffer,
+        page,
+        spans,
+    } = session;
     let Some(n) = buffer.line_end() else {
         if buffer.as_slice().len() > LINE_LIMIT {
             return Some(Flow::Long);
@@ -154,8 +139,8 @@ fn answer_first<O: Outlet, C: Commands>(
     if n > LINE_LIMIT {
         return Some(Flow::Long);
     }
-    let line = &buffer.as_slice()[..n];
-    match answer_line(context, marks, line, page, writer, commands) {
+    let line = without_cr(&buffer.as_slice()[..n]);
+    match answer_text(context, spans, line, page, writer, commands) {
         Flow::Next => buffer.pass(n + 1),
         Flow::Quit => return Some(Flow::Quit),
         Flow::Long => return Some(Flow::Long),
@@ -164,56 +149,60 @@ fn answer_first<O: Outlet, C: Commands>(
     Some(Flow::Next)
 }
 
-// Answers the first lines of a text, as long as each can be answered at once. Returns whether no write failed, and the size of
-// the lines that were answered.
+// Answers the first lines of a session's buffer, as long as each can be answered at once, and drops them. Returns false if a
+// write failed.
 #[inline(always)]
 fn answer_mutators<O: Outlet, C: Commands>(
-    text: &[u8],
-    page: &mut Page,
+    session: &mut Session,
     writer: &mut O,
     commands: &mut C,
-) -> (bool, usize)
-    ensures within { result.1 ≤ length text.now }
-    ensures answered { result.0 ≡ true → (time : ℕ)
-        → AreFirstAnswered (AnswersCommand C.acts C.unknown time) text.now result.1 commands.old
-        page.old (O.seen writer.old) commands.new page.new (O.seen writer.new) }
-    ensures cut { result.0 ≡ false → (time : ℕ)
-        → IsFirstCut (AnswersCommand C.acts C.unknown time) (Begins C.acts C.unknown time) text.now
-        commands.old page.old (O.seen writer.old) commands.new page.new (O.seen writer.new) }
+) -> bool
+    ensures answered { result ≡ true → (time : ℕ)
+        → AreFirstAnswered (AnswersCommand C.acts C.unknown time) session.old.buffer commands.old
+        session.old.page (O.seen writer.old) session.new.buffer commands.new session.new.page
+        (O.seen writer.new) }
+    ensures cut { result ≡ false → (time : ℕ)
+        → IsFirstCut (AnswersCommand C.acts C.unknown time) (Begins C.acts C.unknown time)
+        session.old.buffer commands.old session.old.page (O.seen writer.old) commands.new
+        session.new.page (O.seen writer.new) }
 {
+    let Session {
+        buffer,
+        page,
+        spans: _,
+    } = session;
+    let text = buffer.as_slice();
     let mut passed = 0;
     loop {
         match answer_mutator(&text[passed..], page, writer, commands) {
             (Quick::Next, n) => passed += n + 1,
-            (Quick::No, _) => return (true, passed),
-            (Quick::Fault, _) => return (false, passed),
+            (Quick::No, _) => break,
+            (Quick::Fault, _) => return false,
         }
     }
+    buffer.pass(passed);
+    true
 }
 
 /// Answers the whole lines of a buffer, up to the first that is too long, and adds their answers to an empty page, which is
 /// flushed whenever it is full.
 pub fn answer_lines<O: Outlet, C: Commands>(
     context: Context,
-    marks: &mut FieldSpans,
-    buffer: &mut Buffer,
-    page: &mut Page,
+    session: &mut Session,
     writer: &mut O,
     commands: &mut C,
 ) -> Flow
-    requires { page.old ≡ [] }
+    requires { session.old.page ≡ [] }
     ensures { AreLinesAnswered (AnswersCommand C.acts C.unknown context.time)
         (Begins C.acts C.unknown context.time)
-        buffer.old commands.old (O.seen writer.old) buffer.new commands.new page.new
-        (O.seen writer.new) result }
+        session.old.buffer commands.old (O.seen writer.old) session.new.buffer commands.new
+        session.new.page (O.seen writer.new) result }
 {
     loop {
-        let (written, passed) = answer_mutators(buffer.as_slice(), page, writer, commands);
-        if !written {
+        if !answer_mutators(session, writer, commands) {
             return Flow::Fault;
         }
-        buffer.pass(passed);
-        match answer_first(context, marks, buffer, page, writer, commands) {
+        match answer_first(context, session, writer, commands) {
             None => return Flow::Next,
             Some(Flow::Next) => {}
             Some(Flow::Quit) => return Flow::Quit,

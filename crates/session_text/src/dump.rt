@@ -8,20 +8,10 @@ use crate::commands::Commands;
 use crate::data::write_data;
 use crate::page::Page;
 use crate::reply::{piece_in, pin_in, write_reply};
-use crate::write::make_room;
+use crate::write::{write_number_line, write_text};
 use dump_pump::Outlet;
 use dump_pump::source::PART_LIMIT;
 use heap_trail::Action;
-
-// Adds the last line of a dump.
-fn add_total(page: &mut Page, total: u64)
-    requires { length page.old ≤ LINE_START }
-    ensures { page.new ≡ page.old ++ total_line total }
-{
-    page.add(b"ok dump");
-    page.add_number(total);
-    page.add(b"\n");
-}
 
 // Adds the last line of a dump to a page, which is flushed first unless it has room for one more line. Returns false if a
 // write failed.
@@ -29,11 +19,10 @@ fn write_total<O: Outlet>(page: &mut Page, outlet: &mut O, total: u64) -> bool
     ensures { IsTextAdded (total_line total) page.old (O.seen outlet.old) page.new
         (O.seen outlet.new) result }
 {
-    if !make_room(page, outlet) {
+    if !write_text(page, outlet, b"ok dump") {
         return false;
     }
-    add_total(page, total);
-    true
+    write_number_line(page, outlet, total)
 }
 
 /// Adds a dump of a pin to a page, which is flushed whenever it is full: the data lines of the pin's pieces, and their length

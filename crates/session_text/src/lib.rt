@@ -11,7 +11,6 @@ mod act;
 mod answer;
 mod buffer;
 pub mod commands;
-mod context;
 mod data;
 mod digits;
 mod dump;
@@ -20,14 +19,17 @@ mod mutator;
 mod page;
 pub mod read_inlet;
 mod reply;
+mod session;
 mod short_lines;
 mod talk;
 mod write;
 
 pub use commands::{Commands, LineAnswer, Local};
+pub use dump_pump::Outlet;
 pub use heap_trail::Machine;
 pub use inlet::{Inlet, Take};
 pub use read_inlet::ReadInlet;
+pub use reply::cause_word;
 pub use talk::{serve, serve_local};
 pub use write::write_all;
 

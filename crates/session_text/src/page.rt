@@ -79,10 +79,6 @@ impl Page {
         ensures text { self.new ≡ self.old ++ and_number n }
         ensures short { length self.new ≤ length self.old + 21 }
     {
-        if n < 10 {
-            self.add(&[b' ', b'0' + n as u8]);
-            return;
-        }
         self.add(b" ");
         self.add(itoa::Buffer::new().format(n).as_bytes());
     }

@@ -3,7 +3,7 @@ ghost use Rattle.std.specs.Prelude.{◌≡◌, ◌+◌, ◌≤◌, ◌++◌, len
 ghost use Rattle.heap_class.specs.Table.{refusal_name};
 ghost use Rattle.heap_step.specs.declared.Answer.TheVariants.{Object, Swept};
 ghost use Rattle.heap_trail.specs.declared.Reply.TheVariants.{Answered, Pinned};
-ghost use Rattle.session_text.specs.Replies.{answer_text, cause_text, facts_text, refusal_text, line, piece_words, reply_words, reply_data, reply_text, data_lines, piece_in, pin_in};
+ghost use Rattle.session_text.specs.Replies.{and_number, answer_text, cause_text, facts_text, refusal_text, line, piece_words, reply_words, reply_data, reply_text, data_lines, piece_in, pin_in};
 ghost use Rattle.session_text.specs.Writes.{IsTextAdded};
 ghost use Rattle.session_text.specs.declared.page.TheConstants.{PAGE_LIMIT};
 ghost use Rattle.session_text.specs.declared.write.TheConstants.{LINE_START};
@@ -15,6 +15,17 @@ use dump_pump::{Outlet, Piece};
 use heap_class::{LostCause, Refusal};
 use heap_step::Answer;
 use heap_trail::Reply;
+
+// Adds words, a space and a number.
+#[inline(always)]
+fn add_numbered(page: &mut Page, words: &[u8], n: u64)
+    requires { length page.old + length words.now + 21 ≤ PAGE_LIMIT }
+    ensures text { page.new ≡ page.old ++ (words.now ++ and_number n) }
+    ensures short { length page.new ≤ length page.old + length words.now + 21 }
+{
+    page.add(words);
+    page.add_number(n);
+}
 
 // Adds the answer of an event that made or loaded an object.
 fn add_object(page: &mut Page, id: u64)
@@ -32,45 +43,33 @@ fn add_swept(page: &mut Page, dead: u64, emptied: bool)
     ensures text { page.new ≡ page.old ++ answer_text (Swept emptied dead) }
     ensures short { length page.new ≤ length page.old + 35 }
 {
-    page.add(b"ok swept");
-    page.add_number(dead);
+    add_numbered(page, b"ok swept", dead);
     if emptied {
         page.add(b" empty");
     }
 }
 
 // Adds the answer of an event.
+#[inline(always)]
 fn add_answer(page: &mut Page, answer: Answer)
     requires { length page.old ≤ LINE_START }
     ensures text { page.new ≡ page.old ++ answer_text answer }
     ensures short { length page.new ≤ length page.old + 35 }
 {
     match answer {
-        Answer::Class(k) => {
-            page.add(b"ok class");
-            page.add_number(k);
-        }
+        Answer::Class(k) => add_numbered(page, b"ok class", k),
         Answer::Object(id) => add_object(page, id),
         Answer::Null => page.add(b"ok null"),
-        Answer::Value(value) => {
-            page.add(b"ok value");
-            page.add_number(value);
-        }
+        Answer::Value(value) => add_numbered(page, b"ok value", value),
         Answer::Done => page.add(b"ok"),
-        Answer::Pushed(count) => {
-            page.add(b"ok pushed");
-            page.add_number(count);
-        }
-        Answer::Condemned(count) => {
-            page.add(b"ok condemned");
-            page.add_number(count);
-        }
+        Answer::Pushed(count) => add_numbered(page, b"ok pushed", count),
+        Answer::Condemned(count) => add_numbered(page, b"ok condemned", count),
         Answer::Swept { dead, emptied } => add_swept(page, dead, emptied),
     }
 }
 
-// Returns the word of a cause.
-fn cause_word(cause: LostCause) -> &'static [u8]
+/// Returns the word of a cause.
+pub fn cause_word(cause: LostCause) -> &'static [u8]
     ensures word { result.now ≡ cause_text cause }
     ensures short { length result.now ≤ 9 }
 {
@@ -120,8 +119,7 @@ fn add_refusal(page: &mut Page, refusal: Refusal)
     ensures text { page.new ≡ page.old ++ refusal_text refusal }
     ensures short { length page.new ≤ length page.old + 80 }
 {
-    page.add(b"no");
-    page.add_number(refusal.number());
+    add_numbered(page, b"no", refusal.number());
     page.add(b" ");
     page.add(name_of(refusal));
     add_facts(page, refusal);
@@ -133,10 +131,8 @@ fn add_pinned(page: &mut Page, pin: u64, at: u64)
     ensures text { page.new ≡ page.old ++ reply_words (Pinned pin at) }
     ensures short { length page.new ≤ length page.old + 51 }
 {
-    page.add(b"ok pin");
-    page.add_number(pin);
-    page.add(b" at");
-    page.add_number(at);
+    add_numbered(page, b"ok pin", pin);
+    add_numbered(page, b" at", at);
 }
 
 // Adds the length of a piece, and whether it is the last.
@@ -145,8 +141,8 @@ fn add_piece(page: &mut Page, piece: &Piece)
     ensures text { page.new ≡ page.old ++ piece_words piece.now }
     ensures short { length page.new ≤ length page.old + 29 }
 {
-    page.add(if piece.last { b"ok last" } else { b"ok piece" });
-    page.add_number(piece.bytes.as_slice().len() as u64);
+    let words: &[u8] = if piece.last { b"ok last" } else { b"ok piece" };
+    add_numbered(page, words, piece.bytes.as_slice().len() as u64);
 }
 
 // Adds the last line of a reply.
@@ -156,37 +152,12 @@ fn add_last_line(page: &mut Page, reply: &Reply)
 {
     match reply {
         Reply::Answered(answer) => add_answer(page, *answer),
-        Reply::Place(place) => {
-            page.add(b"ok place");
-            page.add_number(*place);
-        }
+        Reply::Place(place) => add_numbered(page, b"ok place", *place),
         Reply::Pinned { pin, at } => add_pinned(page, *pin, *at),
         Reply::Part(piece) => add_piece(page, piece),
         Reply::Closed => page.add(b"ok"),
         Reply::Refused(refusal) => add_refusal(page, *refusal),
     }
-    page.add(b"\n");
-}
-
-// Adds the last line of a reply to a page, which is flushed first unless it has room for one more line. Returns false if a
-// write failed.
-fn write_last_line<O: Outlet>(page: &mut Page, outlet: &mut O, reply: &Reply) -> bool
-    ensures { IsTextAdded (line (reply_words reply.now)) page.old (O.seen outlet.old) page.new
-        (O.seen outlet.new) result }
-{
-    if !make_room(page, outlet) {
-        return false;
-    }
-    add_last_line(page, reply);
-    true
-}
-
-// Adds the line of an event's answer.
-fn add_answer_line(page: &mut Page, answer: Answer)
-    requires { length page.old ≤ LINE_START }
-    ensures { page.new ≡ page.old ++ line (answer_text answer) }
-{
-    add_answer(page, answer);
     page.add(b"\n");
 }
 
@@ -200,17 +171,9 @@ pub fn write_answer<O: Outlet>(page: &mut Page, outlet: &mut O, answer: Answer) 
     if !make_room(page, outlet) {
         return false;
     }
-    add_answer_line(page, answer);
-    true
-}
-
-// Adds the line of the answer of an event that made or loaded an object.
-fn add_object_line(page: &mut Page, id: u64)
-    requires { length page.old ≤ LINE_START }
-    ensures { page.new ≡ page.old ++ line (answer_text (Object id)) }
-{
-    add_object(page, id);
+    add_answer(page, answer);
     page.add(b"\n");
+    true
 }
 
 /// Does what `write_answer` does with the answer of an event that made or loaded an object, which is the most frequent answer
@@ -220,11 +183,7 @@ pub fn write_object<O: Outlet>(page: &mut Page, outlet: &mut O, id: u64) -> bool
     ensures { IsTextAdded (reply_text (Answered (Object id))) page.old (O.seen outlet.old)
         page.new (O.seen outlet.new) result }
 {
-    if !make_room(page, outlet) {
-        return false;
-    }
-    add_object_line(page, id);
-    true
+    write_answer(page, outlet, Answer::Object(id))
 }
 
 // Returns the bytes that a reply prints before its last line: those of a piece.
@@ -243,7 +202,14 @@ pub fn write_reply<O: Outlet>(page: &mut Page, outlet: &mut O, reply: &Reply) ->
     ensures { IsTextAdded (reply_text reply.now) page.old (O.seen outlet.old) page.new
         (O.seen outlet.new) result }
 {
-    write_data(page, outlet, data_of(reply)) && write_last_line(page, outlet, reply)
+    if !write_data(page, outlet, data_of(reply)) {
+        return false;
+    }
+    if !make_room(page, outlet) {
+        return false;
+    }
+    add_last_line(page, reply);
+    true
 }
 
 /// Returns the piece that a reply gives, if it gives one.

@@ -7,42 +7,38 @@ ghost use Rattle.session_text.specs.Talks.{Serves};
 ghost use Rattle.session_text.specs.declared.write.TheConstants.{TEXT_LIMIT};
 
 use crate::answer::{Flow, answer_lines};
-use crate::buffer::Buffer;
 use crate::commands::{Commands, Local};
-use crate::context::Context;
 use crate::inlet::{Inlet, Take};
-use crate::page::Page;
+use crate::session::{Context, Session};
 use crate::write::{flush, write_text};
 use crate::{Ended, READ_LIMIT};
 use dump_pump::Outlet;
-use session_grammar::spans::FieldSpans;
 use std::alloc::Global;
 
-// Puts out a page and the line of an ending.
-fn end_with<O: Outlet>(page: &mut Page, outlet: &mut O, ended: Ended, line: &[u8]) -> Ended
+// Puts out a session's page and the line of an ending.
+fn end_with<O: Outlet>(session: &mut Session, outlet: &mut O, ended: Ended, line: &[u8]) -> Ended
     requires { length line.now ≤ TEXT_LIMIT }
-    ensures { EndsWith line.now page.old (O.seen outlet.old) (O.seen outlet.new) ended result }
+    ensures { EndsWith line.now session.old.page (O.seen outlet.old) (O.seen outlet.new) ended
+        result }
 {
-    if !write_text(page, outlet, line) {
+    if !write_text(&mut session.page, outlet, line) {
         return Ended::WriteFault;
     }
-    if !flush(page, outlet) {
+    if !flush(&mut session.page, outlet) {
         return Ended::WriteFault;
     }
     ended
 }
 
-// Reads and answers lines until an ending, with an empty buffer and an empty page.
+// Reads and answers lines until an ending, in a session that has read nothing.
 fn talk<I: Inlet, O: Outlet, C: Commands>(
     context: Context,
-    marks: &mut FieldSpans,
-    buffer: &mut Buffer,
-    page: &mut Page,
+    session: &mut Session,
     reader: &mut I,
     writer: &mut O,
     commands: &mut C,
 ) -> Ended
-    requires { (buffer.old ≡ []) × (page.old ≡ []) }
+    requires { (session.old.buffer ≡ []) × (session.old.page ≡ []) }
     ensures { Serves (AnswersCommand C.acts C.unknown context.time)
         (Begins C.acts C.unknown context.time)
         (I.seen reader.old) (I.seen reader.new) commands.old (O.seen writer.old) commands.new
@@ -50,24 +46,24 @@ fn talk<I: Inlet, O: Outlet, C: Commands>(
 {
     let mut reads: u64 = 0;
     loop {
-        match answer_lines(context, marks, buffer, page, writer, commands) {
+        match answer_lines(context, session, writer, commands) {
             Flow::Next => {}
-            Flow::Quit => return end_with(page, writer, Ended::Quit, b""),
-            Flow::Long => return end_with(page, writer, Ended::TooLong, b"bad long\n"),
+            Flow::Quit => return end_with(session, writer, Ended::Quit, b""),
+            Flow::Long => return end_with(session, writer, Ended::TooLong, b"bad long\n"),
             Flow::Fault => return Ended::WriteFault,
         }
         if reads == READ_LIMIT {
-            return end_with(page, writer, Ended::TooManyReads, b"bad reads\n");
+            return end_with(session, writer, Ended::TooManyReads, b"bad reads\n");
         }
-        if !flush(page, writer) {
+        if !flush(&mut session.page, writer) {
             return Ended::WriteFault;
         }
         reads += 1;
-        match buffer.read(reader) {
+        match session.buffer.read(reader) {
             Take::Got(_) => {}
-            Take::End if buffer.as_slice().is_empty() => return Ended::Eof,
-            Take::End => return end_with(page, writer, Ended::CutLine, b"bad cut\n"),
-            Take::Failed => return end_with(page, writer, Ended::ReadFault, b"bad read\n"),
+            Take::End if session.buffer.as_slice().is_empty() => return Ended::Eof,
+            Take::End => return end_with(session, writer, Ended::CutLine, b"bad cut\n"),
+            Take::Failed => return end_with(session, writer, Ended::ReadFault, b"bad read\n"),
         }
     }
 }
@@ -94,20 +90,11 @@ pub fn serve<I: Inlet, O: Outlet, C: Commands>(
         (I.seen reader.old) (I.seen reader.new) commands.old (O.seen writer.old) commands.new
         (O.seen writer.new) result }
 {
-    match (Buffer::new(alloc), Page::new(alloc), FieldSpans::new(alloc)) {
-        (Ok(mut buffer), Ok(mut page), Ok(mut marks)) => {
-            talk(
-                Context { alloc, time },
-                &mut marks,
-                &mut buffer,
-                &mut page,
-                reader,
-                writer,
-                commands,
-            )
-        }
-        _ => Ended::NoMemory,
-    }
+    let Ok(mut session) = Session::new(alloc) else {
+        return Ended::NoMemory;
+    };
+    let context = Context { alloc, time };
+    talk(context, &mut session, reader, writer, commands)
 }
 
 /// Serves a session of a private machine as `serve` does. The output and the machine afterwards are a function of the bytes

@@ -66,15 +66,6 @@ pub fn write_long<O: Outlet>(page: &mut Page, outlet: &mut O, text: &[u8]) -> bo
     flush(page, outlet) && write_all(outlet, text)
 }
 
-// Adds a space, a number and LF to a page.
-fn add_number_line(page: &mut Page, n: u64)
-    requires { length page.old ≤ LINE_START }
-    ensures { page.new ≡ page.old ++ line (and_number n) }
-{
-    page.add_number(n);
-    page.add(b"\n");
-}
-
 /// Adds a space, a number and LF to a page, which is flushed first unless it has room for one more line.
 pub fn write_number_line<O: Outlet>(page: &mut Page, outlet: &mut O, n: u64) -> bool
     ensures { IsTextAdded (line (and_number n)) page.old (O.seen outlet.old) page.new
@@ -83,6 +74,7 @@ pub fn write_number_line<O: Outlet>(page: &mut Page, outlet: &mut O, n: u64) -> 
     if !make_room(page, outlet) {
         return false;
     }
-    add_number_line(page, n);
+    page.add_number(n);
+    page.add(b"\n");
     true
 }

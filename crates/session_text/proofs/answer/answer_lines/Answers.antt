@@ -1,9 +1,8 @@
-use Rattle.std.proofs.Common.{◌≡◌, ◌∙◌, [], Option, None, Some, ap, arith, length, subst}
-use Rattle.std.proofs.lemmas.List.{length-drop}
+use Rattle.std.proofs.Common.{◌≡◌, ◌∙◌, [], Option, None, Some, ap, arith, length, length-append, subst}
 use Rattle.session_text.specs.declared.answer.Flow.{Flow}
 use Rattle.session_text.specs.declared.answer.Flow.TheVariants.{Next, Quit, Long, Fault}
 use Rattle.session_text.specs.Answers.{AnswersCommand, Begins}
-use Rattle.session_text.specs.Talks.{IsFirst}
+use Rattle.session_text.specs.Talks.{IsFirst, stream}
 use Rattle.session_text.proofs.AnsweredLines.{IsSoFarThen, talk_none, so_far_more, so_far_then, so_far_cut}
 use Rattle.session_text.proofs.PageTexts.{added_here}
 use Rattle.session_text.proofs.answer.answer_lines.Given.{Over}
@@ -11,32 +10,32 @@ use Rattle.session_text.proofs.answer.answer_lines.Goals.{After-answer_first}
 use Rattle.session_text.proofs.answer.answer_lines.Goals as goal
 
 -- what came of the lines so far and of the first of the rest
-came : (g : Over) (c : After-answer_first g) (flow : Option Flow) → c.answer_first.result ≡ flow → IsSoFarThen (AnswersCommand g.C.Commands.acts g.C.Commands.unknown c.args.context.time) (Begins g.C.Commands.acts g.C.Commands.unknown c.args.context.time) c.args.buffer.now c.args.commands.now (g.O.Outlet.seen c.args.writer.now) c.answer_first.new.buffer c.answer_first.new.commands c.answer_first.new.page (g.O.Outlet.seen c.answer_first.new.writer) flow
+came : (g : Over) (c : After-answer_first g) (flow : Option Flow) → c.answer_first.result ≡ flow → IsSoFarThen (AnswersCommand g.C.Commands.acts g.C.Commands.unknown c.args.context.time) (Begins g.C.Commands.acts g.C.Commands.unknown c.args.context.time) c.args.session.now.buffer c.args.commands.now (g.O.Outlet.seen c.args.writer.now) c.answer_first.new.session.buffer c.answer_first.new.commands c.answer_first.new.session.page (g.O.Outlet.seen c.answer_first.new.writer) flow
 came g c flow is =
     let says = AnswersCommand g.C.Commands.acts g.C.Commands.unknown c.args.context.time in
     let begins = Begins g.C.Commands.acts g.C.Commands.unknown c.args.context.time in
-    let m = c.answer_mutators-written in
+    let m = c.answer_mutators in
     let w0 = g.O.Outlet.seen c.args.writer.now in
     let w1 = g.O.Outlet.seen c.loop-context.writer in
     let w2 = g.O.Outlet.seen m.new.writer in
     let w3 = g.O.Outlet.seen c.answer_first.new.writer in
-    let k = so_far_more says c.args.buffer.now c.args.commands.now w0 c.loop-context.buffer c.loop-context.commands c.loop-context.page w1 c.as_slice.result.now m.result.1 c.pass.new.self m.new.commands m.new.page w2 c.loop-context.invariant c.as_slice.ensures c.pass.ensures (m.ensures.answered c.if-not-written.false c.args.context.time) in
-    let h = subst (λ (o : Option Flow). IsFirst says begins c.pass.new.self m.new.commands m.new.page w2 c.answer_first.new.buffer c.answer_first.new.commands c.answer_first.new.page w3 o) is c.answer_first.ensures in
-    so_far_then says begins c.args.buffer.now c.args.commands.now w0 c.pass.new.self m.new.commands m.new.page w2 c.answer_first.new.buffer c.answer_first.new.commands c.answer_first.new.page w3 flow k h
+    let k = so_far_more says c.args.session.now.buffer c.args.commands.now w0 c.loop-context.session.buffer c.loop-context.commands c.loop-context.session.page w1 m.new.session.buffer m.new.commands m.new.session.page w2 c.loop-context.invariant (m.ensures.answered c.if-not-answer_mutators.false c.args.context.time) in
+    let h = subst (λ (o : Option Flow). IsFirst says begins m.new.session.buffer m.new.commands m.new.session.page w2 c.answer_first.new.session.buffer c.answer_first.new.commands c.answer_first.new.session.page w3 o) is c.answer_first.ensures in
+    so_far_then says begins c.args.session.now.buffer c.args.commands.now w0 m.new.session.buffer m.new.commands m.new.session.page w2 c.answer_first.new.session.buffer c.answer_first.new.commands c.answer_first.new.session.page w3 flow k h
 
 pub loop-context-init : goal.loop-context-init
 loop-context-init g c =
-    ([], talk_none (AnswersCommand g.C.Commands.acts g.C.Commands.unknown c.args.context.time) c.args.buffer.now c.args.commands.now, added_here [] [] (g.O.Outlet.seen c.args.writer.now) c.args.page.now c.requires)
+    ([], talk_none (AnswersCommand g.C.Commands.acts g.C.Commands.unknown c.args.context.time) c.args.session.now.buffer c.args.commands.now, added_here [] [] (g.O.Outlet.seen c.args.writer.now) c.args.session.now.page c.requires)
 
-pub returns-then-not-written : goal.returns-then-not-written
-returns-then-not-written g c =
+pub returns-then-not-answer_mutators : goal.returns-then-not-answer_mutators
+returns-then-not-answer_mutators g c =
     let says = AnswersCommand g.C.Commands.acts g.C.Commands.unknown c.args.context.time in
     let begins = Begins g.C.Commands.acts g.C.Commands.unknown c.args.context.time in
-    let m = c.answer_mutators-written in
+    let m = c.answer_mutators in
     let w0 = g.O.Outlet.seen c.args.writer.now in
     let w1 = g.O.Outlet.seen c.loop-context.writer in
     let w2 = g.O.Outlet.seen m.new.writer in
-    so_far_cut says begins c.args.buffer.now c.args.commands.now w0 c.loop-context.buffer c.loop-context.commands c.loop-context.page w1 c.as_slice.result.now c.loop-context.buffer m.new.commands m.new.page w2 c.loop-context.invariant c.as_slice.ensures (m.ensures.cut c.if-not-written.true c.args.context.time)
+    so_far_cut says begins c.args.session.now.buffer c.args.commands.now w0 c.loop-context.session.buffer c.loop-context.commands c.loop-context.session.page w1 m.new.session.buffer m.new.commands m.new.session.page w2 c.loop-context.invariant (m.ensures.cut c.if-not-answer_mutators.true c.args.context.time)
 
 pub loop-context-preserved : goal.loop-context-preserved
 loop-context-preserved g c = came g (goal.at.loop-context-preserved g c).After-answer_first (Some Next) (c.in-Some-Next.is ∙ ap Some c.in-Some-Next.field-0-is)
@@ -53,13 +52,11 @@ returns-in-Some-Long g c = came g (goal.at.returns-in-Some-Long g c).After-answe
 pub returns-in-Some-Fault : goal.returns-in-Some-Fault
 returns-in-Some-Fault g c = came g (goal.at.returns-in-Some-Fault g c).After-answer_first (Some Fault) (c.in-Some-Fault.is ∙ ap Some c.in-Some-Fault.field-0-is)
 
-pub pass-requires : goal.pass-requires
-pass-requires g c = omega (arith, c.answer_mutators-written.ensures.within, ap length c.as_slice.ensures)
-
 pub loop-context-smaller : goal.loop-context-smaller
 loop-context-smaller g c =
     let says = AnswersCommand g.C.Commands.acts g.C.Commands.unknown c.args.context.time in
     let begins = Begins g.C.Commands.acts g.C.Commands.unknown c.args.context.time in
-    let m = c.answer_mutators-written in
-    let h = subst (λ (o : Flow). IsFirst says begins c.pass.new.self m.new.commands m.new.page (g.O.Outlet.seen m.new.writer) c.answer_first.new.buffer c.answer_first.new.commands c.answer_first.new.page (g.O.Outlet.seen c.answer_first.new.writer) (Some o)) c.in-Some-Next.field-0-is c.in-Some-Next.ensures in
-    omega (arith, h.0, ap length c.pass.ensures, length-drop m.result.1 c.loop-context.buffer)
+    let m = c.answer_mutators in
+    let h = subst (λ (o : Flow). IsFirst says begins m.new.session.buffer m.new.commands m.new.session.page (g.O.Outlet.seen m.new.writer) c.answer_first.new.session.buffer c.answer_first.new.commands c.answer_first.new.session.page (g.O.Outlet.seen c.answer_first.new.writer) (Some o)) c.in-Some-Next.field-0-is c.in-Some-Next.ensures in
+    let a = (m.ensures.answered c.if-not-answer_mutators.false c.args.context.time).1 in
+    omega (arith, h.0, ap length a.are, length-append (stream a.lines) m.new.session.buffer)

@@ -6,8 +6,8 @@ use Rattle.session_text.proofs.answer.answer_lines.Given as goal
 
 abbrev pub invariant-loop-context : goal.invariant-loop-context
 invariant-loop-context g l =
-    (text : List ℕ) × IsTalk (AnswersCommand g.C.Commands.acts g.C.Commands.unknown l.context.time) l.initial.buffer l.initial.commands l.buffer text l.commands
-    × IsTextAdded text [] (g.O.Outlet.seen l.initial.writer) l.page (g.O.Outlet.seen l.writer) true
+    (text : List ℕ) × IsTalk (AnswersCommand g.C.Commands.acts g.C.Commands.unknown l.context.time) l.initial.session.buffer l.initial.commands l.session.buffer text l.commands
+    × IsTextAdded text [] (g.O.Outlet.seen l.initial.writer) l.session.page (g.O.Outlet.seen l.writer) true
 
 abbrev pub decreases-loop-context : goal.decreases-loop-context
-decreases-loop-context g l = length l.buffer
+decreases-loop-context g l = length l.session.buffer

@@ -1,4 +1,4 @@
-use Rattle.std.proofs.Common.{◌≤◌, ◌-◌, ℕ, length}
+use Rattle.std.proofs.Common.{◌≤◌, ◌-◌, ℕ, drop, length}
 use Rattle.session_text.specs.Answers.{AnswersCommand}
 use Rattle.session_text.specs.Talks.{AreFirstAnswered}
 use Rattle.session_text.proofs.answer.answer_mutators.Given as goal
@@ -6,7 +6,7 @@ use Rattle.session_text.proofs.answer.answer_mutators.Given as goal
 abbrev pub invariant-loop-n : goal.invariant-loop-n
 invariant-loop-n g l =
     (l.passed ≤ length l.text)
-    × ((time : ℕ) → AreFirstAnswered (AnswersCommand g.C.Commands.acts g.C.Commands.unknown time) l.text l.passed l.initial.commands l.initial.page (g.O.Outlet.seen l.initial.writer) l.commands l.page (g.O.Outlet.seen l.writer))
+    × ((time : ℕ) → AreFirstAnswered (AnswersCommand g.C.Commands.acts g.C.Commands.unknown time) l.text l.initial.commands l.initial.page (g.O.Outlet.seen l.initial.writer) (drop l.passed l.text) l.commands l.page (g.O.Outlet.seen l.writer))
 
 abbrev pub decreases-loop-n : goal.decreases-loop-n
 decreases-loop-n g l = length l.text - l.passed

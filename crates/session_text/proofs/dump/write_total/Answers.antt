@@ -1,6 +1,10 @@
-use Rattle.session_text.specs.Dumps.{total_line}
-use Rattle.session_text.proofs.PageTexts.{added_then_here}
+use Rattle.std.proofs.Common.{codes}
+use Rattle.session_text.specs.Replies.{and_number, line}
+use Rattle.session_text.proofs.PageTexts.{added_more, added_short}
 use Rattle.session_text.proofs.dump.write_total.Goals as goal
 
+pub returns-then-not-write_text : goal.returns-then-not-write_text
+returns-then-not-write_text g c = added_short (codes "ok dump") (line (and_number c.args.total)) c.args.page.now (g.O.Outlet.seen c.args.outlet.now) c.write_text.new.page (g.O.Outlet.seen c.write_text.new.outlet) c.write_text.new.page c.if-not-write_text.ensures
+
 pub returns : goal.returns
-returns g c = added_then_here (total_line c.args.total) _ _ c.make_room.new.page (g.O.Outlet.seen c.make_room.new.outlet) c.add_total.new.page c.if-not-make_room.ensures.added c.add_total.ensures
+returns g c = added_more (codes "ok dump") (line (and_number c.args.total)) c.args.page.now (g.O.Outlet.seen c.args.outlet.now) c.write_text.new.page (g.O.Outlet.seen c.write_text.new.outlet) c.write_number_line.new.page (g.O.Outlet.seen c.write_number_line.new.outlet) c.write_number_line.result c.if-not-write_text.ensures c.write_number_line.ensures

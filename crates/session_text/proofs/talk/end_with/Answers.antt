@@ -11,7 +11,7 @@ returns-then-not-flush g c =
     let w1 = g.O.Outlet.seen c.write_text.new.outlet in
     let w2 = g.O.Outlet.seen c.flush.new.outlet in
     let f = c.if-not-flush.ensures in
-    (false, ends_written c.args.line.now c.args.page.now w c.write_text.new.page w1 c.flush.new.page w2 false c.if-not-write_text.ensures f.added f.empty, refl)
+    (false, ends_written c.args.line.now c.args.session.now.page w c.write_text.new.page w1 c.flush.new.page w2 false c.if-not-write_text.ensures f.added f.empty, refl)
 
 pub returns : goal.returns
 returns g c =
@@ -19,4 +19,4 @@ returns g c =
     let w1 = g.O.Outlet.seen c.write_text.new.outlet in
     let w2 = g.O.Outlet.seen c.flush.new.outlet in
     let f = c.if-not-flush.ensures in
-    (true, ends_written c.args.line.now c.args.page.now w c.write_text.new.page w1 c.flush.new.page w2 true c.if-not-write_text.ensures f.added f.empty, refl)
+    (true, ends_written c.args.line.now c.args.session.now.page w c.write_text.new.page w1 c.flush.new.page w2 true c.if-not-write_text.ensures f.added f.empty, refl)

@@ -9,10 +9,12 @@ ghost use Rattle.heap_class.specs.Table.{refusal_number, refusal_name};
 
 mod class_table;
 mod first_classes;
+mod items;
 mod names;
 
 pub use class_table::Classes;
 pub use first_classes::FirstClasses;
+pub use items::Items;
 use std::alloc::{AllocError, AllocFailed, Global};
 use std::hash::{Hash, Hasher};
 use std::marker::Model;
@@ -361,55 +363,8 @@ impl Eq for Field {
     ghost laws = { field_equiv };
 }
 
-/// A class's own fields, in order. Contracts see the list.
-#[derive(Drop)]
-pub struct Fields {
-    fields: Vec<Field>,
-}
-
-impl Model for Fields {
-    ghost use Rattle.std.specs.Prelude.{List};
-    ghost use Rattle.heap_class.specs.declared.Field.{Field};
-
-    ghost Value = { List Field };
-
-    ghost view = { λ f. f.fields.items };
-}
-
-impl PartialEq for Fields {
-    ghost use Rattle.std.specs.Cmp.{partial_equiv_from_equiv};
-    ghost use Rattle.heap_class.specs.Equal.{fields_eq, fields_equiv};
-
-    ghost eq = { fields_eq };
-
-    ghost laws = { partial_equiv_from_equiv fields_equiv };
-
-    fn eq(&self, other: &Fields) -> bool {
-        self.as_slice() == other.as_slice()
-    }
-}
-
-impl Eq for Fields {
-    ghost use Rattle.heap_class.specs.Equal.{fields_equiv};
-
-    ghost laws = { fields_equiv };
-}
-
-impl Fields {
-    /// Returns these fields as a class's own.
-    pub fn from_vec(fields: Vec<Field>) -> Fields
-        ensures { result ≡ fields.items }
-    {
-        Fields { fields }
-    }
-
-    /// Returns the fields, in order.
-    pub fn as_slice(&self) -> &[Field]
-        ensures { result.now ≡ self.now }
-    {
-        self.fields.as_slice()
-    }
-}
+/// A class's own fields, in order.
+pub type Fields = Items<Field>;
 
 impl IdSize {
     /// Returns the size of an identifier in bytes: 4 or 8.

@@ -12,7 +12,7 @@ mod first_classes;
 mod items;
 mod names;
 
-pub use class_table::Classes;
+pub use class_table::{Classes, NewClass};
 pub use first_classes::FirstClasses;
 pub use items::Items;
 use std::alloc::{AllocError, AllocFailed, Global};

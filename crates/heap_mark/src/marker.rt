@@ -301,7 +301,7 @@ impl Marker {
     {
         unfinish_all(regions);
         self.drained = log.len();
-        self.log = log.ids;
+        self.log = log.into_vec();
         self.phase = Phase::Marking;
     }
 

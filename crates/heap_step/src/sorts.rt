@@ -1,12 +1,12 @@
-//! Events by their kind, for callers that know it: what they call holds no other kind, and is inlined whole.
+//! Events by their sort, for callers that know it: what they call holds no other sort, and is inlined whole.
 ghost use Rattle.std.specs.Prelude.{◌≡◌};
 
 use crate::events::{clear, copy, create, load, mark, put, store};
-use crate::{Answer, Event, Undo};
-use heap_class::{ClassNo, Refusal};
+use crate::{Effect, Event};
+use heap_class::ClassNo;
 use heap_world::World;
 
-/// An event, or one whose kind its type tells.
+/// An event, or one whose sort its type tells.
 pub trait IntoEvent: Drop {
     ghost use Rattle.heap_world.specs.Legal.{IsLegal};
     ghost use Rattle.heap_step.specs.declared.Event.{Event};
@@ -15,7 +15,7 @@ pub trait IntoEvent: Drop {
     ghost event: { Self → Event };
 
     /// Applies the event to a legal heap, and returns its answer and the record that undoes it. Fails as `apply` does.
-    fn apply_to(&self, world: &mut World) -> Result<(Answer, Undo), Refusal>
+    fn apply_to(&self, world: &mut World) -> Effect
         requires { IsLegal world.old }
         ensures { IsApplied (event self.now) world.old world.new result };
 
@@ -38,7 +38,7 @@ impl IntoEvent for NewEvent {
     ghost event = { λ e. Event.New e.m e.r e.class };
 
     #[inline(always)]
-    fn apply_to(&self, world: &mut World) -> Result<(Answer, Undo), Refusal> {
+    fn apply_to(&self, world: &mut World) -> Effect {
         create(world, self.m, self.r, self.class)
     }
 
@@ -64,7 +64,7 @@ impl IntoEvent for LoadEvent {
     ghost event = { λ e. Event.Load e.m e.to e.from e.slot };
 
     #[inline(always)]
-    fn apply_to(&self, world: &mut World) -> Result<(Answer, Undo), Refusal> {
+    fn apply_to(&self, world: &mut World) -> Effect {
         load(world, self.m, self.to, self.from, self.slot)
     }
 
@@ -90,7 +90,7 @@ impl IntoEvent for StoreEvent {
     ghost event = { λ e. Event.Store e.m e.target e.slot e.source };
 
     #[inline(always)]
-    fn apply_to(&self, world: &mut World) -> Result<(Answer, Undo), Refusal> {
+    fn apply_to(&self, world: &mut World) -> Effect {
         store(world, self.m, self.target, self.slot, self.source)
     }
 
@@ -126,7 +126,7 @@ impl IntoEvent for PutEvent {
     ghost event = { λ e. Event.Put e.m e.target e.slot e.value };
 
     #[inline(always)]
-    fn apply_to(&self, world: &mut World) -> Result<(Answer, Undo), Refusal> {
+    fn apply_to(&self, world: &mut World) -> Effect {
         put(world, self.m, self.target, self.slot, self.value)
     }
 
@@ -162,7 +162,7 @@ impl IntoEvent for MoveEvent {
     ghost event = { λ e. Event.Move e.m e.to e.from_m e.from };
 
     #[inline(always)]
-    fn apply_to(&self, world: &mut World) -> Result<(Answer, Undo), Refusal> {
+    fn apply_to(&self, world: &mut World) -> Effect {
         copy(world, self.m, self.to, self.from_m, self.from)
     }
 
@@ -196,7 +196,7 @@ impl IntoEvent for ClearEvent {
     ghost event = { λ e. Event.Clear e.m e.r };
 
     #[inline(always)]
-    fn apply_to(&self, world: &mut World) -> Result<(Answer, Undo), Refusal> {
+    fn apply_to(&self, world: &mut World) -> Effect {
         clear(world, self.m, self.r)
     }
 
@@ -217,7 +217,7 @@ impl IntoEvent for MarkEvent {
     ghost event = { λ e. Event.Mark };
 
     #[inline(always)]
-    fn apply_to(&self, world: &mut World) -> Result<(Answer, Undo), Refusal> {
+    fn apply_to(&self, world: &mut World) -> Effect {
         mark(world)
     }
 

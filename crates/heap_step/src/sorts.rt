@@ -24,6 +24,13 @@ pub trait IntoEvent: Drop {
         ensures { result ≡ event self };
 }
 
+// Returns the event of this sort that has a value's numbers.
+macro_rules! event_of {
+    ($sort:ident, $value:expr; $($number:ident),*) => {
+        Event::$sort { $($number: $value.$number),* }
+    };
+}
+
 /// `Event::New`.
 #[derive(Clone, Copy, PartialEq, Eq, Debug)]
 pub struct NewEvent {
@@ -44,8 +51,7 @@ impl IntoEvent for NewEvent {
 
     #[inline(always)]
     fn into_event(self) -> Event {
-        let NewEvent { m, r, class } = self;
-        Event::New { m, r, class }
+        event_of!(New, self; m, r, class)
     }
 }
 
@@ -70,8 +76,7 @@ impl IntoEvent for LoadEvent {
 
     #[inline(always)]
     fn into_event(self) -> Event {
-        let LoadEvent { m, to, from, slot } = self;
-        Event::Load { m, to, from, slot }
+        event_of!(Load, self; m, to, from, slot)
     }
 }
 
@@ -96,18 +101,7 @@ impl IntoEvent for StoreEvent {
 
     #[inline(always)]
     fn into_event(self) -> Event {
-        let StoreEvent {
-            m,
-            target,
-            slot,
-            source,
-        } = self;
-        Event::Store {
-            m,
-            target,
-            slot,
-            source,
-        }
+        event_of!(Store, self; m, target, slot, source)
     }
 }
 
@@ -132,18 +126,7 @@ impl IntoEvent for PutEvent {
 
     #[inline(always)]
     fn into_event(self) -> Event {
-        let PutEvent {
-            m,
-            target,
-            slot,
-            value,
-        } = self;
-        Event::Put {
-            m,
-            target,
-            slot,
-            value,
-        }
+        event_of!(Put, self; m, target, slot, value)
     }
 }
 
@@ -168,18 +151,7 @@ impl IntoEvent for MoveEvent {
 
     #[inline(always)]
     fn into_event(self) -> Event {
-        let MoveEvent {
-            m,
-            to,
-            from_m,
-            from,
-        } = self;
-        Event::Move {
-            m,
-            to,
-            from_m,
-            from,
-        }
+        event_of!(Move, self; m, to, from_m, from)
     }
 }
 
@@ -202,8 +174,7 @@ impl IntoEvent for ClearEvent {
 
     #[inline(always)]
     fn into_event(self) -> Event {
-        let ClearEvent { m, r } = self;
-        Event::Clear { m, r }
+        event_of!(Clear, self; m, r)
     }
 }
 

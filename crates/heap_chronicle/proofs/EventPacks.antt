@@ -1,7 +1,7 @@
 -- An event without lists is known by its numbers.
-use Rattle.std.proofs.Common.{◌≡◌, ℕ, Option, Some, None, refl, sym, subst, ◌∙◌}
+use Rattle.std.proofs.Common.{◌≡◌, ℕ, List, Option, Some, None, refl, sym, subst, ◌∙◌}
 use Rattle.std.specs.Prelude.{IfSome}
-use Rattle.heap_class.specs.declared.Fields.{Fields}
+use Rattle.heap_class.specs.declared.Field.{Field}
 use Rattle.heap_class.specs.declared.Name.{Name}
 use Rattle.heap_step.specs.declared.Event.{Event}
 use Rattle.heap_step.specs.declared.Event.TheVariants.{Class, ArrayClass}
@@ -11,7 +11,7 @@ use Rattle.heap_chronicle.specs.Packs.{action_by, action_in, event_pack}
 
 -- only definitions of classes have none
 pub numbers_there : (e : Event) → event_pack e ≡ None
-    → ((name : Name) (sup : Option ℕ) (fields : Fields) → e ≡ Class name sup fields → ⊥) → ((name : Name) → e ≡ ArrayClass name → ⊥) → ⊥
+    → ((name : Name) (sup : Option ℕ) (fields : List Field) → e ≡ Class name sup fields → ⊥) → ((name : Name) → e ≡ ArrayClass name → ⊥) → ⊥
 numbers_there (Class name sup fields) is one other = one name sup fields refl
 numbers_there (ArrayClass name) is one other = other name refl
 numbers_there e is one other = cc

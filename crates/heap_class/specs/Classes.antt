@@ -1,5 +1,5 @@
 -- Classes in order of definition, their slots, and names in order of first use.
-use Rattle.std.specs.Prelude.{◌≡◌, ℕ, ◌+◌, Bool, true, false, not, ◌&&◌, ◌||◌, nat_le, nat_lt, ◌==◌, List, [], ◌∷◌, ◌++◌, length, map, filter, replicate, slice_get, Option, None, unwrap_or, codes, flat_map, sum_by}
+use Rattle.std.specs.Prelude.{◌≡◌, ℕ, ◌+◌, Bool, true, false, not, ◌&&◌, ◌||◌, nat_le, nat_lt, ◌==◌, List, [], ◌∷◌, ◌++◌, length, map, filter, replicate, slice_get, Option, None, unwrap_or, codes, flat_map, sum_by, Result, IfOk, OnOk, OnErr}
 use Rattle.std.specs.Option.{option_map_or}
 use Rattle.std.specs.List.{list_any, list_all, position_or_len}
 use Rattle.std.specs.Str.{bytes_eq}
@@ -13,7 +13,7 @@ use Rattle.heap_class.specs.declared.Refusal.{Refusal}
 use Rattle.heap_class.specs.declared.Refusal.TheVariants.{NoClass, ClassLimit, BadName, DuplicateName, FieldLimit}
 use Rattle.heap_class.specs.Kinds.{width_of}
 use Rattle.heap_class.specs.Limits.{class_limit, slot_limit, name_limit}
-use Rattle.heap_class.specs.Refusals.{first_refusal}
+use Rattle.heap_class.specs.Refusals.{first_refusal, IsAnswered}
 
 -- a class: its name, its super's number, its own fields in order, and whether it is an array class
 pub record Class : Type 0 where
@@ -102,6 +102,14 @@ class_refusal classes c = first_refusal
     )
     ∷ (nat_lt slot_limit (length (slots_under (slot_table_after [] classes) c)), FieldLimit)
     ∷ [])
+
+-- a call that defines this class after those of `before`, unless it is refused, had this result
+pub record IsDefined (c : Class) (before after : List Class) (result : Result ℕ Refusal)
+    : Type 0 where
+  pub answered : IsAnswered (class_refusal before c) true result
+  pub defined : OnOk result (after ≡ before ++ c ∷ [])
+  pub number : IfOk result (λ k. k ≡ length before)
+  pub unchanged : OnErr result (after ≡ before)
 
 -- the classes are defined after those of `before`, one after another: none is refused, and an array class has no super and no
 -- field

@@ -8,7 +8,7 @@ ghost use Rattle.heap_class.specs.Refusals.{IsAnswered};
 ghost use Rattle.heap_class.specs.Entries.{AreSizes};
 ghost use Rattle.heap_class.specs.Limits.{class_limit, name_limit, slot_limit, name_count_limit};
 ghost use Rattle.heap_class.specs.declared.Refusal.TheVariants.{NoMemory};
-ghost use Rattle.heap_class.specs.Classes.{IsClassTable, all_distinct, class_refusal, instance_class, array_class, is_instance_class, is_array_class, slots_of, instance_size, name_of, fields_of, sup_of, name_id, name_table};
+ghost use Rattle.heap_class.specs.Classes.{IsClassTable, IsDefined, all_distinct, class_refusal, instance_class, array_class, is_instance_class, is_array_class, slots_of, instance_size, name_of, fields_of, sup_of, name_id, name_table};
 
 use crate::names::{are_distinct, are_valid_names, name_in, place_names, slots_over, total_width};
 use crate::{CLASS_LIMIT, ClassNo, Field, Fields, IdSize, Kind, Name, Refusal, SLOT_LIMIT};
@@ -62,6 +62,17 @@ fn has_name_at(entries: &[ClassEntry], place: usize) -> bool
     ensures { result ≡ list_any (λ e. e.name == place) entries.now }
 {
     entries.iter().any(|entry| entry.name == place)
+}
+
+/// An instance class that is to be defined.
+#[derive(Clone, Copy)]
+pub struct NewClass<'a> {
+    /// The name of the class.
+    pub name: &'a Name,
+    /// The number of its super.
+    pub sup: Option<ClassNo>,
+    /// Its own fields.
+    pub fields: &'a Fields,
 }
 
 /// The classes of a heap, in order of definition. Contracts see the list.
@@ -217,29 +228,18 @@ impl Classes {
 
     /// Defines an instance class, and returns its number. Fails with NoClass, ClassLimit, BadName, DuplicateName or FieldLimit,
     /// in this order, and then with NoMemory if an allocation fails.
-    pub fn define(
-        &mut self,
-        name: &Name,
-        sup: Option<ClassNo>,
-        fields: &Fields,
-    ) -> Result<ClassNo, Refusal>
-        ensures answered { IsAnswered
-            (class_refusal self.old (instance_class name.now sup fields.now)) true result }
-        ensures defined { OnOk result
-            (self.new ≡ self.old ++ instance_class name.now sup fields.now ∷ []) }
-        ensures number { IfOk result (λ k. k ≡ length self.old) }
-        ensures unchanged { OnErr result (self.new ≡ self.old) }
+    pub fn define(&mut self, class: NewClass<'_>) -> Result<ClassNo, Refusal>
+        ensures { IsDefined
+            (instance_class class.entry.name.now class.entry.sup class.entry.fields.now) self.old
+            self.new result }
     {
-        self.add(name, sup, fields.as_slice(), false)
+        self.add(class.name, class.sup, class.fields.as_slice(), false)
     }
 
     /// Defines an array class, and returns its number. Fails with ClassLimit, BadName or DuplicateName, in this order, and then
     /// with NoMemory if an allocation fails.
     pub fn define_array(&mut self, name: &Name) -> Result<ClassNo, Refusal>
-        ensures answered { IsAnswered (class_refusal self.old (array_class name.now)) true result }
-        ensures defined { OnOk result (self.new ≡ self.old ++ array_class name.now ∷ []) }
-        ensures number { IfOk result (λ k. k ≡ length self.old) }
-        ensures unchanged { OnErr result (self.new ≡ self.old) }
+        ensures { IsDefined (array_class name.now) self.old self.new result }
     {
         self.add(name, None, &[], true)
     }

@@ -9,10 +9,12 @@ ghost use Rattle.heap_class.specs.Table.{refusal_number, refusal_name};
 
 mod class_table;
 mod first_classes;
+mod items;
 mod names;
 
-pub use class_table::Classes;
+pub use class_table::{Classes, NewClass};
 pub use first_classes::FirstClasses;
+pub use items::Items;
 use std::alloc::{AllocError, AllocFailed, Global};
 use std::hash::{Hash, Hasher};
 use std::marker::Model;
@@ -162,73 +164,47 @@ pub enum Refusal {
     ChronicleFull,
 }
 
+// Returns what the row of a refusal gives.
+macro_rules! by_refusal {
+    ($refusal:expr; $($name:ident => $value:expr),*) => {
+        match $refusal {
+            $(Refusal::$name { .. } => $value,)*
+        }
+    };
+}
+
+// Returns the name of a refusal, which is one of these.
+macro_rules! variant_name {
+    ($refusal:expr; $($name:ident),*) => {
+        by_refusal!($refusal; $($name => stringify!($name)),*)
+    };
+}
+
 impl Refusal {
     /// Returns the number of the refusal, 1 to 26.
     pub fn number(self) -> u64
         ensures { result ≡ refusal_number self }
     {
-        match self {
-            Refusal::NoMemory => 1,
-            Refusal::NoClass => 2,
-            Refusal::ClassLimit => 3,
-            Refusal::BadName => 4,
-            Refusal::DuplicateName => 5,
-            Refusal::FieldLimit => 6,
-            Refusal::BadRegister => 7,
-            Refusal::NullRegister => 8,
-            Refusal::BadSlot => 9,
-            Refusal::WrongKind => 10,
-            Refusal::OutOfRange => 11,
-            Refusal::TooLarge => 12,
-            Refusal::HeapFull => 13,
-            Refusal::AlreadyMarking => 14,
-            Refusal::NotMarking => 15,
-            Refusal::NothingToMark => 16,
-            Refusal::NothingToDrain => 17,
-            Refusal::NotDone { .. } => 18,
-            Refusal::SweepPending { .. } => 19,
-            Refusal::NothingToSweep { .. } => 20,
-            Refusal::TooFar { .. } => 21,
-            Refusal::NoPin => 22,
-            Refusal::Lost { .. } => 23,
-            Refusal::NotRetained => 24,
-            Refusal::PinLimit => 25,
-            Refusal::ChronicleFull => 26,
-        }
+        by_refusal!(self;
+            NoMemory => 1, NoClass => 2, ClassLimit => 3, BadName => 4, DuplicateName => 5,
+            FieldLimit => 6, BadRegister => 7, NullRegister => 8, BadSlot => 9, WrongKind => 10,
+            OutOfRange => 11, TooLarge => 12, HeapFull => 13, AlreadyMarking => 14,
+            NotMarking => 15, NothingToMark => 16, NothingToDrain => 17, NotDone => 18,
+            SweepPending => 19, NothingToSweep => 20, TooFar => 21, NoPin => 22, Lost => 23,
+            NotRetained => 24, PinLimit => 25, ChronicleFull => 26
+        )
     }
 
     /// Returns the name of the refusal, as replies have it.
     pub fn name(self) -> &'static str
         ensures { result.now ≡ refusal_name self }
     {
-        match self {
-            Refusal::NoMemory => "NoMemory",
-            Refusal::NoClass => "NoClass",
-            Refusal::ClassLimit => "ClassLimit",
-            Refusal::BadName => "BadName",
-            Refusal::DuplicateName => "DuplicateName",
-            Refusal::FieldLimit => "FieldLimit",
-            Refusal::BadRegister => "BadRegister",
-            Refusal::NullRegister => "NullRegister",
-            Refusal::BadSlot => "BadSlot",
-            Refusal::WrongKind => "WrongKind",
-            Refusal::OutOfRange => "OutOfRange",
-            Refusal::TooLarge => "TooLarge",
-            Refusal::HeapFull => "HeapFull",
-            Refusal::AlreadyMarking => "AlreadyMarking",
-            Refusal::NotMarking => "NotMarking",
-            Refusal::NothingToMark => "NothingToMark",
-            Refusal::NothingToDrain => "NothingToDrain",
-            Refusal::NotDone { .. } => "NotDone",
-            Refusal::SweepPending { .. } => "SweepPending",
-            Refusal::NothingToSweep { .. } => "NothingToSweep",
-            Refusal::TooFar { .. } => "TooFar",
-            Refusal::NoPin => "NoPin",
-            Refusal::Lost { .. } => "Lost",
-            Refusal::NotRetained => "NotRetained",
-            Refusal::PinLimit => "PinLimit",
-            Refusal::ChronicleFull => "ChronicleFull",
-        }
+        variant_name!(self;
+            NoMemory, NoClass, ClassLimit, BadName, DuplicateName, FieldLimit, BadRegister,
+            NullRegister, BadSlot, WrongKind, OutOfRange, TooLarge, HeapFull, AlreadyMarking,
+            NotMarking, NothingToMark, NothingToDrain, NotDone, SweepPending, NothingToSweep,
+            TooFar, NoPin, Lost, NotRetained, PinLimit, ChronicleFull
+        )
     }
 }
 
@@ -361,55 +337,8 @@ impl Eq for Field {
     ghost laws = { field_equiv };
 }
 
-/// A class's own fields, in order. Contracts see the list.
-#[derive(Drop)]
-pub struct Fields {
-    fields: Vec<Field>,
-}
-
-impl Model for Fields {
-    ghost use Rattle.std.specs.Prelude.{List};
-    ghost use Rattle.heap_class.specs.declared.Field.{Field};
-
-    ghost Value = { List Field };
-
-    ghost view = { λ f. f.fields.items };
-}
-
-impl PartialEq for Fields {
-    ghost use Rattle.std.specs.Cmp.{partial_equiv_from_equiv};
-    ghost use Rattle.heap_class.specs.Equal.{fields_eq, fields_equiv};
-
-    ghost eq = { fields_eq };
-
-    ghost laws = { partial_equiv_from_equiv fields_equiv };
-
-    fn eq(&self, other: &Fields) -> bool {
-        self.as_slice() == other.as_slice()
-    }
-}
-
-impl Eq for Fields {
-    ghost use Rattle.heap_class.specs.Equal.{fields_equiv};
-
-    ghost laws = { fields_equiv };
-}
-
-impl Fields {
-    /// Returns these fields as a class's own.
-    pub fn from_vec(fields: Vec<Field>) -> Fields
-        ensures { result ≡ fields.items }
-    {
-        Fields { fields }
-    }
-
-    /// Returns the fields, in order.
-    pub fn as_slice(&self) -> &[Field]
-        ensures { result.now ≡ self.now }
-    {
-        self.fields.as_slice()
-    }
-}
+/// A class's own fields, in order.
+pub type Fields = Items<Field>;
 
 impl IdSize {
     /// Returns the size of an identifier in bytes: 4 or 8.

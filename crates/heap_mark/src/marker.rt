@@ -12,7 +12,7 @@ ghost use Rattle.heap_mark.specs.Marker.{references_among, MarkerState, work, af
 
 use crate::Phase;
 use crate::finish::{finish_all, first_pending, unfinish_all};
-use heap_class::{Classes, Kind, ObjKind, ObjRef, Refusal};
+use heap_class::{Classes, Items, Kind, ObjKind, ObjRef, Refusal};
 use heap_region::Regions;
 use std::alloc::Global;
 use std::marker::Model;
@@ -28,27 +28,7 @@ pub struct Marked {
 }
 
 /// The log of a cycle that has ended, moved whole.
-#[derive(Drop)]
-pub struct Log {
-    ids: Vec<u64>,
-}
-
-impl Model for Log {
-    ghost use Rattle.std.specs.Prelude.{ℕ, List};
-
-    ghost Value = { List ℕ };
-
-    ghost view = { λ l. l.ids.items };
-}
-
-impl Log {
-    /// Returns the number of entries.
-    pub fn len(&self) -> u64
-        ensures { result ≡ length self.now }
-    {
-        self.ids.len() as u64
-    }
-}
+pub type Log = Items<u64>;
 
 /// The outcome of `finish`.
 #[derive(Drop)]
@@ -303,7 +283,7 @@ impl Marker {
         (self.drained, self.phase) = (0, Phase::Idle);
         Ok(Finished {
             condemned,
-            log: Log { ids },
+            log: Log::from_vec(ids),
         })
     }
 
@@ -321,7 +301,7 @@ impl Marker {
     {
         unfinish_all(regions);
         self.drained = log.len();
-        self.log = log.ids;
+        self.log = log.into_vec();
         self.phase = Phase::Marking;
     }
 

@@ -9,56 +9,27 @@ use heap_step::Undo;
 #[derive(Clone, Copy, PartialEq, Eq, Debug)]
 pub enum PastEvent {
     /// A value was written to a slot: its old word.
-    Put {
-        object: u64,
-        slot: u64,
-        old: u64,
-    },
+    Put { id: u64, slot: u64, old: u64 },
     /// A reference was written to a slot: its old word.
-    Store {
-        object: u64,
-        slot: u64,
-        old: u64,
-    },
+    Store { id: u64, slot: u64, old: u64 },
     /// Register `r` of mutator `m` was written: its old word.
-    Register {
-        m: u64,
-        r: u64,
-        old: u64,
-    },
+    Register { m: u64, r: u64, old: u64 },
     /// An object was made, and register `r` of mutator `m` was written: its old word.
-    New {
-        object: u64,
-        m: u64,
-        r: u64,
-        old: u64,
-    },
+    New { id: u64, m: u64, r: u64, old: u64 },
     /// A class was defined.
     Class,
     /// A cycle was begun.
     Snap,
     /// An object was marked: its id, and the number of its children that were pushed.
-    Mark {
-        parent: u64,
-        pushed: u64,
-    },
+    Mark { parent: u64, pushed: u64 },
     /// An entry of the log was drained: the number of objects that were pushed.
-    Drain {
-        pushed: u64,
-    },
+    Drain(u64),
     /// A cycle was ended: the number of entries of its log.
-    Finish {
-        log: u64,
-    },
+    Finish(u64),
     /// A region was swept that keeps objects: the number of objects that were removed.
-    Sweep {
-        region: u64,
-        dead: u64,
-    },
+    Sweep { region: u64, dead: u64 },
     /// A region was swept that is empty now.
-    Reclaim {
-        region: u64,
-    },
+    Reclaim(u64),
 }
 
 // Returns the writing of a register.
@@ -73,11 +44,11 @@ fn register_event(m: u8, r: u8, old: u64) -> PastEvent
 }
 
 // Returns the making of an object.
-fn new_event(object: u64, m: u8, r: u8, old: u64) -> PastEvent
-    ensures { result ≡ New object m r old }
+fn new_event(id: u64, m: u8, r: u8, old: u64) -> PastEvent
+    ensures { result ≡ New id m r old }
 {
     PastEvent::New {
-        object,
+        id,
         m: m as u64,
         r: r as u64,
         old,
@@ -85,36 +56,34 @@ fn new_event(object: u64, m: u8, r: u8, old: u64) -> PastEvent
 }
 
 // Returns what the step with this record did, given the id of the object that it wrote or created.
-pub(crate) fn event_with(left: &Undo, object: u64) -> PastEvent
-    ensures { result ≡ event_with left.now object }
+pub(crate) fn event_with(left: &Undo, id: u64) -> PastEvent
+    ensures { result ≡ event_with left.now id }
 {
     match left {
         Undo::Put { slot, old, .. } => PastEvent::Put {
-            object,
+            id,
             slot: *slot as u64,
             old: *old,
         },
         Undo::Store { slot, old, .. } => PastEvent::Store {
-            object,
+            id,
             slot: *slot as u64,
             old: *old,
         },
         Undo::Reg { m, r, old } => register_event(*m, *r, *old),
-        Undo::New { m, r, old, .. } => new_event(object, *m, *r, *old),
+        Undo::New { m, r, old, .. } => new_event(id, *m, *r, *old),
         Undo::Class => PastEvent::Class,
         Undo::Snap => PastEvent::Snap,
         Undo::Mark { parent, pushed } => PastEvent::Mark {
             parent: *parent,
             pushed: *pushed,
         },
-        Undo::Drain { pushed } => PastEvent::Drain { pushed: *pushed },
-        Undo::Finish { log } => PastEvent::Finish { log: log.len() },
+        Undo::Drain { pushed } => PastEvent::Drain(*pushed),
+        Undo::Finish { log } => PastEvent::Finish(log.len()),
         Undo::Sweep { region, dead } => PastEvent::Sweep {
             region: *region as u64,
             dead: dead.len(),
         },
-        Undo::Reclaim { region, .. } => PastEvent::Reclaim {
-            region: *region as u64,
-        },
+        Undo::Reclaim { region, .. } => PastEvent::Reclaim(*region as u64),
     }
 }

@@ -12,11 +12,22 @@ ghost use Rattle.heap_step.specs.declared.Undo.{Undo};
 ghost use Rattle.heap_step.specs.Apply.{object_or_null};
 ghost use Rattle.heap_step.specs.Laws.{IsApplied};
 
-use crate::kinds::IntoEvent;
-use crate::{Answer, Event, Undo};
-use heap_class::{ClassNo, Fields, Kind, Name, Refusal};
+use crate::sorts::IntoEvent;
+use crate::{Answer, Effect, Event, Undo};
+use heap_class::{ClassNo, Fields, Kind, Name, NewClass};
 use heap_sweep::Reclaimed;
 use heap_world::{Created, Loaded, World};
+
+// Returns the effect of an event: that of the row of its sort, whose function is given the event's numbers, or what the arms
+// behind the rows say.
+macro_rules! by_sort {
+    ($event:expr, $world:expr; $($sort:ident($($number:ident),*) => $effect:ident,)*; $($arm:tt)*) => {
+        match $event {
+            $(Event::$sort { $($number),* } => $effect($world, $(*$number),*),)*
+            $($arm)*
+        }
+    };
+}
 
 impl IntoEvent for Event {
     ghost event = { λ e. e };
@@ -24,24 +35,15 @@ impl IntoEvent for Event {
     // Some events are inlined, without a call that is given the place of the result, which then stays in registers.
     #[inline(always)]
     #[tactic(auto, using(crate::proofs::AppliedResults::as_event))]
-    fn apply_to(&self, world: &mut World) -> Result<(Answer, Undo), Refusal> {
-        match self {
-            Event::Load { m, to, from, slot } => load(world, *m, *to, *from, *slot),
-            Event::Put {
-                m,
-                target,
-                slot,
-                value,
-            } => put(world, *m, *target, *slot, *value),
-            Event::Move {
-                m,
-                to,
-                from_m,
-                from,
-            } => copy(world, *m, *to, *from_m, *from),
-            Event::Clear { m, r } => clear(world, *m, *r),
+    fn apply_to(&self, world: &mut World) -> Effect {
+        by_sort!(self, world;
+            Load(m, to, from, slot) => load,
+            Put(m, target, slot, value) => put,
+            Move(m, to, from_m, from) => copy,
+            Clear(m, r) => clear,
+            ;
             other => Ok(apply_any(world, other)?),
-        }
+        )
     }
 
     #[inline(always)]
@@ -50,62 +52,43 @@ impl IntoEvent for Event {
     }
 }
 
-// Applies an event of any kind.
+// Applies an event of any sort.
 #[inline(never)]
 #[tactic(auto, using(crate::proofs::AppliedResults::as_event))]
-fn apply_any(world: &mut World, event: &Event) -> Result<(Answer, Undo), Refusal>
+fn apply_any(world: &mut World, event: &Event) -> Effect
     requires { IsLegal world.old }
     ensures { IsApplied event.now world.old world.new result }
 {
-    match event {
+    by_sort!(event, world;
+        New(m, r, class) => create,
+        NewArray(m, r, class, len) => create_array,
+        NewPrim(m, r, kind, len) => create_prim,
+        Load(m, to, from, slot) => load,
+        Store(m, target, slot, source) => store,
+        Put(m, target, slot, value) => put,
+        Move(m, to, from_m, from) => copy,
+        Clear(m, r) => clear,
+        Sweep(region) => sweep,
+        ;
         Event::Class { name, sup, fields } => define(world, name, *sup, fields),
         Event::ArrayClass { name } => define_array(world, name),
-        Event::New { m, r, class } => create(world, *m, *r, *class),
-        Event::NewArray { m, r, class, len } => create_array(world, *m, *r, *class, *len),
-        Event::NewPrim { m, r, kind, len } => create_prim(world, *m, *r, *kind, *len),
-        Event::Load { m, to, from, slot } => load(world, *m, *to, *from, *slot),
-        Event::Store {
-            m,
-            target,
-            slot,
-            source,
-        } => store(world, *m, *target, *slot, *source),
-        Event::Put {
-            m,
-            target,
-            slot,
-            value,
-        } => put(world, *m, *target, *slot, *value),
-        Event::Move {
-            m,
-            to,
-            from_m,
-            from,
-        } => copy(world, *m, *to, *from_m, *from),
-        Event::Clear { m, r } => clear(world, *m, *r),
         Event::Snap => snap(world),
         Event::Mark => mark(world),
         Event::Drain => drain(world),
         Event::Finish => finish(world),
-        Event::Sweep { region } => sweep(world, *region),
-    }
+    )
 }
 
 // Applies an event that defines an instance class.
-fn define(
-    world: &mut World,
-    name: &Name,
-    sup: Option<ClassNo>,
-    fields: &Fields,
-) -> Result<(Answer, Undo), Refusal>
+fn define(world: &mut World, name: &Name, sup: Option<ClassNo>, fields: &Fields) -> Effect
     ensures { IsApplied (Event.Class name.now sup fields.now) world.old world.new result }
 {
-    let class = world.define_class(name, sup, fields)?;
+    let class = world.define_class(NewClass { name, sup, fields })?;
     Ok((Answer::Class(class), Undo::Class))
 }
 
 // Applies an event that defines a class of object arrays.
-fn define_array(world: &mut World, name: &Name) -> Result<(Answer, Undo), Refusal>
+fn define_array(world: &mut World, name: &Name) -> Effect
     ensures { IsApplied (Event.ArrayClass name.now) world.old world.new result }
 {
     let class = world.define_array_class(name)?;
@@ -114,12 +97,7 @@ fn define_array(world: &mut World, name: &Name) -> Result<(Answer, Undo), Refusa
 
 // Applies an event that makes an instance of a class.
 #[inline(always)]
-pub(crate) fn create(
-    world: &mut World,
-    m: u64,
-    r: u64,
-    class: ClassNo,
-) -> Result<(Answer, Undo), Refusal>
+pub(crate) fn create(world: &mut World, m: u64, r: u64, class: ClassNo) -> Effect
     requires { IsLegal world.old }
     ensures { IsApplied (Event.New m r class) world.old world.new result }
 {
@@ -128,13 +106,7 @@ pub(crate) fn create(
 }
 
 // Applies an event that makes an object array.
-fn create_array(
-    world: &mut World,
-    m: u64,
-    r: u64,
-    class: ClassNo,
-    len: u64,
-) -> Result<(Answer, Undo), Refusal>
+fn create_array(world: &mut World, m: u64, r: u64, class: ClassNo, len: u64) -> Effect
     requires { IsLegal world.old }
     ensures { IsApplied (Event.NewArray m r class len) world.old world.new result }
 {
@@ -143,13 +115,7 @@ fn create_array(
 }
 
 // Applies an event that makes an array of values.
-fn create_prim(
-    world: &mut World,
-    m: u64,
-    r: u64,
-    kind: Kind,
-    len: u64,
-) -> Result<(Answer, Undo), Refusal>
+fn create_prim(world: &mut World, m: u64, r: u64, kind: Kind, len: u64) -> Effect
     requires { IsLegal world.old }
     ensures { IsApplied (Event.NewPrim m r kind len) world.old world.new result }
 {
@@ -159,13 +125,7 @@ fn create_prim(
 
 // Applies an event that reads a slot.
 #[inline(always)]
-pub(crate) fn load(
-    world: &mut World,
-    m: u64,
-    to: u64,
-    from: u64,
-    slot: u64,
-) -> Result<(Answer, Undo), Refusal>
+pub(crate) fn load(world: &mut World, m: u64, to: u64, from: u64, slot: u64) -> Effect
     requires { IsLegal world.old }
     ensures { IsApplied (Event.Load m to from slot) world.old world.new result }
 {
@@ -178,13 +138,7 @@ pub(crate) fn load(
 
 // Applies an event that writes a reference slot.
 #[inline(always)]
-pub(crate) fn store(
-    world: &mut World,
-    m: u64,
-    target: u64,
-    slot: u64,
-    source: u64,
-) -> Result<(Answer, Undo), Refusal>
+pub(crate) fn store(world: &mut World, m: u64, target: u64, slot: u64, source: u64) -> Effect
     ensures { IsApplied (Event.Store m target slot source) world.old world.new result }
 {
     let replaced = world.store(m, target, slot, source)?;
@@ -199,33 +153,17 @@ pub(crate) fn store(
 
 // Applies an event that writes a value slot.
 #[inline(always)]
-pub(crate) fn put(
-    world: &mut World,
-    m: u64,
-    target: u64,
-    slot: u64,
-    value: u64,
-) -> Result<(Answer, Undo), Refusal>
+pub(crate) fn put(world: &mut World, m: u64, target: u64, slot: u64, value: u64) -> Effect
     ensures { IsApplied (Event.Put m target slot value) world.old world.new result }
 {
     let overwritten = world.put(m, target, slot, value)?;
-    let record = Undo::Put {
-        at: overwritten.at,
-        slot: slot as u16,
-        old: overwritten.old,
-    };
-    Ok((Answer::Done, record))
+    let (at, slot, old) = (overwritten.at, slot as u16, overwritten.old);
+    Ok((Answer::Done, Undo::Put { at, slot, old }))
 }
 
 // Applies an event that copies a register.
 #[inline(always)]
-pub(crate) fn copy(
-    world: &mut World,
-    m: u64,
-    to: u64,
-    from_m: u64,
-    from: u64,
-) -> Result<(Answer, Undo), Refusal>
+pub(crate) fn copy(world: &mut World, m: u64, to: u64, from_m: u64, from: u64) -> Effect
     requires { IsLegal world.old }
     ensures { IsApplied (Event.Move m to from_m from) world.old world.new result }
 {
@@ -235,7 +173,7 @@ pub(crate) fn copy(
 
 // Applies an event that makes a register null.
 #[inline(always)]
-pub(crate) fn clear(world: &mut World, m: u64, r: u64) -> Result<(Answer, Undo), Refusal>
+pub(crate) fn clear(world: &mut World, m: u64, r: u64) -> Effect
     requires { IsLegal world.old }
     ensures { IsApplied (Event.Clear m r) world.old world.new result }
 {
@@ -244,7 +182,7 @@ pub(crate) fn clear(world: &mut World, m: u64, r: u64) -> Result<(Answer, Undo),
 }
 
 // Applies an event that begins a marking cycle.
-fn snap(world: &mut World) -> Result<(Answer, Undo), Refusal>
+fn snap(world: &mut World) -> Effect
     ensures { IsApplied Event.Snap world.old world.new result }
 {
     let pushed = world.snap()?;
@@ -253,7 +191,7 @@ fn snap(world: &mut World) -> Result<(Answer, Undo), Refusal>
 
 // Applies an event that marks the children of the newest gray object.
 #[inline(always)]
-pub(crate) fn mark(world: &mut World) -> Result<(Answer, Undo), Refusal>
+pub(crate) fn mark(world: &mut World) -> Effect
     ensures { IsApplied Event.Mark world.old world.new result }
 {
     let marked = world.mark()?;
@@ -265,7 +203,7 @@ pub(crate) fn mark(world: &mut World) -> Result<(Answer, Undo), Refusal>
 }
 
 // Applies an event that marks the object that the next entry of the log names.
-fn drain(world: &mut World) -> Result<(Answer, Undo), Refusal>
+fn drain(world: &mut World) -> Effect
     ensures { IsApplied Event.Drain world.old world.new result }
 {
     let pushed = world.drain()?;
@@ -273,7 +211,7 @@ fn drain(world: &mut World) -> Result<(Answer, Undo), Refusal>
 }
 
 // Applies an event that ends a marking cycle.
-fn finish(world: &mut World) -> Result<(Answer, Undo), Refusal>
+fn finish(world: &mut World) -> Effect
     ensures { IsApplied Event.Finish world.old world.new result }
 {
     let finished = world.finish()?;
@@ -282,7 +220,7 @@ fn finish(world: &mut World) -> Result<(Answer, Undo), Refusal>
 }
 
 // Applies an event that removes the objects of a region that aren't live.
-fn sweep(world: &mut World, region: u64) -> Result<(Answer, Undo), Refusal>
+fn sweep(world: &mut World, region: u64) -> Effect
     ensures { IsApplied (Event.Sweep region) world.old world.new result }
 {
     let reclaimed = world.sweep(region)?;

@@ -9,14 +9,14 @@ ghost use Rattle.heap_step.specs.Apply.{refusal_of, state_after};
 ghost use Rattle.heap_step.specs.Laws.{FindsReached, FinishSpares, IdsFit, IsTakenBack, KeepsLegal, StaysFound, SweepSpares};
 
 mod events;
-mod kinds;
+mod sorts;
 pub mod step;
 
-use heap_class::{ClassNo, Fields, Kind, Name, ObjRef};
+use heap_class::{ClassNo, Fields, Kind, Name, ObjRef, Refusal};
 use heap_mark::Log;
 use heap_region::Storage;
 use heap_sweep::DeadCells;
-pub use kinds::{
+pub use sorts::{
     ClearEvent, IntoEvent, LoadEvent, MarkEvent, MoveEvent, NewEvent, PutEvent, StoreEvent,
 };
 use std::mem::size_of;
@@ -188,6 +188,9 @@ pub enum Undo {
 
 // The ring has one for each step that can be undone.
 const _: () = prove!(size_of::<Undo>() <= 32);
+
+/// The effect of an event: its answer and its record, or why it was refused.
+pub type Effect = Result<(Answer, Undo), Refusal>;
 
 /// States that each event that a legal heap accepts keeps it legal.
 pub fn keeps_legal()

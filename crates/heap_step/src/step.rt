@@ -9,16 +9,15 @@ ghost use Rattle.heap_step.specs.Apply.{refusal_of, state_after, applied, event_
 ghost use Rattle.heap_step.specs.Records.{undo_record, weight};
 ghost use Rattle.heap_step.specs.Laws.{IsLight, IsStep, StaysFound};
 
-use crate::kinds::IntoEvent;
-use crate::{Answer, Undo};
-use heap_class::Refusal;
+use crate::sorts::IntoEvent;
+use crate::{Effect, Undo};
 use heap_world::World;
 
 /// Applies an event, and returns its answer and the record that undoes it. Fails as the event's own call does, and changes
 /// nothing then. Fails with NoMemory only if the event may grow and nothing else refuses it. While a cycle runs, marked and
 /// sheltered objects stay marked or sheltered.
 #[inline(always)]
-pub fn apply<E: IntoEvent>(world: &mut World, event: &E) -> Result<(Answer, Undo), Refusal>
+pub fn apply<E: IntoEvent>(world: &mut World, event: &E) -> Effect
     ensures answered { IsAnswered (refusal_of (E.event event.now) world.old)
         (event_may_grow (E.event event.now) world.old) result }
     ensures state { IfOk result (λ p. world.new ≡ state_after (E.event event.now) world.old) }

@@ -14,7 +14,7 @@ use Rattle.heap_trail.specs.Machine.{Machine}
 use Rattle.heap_trail.specs.Limits.{pin_limit, last_pin}
 use Rattle.heap_trail.specs.Pins.{Pins}
 use Rattle.heap_trail.specs.declared.held.NumberedPin.{NumberedPin}
-use Rattle.heap_trail.specs.OpenPins.{pins_of, AreHeld}
+use Rattle.heap_trail.specs.OpenPins.{pins_of, AreHeld, EachMayKeep}
 
 -- the states before this one, the newest first: each is the one after it, with its record undone
 abbrev pub past_of : HeapState → List Undo → List HeapState
@@ -29,6 +29,13 @@ AreRecorded w (r ∷ rs) = ((e : Event) × IsStep e (undone r w) w r) × AreReco
 -- a ring with one more record in front, and without the oldest if it was full
 abbrev pub with_record : Undo → Buffer Undo → Buffer Undo
 with_record left ring = buffer (take ring.capacity (left ∷ ring.items)) ring.capacity
+
+-- the step that left this record and led to this state is remembered: each pin keeps what the step overwrote, or is lost, and
+-- the record is in the ring
+pub record IsRemembered (left : Undo) (v : HeapState) (old new : List NumberedPin)
+    (ring ring_after : Buffer Undo) : Type 0 where
+  pub pins : EachMayKeep left v old new
+  pub records : ring_after ≡ with_record left ring
 
 -- what holds of a machine's fields: the ring has room for `keep` records
 pub record IsRetaining (w : HeapState) (ring : Buffer Undo) (place keep : ℕ) : Type 0 where

@@ -16,7 +16,7 @@ ghost use Rattle.heap_trail.specs.Headline.{Headline};
 ghost use Rattle.heap_trail.specs.Laws.{FindsSnapshot, IsTrail, GivesText, KeepsImage, DumpIsWhole, LeadsBack, LeavesTrail, ReachesLive, SparesReached};
 ghost use Rattle.heap_trail.specs.Machine.{IsSmall, Machine, Allocation, MayFail, MayReply, acted, opening_machine};
 ghost use Rattle.heap_trail.specs.OpenPins.{AreAllBelow, EachMayKeep, EachSized, slot_after_rewind};
-ghost use Rattle.heap_trail.specs.Records.{with_record};
+ghost use Rattle.heap_trail.specs.Records.{IsRemembered};
 ghost use Rattle.heap_trail.specs.Trail.{retained, rewound};
 ghost use Rattle.heap_trail.specs.Pins.{after_rewind};
 
@@ -160,8 +160,7 @@ fn are_settled(pins: &[NumberedPin], world: &World, left: &Undo) -> bool
 fn keep_and_add(pins: &mut [NumberedPin], world: &World, records: &mut RecordRing, left: Undo)
     requires step { (e : Event) × (before : HeapState) × IsStep e before world.now left }
     requires sized { EachSized (length world.now.regions) pins.old }
-    ensures pins { EachMayKeep left world.now pins.old pins.new }
-    ensures records { records.new ≡ with_record left records.old }
+    ensures { IsRemembered left world.now pins.old pins.new records.old records.new }
 {
     keep_each(pins, world, &left);
     records.push_front(left);
@@ -172,8 +171,7 @@ fn keep_and_add(pins: &mut [NumberedPin], world: &World, records: &mut RecordRin
 fn remember(pins: &mut [NumberedPin], world: &World, records: &mut RecordRing, left: Undo)
     requires step { (e : Event) × (before : HeapState) × IsStep e before world.now left }
     requires sized { EachSized (length world.now.regions) pins.old }
-    ensures pins { EachMayKeep left world.now pins.old pins.new }
-    ensures records { records.new ≡ with_record left records.old }
+    ensures { IsRemembered left world.now pins.old pins.new records.old records.new }
 {
     if are_settled(pins, world, &left) {
         records.push_front(left);

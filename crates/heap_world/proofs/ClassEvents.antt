@@ -4,7 +4,7 @@ use Rattle.heap_class.specs.declared.Kind.{Kind}
 use Rattle.heap_class.specs.declared.ObjKind.{ObjKind}
 use Rattle.heap_class.specs.declared.ObjKind.TheVariants.{Instance, Array, Prim}
 use Rattle.heap_class.specs.Kinds.{value_limit}
-use Rattle.heap_class.specs.Classes.{Class, IsClassTable, class_refusal, slot_kinds_of, instance_class, array_class}
+use Rattle.heap_class.specs.Classes.{Class, IsClassTable, IsDefined, class_refusal, slot_kinds_of, instance_class, array_class}
 use Rattle.heap_class.proofs.Slots.{slots_more, instance_within, instance_more, array_more, classes_more}
 use Rattle.heap_region.specs.Regions.{Object, object_of, slot_kinds, references_of}
 use Rattle.heap_region.proofs.ChangedLookups.{place_found}
@@ -15,7 +15,7 @@ use Rattle.heap_world.specs.State.{HeapState}
 use Rattle.heap_world.specs.Reach.{Names}
 use Rattle.heap_world.specs.Legal.{IsSized, IsQuiet, IsWeakTricolour, IsLive, IsObjectOf, HasKind}
 use Rattle.heap_world.proofs.Clauses.{HasClauses, clauses_of, legal_by}
-use Rattle.heap_world.specs.Events.{after_class}
+use Rattle.heap_world.specs.Events.{after_class, IsNewClass}
 use Rattle.heap_world.proofs.Shelter.{sheltered_unmarked}
 use Rattle.heap_world.proofs.Tricolour.{Spares, spares_tricolour}
 use Rattle.heap_world.proofs.Registers.{namer, names_of}
@@ -100,10 +100,12 @@ class_held w room c cs (Ok k) h bare accepted more same = subst (λ ds. IsSoundH
     (held_by (after_class c w) w room h (legal_by (after_class c w) (class_legal w c bare (clauses_of w h.legal) accepted)) refl)
 class_held w room c cs (Err e) h bare accepted more same = subst (λ ds. IsSoundHeap (record w { classes = ds }) room) (sym same) h
 
-pub class_defined : (w v : HeapState) (c : Class) (cs : List Class) (result : Result ℕ Refusal) → w ≡ v → OnOk result (cs ≡ w.classes ++ c ∷ []) → OnOk result (record w { classes = cs } ≡ after_class c v)
+pub class_is_new : (w v : HeapState) (c : Class) (cs : List Class) (result : Result ℕ Refusal) → w ≡ v → IsDefined c w.classes cs result → IsNewClass c v (record w { classes = cs }) result
 unfolding after_class
-class_defined w v c cs (Ok k) e more = ap (λ ds. record w { classes = ds }) more ∙ ap (after_class c) e
-class_defined w v c cs (Err x) e more = more
+class_is_new w v c cs (Ok k) e d = subst (λ (u : HeapState). IsNewClass c u (record w { classes = cs }) (Ok k)) e
+    (record { answered = d.answered; defined = ap (λ ds. record w { classes = ds }) d.defined; number = d.number; unchanged = d.unchanged })
+class_is_new w v c cs (Err x) e d = subst (λ (u : HeapState). IsNewClass c u (record w { classes = cs }) (Err x)) e
+    (record { answered = d.answered; defined = d.defined; number = d.number; unchanged = ap (λ ds. record w { classes = ds }) d.unchanged })
 
 pub instance_held : (w : HeapState) (room : ℕ) (name : List ℕ) (sup : Option ℕ) (fields : List Field) (cs : List Class) (result : Result ℕ Refusal) → IsSoundHeap w room
     → IsAnswered (class_refusal w.classes (instance_class name sup fields)) true result → OnOk result (cs ≡ w.classes ++ instance_class name sup fields ∷ []) → OnErr result (cs ≡ w.classes) → IsSoundHeap (record w { classes = cs }) room

@@ -9,7 +9,7 @@ use Rattle.heap_class.specs.declared.ObjRef.{ObjRef}
 use Rattle.heap_class.specs.Kinds.{is_reference, value_limit}
 use Rattle.heap_class.specs.Limits.{array_limit}
 use Rattle.heap_class.specs.Refusals.{first_refusal, IsAnswered}
-use Rattle.heap_class.specs.Classes.{Class, is_instance_class, is_array_class, slots_of}
+use Rattle.heap_class.specs.Classes.{Class, class_refusal, is_instance_class, is_array_class, slots_of}
 use Rattle.heap_region.specs.Regions.{Object, with_word, id_of}
 use Rattle.heap_region.specs.Limits.{region_words}
 use Rattle.heap_region.specs.Pool.{is_fresh, new_place, allocated}
@@ -21,6 +21,14 @@ use Rattle.heap_world.specs.State.{HeapState, pool_of, with_pool, marking_of, wi
 -- the state after a class is defined
 unfoldable pub after_class : Class → HeapState → HeapState
 after_class c w = record w { classes = w.classes ++ c ∷ [] }
+
+-- a call that defines this class, unless it is refused, had this result
+pub record IsNewClass (c : Class) (before after : HeapState) (result : Result ℕ Refusal)
+    : Type 0 where
+  pub answered : IsAnswered (class_refusal before.classes c) true result
+  pub defined : OnOk result (after ≡ after_class c before)
+  pub number : IfOk result (λ k. k ≡ length before.classes)
+  pub unchanged : OnErr result (after ≡ before)
 
 -- ---- a new object in a register
 

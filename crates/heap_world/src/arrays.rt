@@ -1,10 +1,9 @@
 //! Arrays and their classes.
-ghost use Rattle.std.specs.Prelude.{◌≡◌, length, Some, true, IfOk, IfErr, OnOk, OnErr};
-ghost use Rattle.heap_class.specs.Classes.{array_class, class_refusal};
-ghost use Rattle.heap_class.specs.Refusals.{IsAnswered};
+ghost use Rattle.std.specs.Prelude.{◌≡◌, Some, IfErr, OnOk};
+ghost use Rattle.heap_class.specs.Classes.{array_class};
 ghost use Rattle.heap_class.specs.declared.ObjKind.TheVariants.{Array, Prim};
 ghost use Rattle.heap_world.specs.Legal.{MayHold};
-ghost use Rattle.heap_world.specs.Events.{after_class, new_array_refusal, new_prim_refusal, IsNewObject};
+ghost use Rattle.heap_world.specs.Events.{new_array_refusal, new_prim_refusal, IsNewClass, IsNewObject};
 
 use super::{ARRAY_LIMIT, Created, World};
 use heap_class::{ClassNo, Kind, Name, ObjKind, Refusal};
@@ -13,11 +12,7 @@ impl World {
     /// Defines a class of object arrays, and returns its number. Fails with ClassLimit, BadName or DuplicateName, in this
     /// order, and then with NoMemory if an allocation fails.
     pub fn define_array_class(&mut self, name: &Name) -> Result<ClassNo, Refusal>
-        ensures answered { IsAnswered (class_refusal self.old.classes (array_class name.now)) true
-            result }
-        ensures defined { OnOk result (self.new ≡ after_class (array_class name.now) self.old) }
-        ensures number { IfOk result (λ k. k ≡ length self.old.classes) }
-        ensures unchanged { OnErr result (self.new ≡ self.old) }
+        ensures { IsNewClass (array_class name.now) self.old self.new result }
     {
         self.classes.define_array(name)
     }
@@ -55,12 +50,7 @@ impl World {
         ensures allowed { OnOk result (MayHold self.now m r (Array class) len) }
         ensures refused { IfErr result (λ e. new_array_refusal m r class len self.now ≡ Some e) }
     {
-        if !self.has_register(m, r) {
-            return Err(Refusal::BadRegister);
-        }
-        if class >= self.classes.len() {
-            return Err(Refusal::NoClass);
-        }
+        self.allow_class(m, r, class)?;
         if !self.classes.is_array(class) {
             return Err(Refusal::WrongKind);
         }

@@ -1,8 +1,8 @@
 //! The whole state of the heap, the rules that it keeps, and the effect of each event.
 #![tactic(auto)]
 
-ghost use Rattle.std.specs.Prelude.{◌≡◌, ◌≢◌, ◌⊎◌, ◌+◌, ◌-◌, ◌*◌, ◌<◌, ◌≤◌, ◌↔◌, ◌&&◌, nat_lt, length, reverse, take, replicate, Some, None, true, false, IsTrue, Contains, IsSome, IfSome, IfOk, IfErr, OnOk, OnErr, slice_get, slice_set};
-ghost use Rattle.heap_class.specs.Classes.{class_refusal, instance_class, is_instance_class, slots_of};
+ghost use Rattle.std.specs.Prelude.{◌≡◌, ◌≢◌, ◌⊎◌, ◌+◌, ◌-◌, ◌*◌, ◌<◌, ◌≤◌, ◌↔◌, ◌&&◌, ℕ, nat_lt, length, reverse, take, replicate, Some, None, true, false, IsTrue, Contains, IsSome, IfSome, IfOk, IfErr, OnOk, OnErr, slice_get, slice_set};
+ghost use Rattle.heap_class.specs.Classes.{instance_class, is_instance_class, slots_of};
 ghost use Rattle.heap_class.specs.Refusals.{IsAnswered};
 ghost use Rattle.heap_class.specs.declared.IdSize.TheVariants.{Eight};
 ghost use Rattle.heap_class.specs.declared.ObjKind.TheVariants.{Instance};
@@ -12,14 +12,14 @@ ghost use Rattle.heap_region.specs.Pool.{new_place, is_fresh, unallocated};
 ghost use Rattle.heap_world.specs.Limits.{AreHeapSettings, HeapSettings, mutator_limit, registers_each};
 ghost use Rattle.heap_world.specs.State.{HeapState, opening_state, is_register, register, with_register, pool_of, with_pool, place_in, slot_kind};
 ghost use Rattle.heap_world.specs.Legal.{IsLegal, MayHold};
-ghost use Rattle.heap_world.specs.Events.{after_class, is_full, new_refusal, after_new, put_refusal, after_put, IsNewObject, IsSlotAt};
+ghost use Rattle.heap_world.specs.Events.{is_full, new_array_refusal, new_refusal, after_new, put_refusal, after_put, IsNewClass, IsNewObject, IsSlotAt};
 
 mod arrays;
 mod marking;
 mod references;
 mod sweeping;
 
-use heap_class::{ClassNo, Classes, Fields, IdSize, Kind, Name, ObjKind, ObjRef, Refusal};
+use heap_class::{ClassNo, Classes, IdSize, Kind, NewClass, ObjKind, ObjRef, Refusal};
 use heap_mark::{Marker, Phase};
 use heap_region::Regions;
 use std::alloc::Global;
@@ -331,20 +331,12 @@ impl World {
 
     /// Defines an instance class, and returns its number. Fails with NoClass, ClassLimit, BadName, DuplicateName or FieldLimit,
     /// in this order, and then with NoMemory if an allocation fails.
-    pub fn define_class(
-        &mut self,
-        name: &Name,
-        sup: Option<ClassNo>,
-        fields: &Fields,
-    ) -> Result<ClassNo, Refusal>
-        ensures answered { IsAnswered
-            (class_refusal self.old.classes (instance_class name.now sup fields.now)) true result }
-        ensures defined { OnOk result
-            (self.new ≡ after_class (instance_class name.now sup fields.now) self.old) }
-        ensures number { IfOk result (λ k. k ≡ length self.old.classes) }
-        ensures unchanged { OnErr result (self.new ≡ self.old) }
+    pub fn define_class(&mut self, class: NewClass<'_>) -> Result<ClassNo, Refusal>
+        ensures { IsNewClass
+            (instance_class class.entry.name.now class.entry.sup class.entry.fields.now) self.old
+            self.new result }
     {
-        self.classes.define(name, sup, fields)
+        self.classes.define(class)
     }
 
     /// Undoes the last definition of a class, which must be there. The heap must be legal afterwards. Takes no memory.
@@ -415,6 +407,24 @@ impl World {
         self.regions.set_word(at, slot, old)
     }
 
+    // Checks that an object of a class may be asked for in a register. Fails with BadRegister or NoClass.
+    #[inline(always)]
+    fn allow_class(&self, m: u64, r: u64, class: ClassNo) -> Result<(), Refusal>
+        ensures register { OnOk result (IsTrue (is_register self.now m r)) }
+        ensures class { OnOk result (class < length self.now.classes) }
+        ensures instance { IfErr result (λ e. new_refusal m r class self.now ≡ Some e) }
+        ensures array { (len : ℕ)
+            → IfErr result (λ e. new_array_refusal m r class len self.now ≡ Some e) }
+    {
+        if !self.has_register(m, r) {
+            return Err(Refusal::BadRegister);
+        }
+        if class >= self.classes.len() {
+            return Err(Refusal::NoClass);
+        }
+        Ok(())
+    }
+
     // Returns the number of slots of an instance of the class. Fails with BadRegister, NoClass or WrongKind.
     #[inline(always)]
     fn instance_len(&self, m: u64, r: u64, class: ClassNo) -> Result<u64, Refusal>
@@ -423,12 +433,7 @@ impl World {
         ensures refused { IfErr result (λ e. new_refusal m r class self.now ≡ Some e) }
         ensures value { IfOk result (λ n. n ≡ length (slots_of self.now.classes class)) }
     {
-        if !self.has_register(m, r) {
-            return Err(Refusal::BadRegister);
-        }
-        if class >= self.classes.len() {
-            return Err(Refusal::NoClass);
-        }
+        self.allow_class(m, r, class)?;
         if !self.classes.is_instance(class) {
             return Err(Refusal::WrongKind);
         }

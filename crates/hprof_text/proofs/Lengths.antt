@@ -63,6 +63,14 @@ values_length ids (k ∷ ks) (w ∷ ws) h =
     ∙ ap₂ (λ a b. a + b) (length-value ids k w) (values_length ids ks ws (omega (arith, h)))
     ∙ sym (sum_by-cons (width_of ids) k ks)
 
+pub array_dump_length : (ids : IdSize) (classes : List Class) (x k : ℕ) (words : List ℕ) → length (dump_of ids classes x (Array k) words) ≡ dump_size ids classes (Array k) (length words)
+unfolding dump_of dump_size
+array_dump_length ids classes x k words =
+    let v : length (flat_map (id ids) words) ≡ id_bytes ids * length words = length-flat (id ids) (id_bytes ids) (id_length ids) words in
+    let i : length (id ids x) ≡ id_bytes ids = id_length ids x in
+    let c : length (id ids (class_id k)) ≡ id_bytes ids = id_length ids (class_id k) in
+    simp length-append (omega (arith, v, i, c))
+
 -- an object has as many words as its kind has slots
 pub dump_length : (ids : IdSize) (classes : List Class) (x : ℕ) (kind : ObjKind) (words : List ℕ) → IsKnown classes kind (length words) → length (dump_of ids classes x kind words) ≡ dump_size ids classes kind (length words)
 unfolding dump_of dump_size instance_size
@@ -71,11 +79,7 @@ dump_length ids classes x (Instance k) words h =
     let i : length (id ids x) ≡ id_bytes ids = id_length ids x in
     let c : length (id ids (class_id k)) ≡ id_bytes ids = id_length ids (class_id k) in
     simp length-append (omega (arith, v, i, c))
-dump_length ids classes x (Array k) words h =
-    let v : length (flat_map (id ids) words) ≡ id_bytes ids * length words = length-flat (id ids) (id_bytes ids) (id_length ids) words in
-    let i : length (id ids x) ≡ id_bytes ids = id_length ids x in
-    let c : length (id ids (class_id k)) ≡ id_bytes ids = id_length ids (class_id k) in
-    simp length-append (omega (arith, v, i, c))
+dump_length ids classes x (Array k) words h = array_dump_length ids classes x k words
 dump_length ids classes x (Prim kind) words h =
     let v : length (flat_map (λ w. value_bytes ids (kind, w)) words) ≡ width_of ids kind * length words = length-flat (λ w. value_bytes ids (kind, w)) (width_of ids kind) (length-value ids kind) words in
     let i : length (id ids x) ≡ id_bytes ids = id_length ids x in

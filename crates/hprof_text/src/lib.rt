@@ -13,9 +13,8 @@ ghost use Rattle.hprof_text.specs.Segments.{dump_text, piece_of};
 use crate::measure::Measure;
 use crate::pieces::{past_from, segment_from, start_from};
 use crate::sizes::{not_null, opening_size, root_size};
-use heap_class::{ClassNo, FirstClasses, IdSize, ObjKind, ObjRef, Refusal};
+use heap_class::{ClassNo, FirstClasses, IdSize, Items, ObjKind, ObjRef, Refusal};
 use std::alloc::Global;
-use std::marker::Model;
 
 mod list_view;
 mod measure;
@@ -32,43 +31,8 @@ pub use crate::segment_bytes::SegmentBytes;
 /// The most bytes of a segment's body, unless it is a single sub-record.
 pub const SEGMENT_LIMIT: u64 = 4096;
 
-/// The bytes of a piece. Contracts see the list.
-#[derive(Drop)]
-pub struct Bytes {
-    bytes: Vec<u8>,
-}
-
-impl Model for Bytes {
-    ghost use Rattle.std.specs.Prelude.{ℕ, List};
-
-    ghost Value = { List ℕ };
-
-    ghost view = { λ b. b.bytes.items };
-}
-
-impl Bytes {
-    /// Returns the bytes, in order.
-    pub fn as_slice(&self) -> &[u8]
-        ensures { result.now ≡ self.now }
-    {
-        self.bytes.as_slice()
-    }
-
-    /// Returns the bytes of a vector as those of a piece.
-    pub fn from_vec(bytes: Vec<u8>) -> Bytes
-        ensures { result ≡ bytes.items }
-    {
-        Bytes { bytes }
-    }
-
-    /// Returns the bytes as a vector.
-    pub fn into_vec(self) -> Vec<u8>
-        ensures { result.items ≡ self }
-    {
-        let Bytes { bytes } = self;
-        bytes
-    }
-}
+/// The bytes of a piece.
+pub type Bytes = Items<u8>;
 
 /// A piece of a dump.
 #[derive(Drop)]

@@ -3,15 +3,13 @@ ghost use Rattle.std.specs.Prelude.{◌≡◌, ◌<◌, ◌≤◌, ◌++◌, len
 ghost use Rattle.std.specs.List.{enumerate_from};
 ghost use Rattle.byteorder.specs.Endian.{big_bytes};
 ghost use Rattle.heap_class.specs.Classes.{fields_of, name_table};
-ghost use Rattle.heap_class.specs.Limits.{array_limit};
 ghost use Rattle.hprof_text.specs.SegmentContents.{HasRoom};
-ghost use Rattle.hprof_text.specs.Image.{IsKnown};
 ghost use Rattle.hprof_text.specs.Records.{opening_of};
-ghost use Rattle.hprof_text.specs.Text.{id, field_entry, utf8, load_class, value_bytes, dump_of};
+ghost use Rattle.hprof_text.specs.Text.{id, field_entry, utf8, load_class, value_bytes};
 
 use crate::segment_bytes::SegmentBytes;
 use byteorder::{BigEndian, ByteOrder};
-use heap_class::{ClassNo, FirstClasses, IdSize, Kind, ObjKind};
+use heap_class::{ClassNo, FirstClasses, IdSize, Kind};
 
 // The number of words that are put in order before they are appended.
 const WORDS_AT_ONCE: usize = 32;
@@ -138,30 +136,5 @@ impl SegmentBytes {
         self.names(ids, classes);
         self.load_classes(ids, classes);
         self.trace();
-    }
-
-    /// Appends the sub-record of an object of at most 1,024 words. There must be room.
-    #[tactic(auto, unfolding(crate::specs::Text::dump_of))]
-    pub fn object_dump(
-        &mut self,
-        ids: IdSize,
-        classes: &FirstClasses<'_>,
-        object: u64,
-        kind: ObjKind,
-        words: &[u64],
-    )
-        requires room { HasRoom self.old (dump_of ids classes.now object kind words.now) }
-        requires known { IsKnown classes.now kind (length words.now) }
-        requires small { length words.now ≤ array_limit }
-        ensures written { self.new.written
-            ≡ self.old.written ++ dump_of ids classes.now object kind words.now }
-        ensures limit { self.new.limit ≡ self.old.limit }
-    {
-        let _count = classes.len();
-        match kind {
-            ObjKind::Instance(class) => self.instance_dump(ids, classes, object, class, words),
-            ObjKind::Array(class) => self.object_array_dump(ids, object, class, words),
-            ObjKind::Prim(kind) => self.primitive_array_dump(ids, object, kind, words),
-        }
     }
 }

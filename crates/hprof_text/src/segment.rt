@@ -1,7 +1,7 @@
 //! A segment as it is filled: each sub-record is offered to it, and is written if there is room.
 ghost use Rattle.std.specs.Prelude.{◌+◌, ◌≡◌, ◌<◌, ◌≤◌, [], length, IfOk, IfErr};
 ghost use Rattle.heap_class.specs.Limits.{class_limit, array_limit};
-ghost use Rattle.heap_class.specs.declared.ObjKind.TheVariants.{Instance};
+ghost use Rattle.heap_class.specs.declared.ObjKind.TheVariants.{Instance, Array, Prim};
 ghost use Rattle.heap_class.specs.declared.Refusal.TheVariants.{NoMemory};
 ghost use Rattle.hprof_text.specs.SegmentFilling.{takes, IsOffered};
 ghost use Rattle.hprof_text.specs.Image.{IsKnown};
@@ -10,9 +10,9 @@ ghost use Rattle.hprof_text.specs.Sizes.{sub_record_limit};
 ghost use Rattle.hprof_text.specs.Text.{record_of, class_dump, root_sticky_class, root_unknown, dump_of};
 
 use crate::segment_bytes::SegmentBytes;
-use crate::sizes::{class_size, dump_size, root_size};
+use crate::sizes::{array_size, class_size, dump_size, prim_size, root_size};
 use crate::{Bytes, SEGMENT_LIMIT};
-use heap_class::{ClassNo, FirstClasses, IdSize, ObjKind, Refusal};
+use heap_class::{ClassNo, FirstClasses, IdSize, Kind, ObjKind, Refusal};
 use std::alloc::Global;
 use std::marker::Model;
 
@@ -130,30 +130,37 @@ impl Segment {
         taken
     }
 
-    // Offers the sub-record of an object of any kind, and tells whether it was taken.
-    fn offer(
-        &mut self,
-        ids: IdSize,
-        classes: &FirstClasses<'_>,
-        object: u64,
-        kind: ObjKind,
-        words: &[u64],
-    ) -> bool
-        requires known { IsKnown classes.now kind (length words.now) }
+    // Offers the sub-record of an object array, and tells whether it was taken.
+    #[inline(never)]
+    fn offer_array(&mut self, ids: IdSize, object: u64, class: ClassNo, words: &[u64]) -> bool
+        requires few { class < class_limit }
         requires small { length words.now ≤ array_limit }
-        ensures { IsOffered (dump_of ids classes.now object kind words.now) self.old self.new
+        ensures { IsOffered (dump_of ids [] object (Array class) words.now) self.old self.new
             result }
     {
-        let taken = self.takes(dump_size(ids, classes, kind, words.len() as u64));
+        let taken = self.takes(array_size(ids, words.len() as u64));
         if taken {
-            self.buffer.object_dump(ids, classes, object, kind, words);
+            self.buffer.object_array_dump(ids, object, class, words);
         }
         taken
     }
 
-    /// Offers the sub-record of an object, and tells whether it was taken. Offers an instance by a call of its own, since most
-    /// objects are instances.
+    // Offers the sub-record of an array of values, and tells whether it was taken.
+    #[inline(never)]
+    fn offer_prim(&mut self, ids: IdSize, object: u64, kind: Kind, words: &[u64]) -> bool
+        requires { length words.now ≤ array_limit }
+        ensures { IsOffered (dump_of ids [] object (Prim kind) words.now) self.old self.new result }
+    {
+        let taken = self.takes(prim_size(ids, kind, words.len() as u64));
+        if taken {
+            self.buffer.primitive_array_dump(ids, object, kind, words);
+        }
+        taken
+    }
+
+    /// Offers the sub-record of an object, and tells whether it was taken.
     #[inline(always)]
+    #[tactic(auto, unfolding(crate::specs::Text::dump_of))]
     pub fn offer_object(
         &mut self,
         ids: IdSize,
@@ -167,9 +174,11 @@ impl Segment {
         ensures { IsOffered (dump_of ids classes.now object kind words.now) self.old self.new
             result }
     {
+        let _count = classes.len();
         match kind {
             ObjKind::Instance(class) => self.offer_instance(ids, classes, object, class, words),
-            _ => self.offer(ids, classes, object, kind, words),
+            ObjKind::Array(class) => self.offer_array(ids, object, class, words),
+            ObjKind::Prim(kind) => self.offer_prim(ids, object, kind, words),
         }
     }
 

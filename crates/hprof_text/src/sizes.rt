@@ -1,12 +1,13 @@
 //! The sizes of the parts of a dump in bytes. Each is known from the classes and the number of words, before a byte is written.
-ghost use Rattle.std.specs.Prelude.{◌≡◌, ◌<◌, ◌≤◌, ◌==◌, not, count_by, length};
+ghost use Rattle.std.specs.Prelude.{◌≡◌, ◌<◌, ◌≤◌, ◌==◌, [], ℕ, not, count_by, length};
 ghost use Rattle.heap_class.specs.Classes.{instance_size, name_table};
 ghost use Rattle.heap_class.specs.Limits.{array_limit, instance_size_limit};
+ghost use Rattle.heap_class.specs.declared.ObjKind.TheVariants.{Array, Prim};
 ghost use Rattle.hprof_text.specs.Image.{IsKnown, register_limit};
 ghost use Rattle.hprof_text.specs.Records.{class_at};
 ghost use Rattle.hprof_text.specs.Sizes.{names_size, opening_size, class_size, dump_size, root_size, class_size_limit, names_size_limit, opening_size_limit, sub_record_limit};
 
-use heap_class::{ClassNo, FirstClasses, IdSize, ObjKind};
+use heap_class::{ClassNo, FirstClasses, IdSize, Kind, ObjKind};
 
 /// Returns the size of a class's instances: at most 64 slots of 8 bytes.
 #[tactic(auto, using(crate::proofs::Bounds::instance_small))]
@@ -58,6 +59,28 @@ pub fn root_size(ids: IdSize) -> u64
     1 + ids.bytes()
 }
 
+/// Returns the size of the sub-record of an object array with `words` elements.
+#[tactic(auto, unfolding(crate::specs::Sizes::dump_size))]
+pub fn array_size(ids: IdSize, words: u64) -> u64
+    requires { words ≤ array_limit }
+    ensures value { (class : ℕ) → result ≡ dump_size ids [] (Array class) words }
+    ensures some { 0 < result }
+    ensures limit { result ≤ sub_record_limit }
+{
+    9 + 2 * ids.bytes() + ids.bytes() * words
+}
+
+/// Returns the size of the sub-record of an array of values of this kind with `words` elements.
+#[tactic(auto, using(crate::proofs::Bounds::width_small), unfolding(crate::specs::Sizes::dump_size))]
+pub fn prim_size(ids: IdSize, kind: Kind, words: u64) -> u64
+    requires { words ≤ array_limit }
+    ensures value { result ≡ dump_size ids [] (Prim kind) words }
+    ensures some { 0 < result }
+    ensures limit { result ≤ sub_record_limit }
+{
+    10 + ids.bytes() + kind.width(ids) * words
+}
+
 /// Returns the size of the sub-record of an object with `words` words.
 #[tactic(auto, using(crate::proofs::Bounds::width_small), unfolding(crate::specs::Sizes::dump_size))]
 pub fn dump_size(ids: IdSize, classes: &FirstClasses<'_>, kind: ObjKind, words: u64) -> u64
@@ -71,8 +94,8 @@ pub fn dump_size(ids: IdSize, classes: &FirstClasses<'_>, kind: ObjKind, words: 
         ObjKind::Instance(class) => 9
             + 2 * ids.bytes()
             + u64::from(instance_size(ids, classes, class)),
-        ObjKind::Array(_) => 9 + 2 * ids.bytes() + ids.bytes() * words,
-        ObjKind::Prim(kind) => 10 + ids.bytes() + kind.width(ids) * words,
+        ObjKind::Array(_) => array_size(ids, words),
+        ObjKind::Prim(kind) => prim_size(ids, kind, words),
     }
 }
 

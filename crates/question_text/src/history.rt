@@ -45,21 +45,21 @@ fn push_event(text: &mut Vec<u8>, event: PastEvent) -> Result<(), Refusal>
     ensures { Appends (event_words event) text.old.items text.new.items result }
 {
     match event {
-        PastEvent::Put { object, slot, old } => {
-            push_slot(text, b" put", object, slot)?;
+        PastEvent::Put { id, slot, old } => {
+            push_slot(text, b" put", id, slot)?;
             push_number(text, old)
         }
-        PastEvent::Store { object, slot, old } => {
-            push_slot(text, b" store", object, slot)?;
+        PastEvent::Store { id, slot, old } => {
+            push_slot(text, b" store", id, slot)?;
             push_reference(text, old)
         }
         PastEvent::Register { m, r, old } => {
             push_words(text, b" reg")?;
             push_overwritten(text, m, r, old)
         }
-        PastEvent::New { object, m, r, old } => {
+        PastEvent::New { id, m, r, old } => {
             push_words(text, b" new")?;
-            push_id(text, object)?;
+            push_id(text, id)?;
             push_overwritten(text, m, r, old)
         }
         PastEvent::Class => push_words(text, b" class"),
@@ -69,13 +69,13 @@ fn push_event(text: &mut Vec<u8>, event: PastEvent) -> Result<(), Refusal>
             push_id(text, parent)?;
             push_number(text, pushed)
         }
-        PastEvent::Drain { pushed } => push_counted(text, b" drain", pushed),
-        PastEvent::Finish { log } => push_counted(text, b" finish", log),
+        PastEvent::Drain(pushed) => push_counted(text, b" drain", pushed),
+        PastEvent::Finish(log) => push_counted(text, b" finish", log),
         PastEvent::Sweep { region, dead } => {
             push_counted(text, b" sweep", region)?;
             push_number(text, dead)
         }
-        PastEvent::Reclaim { region } => push_counted(text, b" reclaim", region),
+        PastEvent::Reclaim(region) => push_counted(text, b" reclaim", region),
     }
 }
 

@@ -1,5 +1,5 @@
 //! Classes, their slots and names, and which names a thousand fields may have.
-use heap_class::{ClassNo, Classes, Field, Fields, IdSize, Kind, Name, Refusal};
+use heap_class::{ClassNo, Classes, Field, Fields, IdSize, Kind, Name, NewClass, Refusal};
 use std::alloc::{AllocError, Global};
 use std::test::Fail;
 
@@ -32,7 +32,11 @@ fn define(
     fields: &Fields,
 ) -> Result<ClassNo, Refusal> {
     let name = Name::new(alloc, name)?;
-    classes.define(&name, sup, fields)
+    classes.define(NewClass {
+        name: &name,
+        sup,
+        fields,
+    })
 }
 
 // Creates the fields of Point.

@@ -1,5 +1,5 @@
 //! Dumps byte for byte, by hand from the format.
-use heap_class::{ClassNo, Classes, Field, Fields, IdSize, Kind, Name, ObjKind};
+use heap_class::{ClassNo, Classes, Field, Fields, IdSize, Kind, Name, NewClass, ObjKind};
 use hprof_text::{ListView, ListedObject, piece_of, text_len};
 use std::alloc::Global;
 use std::test::Fail;
@@ -67,7 +67,11 @@ fn define(
     own: &Fields,
 ) -> Result<ClassNo, Fail> {
     let name = Name::new(alloc, name)?;
-    Ok(classes.define(&name, sup, own)?)
+    Ok(classes.define(NewClass {
+        name: &name,
+        sup,
+        fields: own,
+    })?)
 }
 
 // Defines the class of points.

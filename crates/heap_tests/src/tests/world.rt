@@ -1,5 +1,5 @@
 //! The calls of a heap, each of which succeeds.
-use heap_class::{ClassNo, Kind, Name, ObjRef};
+use heap_class::{ClassNo, Kind, Name, NewClass, ObjRef};
 use heap_mark::Phase;
 use heap_scripts::{FIRST, SECOND, node_fields, small_world};
 use heap_world::{Config, Created, Loaded, Overwritten, Replaced, World};
@@ -19,7 +19,11 @@ fn at(cell: u16) -> ObjRef {
 fn define_node(alloc: Global, world: &mut World) -> Result<ClassNo, Fail> {
     let name = Name::new(alloc, b"Node")?;
     let fields = node_fields(alloc)?;
-    Ok(world.define_class(&name, None, &fields)?)
+    Ok(world.define_class(NewClass {
+        name: &name,
+        sup: None,
+        fields: &fields,
+    })?)
 }
 
 // Defines a class of arrays.

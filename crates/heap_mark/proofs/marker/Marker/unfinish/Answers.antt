@@ -12,7 +12,7 @@ unfolding unfinished
 returns-clause-marker c =
     let i = c.self.inside in
     let with_log : List ℕ → ℕ → MarkerState = λ l n. record { gray = reverse i.gray.items; room = vec_capacity i.gray; log = l; drained = n; phase = Marking } in
-    rw (← c.self.view_is) (ap₂ with_log c.log.view_is c.len-self-inside.ensures)
+    rw (← c.self.view_is) (ap₂ with_log c.into_vec.ensures c.len-self-inside.ensures)
 
 pub returns-clause-regions : goal.returns-clause-regions
 unfolding unfinished

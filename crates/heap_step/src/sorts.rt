@@ -1,12 +1,12 @@
-//! Events by their kind, for callers that know it: what they call holds no other kind, and is inlined whole.
+//! Events by their sort, for callers that know it: what they call holds no other sort, and is inlined whole.
 ghost use Rattle.std.specs.Prelude.{◌≡◌};
 
 use crate::events::{clear, copy, create, load, mark, put, store};
-use crate::{Answer, Event, Undo};
-use heap_class::{ClassNo, Refusal};
+use crate::{Effect, Event};
+use heap_class::ClassNo;
 use heap_world::World;
 
-/// An event, or one whose kind its type tells.
+/// An event, or one whose sort its type tells.
 pub trait IntoEvent: Drop {
     ghost use Rattle.heap_world.specs.Legal.{IsLegal};
     ghost use Rattle.heap_step.specs.declared.Event.{Event};
@@ -15,13 +15,20 @@ pub trait IntoEvent: Drop {
     ghost event: { Self → Event };
 
     /// Applies the event to a legal heap, and returns its answer and the record that undoes it. Fails as `apply` does.
-    fn apply_to(&self, world: &mut World) -> Result<(Answer, Undo), Refusal>
+    fn apply_to(&self, world: &mut World) -> Effect
         requires { IsLegal world.old }
         ensures { IsApplied (event self.now) world.old world.new result };
 
     /// Returns the event.
     fn into_event(self) -> Event
         ensures { result ≡ event self };
+}
+
+// Returns the event of this sort that has a value's numbers.
+macro_rules! event_of {
+    ($sort:ident, $value:expr; $($number:ident),*) => {
+        Event::$sort { $($number: $value.$number),* }
+    };
 }
 
 /// `Event::New`.
@@ -38,14 +45,13 @@ impl IntoEvent for NewEvent {
     ghost event = { λ e. Event.New e.m e.r e.class };
 
     #[inline(always)]
-    fn apply_to(&self, world: &mut World) -> Result<(Answer, Undo), Refusal> {
+    fn apply_to(&self, world: &mut World) -> Effect {
         create(world, self.m, self.r, self.class)
     }
 
     #[inline(always)]
     fn into_event(self) -> Event {
-        let NewEvent { m, r, class } = self;
-        Event::New { m, r, class }
+        event_of!(New, self; m, r, class)
     }
 }
 
@@ -64,14 +70,13 @@ impl IntoEvent for LoadEvent {
     ghost event = { λ e. Event.Load e.m e.to e.from e.slot };
 
     #[inline(always)]
-    fn apply_to(&self, world: &mut World) -> Result<(Answer, Undo), Refusal> {
+    fn apply_to(&self, world: &mut World) -> Effect {
         load(world, self.m, self.to, self.from, self.slot)
     }
 
     #[inline(always)]
     fn into_event(self) -> Event {
-        let LoadEvent { m, to, from, slot } = self;
-        Event::Load { m, to, from, slot }
+        event_of!(Load, self; m, to, from, slot)
     }
 }
 
@@ -90,24 +95,13 @@ impl IntoEvent for StoreEvent {
     ghost event = { λ e. Event.Store e.m e.target e.slot e.source };
 
     #[inline(always)]
-    fn apply_to(&self, world: &mut World) -> Result<(Answer, Undo), Refusal> {
+    fn apply_to(&self, world: &mut World) -> Effect {
         store(world, self.m, self.target, self.slot, self.source)
     }
 
     #[inline(always)]
     fn into_event(self) -> Event {
-        let StoreEvent {
-            m,
-            target,
-            slot,
-            source,
-        } = self;
-        Event::Store {
-            m,
-            target,
-            slot,
-            source,
-        }
+        event_of!(Store, self; m, target, slot, source)
     }
 }
 
@@ -126,24 +120,13 @@ impl IntoEvent for PutEvent {
     ghost event = { λ e. Event.Put e.m e.target e.slot e.value };
 
     #[inline(always)]
-    fn apply_to(&self, world: &mut World) -> Result<(Answer, Undo), Refusal> {
+    fn apply_to(&self, world: &mut World) -> Effect {
         put(world, self.m, self.target, self.slot, self.value)
     }
 
     #[inline(always)]
     fn into_event(self) -> Event {
-        let PutEvent {
-            m,
-            target,
-            slot,
-            value,
-        } = self;
-        Event::Put {
-            m,
-            target,
-            slot,
-            value,
-        }
+        event_of!(Put, self; m, target, slot, value)
     }
 }
 
@@ -162,24 +145,13 @@ impl IntoEvent for MoveEvent {
     ghost event = { λ e. Event.Move e.m e.to e.from_m e.from };
 
     #[inline(always)]
-    fn apply_to(&self, world: &mut World) -> Result<(Answer, Undo), Refusal> {
+    fn apply_to(&self, world: &mut World) -> Effect {
         copy(world, self.m, self.to, self.from_m, self.from)
     }
 
     #[inline(always)]
     fn into_event(self) -> Event {
-        let MoveEvent {
-            m,
-            to,
-            from_m,
-            from,
-        } = self;
-        Event::Move {
-            m,
-            to,
-            from_m,
-            from,
-        }
+        event_of!(Move, self; m, to, from_m, from)
     }
 }
 
@@ -196,14 +168,13 @@ impl IntoEvent for ClearEvent {
     ghost event = { λ e. Event.Clear e.m e.r };
 
     #[inline(always)]
-    fn apply_to(&self, world: &mut World) -> Result<(Answer, Undo), Refusal> {
+    fn apply_to(&self, world: &mut World) -> Effect {
         clear(world, self.m, self.r)
     }
 
     #[inline(always)]
     fn into_event(self) -> Event {
-        let ClearEvent { m, r } = self;
-        Event::Clear { m, r }
+        event_of!(Clear, self; m, r)
     }
 }
 
@@ -217,7 +188,7 @@ impl IntoEvent for MarkEvent {
     ghost event = { λ e. Event.Mark };
 
     #[inline(always)]
-    fn apply_to(&self, world: &mut World) -> Result<(Answer, Undo), Refusal> {
+    fn apply_to(&self, world: &mut World) -> Effect {
         mark(world)
     }
 

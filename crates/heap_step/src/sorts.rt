@@ -24,13 +24,6 @@ pub trait IntoEvent: Drop {
         ensures { result ≡ event self };
 }
 
-// Returns the event of this sort that has a value's numbers.
-macro_rules! event_of {
-    ($sort:ident, $value:expr; $($number:ident),*) => {
-        Event::$sort { $($number: $value.$number),* }
-    };
-}
-
 /// `Event::New`.
 #[derive(Clone, Copy, PartialEq, Eq, Debug)]
 pub struct NewEvent {
@@ -51,7 +44,8 @@ impl IntoEvent for NewEvent {
 
     #[inline(always)]
     fn into_event(self) -> Event {
-        event_of!(New, self; m, r, class)
+        let NewEvent { m, r, class } = self;
+        Event::New { m, r, class }
     }
 }
 
@@ -76,7 +70,8 @@ impl IntoEvent for LoadEvent {
 
     #[inline(always)]
     fn into_event(self) -> Event {
-        event_of!(Load, self; m, to, from, slot)
+        let LoadEvent { m, to, from, slot } = self;
+        Event::Load { m, to, from, slot }
     }
 }
 
@@ -101,7 +96,18 @@ impl IntoEvent for StoreEvent {
 
     #[inline(always)]
     fn into_event(self) -> Event {
-        event_of!(Store, self; m, target, slot, source)
+        let StoreEvent {
+            m,
+            target,
+            slot,
+            source,
+        } = self;
+        Event::Store {
+            m,
+            target,
+            slot,
+            source,
+        }
     }
 }
 
@@ -126,7 +132,18 @@ impl IntoEvent for PutEvent {
 
     #[inline(always)]
     fn into_event(self) -> Event {
-        event_of!(Put, self; m, target, slot, value)
+        let PutEvent {
+            m,
+            target,
+            slot,
+            value,
+        } = self;
+        Event::Put {
+            m,
+            target,
+            slot,
+            value,
+        }
     }
 }
 
@@ -151,7 +168,18 @@ impl IntoEvent for MoveEvent {
 
     #[inline(always)]
     fn into_event(self) -> Event {
-        event_of!(Move, self; m, to, from_m, from)
+        let MoveEvent {
+            m,
+            to,
+            from_m,
+            from,
+        } = self;
+        Event::Move {
+            m,
+            to,
+            from_m,
+            from,
+        }
     }
 }
 
@@ -174,7 +202,8 @@ impl IntoEvent for ClearEvent {
 
     #[inline(always)]
     fn into_event(self) -> Event {
-        event_of!(Clear, self; m, r)
+        let ClearEvent { m, r } = self;
+        Event::Clear { m, r }
     }
 }
 

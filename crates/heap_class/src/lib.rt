@@ -164,47 +164,73 @@ pub enum Refusal {
     ChronicleFull,
 }
 
-// Returns what the row of a refusal gives.
-macro_rules! by_refusal {
-    ($refusal:expr; $($name:ident => $value:expr),*) => {
-        match $refusal {
-            $(Refusal::$name { .. } => $value,)*
-        }
-    };
-}
-
-// Returns the name of a refusal, which is one of these.
-macro_rules! variant_name {
-    ($refusal:expr; $($name:ident),*) => {
-        by_refusal!($refusal; $($name => stringify!($name)),*)
-    };
-}
-
 impl Refusal {
     /// Returns the number of the refusal, 1 to 26.
     pub fn number(self) -> u64
         ensures { result ≡ refusal_number self }
     {
-        by_refusal!(self;
-            NoMemory => 1, NoClass => 2, ClassLimit => 3, BadName => 4, DuplicateName => 5,
-            FieldLimit => 6, BadRegister => 7, NullRegister => 8, BadSlot => 9, WrongKind => 10,
-            OutOfRange => 11, TooLarge => 12, HeapFull => 13, AlreadyMarking => 14,
-            NotMarking => 15, NothingToMark => 16, NothingToDrain => 17, NotDone => 18,
-            SweepPending => 19, NothingToSweep => 20, TooFar => 21, NoPin => 22, Lost => 23,
-            NotRetained => 24, PinLimit => 25, ChronicleFull => 26
-        )
+        match self {
+            Refusal::NoMemory => 1,
+            Refusal::NoClass => 2,
+            Refusal::ClassLimit => 3,
+            Refusal::BadName => 4,
+            Refusal::DuplicateName => 5,
+            Refusal::FieldLimit => 6,
+            Refusal::BadRegister => 7,
+            Refusal::NullRegister => 8,
+            Refusal::BadSlot => 9,
+            Refusal::WrongKind => 10,
+            Refusal::OutOfRange => 11,
+            Refusal::TooLarge => 12,
+            Refusal::HeapFull => 13,
+            Refusal::AlreadyMarking => 14,
+            Refusal::NotMarking => 15,
+            Refusal::NothingToMark => 16,
+            Refusal::NothingToDrain => 17,
+            Refusal::NotDone { .. } => 18,
+            Refusal::SweepPending { .. } => 19,
+            Refusal::NothingToSweep { .. } => 20,
+            Refusal::TooFar { .. } => 21,
+            Refusal::NoPin => 22,
+            Refusal::Lost { .. } => 23,
+            Refusal::NotRetained => 24,
+            Refusal::PinLimit => 25,
+            Refusal::ChronicleFull => 26,
+        }
     }
 
     /// Returns the name of the refusal, as replies have it.
     pub fn name(self) -> &'static str
         ensures { result.now ≡ refusal_name self }
     {
-        variant_name!(self;
-            NoMemory, NoClass, ClassLimit, BadName, DuplicateName, FieldLimit, BadRegister,
-            NullRegister, BadSlot, WrongKind, OutOfRange, TooLarge, HeapFull, AlreadyMarking,
-            NotMarking, NothingToMark, NothingToDrain, NotDone, SweepPending, NothingToSweep,
-            TooFar, NoPin, Lost, NotRetained, PinLimit, ChronicleFull
-        )
+        match self {
+            Refusal::NoMemory => "NoMemory",
+            Refusal::NoClass => "NoClass",
+            Refusal::ClassLimit => "ClassLimit",
+            Refusal::BadName => "BadName",
+            Refusal::DuplicateName => "DuplicateName",
+            Refusal::FieldLimit => "FieldLimit",
+            Refusal::BadRegister => "BadRegister",
+            Refusal::NullRegister => "NullRegister",
+            Refusal::BadSlot => "BadSlot",
+            Refusal::WrongKind => "WrongKind",
+            Refusal::OutOfRange => "OutOfRange",
+            Refusal::TooLarge => "TooLarge",
+            Refusal::HeapFull => "HeapFull",
+            Refusal::AlreadyMarking => "AlreadyMarking",
+            Refusal::NotMarking => "NotMarking",
+            Refusal::NothingToMark => "NothingToMark",
+            Refusal::NothingToDrain => "NothingToDrain",
+            Refusal::NotDone { .. } => "NotDone",
+            Refusal::SweepPending { .. } => "SweepPending",
+            Refusal::NothingToSweep { .. } => "NothingToSweep",
+            Refusal::TooFar { .. } => "TooFar",
+            Refusal::NoPin => "NoPin",
+            Refusal::Lost { .. } => "Lost",
+            Refusal::NotRetained => "NotRetained",
+            Refusal::PinLimit => "PinLimit",
+            Refusal::ChronicleFull => "ChronicleFull",
+        }
     }
 }
 

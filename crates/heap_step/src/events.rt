@@ -18,17 +18,6 @@ use heap_class::{ClassNo, Fields, Kind, Name, NewClass};
 use heap_sweep::Reclaimed;
 use heap_world::{Created, Loaded, World};
 
-// Returns the effect of an event: that of the row of its sort, whose function is given the event's numbers, or what the arms
-// behind the rows say.
-macro_rules! by_sort {
-    ($event:expr, $world:expr; $($sort:ident($($number:ident),*) => $effect:ident,)*; $($arm:tt)*) => {
-        match $event {
-            $(Event::$sort { $($number),* } => $effect($world, $(*$number),*),)*
-            $($arm)*
-        }
-    };
-}
-
 impl IntoEvent for Event {
     ghost event = { λ e. e };
 
@@ -36,14 +25,23 @@ impl IntoEvent for Event {
     #[inline(always)]
     #[tactic(auto, using(crate::proofs::AppliedResults::as_event))]
     fn apply_to(&self, world: &mut World) -> Effect {
-        by_sort!(self, world;
-            Load(m, to, from, slot) => load,
-            Put(m, target, slot, value) => put,
-            Move(m, to, from_m, from) => copy,
-            Clear(m, r) => clear,
-            ;
+        match self {
+            Event::Load { m, to, from, slot } => load(world, *m, *to, *from, *slot),
+            Event::Put {
+                m,
+                target,
+                slot,
+                value,
+            } => put(world, *m, *target, *slot, *value),
+            Event::Move {
+                m,
+                to,
+                from_m,
+                from,
+            } => copy(world, *m, *to, *from_m, *from),
+            Event::Clear { m, r } => clear(world, *m, *r),
             other => Ok(apply_any(world, other)?),
-        )
+        }
     }
 
     #[inline(always)]
@@ -59,24 +57,38 @@ fn apply_any(world: &mut World, event: &Event) -> Effect
     requires { IsLegal world.old }
     ensures { IsApplied event.now world.old world.new result }
 {
-    by_sort!(event, world;
-        New(m, r, class) => create,
-        NewArray(m, r, class, len) => create_array,
-        NewPrim(m, r, kind, len) => create_prim,
-        Load(m, to, from, slot) => load,
-        Store(m, target, slot, source) => store,
-        Put(m, target, slot, value) => put,
-        Move(m, to, from_m, from) => copy,
-        Clear(m, r) => clear,
-        Sweep(region) => sweep,
-        ;
+    match event {
         Event::Class { name, sup, fields } => define(world, name, *sup, fields),
         Event::ArrayClass { name } => define_array(world, name),
+        Event::New { m, r, class } => create(world, *m, *r, *class),
+        Event::NewArray { m, r, class, len } => create_array(world, *m, *r, *class, *len),
+        Event::NewPrim { m, r, kind, len } => create_prim(world, *m, *r, *kind, *len),
+        Event::Load { m, to, from, slot } => load(world, *m, *to, *from, *slot),
+        Event::Store {
+            m,
+            target,
+            slot,
+            source,
+        } => store(world, *m, *target, *slot, *source),
+        Event::Put {
+            m,
+            target,
+            slot,
+            value,
+        } => put(world, *m, *target, *slot, *value),
+        Event::Move {
+            m,
+            to,
+            from_m,
+            from,
+        } => copy(world, *m, *to, *from_m, *from),
+        Event::Clear { m, r } => clear(world, *m, *r),
         Event::Snap => snap(world),
         Event::Mark => mark(world),
         Event::Drain => drain(world),
         Event::Finish => finish(world),
-    )
+        Event::Sweep { region } => sweep(world, *region),
+    }
 }
 
 // Applies an event that defines an instance class.

@@ -5,7 +5,7 @@ ghost use Rattle.heap_class.specs.declared.Refusal.TheVariants.{NoMemory};
 ghost use Rattle.question_text.specs.Appends.{Appends, IsTextOrNoMemory};
 ghost use Rattle.question_text.specs.Moments.{IsToldOf, told_text};
 ghost use Rattle.question_text.specs.Names.{IsClassThere};
-ghost use Rattle.question_text.specs.Objects.{IsShowText, and_value, element_row, element_rows, field_row, field_rows, fields_up, is_marked, mark_text, object_line, object_text, shows_mark, slot_rows, value_text};
+ghost use Rattle.question_text.specs.Objects.{IsShowText, and_value, element_row, element_rows, field_row, field_rows, fields_up, is_marked, mark_text, object_line, object_text, shows_mark, value_text};
 
 use crate::id::push_reference;
 use crate::names::push_class_name;
@@ -142,25 +142,6 @@ fn push_fields(
     Ok(())
 }
 
-// Appends the rows of an object's slots. Its class must be there. Fails with NoMemory.
-#[tactic(auto, unfolding(crate::specs::Objects::slot_rows))]
-fn push_slots(
-    text: &mut Vec<u8>,
-    classes: &FirstClasses<'_>,
-    object: &ShownObject<'_>,
-) -> Result<(), Refusal>
-    requires { IsClassThere classes.now object.now.kind }
-    ensures { Appends (slot_rows classes.now object.now.kind object.now.words)
-        text.old.items text.new.items result }
-{
-    let words = object.words();
-    match object.kind() {
-        ObjKind::Instance(class) => push_fields(text, classes, class, words),
-        ObjKind::Array(_) => push_elements(text, Kind::Object, words),
-        ObjKind::Prim(kind) => push_elements(text, kind, words),
-    }
-}
-
 // Appends what the last line says of an object that is marked. Fails with NoMemory.
 fn push_mark(text: &mut Vec<u8>, marked: bool) -> Result<(), Refusal>
     ensures { Appends (mark_text marked) text.old.items text.new.items result }
@@ -193,6 +174,7 @@ fn push_object(
 }
 
 // Returns the lines of an object. Its class must be there. Fails with NoMemory.
+#[tactic(auto, unfolding(crate::specs::Objects::slot_rows))]
 fn object_lines(
     alloc: Global,
     classes: &FirstClasses<'_>,
@@ -202,8 +184,13 @@ fn object_lines(
     requires { IsClassThere classes.now object.now.kind }
     ensures { IsTextOrNoMemory (λ text. text ≡ object_text classes.now object.now marked) result }
 {
+    let words = object.words();
     let mut text = Vec::new(alloc);
-    push_slots(&mut text, classes, object)?;
+    match object.kind() {
+        ObjKind::Instance(class) => push_fields(&mut text, classes, class, words)?,
+        ObjKind::Array(_) => push_elements(&mut text, Kind::Object, words)?,
+        ObjKind::Prim(kind) => push_elements(&mut text, kind, words)?,
+    }
     push_object(&mut text, classes, object, marked)?;
     Ok(text)
 }

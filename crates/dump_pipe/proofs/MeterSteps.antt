@@ -144,7 +144,7 @@ pub looks_as : (slots id : ℕ) (b : Bool) (m : MeterView × List (ℕ × Unit {
 looks_as slots id b m is = subst (λ (u : MeterView × List (ℕ × Unit {0})). Allows Kept slots id u 1 (λ x. x) (WasLookedAt (step slots 1 0 0 none) u)) (sym is) (looks slots id b)
 
 -- a seat that has done nothing yet
-splits : (id : ℕ) (v w : MeterView) → ((out p c seat : ℕ) → SitsAtMeter out p c seat w) → Splits Kept id v v w
+pub splits : (id : ℕ) (v w : MeterView) → ((out p c seat : ℕ) → SitsAtMeter out p c seat w) → Splits Kept id v v w
 splits id v w new s h at =
     let same = set_again s.views id v at in
     subst (λ l. IsMeter s.words (l ++ w ∷ [])) (sym same) (
@@ -154,12 +154,6 @@ splits id v w new s h at =
       λ seat u e. ⊎_elim (λ was. h.3 seat u was) (λ is. subst (λ x. SitsAtMeter h.0 (slice_index s.words 0) (slice_index s.words 1) seat x) is (new h.0 (slice_index s.words 0) (slice_index s.words 1) seat)) (at_snoc s.views w u seat e),
       ⊎_elim (λ z. inl z) (λ t. inr (t.0, (t.1.0, at_longer s.views (w ∷ []) t.1.0 _ t.1.1))) h.4,
     )
-
-pub new_reader : (id : ℕ) (v : MeterView) → Splits Kept id v v (Read 0)
-new_reader id v = splits id v (Read 0) (λ out p c seat. omega arith)
-
-pub new_asker : (id : ℕ) (v : MeterView) → Splits Kept id v v (Ask false)
-new_asker id v = splits id v (Ask false) (λ out p c seat e. absurd cc)
 
 pub new_feeder : (id : ℕ) (v : MeterView) → Splits Kept id v v (Feed false)
 new_feeder id v = splits id v (Feed false) (λ out p c seat e. absurd cc)

@@ -26,7 +26,7 @@ IsMeter words views =
     × IsCancel (slice_index words 1) views
 
 -- a seat with its knowledge
-abbrev Sat : Type 0
+abbrev pub Sat : Type 0
 Sat = Me (Unit {0}) MeterView
 
 -- the out seat knows k more; other seats are free

@@ -1,14 +1,13 @@
 -- The effect of a stream.
-use Rattle.std.specs.Prelude.{◌≡◌, ℕ, ◌+◌, ◌<◌, ◌^◌, [], Option, Some, None}
+use Rattle.std.specs.Prelude.{◌≡◌, ℕ, ◌<◌, [], Option, Some, None}
 use Rattle.dump_pump.specs.declared.source.Ending.{Ending}
 use Rattle.dump_pump.specs.declared.transfer.Pumped.{Pumped}
 use Rattle.dump_pump.specs.Outlets.{Outgoing}
 use Rattle.dump_pump.specs.Pumps.{IsPumped, bytes_of}
 use Rattle.dump_pump.specs.Sources.{Supply}
-use Rattle.dump_pipe.specs.Seats.{Sum}
+use Rattle.dump_pipe.specs.Seats.{SeatState, HasDumpRoom}
 use Rattle.dump_pipe.specs.declared.end_view.EndView.{EndView}
 use Rattle.dump_pipe.specs.declared.end_view.EndView.TheVariants.{Sends, Gets}
-use Rattle.dump_pipe.specs.Pipes.{byte_limit}
 use Rattle.dump_pipe.specs.Feeds.{IsFed}
 use Rattle.dump_pipe.specs.Drains.{IsDrained}
 
@@ -21,8 +20,8 @@ abbrev pub CanFeed : Supply → EndView → Type 0
 CanFeed a v = (0 < a.left) × (v ≡ Sends [])
 
 -- nothing was received, and the sum has room for the bytes of a dump
-abbrev pub CanDrain : EndView → Sum → Type 0
-CanDrain v counted = (v ≡ Gets []) × (counted.sum + byte_limit < 2 ^ 64)
+abbrev pub CanDrain : EndView → SeatState ℕ → Type 0
+CanDrain v counted = (v ≡ Gets []) × HasDumpRoom counted
 
 -- the source was fed, or nothing was asked of it and sent
 abbrev pub MayFeed : Supply → Supply → EndView → Option Ending → Type 0

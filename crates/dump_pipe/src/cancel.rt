@@ -1,8 +1,7 @@
 //! The cancel word of a meter.
 ghost use Rattle.std.specs.Prelude.{◌≡◌, true};
-ghost use Rattle.dump_pipe.specs.Seats.{cancel_asked, cancel_found};
+ghost use Rattle.dump_pipe.specs.Seats.{knows};
 
-use crate::rule::{Asks, Looks};
 use crate::seats::{AskSeat, FeedSeat};
 use crate::word::Word;
 
@@ -16,17 +15,17 @@ impl<'a> Word<'a, Marks> {
     /// Asks to cancel, by a seat of this meter. The request can't be withdrawn. Waits for nothing.
     pub fn ask(&self, seat: &mut AskSeat)
         requires { seat.old.meter ≡ self.now }
-        ensures { seat.new ≡ cancel_asked self.now true }
+        ensures { seat.new ≡ knows self.now true }
     {
-        let _ = self.table.fetch_or::<Asks>(&mut seat.seat, 1, 1);
+        let _ = self.table.fetch_or::<AskSeat>(&mut seat.seat, 1, 1);
     }
 
     /// Tells whether anybody asked, by a seat of this meter. Once it is true it stays so. Waits for nothing.
     pub fn is_asked(&self, seat: &mut FeedSeat) -> bool
         requires { seat.old.meter ≡ self.now }
-        ensures found { seat.new ≡ cancel_found self.now result }
-        ensures lasting { seat.old.found ≡ true → result ≡ true }
+        ensures found { seat.new ≡ knows self.now result }
+        ensures lasting { seat.old.known ≡ true → result ≡ true }
     {
-        self.table.load::<Looks>(&mut seat.seat, 1) == 1
+        self.table.load::<FeedSeat>(&mut seat.seat, 1) == 1
     }
 }

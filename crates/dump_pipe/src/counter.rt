@@ -1,6 +1,6 @@
 //! The counter of a stream.
 ghost use Rattle.std.specs.Prelude.{◌≡◌, ◌+◌, ◌<◌, ◌^◌};
-ghost use Rattle.dump_pipe.specs.Seats.{sum};
+ghost use Rattle.dump_pipe.specs.Seats.{after_bytes};
 
 use crate::progress::Progress;
 use crate::seats::OutSeat;
@@ -15,10 +15,10 @@ pub struct Counter<'a> {
 }
 
 impl<'a> Model for Counter<'a> {
-    ghost use Rattle.std.specs.Prelude.{◌≡◌};
-    ghost use Rattle.dump_pipe.specs.Seats.{Sum};
+    ghost use Rattle.std.specs.Prelude.{◌≡◌, ℕ};
+    ghost use Rattle.dump_pipe.specs.Seats.{SeatState};
 
-    ghost Value = { Sum };
+    ghost Value = { SeatState ℕ };
 
     ghost view = { λ c. c.seat };
 
@@ -36,8 +36,8 @@ impl<'a> Counter<'a> {
 
     /// Adds `n` bytes. The sum must stay below 2^64. Waits for nothing.
     pub fn add(&mut self, n: u64)
-        requires { self.old.sum + n < 2 ^ 64 }
-        ensures { self.new ≡ sum self.old.meter (self.old.sum + n) }
+        requires { self.old.known + n < 2 ^ 64 }
+        ensures { self.new ≡ after_bytes self.old n }
     {
         self.progress.add(&mut self.seat, n);
     }

@@ -1,9 +1,10 @@
 //! The end of a pipe that receives.
-ghost use Rattle.std.specs.Prelude.{◌≡◌, ◌+◌, ◌<◌, ◌^◌};
+ghost use Rattle.std.specs.Prelude.{◌≡◌};
 ghost use Rattle.crossbeam_channel.specs.Claims.{view, IsSeatAt};
 ghost use Rattle.crossbeam_channel.specs.Ends.{receives_on};
 ghost use Rattle.dump_pump.specs.Pumps.{bytes_of};
-ghost use Rattle.dump_pipe.specs.Pipes.{list_of, byte_limit, IsReceiving};
+ghost use Rattle.dump_pipe.specs.Seats.{HasDumpRoom, after_bytes};
+ghost use Rattle.dump_pipe.specs.Pipes.{list_of, IsReceiving};
 ghost use Rattle.dump_pipe.specs.Drains.{IsDrained, IsSkipped, answer_to_ending};
 
 use crate::channel::{End, Receiver, receive};
@@ -50,12 +51,11 @@ pub fn drain_pipe<O: Outlet, R: Wait>(
     counter: &mut Counter<'_>,
 ) -> Pumped
     requires end { IsSeatAt (receives_on receiver.now) end.old × IsReceiving (view end.old) }
-    requires room { counter.old.sum + byte_limit < 2 ^ 64 }
+    requires room { HasDumpRoom counter.old }
     ensures end { IsSeatAt (receives_on receiver.now) end.new }
     ensures drained { IsDrained (list_of (view end.old)) (view end.new) (O.seen outlet.old)
         (O.seen outlet.new) result }
-    ensures meter { counter.new.meter ≡ counter.old.meter }
-    ensures counted { counter.new.sum ≡ counter.old.sum + bytes_of result }
+    ensures counted { counter.new ≡ after_bytes counter.old (bytes_of result) }
 {
     let mut total: u64 = 0;
     for _ in rt.forever() {

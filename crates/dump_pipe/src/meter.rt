@@ -1,12 +1,13 @@
 //! Meters, and the making of one with its seats.
-ghost use Rattle.std.specs.Prelude.{◌≡◌, ◌+◌, ◌<◌, ◌≤◌, All, length, IfOk, false};
-ghost use Rattle.dump_pipe.specs.Seats.{sum, sum_read, cancel_asked, cancel_found, meter_seat_limit};
+ghost use Rattle.std.specs.Prelude.{◌≡◌, ℕ, ◌+◌, ◌<◌, ◌≤◌, All, length, IfOk, false};
+ghost use Rattle.dump_pipe.specs.Meters.{SitsAtMeter};
+ghost use Rattle.dump_pipe.specs.Seats.{knows, meter_seat_limit};
 
 use crate::cancel::Cancel;
 use crate::meter_view::MeterView;
 use crate::progress::Progress;
-use crate::rule::{Counts, NewAsker, NewFeeder, NewReader};
-use crate::seats::{AskSeat, FeedSeat, OutSeat, ReadSeat};
+use crate::rule::{Asks, Counts, Reads};
+use crate::seats::{AskSeat, FeedSeat, MeterSeat, OutSeat, ReadSeat, SeatFact, SeatKind};
 use crate::word::Word;
 use atomic_table::{Seat, Shared, Table};
 use std::alloc::{AllocError, Global};
@@ -49,43 +50,24 @@ pub struct NewMeter {
     pub feed: FeedSeat,
 }
 
-// Creates `count` seats that read. Fails if an allocation fails.
-fn new_readers(
+// Creates `count` seats of a kind. Fails if an allocation fails.
+fn new_seats<K: SeatKind<T>, T: SeatFact>(
     alloc: Global,
     table: &Shared<(), MeterView, (), Counts>,
     out: &mut Seat<(), MeterView>,
     count: usize,
-) -> Result<Vec<ReadSeat>, AllocError>
-    requires { (out.old.table_id ≡ table.now.table_id) × (0 < table.now.table_id.words) }
+) -> Result<Vec<MeterSeat<K, T>>, AllocError>
+    requires table { (out.old.table_id ≡ table.now.table_id) × (0 < table.now.table_id.words) }
+    requires first { T.within (K.view K.first) ≡ K.first }
+    requires sits { (out p c seat : ℕ) → SitsAtMeter out p c seat (K.view K.first) }
     ensures out { (out.new.table_id ≡ out.old.table_id) × (out.new.me ≡ out.old.me) }
     ensures count { IfOk result (λ v. length v.items ≡ count) }
-    ensures seats { IfOk result (λ v. All (λ s. s ≡ sum_read table.now.table_id 0) v.items) }
+    ensures seats { IfOk result (λ v. All (λ s. s ≡ knows table.now.table_id K.first) v.items) }
 {
     let mut seats = Vec::new(alloc);
     for _ in 0..count {
-        let seat = table.split_seat::<NewReader>(out);
-        seats.push(ReadSeat { seat })?;
-    }
-    Ok(seats)
-}
-
-// Creates `count` seats that ask. Fails if an allocation fails.
-fn new_askers(
-    alloc: Global,
-    table: &Shared<(), MeterView, (), Counts>,
-    out: &mut Seat<(), MeterView>,
-    count: usize,
-) -> Result<Vec<AskSeat>, AllocError>
-    requires { (out.old.table_id ≡ table.now.table_id) × (0 < table.now.table_id.words) }
-    ensures out { (out.new.table_id ≡ out.old.table_id) × (out.new.me ≡ out.old.me) }
-    ensures count { IfOk result (λ v. length v.items ≡ count) }
-    ensures seats { IfOk result
-        (λ v. All (λ s. s ≡ cancel_asked table.now.table_id false) v.items) }
-{
-    let mut seats = Vec::new(alloc);
-    for _ in 0..count {
-        let seat = table.split_seat::<NewAsker>(out);
-        seats.push(AskSeat { seat })?;
+        let seat = table.split_seat::<MeterSeat<K, T>>(out);
+        seats.push(MeterSeat::of(seat))?;
     }
     Ok(seats)
 }
@@ -95,24 +77,23 @@ impl Meter {
     /// at most 16. Fails if an allocation fails.
     pub fn new(alloc: Global, readers: usize, askers: usize) -> Result<NewMeter, AllocError>
         requires { readers + askers ≤ meter_seat_limit }
-        ensures out { IfOk result (λ m. m.out ≡ sum m.meter 0) }
+        ensures out { IfOk result (λ m. m.out ≡ knows m.meter 0) }
         ensures reader_count { IfOk result (λ m. length m.readers.items ≡ readers) }
-        ensures readers { IfOk result (λ m. All (λ s. s ≡ sum_read m.meter 0) m.readers.items) }
+        ensures readers { IfOk result (λ m. All (λ s. s ≡ knows m.meter 0) m.readers.items) }
         ensures asker_count { IfOk result (λ m. length m.askers.items ≡ askers) }
-        ensures askers { IfOk result
-            (λ m. All (λ s. s ≡ cancel_asked m.meter false) m.askers.items) }
-        ensures feed { IfOk result (λ m. m.feed ≡ cancel_found m.meter false) }
+        ensures askers { IfOk result (λ m. All (λ s. s ≡ knows m.meter false) m.askers.items) }
+        ensures feed { IfOk result (λ m. m.feed ≡ knows m.meter false) }
     {
         let (table, mut out) = Table::of_words(alloc, &[0, 0], &())?;
-        let read = new_readers(alloc, &table.shared, &mut out, readers)?;
-        let ask = new_askers(alloc, &table.shared, &mut out, askers)?;
-        let feed = table.shared.split_seat::<NewFeeder>(&mut out);
+        let read = new_seats::<Reads, u64>(alloc, &table.shared, &mut out, readers)?;
+        let ask = new_seats::<Asks, bool>(alloc, &table.shared, &mut out, askers)?;
+        let feed = table.shared.split_seat::<FeedSeat>(&mut out);
         Ok(NewMeter {
             meter: Meter { table },
-            out: OutSeat { seat: out },
+            out: MeterSeat::of(out),
             readers: read,
             askers: ask,
-            feed: FeedSeat { seat: feed },
+            feed: MeterSeat::of(feed),
         })
     }
 

@@ -1,7 +1,7 @@
 //! Dumps through a pipe, by pages.
-ghost use Rattle.std.specs.Prelude.{◌≡◌, ◌+◌, ◌<◌, ◌^◌};
+ghost use Rattle.std.specs.Prelude.{◌≡◌, ◌<◌};
 ghost use Rattle.dump_pump.specs.Pumps.{bytes_of};
-ghost use Rattle.dump_pipe.specs.Pipes.{byte_limit};
+ghost use Rattle.dump_pipe.specs.Seats.{HasDumpRoom, after_bytes};
 ghost use Rattle.dump_pipe.specs.Streams.{IsStreamed};
 
 use crate::counter::Counter;
@@ -23,12 +23,11 @@ fn stream_by<S: Source + Send, O: Outlet, B: PartsBefore + Send, R: Threads + Wa
 ) -> (Pumped, S)
     requires left { 0 < (S.seen source).left }
     requires start { (S.seen source).told ≡ B.told }
-    requires room { counter.old.sum + byte_limit < 2 ^ 64 }
+    requires room { HasDumpRoom counter.old }
     ensures streamed { IsStreamed (S.seen source) (S.seen result.1) (O.seen outlet.old)
         (O.seen outlet.new) result.0 }
     ensures kept { S.kept result.1 ≡ S.kept source }
-    ensures meter { counter.new.meter ≡ counter.old.meter }
-    ensures counted { counter.new.sum ≡ counter.old.sum + bytes_of result.0 }
+    ensures counted { counter.new ≡ after_bytes counter.old (bytes_of result.0) }
 {
     let mut pages: PagedSource<S, B> = PagedSource::new(alloc, source);
     let pumped = stream_parts(rt, alloc, &mut pages, outlet, counter);
@@ -46,12 +45,11 @@ pub fn stream_paged<S: Source + Send, O: Outlet, R: Threads + Wait + Sync>(
     counter: &mut Counter<'_>,
 ) -> (Pumped, S)
     requires left { 0 < (S.seen source).left }
-    requires room { counter.old.sum + byte_limit < 2 ^ 64 }
+    requires room { HasDumpRoom counter.old }
     ensures streamed { IsStreamed (S.seen source) (S.seen result.1) (O.seen outlet.old)
         (O.seen outlet.new) result.0 }
     ensures kept { S.kept result.1 ≡ S.kept source }
-    ensures meter { counter.new.meter ≡ counter.old.meter }
-    ensures counted { counter.new.sum ≡ counter.old.sum + bytes_of result.0 }
+    ensures counted { counter.new ≡ after_bytes counter.old (bytes_of result.0) }
 {
     stream_by::<S, O, Brand, R>(rt, alloc, source, outlet, counter)
 }

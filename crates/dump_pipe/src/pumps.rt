@@ -1,7 +1,7 @@
 //! Dumps without a pipe, in one thread.
-ghost use Rattle.std.specs.Prelude.{◌≡◌, ◌+◌, ◌<◌, ◌^◌};
+ghost use Rattle.std.specs.Prelude.{◌≡◌, ◌<◌};
 ghost use Rattle.dump_pump.specs.Pumps.{IsPumped, bytes_of};
-ghost use Rattle.dump_pipe.specs.Pipes.{byte_limit};
+ghost use Rattle.dump_pipe.specs.Seats.{HasDumpRoom, after_bytes};
 
 use crate::counter::Counter;
 use dump_pump::transfer::pump_part;
@@ -15,12 +15,11 @@ pub fn pump_counted<S: Source, O: Outlet>(
     counter: &mut Counter<'_>,
 ) -> Pumped
     requires source { 0 < (S.seen source.old).left }
-    requires room { counter.old.sum + byte_limit < 2 ^ 64 }
+    requires room { HasDumpRoom counter.old }
     ensures pumped { IsPumped (S.seen source.old) (S.seen source.new) (O.seen outlet.old)
         (O.seen outlet.new) result }
     ensures kept { S.kept source.new ≡ S.kept source.old }
-    ensures meter { counter.new.meter ≡ counter.old.meter }
-    ensures counted { counter.new.sum ≡ counter.old.sum + bytes_of result }
+    ensures counted { counter.new ≡ after_bytes counter.old (bytes_of result) }
 {
     let _most = source.parts_left();
     let mut total = 0;

@@ -1,6 +1,7 @@
-//! The rule of a meter's two words, and the effect of each step on its seat.
+//! The rule of a meter's two words, and the kinds of its seats.
 use crate::meter_view::MeterView;
-use atomic_table::{Play, Split, TableRule};
+use crate::seats::SeatKind;
+use atomic_table::TableRule;
 
 /// The rule: the progress word is the sum of the out seat, and no reader saw more. The cancel word is 1 if an asker asked, else
 /// 0, and it is 1 if a feeder found it so.
@@ -15,73 +16,60 @@ impl TableRule<(), MeterView, ()> for Counts {
     ghost first = { λ _. Out 0 };
 }
 
-/// A reader's seat, made beside another seat.
-pub struct NewReader;
-
-impl Split<MeterView> for NewReader {
-    ghost use Rattle.dump_pipe.specs.declared.meter_view.MeterView.TheVariants.{Read};
-
-    ghost left = { λ v. v };
-
-    ghost right = { λ _. Read 0 };
-}
-
-/// An asker's seat, made beside another seat.
-pub struct NewAsker;
-
-impl Split<MeterView> for NewAsker {
-    ghost use Rattle.std.specs.Prelude.{false};
-    ghost use Rattle.dump_pipe.specs.declared.meter_view.MeterView.TheVariants.{Ask};
-
-    ghost left = { λ v. v };
-
-    ghost right = { λ _. Ask false };
-}
-
-/// A feeder's seat, made beside another seat.
-pub struct NewFeeder;
-
-impl Split<MeterView> for NewFeeder {
-    ghost use Rattle.std.specs.Prelude.{false};
-    ghost use Rattle.dump_pipe.specs.declared.meter_view.MeterView.TheVariants.{Feed};
-
-    ghost left = { λ v. v };
-
-    ghost right = { λ _. Feed false };
-}
-
-/// The step of the out seat, which adds.
+/// The kind of the out seat, which adds.
 pub struct Adds;
 
-impl Play<(), MeterView> for Adds {
+impl SeatKind<u64> for Adds {
+    ghost use Rattle.dump_pipe.specs.declared.meter_view.MeterView.TheVariants.{Out};
     ghost use Rattle.dump_pipe.specs.Meters.{WasAdded};
+
+    ghost view = { Out };
+
+    ghost first = { 0 };
 
     ghost then = { WasAdded };
 }
 
-/// The step of a reader, which reads.
+/// The kind of a reader, which reads.
 pub struct Reads;
 
-impl Play<(), MeterView> for Reads {
+impl SeatKind<u64> for Reads {
+    ghost use Rattle.dump_pipe.specs.declared.meter_view.MeterView.TheVariants.{Read};
     ghost use Rattle.dump_pipe.specs.Meters.{WasRead};
+
+    ghost view = { Read };
+
+    ghost first = { 0 };
 
     ghost then = { WasRead };
 }
 
-/// The step of an asker, which asks.
+/// The kind of an asker, which asks.
 pub struct Asks;
 
-impl Play<(), MeterView> for Asks {
+impl SeatKind<bool> for Asks {
+    ghost use Rattle.std.specs.Prelude.{false};
+    ghost use Rattle.dump_pipe.specs.declared.meter_view.MeterView.TheVariants.{Ask};
     ghost use Rattle.dump_pipe.specs.Meters.{WasAsked};
+
+    ghost view = { Ask };
+
+    ghost first = { false };
 
     ghost then = { WasAsked };
 }
 
-/// The step of a feeder, which looks.
+/// The kind of a feeder, which looks.
 pub struct Looks;
 
-impl Play<(), MeterView> for Looks {
+impl SeatKind<bool> for Looks {
+    ghost use Rattle.std.specs.Prelude.{false};
+    ghost use Rattle.dump_pipe.specs.declared.meter_view.MeterView.TheVariants.{Feed};
     ghost use Rattle.dump_pipe.specs.Meters.{WasLookedAt};
+
+    ghost view = { Feed };
+
+    ghost first = { false };
 
     ghost then = { WasLookedAt };
 }

@@ -1,76 +1,99 @@
 //! The seats of a meter.
+ghost use Rattle.std.specs.Prelude.{◌≡◌, []};
+ghost use Rattle.dump_pipe.specs.Seats.{knows};
+
 use crate::meter_view::MeterView;
-use atomic_table::Seat;
-use std::marker::Model;
+use crate::rule::{Adds, Asks, Looks, Reads};
+use atomic_table::{Play, Seat, Split};
+use std::marker::{Model, PhantomData};
 
-/// The seat that adds bytes. A meter has one. Contracts see its meter and the sum of the bytes that it added.
+/// What a seat of a meter can know.
+pub trait SeatFact {
+    ghost use Rattle.dump_pipe.specs.declared.meter_view.MeterView.{MeterView};
+
+    // What a seat with this view knows.
+    ghost within: { MeterView → Self };
+}
+
+impl SeatFact for u64 {
+    ghost use Rattle.dump_pipe.specs.Seats.{count_of_seat};
+
+    ghost within = { count_of_seat };
+}
+
+impl SeatFact for bool {
+    ghost use Rattle.dump_pipe.specs.Seats.{flag};
+
+    ghost within = { flag };
+}
+
+/// A kind of seats of a meter, which know a `T`.
+pub trait SeatKind<T> {
+    ghost use Rattle.std.specs.Prelude.{ℕ};
+    ghost use Rattle.atomic_table.specs.Table.{Step};
+    ghost use Rattle.dump_pipe.specs.declared.meter_view.MeterView.{MeterView};
+    ghost use Rattle.dump_pipe.specs.Meters.{Sat};
+
+    // The view of a seat that knows this.
+    ghost view: { T → MeterView };
+
+    // What a new seat knows.
+    ghost first: { T };
+
+    // The effect of a step of a seat.
+    ghost then: { Step (Unit {0}) → Sat → ℕ → Sat → Type 0 };
+}
+
+/// A seat of a meter, of the kind `K`. Contracts see its meter and what it knows. The type names the steps of its seats, too, and
+/// the making of one beside another seat.
 #[derive(Drop)]
-pub struct OutSeat {
+pub struct MeterSeat<K: SeatKind<T>, T: SeatFact> {
     pub(crate) seat: Seat<(), MeterView>,
+    of: PhantomData<(K, T)>,
 }
 
-impl Model for OutSeat {
+impl<K: SeatKind<T>, T: SeatFact> Model for MeterSeat<K, T> {
     ghost use Rattle.std.specs.Prelude.{◌≡◌, []};
-    ghost use Rattle.dump_pipe.specs.declared.meter_view.MeterView.TheVariants.{Out};
-    ghost use Rattle.dump_pipe.specs.Seats.{Sum, count_of_seat};
+    ghost use Rattle.dump_pipe.specs.Seats.{SeatState};
 
-    ghost Value = { Sum };
+    ghost Value = { SeatState T };
 
-    ghost view = { λ s. record { meter = s.seat.table_id; sum = count_of_seat s.seat.me.0 } };
+    ghost view = { λ s. record { meter = s.seat.table_id; known = T.within s.seat.me.0 } };
 
-    ghost invariant = { λ s. s.seat.me ≡ (Out (count_of_seat s.seat.me.0), []) };
+    ghost invariant = { λ s. s.seat.me ≡ (K.view (T.within s.seat.me.0), []) };
 }
 
-/// A seat that reads the sum. Contracts see its meter and the sum that it read last, 0 at first.
-#[derive(Drop)]
-pub struct ReadSeat {
-    pub(crate) seat: Seat<(), MeterView>,
+impl<K: SeatKind<T>, T: SeatFact> Split<MeterView> for MeterSeat<K, T> {
+    ghost left = { λ v. v };
+
+    ghost right = { λ _. K.view K.first };
 }
 
-impl Model for ReadSeat {
-    ghost use Rattle.std.specs.Prelude.{◌≡◌, []};
-    ghost use Rattle.dump_pipe.specs.declared.meter_view.MeterView.TheVariants.{Read};
-    ghost use Rattle.dump_pipe.specs.Seats.{ReadSeatState, count_of_seat};
-
-    ghost Value = { ReadSeatState };
-
-    ghost view = { λ s. record { meter = s.seat.table_id; seen = count_of_seat s.seat.me.0 } };
-
-    ghost invariant = { λ s. s.seat.me ≡ (Read (count_of_seat s.seat.me.0), []) };
+impl<K: SeatKind<T>, T: SeatFact> Play<(), MeterView> for MeterSeat<K, T> {
+    ghost then = { K.then };
 }
 
-/// A seat that asks to cancel. Contracts see its meter and whether it asked.
-#[derive(Drop)]
-pub struct AskSeat {
-    pub(crate) seat: Seat<(), MeterView>,
+impl<K: SeatKind<T>, T: SeatFact> MeterSeat<K, T> {
+    // Makes a seat of one with its view.
+    pub(crate) fn of(seat: Seat<(), MeterView>) -> MeterSeat<K, T>
+        requires { seat.me ≡ (K.view (T.within seat.me.0), []) }
+        ensures { result ≡ knows seat.table_id (T.within seat.me.0) }
+    {
+        MeterSeat {
+            seat,
+            of: PhantomData,
+        }
+    }
 }
 
-impl Model for AskSeat {
-    ghost use Rattle.std.specs.Prelude.{◌≡◌, []};
-    ghost use Rattle.dump_pipe.specs.declared.meter_view.MeterView.TheVariants.{Ask};
-    ghost use Rattle.dump_pipe.specs.Seats.{AskSeatState, flag};
+/// The seat that adds bytes. A meter has one. It knows the sum of the bytes that it added.
+pub type OutSeat = MeterSeat<Adds, u64>;
 
-    ghost Value = { AskSeatState };
+/// A seat that reads the sum. It knows the sum that it read last, 0 at first.
+pub type ReadSeat = MeterSeat<Reads, u64>;
 
-    ghost view = { λ s. record { meter = s.seat.table_id; asked = flag s.seat.me.0 } };
+/// A seat that asks to cancel. It knows whether it asked.
+pub type AskSeat = MeterSeat<Asks, bool>;
 
-    ghost invariant = { λ s. s.seat.me ≡ (Ask (flag s.seat.me.0), []) };
-}
-
-/// The seat that looks whether anybody asked. Contracts see its meter and whether it found that somebody had.
-#[derive(Drop)]
-pub struct FeedSeat {
-    pub(crate) seat: Seat<(), MeterView>,
-}
-
-impl Model for FeedSeat {
-    ghost use Rattle.std.specs.Prelude.{◌≡◌, []};
-    ghost use Rattle.dump_pipe.specs.declared.meter_view.MeterView.TheVariants.{Feed};
-    ghost use Rattle.dump_pipe.specs.Seats.{FeedSeatState, flag};
-
-    ghost Value = { FeedSeatState };
-
-    ghost view = { λ s. record { meter = s.seat.table_id; found = flag s.seat.me.0 } };
-
-    ghost invariant = { λ s. s.seat.me ≡ (Feed (flag s.seat.me.0), []) };
-}
+/// The seat that looks whether anybody asked. It knows whether it found that somebody had.
+pub type FeedSeat = MeterSeat<Looks, bool>;

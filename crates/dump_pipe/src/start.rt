@@ -10,15 +10,6 @@ pub const START_TURNS: u64 = 100;
 // The longest time of a turn, in milliseconds.
 const TURN_LIMIT: u64 = 1;
 
-// The word while the thread hasn't begun and isn't given up.
-const IDLE: u64 = 0;
-
-// The word once the thread has begun.
-const BEGUN: u64 = 1;
-
-// The word once the thread is given up.
-const GIVEN_UP: u64 = 2;
-
 /// Whether a thread has begun, or was given up. Of the two, the first stands.
 #[derive(Drop)]
 pub struct Start {
@@ -26,41 +17,50 @@ pub struct Start {
 }
 
 impl Start {
+    // The word while the thread hasn't begun and isn't given up.
+    const IDLE: u64 = 0;
+
+    // The word once the thread has begun.
+    const BEGUN: u64 = 1;
+
+    // The word once the thread is given up.
+    const GIVEN_UP: u64 = 2;
+
     /// Creates a start that nobody has made.
     pub fn new() -> Start {
         Start {
-            word: AtomicU64::new(IDLE),
+            word: AtomicU64::new(Start::IDLE),
         }
     }
 
     /// Begins, and wakes the waiter. Returns false if the thread was given up.
     pub fn begin(&self) -> bool {
-        let seen = self.move_on(BEGUN);
+        let begun = self.settle(Start::BEGUN);
         self.word.wake_one();
-        seen != GIVEN_UP
+        begun
     }
 
     /// Returns true once the thread has begun, and gives it up if it hasn't after `START_TURNS` turns of a millisecond.
     /// Sleeps in between.
     pub fn is_begun<R: Wait>(&self, rt: &R) -> bool {
         for _ in 0..START_TURNS {
-            if self.word.load(Ordering::SeqCst) == BEGUN {
+            if self.word.load(Ordering::SeqCst) == Start::BEGUN {
                 return true;
             }
             self.word
-                .park_timeout(rt, IDLE as u32, Duration::from_millis(TURN_LIMIT));
+                .park_timeout(rt, Start::IDLE as u32, Duration::from_millis(TURN_LIMIT));
         }
-        self.move_on(GIVEN_UP) == BEGUN
+        !self.settle(Start::GIVEN_UP)
     }
 
-    // Returns the word, which is `next` from now on if nobody moved it before.
-    fn move_on(&self, next: u64) -> u64 {
+    // Sets the word, unless it is set. Returns whether it is `word` now.
+    fn settle(&self, word: u64) -> bool {
         match self
             .word
-            .compare_exchange(IDLE, next, Ordering::SeqCst, Ordering::SeqCst)
+            .compare_exchange(Start::IDLE, word, Ordering::SeqCst, Ordering::SeqCst)
         {
-            Ok(_) => IDLE,
-            Err(seen) => seen,
+            Ok(_) => true,
+            Err(seen) => seen == word,
         }
     }
 }

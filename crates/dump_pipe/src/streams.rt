@@ -1,10 +1,10 @@
 //! Dumps through a pipe between two threads.
-ghost use Rattle.std.specs.Prelude.{◌≡◌, ◌+◌, ◌<◌, ◌^◌, []};
+ghost use Rattle.std.specs.Prelude.{◌≡◌, ◌<◌, []};
 ghost use Rattle.crossbeam_channel.specs.Claims.{view, IsSeatAt};
 ghost use Rattle.crossbeam_channel.specs.Ends.{sends_on, receives_on};
 ghost use Rattle.dump_pump.specs.Pumps.{bytes_of};
+ghost use Rattle.dump_pipe.specs.Seats.{HasDumpRoom, after_bytes};
 ghost use Rattle.dump_pipe.specs.declared.end_view.EndView.TheVariants.{Sends, Gets};
-ghost use Rattle.dump_pipe.specs.Pipes.{byte_limit};
 ghost use Rattle.dump_pipe.specs.Streams.{IsStreamed, CanFeed, CanDrain, MayFeed, MayDrain, MayStream, drained_bytes};
 
 use crate::channel::{BothEnds, End, Ends, Knowledge, Order, Receiver, Sender, pipe};
@@ -48,11 +48,10 @@ fn drain_begun<O: Outlet, R: Wait>(
     counter: &mut Counter<'_>,
 ) -> Option<Pumped>
     requires end { IsSeatAt (receives_on receiver.now) end.old × (view end.old ≡ Gets []) }
-    requires room { counter.old.sum + byte_limit < 2 ^ 64 }
+    requires room { HasDumpRoom counter.old }
     ensures end { IsSeatAt (receives_on receiver.now) end.new }
     ensures drained { MayDrain (view end.new) (O.seen outlet.old) (O.seen outlet.new) result }
-    ensures meter { counter.new.meter ≡ counter.old.meter }
-    ensures counted { counter.new.sum ≡ counter.old.sum + drained_bytes result }
+    ensures counted { counter.new ≡ after_bytes counter.old (drained_bytes result) }
 {
     if !start.is_begun(rt) {
         return None;
@@ -75,14 +74,13 @@ fn pass_parts<S: Source + Send, O: Outlet, R: Threads + Wait + Sync>(
         × (view known.old.one ≡ Sends []) }
     requires other { IsSeatAt (receives_on ends.now.receiver) known.old.other
         × (view known.old.other ≡ Gets []) }
-    requires room { counter.old.sum + byte_limit < 2 ^ 64 }
+    requires room { HasDumpRoom counter.old }
     ensures one { IsSeatAt (sends_on ends.now.sender) known.new.one }
     ensures other { IsSeatAt (receives_on ends.now.receiver) known.new.other }
     ensures passed { MayStream (S.seen source.old) (S.seen source.new) (view known.new.one)
         (view known.new.other) (O.seen outlet.old) (O.seen outlet.new) result }
     ensures kept { S.kept source.new ≡ S.kept source.old }
-    ensures meter { counter.new.meter ≡ counter.old.meter }
-    ensures counted { counter.new.sum ≡ counter.old.sum + drained_bytes result }
+    ensures counted { counter.new ≡ after_bytes counter.old (drained_bytes result) }
 {
     let start = Start::new();
     let (sender, receiver) = (&ends.sender, &ends.receiver);
@@ -114,12 +112,11 @@ pub fn stream_parts<S: Source + Send, O: Outlet, R: Threads + Wait + Sync>(
     counter: &mut Counter<'_>,
 ) -> Pumped
     requires source { 0 < (S.seen source.old).left }
-    requires room { counter.old.sum + byte_limit < 2 ^ 64 }
+    requires room { HasDumpRoom counter.old }
     ensures streamed { IsStreamed (S.seen source.old) (S.seen source.new) (O.seen outlet.old)
         (O.seen outlet.new) result }
     ensures kept { S.kept source.new ≡ S.kept source.old }
-    ensures meter { counter.new.meter ≡ counter.old.meter }
-    ensures counted { counter.new.sum ≡ counter.old.sum + bytes_of result }
+    ensures counted { counter.new ≡ after_bytes counter.old (bytes_of result) }
 {
     let Ok((ends, mut known)) = pipe(alloc) else {
         return pump_counted(source, outlet, counter);

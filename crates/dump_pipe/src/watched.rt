@@ -23,7 +23,7 @@ impl<'a, S: Source> Source for Watched<'a, S> {
 
     ghost kept = { λ w. (S.kept w.source, w.cancel) };
 
-    ghost seen = { λ w. watched (S.seen w.source) w.seat.found };
+    ghost seen = { λ w. watched (S.seen w.source) w.seat.known };
 
     fn next(&mut self) -> Next {
         if self.cancel.is_asked(&mut self.seat) {

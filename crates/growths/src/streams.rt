@@ -1,7 +1,7 @@
 //! Streams of a shared heap's dump, one of which may be lost for want of memory.
 ghost use Rattle.std.specs.Prelude.{◌≡◌, IfSome, false};
 ghost use Rattle.heap_lock.specs.Blanks.{IsNamed};
-ghost use Rattle.live_dump.specs.Seats.{sum, cancel_found};
+ghost use Rattle.live_dump.specs.Seats.{knows};
 
 use crate::digest::Digest;
 use crate::states::digest_of;
@@ -72,8 +72,8 @@ fn open<L: Heap, R: Wait>(rt: &R, shared: &Shared<L>, witness: &mut Witness<L>) 
 
 // Creates a meter. If memory is refused, asks once more.
 fn create_meter(alloc: Global) -> Option<NewMeter>
-    ensures out { IfSome result (λ m. m.out ≡ sum m.meter 0) }
-    ensures feed { IfSome result (λ m. m.feed ≡ cancel_found m.meter false) }
+    ensures out { IfSome result (λ m. m.out ≡ knows m.meter 0) }
+    ensures feed { IfSome result (λ m. m.feed ≡ knows m.meter false) }
 {
     match Meter::new(alloc, 1, 1) {
         Ok(made) => Some(made),
@@ -105,8 +105,8 @@ fn stream_behind<L: Heap + Send + Sync, R: Threads + Wait + Sync>(
     made: NewMeter,
     text: Vec<u8>,
 ) -> (Pumped, Vec<u8>, Witness<L>)
-    requires out { made.out ≡ sum made.meter 0 }
-    requires feed { made.feed ≡ cancel_found made.meter false }
+    requires out { made.out ≡ knows made.meter 0 }
+    requires feed { made.feed ≡ knows made.meter false }
 {
     let NewMeter {
         meter,

@@ -1,7 +1,7 @@
 //! Dumps of the current state in one call, watched from another thread.
 ghost use Rattle.std.specs.Prelude.{◌≡◌};
 ghost use denote.Param.Send.{IsSync};
-ghost use Rattle.live_dump.specs.Seats.{sum};
+ghost use Rattle.live_dump.specs.Seats.{knows};
 ghost use Rattle.heap.specs.Dumps.{IsClosing, IsDumped};
 
 use dump_pump::{Outlet, Pumped};
@@ -66,7 +66,7 @@ struct Writing<'a, O: Outlet + Drop> {
     meter: &'a Meter,
     out: OutSeat,
     feed: FeedSeat,
-    ghost adds: { out ≡ sum meter.now 0 },
+    ghost adds: { out ≡ knows meter.now 0 },
     ghost looks: { feed.meter ≡ meter.now },
 }
 

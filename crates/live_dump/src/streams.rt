@@ -1,8 +1,7 @@
 //! Dumps of a shared heap's pins through a pipe.
-ghost use Rattle.std.specs.Prelude.{◌≡◌, ◌+◌, ◌<◌, ◌^◌};
+ghost use Rattle.std.specs.Prelude.{◌≡◌, ◌+◌};
 ghost use Rattle.dump_pump.specs.Pumps.{bytes_of};
-ghost use Rattle.dump_pipe.specs.Seats.{sum};
-ghost use Rattle.dump_pipe.specs.Pipes.{byte_limit};
+ghost use Rattle.dump_pipe.specs.Seats.{HasDumpRoom, knows};
 ghost use Rattle.heap_lock.specs.Calls.{IsLegalLedger};
 ghost use Rattle.live_dump.specs.Streams.{PutsLive};
 
@@ -51,13 +50,13 @@ pub fn stream<'m, L: Heap + Send + Sync, O: Outlet, R: Threads + Wait + Sync>(
     outlet: &mut O,
     seats: StreamSeats<'m>,
 ) -> (Pumped, StreamSeats<'m>, Witness<L>)
-    requires { seats.out.sum + byte_limit < 2 ^ 64 }
+    requires { HasDumpRoom seats.out }
     ensures put { PutsLive L.config from.entry.pin from.entry.time from.entry.witness result.2
         result.1.feed.found (O.seen outlet.old) (O.seen outlet.new) result.0 }
     ensures legal { IsLegalLedger L.config result.2 }
     ensures meter { result.1.meter.now ≡ seats.entry.meter.now }
     ensures out { result.1.out
-        ≡ sum seats.entry.meter.now (seats.entry.out.sum + bytes_of result.0) }
+        ≡ knows seats.entry.meter.now (seats.entry.out.known + bytes_of result.0) }
 {
     let StreamSeats { meter, out, feed } = seats;
     let mut source = Watched {

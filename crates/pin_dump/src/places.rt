@@ -1,7 +1,7 @@
 //! Dumps of the current state through a pipe.
 ghost use Rattle.std.specs.Prelude.{◌≡◌};
 ghost use Rattle.dump_pump.specs.Pumps.{bytes_of};
-ghost use Rattle.dump_pipe.specs.Seats.{sum};
+ghost use Rattle.dump_pipe.specs.Seats.{knows};
 ghost use Rattle.pin_dump.specs.FreshSupplies.{IsFresh};
 ghost use Rattle.pin_dump.specs.HandedPieces.{ungiven};
 ghost use Rattle.pin_dump.specs.PinDumps.{IsPlaceDumped, PutsPin};
@@ -37,7 +37,7 @@ fn stream_seen<'a, 'g, 'm, O: Outlet, G: Gauge, R: Threads + Wait + Sync>(
     seats: GaugeSeats<'m>,
 ) -> (Pumped, FreshSource<'a>, O)
     requires fresh { IsFresh source.pin source.machine.now source.count source.ended }
-    requires out { seats.out ≡ sum seats.meter.now 0 }
+    requires out { seats.out ≡ knows seats.meter.now 0 }
     requires reader { seats.reader.meter ≡ seats.meter.now }
     ensures put { PutsPin source.entry.pin source.entry.time source.entry.machine.now
         (O.seen outlet) (O.seen result.2) result.0 }

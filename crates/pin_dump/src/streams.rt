@@ -1,7 +1,7 @@
 //! Dumps of pins through a pipe.
-ghost use Rattle.std.specs.Prelude.{◌≡◌, ◌+◌, ◌<◌, ◌^◌};
+ghost use Rattle.std.specs.Prelude.{◌≡◌};
 ghost use Rattle.dump_pump.specs.Pumps.{bytes_of};
-ghost use Rattle.dump_pipe.specs.Pipes.{byte_limit};
+ghost use Rattle.dump_pipe.specs.Seats.{HasDumpRoom, after_bytes};
 ghost use Rattle.pin_dump.specs.FreshSupplies.{IsFresh};
 ghost use Rattle.pin_dump.specs.PinDumps.{PutsPin};
 ghost use Rattle.pin_dump.specs.HandedPieces.{ungiven};
@@ -25,14 +25,13 @@ pub fn stream_pin<'a, O: Outlet, R: Threads + Wait + Sync>(
     counter: &mut Counter<'_>,
 ) -> (Pumped, FreshSource<'a>)
     requires fresh { IsFresh source.pin source.machine.now source.count source.ended }
-    requires room { counter.old.sum + byte_limit < 2 ^ 64 }
+    requires room { HasDumpRoom counter.old }
     ensures put { PutsPin source.entry.pin source.entry.time source.entry.machine.now
         (O.seen outlet.old) (O.seen outlet.new) result.0 }
     ensures same { ungiven source.entry.pin result.1.machine.now
         ≡ ungiven source.entry.pin source.entry.machine.now }
     ensures machine { result.1.machine.ghost_name ≡ source.entry.machine.ghost_name }
-    ensures meter { counter.new.meter ≡ counter.old.meter }
-    ensures counted { counter.new.sum ≡ counter.old.sum + bytes_of result.0 }
+    ensures counted { counter.new ≡ after_bytes counter.old (bytes_of result.0) }
 {
     stream_paged(rt, alloc, source, outlet, counter)
 }

@@ -3,7 +3,7 @@ ghost use Rattle.std.specs.Prelude.{◌≡◌, []};
 ghost use denote.Param.Send.{IsSync};
 ghost use Rattle.dump_pipe.specs.Claims.{view, IsSeatAt};
 ghost use Rattle.dump_pipe.specs.Ends.{sends_on, receives_on};
-ghost use Rattle.dump_pipe.specs.Seats.{sum};
+ghost use Rattle.dump_pipe.specs.Seats.{knows};
 ghost use Rattle.dump_pipe.specs.declared.end_view.EndView.TheVariants.{Sends, Gets};
 
 use super::meters::{FourSeats, new_meter};
@@ -60,7 +60,7 @@ fn drain_into<'a, R: Wait>(
     out: OutSeat,
 ) -> (Pumped, Sink<'a>)
     requires end { IsSeatAt (receives_on receiver.now) end × (view end ≡ Gets []) }
-    requires out { out ≡ sum meter.now 0 }
+    requires out { out ≡ knows meter.now 0 }
 {
     let mut end = end;
     let mut counter = Counter::new(meter.progress(), out);
@@ -85,7 +85,7 @@ fn by_two<'a, L: Heap + Send + Sync, R: Threads + Wait + Sync>(
     requires one { IsSeatAt (sends_on ends.sender) known.one × (view known.one ≡ Sends []) }
     requires other { IsSeatAt (receives_on ends.receiver) known.other
         × (view known.other ≡ Gets []) }
-    requires out { out ≡ sum meter.now 0 }
+    requires out { out ≡ knows meter.now 0 }
 {
     let BothEnds { sender, receiver } = ends;
     let Knowledge { one, other } = known;
@@ -98,7 +98,7 @@ fn by_two<'a, L: Heap + Send + Sync, R: Threads + Wait + Sync>(
         { feed_counted(rt, shared, pin, &sender, one, asked_now) },
         move || -> (u64, Pumped, Sink)
             requires { IsSeatAt (receives_on receiver) other × (view other ≡ Gets [])
-                × (out ≡ sum meter.now 0) }
+                × (out ≡ knows meter.now 0) }
         {
             reaches(asked_now, first);
             let count = asked_now.load(Ordering::SeqCst);

@@ -62,7 +62,7 @@ fn streamed_seen<L: Heap + Send + Sync, R: Threads + Wait + Sync>(
     writer: Gated<'_>,
     seats: StreamSeats<'_>,
 ) -> Seen
-    requires { seats.out.sum ≡ 0 }
+    requires { seats.out.known ≡ 0 }
 {
     let (pumped, writer) = stream_into(rt, alloc, live, writer, seats);
     (pumped, writer.sink.taken, writer.sink.is_text)
@@ -79,7 +79,7 @@ pub fn streamed_beside<L: Heap + Send + Sync, R: Threads + Wait + Sync>(
     text: &[u8],
     seats: StreamSeats<'_>,
 ) -> (bool, Seen)
-    requires { seats.out.sum ≡ 0 }
+    requires { seats.out.known ≡ 0 }
 {
     let here = &AtomicU64::new(0);
     let gate = &AtomicU64::new(0);
@@ -87,7 +87,7 @@ pub fn streamed_beside<L: Heap + Send + Sync, R: Threads + Wait + Sync>(
         rt,
         move || write_once_held(rt, shared, mutator, here, gate),
         move || -> (Pumped, usize, bool)
-            requires { IsSync R.row × (seats.out.sum ≡ 0) }
+            requires { IsSync R.row × (seats.out.known ≡ 0) }
         {
             let writer = Gated::new(text, 0, here, gate);
             streamed_seen(rt, alloc, live_pin(rt, shared, pin), writer, seats)
@@ -122,7 +122,7 @@ pub fn streamed_cancelled<L: Heap + Send + Sync, R: Threads + Wait + Sync>(
     seats: StreamSeats<'_>,
 ) -> (bool, Seen)
     requires asker { asker.meter ≡ seats.meter.now }
-    requires out { seats.out.sum ≡ 0 }
+    requires out { seats.out.known ≡ 0 }
 {
     let meter = seats.meter;
     let here = &AtomicU64::new(0);
@@ -136,7 +136,7 @@ pub fn streamed_cancelled<L: Heap + Send + Sync, R: Threads + Wait + Sync>(
             ask_once_held(&meter.cancel(), &mut seat, here, gate)
         },
         move || -> (Pumped, usize, bool)
-            requires { IsSync R.row × (seats.out.sum ≡ 0) }
+            requires { IsSync R.row × (seats.out.known ≡ 0) }
         {
             let writer = Gated::new(text, 8000, here, gate);
             streamed_seen(rt, alloc, live_pin(rt, shared, pin), writer, seats)

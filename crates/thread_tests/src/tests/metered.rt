@@ -1,7 +1,7 @@
 //! Dumps of a shared heap's pin that count their bytes by a meter: read, failing, and cancelled before they begin.
 ghost use Rattle.std.specs.Prelude.{◌≡◌};
 ghost use denote.Param.Send.{IsSync};
-ghost use Rattle.dump_pipe.specs.Seats.{sum};
+ghost use Rattle.dump_pipe.specs.Seats.{knows};
 
 use super::meters::{FourSeats, new_meter, stream_seats};
 use super::scenes::{Scene, Stage, play_scene};
@@ -67,7 +67,7 @@ fn read_by_two<L: Heap + Send + Sync, R: Threads + Wait + Sync>(
     seats: StreamSeats<'_>,
     reader: ReadSeat,
 ) -> ((u64, (u64, bool)), (Pumped, usize))
-    requires out { seats.out.sum ≡ 0 }
+    requires out { seats.out.known ≡ 0 }
     requires reader { reader.meter ≡ seats.meter.now }
 {
     let meter = seats.meter;
@@ -83,7 +83,7 @@ fn read_by_two<L: Heap + Send + Sync, R: Threads + Wait + Sync>(
             read_from_held(&meter.progress(), &mut seat, here, gate, done)
         },
         move || -> (Pumped, usize)
-            requires { IsSync R.row × (seats.out.sum ≡ 0) }
+            requires { IsSync R.row × (seats.out.known ≡ 0) }
         {
             let writer = Gated::new(&[], 1, here, gate);
             let (pumped, writer) = stream_into(rt, alloc, live_pin(rt, shared, pin), writer, seats);
@@ -176,7 +176,7 @@ fn counted_of<L: Heap, R: Wait>(
     out: OutSeat,
     reader: &mut ReadSeat,
 ) -> (Pumped, usize, u64)
-    requires out { out ≡ sum meter.now 0 }
+    requires out { out ≡ knows meter.now 0 }
     requires reader { reader.old.meter ≡ meter.now }
 {
     let mut source = LockedSource::new(shared, rt, shared.witness(rt), pin, 0);

@@ -1,6 +1,6 @@
 //! Meters with a seat of each kind.
 ghost use Rattle.std.specs.Prelude.{◌≡◌, IfSome, false};
-ghost use Rattle.dump_pipe.specs.Seats.{sum, sum_read, cancel_asked, cancel_found};
+ghost use Rattle.dump_pipe.specs.Seats.{knows};
 
 use dump_pipe::{AskSeat, FeedSeat, Meter, NewMeter, OutSeat, ReadSeat};
 use live_dump::StreamSeats;
@@ -18,10 +18,10 @@ pub struct FourSeats {
 
 /// Creates a meter with one seat of each kind, or returns None if memory is refused.
 pub fn new_meter(alloc: Global) -> Option<FourSeats>
-    ensures out { IfSome result (λ m. m.out ≡ sum m.meter 0) }
-    ensures reader { IfSome result (λ m. m.reader ≡ sum_read m.meter 0) }
-    ensures asker { IfSome result (λ m. m.asker ≡ cancel_asked m.meter false) }
-    ensures feed { IfSome result (λ m. m.feed ≡ cancel_found m.meter false) }
+    ensures out { IfSome result (λ m. m.out ≡ knows m.meter 0) }
+    ensures reader { IfSome result (λ m. m.reader ≡ knows m.meter 0) }
+    ensures asker { IfSome result (λ m. m.asker ≡ knows m.meter false) }
+    ensures feed { IfSome result (λ m. m.feed ≡ knows m.meter false) }
 {
     let mut made = Meter::new(alloc, 1, 1).ok()?;
     let (reader, asker) = (made.readers.pop()?, made.askers.pop()?);
@@ -42,9 +42,9 @@ pub fn new_meter(alloc: Global) -> Option<FourSeats>
 
 /// Returns the seats of a meter that a stream needs.
 pub fn stream_seats(meter: &Meter, out: OutSeat, feed: FeedSeat) -> StreamSeats<'_>
-    requires out { out ≡ sum meter.now 0 }
+    requires out { out ≡ knows meter.now 0 }
     requires feed { feed.meter ≡ meter.now }
-    ensures { (result.meter.now ≡ meter.now) × (result.out.sum ≡ 0) }
+    ensures { (result.meter.now ≡ meter.now) × (result.out.known ≡ 0) }
 {
     StreamSeats { meter, out, feed }
 }

@@ -108,7 +108,7 @@ pub fn stream_into<L: Heap + Send + Sync, W: Write + Drop, R: Threads + Wait + S
     writer: W,
     seats: StreamSeats<'_>,
 ) -> (Pumped, W)
-    requires { seats.out.sum ≡ 0 }
+    requires { seats.out.known ≡ 0 }
 {
     let mut outlet = WriteOutlet::new(writer);
     let (pumped, _, _) = stream(rt, alloc, live, &mut outlet, seats);

@@ -1,5 +1,5 @@
 use Rattle.std.proofs.Common.{◌≡◌, ◌++◌, List, ℕ, take, length, sym, ap, ◌∙◌, arith}
-use Rattle.dump_pipe.specs.Seats.{Sum}
+use Rattle.dump_pipe.specs.Seats.{SeatState}
 use Rattle.dump_pipe.proofs.DrainSteps.{room, drain_more, drain_failed}
 use Rattle.dump_pipe.proofs.drainer.drain_pipe.Goals as goal
 
@@ -32,8 +32,8 @@ loop-preserved g c =
       tt,
       tt,
       c.in-Part.ensures.end,
-      ap (λ (s : Sum). s.meter) c.add.ensures ∙ c.loop.invariant.3,
-      omega (arith, ap (λ (s : Sum). s.sum) c.add.ensures, c.loop.invariant.4),
+      ap (λ (s : SeatState ℕ). s.meter) c.add.ensures ∙ c.loop.invariant.3,
+      omega (arith, ap (λ (s : SeatState ℕ). s.known) c.add.ensures, c.loop.invariant.4),
       drain_more _ _ _ _ _ _ _ c.in-Part.piece c.put_all-put.result c.loop.invariant.5 c.in-Part.ensures.got all
           (p.1 ∙ ap (λ l. (g.O.Outlet.seen c.loop.outlet).out ++ take c.put_all-put.result l) c.as_slice.ensures)
           (p.2 (all ∙ sym a)),

@@ -8,5 +8,5 @@ use Rattle.dump_pipe.proofs.drainer.drain_pipe.Given as goal
 abbrev pub invariant-loop : goal.invariant-loop
 invariant-loop g l =
     (goal.iterator-loop g).can_next l.iterator' × (goal.iterator-loop g).is_finite l.iterator'
-    × IsSeatAt (receives_on l.receiver) l.end × (l.counter.meter ≡ l.initial.counter.meter) × (l.counter.sum ≡ l.initial.counter.sum + l.total)
+    × IsSeatAt (receives_on l.receiver) l.end × (l.counter.meter ≡ l.initial.counter.meter) × (l.counter.known ≡ l.initial.counter.known + l.total)
     × IsDraining (list_of (view l.initial.end)) (view l.end) (g.O.Outlet.seen l.initial.outlet) (g.O.Outlet.seen l.outlet) l.total

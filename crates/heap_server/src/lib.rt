@@ -19,6 +19,8 @@ pub use dump_server::DumpListener;
 pub use joined::Joined;
 pub use laws::served_dumps_are_text;
 pub use report::{tell_sessions, word};
-pub use sessions::{Opening, Ports, Served, ServedHeap, Terms, serve_clients, serve_heap, users};
+pub use sessions::{
+    Ports, Served, ServedHeap, ServicePlan, Terms, serve_clients, serve_heap, users,
+};
 pub use tended::{Staff, Tended, TendedHeap, serve_tended, serve_tended_heap, workers_and_users};
 pub use tending::{Duty, tend};

@@ -39,7 +39,7 @@ pub struct Terms {
 
 /// What a heap is opened for: the number of sessions, the listeners for their clients, and what the sessions have in common.
 #[derive(Drop)]
-pub struct Opening {
+pub struct ServicePlan {
     pub most: usize,
     pub ports: Ports,
     pub terms: Terms,
@@ -226,7 +226,7 @@ pub fn serve_heap<R: Clock + Eprint + Threads + Wait + Sync>(
     rt: &R,
     alloc: Global,
     blank: Blank,
-    opening: Opening,
+    opening: ServicePlan,
 ) -> Result<ServedHeap, AllocError>
     requires users { AreUsers blank.seats }
     requires most { length blank.seats ≡ opening.most }
@@ -240,7 +240,7 @@ fn serve_opened<L: Heap + Send + Sync, R: Clock + Eprint + Threads + Wait + Sync
     rt: &R,
     alloc: Global,
     blank: Blank,
-    opening: Opening,
+    opening: ServicePlan,
 ) -> Result<ServedHeap, AllocError>
     requires named { IsNamed L.config L.tables L.ledger L.rolls blank }
     requires users { AreUsers blank.seats }
@@ -249,7 +249,7 @@ fn serve_opened<L: Heap + Send + Sync, R: Clock + Eprint + Threads + Wait + Sync
 {
     let made = Snapshot::of(&blank);
     let (shared, seats) = blank.open::<L>();
-    let Opening { ports, terms, .. } = opening;
+    let ServicePlan { ports, terms, .. } = opening;
     let served = serve_clients(rt, alloc, &shared, seats, ports, terms)?;
     Ok(ServedHeap {
         served,

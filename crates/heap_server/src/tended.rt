@@ -6,7 +6,7 @@ ghost use Rattle.heap_lock.specs.declared.role.Role.TheVariants as role;
 ghost use Rattle.heap_server.specs.SessionSeats.{IsFor, session_limit};
 ghost use Rattle.heap_server.specs.Tending.{AreStaff, IsTendedOver, Marks, Sweeps};
 
-use crate::sessions::{Opening, Ports, Served, ServedHeap, Terms, serve_clients};
+use crate::sessions::{Ports, Served, ServedHeap, ServicePlan, Terms, serve_clients};
 use crate::tending::{Duty, tend};
 use heap_lock::{Blank, Config, Heap, Refusal, Role, Seat, Seats, Shared, Stub};
 use std::alloc::{AllocError, Global};
@@ -171,7 +171,7 @@ pub fn serve_tended_heap<R: Clock + Eprint + Threads + Wait + Sync>(
     rt: &R,
     alloc: Global,
     blank: Blank,
-    opening: Opening,
+    opening: ServicePlan,
 ) -> Result<TendedHeap, AllocError>
     requires { AreStaff opening.most blank.seats }
     ensures { IfOk result (IsTendedOver blank opening.terms opening.most) }
@@ -205,7 +205,7 @@ fn serve_staffed<L: Heap + Send + Sync, R: Clock + Eprint + Threads + Wait + Syn
     rt: &R,
     alloc: Global,
     blank: Blank,
-    opening: Opening,
+    opening: ServicePlan,
 ) -> Result<TendedHeap, AllocError>
     requires named { IsNamed L.config L.tables L.ledger L.rolls blank }
     requires staff { AreStaff opening.most blank.seats }
@@ -213,7 +213,7 @@ fn serve_staffed<L: Heap + Send + Sync, R: Clock + Eprint + Threads + Wait + Syn
 {
     let made = Snapshot::of(&blank);
     let (shared, seats) = blank.open::<L>();
-    let Opening { most, ports, terms } = opening;
+    let ServicePlan { most, ports, terms } = opening;
     let staff = staff_of(seats, most);
     let Tended {
         served,

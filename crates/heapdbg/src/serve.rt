@@ -8,7 +8,7 @@ ghost use Rattle.heapdbg.specs.ServeOutcomes.{IsHeapServed, IsReportTold, IsServ
 use crate::failure::Fault;
 use dump_pump::Outlet;
 use heap_server::{
-    DumpListener, Opening, Ports, Served, Terms, serve_heap, serve_tended_heap, tell_sessions,
+    DumpListener, Ports, Served, ServicePlan, Terms, serve_heap, serve_tended_heap, tell_sessions,
     users, workers_and_users,
 };
 use heapdbg_options::settings::{Settings, config};
@@ -110,7 +110,7 @@ where
     };
     blank.set_rolls(settings.rolls);
     let (ports, report) = listen(rt, alloc, service, is_terminal)?;
-    let opening = Opening {
+    let opening = ServicePlan {
         most: service.sessions as usize,
         ports,
         terms: terms(settings),
@@ -143,7 +143,7 @@ where
     };
     blank.set_rolls(settings.rolls);
     let (ports, report) = listen(rt, alloc, service, is_terminal)?;
-    let opening = Opening {
+    let opening = ServicePlan {
         most: service.sessions as usize,
         ports,
         terms: terms(settings),

@@ -52,7 +52,7 @@ pub fn stream<'m, L: Heap + Send + Sync, O: Outlet, R: Threads + Wait + Sync>(
 ) -> (Pumped, StreamSeats<'m>, Witness<L>)
     requires { HasDumpRoom seats.out }
     ensures put { PutsLive L.config from.entry.pin from.entry.time from.entry.witness result.2
-        result.1.feed.found (O.seen outlet.old) (O.seen outlet.new) result.0 }
+        result.1.feed.known (O.seen outlet.old) (O.seen outlet.new) result.0 }
     ensures legal { IsLegalLedger L.config result.2 }
     ensures meter { result.1.meter.now ≡ seats.entry.meter.now }
     ensures out { result.1.out

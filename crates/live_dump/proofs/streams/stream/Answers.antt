@@ -10,8 +10,8 @@ returns-clause-put g c =
     let e = c.stream_parts-pumped.ensures in
     let after = c.stream_parts-pumped.new in
     let i = c.into_witness.ensures in
-    subst (λ (seen : List Call). PutsLive g.L.Heap.config c.args.from.pin c.args.from.time c.args.from.witness seen after.source.seat.found (g.O.Outlet.seen c.args.outlet.now) (g.O.Outlet.seen after.outlet) c.stream_parts-pumped.result) (sym i.witness)
-    (puts g.L.Heap.config c.args.from.pin c.args.from.time c.args.from.witness c.new.result after.source.source c.args.seats.feed.found after.source.seat.found (g.O.Outlet.seen c.args.outlet.now) (g.O.Outlet.seen after.outlet) c.stream_parts-pumped.result
+    subst (λ (seen : List Call). PutsLive g.L.Heap.config c.args.from.pin c.args.from.time c.args.from.witness seen after.source.seat.known (g.O.Outlet.seen c.args.outlet.now) (g.O.Outlet.seen after.outlet) c.stream_parts-pumped.result) (sym i.witness)
+    (puts g.L.Heap.config c.args.from.pin c.args.from.time c.args.from.witness c.new.result after.source.source c.args.seats.feed.known after.source.seat.known (g.O.Outlet.seen c.args.outlet.now) (g.O.Outlet.seen after.outlet) c.stream_parts-pumped.result
     c.new.ensures (ap (λ (k : (ℕ × ℕ × List Call) × TableId). k.0.0) e.kept) (ap (λ (k : (ℕ × ℕ × List Call) × TableId). k.0.1) e.kept) (ap (λ (k : (ℕ × ℕ × List Call) × TableId). k.0.2) e.kept) i.supplied e.streamed)
 
 pub returns-clause-legal : goal.returns-clause-legal

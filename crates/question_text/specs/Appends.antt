@@ -9,5 +9,5 @@ abbrev pub Appends : {A : Type 0} → List ℕ → List ℕ → List ℕ → Res
 Appends bytes old new result = OnOk result (new ≡ old ++ bytes) × IfErr result (λ e. e ≡ NoMemory)
 
 -- a text of this kind was returned, unless an allocation failed
-abbrev pub IsTextOrNoMemory : (List ℕ → Type 0) → Result (Vec ℕ) Refusal → Type 0
-IsTextOrNoMemory Is result = IfOk result (λ text. Is text.items) × IfErr result (λ e. e ≡ NoMemory)
+abbrev pub ReturnsText : (List ℕ → Type 0) → Result (Vec ℕ) Refusal → Type 0
+ReturnsText Is result = IfOk result (λ text. Is text.items) × IfErr result (λ e. e ≡ NoMemory)

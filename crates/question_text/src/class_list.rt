@@ -3,7 +3,7 @@ ghost use Rattle.std.specs.Prelude.{◌≡◌, ◌<◌, flat_map, length};
 ghost use Rattle.std.specs.List.{range_with_len};
 ghost use Rattle.heap_class.specs.Classes.{fields_of};
 ghost use Rattle.heap_class.specs.declared.Refusal.TheVariants.{NoMemory};
-ghost use Rattle.question_text.specs.Appends.{Appends, IsTextOrNoMemory};
+ghost use Rattle.question_text.specs.Appends.{Appends, ReturnsText};
 ghost use Rattle.question_text.specs.ClassLists.{IsClassesText, and_fields, class_text, field_words, super_words};
 
 use crate::rows::{push_count, push_number, push_row, push_words};
@@ -84,7 +84,7 @@ fn push_classes(text: &mut Vec<u8>, classes: &FirstClasses<'_>) -> Result<(), Re
 
 // Returns the answer of `classes` about a view. Fails with NoMemory if an allocation fails.
 pub(crate) fn classes_answer<V: View>(alloc: Global, view: &V) -> Result<Vec<u8>, Refusal>
-    ensures { IsTextOrNoMemory (IsClassesText (V.image view.now)) result }
+    ensures { ReturnsText (IsClassesText (V.image view.now)) result }
 {
     let classes = view.classes();
     let mut text = Vec::new(alloc);

@@ -2,7 +2,7 @@
 ghost use Rattle.std.specs.Prelude.{◌≡◌, ◌≤◌, IfErr, IfOk, OnErr, OnOk};
 ghost use Rattle.heap_class.specs.declared.Refusal.TheVariants.{NoMemory};
 ghost use Rattle.session_text.specs.Replies.{line_answer_text};
-ghost use Rattle.question_text.specs.Appends.{IsTextOrNoMemory};
+ghost use Rattle.question_text.specs.Appends.{ReturnsText};
 ghost use Rattle.question_text.specs.Collections.{Collects, Finishes, IsCycleAnswer, IsCycleStep, IsMarkStep, IsSweep, IsWholeCycle, MarksLead, MayRefuse, MovesOn, NoneDenies, StopsAt, SweepsLead, collected_text, condemned_of, is_collect, swept_of};
 
 use crate::rows::{push_number, push_words};
@@ -177,7 +177,7 @@ pub fn run_cycle<S: Steps>(steps: &mut S, by: &mut S::By) -> Result<CycleCounts,
 
 // Returns the line of a whole cycle. Fails with NoMemory.
 fn cycle_line(alloc: Global, counts: CycleCounts) -> Result<Vec<u8>, Refusal>
-    ensures { IsTextOrNoMemory (λ text. text ≡ collected_text counts.condemned counts.swept) result }
+    ensures { ReturnsText (λ text. text ≡ collected_text counts.condemned counts.swept) result }
 {
     let mut text = Vec::new(alloc);
     push_words(&mut text, b"ok condemned")?;

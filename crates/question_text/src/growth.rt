@@ -2,7 +2,7 @@
 ghost use Rattle.std.specs.Prelude.{◌≡◌, ◌++◌, ◌<◌, ◌+◌, ◌≤◌, length, count_by};
 ghost use Rattle.heap_class.specs.declared.Refusal.TheVariants.{NoMemory};
 ghost use Rattle.heap_questions.specs.Histogram.{class_rows};
-ghost use Rattle.question_text.specs.Appends.{Appends, IsTextOrNoMemory};
+ghost use Rattle.question_text.specs.Appends.{Appends, ReturnsText};
 ghost use Rattle.question_text.specs.Referrers.{count_text};
 ghost use Rattle.question_text.specs.Growths.{IsGrowthText, changed_text, changed_texts, differs};
 
@@ -77,7 +77,7 @@ fn changes_text(
     changes: &[Change],
 ) -> Result<Vec<u8>, Refusal>
     requires { length changes.now ≤ class_rows + length classes.now }
-    ensures { IsTextOrNoMemory (λ text. text
+    ensures { ReturnsText (λ text. text
         ≡ changed_texts classes.now 0 changes.now ++ count_text (count_by differs changes.now))
         result }
 {
@@ -95,7 +95,7 @@ pub(crate) fn growth_answer<V: View>(
     newer: &V,
 ) -> Result<Vec<u8>, Refusal>
     requires { V.ids older.now ≡ V.ids newer.now }
-    ensures { IsTextOrNoMemory
+    ensures { ReturnsText
         (IsGrowthText (V.ids newer.now) (V.image older.now) (V.image newer.now)) result }
 {
     let before = count_by_class(alloc, older)?;

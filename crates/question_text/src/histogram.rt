@@ -2,7 +2,7 @@
 ghost use Rattle.std.specs.Prelude.{◌≡◌, ◌<◌, ◌+◌, ◌^◌, All, length, flat_map};
 ghost use Rattle.heap_class.specs.declared.Refusal.TheVariants.{NoMemory};
 ghost use Rattle.heap_questions.specs.Histogram.{class_rows};
-ghost use Rattle.question_text.specs.Appends.{Appends, IsTextOrNoMemory};
+ghost use Rattle.question_text.specs.Appends.{Appends, ReturnsText};
 ghost use Rattle.question_text.specs.Histograms.{IsGarbageText, IsHistogramText, IsRowsText, and_counts, row_text, sum_of, total_text};
 
 use crate::names::push_row_name;
@@ -91,7 +91,7 @@ pub(crate) fn rows_text(
     requires classes { length histogram.now ≡ class_rows + length classes.now }
     requires objects { (sum_of histogram.now).objects < 2 ^ 64 }
     requires bytes { (sum_of histogram.now).bytes < 2 ^ 64 }
-    ensures { IsTextOrNoMemory (IsRowsText classes.now histogram.now (sum_of histogram.now)) result }
+    ensures { ReturnsText (IsRowsText classes.now histogram.now (sum_of histogram.now)) result }
 {
     let ranked = ranking(alloc, histogram)?;
     let rows = histogram.as_slice();
@@ -103,7 +103,7 @@ pub(crate) fn rows_text(
 
 // Returns the answer of `histogram` about a view. Fails with NoMemory if an allocation fails. Reads each object once.
 pub(crate) fn histogram_text<V: View>(alloc: Global, view: &V) -> Result<Vec<u8>, Refusal>
-    ensures { IsTextOrNoMemory (IsHistogramText (V.ids view.now) (V.image view.now)) result }
+    ensures { ReturnsText (IsHistogramText (V.ids view.now) (V.image view.now)) result }
 {
     let histogram = count_by_class(alloc, view)?;
     let classes = view.classes();
@@ -112,7 +112,7 @@ pub(crate) fn histogram_text<V: View>(alloc: Global, view: &V) -> Result<Vec<u8>
 
 // Returns the answer of `garbage` about a view. Fails with NoMemory if an allocation fails. Reads each object at most twice.
 pub(crate) fn garbage_text<V: View>(alloc: Global, view: &V) -> Result<Vec<u8>, Refusal>
-    ensures { IsTextOrNoMemory (IsGarbageText (V.ids view.now) (V.image view.now)) result }
+    ensures { ReturnsText (IsGarbageText (V.ids view.now) (V.image view.now)) result }
 {
     let histogram = count_garbage(alloc, view)?;
     let classes = view.classes();

@@ -1,7 +1,7 @@
 //! The answer of `history`.
 ghost use Rattle.std.specs.Prelude.{◌≡◌, ◌++◌};
 ghost use Rattle.heap_class.specs.declared.Refusal.TheVariants.{NoMemory};
-ghost use Rattle.question_text.specs.Appends.{Appends, IsTextOrNoMemory};
+ghost use Rattle.question_text.specs.Appends.{Appends, ReturnsText};
 ghost use Rattle.question_text.specs.Histories.{IsHistoryText, IsNewestText, and_overwritten, and_slot, event_words};
 ghost use Rattle.question_text.specs.Moments.{told_text};
 ghost use Rattle.session_text.specs.Replies.{and_number};
@@ -94,7 +94,7 @@ impl Lined for PastStep {
 
 // Returns the lines of the newest steps, and their number. Fails with NoMemory.
 fn newest_text(alloc: Global, machine: &Machine, count: u64) -> Result<Vec<u8>, Refusal>
-    ensures { IsTextOrNoMemory (IsNewestText count machine.now.trail) result }
+    ensures { ReturnsText (IsNewestText count machine.now.trail) result }
 {
     let steps = history(alloc, machine, count)?;
     counted_lines(alloc, steps.as_slice())

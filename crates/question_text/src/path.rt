@@ -2,7 +2,7 @@
 ghost use Rattle.std.specs.Prelude.{◌≡◌, Some, IsSome};
 ghost use Rattle.heap_class.specs.declared.Refusal.TheVariants.{NoMemory};
 ghost use Rattle.heap_questions.specs.Graph.{IsPathTo, followed, named};
-ghost use Rattle.question_text.specs.Appends.{Appends, IsTextOrNoMemory};
+ghost use Rattle.question_text.specs.Appends.{Appends, ReturnsText};
 ghost use Rattle.question_text.specs.Moments.{IsToldOf, told_text};
 ghost use Rattle.question_text.specs.Paths.{IsPathText, IsRouteText, root_text, step_text, step_texts};
 
@@ -71,7 +71,7 @@ fn push_root(text: &mut Vec<u8>, register: u64, id: u64) -> Result<(), Refusal>
 // Returns the lines of a path to an object. Fails with NoMemory.
 fn route_text<V: View>(alloc: Global, view: &V, path: &Path, id: u64) -> Result<Vec<u8>, Refusal>
     requires { IsPathTo (V.image view.now) path.now.register path.now.slots.items id }
-    ensures { IsTextOrNoMemory
+    ensures { ReturnsText
         (IsRouteText (V.image view.now) path.now.register path.now.slots.items) result }
 {
     let start = view.registers()[path.register as usize];

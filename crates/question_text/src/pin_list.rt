@@ -3,7 +3,7 @@ ghost use Rattle.std.specs.Prelude.{◌≡◌, flat_map, length, map, IfOk};
 ghost use Rattle.heap_class.specs.declared.Refusal.TheVariants.{NoMemory};
 ghost use Rattle.heap_trail.specs.Listings.{listed_pin};
 ghost use Rattle.session_text.specs.Replies.{cause_text};
-ghost use Rattle.question_text.specs.Appends.{Appends, IsTextOrNoMemory};
+ghost use Rattle.question_text.specs.Appends.{Appends, ReturnsText};
 ghost use Rattle.question_text.specs.Moments.{told_text};
 ghost use Rattle.question_text.specs.PinLists.{IsPinsText, pin_text, pins_text, status_words};
 
@@ -57,7 +57,7 @@ fn push_pins(text: &mut Vec<u8>, machine: &Machine) -> Result<u64, Refusal>
 
 // Returns the lines of the open pins, and their number. Fails with NoMemory.
 fn pins_text(alloc: Global, machine: &Machine) -> Result<Vec<u8>, Refusal>
-    ensures { IsTextOrNoMemory (λ text. text ≡ pins_text machine.now.pins) result }
+    ensures { ReturnsText (λ text. text ≡ pins_text machine.now.pins) result }
 {
     let mut text = Vec::new(alloc);
     let count = push_pins(&mut text, machine)?;

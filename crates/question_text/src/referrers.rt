@@ -2,7 +2,7 @@
 ghost use Rattle.std.specs.Prelude.{◌≡◌};
 ghost use Rattle.heap_class.specs.declared.Refusal.TheVariants.{NoMemory};
 ghost use Rattle.heap_questions.specs.Referrers.{referrers_of};
-ghost use Rattle.question_text.specs.Appends.{Appends, IsTextOrNoMemory};
+ghost use Rattle.question_text.specs.Appends.{Appends, ReturnsText};
 ghost use Rattle.question_text.specs.Moments.{IsToldOf, told_text};
 ghost use Rattle.question_text.specs.Referrers.{IsReferrersText, and_register, referrer_words, referrers_text};
 
@@ -50,7 +50,7 @@ impl Lined for Referrer {
 
 // Returns the lines of all that names an id, and their number. Fails with NoMemory.
 fn referrer_lines<V: View>(alloc: Global, view: &V, id: u64) -> Result<Vec<u8>, Refusal>
-    ensures { IsTextOrNoMemory
+    ensures { ReturnsText
         (λ text. text ≡ referrers_text (referrers_of (V.image view.now) id)) result }
 {
     let all = referrers(alloc, view, id)?;

@@ -1,7 +1,7 @@
 //! The answer of `registers`.
 ghost use Rattle.std.specs.Prelude.{◌≡◌, ◌<◌, All};
 ghost use Rattle.heap_class.specs.declared.Refusal.TheVariants.{NoMemory};
-ghost use Rattle.question_text.specs.Appends.{Appends, IsTextOrNoMemory};
+ghost use Rattle.question_text.specs.Appends.{Appends, ReturnsText};
 ghost use Rattle.question_text.specs.Registers.{IsRegistersText, NamesKnown, named_words, register_text, register_texts};
 
 use crate::id::push_id;
@@ -67,7 +67,7 @@ fn push_lines(
 
 // Returns the answer of `registers` about a view. Fails with NoMemory if an allocation fails. Reads each id once.
 pub(crate) fn registers_answer<V: View>(alloc: Global, view: &V) -> Result<Vec<u8>, Refusal>
-    ensures { IsTextOrNoMemory (IsRegistersText (V.image view.now)) result }
+    ensures { ReturnsText (IsRegistersText (V.image view.now)) result }
 {
     let all = named_by_registers(alloc, view)?;
     let classes = view.classes();

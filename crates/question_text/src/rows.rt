@@ -2,7 +2,7 @@
 ghost use Rattle.std.specs.Prelude.{◌≡◌, ◌++◌, codes, flat_map, length};
 ghost use Rattle.heap_class.specs.declared.Refusal.TheVariants.{NoMemory};
 ghost use Rattle.session_text.specs.Replies.{and_number, line_answer_text};
-ghost use Rattle.question_text.specs.Appends.{Appends, IsTextOrNoMemory};
+ghost use Rattle.question_text.specs.Appends.{Appends, ReturnsText};
 ghost use Rattle.question_text.specs.Moments.{unanswered_text};
 ghost use Rattle.question_text.specs.Referrers.{count_text};
 
@@ -101,7 +101,7 @@ pub(crate) fn push_count(text: &mut Vec<u8>, count: u64) -> Result<(), Refusal>
 
 // Returns the lines of all, and their number. Fails with NoMemory.
 pub(crate) fn counted_lines<T: Lined>(alloc: Global, all: &[T]) -> Result<Vec<u8>, Refusal>
-    ensures { IsTextOrNoMemory
+    ensures { ReturnsText
         (λ text. text ≡ flat_map T.line all.now ++ count_text (length all.now)) result }
 {
     let mut text = Vec::new(alloc);

@@ -2,7 +2,7 @@
 ghost use Rattle.std.specs.Prelude.{◌≡◌, ◌<◌, ◌≤◌, Some, drop, length, min, IfSome, slice_get};
 ghost use Rattle.heap_class.specs.Classes.{fields_of};
 ghost use Rattle.heap_class.specs.declared.Refusal.TheVariants.{NoMemory};
-ghost use Rattle.question_text.specs.Appends.{Appends, IsTextOrNoMemory};
+ghost use Rattle.question_text.specs.Appends.{Appends, ReturnsText};
 ghost use Rattle.question_text.specs.Moments.{IsToldOf, told_text};
 ghost use Rattle.question_text.specs.Names.{IsClassThere};
 ghost use Rattle.question_text.specs.Objects.{IsShowText, and_value, element_row, element_rows, field_row, field_rows, fields_up, is_marked, mark_text, object_line, object_text, shows_mark, value_text};
@@ -182,7 +182,7 @@ fn object_lines(
     marked: bool,
 ) -> Result<Vec<u8>, Refusal>
     requires { IsClassThere classes.now object.now.kind }
-    ensures { IsTextOrNoMemory (λ text. text ≡ object_text classes.now object.now marked) result }
+    ensures { ReturnsText (λ text. text ≡ object_text classes.now object.now marked) result }
 {
     let words = object.words();
     let mut text = Vec::new(alloc);

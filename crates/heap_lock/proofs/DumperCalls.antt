@@ -7,16 +7,15 @@ use Rattle.heap_trail.specs.declared.Action.{Action}
 use Rattle.heap_trail.specs.declared.Reply.{Reply}
 use Rattle.heap_trail.specs.declared.Reply.TheVariants.{Refused}
 use Rattle.heap_trail.specs.Machine.{MayFail, MayReply, Machine, Granted, Denied, acted, acted_under, is_dump_action}
-use Rattle.heap_lock.specs.declared.desk.Desk.{Desk}
+use Rattle.heap_lock.specs.TableSeats.{Desk, Ledger, table_of}
 use Rattle.heap_chronicle.specs.declared.entry.Entry.{Entry}
-use Rattle.heap_lock.specs.declared.ledger.Ledger.{Ledger}
 use Rattle.atomic_table.specs.declared.badge.Badge.{Badge}
 use Rattle.heap_lock.specs.declared.sight.Sight.{Sight}
 use Rattle.heap_lock.specs.declared.sight.Sight.TheVariants.{Full, Seen}
 use Rattle.heap_lock.specs.Calls.{Call, call_of, IsLedger, IsLegalLedger}
 use Rattle.heap_chronicle.specs.History.{reply_of}
 use Rattle.heap_lock.specs.Sights.{calls_of}
-use Rattle.heap_lock.specs.Ledgers.{table_of, all_in, calls_in, HasCalls, HasLedger, IsSight, CallsAs}
+use Rattle.heap_lock.specs.Ledgers.{all_in, calls_in, HasCalls, HasLedger, IsSight, CallsAs}
 use Rattle.heap_chronicle.specs.Chronicles.{ChronicleState}
 use Rattle.heap_lock.specs.LockStates.{LockState, IsDumperAct, IsUnderLock, lock_state}
 use Rattle.heap_lock.proofs.CallLists.{acted_more, dumped_more}

@@ -16,7 +16,7 @@ use Rattle.heap_trail.specs.Trail.{Trail}
 use Rattle.heap_class.specs.declared.IdSize.TheVariants.{Eight}
 use Rattle.heap_trail.specs.declared.Reply.{Reply}
 use Rattle.heap_trail.specs.Machine.{MayReply, Machine, is_dump_action}
-use Rattle.heap_lock.specs.declared.desk.Desk.{Desk}
+use Rattle.heap_lock.specs.TableSeats.{Desk}
 use Rattle.heap_chronicle.specs.declared.entry.Entry.{Entry}
 use Rattle.heap_chronicle.specs.declared.entry.Outcome.{Outcome}
 use Rattle.heap_chronicle.specs.History.{entry, reply_of, opening, machine_at, trail_after, reply_at, MayEnter, IsDue, IsLegalHistory, history_trail, tally}

@@ -6,17 +6,16 @@ use lib.ListN.{get_elem?}
 use Rattle.atomic_table.specs.Seated.{TableId}
 use Rattle.heap_world.specs.Limits.{HeapSettings}
 use Rattle.heap_trail.specs.Machine.{Machine, opening_machine}
-use Rattle.heap_lock.specs.declared.desk.Desk.{Desk}
+use Rattle.heap_lock.specs.TableSeats.{Desk, Ledger, table_of}
 use Rattle.heap_lock.specs.declared.role.Role.{Role}
 use Rattle.heap_lock.specs.declared.stub.Stub.{Stub}
 use Rattle.heap_lock.specs.declared.view.SeatView.TheVariants.{Share}
 use Rattle.heap_lock.specs.Tally.{tally_in}
 use Rattle.heap_chronicle.specs.History.{history_trail, tally}
-use Rattle.heap_lock.specs.declared.ledger.Ledger.{Ledger}
 use Rattle.heap_lock.specs.declared.sight.Sight.TheVariants.{Full}
 use Rattle.heap_lock.specs.Calls.{IsLedger}
 use Rattle.heap_lock.specs.Sights.{calls_of}
-use Rattle.heap_lock.specs.Ledgers.{table_of, all_in, HasCalls, HasLedger}
+use Rattle.heap_lock.specs.Ledgers.{all_in, HasCalls, HasLedger}
 use Rattle.heap_lock.proofs.CallLists.{none_yet}
 use Rattle.heap_lock.proofs.DumperCalls.{gained}
 use Rattle.heap_lock.specs.LockStates.{IsUnderLock, Chair, table_at, IsChair, IsDesk}

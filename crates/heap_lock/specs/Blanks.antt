@@ -5,13 +5,12 @@ use lib.ListN.{get_elem?}
 use Rattle.atomic_table.specs.Seated.{TableId}
 use Rattle.heap_world.specs.Limits.{HeapSettings}
 use Rattle.heap_trail.specs.Machine.{Machine, opening_machine}
-use Rattle.heap_lock.specs.declared.desk.Desk.{Desk}
 use Rattle.heap_lock.specs.declared.role.Role.{Role}
 use Rattle.heap_lock.specs.declared.stub.Stub.{Stub}
 use Rattle.heap_lock.specs.Tally.{tally_in}
-use Rattle.heap_lock.specs.declared.ledger.Ledger.{Ledger}
+use Rattle.heap_lock.specs.TableSeats.{Desk, Ledger, table_of}
 use Rattle.heap_lock.specs.LockStates.{Chair, table_at, IsChair, IsDesk}
-use Rattle.heap_lock.specs.Ledgers.{HasCalls, table_of}
+use Rattle.heap_lock.specs.Ledgers.{HasCalls}
 
 -- a heap that isn't open yet: its settings, whether old entries are dropped in place of refusing new ones, the table of each seat
 -- and that of the ledger, and its seats
@@ -38,7 +37,7 @@ chair_of s = record { number = s.number; role = s.role; share = tally_in s.share
 
 -- the tables of all desks, in order
 abbrev pub tables_of : List Desk → List TableId
-tables_of desks = map (λ d. d.table.shared.table_id) desks
+tables_of desks = map table_of desks
 
 -- a heap that is made of these settings, desks, ledger and seats
 abbrev pub maker_of : HeapSettings → Bool → List Desk → Ledger → List Stub → Maker

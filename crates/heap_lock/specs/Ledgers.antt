@@ -5,20 +5,15 @@ use Rattle.atomic_table.specs.declared.badge.Badge.{Badge}
 use Rattle.heap_world.specs.Limits.{HeapSettings}
 use Rattle.heap_trail.specs.Machine.{Machine}
 use Rattle.heap_chronicle.specs.declared.entry.Entry.{Entry}
-use Rattle.heap_lock.specs.declared.ledger.Ledger.{Ledger}
 use Rattle.heap_lock.specs.declared.sight.Sight.{Sight}
 use Rattle.heap_lock.specs.declared.sight.Sight.TheVariants.{Full, Seen}
 use Rattle.heap_lock.specs.Calls.{Call, IsLedger}
-use Rattle.heap_lock.specs.TableSeats.{IsBadgeOf, IsSeatOf}
+use Rattle.heap_lock.specs.TableSeats.{Ledger, IsBadgeOf, IsSeatOf, table_of}
 use Rattle.heap_lock.specs.Sights.{calls_of}
-
--- the table of a ledger
-abbrev pub table_of : Ledger → TableId
-table_of l = l.table.shared.table_id
 
 -- all calls
 abbrev pub all_in : Ledger → List Call
-all_in l = calls_of l.full.me.0
+all_in l = calls_of l.own.me.0
 
 -- the calls of a badge
 abbrev pub calls_in : List Sight → List Call
@@ -28,12 +23,12 @@ calls_in (v ∷ vs) = calls_of v
 -- a ledger of this table with these calls
 abbrev pub HasCalls : TableId → List Call → Ledger → Type 0
 HasCalls table calls l =
-    (table.words ≡ 1) × (table_of l ≡ table) × IsSeatOf table (Full calls) l.full
+    (table.words ≡ 1) × (table_of l ≡ table) × IsSeatOf table (Full calls) l.own
 
 -- the same tables, and these calls
 abbrev pub CallsAs : Ledger → Ledger → List Call → Type 0
 CallsAs l l' calls =
-    (table_of l' ≡ table_of l) × IsSeatOf l.full.table_id (Full calls) l'.full
+    (table_of l' ≡ table_of l) × IsSeatOf l.own.table_id (Full calls) l'.own
 
 -- these calls were seen of the ledger of this table
 abbrev pub IsSight : TableId → List Call → Badge Sight → Type 0

@@ -10,7 +10,7 @@ use Rattle.heap_world.specs.Limits.{HeapSettings}
 use Rattle.heap_trail.specs.declared.Action.{Action}
 use Rattle.heap_trail.specs.declared.Reply.{Reply}
 use Rattle.heap_trail.specs.Machine.{MayReply, Machine}
-use Rattle.heap_lock.specs.declared.desk.Desk.{Desk}
+use Rattle.heap_lock.specs.TableSeats.{Desk}
 use Rattle.heap_chronicle.specs.declared.entry.Entry.{Entry}
 use Rattle.heap_chronicle.specs.declared.entry.Outcome.{Outcome}
 use Rattle.heap_lock.specs.declared.receipt.Receipt.{Receipt}
@@ -79,7 +79,7 @@ IsChair tables n b =
 abbrev pub IsDesk : TableId → List (ℕ × Entry) → Desk → Type 0
 IsDesk table marks d =
     (d.table.shared.table_id.words ≡ 1) × (d.table.shared.table_id ≡ table)
-    × (d.book.table_id ≡ table) × (d.book.me ≡ (Book marks, []))
+    × (d.own.table_id ≡ table) × (d.own.me ≡ (Book marks, []))
 
 -- what holds under the lock: the chronicle is a legal history of the heap's seats, the machine's trail is what it leaves,
 -- and each seat's book has its tally

@@ -1,8 +1,23 @@
--- The seats and the badges of a table.
+-- Tables of one word, their seats and badges.
 use Rattle.std.specs.Prelude.{◌≡◌, [], ◌∷◌}
 use Rattle.atomic_table.specs.Seated.{TableId}
 use Rattle.atomic_table.specs.declared.badge.Badge.{Badge}
 use Rattle.atomic_table.specs.declared.shared.Seat.{Seat}
+use Rattle.heap_lock.specs.declared.home_table.HomeTable.{HomeTable}
+use Rattle.heap_lock.specs.declared.sight.Sight.{Sight}
+use Rattle.heap_lock.specs.declared.view.SeatView.{SeatView}
+
+-- the table of a seat, with the book
+abbrev pub Desk : Type 0
+Desk = HomeTable SeatView
+
+-- the table of a ledger, with its own view
+abbrev pub Ledger : Type 0
+Ledger = HomeTable Sight
+
+-- the table
+abbrev pub table_of : {V : Type 0} → HomeTable V → TableId
+table_of t = t.table.shared.table_id
 
 -- the seat is one of this table, with this view
 abbrev pub IsSeatOf : {V : Type 0} → TableId → V → Seat (Unit {0}) V → Type 0

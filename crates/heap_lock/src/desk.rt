@@ -1,12 +1,13 @@
 //! A tally in two parts with one list: the book, which stays under the lock, and the share, which goes with the seat.
-ghost use Rattle.std.specs.Prelude.{◌≡◌, [], IfOk};
+ghost use Rattle.std.specs.Prelude.{◌≡◌, []};
 ghost use Rattle.heap_lock.specs.Tally.{tally_of, tally_in};
-ghost use Rattle.heap_lock.specs.Desks.{table_of, IsUnsplit, HasBook, BooksAs, IsShare, book_with};
+ghost use Rattle.heap_lock.specs.TableSeats.{table_of};
+ghost use Rattle.heap_lock.specs.Desks.{IsUnsplit, HasBook, BooksAs, IsShare, book_with};
 
+use crate::home_table::{Halves, HomeTable, Notes};
 use crate::view::SeatView;
-use atomic_table::{Badge, Join, Play, Seat, Split, Table, TableRule};
+use atomic_table::{Badge, Play};
 use heap_chronicle::Entry;
-use std::alloc::{AllocError, Global};
 use std::marker::Brand;
 
 /// The entry that a step adds.
@@ -23,74 +24,28 @@ impl NotedEntry for Brand {
     ghost mark = { no_mark };
 }
 
-/// The rule of a table: spent views excepted, there is one whole view, or one book and one share with its list.
-pub struct OneTally;
-
-impl TableRule<(), SeatView, ()> for OneTally {
-    ghost use Rattle.std.specs.Prelude.{[]};
-    ghost use Rattle.heap_lock.specs.declared.view.SeatView.TheVariants.{Whole};
-    ghost use Rattle.heap_lock.specs.Tally.{IsOneTally};
-
-    ghost holds = { λ _ s. IsOneTally s.views };
-
-    ghost first = { λ _. Whole [] [] };
-}
-
-/// The split of a whole view into book and share.
-pub struct Parts;
-
-impl Split<SeatView> for Parts {
-    ghost use Rattle.heap_lock.specs.Tally.{book_of, share_of};
-
-    ghost left = { book_of };
-
-    ghost right = { share_of };
-}
-
-impl Join<SeatView> for Parts {
-    ghost use Rattle.heap_lock.specs.declared.view.SeatView.TheVariants.{Spent};
-    ghost use Rattle.heap_lock.specs.Tally.{whole_of};
-
-    ghost both = { whole_of };
-
-    ghost spent = { Spent };
-}
-
-/// The step that adds an entry to both lists, which were equal.
-pub struct Notes<E: NotedEntry> {
-    of: std::marker::PhantomData<E>,
-}
-
+// The step that adds an entry to both lists, which were equal.
 impl<E: NotedEntry> Play<(), SeatView> for Notes<E> {
     ghost use Rattle.heap_lock.specs.Tally.{Noted};
 
     ghost then = { λ step m found n. Noted E.mark m n };
 }
 
-/// The table of a seat, with the book.
-#[derive(Drop)]
-pub struct Desk {
-    pub table: Table<(), SeatView, (), OneTally, Global>,
-    pub book: Seat<(), SeatView>,
-}
+/// The table of a seat, with the book. A new one is that of a seat that has done nothing.
+pub type Desk = HomeTable<SeatView>;
 
-impl Desk {
-    /// Creates the table of a seat that has done nothing.
-    pub fn new(alloc: Global) -> Result<Desk, AllocError>
-        ensures { IfOk result (λ d. IsUnsplit d) }
-    {
-        let (table, book) = Table::of_words(alloc, &[0], &())?;
-        Ok(Desk { table, book })
-    }
-
+impl HomeTable<SeatView> {
     /// Splits the share off, both empty.
     pub fn open(&mut self) -> Badge<SeatView>
         requires { IsUnsplit self.old }
         ensures desk { BooksAs self.old self.new [] }
         ensures share { IsShare (table_of self.old) [] result }
     {
-        let Desk { table, book } = self;
-        table.shared.split_seat::<Parts>(book).into_badge()
+        let HomeTable { table, own } = self;
+        table
+            .shared
+            .split_seat::<Halves<SeatView>>(own)
+            .into_badge()
     }
 
     // Joins book and share, adds the entry to both, and splits them again.
@@ -105,14 +60,19 @@ impl Desk {
         requires share { IsShare (table_of self.old) (tally_in share.views) share }
         ensures desk { BooksAs self.old self.new (book_with self.old E.mark) }
         ensures share { IsShare share.table_id (book_with self.old E.mark) result }
-        ensures same { tally_in share.views ≡ tally_of self.old.book.me.0 }
+        ensures same { tally_in share.views ≡ tally_of self.old.own.me.0 }
     {
         let _ = turn;
         let _ = entry;
-        let Desk { table, book } = self;
-        table.shared.join_seat::<Parts>(book, share.into_seat());
-        table.shared.load::<Notes<E>>(book, 0);
-        table.shared.split_seat::<Parts>(book).into_badge()
+        let HomeTable { table, own } = self;
+        table
+            .shared
+            .join_seat::<Halves<SeatView>>(own, share.into_seat());
+        table.shared.load::<Notes<E>>(own, 0);
+        table
+            .shared
+            .split_seat::<Halves<SeatView>>(own)
+            .into_badge()
     }
 
     /// Adds the entry of this turn to the book and to its share, which have one list. Takes no memory.
@@ -121,7 +81,7 @@ impl Desk {
         requires share { IsShare (table_of self.old) (tally_in share.views) share }
         ensures desk { BooksAs self.old self.new (book_with self.old (turn, entry.now)) }
         ensures share { IsShare share.table_id (book_with self.old (turn, entry.now)) result }
-        ensures same { tally_in share.views ≡ tally_of self.old.book.me.0 }
+        ensures same { tally_in share.views ≡ tally_of self.old.own.me.0 }
     {
         self.note::<Brand>(share, turn, entry)
     }

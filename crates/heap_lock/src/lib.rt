@@ -7,6 +7,7 @@ pub mod collector;
 pub mod desk;
 pub mod dumps;
 pub mod heap;
+pub mod home_table;
 pub mod laws;
 pub mod ledger;
 pub mod receipt;

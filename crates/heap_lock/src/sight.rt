@@ -1,4 +1,5 @@
 //! What the views of a ledger's table know.
+use crate::home_table::TableView;
 use heap_trail::{Action, Reply};
 use std::collections::LinkedList;
 
@@ -12,4 +13,23 @@ pub enum Sight {
     Both(LinkedList<(Action, Reply)>, LinkedList<(Action, Reply)>),
     /// No calls.
     Blind,
+}
+
+// One view has all calls, and each other one a beginning of them.
+impl TableView for Sight {
+    ghost use Rattle.std.specs.Prelude.{[]};
+    ghost use Rattle.heap_lock.specs.declared.sight.Sight.TheVariants.{Blind, Full};
+    ghost use Rattle.heap_lock.specs.Sights.{IsOneLedger, both_sights, full_of, seen_of};
+
+    ghost holds = { IsOneLedger };
+
+    ghost first = { Full [] };
+
+    ghost left = { full_of };
+
+    ghost right = { seen_of };
+
+    ghost both = { both_sights };
+
+    ghost spent = { Blind };
 }

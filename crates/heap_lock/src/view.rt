@@ -1,4 +1,5 @@
 //! What the two sides of a tally know.
+use crate::home_table::TableView;
 use heap_chronicle::Entry;
 use std::collections::LinkedList;
 
@@ -12,4 +13,23 @@ pub enum SeatView {
     Share(LinkedList<(u64, Entry)>),
     /// No list.
     Spent,
+}
+
+// Spent views excepted, there is one whole view, or one book and one share with its list.
+impl TableView for SeatView {
+    ghost use Rattle.std.specs.Prelude.{[]};
+    ghost use Rattle.heap_lock.specs.declared.view.SeatView.TheVariants.{Spent, Whole};
+    ghost use Rattle.heap_lock.specs.Tally.{IsOneTally, book_of, share_of, whole_of};
+
+    ghost holds = { IsOneTally };
+
+    ghost first = { Whole [] [] };
+
+    ghost left = { book_of };
+
+    ghost right = { share_of };
+
+    ghost both = { whole_of };
+
+    ghost spent = { Spent };
 }

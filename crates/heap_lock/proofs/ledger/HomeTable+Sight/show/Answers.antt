@@ -1,7 +1,7 @@
 use Rattle.std.proofs.Common.{ap, ◌∙◌, arith}
 use Rattle.heap_lock.specs.Ledgers.{calls_in, all_in}
 use Rattle.heap_lock.proofs.SightSteps.{splits_as, joins_as, compares_as, compared_as, head_is, both_joined}
-use Rattle.heap_lock.proofs.ledger.Ledger.show.Goals as goal
+use Rattle.heap_lock.proofs.ledger.HomeTable+Sight.show.Goals as goal
 
 pub join_seat-requires : goal.join_seat-requires
 join_seat-requires c =

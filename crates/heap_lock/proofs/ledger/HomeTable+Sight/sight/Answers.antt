@@ -1,6 +1,6 @@
 use Rattle.std.proofs.Common.{ap, arith}
 use Rattle.heap_lock.proofs.SightSteps.{splits_as}
-use Rattle.heap_lock.proofs.ledger.Ledger.sight.Goals as goal
+use Rattle.heap_lock.proofs.ledger.HomeTable+Sight.sight.Goals as goal
 
 pub split_seat-requires : goal.split_seat-requires
 split_seat-requires c =

@@ -1,6 +1,6 @@
 use Rattle.std.proofs.Common.{arith}
 use Rattle.heap_lock.proofs.SightSteps.{adds_as}
-use Rattle.heap_lock.proofs.ledger.Ledger.note.Goals as goal
+use Rattle.heap_lock.proofs.ledger.HomeTable+Sight.note.Goals as goal
 
 pub load-requires : goal.load-requires
 load-requires g c =

@@ -1,0 +1,18 @@
+use Rattle.std.proofs.Common.{◌∙◌, ap, subst}
+use Rattle.heap_trail.specs.declared.Action.TheVariants.{NextPiece}
+use Rattle.heap_trail.specs.declared.Reply.TheVariants.{Part}
+use Rattle.heap_lock.specs.Calls.{IsLegalLedger}
+use Rattle.heap_lock.specs.LockStates.{LockState}
+use Rattle.heap_lock.proofs.WitnessedCalls.{witnessed}
+use Rattle.heap_lock.proofs.heap.Shared.next_piece.Goals as goal
+
+pub returns-clause-witnessed : goal.returns-clause-witnessed
+returns-clause-witnessed g c =
+    let held = c.deref_mut-3.ensures.value in
+    let k = c.deref_mut.result.now in
+    let k1 = c.deref_mut-2.result.now in
+    let k2 = c.piece_held-done.new.self in
+    let same = c.deref_mut-2.ensures.value ∙ c.show.ensures.same in
+    let is = c.show-2.ensures.witness ∙ ap (λ (s : LockState). s.ledger) held in
+    let legal = subst (λ (s : LockState). IsLegalLedger g.L.Heap.config s.ledger) held c.show-2.ensures.legal in
+    witnessed g.L.Heap.config c.args.witness.now c.show-2.new.witness (NextPiece c.args.pin c.args.time) (λ p. Part p) c.piece_held-done.result k k1 k2 c.show.ensures.begins same c.piece_held-done.ensures.done c.piece_held-done.ensures.refused is legal

@@ -18,14 +18,16 @@ fn write_number<O: Outlet>(writer: &mut O, number: u64) -> bool
     write_all(writer, b"\n")
 }
 
-// Returns the word for the end of a fetch, and a space.
-fn finish_word(finish: Finish) -> &'static [u8]
-    ensures { result.now ≡ finish_word finish }
-{
-    match finish {
-        Finish::Whole => b"fetched ",
-        Finish::Cut => b"cut ",
-        Finish::WriteFault => b"failed ",
+impl Finish {
+    // Returns the word for this end of a fetch, and a space.
+    fn word(self) -> &'static [u8]
+        ensures { result.now ≡ finish_word self }
+    {
+        match self {
+            Finish::Whole => b"fetched ",
+            Finish::Cut => b"cut ",
+            Finish::WriteFault => b"failed ",
+        }
     }
 }
 
@@ -34,7 +36,7 @@ pub fn write_last<O: Outlet>(writer: &mut O, fetched: &Fetched) -> bool
     ensures { IsTextWritten (fetch_line_of fetched.now) (O.seen writer.old) (O.seen writer.new)
         result }
 {
-    if !write_all(writer, finish_word(fetched.finish)) {
+    if !write_all(writer, fetched.finish.word()) {
         return false;
     }
     write_number(writer, fetched.bytes)

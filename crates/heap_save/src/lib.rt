@@ -7,4 +7,4 @@ mod outlets;
 mod save;
 
 pub use outlets::Outlets;
-pub use save::{LastDump, Saved, save_after, save_into};
+pub use save::{LastDump, Saved};

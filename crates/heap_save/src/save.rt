@@ -83,66 +83,68 @@ fn end_of_save(ended: Ended, written: bool) -> Ended
     if written { ended } else { Ended::WriteFault }
 }
 
-/// Does what a save does after its session, which ended so. If that was by `end` or at the end of input, closes each pin that was
-/// opened through these commands, dumps the current state into the outlet of a place, and writes a last line: `saved`, `failed`
-/// or `lost` with its cause, and the number of bytes that the outlet took. If the session ended otherwise, the place is not
-/// asked, and no last line is written.
-///
-/// The place is asked for the outlet when the first page is there: not if the dump is lost before. The dump is failed at 0
-/// bytes if no outlet could be made. A second thread makes the pieces of the dump, and the caller's puts them out, which the
-/// gauge sees; without such a thread or a pipe the caller's does both. If a meter can't be allocated the dump is lost by
-/// Memory, at 0 bytes. The outlet is asked once for each page of at most 65,536 bytes; if pages can't be allocated, once for
-/// each piece. May wait.
-pub fn save_after<O: Outlet, P: Outlets, G: Gauge, R: Threads + Wait + Sync>(
-    rt: &R,
-    alloc: Global,
-    ended: Ended,
-    local: &mut Local,
-    writer: &mut O,
-    dump: LastDump<'_, P, G>,
-) -> Saved<P, P::Out>
-    ensures ends { EndsSave (P.makes dump.entry.place) local.old.first_pin dump.entry.time
-        local.old.machine local.new.machine (O.seen writer.old) (O.seen writer.new)
-        (option_map P.Out.seen result.outlet) ended result.ended result.pumped
-        (is_whole_session ended) }
-    ensures first { local.new.first_pin ≡ local.old.first_pin }
-    ensures untouched { is_unasked result.pumped ≡ true → result.place ≡ dump.entry.place }
-{
-    if !ended.is_whole() {
-        return Saved {
-            ended,
-            pumped: None,
-            place: dump.place,
-            outlet: None,
-        };
+impl<'a, P: Outlets, G: Gauge> LastDump<'a, P, G> {
+    /// Does what a save does after its session, which ended so. If that was by `end` or at the end of input, closes each pin
+    /// that was opened through these commands, dumps the current state into the outlet of a place, and writes a last line:
+    /// `saved`, `failed` or `lost` with its cause, and the number of bytes that the outlet took. If the session ended otherwise,
+    /// the place is not asked, and no last line is written.
+    ///
+    /// The place is asked for the outlet when the first page is there: not if the dump is lost before. The dump is failed at 0
+    /// bytes if no outlet could be made. A second thread makes the pieces of the dump, and the caller's puts them out, which the
+    /// gauge sees; without such a thread or a pipe the caller's does both. If a meter can't be allocated the dump is lost by
+    /// Memory, at 0 bytes. The outlet is asked once for each page of at most 65,536 bytes; if pages can't be allocated, once for
+    /// each piece. May wait.
+    pub fn save_after<O: Outlet, R: Threads + Wait + Sync>(
+        self,
+        rt: &R,
+        alloc: Global,
+        ended: Ended,
+        local: &mut Local,
+        writer: &mut O,
+    ) -> Saved<P, P::Out>
+        ensures ends { EndsSave (P.makes self.entry.place) local.old.first_pin self.entry.time
+            local.old.machine local.new.machine (O.seen writer.old) (O.seen writer.new)
+            (option_map P.Out.seen result.outlet) ended result.ended result.pumped
+            (is_whole_session ended) }
+        ensures first { local.new.first_pin ≡ local.old.first_pin }
+        ensures untouched { is_unasked result.pumped ≡ true → result.place ≡ self.entry.place }
+    {
+        if !ended.is_whole() {
+            return Saved {
+                ended,
+                pumped: None,
+                place: self.place,
+                outlet: None,
+            };
+        }
+        let (pumped, place, outlet) = dump_last(rt, alloc, local, self);
+        let written = write_last(writer, pumped);
+        Saved {
+            ended: end_of_save(ended, written),
+            pumped: Some(pumped),
+            place,
+            outlet,
+        }
     }
-    let (pumped, place, outlet) = dump_last(rt, alloc, local, dump);
-    let written = write_last(writer, pumped);
-    Saved {
-        ended: end_of_save(ended, written),
-        pumped: Some(pumped),
-        place,
-        outlet,
-    }
-}
 
-/// Serves a session of a private machine as `serve_local` does, and then does what `save_after` says. The dumps of the session
-/// have the time of the last one in their headers. May wait.
-pub fn save_into<I: Inlet, O: Outlet, P: Outlets, G: Gauge, R: Threads + Wait + Sync>(
-    rt: &R,
-    alloc: Global,
-    local: &mut Local,
-    reader: &mut I,
-    writer: &mut O,
-    dump: LastDump<'_, P, G>,
-) -> Saved<P, P::Out>
-    ensures saved { IsSaved (P.makes dump.entry.place) local.old.first_pin dump.entry.time
-        local.old.machine local.new.machine (I.seen reader.old) (I.seen reader.new)
-        (O.seen writer.old) (O.seen writer.new) (option_map P.Out.seen result.outlet)
-        result.ended result.pumped }
-    ensures first { local.new.first_pin ≡ local.old.first_pin }
-    ensures untouched { is_unasked result.pumped ≡ true → result.place ≡ dump.entry.place }
-{
-    let ended = serve_local(alloc, reader, writer, local, dump.time);
-    save_after(rt, alloc, ended, local, writer, dump)
+    /// Serves a session of a private machine as `serve_local` does, and then does what `save_after` says. The dumps of the
+    /// session have the time of the last one in their headers. May wait.
+    pub fn save_into<I: Inlet, O: Outlet, R: Threads + Wait + Sync>(
+        self,
+        rt: &R,
+        alloc: Global,
+        local: &mut Local,
+        reader: &mut I,
+        writer: &mut O,
+    ) -> Saved<P, P::Out>
+        ensures saved { IsSaved (P.makes self.entry.place) local.old.first_pin self.entry.time
+            local.old.machine local.new.machine (I.seen reader.old) (I.seen reader.new)
+            (O.seen writer.old) (O.seen writer.new) (option_map P.Out.seen result.outlet)
+            result.ended result.pumped }
+        ensures first { local.new.first_pin ≡ local.old.first_pin }
+        ensures untouched { is_unasked result.pumped ≡ true → result.place ≡ self.entry.place }
+    {
+        let ended = serve_local(alloc, reader, writer, local, self.time);
+        self.save_after(rt, alloc, ended, local, writer)
+    }
 }

@@ -16,6 +16,7 @@ pub use asking::AskingSeat;
 pub use client::{Asked, ask};
 pub use copy::{Copied, copy_all};
 pub use dump_server::DumpListener;
+pub use heap_lock::{Blank, Refusal};
 pub use joined::Joined;
 pub use laws::served_dumps_are_text;
 pub use report::{tell_sessions, word};

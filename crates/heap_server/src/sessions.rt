@@ -114,43 +114,34 @@ fn await_all<R: Threads>(
 }
 
 // Accepts clients and serves them, as `serve_clients` says.
-fn serve_seats<L: Heap + Send + Sync, R: Threads + Wait + Sync>(
-    rt: &R,
+fn serve_seats<'s, E, L: Heap + Send + Sync, R: Threads + Wait + Sync>(
+    scope: &Scope<'s, E>,
+    rt: &'s R,
     alloc: Global,
-    shared: &Shared<L>,
+    shared: &'s Shared<L>,
+    terms: Terms,
     seats: Seats<L>,
     listener: TcpListener,
-    terms: Terms,
 ) -> Result<Served, AllocError>
     requires { AreUsers seats }
     ensures { IfOk result (IsFor (length seats)) }
 {
-    thread::scope(
-        thread::scope_env(),
-        rt,
-        move |scope| -> Result<Served, AllocError>
-            requires { AreUsers seats }
-            ensures { IfOk result (IsFor (length seats)) }
-        {
-            let mut seats = seats;
-            let count = seats.count();
-            let mut running = Vec::with_capacity(alloc, count)?;
-            let mut ends = Vec::with_capacity(alloc, count)?;
-            let listener = listener;
-            let mut refused = false;
-            while let Some(seat) = seats.take() {
-                let Ok((stream, _)) = listener.accept() else {
-                    refused = true;
-                    break;
-                };
-                let thread = scope.spawn(move || session(rt, alloc, shared, seat, stream, terms));
-                running.push_reserved(thread.ok());
-            }
-            drop(listener);
-            await_all(rt, &mut running, &mut ends);
-            Ok(Served { ends, refused })
-        },
-    )
+    let mut seats = seats;
+    let count = seats.count();
+    let mut running = Vec::with_capacity(alloc, count)?;
+    let mut ends = Vec::with_capacity(alloc, count)?;
+    let mut refused = false;
+    while let Some(seat) = seats.take() {
+        let Ok((stream, _)) = listener.accept() else {
+            refused = true;
+            break;
+        };
+        let thread = scope.spawn(move || session(rt, alloc, shared, seat, stream, terms));
+        running.push_reserved(thread.ok());
+    }
+    drop(listener);
+    await_all(rt, &mut running, &mut ends);
+    Ok(Served { ends, refused })
 }
 
 // Begins the thread that sends dumps. Fails if none can be had.
@@ -165,37 +156,6 @@ fn begin_dumps<'s, E, L: Heap + Send + Sync, R: Clock + Eprint + Threads + Wait 
 ) -> Result<JoinHandle<()>, AllocError> {
     let thread = scope.spawn(move || tend_dumps(rt, alloc, shared, listener, time, stop))?;
     Ok(thread)
-}
-
-// Does so while a thread sends dumps to the clients of their listener.
-fn serve_beside_dumps<L: Heap + Send + Sync, R: Clock + Eprint + Threads + Wait + Sync>(
-    rt: &R,
-    alloc: Global,
-    shared: &Shared<L>,
-    seats: Seats<L>,
-    ports: (TcpListener, DumpListener),
-    terms: Terms,
-) -> Result<Served, AllocError>
-    requires { AreUsers seats }
-    ensures { IfOk result (IsFor (length seats)) }
-{
-    let word = AtomicBool::new(false);
-    let stop = &word;
-    let (listener, dumps) = ports;
-    thread::scope(
-        thread::scope_env(),
-        rt,
-        move |scope| -> Result<Served, AllocError>
-            requires { AreUsers seats }
-            ensures { IfOk result (IsFor (length seats)) }
-        {
-            let dumping = begin_dumps(scope, rt, alloc, shared, dumps, terms.time, stop)?;
-            let served = serve_seats(rt, alloc, shared, seats, listener, terms);
-            stop.store(true, Ordering::SeqCst);
-            dumping.join(rt);
-            served
-        },
-    )
 }
 
 /// Accepts as many clients as there are seats, in turn, and serves each in a thread of its own. After the last of them, or after
@@ -214,11 +174,30 @@ pub fn serve_clients<L: Heap + Send + Sync, R: Clock + Eprint + Threads + Wait +
     requires { AreUsers seats }
     ensures { IfOk result (IsFor (length seats)) }
 {
-    let Ports { sessions, dumps } = ports;
-    match dumps {
-        Some(dumps) => serve_beside_dumps(rt, alloc, shared, seats, (sessions, dumps), terms),
-        None => serve_seats(rt, alloc, shared, seats, sessions, terms),
-    }
+    let word = AtomicBool::new(false);
+    let stop = &word;
+    thread::scope(
+        thread::scope_env(),
+        rt,
+        move |scope| -> Result<Served, AllocError>
+            requires { AreUsers seats }
+            ensures { IfOk result (IsFor (length seats)) }
+        {
+            let Ports { sessions, dumps } = ports;
+            let dumping = match dumps {
+                Some(dumps) => Some(begin_dumps(
+                    scope, rt, alloc, shared, dumps, terms.time, stop,
+                )?),
+                None => None,
+            };
+            let served = serve_seats(scope, rt, alloc, shared, terms, seats, sessions);
+            stop.store(true, Ordering::SeqCst);
+            if let Some(thread) = dumping {
+                thread.join(rt);
+            }
+            served
+        },
+    )
 }
 
 /// Opens a heap, and serves as many clients as it has seats, as `serve_clients` does. May wait.
@@ -226,13 +205,13 @@ pub fn serve_heap<R: Clock + Eprint + Threads + Wait + Sync>(
     rt: &R,
     alloc: Global,
     blank: Blank,
-    opening: ServicePlan,
+    plan: ServicePlan,
 ) -> Result<ServedHeap, AllocError>
     requires users { AreUsers blank.seats }
-    requires most { length blank.seats ≡ opening.most }
-    ensures { IfOk result (IsOver blank opening.terms opening.most) }
+    requires most { length blank.seats ≡ plan.most }
+    ensures { IfOk result (IsOver blank plan.terms plan.most) }
 {
-    serve_opened::<Brand, R>(rt, alloc, blank, opening)
+    serve_opened::<Brand, R>(rt, alloc, blank, plan)
 }
 
 // Does so for a heap that a type names.
@@ -240,16 +219,16 @@ fn serve_opened<L: Heap + Send + Sync, R: Clock + Eprint + Threads + Wait + Sync
     rt: &R,
     alloc: Global,
     blank: Blank,
-    opening: ServicePlan,
+    plan: ServicePlan,
 ) -> Result<ServedHeap, AllocError>
     requires named { IsNamed L.config L.tables L.ledger L.rolls blank }
     requires users { AreUsers blank.seats }
-    requires most { length blank.seats ≡ opening.most }
-    ensures { IfOk result (IsOver blank opening.terms opening.most) }
+    requires most { length blank.seats ≡ plan.most }
+    ensures { IfOk result (IsOver blank plan.terms plan.most) }
 {
     let made = Snapshot::of(&blank);
     let (shared, seats) = blank.open::<L>();
-    let ServicePlan { ports, terms, .. } = opening;
+    let ServicePlan { ports, terms, .. } = plan;
     let served = serve_clients(rt, alloc, &shared, seats, ports, terms)?;
     Ok(ServedHeap {
         served,

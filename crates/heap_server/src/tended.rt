@@ -171,12 +171,12 @@ pub fn serve_tended_heap<R: Clock + Eprint + Threads + Wait + Sync>(
     rt: &R,
     alloc: Global,
     blank: Blank,
-    opening: ServicePlan,
+    plan: ServicePlan,
 ) -> Result<TendedHeap, AllocError>
-    requires { AreStaff opening.most blank.seats }
-    ensures { IfOk result (IsTendedOver blank opening.terms opening.most) }
+    requires { AreStaff plan.most blank.seats }
+    ensures { IfOk result (IsTendedOver blank plan.terms plan.most) }
 {
-    serve_staffed::<Brand, R>(rt, alloc, blank, opening)
+    serve_staffed::<Brand, R>(rt, alloc, blank, plan)
 }
 
 // Returns the marker's seat, the sweeper's, and those of `most` users.
@@ -205,15 +205,15 @@ fn serve_staffed<L: Heap + Send + Sync, R: Clock + Eprint + Threads + Wait + Syn
     rt: &R,
     alloc: Global,
     blank: Blank,
-    opening: ServicePlan,
+    plan: ServicePlan,
 ) -> Result<TendedHeap, AllocError>
     requires named { IsNamed L.config L.tables L.ledger L.rolls blank }
-    requires staff { AreStaff opening.most blank.seats }
-    ensures { IfOk result (IsTendedOver blank opening.terms opening.most) }
+    requires staff { AreStaff plan.most blank.seats }
+    ensures { IfOk result (IsTendedOver blank plan.terms plan.most) }
 {
     let made = Snapshot::of(&blank);
     let (shared, seats) = blank.open::<L>();
-    let ServicePlan { most, ports, terms } = opening;
+    let ServicePlan { most, ports, terms } = plan;
     let staff = staff_of(seats, most);
     let Tended {
         served,

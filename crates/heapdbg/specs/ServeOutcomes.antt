@@ -14,6 +14,7 @@ use Rattle.heap_server.specs.declared.tended.TendedHeap.{TendedHeap}
 use Rattle.heap_server.specs.Tending.{AreStaff, AreTended}
 use Rattle.heapdbg.specs.declared.failure.Fault.{Fault}
 use Rattle.heapdbg.specs.declared.failure.Fault.TheVariants.{Accept, Connect, Listen, Memory, Read, Write}
+use Rattle.heapdbg_options.specs.HeapLimits.{HeapSettings}
 use Rattle.heapdbg_options.specs.declared.settings.Settings.{Settings}
 
 -- an accept that failed is named before a write that did
@@ -30,6 +31,11 @@ IsReportTold served w w' result =
     × (result ≡ served_outcome served.refused written))
     ⊎ ((result ≡ Err Memory) × (w' ≡ w))
 
+-- the settings of its heap
+abbrev pub config_of : Settings → HeapSettings
+config_of s =
+    record { regions = s.regions; mutators = s.mutators; keep = s.keep; ids = s.ids }
+
 -- the terms of its sessions
 abbrev pub terms_of : Settings → Terms
 terms_of s = record { time = s.time; questions = s.questions }
@@ -38,8 +44,7 @@ terms_of s = record { time = s.time; questions = s.questions }
 -- it drops old entries or refuses new ones, as the settings say
 abbrev pub IsHeapOf : Settings → ℕ → ServedHeap → Type 0
 IsHeapOf s sessions h =
-    (h.made.value.config
-    ≡ record { regions = s.regions; mutators = s.mutators; keep = s.keep; ids = s.ids })
+    (h.made.value.config ≡ config_of s)
     × (length h.made.value.seats ≡ sessions) × (h.terms ≡ terms_of s) × IsFor sessions h.served
     × (h.made.value.rolls ≡ s.rolls)
 
@@ -54,8 +59,7 @@ IsHeapServed s sessions w w' result =
 -- ended, or fewer if an accept failed; and the two seats gained what runs of their workers did
 abbrev pub IsTendedHeapOf : Settings → ℕ → TendedHeap → Type 0
 IsTendedHeapOf s sessions t =
-    (t.heap.made.value.config
-    ≡ record { regions = s.regions; mutators = s.mutators; keep = s.keep; ids = s.ids })
+    (t.heap.made.value.config ≡ config_of s)
     × AreStaff sessions t.heap.made.value.seats × (t.heap.terms ≡ terms_of s)
     × IsFor sessions t.heap.served
     × AreTended t.heap.made.value.config t.heap.made.value.seats t.marker t.sweeper

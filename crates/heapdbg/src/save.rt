@@ -7,7 +7,7 @@ ghost use Rattle.heapdbg.specs.SaveOutcomes.{IsSavedTo, IsTalked, save_outcome};
 use crate::explore::open;
 use crate::failure::{Fault, outcome};
 use dump_pump::{Outlet, Pumped, WriteOutlet};
-use heap_save::{LastDump, Outlets, save_after};
+use heap_save::{LastDump, Outlets};
 use heapdbg_options::settings::Settings;
 use pin_dump::Gauge;
 use question_text::{Asking, Watch, serve_asking};
@@ -134,7 +134,7 @@ where
             let time = settings.time;
             let dump = LastDump { place, gauge, time };
             let ended = talk(alloc, settings, reader, writer, &mut asking);
-            let saved = save_after(rt, alloc, ended, &mut asking.local, writer, dump);
+            let saved = dump.save_after(rt, alloc, ended, &mut asking.local, writer);
             save_outcome(unmade, saved.outlet.is_some(), saved.ended, saved.pumped)
         }
         Err(fault) => Err(fault),

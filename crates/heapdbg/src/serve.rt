@@ -1,15 +1,16 @@
 //! Sessions over one shared heap, for clients of this computer.
-ghost use Rattle.std.specs.Prelude.{◌≡◌, ◌⊎◌, ◌≤◌, [], IfErr, IfOk};
-ghost use Rattle.heap_server.specs.SessionSeats.{session_limit};
+ghost use Rattle.std.specs.Prelude.{◌≡◌, ◌⊎◌, ◌≤◌, [], IfErr, IfOk, length};
+ghost use Rattle.heap_server.specs.SessionSeats.{AreUsers, session_limit};
+ghost use Rattle.heap_server.specs.Tending.{AreStaff};
 ghost use Rattle.heapdbg_options.specs.CommandLine.{IsHeapWithin};
 ghost use Rattle.heapdbg.specs.declared.failure.Fault.TheVariants.{Listen, Memory};
-ghost use Rattle.heapdbg.specs.ServeOutcomes.{IsHeapServed, IsReportTold, IsServed, IsTendedServed, served_outcome, terms_of};
+ghost use Rattle.heapdbg.specs.ServeOutcomes.{IsReportTold, IsServed, config_of, served_outcome, terms_of};
 
 use crate::failure::Fault;
 use dump_pump::Outlet;
 use heap_server::{
-    DumpListener, Ports, Served, ServicePlan, Terms, serve_heap, serve_tended_heap, tell_sessions,
-    users, workers_and_users,
+    Blank, DumpListener, Ports, Refusal, Served, ServicePlan, Terms, serve_heap, serve_tended_heap,
+    tell_sessions, users, workers_and_users,
 };
 use heapdbg_options::settings::{Settings, config};
 use session_text::write_all;
@@ -71,10 +72,42 @@ where
     ensures { IsServed service.workers settings.now service.sessions (O.seen writer.old)
         (O.seen writer.new) result }
 {
+    let Ok(mut blank) = blank_for(alloc, settings, service) else {
+        return Err(Fault::Memory);
+    };
+    blank.set_rolls(settings.rolls);
+    let (ports, report) = listen(rt, alloc, service, is_terminal)?;
+    let plan = ServicePlan {
+        most: service.sessions as usize,
+        ports,
+        terms: terms(settings),
+    };
     if service.workers == 0 {
-        serve_users(rt, alloc, settings, service, writer, is_terminal)
+        match serve_heap(rt, alloc, blank, plan) {
+            Ok(heap) => tell(&heap.served, report, writer),
+            Err(_) => Err(Fault::Memory),
+        }
     } else {
-        serve_staff(rt, alloc, settings, service, writer, is_terminal)
+        match serve_tended_heap(rt, alloc, blank, plan) {
+            Ok(tended) => tell(&tended.heap.served, report, writer),
+            Err(_) => Err(Fault::Memory),
+        }
+    }
+}
+
+// Creates a heap of the settings with the seats of a service. Fails with NoMemory.
+fn blank_for(alloc: Global, settings: &Settings, service: Service) -> Result<Blank, Refusal>
+    requires heap { IsHeapWithin settings.now }
+    requires sessions { (1 ≤ service.sessions) × (service.sessions ≤ session_limit) }
+    ensures settings { IfOk result (λ b. b.config ≡ config_of settings.now) }
+    ensures users { IfOk result (λ b. service.workers ≡ 0
+        → AreUsers b.seats × (length b.seats ≡ service.sessions)) }
+    ensures staff { IfOk result (λ b. 1 ≤ service.workers → AreStaff service.sessions b.seats) }
+{
+    if service.workers > 0 {
+        workers_and_users(alloc, config(settings), service.sessions)
+    } else {
+        users(alloc, config(settings), service.sessions)
     }
 }
 
@@ -85,72 +118,6 @@ fn terms(settings: &Settings) -> Terms
     Terms {
         time: settings.time,
         questions: settings.questions,
-    }
-}
-
-// Serves sessions without workers.
-fn serve_users<R, O: Outlet>(
-    rt: &R,
-    alloc: Global,
-    settings: &Settings,
-    service: Service,
-    writer: &mut O,
-    is_terminal: bool,
-) -> Result<(), Fault>
-where
-    R: Net<Listener = TcpListener, Stream = TcpStream> + Threads + Wait + Sync,
-    R: Clock + Eprint,
-    requires heap { IsHeapWithin settings.now }
-    requires sessions { (1 ≤ service.sessions) × (service.sessions ≤ session_limit) }
-    ensures { IsHeapServed settings.now service.sessions (O.seen writer.old) (O.seen writer.new)
-        result }
-{
-    let Ok(mut blank) = users(alloc, config(settings), service.sessions) else {
-        return Err(Fault::Memory);
-    };
-    blank.set_rolls(settings.rolls);
-    let (ports, report) = listen(rt, alloc, service, is_terminal)?;
-    let opening = ServicePlan {
-        most: service.sessions as usize,
-        ports,
-        terms: terms(settings),
-    };
-    match serve_heap(rt, alloc, blank, opening) {
-        Ok(heap) => tell(&heap.served, report, writer),
-        Err(_) => Err(Fault::Memory),
-    }
-}
-
-// Serves sessions while two threads tend the collector.
-fn serve_staff<R, O: Outlet>(
-    rt: &R,
-    alloc: Global,
-    settings: &Settings,
-    service: Service,
-    writer: &mut O,
-    is_terminal: bool,
-) -> Result<(), Fault>
-where
-    R: Net<Listener = TcpListener, Stream = TcpStream> + Threads + Wait + Sync,
-    R: Clock + Eprint,
-    requires heap { IsHeapWithin settings.now }
-    requires sessions { (1 ≤ service.sessions) × (service.sessions ≤ session_limit) }
-    ensures { IsTendedServed settings.now service.sessions (O.seen writer.old) (O.seen writer.new)
-        result }
-{
-    let Ok(mut blank) = workers_and_users(alloc, config(settings), service.sessions) else {
-        return Err(Fault::Memory);
-    };
-    blank.set_rolls(settings.rolls);
-    let (ports, report) = listen(rt, alloc, service, is_terminal)?;
-    let opening = ServicePlan {
-        most: service.sessions as usize,
-        ports,
-        terms: terms(settings),
-    };
-    match serve_tended_heap(rt, alloc, blank, opening) {
-        Ok(tended) => tell(&tended.heap.served, report, writer),
-        Err(_) => Err(Fault::Memory),
     }
 }
 

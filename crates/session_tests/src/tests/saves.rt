@@ -2,7 +2,7 @@
 use super::examples::{DUMP_OF_ONE_POINT, POINT, POINT_SAVED};
 use super::sessions::new_local;
 use dump_pump::{Outlet, Pumped, WriteOutlet};
-use heap_save::{LastDump, Outlets, Saved, save_into};
+use heap_save::{LastDump, Outlets, Saved};
 use heap_scripts::Sink;
 use pin_dump::{Gauge, Silent};
 use session_text::{Ended, Inlet, Local, ReadInlet};
@@ -54,7 +54,7 @@ fn saved_at<I: Inlet, O: Outlet, P: Outlets, G: Gauge, R: Threads + Wait + Sync>
 ) -> Saved<P, P::Out> {
     let time = 0;
     let dump = LastDump { place, gauge, time };
-    save_into(rt, alloc, local, reader, writer, dump)
+    dump.save_into(rt, alloc, local, reader, writer)
 }
 
 /// Saves a session of these lines, which a gauge sees, whose answers and whose dump have to be these.

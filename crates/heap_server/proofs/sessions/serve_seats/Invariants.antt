@@ -1,6 +1,6 @@
 use Rattle.std.proofs.Common.{◌≡◌, ◌+◌, ◌≤◌, false, length, vec_len, vec_capacity}
 use Rattle.heap_server.specs.SessionSeats.{AreUsers}
-use Rattle.heap_server.proofs.sessions.fn.serve_seats.scope.Given as goal
+use Rattle.heap_server.proofs.sessions.serve_seats.Given as goal
 
 abbrev pub invariant-loop-seat : goal.invariant-loop-seat
 invariant-loop-seat g l =

@@ -25,22 +25,22 @@ impl IntoEvent for Event {
     #[inline(always)]
     #[tactic(auto, using(crate::proofs::AppliedResults::as_event))]
     fn apply_to(&self, world: &mut World) -> Effect {
-        match self {
-            Event::Load { m, to, from, slot } => load(world, *m, *to, *from, *slot),
+        match *self {
+            Event::Load { m, to, from, slot } => load(world, m, to, from, slot),
             Event::Put {
                 m,
                 target,
                 slot,
                 value,
-            } => put(world, *m, *target, *slot, *value),
+            } => put(world, m, target, slot, value),
             Event::Move {
                 m,
                 to,
                 from_m,
                 from,
-            } => copy(world, *m, *to, *from_m, *from),
-            Event::Clear { m, r } => clear(world, *m, *r),
-            other => Ok(apply_any(world, other)?),
+            } => copy(world, m, to, from_m, from),
+            Event::Clear { m, r } => clear(world, m, r),
+            _ => Ok(apply_any(world, self)?),
         }
     }
 

@@ -20,7 +20,7 @@ pub use sorts::{
     ClearEvent, IntoEvent, LoadEvent, MarkEvent, MoveEvent, NewEvent, PutEvent, StoreEvent,
 };
 use std::mem::size_of;
-pub use step::{apply, weight};
+pub use step::{apply, apply_sort, weight};
 
 /// An event: one step that is asked for. Numbers of mutators, registers, classes and slots may be any 64-bit numbers.
 #[derive(PartialEq, Eq, Drop)]

@@ -7,31 +7,47 @@ ghost use Rattle.heap_world.specs.Legal.{IsLegal};
 ghost use Rattle.heap_step.specs.declared.Event.{Event};
 ghost use Rattle.heap_step.specs.Apply.{refusal_of, state_after, applied, event_may_grow};
 ghost use Rattle.heap_step.specs.Records.{undo_record, weight};
-ghost use Rattle.heap_step.specs.Laws.{IsLight, IsStep, StaysFound};
+ghost use Rattle.heap_step.specs.Laws.{IsApplied, IsLight, IsStep, StaysFound};
 
 use crate::sorts::IntoEvent;
-use crate::{Effect, Undo};
+use crate::{Effect, Event, Undo};
 use heap_world::World;
 
 /// Applies an event, and returns its answer and the record that undoes it. Fails as the event's own call does, and changes
 /// nothing then. Fails with NoMemory only if the event may grow and nothing else refuses it. While a cycle runs, marked and
 /// sheltered objects stay marked or sheltered.
 #[inline(always)]
-pub fn apply<E: IntoEvent>(world: &mut World, event: &E) -> Effect
-    ensures answered { IsAnswered (refusal_of (E.event event.now) world.old)
-        (event_may_grow (E.event event.now) world.old) result }
-    ensures state { IfOk result (λ p. world.new ≡ state_after (E.event event.now) world.old) }
+pub fn apply(world: &mut World, event: &Event) -> Effect
+    ensures answered { IsAnswered (refusal_of event.now world.old) (event_may_grow event.now world.old)
+        result }
+    ensures state { IfOk result (λ p. world.new ≡ state_after event.now world.old) }
+    ensures done { IfOk result (λ p. applied event.now world.old ≡ Ok (world.new, p.0)) }
+    ensures recorded { IfOk result (λ p. p.1 ≡ undo_record event.now world.old) }
+    ensures refused { IfErr result
+        (λ e. (applied event.now world.old ≡ Err e)
+        ⊎ ((refusal_of event.now world.old ≡ None)
+        × (event_may_grow event.now world.old ≡ true)
+        × (e ≡ NoMemory))) }
+    ensures unchanged { OnErr result (world.new ≡ world.old) }
+    ensures legal { IsLegal world.new }
+    ensures found { OnOk result (StaysFound world.old world.new) }
+{
+    let _phase = world.phase();
+    event.apply_to(world)
+}
+
+/// Applies an event whose sort its type tells, as `apply` does.
+#[inline(always)]
+pub fn apply_sort<E: IntoEvent>(world: &mut World, event: &E) -> Effect
+    ensures legal { IsLegal world.new }
+    ensures effect { IsApplied (E.event event.now) world.old world.new result }
     ensures done { IfOk result
         (λ p. applied (E.event event.now) world.old ≡ Ok (world.new, p.0)) }
-    ensures recorded { IfOk result (λ p. p.1 ≡ undo_record (E.event event.now) world.old) }
     ensures refused { IfErr result
         (λ e. (applied (E.event event.now) world.old ≡ Err e)
         ⊎ ((refusal_of (E.event event.now) world.old ≡ None)
         × (event_may_grow (E.event event.now) world.old ≡ true)
         × (e ≡ NoMemory))) }
-    ensures unchanged { OnErr result (world.new ≡ world.old) }
-    ensures legal { IsLegal world.new }
-    ensures found { OnOk result (StaysFound world.old world.new) }
 {
     let _phase = world.phase();
     event.apply_to(world)

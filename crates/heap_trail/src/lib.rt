@@ -35,7 +35,7 @@ pub use examples::worked_examples;
 use heap_class::{IdSize, Refusal};
 use heap_pins::touched_region;
 use heap_step::step::undo;
-use heap_step::{Answer, Event, IntoEvent, Undo, apply, undo_takes_back};
+use heap_step::{Answer, Event, IntoEvent, Undo, apply_sort, undo_takes_back};
 use heap_world::{Config, World};
 use held::NumberedPin;
 use hprof_text::Piece;
@@ -228,7 +228,23 @@ impl Machine {
     /// reached when the cycle began, in the newest retained state in which none ran, is after its finish still there with its
     /// kind and as many words, and live: Yuasa's law.
     #[inline(always)]
-    pub fn step<E: IntoEvent>(&mut self, event: &E) -> Result<Answer, Refusal>
+    pub fn step(&mut self, event: &Event) -> Result<Answer, Refusal>
+        ensures done { IfOk result (λ a. MayReply self.old (Step event.now) self.new (Answered a)) }
+        ensures refused { IfErr result (λ e. MayFail self.old (Step event.now) self.new e) }
+        ensures unchanged { OnErr result (self.new ≡ self.old) }
+        ensures spares { OnOk result
+            ((region : ℕ) → event.now ≡ Sweep region
+            → SparesReached self.old.trail.current self.new.trail.current) }
+        ensures live { OnOk result (event.now ≡ Finish → ReachesLive self.new.trail.current) }
+        ensures finds { OnOk result
+            (event.now ≡ Finish → FindsSnapshot self.old.trail.past self.new.trail.current) }
+    {
+        self.step_sort(event)
+    }
+
+    // Takes a step whose sort its type tells, as `step` does.
+    #[inline(always)]
+    fn step_sort<E: IntoEvent>(&mut self, event: &E) -> Result<Answer, Refusal>
         ensures done { IfOk result
             (λ a. MayReply self.old (Step (E.event event.now)) self.new (Answered a)) }
         ensures refused { IfErr result
@@ -248,7 +264,7 @@ impl Machine {
         }
         // By this law the record leads back to the state before.
         undo_takes_back();
-        let (answer, left) = apply(&mut self.world, event)?;
+        let (answer, left) = apply_sort(&mut self.world, event)?;
         remember(&mut self.pins, &self.world, &mut self.records, left);
         self.place += 1;
         Ok(answer)
@@ -301,7 +317,7 @@ impl Machine {
         ensures reply { MayReply self.old (Step (E.event event.now)) self.new result }
         ensures small { IsSmall result }
     {
-        match self.step(event) {
+        match self.step_sort(event) {
             Ok(answer) => Reply::Answered(answer),
             Err(refusal) => Reply::Refused(refusal),
         }

@@ -2,13 +2,13 @@ use Rattle.heap_step.proofs.AppliedResults.{done_of, refused_of, legal_of, found
 use Rattle.heap_step.proofs.step.apply.Goals as goal
 
 pub returns-clause-done : goal.returns-clause-done
-returns-clause-done g c = done_of _ _ _ _ c.apply_to.ensures
+returns-clause-done c = done_of _ _ _ _ c.apply_to.ensures
 
 pub returns-clause-refused : goal.returns-clause-refused
-returns-clause-refused g c = refused_of _ _ _ _ c.apply_to.ensures
+returns-clause-refused c = refused_of _ _ _ _ c.apply_to.ensures
 
 pub returns-clause-legal : goal.returns-clause-legal
-returns-clause-legal g c = legal_of _ _ _ _ c.phase-phase.ensures.legal c.apply_to.ensures
+returns-clause-legal c = legal_of _ _ _ _ c.phase-phase.ensures.legal c.apply_to.ensures
 
 pub returns-clause-found : goal.returns-clause-found
-returns-clause-found g c = found_of _ _ _ _ c.phase-phase.ensures.legal c.apply_to.ensures
+returns-clause-found c = found_of _ _ _ _ c.phase-phase.ensures.legal c.apply_to.ensures

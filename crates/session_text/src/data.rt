@@ -1,7 +1,9 @@
 //! Pieces, in data lines.
-ghost use Rattle.std.specs.Prelude.{◌≡◌, ◌≤◌, ◌++◌, length};
+ghost use Rattle.std.specs.Prelude.{◌≡◌, ◌≤◌, ◌+◌, ◌*◌, ◌++◌, length};
 ghost use Rattle.session_text.specs.Replies.{data_line, data_lines};
 ghost use Rattle.session_text.specs.Writes.{IsTextAdded};
+ghost use Rattle.hex.specs.Hex.{encode_lower};
+ghost use Rattle.session_text.specs.declared.page.TheConstants.{PAGE_LIMIT};
 ghost use Rattle.session_text.specs.declared.write.TheConstants.{LINE_START};
 
 use crate::page::Page;
@@ -11,13 +13,25 @@ use dump_pump::Outlet;
 // The largest number of bytes on a data line.
 const DATA_LIMIT: usize = 64;
 
+// Adds the digits of some bytes. For a full line their number is a constant, so that the loop over them is unrolled.
+fn add_digits(page: &mut Page, bytes: &[u8])
+    requires { length page.old + 2 * length bytes.now ≤ PAGE_LIMIT }
+    ensures { page.new ≡ page.old ++ encode_lower bytes.now }
+{
+    if bytes.len() == DATA_LIMIT {
+        page.add_hex(&bytes[..DATA_LIMIT]);
+    } else {
+        page.add_hex(bytes);
+    }
+}
+
 // Adds a data line of at most 64 bytes.
 fn add_data_line(page: &mut Page, bytes: &[u8])
     requires { (length page.old ≤ LINE_START) × (length bytes.now ≤ 64) }
     ensures { page.new ≡ page.old ++ data_line bytes.now }
 {
     page.add(b"data ");
-    page.add_hex(bytes);
+    add_digits(page, bytes);
     page.add(b"\n");
 }
 

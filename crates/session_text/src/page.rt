@@ -34,10 +34,8 @@ impl Page {
     pub fn new(alloc: Global) -> Result<Page, AllocError>
         ensures { IfOk result (λ p. p ≡ []) }
     {
-        Ok(Page {
-            bytes: vec![in alloc; 0; PAGE_LIMIT]?,
-            used: 0,
-        })
+        let bytes = vec![in alloc; 0; PAGE_LIMIT]?;
+        Ok(Page { bytes, used: 0 })
     }
 
     /// Returns the bytes.

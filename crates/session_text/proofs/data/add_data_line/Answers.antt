@@ -3,4 +3,4 @@ use Rattle.session_text.proofs.Sizes.{length-hex}
 use Rattle.session_text.proofs.data.add_data_line.Goals as goal
 
 pub add-requires-2 : goal.add-requires-2
-add-requires-2 c = omega (arith, ap (λ l. length l) c.add.ensures, ap (λ l. length l) c.add_hex.ensures, length-append {A = ℕ}, length-hex c.args.bytes.now)
+add-requires-2 c = omega (arith, ap (λ l. length l) c.add.ensures, ap (λ l. length l) c.add_digits.ensures, length-append {A = ℕ}, length-hex c.args.bytes.now)

@@ -3,21 +3,73 @@
 
 ghost use Rattle.std.specs.Prelude.{◌≡◌};
 ghost use Rattle.heap_step.specs.declared.Answer.TheVariants.{Swept};
+ghost use Rattle.heap_step.specs.declared.Event.TheVariants.{NewArray, NewPrim, Load, Store, Put, Move};
+ghost use Rattle.heap_trail.specs.declared.Action.TheVariants.{Step};
 ghost use Rattle.heap_chronicle.specs.declared.entry.Outcome.TheVariants.{Answered as Said};
 ghost use Rattle.heap_chronicle.specs.Details.{cause_from, refusal_from};
 ghost use Rattle.heap_chronicle.specs.Packs.{action_in, outcome_in};
 
 use crate::entry::Outcome;
 use crate::pack::{Deed, Told};
-use heap_class::{Kind, LostCause, Refusal};
+use heap_class::{ClassNo, Kind, LostCause, Refusal};
 use heap_step::{Answer, Event};
 use heap_trail::Action;
 
-// Returns the step of this event, whose parts are these numbers.
-macro_rules! step {
-    ($event:ident, $($part:ident: $number:expr),*) => {
-        Action::Step(Event::$event { $($part: $number),* })
-    };
+// Returns the action that makes an object array.
+fn new_array(m: u64, r: u64, class: ClassNo, len: u64) -> Action
+    ensures { result ≡ Step (NewArray m r class len) }
+{
+    Action::Step(Event::NewArray { m, r, class, len })
+}
+
+// Returns the action that makes an array of values.
+fn new_prim(m: u64, r: u64, kind: Kind, len: u64) -> Action
+    ensures { result ≡ Step (NewPrim m r kind len) }
+{
+    Action::Step(Event::NewPrim { m, r, kind, len })
+}
+
+// Returns the action that reads a slot.
+fn load(m: u64, to: u64, from: u64, slot: u64) -> Action
+    ensures { result ≡ Step (Load m to from slot) }
+{
+    Action::Step(Event::Load { m, to, from, slot })
+}
+
+// Returns the action that writes a reference slot.
+fn store(m: u64, target: u64, slot: u64, source: u64) -> Action
+    ensures { result ≡ Step (Store m target slot source) }
+{
+    Action::Step(Event::Store {
+        m,
+        target,
+        slot,
+        source,
+    })
+}
+
+// Returns the action that writes a value slot.
+fn put(m: u64, target: u64, slot: u64, value: u64) -> Action
+    ensures { result ≡ Step (Put m target slot value) }
+{
+    Action::Step(Event::Put {
+        m,
+        target,
+        slot,
+        value,
+    })
+}
+
+// Returns the action that copies a register.
+fn copy(m: u64, to: u64, from_m: u64, from: u64) -> Action
+    ensures { result ≡ Step (Move m to from_m from) }
+{
+    Action::Step(Event::Move {
+        m,
+        to,
+        from_m,
+        from,
+    })
 }
 
 /// Returns the deed of this sort with these numbers. Takes no memory.
@@ -25,19 +77,26 @@ pub fn action_in(deed: Deed, kind: Kind, first: u64, second: u64, third: u64, fo
     ensures { result ≡ action_in deed kind first second third fourth }
 {
     match deed {
-        Deed::New => step!(New, m: first, r: second, class: third),
-        Deed::NewArray => step!(NewArray, m: first, r: second, class: third, len: fourth),
-        Deed::NewPrim => step!(NewPrim, m: first, r: second, kind: kind, len: third),
-        Deed::Load => step!(Load, m: first, to: second, from: third, slot: fourth),
-        Deed::Store => step!(Store, m: first, target: second, slot: third, source: fourth),
-        Deed::Put => step!(Put, m: first, target: second, slot: third, value: fourth),
-        Deed::Move => step!(Move, m: first, to: second, from_m: third, from: fourth),
-        Deed::Clear => step!(Clear, m: first, r: second),
+        Deed::New => Action::Step(Event::New {
+            m: first,
+            r: second,
+            class: third,
+        }),
+        Deed::NewArray => new_array(first, second, third, fourth),
+        Deed::NewPrim => new_prim(first, second, kind, third),
+        Deed::Load => load(first, second, third, fourth),
+        Deed::Store => store(first, second, third, fourth),
+        Deed::Put => put(first, second, third, fourth),
+        Deed::Move => copy(first, second, third, fourth),
+        Deed::Clear => Action::Step(Event::Clear {
+            m: first,
+            r: second,
+        }),
         Deed::Snap => Action::Step(Event::Snap),
         Deed::Mark => Action::Step(Event::Mark),
         Deed::Drain => Action::Step(Event::Drain),
         Deed::Finish => Action::Step(Event::Finish),
-        Deed::Sweep => step!(Sweep, region: first),
+        Deed::Sweep => Action::Step(Event::Sweep { region: first }),
         Deed::Rewind => Action::Rewind(first),
     }
 }

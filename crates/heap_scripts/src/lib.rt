@@ -27,8 +27,8 @@ fn field(alloc: Global, name: &[u8], kind: Kind) -> Result<Field, AllocError> {
     Ok(Field { name, kind })
 }
 
-/// Creates the fields of a node: a reference `next` and a long `v`.
-pub fn node_fields(alloc: Global) -> Result<Fields, AllocError> {
+// Creates the fields of a node: a reference `next` and a long `v`.
+fn node_fields(alloc: Global) -> Result<Fields, AllocError> {
     let mut fields = Vec::new(alloc);
     fields.push(field(alloc, b"next", Kind::Object)?)?;
     fields.push(field(alloc, b"v", Kind::Long)?)?;
@@ -69,12 +69,6 @@ pub fn store(target: u64, source: u64) -> Event {
         slot: 0,
         source,
     }
-}
-
-/// Creates a heap of one region and one mutator.
-pub fn small_world(alloc: Global) -> Result<World, Fail> {
-    let config = Config::new(1, 1, 1).ok_or("settings out of range")?;
-    Ok(World::new(alloc, config)?)
 }
 
 /// Takes the steps, all of which have to be accepted.

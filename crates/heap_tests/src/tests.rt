@@ -1,6 +1,5 @@
 //! The tests, each of the calls of one crate.
 mod barrier;
 mod classes;
+mod drive;
 mod dump_text;
-mod trail;
-mod world;

@@ -27,6 +27,7 @@ EXAMPLE = (TOP / "examples/point.session").read_bytes()
 STEP = 1
 RESET = struct.pack("ii", 1, 0)
 ENDINGS = {"quit", "eof", "cut", "read", "write"}
+PIN_LIMIT = b"heapdbg: dump PinLimit\n"
 
 
 def replies(program, given):
@@ -506,8 +507,10 @@ def resetting_dumps(program):
             for pin in pins:
                 session.close(pin)
             whole = server.dump() == session.dump()
-        found = counts, refused, whole, server.ended()
-    yield "dumps that are reset", found, ([4] * 302, b"", True, (0, ["quit"], b"heapdbg: dump PinLimit\n"))
+        status, words, error = server.ended()
+    # The client that waits for no byte may be served only once the session has all pins, and is then refused, too.
+    found = counts, refused, whole, status, words, error in (PIN_LIMIT, 2 * PIN_LIMIT)
+    yield "dumps that are reset", found, ([4] * 302, b"", True, 0, ["quit"], True)
 
 
 def fetched(program, folder, given):

@@ -13,16 +13,21 @@ use dump_pump::Outlet;
 // The largest number of bytes on a data line.
 const DATA_LIMIT: usize = 64;
 
-// Adds the digits of some bytes. For a full line their number is a constant, so that the loop over them is unrolled.
+// The number of bytes whose digits are added at once.
+const RUN: usize = 16;
+
+// Adds the digits of some bytes. Their number in a run is a constant, so that the library's loop over a run is unrolled whole.
 fn add_digits(page: &mut Page, bytes: &[u8])
     requires { length page.old + 2 * length bytes.now ≤ PAGE_LIMIT }
     ensures { page.new ≡ page.old ++ encode_lower bytes.now }
 {
-    if bytes.len() == DATA_LIMIT {
-        page.add_hex(&bytes[..DATA_LIMIT]);
-    } else {
-        page.add_hex(bytes);
+    let mut rest = bytes;
+    while rest.len() >= RUN {
+        let (run, others) = rest.split_at(RUN);
+        page.add_hex(run);
+        rest = others;
     }
+    page.add_hex(rest);
 }
 
 // Adds a data line of at most 64 bytes.

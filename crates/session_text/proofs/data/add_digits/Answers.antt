@@ -1,21 +1,30 @@
-use Rattle.std.proofs.Common.{◌≡◌, ◌≤◌, ◌+◌, ◌*◌, ◌++◌, length, List, ℕ, take, take_all, sym, ap, subst, ◌∙◌, arith}
+use Rattle.std.proofs.Common.{◌≡◌, ◌≤◌, ◌+◌, ◌*◌, ◌++◌, length, length-append, List, ℕ, ap, sym, ◌∙◌, append_assoc, arith}
 use Rattle.hex.specs.Hex.{encode_lower}
 use Rattle.session_text.specs.declared.page.TheConstants.{PAGE_LIMIT}
+use Rattle.session_text.proofs.Sizes.{hex-append, length-hex}
 use Rattle.session_text.proofs.data.add_digits.Goals as goal
 
--- the first 64 of 64 bytes are all of them
-whole : (bytes : List ℕ) → length bytes ≡ 64 → take 64 bytes ≡ bytes
-whole bytes h = take_all 64 bytes (omega (arith, h))
-
-pub slice_bounds-add_hex-end : goal.slice_bounds-add_hex-end
-slice_bounds-add_hex-end c =
-    let full = c.if-bytes-eq-DATA_LIMIT.true in
-    omega (arith, full, ap (λ (bs : List ℕ). length bs) (whole c.args.bytes.now full))
+-- the page has room for the other digits
+room : (page rest first bytes : List ℕ) → page ++ encode_lower rest ≡ first ++ encode_lower bytes → length first + 2 * length bytes ≤ PAGE_LIMIT → length page + 2 * length rest ≤ PAGE_LIMIT
+room page rest first bytes e h =
+    omega (arith, h, ap (λ l. length l) e, length-append {A = ℕ}, length-hex rest, length-hex bytes)
 
 pub add_hex-requires : goal.add_hex-requires
 add_hex-requires c =
-    subst (λ (bs : List ℕ). length c.args.page.now + 2 * length bs ≤ PAGE_LIMIT) (sym (whole c.args.bytes.now c.if-bytes-eq-DATA_LIMIT.true)) c.requires
+    let left = room c.loop-rest.page c.loop-rest.rest.now c.args.page.now c.args.bytes.now c.loop-rest.invariant c.requires in
+    let s = c.split_at.ensures in
+    omega (arith, left, s.front_len, s.back_len)
 
-pub returns-then-bytes-eq-DATA_LIMIT : goal.returns-then-bytes-eq-DATA_LIMIT
-returns-then-bytes-eq-DATA_LIMIT c =
-    c.add_hex.ensures ∙ ap (λ (bs : List ℕ). c.args.page.now ++ encode_lower bs) (whole c.args.bytes.now c.if-bytes-eq-DATA_LIMIT.true)
+pub loop-rest-preserved : goal.loop-rest-preserved
+loop-rest-preserved c =
+    let run = c.split_at.result.0.now in
+    let others = c.split_at.result.1.now in
+    ap (λ l. l ++ encode_lower others) c.add_hex.ensures
+    ∙ append_assoc c.loop-rest.page (encode_lower run) (encode_lower others)
+    ∙ ap (λ l. c.loop-rest.page ++ l) (sym (hex-append run others))
+    ∙ ap (λ l. c.loop-rest.page ++ encode_lower l) (sym c.split_at.ensures.by_index.0)
+    ∙ c.loop-rest.invariant
+
+pub add_hex-requires-2 : goal.add_hex-requires-2
+add_hex-requires-2 c =
+    room c.loop-rest.page c.loop-rest.rest.now c.args.page.now c.args.bytes.now c.loop-rest.invariant c.requires

@@ -1,3 +1,4 @@
 pub mod Words
 pub mod AskedSettings
 pub mod GivenOptions
+pub mod MadeParsers

@@ -98,19 +98,18 @@ draw_line = with_rule (session_line (codes "draw")) out_option
 abbrev pub fetch_line : App
 fetch_line = with_rule (with_rule (new_app (codes "fetch")) port_option) out_option
 
--- the program's name and `--version`, and a command that has to follow, such as `run`
+-- the program's name and `--version`, and a command that has to follow
 abbrev pub named_line : App
 named_line =
     let named = new_app (codes "heapdbg") in
-    with_subcommand
-    (record named { top = record named.top { subcommand_required = true; has_version = true } })
-    run_line.top
+    record named { top = record named.top { subcommand_required = true; has_version = true } }
 
 -- all commands
 abbrev pub heapdbg_line : App
 heapdbg_line =
-    let local = with_subcommand (with_subcommand named_line explore_line.top) save_line.top in
-    let serving = with_subcommand (with_subcommand local draw_line.top) serve_line.top in
+    let first = with_subcommand (with_subcommand named_line run_line.top) explore_line.top in
+    let local = with_subcommand (with_subcommand first save_line.top) draw_line.top in
+    let serving = with_subcommand local serve_line.top in
     with_subcommand (with_subcommand serving ask_line.top) fetch_line.top
 
 -- the number that a text of digits alone writes, if it lies from least to most

@@ -5,10 +5,11 @@ ghost use Rattle.std.specs.Prelude.{option_and_then};
 ghost use Rattle.std.specs.Char.{is_ascii_digit};
 ghost use Rattle.clap.specs.Words.{FailsBy, app_of, fault_of, found_of, kind_of, rows_of};
 ghost use Rattle.clap.specs.declared.builder.Command.TheViews.{out-Command};
-ghost use Rattle.clap.specs.Words.{rule_of, subcommand_of, subcommand_rows_of};
+ghost use Rattle.clap.specs.Words.{App, new_app, rule_of, subcommand_of, subcommand_rows_of, with_rule, with_subcommand};
+ghost use Rattle.heapdbg_options.specs.Parsers.{IsParserOf};
 ghost use Rattle.heapdbg_options.specs.CommandLine.{AreSettingsWithin, HasDefaults, IsBadWith, heap_line, heapdbg_line, named_line, number_in};
 ghost use Rattle.heapdbg_options.specs.CommandLine.{settings_in, settings_of, settings_under, texts, option_value};
-ghost use Rattle.heapdbg_options.specs.CommandLine.{id_size_in, id_size_of, flag_in, path_of, session_line, task_in, value_option};
+ghost use Rattle.heapdbg_options.specs.CommandLine.{id_size_in, id_size_of, flag_in, out_option, path_of, session_line, task_in, value_option};
 ghost use Rattle.heapdbg_options.specs.Refusals.{IsMistake, IsMistakeIn, IsRefusalOf, version_text};
 
 use crate::refusal::{Mistake, VERSION, version};
@@ -82,26 +83,69 @@ fn parse<'a>(alloc: Global, words: &'a [&'a str]) -> Result<ArgMatches<'a>, Erro
 
 // Creates the parser of the command line: the program's name, and a command that has to follow.
 fn parser<'a>(alloc: Global) -> Result<Command<'a>, AllocError>
-    ensures { IfOk result (λ c. app_of c ≡ heapdbg_line) }
+    ensures { IsParserOf heapdbg_line result }
 {
-    named_parser(alloc)?
-        .subcommand(explore_parser(alloc)?)?
-        .subcommand(save_parser(alloc)?)?
-        .subcommand(draw_parser(alloc)?)?
-        .subcommand(serve_parser(alloc)?)?
-        .subcommand(ask_parser(alloc)?)?
-        .subcommand(fetch_parser(alloc)?)
+    let run = with_command(Ok(named_parser(alloc)), run_parser(alloc));
+    let explore = with_command(run, explore_parser(alloc));
+    let save = with_command(explore, save_parser(alloc));
+    let draw = with_command(save, draw_parser(alloc));
+    let serve = with_command(draw, serve_parser(alloc));
+    let ask = with_command(serve, ask_parser(alloc));
+    with_command(ask, fetch_parser(alloc))
 }
 
-// Creates the parser of the program's name and of the command `run`.
-fn named_parser<'a>(alloc: Global) -> Result<Command<'a>, AllocError>
-    ensures { IfOk result (λ c. app_of c ≡ named_line) }
+// Creates the parser of the program's name.
+fn named_parser<'a>(alloc: Global) -> Command<'a>
+    ensures app { app_of result ≡ named_line }
+    ensures local { (out-Command result).has_globals ≡ false }
 {
-    let run = run_parser(alloc)?;
     Command::new(alloc, "heapdbg")
         .version(VERSION)
         .subcommand_required(true)
-        .subcommand(run)
+}
+
+// Adds a command, if both parsers could be made.
+fn with_command<'a>(
+    parser: Result<Command<'a>, AllocError>,
+    command: Result<Command<'a>, AllocError>,
+) -> Result<Command<'a>, AllocError>
+    ensures { (line other : App)
+        → IsParserOf line parser.entry
+        → IsParserOf other command.entry
+        → IsParserOf (with_subcommand line other.top) result }
+{
+    parser?.subcommand(command?)
+}
+
+// Adds an option, if the parser could be made.
+pub(crate) fn with_option<'a>(
+    parser: Result<Command<'a>, AllocError>,
+    option: Arg<'a>,
+) -> Result<Command<'a>, AllocError>
+    requires { option.global ≡ false }
+    ensures { (line : App)
+        → IsParserOf line parser.entry
+        → IsParserOf (with_rule line (rule_of option.entry)) result }
+{
+    parser?.arg(option)
+}
+
+// Has help show this usage, if the parser could be made.
+pub(crate) fn with_usage<'a>(
+    parser: Result<Command<'a>, AllocError>,
+    usage: &'a str,
+) -> Result<Command<'a>, AllocError>
+    ensures { (line : App) → IsParserOf line parser.entry → IsParserOf line result }
+{
+    Ok(parser?.override_usage(usage))
+}
+
+// Creates the parser of a command that has no option.
+pub(crate) fn command_parser<'a>(alloc: Global, name: &'a str, about: &'a str) -> Command<'a>
+    ensures app { app_of result ≡ new_app name.entry.now }
+    ensures local { (out-Command result).has_globals ≡ false }
+{
+    Command::new(alloc, name).about(about)
 }
 
 // Creates the parser of a command that opens a heap, with the options for the heap, its history and its dumps.
@@ -110,27 +154,21 @@ pub(crate) fn session_parser<'a>(
     name: &'a str,
     about: &'a str,
 ) -> Result<Command<'a>, AllocError>
-    ensures app { IfOk result (λ c. app_of c ≡ session_line name.entry.now) }
-    ensures local { IfOk result (λ c. (out-Command c).has_globals ≡ false) }
+    ensures { IsParserOf (session_line name.entry.now) result }
 {
-    let time = value_arg(alloc, "time", TIME_HELP);
-    let ids = value_arg(alloc, "ids", IDS_HELP);
-    heap_parser(alloc, name, about)?.arg(time)?.arg(ids)
+    let heap = heap_parser(alloc, name, about);
+    let timed = with_option(heap, value_arg(alloc, "time", TIME_HELP));
+    with_option(timed, value_arg(alloc, "ids", IDS_HELP))
 }
 
 // Creates the parser of a command with the options for the size of the heap and its history.
 fn heap_parser<'a>(alloc: Global, name: &'a str, about: &'a str) -> Result<Command<'a>, AllocError>
-    ensures app { IfOk result (λ c. app_of c ≡ heap_line name.entry.now) }
-    ensures local { IfOk result (λ c. (out-Command c).has_globals ≡ false) }
+    ensures { IsParserOf (heap_line name.entry.now) result }
 {
-    let regions = value_arg(alloc, "regions", REGIONS_HELP);
-    let mutators = value_arg(alloc, "mutators", MUTATORS_HELP);
-    let keep = value_arg(alloc, "keep", KEEP_HELP);
-    Command::new(alloc, name)
-        .about(about)
-        .arg(regions)?
-        .arg(mutators)?
-        .arg(keep)
+    let named = command_parser(alloc, name, about);
+    let sized = with_option(Ok(named), value_arg(alloc, "regions", REGIONS_HELP));
+    let shared = with_option(sized, value_arg(alloc, "mutators", MUTATORS_HELP));
+    with_option(shared, value_arg(alloc, "keep", KEEP_HELP))
 }
 
 // Creates the option `--NAME PATH`.
@@ -138,7 +176,15 @@ pub(crate) fn path_arg<'a>(alloc: Global, name: &'a str, help: &'a str) -> Arg<'
     ensures rule { rule_of result ≡ value_option name.entry.now }
     ensures local { result.global ≡ false }
 {
-    value_arg(alloc, name, help).value_name("PATH")
+    option_arg(alloc, name, "PATH", help)
+}
+
+// Creates the option `--out PATH`, which has to be given.
+pub(crate) fn out_arg<'a>(alloc: Global, help: &'a str) -> Arg<'a>
+    ensures rule { rule_of result ≡ out_option }
+    ensures local { result.global ≡ false }
+{
+    path_arg(alloc, "out", help).required(true)
 }
 
 // Creates the option `--NAME N`.
@@ -146,10 +192,18 @@ pub(crate) fn value_arg<'a>(alloc: Global, name: &'a str, help: &'a str) -> Arg<
     ensures rule { rule_of result ≡ value_option name.entry.now }
     ensures local { result.global ≡ false }
 {
+    option_arg(alloc, name, "N", help)
+}
+
+// Creates the option `--NAME VALUE`.
+fn option_arg<'a>(alloc: Global, name: &'a str, value: &'a str, help: &'a str) -> Arg<'a>
+    ensures rule { rule_of result ≡ value_option name.entry.now }
+    ensures local { result.global ≡ false }
+{
     Arg::new(alloc, name)
         .long(name)
         .action(ArgAction::Set)
-        .value_name("N")
+        .value_name(value)
         .help(help)
 }
 

@@ -1,11 +1,13 @@
 //! The command line of a session that is saved.
-ghost use Rattle.std.specs.Prelude.{◌≡◌, false, option_map, IfOk};
-ghost use Rattle.clap.specs.Words.{app_of, found_of, rows_of};
-ghost use Rattle.clap.specs.declared.builder.Command.TheViews.{out-Command};
+ghost use Rattle.std.specs.Prelude.{option_map};
+ghost use Rattle.clap.specs.Words.{found_of, rows_of};
+ghost use Rattle.heapdbg_options.specs.Parsers.{IsParserOf};
 ghost use Rattle.heapdbg_options.specs.CommandLine.{save_in, save_line, target_in};
 ghost use Rattle.heapdbg_options.specs.Refusals.{IsChoiceOrMistake, IsTargetMistake, IsTaskOrMistake};
 
-use crate::command_line::{path_arg, questions_arg, session_parser, value_arg};
+use crate::command_line::{
+    path_arg, questions_arg, session_parser, value_arg, with_option, with_usage,
+};
 use crate::refusal::Mistake;
 use crate::settings::{Target, Task};
 use crate::socket_options::port_of;
@@ -21,16 +23,15 @@ const TO_HELP: &str =
 
 // Creates the parser of the command `save`.
 pub(crate) fn save_parser<'a>(alloc: Global) -> Result<Command<'a>, AllocError>
-    ensures app { IfOk result (λ c. app_of c ≡ save_line) }
-    ensures local { IfOk result (λ c. (out-Command c).has_globals ≡ false) }
+    ensures { IsParserOf save_line result }
 {
-    let out = path_arg(alloc, "out", OUT_HELP);
-    let to = value_arg(alloc, "to", TO_HELP);
     let about =
         "Runs a session, and dumps the state that it leaves; one of --out and --to is required";
     let usage = "heapdbg save [OPTIONS] <--out <PATH>|--to <N>>";
-    let parser = session_parser(alloc, "save", about)?.override_usage(usage);
-    parser.arg(out)?.arg(to)?.arg(questions_arg(alloc))
+    let session = with_usage(session_parser(alloc, "save", about), usage);
+    let to_file = with_option(session, path_arg(alloc, "out", OUT_HELP));
+    let placed = with_option(to_file, value_arg(alloc, "to", TO_HELP));
+    with_option(placed, questions_arg(alloc))
 }
 
 // Returns the task of the options of `save`: one of the two places has to be given.

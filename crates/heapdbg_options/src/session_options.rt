@@ -1,11 +1,13 @@
 //! The command lines of the tasks between standard input and standard output.
-ghost use Rattle.std.specs.Prelude.{◌≡◌, false, option_map, IfOk};
-ghost use Rattle.clap.specs.Words.{app_of, found_of, rows_of};
-ghost use Rattle.clap.specs.declared.builder.Command.TheViews.{out-Command};
+ghost use Rattle.std.specs.Prelude.{option_map};
+ghost use Rattle.clap.specs.Words.{found_of, rows_of};
+ghost use Rattle.heapdbg_options.specs.Parsers.{IsParserOf};
 ghost use Rattle.heapdbg_options.specs.CommandLine.{draw_line, explore_in, explore_line, explore_with, run_line};
 ghost use Rattle.heapdbg_options.specs.Refusals.{IsChoiceOrMistake, IsExploreMistake, IsTaskOrMistake};
 
-use crate::command_line::{path_arg, questions_arg, session_parser, value_arg};
+use crate::command_line::{
+    out_arg, path_arg, questions_arg, session_parser, value_arg, with_option,
+};
 use crate::refusal::Mistake;
 use crate::settings::Task;
 use crate::socket_options::port_of;
@@ -14,11 +16,10 @@ use std::alloc::{AllocError, Global};
 
 // Creates the parser of the command `run`.
 pub(crate) fn run_parser<'a>(alloc: Global) -> Result<Command<'a>, AllocError>
-    ensures app { IfOk result (λ c. app_of c ≡ run_line) }
-    ensures local { IfOk result (λ c. (out-Command c).has_globals ≡ false) }
+    ensures { IsParserOf run_line result }
 {
     let about = "Reads commands from standard input and writes replies to standard output";
-    session_parser(alloc, "run", about)?.arg(questions_arg(alloc))
+    with_option(session_parser(alloc, "run", about), questions_arg(alloc))
 }
 
 // The help for `--port`.
@@ -30,26 +31,25 @@ const FROM_HELP: &str = "File of lines that are run first; their replies are not
 
 // Creates the parser of the command `explore`.
 pub(crate) fn explore_parser<'a>(alloc: Global) -> Result<Command<'a>, AllocError>
-    ensures app { IfOk result (λ c. app_of c ≡ explore_line) }
-    ensures local { IfOk result (λ c. (out-Command c).has_globals ≡ false) }
+    ensures { IsParserOf explore_line result }
 {
     let about =
         "Reads commands and questions from standard input and writes answers to standard output";
-    let from = path_arg(alloc, "from", FROM_HELP);
-    let port = value_arg(alloc, "port", ASK_PORT_HELP);
-    session_parser(alloc, "explore", about)?
-        .arg(from)?
-        .arg(port)
+    let session = session_parser(alloc, "explore", about);
+    let filled = with_option(session, path_arg(alloc, "from", FROM_HELP));
+    with_option(filled, value_arg(alloc, "port", ASK_PORT_HELP))
 }
 
 // Creates the parser of the command `draw`.
 pub(crate) fn draw_parser<'a>(alloc: Global) -> Result<Command<'a>, AllocError>
-    ensures app { IfOk result (λ c. app_of c ≡ draw_line) }
-    ensures local { IfOk result (λ c. (out-Command c).has_globals ≡ false) }
+    ensures { IsParserOf draw_line result }
 {
-    let out = path_arg(alloc, "out", "File that the picture goes to, as SVG").required(true);
     let about = "Runs a session, and draws the regions of the state that it leaves";
-    session_parser(alloc, "draw", about)?.arg(out)
+    let session = session_parser(alloc, "draw", about);
+    with_option(
+        session,
+        out_arg(alloc, "File that the picture goes to, as SVG"),
+    )
 }
 
 // Returns the task of the options of `explore`, or the mistake in them: a file of lines is run first, or the questions are about

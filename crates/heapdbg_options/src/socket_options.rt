@@ -1,12 +1,13 @@
 //! The command lines of the tasks over sockets.
-ghost use Rattle.std.specs.Prelude.{◌≡◌, codes, false, option_and_then, IfOk};
-ghost use Rattle.clap.specs.Words.{app_of, first_of, found_of, rows_of, rule_of};
-ghost use Rattle.clap.specs.declared.builder.Command.TheViews.{out-Command};
+ghost use Rattle.std.specs.Prelude.{◌≡◌, codes, false, option_and_then};
+ghost use Rattle.clap.specs.Words.{first_of, found_of, rows_of, rule_of};
+ghost use Rattle.heapdbg_options.specs.Parsers.{IsParserOf};
 ghost use Rattle.heapdbg_options.specs.CommandLine.{ask_in, ask_line, dumps_with, fetch_in, fetch_line, number_in, other_port, port_in, port_limit, port_option, serve_in, serve_line, staffed_line};
 ghost use Rattle.heapdbg_options.specs.Refusals.{IsTaskOrMistake};
 
 use crate::command_line::{
-    number, option_value, path_arg, questions_arg, session_parser, value_arg,
+    command_parser, number, option_value, out_arg, questions_arg, session_parser, value_arg,
+    with_option,
 };
 use crate::refusal::Mistake;
 use crate::settings::Task;
@@ -38,53 +39,40 @@ const WORKERS_HELP: &str = "Threads that mark, and threads that sweep, 0 or 1 of
 
 // Creates the parser of the command `serve`.
 pub(crate) fn serve_parser<'a>(alloc: Global) -> Result<Command<'a>, AllocError>
-    ensures app { IfOk result (λ c. app_of c ≡ serve_line) }
-    ensures local { IfOk result (λ c. (out-Command c).has_globals ≡ false) }
+    ensures { IsParserOf serve_line result }
 {
-    let dumps = value_arg(alloc, "dumps", DUMPS_HELP);
-    let roll = value_arg(alloc, "roll", ROLL_HELP);
-    staffed_parser(alloc)?
-        .arg(dumps)?
-        .arg(questions_arg(alloc))?
-        .arg(roll)
+    let dumping = with_option(staffed_parser(alloc), value_arg(alloc, "dumps", DUMPS_HELP));
+    let asked = with_option(dumping, questions_arg(alloc));
+    with_option(asked, value_arg(alloc, "roll", ROLL_HELP))
 }
 
 // Creates the parser of the command `serve` with its port, its sessions and its workers.
 fn staffed_parser<'a>(alloc: Global) -> Result<Command<'a>, AllocError>
-    ensures app { IfOk result (λ c. app_of c ≡ staffed_line) }
-    ensures local { IfOk result (λ c. (out-Command c).has_globals ≡ false) }
+    ensures { IsParserOf staffed_line result }
 {
-    let sessions = value_arg(alloc, "sessions", SESSIONS_HELP);
-    let workers = value_arg(alloc, "workers", WORKERS_HELP);
     let about = "Serves sessions over one heap to clients on 127.0.0.1, and tells how each ended";
-    session_parser(alloc, "serve", about)?
-        .arg(port_arg(alloc))?
-        .arg(sessions)?
-        .arg(workers)
+    let session = session_parser(alloc, "serve", about);
+    let served = with_option(session, port_arg(alloc));
+    let shared = with_option(served, value_arg(alloc, "sessions", SESSIONS_HELP));
+    with_option(shared, value_arg(alloc, "workers", WORKERS_HELP))
 }
 
 // Creates the parser of the command `ask`.
 pub(crate) fn ask_parser<'a>(alloc: Global) -> Result<Command<'a>, AllocError>
-    ensures app { IfOk result (λ c. app_of c ≡ ask_line) }
-    ensures local { IfOk result (λ c. (out-Command c).has_globals ≡ false) }
+    ensures { IsParserOf ask_line result }
 {
-    Command::new(alloc, "ask")
-        .about(
-            "Sends standard input to a session that is served, and copies what comes back to standard output",
-        )
-        .arg(port_arg(alloc))
+    let about =
+        "Sends standard input to a session that is served, and copies what comes back to standard output";
+    with_option(Ok(command_parser(alloc, "ask", about)), port_arg(alloc))
 }
 
 // Creates the parser of the command `fetch`.
 pub(crate) fn fetch_parser<'a>(alloc: Global) -> Result<Command<'a>, AllocError>
-    ensures app { IfOk result (λ c. app_of c ≡ fetch_line) }
-    ensures local { IfOk result (λ c. (out-Command c).has_globals ≡ false) }
+    ensures { IsParserOf fetch_line result }
 {
-    let out = path_arg(alloc, "out", "File that the dump goes to").required(true);
-    Command::new(alloc, "fetch")
-        .about("Fetches a dump of a heap that is served")
-        .arg(port_arg(alloc))?
-        .arg(out)
+    let named = command_parser(alloc, "fetch", "Fetches a dump of a heap that is served");
+    let served = with_option(Ok(named), port_arg(alloc));
+    with_option(served, out_arg(alloc, "File that the dump goes to"))
 }
 
 // Creates the option `--port N`, which has to be given.

@@ -1,20 +1,19 @@
-use Rattle.std.proofs.Common.{◌≡◌, ◌∙◌, false}
-use Rattle.std.proofs.lemmas.Result.{IfOk-weaker}
-use Rattle.clap.specs.Words.{AddsSubcommand, App, app_of, with_subcommand}
-use Rattle.clap.specs.declared.builder.Command.{Command}
-use Rattle.clap.specs.declared.builder.Command.TheViews.{out-Command}
-use Rattle.heapdbg_options.specs.CommandLine.{heapdbg_line}
+use Rattle.clap.specs.Words.{with_subcommand}
+use Rattle.heapdbg_options.specs.CommandLine.{ask_line, draw_line, explore_line, fetch_line, named_line, run_line, save_line, serve_line}
 use Rattle.heapdbg_options.proofs.command_line.parser.Goals as goal
-
-added : (old sub new : Command) (x y : App) → AddsSubcommand old sub new → (out-Command sub).has_globals ≡ false → app_of old ≡ x → app_of sub ≡ y → app_of new ≡ with_subcommand x y.top
-added old sub new x y s local e f = s.shape local ∙ (λ i. with_subcommand (e i) (f i).top)
 
 pub returns : goal.returns
 returns c =
-    let explore = added _ _ _ _ _ c.in_ok-subcommand.ensures c.in_ok-explore_parser.ensures.local c.in_ok-named_parser.ensures c.in_ok-explore_parser.ensures.app in
-    let save = added _ _ _ _ _ c.in_ok-subcommand-2.ensures c.in_ok-save_parser.ensures.local explore c.in_ok-save_parser.ensures.app in
-    let draw = added _ _ _ _ _ c.in_ok-subcommand-3.ensures c.in_ok-draw_parser.ensures.local save c.in_ok-draw_parser.ensures.app in
-    let serve = added _ _ _ _ _ c.in_ok-subcommand-4.ensures c.in_ok-serve_parser.ensures.local draw c.in_ok-serve_parser.ensures.app in
-    let ask = added _ _ _ _ _ c.in_ok-subcommand-5.ensures c.in_ok-ask_parser.ensures.local serve c.in_ok-ask_parser.ensures.app in
-    IfOk-weaker c.subcommand-6.result (λ r. AddsSubcommand c.in_ok-subcommand-5.field-0 c.in_ok-fetch_parser.field-0 r) (λ r. app_of r ≡ heapdbg_line)
-    (λ r s. added _ _ _ _ _ s c.in_ok-fetch_parser.ensures.local ask c.in_ok-fetch_parser.ensures.app) c.subcommand-6.ensures
+    let l1 = with_subcommand named_line run_line.top in
+    let l2 = with_subcommand l1 explore_line.top in
+    let l3 = with_subcommand l2 save_line.top in
+    let l4 = with_subcommand l3 draw_line.top in
+    let l5 = with_subcommand l4 serve_line.top in
+    let l6 = with_subcommand l5 ask_line.top in
+    let run = c.with_command-run.ensures named_line run_line (c.named_parser.ensures.app, c.named_parser.ensures.local) c.run_parser.ensures in
+    let explore = c.with_command-explore.ensures l1 explore_line run c.explore_parser.ensures in
+    let save = c.with_command-save.ensures l2 save_line explore c.save_parser.ensures in
+    let draw = c.with_command-draw.ensures l3 draw_line save c.draw_parser.ensures in
+    let serve = c.with_command-serve.ensures l4 serve_line draw c.serve_parser.ensures in
+    let ask = c.with_command-ask.ensures l5 ask_line serve c.ask_parser.ensures in
+    c.with_command.ensures l6 fetch_line ask c.fetch_parser.ensures

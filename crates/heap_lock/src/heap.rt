@@ -107,7 +107,7 @@ impl<L: Heap> Model for Kept<L> {
 fn wants_memory(refusal: Refusal) -> bool
     ensures { MatchBool result (refusal ≡ NoMemory) (refusal ≢ NoMemory) }
 {
-    refusal == Refusal::NoMemory
+    matches!(refusal, Refusal::NoMemory)
 }
 
 // Does an event or a rewind and returns the answer, or None if it finds no memory.

@@ -68,7 +68,7 @@ pub fn tend<L: Heap, R: Clock + Wait>(
 // Tells whether there is nothing to do: no cycle runs, or no region waits to be swept.
 fn is_idle<L: Heap, R: Wait>(rt: &R, shared: &Shared<L>, duty: Duty) -> bool {
     match duty {
-        Duty::Mark => shared.phase(rt) == Phase::Idle,
+        Duty::Mark => matches!(shared.phase(rt), Phase::Idle),
         Duty::Sweep => shared.pending(rt).is_none(),
     }
 }

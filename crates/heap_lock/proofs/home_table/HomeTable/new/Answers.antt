@@ -1,4 +1,7 @@
 use Rattle.heap_lock.proofs.home_table.HomeTable.new.Goals as goal
 
-pub of_words-requires : goal.of_words-requires
-of_words-requires g c = c.requires
+pub returns-clause-words : goal.returns-clause-words
+returns-clause-words g c = c.in_ok-table.ensures.0
+
+pub returns-clause-own : goal.returns-clause-own
+returns-clause-own g c = (c.in_ok-table.ensures.2, c.in_ok-table.ensures.4)

@@ -8,8 +8,8 @@ ghost use denote.Param.Send.{IsSend, IsSync};
 mod mutator;
 
 use heap::{
-    Actors, Blank, Config, Dumped, Event, Heap, Kind, LastSeen, Machine, Pace, Pumped, Refusal,
-    Role, Totals, WriteOutlet, audit_all, define_array_class, define_class, dump,
+    Actor, Actors, Blank, Config, Dumped, Event, Heap, Kind, LastSeen, Machine, Pace, Pumped,
+    Refusal, Role, Totals, WriteOutlet, audit_all, define_array_class, define_class, dump,
 };
 use mutator::mutate;
 use std::alloc::{AllocError, Global};
@@ -43,17 +43,34 @@ fn node_class(alloc: Global) -> Result<Event, AllocError> {
     define_class(alloc, b"Node", None, &[(b"next", Kind::Object)])
 }
 
-// Defines the classes, has all threads work, each with an actor, and audits them. Returns None if anything was refused.
-fn run<'a, L: Heap + Send + Sync, W: Write + Drop, R: Threads + Wait + Sync>(
-    mut actors: Actors<'a, L, R>,
+// Defines the classes. Returns None if one is refused.
+fn define_classes<L: Heap, R: Wait>(user: &mut Actor<'_, L, R>, alloc: Global) -> Option<()> {
+    let node = node_class(alloc).ok()?;
+    user.act(node).ok()?;
+    let map = define_array_class(alloc, b"[Node;").ok()?;
+    user.act(map).ok()?;
+    Some(())
+}
+
+// Returns the actors of the next two seats, or None if there are fewer.
+fn take_two<'a, L: Heap, R: Wait>(
+    actors: &mut Actors<'a, L, R>,
+) -> Option<(Actor<'a, L, R>, Actor<'a, L, R>)> {
+    let first = actors.take()?;
+    let second = actors.take()?;
+    Some((first, second))
+}
+
+// Has all threads work, each with an actor, dumps beside them, and audits what they did. Returns None if anything was refused.
+fn work<'a, L: Heap + Send + Sync, W: Write + Drop, R: Threads + Wait + Sync>(
+    actors: &Actors<'a, L, R>,
+    mutators: (Actor<'a, L, R>, Actor<'a, L, R>),
+    collectors: (Actor<'a, L, R>, Actor<'a, L, R>),
     file: W,
 ) -> Option<Report<W>> {
     let (rt, alloc, shared) = (actors.rt, actors.alloc, actors.shared);
-    let mut user = actors.take()?;
-    user.act(node_class(alloc).ok()?).ok()?;
-    user.act(define_array_class(alloc, b"[Node;").ok()?).ok()?;
-    let (mut one, mut two) = (actors.take()?, actors.take()?);
-    let (mut marker, mut sweeper) = (actors.take()?, actors.take()?);
+    let (mut one, mut two) = mutators;
+    let (mut marker, mut sweeper) = collectors;
     let pace = &Pace::new(2, AHEAD);
     let dumped = thread::scope(
         thread::scope_env(),
@@ -76,6 +93,18 @@ fn run<'a, L: Heap + Send + Sync, W: Write + Drop, R: Threads + Wait + Sync>(
     )?;
     let totals = audit_all(&[one, two, marker]).ok()?;
     Some((totals, dumped))
+}
+
+// Defines the classes, and has all threads work. Returns None if anything was refused.
+fn run<L: Heap + Send + Sync, W: Write + Drop, R: Threads + Wait + Sync>(
+    mut actors: Actors<'_, L, R>,
+    file: W,
+) -> Option<Report<W>> {
+    let mut user = actors.take()?;
+    define_classes(&mut user, actors.alloc)?;
+    let mutators = take_two(&mut actors)?;
+    let collectors = take_two(&mut actors)?;
+    work(&actors, mutators, collectors, file)
 }
 
 // Opens the heap, and has all threads work on it. Returns None if anything was refused.
@@ -122,15 +151,27 @@ fn print_report<W: Write + Drop, R: Print + Files>(rt: &R, report: &Report<W>) -
     println!(rt; "{receipts} receipts stand in the audit")
 }
 
-// Defines a class and makes three nodes on a machine of one's own, and undoes all but the class. Returns the place.
-fn rewound(alloc: Global, config: Config) -> Result<u64, Refusal> {
-    let mut machine = Machine::new(alloc, config)?;
-    machine.step(&node_class(alloc)?)?;
+// Defines the class of nodes on a machine.
+fn define_node(machine: &mut Machine, alloc: Global) -> Result<(), Refusal> {
+    let class = node_class(alloc)?;
+    machine.step(&class)?;
+    Ok(())
+}
+
+// Makes three nodes on a machine, and undoes that. Returns the place.
+fn make_and_undo(machine: &mut Machine) -> Result<u64, Refusal> {
     let (m, class) = (0, NODE);
     for r in 0..3u64 {
         machine.step(&Event::New { m, r, class })?;
     }
     machine.rewind(3)
+}
+
+// Defines a class and makes three nodes on a machine of one's own, and undoes all but the class. Returns the place.
+fn rewound(alloc: Global, config: Config) -> Result<u64, Refusal> {
+    let mut machine = Machine::new(alloc, config)?;
+    define_node(&mut machine, alloc)?;
+    make_and_undo(&mut machine)
 }
 
 // Runs the actors, dumps beside them, and prints what they did.

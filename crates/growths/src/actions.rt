@@ -2,7 +2,8 @@
 use crate::digest::Digest;
 use crate::states::digest_of;
 use heap_class::{LostCause, Refusal};
-use heap_scripts::{Action, Answer, Machine, Reply};
+use heap_lock::{Action, Answer, Machine};
+use heap_trail::Reply;
 
 /// What a list of actions was answered, pieces apart, with the state after it; the pieces of its dumps; and whether a pin was lost
 /// because memory for it was refused.

@@ -3,8 +3,7 @@ ghost use Rattle.heap_lock.specs.Blanks.{IsNamed};
 
 use crate::states::digest_of;
 use heap_class::{Kind, Refusal};
-use heap_lock::{Blank, Heap, Kept, Outcome, Receipt, Role, Seat};
-use heap_scripts::{Answer, Config, Event};
+use heap_lock::{Answer, Blank, Config, Event, Heap, Kept, Outcome, Receipt, Role, Seat};
 use std::alloc::Global;
 use std::marker::Brand;
 use std::sync::Wait;

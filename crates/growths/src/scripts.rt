@@ -1,7 +1,8 @@
 //! Scripts of actions on a machine.
 use crate::actions::{ActionReport, act_all};
 use heap_class::{Kind, Name, Refusal};
-use heap_scripts::{Action, Config, Event, Machine, new, node, point, store};
+use heap_lock::{Action, Config, Event, Machine};
+use heap_scripts::{new, node, point, store};
 use std::alloc::{AllocError, Global};
 
 // Returns what defines a class. If memory is refused, asks once more.

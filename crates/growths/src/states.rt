@@ -4,8 +4,9 @@ ghost use Rattle.heap_region.specs.Regions.{used_at};
 
 use crate::digest::Digest;
 use heap_class::{ObjKind, ObjRef};
+use heap_lock::Machine;
 use heap_region::Regions;
-use heap_scripts::{Machine, World};
+use heap_world::World;
 
 // Cells of a region, at the most.
 const CELLS: u16 = 256;

@@ -1,19 +1,12 @@
-//! What tests of several crates begin with: heaps, classes and short names of events, and events that are taken in turn.
+//! What tests of several crates begin with: classes and short names of events, and a writer that compares.
 #![tactic(auto)]
-
-ghost use Rattle.std.specs.Prelude.{◌≡◌, OnOk};
 
 mod sink;
 
 use heap_class::{Field, Fields, Kind, Name};
-use heap_step::apply;
-use heap_step::step::undo;
-pub use heap_step::{Answer, Event};
-pub use heap_trail::{Action, Machine, PinAt, Reply};
-pub use heap_world::{Config, World};
+use heap_step::Event;
 pub use sink::Sink;
 use std::alloc::{AllocError, Global};
-use std::test::Fail;
 
 /// The id of the first object of a heap, if it has at most 4 slots.
 pub const FIRST: u64 = 0x1000_0000;
@@ -69,64 +62,4 @@ pub fn store(target: u64, source: u64) -> Event {
         slot: 0,
         source,
     }
-}
-
-/// Takes the steps, all of which have to be accepted.
-pub fn take(machine: &mut Machine, events: &[Event]) -> Result<(), Fail> {
-    for event in events {
-        machine.step(event)?;
-    }
-    Ok(())
-}
-
-// Applies the events in turn, all of which have to be accepted.
-fn apply_all(world: &mut World, events: &[Event]) -> Result<(), Fail> {
-    for event in events {
-        apply(world, event)?;
-    }
-    Ok(())
-}
-
-/// Returns settings that are in range.
-pub fn settings(regions: u64, mutators: u64, keep: u64) -> Result<Config, Fail> {
-    Ok(Config::new(regions, mutators, keep).ok_or("settings out of range")?)
-}
-
-/// Creates a heap, defines the class of nodes, and applies events.
-pub fn heap_after(alloc: Global, config: Config, events: &[Event]) -> Result<World, Fail> {
-    let mut world = World::new(alloc, config)?;
-    apply_all(&mut world, &[node(alloc)?])?;
-    apply_all(&mut world, events)?;
-    Ok(world)
-}
-
-/// Creates a machine that takes the class of nodes as its first step, and then events.
-pub fn machine_after(alloc: Global, config: Config, events: &[Event]) -> Result<Machine, Fail> {
-    let mut machine = Machine::new(alloc, config)?;
-    take(&mut machine, &[node(alloc)?])?;
-    take(&mut machine, events)?;
-    Ok(machine)
-}
-
-/// Applies the events in turn and undoes each, the last first. Adds what `look` sees after each of these steps.
-pub fn there_and_back<S: Drop, L: Fn(&World) -> Result<S, Fail>>(
-    world: &mut World,
-    events: &[Event],
-    look: &L,
-    seen: &mut Vec<S>,
-) -> Result<(), Fail>
-    requires { L.IsAlwaysCallable look.now }
-    ensures { OnOk result (world.new ≡ world.old) }
-{
-    let Some((event, rest)) = events.split_first() else {
-        return Ok(());
-    };
-    // Its contract says that the heap is legal.
-    let _phase = world.phase();
-    let (_, left) = apply(world, event)?;
-    seen.push(look(world)?)?;
-    there_and_back(world, rest, look, seen)?;
-    undo(world, left);
-    seen.push(look(world)?)?;
-    Ok(())
 }

@@ -3,3 +3,4 @@ mod barrier;
 mod classes;
 mod drive;
 mod dump_text;
+mod heaps;

@@ -1,6 +1,7 @@
 //! What the barrier logs, step by step and back.
+use super::heaps::{heap_after, settings, there_and_back};
 use heap_class::ObjRef;
-use heap_scripts::{FIRST, SECOND, heap_after, new, settings, store, there_and_back};
+use heap_scripts::{FIRST, SECOND, new, store};
 use heap_step::Event;
 use heap_world::World;
 use std::alloc::{AllocError, Global};

@@ -1,6 +1,7 @@
 //! A list of actions that a machine is driven through.
+use super::heaps::{machine_after, settings};
 use heap_class::Refusal;
-use heap_scripts::{machine_after, new, settings};
+use heap_scripts::new;
 use heap_trail::{Action, Machine, Reply};
 use std::alloc::{AllocError, Global};
 use std::test::Fail;

@@ -2,9 +2,9 @@
 use super::examples::{DUMP_OF_ONE_POINT, POINT, POINT_MADE};
 use super::sessions::{is_answered, new_local};
 use dump_pump::{Outlet, Pumped, WriteOutlet, pump};
-use heap_scripts::{Machine, Sink};
+use heap_scripts::Sink;
 use pin_dump::{LostCause, PinSource};
-use session_text::Local;
+use session_text::{Local, Machine};
 use std::alloc::Global;
 use std::test::*;
 

@@ -1,9 +1,8 @@
 //! Pins of others.
 use super::saves::save_seen;
 use super::sessions::new_machine;
-use heap_scripts::Machine;
 use pin_dump::Silent;
-use session_text::Local;
+use session_text::{Local, Machine};
 use std::alloc::Global;
 use std::sync::Wait;
 use std::test::*;

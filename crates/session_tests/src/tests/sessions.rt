@@ -1,7 +1,8 @@
 //! Playing sessions.
 use dump_pump::WriteOutlet;
-use heap_scripts::{Config, Machine, Sink};
-use session_text::{Ended, Local, ReadInlet, serve};
+use heap_scripts::Sink;
+use heap_world::Config;
+use session_text::{Ended, Local, Machine, ReadInlet, serve};
 use std::alloc::Global;
 use std::io::{Read, Write};
 

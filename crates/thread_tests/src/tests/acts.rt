@@ -2,8 +2,9 @@
 use super::scenes::{Scene, Stage, play_scene};
 use super::shared::did;
 use heap_class::{Kind, LostCause, Refusal};
-use heap_lock::{Heap, Kept, Outcome, Receipt, Role, Seat, Verdict, audit};
-use heap_scripts::{Action, Answer, Event, FIRST, PinAt};
+use heap_lock::{Action, Answer, Event, Heap, Kept, Outcome, Receipt, Role, Seat, Verdict, audit};
+use heap_scripts::FIRST;
+use heap_trail::PinAt;
 use std::sync::Wait;
 use std::test::*;
 use std::thread::Threads;

@@ -1,8 +1,9 @@
 //! A chronicle that drops its oldest entries, and audits of receipts whose entries it dropped.
 use super::scenes::{Scene, Stage, play_scene};
 use super::shared::did;
-use heap_lock::{Heap, Kept, Outcome, Receipt, Seat, Shared, Verdict, audit};
-use heap_scripts::{Action, Answer, Event};
+use heap_lock::{
+    Action, Answer, Event, Heap, Kept, Outcome, Receipt, Seat, Shared, Verdict, audit,
+};
 use std::sync::Wait;
 use std::test::*;
 use std::thread::Threads;

@@ -2,8 +2,8 @@
 ghost use Rattle.std.specs.Prelude.{◌≡◌};
 
 use dump_pump::{Pumped, WriteOutlet, pump};
-use heap_lock::{Heap, LockedSource, Receipt, Role, Seat, Shared};
-use heap_scripts::{Action, Event, new, point};
+use heap_lock::{Action, Event, Heap, LockedSource, Receipt, Role, Seat, Shared};
+use heap_scripts::{new, point};
 use live_dump::{LivePin, StreamSeats, stream};
 use std::alloc::Global;
 use std::io::Write;

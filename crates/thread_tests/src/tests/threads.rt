@@ -2,8 +2,7 @@
 use super::scenes::{Five, Scene, Stage, play_scene};
 use super::shared::did;
 use heap_class::Kind;
-use heap_lock::{Heap, Kept, Receipt, Role, Seat, Shared, Verdict, audit};
-use heap_scripts::{Action, Event};
+use heap_lock::{Action, Event, Heap, Kept, Receipt, Role, Seat, Shared, Verdict, audit};
 use std::alloc::Global;
 use std::sync::Wait;
 use std::test::*;

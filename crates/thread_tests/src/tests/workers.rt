@@ -4,8 +4,10 @@ ghost use Rattle.std.specs.Prelude.{◌<◌, ◌≤◌};
 use super::scenes::{Five, Scene, Stage, play_scene};
 use super::shared::acts;
 use heap_class::Refusal;
-use heap_lock::{Heap, Outcome, Receipt, Role, Seat, Shared, Verdict, audit};
-use heap_scripts::{Action, Answer, Event, new, node};
+use heap_lock::{
+    Action, Answer, Event, Heap, Outcome, Receipt, Role, Seat, Shared, Verdict, audit,
+};
+use heap_scripts::{new, node};
 use heap_work::{Gate, MarkEnd, Open, SweepEnd, mark_worker, sweep_worker};
 use std::alloc::Global;
 use std::sync::Wait;

@@ -11,3 +11,11 @@ pub mod NamedObjects
 pub mod RankedRows
 pub mod SearchOrder
 pub mod PathOrder
+pub mod ToldObjects
+pub mod Writes
+pub mod Walk
+pub mod Sizes
+pub mod ImagePaths
+pub mod UnreachedObjects
+pub mod PastIds
+pub mod PastLosses

@@ -6,3 +6,6 @@ pub mod Search
 pub mod Garbage
 pub mod Registers
 pub mod Ranking
+pub mod Changes
+pub mod Newest
+pub mod Losses

@@ -1,4 +1,4 @@
-//! Exact answers about the heap that a view shows: of the current state, or of a pin.
+//! Exact answers about the heap that a view shows, of the current state or of a pin, and about the past that a machine retains.
 #![tactic(auto)]
 
 mod garbage;
@@ -7,6 +7,7 @@ mod index;
 mod nodes;
 mod objects;
 mod order;
+mod past;
 mod paths;
 mod references;
 mod registers;
@@ -18,6 +19,9 @@ pub use growth::{Change, compare};
 pub use index::ObjectIndex;
 pub use objects::{ShownObject, object_with, slot_kind};
 pub use order::ranking;
+pub use past::{
+    Loss, PastEvent, PastStep, birth, history, last_write, loss_of, path_is_reach, unreached_stays,
+};
 pub use paths::{Path, shortest_path};
 pub use references::{Referrer, referrers};
 pub use registers::{NamedObject, named_by_registers};

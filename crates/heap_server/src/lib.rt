@@ -15,10 +15,10 @@ pub mod tending;
 pub use asking::AskingSeat;
 pub use client::{Asked, ask};
 pub use copy::{Copied, copy_all};
-pub use dump_server::DumpListener;
 pub use heap_lock::{Blank, Refusal};
 pub use joined::Joined;
 pub use laws::served_dumps_are_text;
+pub use live_dump::DumpListener;
 pub use report::{tell_sessions, word};
 pub use sessions::{
     Ports, Served, ServedHeap, ServicePlan, Terms, serve_clients, serve_heap, users,

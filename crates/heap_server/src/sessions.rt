@@ -8,8 +8,8 @@ ghost use Rattle.heap_server.specs.SessionSeats.{AreUsers, IsFor, IsOver, sessio
 use crate::asking::AskingSeat;
 use crate::joined::Joined;
 use dump_pump::WriteOutlet;
-use dump_server::{DumpListener, tend_dumps};
 use heap_lock::{Blank, Config, Heap, Refusal, Role, Seat, Seats, Shared};
+use live_dump::{DumpListener, tend_dumps};
 use session_text::{Ended, ReadInlet, serve};
 use std::alloc::{AllocError, Global};
 use std::marker::Brand;

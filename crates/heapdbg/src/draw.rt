@@ -7,7 +7,7 @@ use crate::failure::{Fault, outcome};
 use crate::opening::open_local;
 use crate::request::Request;
 use dump_pump::{Outlet, WriteOutlet};
-use region_picture::picture_of;
+use heap_console::picture_of;
 use session_text::{Inlet, Machine, serve_local, write_all};
 use std::alloc::Global;
 use std::fs;

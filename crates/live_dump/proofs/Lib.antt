@@ -1,3 +1,4 @@
 pub mod SupplySteps
 pub mod ToldStreams
 pub mod LiveTexts
+pub mod SentDumps

@@ -1,5 +1,7 @@
 pub mod Supplies
 pub mod Streams
 pub mod StreamTexts
+pub mod Dumps
+pub mod Words
 -- What clauses here, and proofs above, cite of the crates below.
 pub use Rattle.dump_pipe.specs.Seats

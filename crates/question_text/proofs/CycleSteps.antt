@@ -14,7 +14,7 @@ use Rattle.heap_world.specs.State.{HeapState, pool_of}
 use Rattle.heap_world.specs.Sweep.{dead_at}
 use Rattle.heap_world.proofs.SweptCells.{dead_in, dead_one, dead_pairs, table_few}
 use Rattle.heap_pins.proofs.LiveCounts.{length-filter_map}
-use Rattle.heap_past.proofs.Sizes.{table_of}
+use Rattle.heap_questions.proofs.Sizes.{table_of}
 use Rattle.heap_step.specs.Apply.{answer_of, applied, applied_unless, refusal_of, state_after}
 use Rattle.heap_step.specs.declared.Answer.{Answer}
 use Rattle.heap_step.specs.declared.Event.{Event}

@@ -7,7 +7,7 @@ use Rattle.std.proofs.lemmas.Option.{slice_get_cases}
 use Rattle.heap_class.specs.declared.ObjRef.{ObjRef}
 use Rattle.heap_world.specs.Regions.{Object, object_at, object_of, ref_of}
 use Rattle.heap_world.specs.State.{HeapState}
-use Rattle.heap_past.specs.Changes.{slot_word}
+use Rattle.heap_questions.specs.Changes.{slot_word}
 use Rattle.question_text.specs.Objects.{is_marked}
 use Rattle.question_text.specs.Places.{StandsAt}
 

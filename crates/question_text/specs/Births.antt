@@ -2,7 +2,7 @@
 use Rattle.std.specs.Prelude.{ℕ, List}
 use Rattle.heap_class.specs.declared.ObjRef.{ObjRef}
 use Rattle.heap_trail.specs.Trail.{Trail}
-use Rattle.heap_past.specs.Changes.{IsBirth, IsOld}
+use Rattle.heap_questions.specs.Changes.{IsBirth, IsOld}
 use Rattle.question_text.specs.Places.{IsAboutObject, IsPlaceText}
 
 -- the place of the step that made the object at a place

@@ -1,10 +1,10 @@
 -- The text of `history`.
 use Rattle.std.specs.Prelude.{◌≡◌, ℕ, List, ◌++◌, codes, flat_map, length}
 use Rattle.heap_trail.specs.Trail.{Trail}
-use Rattle.heap_past.specs.declared.events.PastEvent.{PastEvent}
-use Rattle.heap_past.specs.declared.events.PastEvent.TheVariants.{Put, Store, Register, New, Class, Snap, Mark, Drain, Finish, Sweep, Reclaim}
-use Rattle.heap_past.specs.declared.steps.PastStep.{PastStep}
-use Rattle.heap_past.specs.Newest.{AreNewest}
+use Rattle.heap_questions.specs.declared.past.events.PastEvent.{PastEvent}
+use Rattle.heap_questions.specs.declared.past.events.PastEvent.TheVariants.{Put, Store, Register, New, Class, Snap, Mark, Drain, Finish, Sweep, Reclaim}
+use Rattle.heap_questions.specs.declared.past.steps.PastStep.{PastStep}
+use Rattle.heap_questions.specs.Newest.{AreNewest}
 use Rattle.session_text.specs.Replies.{and_number, line}
 use Rattle.question_text.specs.Ids.{and_id, and_reference}
 use Rattle.question_text.specs.Places.{IsTextOrNoMemory}

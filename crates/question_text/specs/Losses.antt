@@ -2,9 +2,9 @@
 use Rattle.std.specs.Prelude.{◌≡◌, ℕ, List, codes}
 use Rattle.heap_class.specs.declared.ObjRef.{ObjRef}
 use Rattle.heap_trail.specs.Trail.{Trail}
-use Rattle.heap_past.specs.declared.losses.Loss.{Loss}
-use Rattle.heap_past.specs.declared.losses.Loss.TheVariants.{Reached, At, Older}
-use Rattle.heap_past.specs.Losses.{IsLossOf}
+use Rattle.heap_questions.specs.declared.past.losses.Loss.{Loss}
+use Rattle.heap_questions.specs.declared.past.losses.Loss.TheVariants.{Reached, At, Older}
+use Rattle.heap_questions.specs.Losses.{IsLossOf}
 use Rattle.question_text.specs.Places.{IsAboutObject, IsTextOrNoMemory, older_text, place_text}
 
 -- the line of a loss

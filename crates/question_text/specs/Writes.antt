@@ -3,7 +3,7 @@ use Rattle.std.specs.Prelude.{◌≡◌, ◌⊎◌, ℕ, List, None, IsSome}
 use Rattle.heap_class.specs.declared.ObjRef.{ObjRef}
 use Rattle.heap_class.specs.declared.Refusal.TheVariants.{BadSlot}
 use Rattle.heap_trail.specs.Trail.{Trail}
-use Rattle.heap_past.specs.Changes.{IsLastWrite, IsUnwritten, slot_word}
+use Rattle.heap_questions.specs.Changes.{IsLastWrite, IsUnwritten, slot_word}
 use Rattle.question_text.specs.Moments.{refused_text}
 use Rattle.question_text.specs.Places.{IsAboutObject, IsPlaceText}
 

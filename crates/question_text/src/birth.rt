@@ -7,7 +7,7 @@ ghost use Rattle.question_text.specs.Births.{IsBirthText, IsBornText};
 use crate::place::{older_line, place_line, place_of_object};
 use crate::rows::{Unanswered, reason_line};
 use heap_class::ObjRef;
-use heap_past::birth;
+use heap_questions::birth;
 use heap_trail::Machine;
 use session_text::LineAnswer;
 

@@ -9,7 +9,7 @@ ghost use Rattle.session_text.specs.Replies.{and_number};
 use crate::id::{push_id, push_reference};
 use crate::rows::{Lined, Unanswered, counted_lines, push_number, push_row, push_words};
 use heap_class::Refusal;
-use heap_past::{PastEvent, PastStep, history};
+use heap_questions::{PastEvent, PastStep, history};
 use heap_trail::Machine;
 use std::alloc::Global;
 

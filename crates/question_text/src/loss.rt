@@ -8,7 +8,7 @@ ghost use Rattle.question_text.specs.Places.{IsTextOrNoMemory};
 use crate::place::{older_line, place_line, place_of_object};
 use crate::rows::{Unanswered, reason_line};
 use heap_class::ObjRef;
-use heap_past::{Loss, loss_of};
+use heap_questions::{Loss, loss_of};
 use heap_trail::Machine;
 use session_text::LineAnswer;
 use std::alloc::Global;

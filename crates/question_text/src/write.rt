@@ -2,14 +2,14 @@
 ghost use Rattle.std.specs.Prelude.{◌≡◌, IsSome};
 ghost use Rattle.std.specs.Option.{is_some};
 ghost use Rattle.heap_world.specs.Regions.{object_at};
-ghost use Rattle.heap_past.specs.Changes.{slot_word};
+ghost use Rattle.heap_questions.specs.Changes.{slot_word};
 ghost use Rattle.session_text.specs.Replies.{line_answer_text};
 ghost use Rattle.question_text.specs.Writes.{IsSlotText, IsWriteText, IsWroteText};
 
 use crate::place::{older_line, place_line, place_of_object};
 use crate::rows::{Unanswered, reason_line};
 use heap_class::{ObjRef, Refusal};
-use heap_past::last_write;
+use heap_questions::last_write;
 use heap_trail::Machine;
 use session_text::LineAnswer;
 

@@ -1,2 +1,0 @@
-pub mod Dumps
-pub mod Words

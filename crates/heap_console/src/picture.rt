@@ -1,0 +1,173 @@
+//! A picture of the current state of a machine.
+mod cells;
+mod colors;
+mod legend;
+mod text;
+
+use crate::picture::cells::{
+    CellSort, LEFT, add_all_cells, add_gray, add_path_begin, add_path_end, middle_of,
+};
+use crate::picture::colors::{COLORS, OTHER, Palette};
+use crate::picture::legend::{ColoredRow, LEGEND_STEP, OTHER_LINES, add_row, add_strokes};
+use crate::picture::text::{add, add_number, add_text_at};
+use heap_class::{FirstClasses, Refusal};
+use heap_questions::{CLASS_ROWS, Row, count_by_class, ranking};
+use heap_region::Regions;
+use heap_trail::Machine;
+use hprof_text::View;
+use std::alloc::{AllocError, Global};
+
+// The width of a picture: a margin, and a pixel for each word of a region.
+const WIDTH: u64 = 1_104;
+
+// The pattern of the cells of dead objects.
+const PATTERN: &[u8] =
+    b"<defs><pattern id=\"dead\" width=\"4\" height=\"4\" patternUnits=\"userSpaceOnUse\">\
+    <path d=\"M0 4L4 0\" stroke=\"#000\" stroke-width=\"1\"/></pattern></defs>\n";
+
+// Appends the beginning of a picture of this height.
+fn add_head(text: &mut Vec<u8>, height: u64) -> Result<(), AllocError> {
+    add(text, b"<svg xmlns=\"http://www.w3.org/2000/svg\" width=\"")?;
+    add_number(text, WIDTH)?;
+    add(text, b"\" height=\"")?;
+    add_number(text, height)?;
+    add(text, b"\" font-family=\"monospace\" font-size=\"11\">\n")?;
+    add(
+        text,
+        b"<rect width=\"100%\" height=\"100%\" fill=\"#fff\"/>\n",
+    )?;
+    add(text, PATTERN)
+}
+
+// Appends the line above the regions: the place, and all rows of the histogram together.
+fn add_title(text: &mut Vec<u8>, place: u64, rows: &[Row]) -> Result<(), AllocError> {
+    let mut objects: u64 = 0;
+    let mut bytes: u64 = 0;
+    for row in rows {
+        objects = objects.saturating_add(row.objects);
+        bytes = bytes.saturating_add(row.bytes);
+    }
+    add_text_at(text, LEFT, 20)?;
+    add(text, b"place ")?;
+    add_number(text, place)?;
+    add(text, b": ")?;
+    add_number(text, objects)?;
+    add(text, b" live objects, ")?;
+    add_number(text, bytes)?;
+    add(text, b" bytes</text>\n")
+}
+
+// Appends the number of each region beside its row.
+fn add_labels(text: &mut Vec<u8>, regions: &Regions) -> Result<(), AllocError> {
+    for region in 0..regions.count() {
+        add_text_at(text, 8, middle_of(region).saturating_add(4))?;
+        add_number(text, region)?;
+        add(text, b"</text>\n")?;
+    }
+    Ok(())
+}
+
+// Appends a path of the cells of this sort.
+fn add_sort(
+    text: &mut Vec<u8>,
+    regions: &Regions,
+    palette: &Palette,
+    sort: CellSort,
+    color: &[u8],
+    width: &[u8],
+) -> Result<(), AllocError> {
+    add_path_begin(text, color, width)?;
+    add_all_cells(text, regions, palette, sort)?;
+    add_path_end(text)
+}
+
+// Appends the cells of all regions.
+fn add_regions(
+    text: &mut Vec<u8>,
+    regions: &Regions,
+    gray: &[u64],
+    palette: &Palette,
+) -> Result<(), AllocError> {
+    add_labels(text, regions)?;
+    add_sort(text, regions, palette, CellSort::Free, b"#eeeeee", b"9")?;
+    for color in 0..COLORS.len() {
+        add_sort(
+            text,
+            regions,
+            palette,
+            CellSort::Colored(color),
+            COLORS[color],
+            b"9",
+        )?;
+    }
+    add_sort(text, regions, palette, CellSort::Dead, b"url(#dead)", b"9")?;
+    add_sort(text, regions, palette, CellSort::Marked, b"#000000", b"2")?;
+    add_path_begin(text, b"#e00000", b"2")?;
+    add_gray(text, regions, gray)?;
+    add_path_end(text)
+}
+
+// Appends the lines of the rows that have a colour of their own, the first at this height.
+fn add_rows(
+    alloc: Global,
+    text: &mut Vec<u8>,
+    y: u64,
+    classes: &FirstClasses<'_>,
+    rows: &[Row],
+    ranked: &[usize],
+) -> Result<(), Refusal> {
+    let count = rows.len().min(CLASS_ROWS + classes.len() as usize);
+    let mut y = y;
+    let mut color = 0;
+    for index in ranked {
+        if color < OTHER && *index < count {
+            let row = rows[*index];
+            let colored = ColoredRow {
+                index: *index,
+                color,
+                row,
+            };
+            add_row(alloc, text, y, classes, colored)?;
+            color += 1;
+            y = y.saturating_add(LEGEND_STEP);
+        }
+    }
+    Ok(())
+}
+
+// Returns the number of lines that the legend has for classes.
+fn class_lines(ranked: &[usize]) -> u64 {
+    ranked.len().min(OTHER) as u64
+}
+
+/// Returns a picture of the current state of a machine, as SVG: a row for each region and a pixel for each word, the cells in the
+/// colours of the twelve classes with the most bytes, with dead, marked and gray objects shown, and a legend with the numbers of
+/// the histogram. Fails with NoMemory if an allocation fails. Looks at each cell some twenty times.
+pub fn picture_of(alloc: Global, machine: &Machine) -> Result<Vec<u8>, Refusal> {
+    let pin = machine.pin_ago(0)?;
+    let view = machine.view(&pin);
+    let histogram = count_by_class(alloc, &view)?;
+    let ranked = ranking(alloc, &histogram)?;
+    let rows = histogram.as_slice();
+    let palette = Palette::new(alloc, rows.len(), ranked.as_slice())?;
+    let world = machine.world();
+    let regions = world.regions();
+    let legend = middle_of(regions.count()).saturating_add(LEGEND_STEP);
+    let behind = legend.saturating_add(LEGEND_STEP.saturating_mul(class_lines(ranked.as_slice())));
+    let height = behind.saturating_add(LEGEND_STEP.saturating_mul(OTHER_LINES));
+    let mut text = Vec::new(alloc);
+    add_head(&mut text, height)?;
+    add_title(&mut text, machine.place(), rows)?;
+    add_regions(&mut text, regions, world.gray(), &palette)?;
+    add_rows(
+        alloc,
+        &mut text,
+        legend,
+        &view.classes(),
+        rows,
+        ranked.as_slice(),
+    )?;
+    add_strokes(&mut text, behind)?;
+    add(&mut text, b"</svg>\n")?;
+    Ok(text)
+}

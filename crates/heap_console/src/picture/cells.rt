@@ -1,0 +1,135 @@
+//! The cells of a heap, as strokes of a picture: a row for each region, and a pixel for each word.
+use crate::picture::colors::Palette;
+use crate::picture::text::{add, add_stroke};
+use heap_class::ObjRef;
+use heap_region::Regions;
+use std::alloc::AllocError;
+
+// The left end of each row, and the height of the first row's middle.
+pub(crate) const LEFT: u64 = 40;
+
+const TOP: u64 = 40;
+
+// The distance of two rows.
+pub(crate) const STEP: u64 = 12;
+
+// The cells that a stroke is for.
+#[derive(Clone, Copy, PartialEq, Eq)]
+pub(crate) enum CellSort {
+    // The free cells.
+    Free,
+    // The cells whose objects have the colour of this number.
+    Colored(usize),
+    // The cells whose objects are dead, and wait to be swept.
+    Dead,
+    // The cells whose objects are marked.
+    Marked,
+}
+
+impl CellSort {
+    // Tells whether a cell is of this sort.
+    fn has(self, regions: &Regions, palette: &Palette, at: ObjRef) -> bool {
+        if !regions.has_object(at) {
+            return self == CellSort::Free;
+        }
+        let (live, mark) = regions.bits(at);
+        match self {
+            CellSort::Free => false,
+            CellSort::Colored(color) => palette.color_of(regions.kind(at)) == color,
+            CellSort::Dead => !live,
+            CellSort::Marked => live && mark,
+        }
+    }
+
+    // Returns how far below the middle of its row a stroke for these cells runs.
+    fn drop_below(self) -> u64 {
+        match self {
+            CellSort::Free | CellSort::Colored(_) | CellSort::Dead => 0,
+            CellSort::Marked => 4,
+        }
+    }
+}
+
+// Returns the height of the middle of a region's row.
+pub(crate) fn middle_of(region: u64) -> u64 {
+    TOP.saturating_add(STEP.saturating_mul(region))
+}
+
+// Appends the strokes of a region's cells that are of this sort.
+fn add_cells(
+    text: &mut Vec<u8>,
+    regions: &Regions,
+    palette: &Palette,
+    sort: CellSort,
+    region: u64,
+) -> Result<(), AllocError> {
+    let Some(size) = regions.cell_size(region) else {
+        return Ok(());
+    };
+    let y = middle_of(region).saturating_add(sort.drop_below());
+    let number = regions.region_number(region);
+    for cell in 0..regions.cell_count(region) {
+        let at = ObjRef {
+            region: number,
+            cell,
+        };
+        if sort.has(regions, palette, at) {
+            let x = LEFT.saturating_add(size.saturating_mul(cell as u64));
+            add_stroke(text, x, y, size.saturating_sub(1))?;
+        }
+    }
+    Ok(())
+}
+
+// Appends the strokes of all cells that are of this sort.
+pub(crate) fn add_all_cells(
+    text: &mut Vec<u8>,
+    regions: &Regions,
+    palette: &Palette,
+    sort: CellSort,
+) -> Result<(), AllocError> {
+    for region in 0..regions.count() {
+        add_cells(text, regions, palette, sort, region)?;
+    }
+    Ok(())
+}
+
+// Appends the strokes of the cells whose objects are gray.
+pub(crate) fn add_gray(
+    text: &mut Vec<u8>,
+    regions: &Regions,
+    gray: &[u64],
+) -> Result<(), AllocError> {
+    for id in gray {
+        if let Some(at) = regions.find(*id) {
+            let region = at.region as u64;
+            let size = regions.cell_size(region).unwrap_or(1);
+            let x = LEFT.saturating_add(size.saturating_mul(at.cell as u64));
+            add_stroke(
+                text,
+                x,
+                middle_of(region).saturating_sub(4),
+                size.saturating_sub(1),
+            )?;
+        }
+    }
+    Ok(())
+}
+
+// Appends the beginning of a path in this colour and width.
+pub(crate) fn add_path_begin(
+    text: &mut Vec<u8>,
+    color: &[u8],
+    width: &[u8],
+) -> Result<(), AllocError> {
+    add(text, b"<path stroke=\"")?;
+    add(text, color)?;
+    add(text, b"\" stroke-width=\"")?;
+    add(text, width)?;
+    add(text, b"\" d=\"")
+}
+
+// Appends the end of a path.
+pub(crate) fn add_path_end(text: &mut Vec<u8>) -> Result<(), AllocError> {
+    add(text, b"\"/>\n")
+}

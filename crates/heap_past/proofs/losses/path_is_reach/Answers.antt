@@ -1,5 +1,0 @@
-use Rattle.heap_past.proofs.ImagePaths.{path_is_reach}
-use Rattle.heap_past.proofs.losses.path_is_reach.Goals as goal
-
-pub returns : goal.returns
-returns c = path_is_reach

@@ -1,0 +1,10 @@
+//! Exact answers about the past that a machine retains. Most are a walk over its records, the newest first.
+mod changes;
+mod events;
+mod losses;
+mod steps;
+
+pub use changes::{birth, last_write};
+pub use events::PastEvent;
+pub use losses::{Loss, loss_of, path_is_reach, unreached_stays};
+pub use steps::{PastStep, history};

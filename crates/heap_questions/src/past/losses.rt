@@ -1,0 +1,115 @@
+//! When registers lost an object.
+ghost use Rattle.std.specs.Prelude.{◌≡◌, ◌↔◌, ◌≤◌, ℕ, IsSome, IsTrue, IfOk, IfErr};
+ghost use Rattle.heap_class.specs.declared.Refusal.TheVariants.{NoMemory};
+ghost use Rattle.heap_region.specs.Regions.{object_at};
+ghost use Rattle.heap_step.specs.declared.Event.{Event};
+ghost use Rattle.heap_world.specs.Reach.{Reaches};
+ghost use Rattle.heap_world.specs.State.{HeapState};
+ghost use Rattle.heap_trail.specs.Trail.{retained, state_ago};
+ghost use Rattle.heap_questions.specs.Losses.{HasStood, IsLossOf, IsNewest, PathIsReach, StaysUnreached};
+
+use crate::past::changes::birth;
+use crate::paths::shortest_path;
+use heap_class::{ObjRef, Refusal};
+use heap_trail::Machine;
+use std::alloc::Global;
+
+/// Whether registers reach an object, or when they lost it.
+#[derive(Clone, Copy, PartialEq, Eq, Debug)]
+pub enum Loss {
+    /// A register reaches the object.
+    Reached,
+    /// No register has reached the object since the step that led to this place.
+    At(u64),
+    /// No register reached the object in any retained state in which it stood.
+    Older,
+}
+
+/// States that the image of a legal state has a path to an id exactly if a register reaches it.
+pub fn path_is_reach()
+    ensures { (w : HeapState) (x : ℕ) → PathIsReach w x }
+{}
+
+/// States that an object that no register reaches isn't reached after any event that a legal heap accepts.
+pub fn unreached_stays()
+    ensures { (e : Event) (w : HeapState) → StaysUnreached e w }
+{}
+
+// Tells whether a register reached the object with this id `n` steps ago. Fails with NoMemory.
+fn was_reached(alloc: Global, machine: &Machine, id: u64, n: u64) -> Result<bool, Refusal>
+    requires { n ≤ retained machine.now.trail }
+    ensures told { IfOk result (λ b. IsTrue b ↔ Reaches (state_ago n machine.now.trail) id) }
+    ensures refused { IfErr result (λ e. e ≡ NoMemory) }
+{
+    // Its contract says that the retained states are legal.
+    let _place = machine.place();
+    let pin = machine.pin_ago(n)?;
+    let path = shortest_path(alloc, &machine.view(&pin), id)?;
+    Ok(path.is_some())
+}
+
+// Returns how many steps ago the oldest retained state was since which the object at `at` has stood there.
+fn oldest_state(machine: &Machine, at: ObjRef) -> u64
+    requires { IsSome (object_at machine.now.trail.current.regions at) }
+    ensures { HasStood machine.now.trail at result }
+{
+    let now = machine.place();
+    match birth(machine, at) {
+        Some(place) => now - place,
+        None => machine.retained_count(),
+    }
+}
+
+// Returns how many steps ago the newest state was in which a register reached the object at `at`, which has stood there since
+// `oldest` steps ago, or None if no register has reached it since then. Halves the states, since an object that isn't reached is
+// never reached again. Fails with NoMemory.
+fn newest_reached(
+    alloc: Global,
+    machine: &Machine,
+    at: ObjRef,
+    oldest: u64,
+) -> Result<Option<u64>, Refusal>
+    requires { HasStood machine.now.trail at oldest }
+    ensures newest { IfOk result (λ newest. IsNewest machine.now.trail at oldest newest) }
+    ensures refused { IfErr result (λ e. e ≡ NoMemory) }
+{
+    // Its contract says that each retained state came from the one before it.
+    let _place = machine.place();
+    let id = machine.world().regions().id(at);
+    let mut newest = None;
+    let mut low = 0;
+    let mut last = oldest;
+    loop {
+        let middle = low + (last - low) / 2;
+        if was_reached(alloc, machine, id, middle)? {
+            newest = Some(middle);
+            if middle == low {
+                return Ok(newest);
+            }
+            last = middle - 1;
+        } else {
+            if middle == last {
+                return Ok(newest);
+            }
+            low = middle + 1;
+        }
+    }
+}
+
+/// Tells whether a register reaches the object at `at`, or which retained step took the last path from it. Fails with NoMemory
+/// if an allocation fails. Searches the heap once for each halving of the retained states: 17 times for 65,536 steps.
+pub fn loss_of(alloc: Global, machine: &Machine, at: ObjRef) -> Result<Loss, Refusal>
+    requires { IsSome (object_at machine.now.trail.current.regions at) }
+    ensures loss { IfOk result (λ loss. IsLossOf machine.now.trail at loss) }
+    ensures refused { IfErr result (λ e. e ≡ NoMemory) }
+{
+    let oldest = oldest_state(machine, at);
+    let newest = newest_reached(alloc, machine, at, oldest)?;
+    let Some(ago) = newest else {
+        return Ok(Loss::Older);
+    };
+    if ago == 0 {
+        return Ok(Loss::Reached);
+    }
+    Ok(Loss::At(machine.place() - (ago - 1)))
+}

@@ -1,0 +1,134 @@
+//! The newest retained steps.
+ghost use Rattle.std.specs.Prelude.{◌≡◌, ◌<◌, ◌≤◌, ℕ, length, option_map, Some, All, IfOk, IfErr, unwrap_or};
+ghost use Rattle.heap_class.specs.declared.ObjRef.{ObjRef};
+ghost use Rattle.heap_class.specs.declared.Refusal.TheVariants.{NoMemory};
+ghost use Rattle.heap_region.specs.Limits.{region_words};
+ghost use Rattle.heap_region.specs.Regions.{UsedRegion, used_at};
+ghost use Rattle.heap_step.specs.declared.Undo.TheVariants.{Reclaim};
+ghost use Rattle.heap_world.specs.Legal.{IsLegal};
+ghost use Rattle.heap_questions.specs.Newest.{AreNewest, AreCellSizes, event_with, id_by, storage_cell_size, sizes_before, written_at};
+
+use crate::past::events::{PastEvent, event_with};
+use heap_class::{ObjRef, Refusal};
+use heap_region::{OBJECT_BASE, REGION_WORDS, Storage};
+use heap_step::Undo;
+use heap_trail::Machine;
+use heap_world::World;
+use std::alloc::Global;
+
+/// A retained step: the place that it led to, and what it did.
+#[derive(Clone, Copy, PartialEq, Eq, Debug)]
+pub struct PastStep {
+    pub place: u64,
+    pub event: PastEvent,
+}
+
+// Returns the size of a region's cells.
+fn size_of(storage: &Storage) -> u64
+    requires { 0 < length storage.now.cells }
+    ensures value { result ≡ storage_cell_size storage.now }
+    ensures limit { result ≤ region_words }
+{
+    REGION_WORDS / storage.cells()
+}
+
+// Returns the size of the cells of a region, or 0 if it is empty.
+fn size_at(world: &World, region: u64) -> u64
+    requires { IsLegal world.now }
+    ensures value { (u : UsedRegion) → used_at world.now.regions region ≡ Some u
+        → result ≡ u.cell_size }
+    ensures limit { result ≤ region_words }
+{
+    match world.regions().region(region) {
+        Some(storage) => size_of(storage),
+        None => 0,
+    }
+}
+
+// Returns the sizes of the cells of all regions. Fails with NoMemory.
+fn sizes_now(alloc: Global, world: &World) -> Result<Vec<u64>, Refusal>
+    requires { IsLegal world.now }
+    ensures sizes { IfOk result (λ sizes. AreCellSizes world.now sizes.items) }
+    ensures refused { IfErr result (λ e. e ≡ NoMemory) }
+{
+    let count = world.regions().count();
+    let mut sizes = Vec::with_capacity(alloc, count as usize)?;
+    for region in 0..count {
+        sizes.push(size_at(world, region))?;
+    }
+    Ok(sizes)
+}
+
+// Returns the id of the object at a place, by the size of its region's cells.
+fn id_by(sizes: &[u64], at: ObjRef) -> u64
+    requires within { at.region < length sizes.now }
+    requires small { All (λ s. s ≤ region_words) sizes.now }
+    ensures { result ≡ id_by sizes.now at }
+{
+    let size = sizes[at.region as usize];
+    OBJECT_BASE + 8 * (REGION_WORDS * at.region as u64 + at.cell as u64 * size)
+}
+
+// Returns the place of the object that the step with this record wrote or created, if it did.
+fn written_at(left: &Undo) -> Option<ObjRef>
+    ensures { result ≡ written_at left.now }
+{
+    match left {
+        Undo::Put { at, .. } | Undo::Store { at, .. } | Undo::New { at, .. } => Some(*at),
+        _ => None,
+    }
+}
+
+// Returns the id of the object that the step with this record wrote or created, if it did.
+fn object_of(left: &Undo, sizes: &[u64]) -> Option<u64>
+    requires within { (at : ObjRef) → written_at left.now ≡ Some at → at.region < length sizes.now }
+    requires small { All (λ s. s ≤ region_words) sizes.now }
+    ensures { result ≡ option_map (id_by sizes.now) (written_at left.now) }
+{
+    match written_at(left) {
+        Some(at) => Some(id_by(sizes, at)),
+        None => None,
+    }
+}
+
+// Returns what the step with this record did.
+fn event_by(left: &Undo, sizes: &[u64]) -> PastEvent
+    requires within { (at : ObjRef) → written_at left.now ≡ Some at → at.region < length sizes.now }
+    requires small { All (λ s. s ≤ region_words) sizes.now }
+    ensures { result
+        ≡ event_with left.now (unwrap_or (option_map (id_by sizes.now) (written_at left.now)) 0) }
+{
+    event_with(left, object_of(left, sizes).unwrap_or(0))
+}
+
+// Makes the sizes those before the step with this record.
+fn undo_size(left: &Undo, sizes: &mut Vec<u64>)
+    requires { (r : ℕ) (u : UsedRegion) → left.now ≡ Reclaim r u
+        → (r < length sizes.old.items) × (0 < length u.cells) }
+    ensures { sizes.new.items ≡ sizes_before left.now sizes.old.items }
+{
+    if let Undo::Reclaim { region, storage } = left {
+        sizes[*region as usize] = size_of(storage);
+    }
+}
+
+/// Returns the newest `count` retained steps, or all if fewer are retained, the newest first. Fails with NoMemory if an
+/// allocation fails. Reads each record once.
+pub fn history(alloc: Global, machine: &Machine, count: u64) -> Result<Vec<PastStep>, Refusal>
+    ensures steps { IfOk result (λ steps. AreNewest machine.now.trail count steps.items) }
+    ensures refused { IfErr result (λ e. e ≡ NoMemory) }
+{
+    let world = machine.world();
+    let mut sizes = sizes_now(alloc, world)?;
+    let count = count.min(machine.retained_count());
+    let mut steps = Vec::with_capacity(alloc, count as usize)?;
+    for n in 0..count {
+        let left = machine.record_ago(n);
+        steps.push(PastStep {
+            place: machine.place() - n,
+            event: event_by(left, sizes.as_slice()),
+        })?;
+        undo_size(left, &mut sizes);
+    }
+    Ok(steps)
+}

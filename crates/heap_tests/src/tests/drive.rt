@@ -47,10 +47,15 @@ fn driven(machine: &mut Machine, actions: &[Action]) -> Option<(bool, u64, u64)>
     ))
 }
 
+// Drives a machine with a node through the actions of a dump.
+fn node_driven(alloc: Global) -> Result<Option<(bool, u64, u64)>, Fail> {
+    let actions = actions_of_dump(alloc)?;
+    let mut machine = with_node(alloc)?;
+    Ok(driven(&mut machine, &actions))
+}
+
 #[test]
 fn lists_are_driven(rt: HostRuntime) -> Result<(), Fail> {
-    let mut machine = with_node(rt.alloc())?;
-    let actions = actions_of_dump(rt.alloc())?;
-    assert_eq!(rt; driven(&mut machine, &actions), Some((true, 3, 2)));
+    assert_eq!(rt; node_driven(rt.alloc())?, Some((true, 3, 2)));
     Ok(())
 }

@@ -30,19 +30,31 @@ pub fn settings(regions: u64, mutators: u64, keep: u64) -> Result<Config, Fail> 
     Ok(Config::new(regions, mutators, keep).ok_or("settings out of range")?)
 }
 
+// Defines the class of nodes and applies events, all of which have to be accepted.
+fn apply_after_node(world: &mut World, alloc: Global, events: &[Event]) -> Result<(), Fail> {
+    let class = node(alloc)?;
+    apply(world, &class)?;
+    apply_all(world, events)
+}
+
 /// Creates a heap, defines the class of nodes, and applies events.
 pub fn heap_after(alloc: Global, config: Config, events: &[Event]) -> Result<World, Fail> {
     let mut world = World::new(alloc, config)?;
-    apply_all(&mut world, &[node(alloc)?])?;
-    apply_all(&mut world, events)?;
+    apply_after_node(&mut world, alloc, events)?;
     Ok(world)
+}
+
+// Takes the class of nodes as a step, and then events, all of which have to be accepted.
+fn take_after_node(machine: &mut Machine, alloc: Global, events: &[Event]) -> Result<(), Fail> {
+    let class = node(alloc)?;
+    machine.step(&class)?;
+    take(machine, events)
 }
 
 /// Creates a machine that takes the class of nodes as its first step, and then events.
 pub fn machine_after(alloc: Global, config: Config, events: &[Event]) -> Result<Machine, Fail> {
     let mut machine = Machine::new(alloc, config)?;
-    take(&mut machine, &[node(alloc)?])?;
-    take(&mut machine, events)?;
+    take_after_node(&mut machine, alloc, events)?;
     Ok(machine)
 }
 

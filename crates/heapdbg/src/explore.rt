@@ -1,5 +1,7 @@
 //! A session with questions.
 ghost use Rattle.std.specs.Prelude.{◌≡◌, true, IfErr, IfOk};
+ghost use Rattle.heap_console.specs.Loads.{IsLoaded};
+ghost use Rattle.session_text.specs.declared.Ended.{Ended};
 ghost use Rattle.heapdbg_options.specs.CommandLine.{IsHeapWithin};
 ghost use Rattle.heapdbg.specs.Explorations.{IsSessionBegun, IsExplored, IsHindrance, IsOpening};
 
@@ -51,11 +53,15 @@ fn begin<'a, R: AllocGlobal + Eprint + Files>(
     ensures begun { IfOk result (IsSessionBegun from request.entry.settings) }
     ensures hindrance { IfErr result (IsHindrance from) }
 {
-    let asking = open(rt.alloc(), &request.settings, watch)?;
-    if from {
-        load(rt, request, asking)
+    let mut asking = open(rt.alloc(), &request.settings, watch)?;
+    let loaded = if from {
+        load(rt, request, &mut asking)
     } else {
-        Ok(asking)
+        Ok(())
+    };
+    match loaded {
+        Ok(()) => Ok(asking),
+        Err(fault) => Err(fault),
     }
 }
 
@@ -77,13 +83,13 @@ pub(crate) fn open<'a>(
 }
 
 // Runs the lines of the file of the path.
-fn load<'a, R: AllocGlobal + Eprint + Files>(
+fn load<R: AllocGlobal + Eprint + Files>(
     rt: &R,
     request: Request<'_>,
-    mut asking: Asking<'a>,
-) -> Result<Asking<'a>, Fault>
-    requires { IsOpening request.settings asking }
-    ensures begun { IfOk result (IsSessionBegun true request.entry.settings) }
+    asking: &mut Asking<'_>,
+) -> Result<(), Fault>
+    ensures loaded { IfOk result
+        (λ u. (ended : Ended) × IsLoaded request.entry.settings.time asking.old asking.new ended) }
     ensures hindrance { IfErr result (IsHindrance true) }
 {
     let Some(path) = request.path else {
@@ -93,8 +99,8 @@ fn load<'a, R: AllocGlobal + Eprint + Files>(
         return Err(Fault::From);
     };
     let (alloc, time) = (rt.alloc(), request.settings.time);
-    match load_lines(rt, alloc, path, file, &mut asking, time) {
-        Ok(_) => Ok(asking),
+    match load_lines(rt, alloc, path, file, asking, time) {
+        Ok(_) => Ok(()),
         Err(_) => Err(Fault::Memory),
     }
 }

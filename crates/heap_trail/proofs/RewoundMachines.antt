@@ -1,8 +1,9 @@
 -- What a rewind makes of a machine.
-use Rattle.std.proofs.Common.{◌≡◌, ℕ, zero, suc, ◌+◌, ◌-◌, ◌<◌, ◌≤◌, false, true, List, [], ◌∷◌, length, length-drop, drop, get_or, refl, sym, ap, subst, ◌∙◌, Some, arith}
+use Rattle.std.proofs.Common.{◌≡◌, ℕ, zero, suc, ◌+◌, ◌-◌, ◌<◌, ◌≤◌, false, true, List, [], ◌∷◌, length, length-drop, drop, get_or, refl, sym, ap, subst, ◌∙◌, cond, Option, Some, None, arith}
 use Rattle.std.specs.Prelude.{nat_lt, slice_get}
 use Rattle.circular_buffer.specs.Buffer.{Buffer, buffer}
 use Rattle.heap_class.specs.Refusals.{first_refusal}
+use Rattle.heap_class.specs.declared.Refusal.{Refusal}
 use Rattle.heap_class.specs.declared.Refusal.TheVariants.{TooFar}
 use Rattle.heap_world.specs.State.{HeapState}
 use Rattle.heap_world.specs.Legal.{IsLegal}
@@ -27,10 +28,16 @@ popped ring = buffer (drop 1 ring.items) ring.capacity
 abbrev pub WasStep : HeapState → Undo → Type 0
 WasStep w left = (e : Event) × (before : HeapState) × IsStep e before w left
 
+no_first : (left : Undo) → ◌≡◌ {A = Option Undo} None (Some left) → ⊥
+no_first left h = cc
+
+first_is : (r left : Undo) → ◌≡◌ {A = Option Undo} (Some r) (Some left) → r ≡ left
+first_is r left h = cc
+
 pub was_step : (w : HeapState) (items : List Undo) (left : Undo) → AreRecorded w items → slice_get items 0 ≡ Some left → WasStep w left
-was_step w [] left told first = cc
+was_step w [] left told first = absurd (no_first left first)
 was_step w (r ∷ rs) left told first =
-    let e : r ≡ left = cc in
+    let e : r ≡ left = first_is r left first in
     subst (WasStep w) e (told.0.0, undone r w, told.0.1)
 
 -- every state from which such a step led here
@@ -44,9 +51,9 @@ pub kept_after_undo : (w v : HeapState) (left : Undo) (ring : Buffer Undo) (plac
 kept_after_undo w v left ring place keep k first leads = go ring.items first k.recorded k.few k.placed
   where
     go : (items : List Undo) → slice_get items 0 ≡ Some left → AreRecorded w items → length items ≤ keep → length items ≤ place → IsRetaining v (buffer (drop 1 items) ring.capacity) (place - 1) keep
-    go [] h told few placed = cc
+    go [] h told few placed = absurd (no_first left h)
     go (r ∷ rs) h told few placed =
-        let e : r ≡ left = cc in
+        let e : r ≡ left = first_is r left h in
         let back : v ≡ undone r w = is_undone v w left r rs e told leads in
         record {
           legal = subst IsLegal (sym back) told.0.1.legal;
@@ -103,10 +110,18 @@ near n k h = grind arith
 far : (n k : ℕ) → k < n → nat_lt k n ≡ true
 far n k h = grind arith
 
+not_refused : (n : ℕ) (t : Trail) → n ≤ retained t → rewind_refusal n t ≡ None
+unfolding rewind_refusal first_refusal
+not_refused n t h = ap (λ b. cond b (Some (TooFar n (retained t))) None) (near n (retained t) h)
+
+refused_far : (n : ℕ) (t : Trail) → retained t < n → rewind_refusal n t ≡ Some (TooFar n (retained t))
+unfolding rewind_refusal first_refusal
+refused_far n t h = ap (λ b. cond b (Some (TooFar n (retained t))) None) (far n (retained t) h)
+
 pub rewind_done : (m : Machine) (n : ℕ) → n ≤ retained m.trail → acted m (Rewind n) ≡ (record m { trail = rewound n m.trail; pins = after_rewind (rewound n m.trail).place m.pins }, Place (rewound n m.trail).place)
-unfolding acted unless after_rewind_by rewind_refusal first_refusal
-rewind_done m n h = rw (near n (retained m.trail) h) refl
+unfolding acted unless after_rewind_by
+rewind_done m n h = ap (λ (r : Option Refusal). unless r (after_rewind_by n) m) (not_refused n m.trail h)
 
 pub rewind_too_far : (m : Machine) (n : ℕ) → retained m.trail < n → acted m (Rewind n) ≡ (m, Refused (TooFar n (retained m.trail)))
-unfolding acted unless rewind_refusal first_refusal
-rewind_too_far m n h = rw (far n (retained m.trail) h) refl
+unfolding acted unless
+rewind_too_far m n h = ap (λ (r : Option Refusal). unless r (after_rewind_by n) m) (refused_far n m.trail h)

@@ -10,7 +10,7 @@ use hprof_text::View;
 use std::alloc::Global;
 
 /// What names an object.
-#[derive(Clone, Copy, PartialEq, Eq, Debug)]
+#[derive(Clone, Copy)]
 pub enum Referrer {
     /// A slot of the object with this id.
     Slot { object: u64, slot: u64 },

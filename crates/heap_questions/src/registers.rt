@@ -12,7 +12,7 @@ use hprof_text::View;
 use std::alloc::Global;
 
 /// The word of a register, and the kind of the object that it names, if it names one.
-#[derive(Clone, Copy, PartialEq, Eq, Debug)]
+#[derive(Clone, Copy)]
 pub struct NamedObject {
     pub id: u64,
     pub kind: Option<ObjKind>,

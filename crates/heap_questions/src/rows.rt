@@ -36,7 +36,7 @@ impl Histogram {
 }
 
 /// Some objects: how many there are, and the bytes of their values.
-#[derive(Clone, Copy, PartialEq, Eq, Debug)]
+#[derive(Clone, Copy)]
 pub struct Row {
     pub objects: u64,
     pub bytes: u64,

@@ -23,7 +23,7 @@ use std::mem::size_of;
 pub use step::{apply, apply_sort, weight};
 
 /// An event: one step that is asked for. Numbers of mutators, registers, classes and slots may be any 64-bit numbers.
-#[derive(PartialEq, Eq, Drop)]
+#[derive(Drop)]
 pub enum Event {
     /// Defines an instance class.
     Class {

@@ -25,7 +25,7 @@ pub trait IntoEvent: Drop {
 }
 
 /// `Event::New`.
-#[derive(Clone, Copy, PartialEq, Eq, Debug)]
+#[derive(Clone, Copy)]
 pub struct NewEvent {
     pub m: u64,
     pub r: u64,
@@ -50,7 +50,7 @@ impl IntoEvent for NewEvent {
 }
 
 /// `Event::Load`.
-#[derive(Clone, Copy, PartialEq, Eq, Debug)]
+#[derive(Clone, Copy)]
 pub struct LoadEvent {
     pub m: u64,
     pub to: u64,
@@ -76,7 +76,7 @@ impl IntoEvent for LoadEvent {
 }
 
 /// `Event::Store`.
-#[derive(Clone, Copy, PartialEq, Eq, Debug)]
+#[derive(Clone, Copy)]
 pub struct StoreEvent {
     pub m: u64,
     pub target: u64,
@@ -112,7 +112,7 @@ impl IntoEvent for StoreEvent {
 }
 
 /// `Event::Put`.
-#[derive(Clone, Copy, PartialEq, Eq, Debug)]
+#[derive(Clone, Copy)]
 pub struct PutEvent {
     pub m: u64,
     pub target: u64,
@@ -148,7 +148,7 @@ impl IntoEvent for PutEvent {
 }
 
 /// `Event::Move`.
-#[derive(Clone, Copy, PartialEq, Eq, Debug)]
+#[derive(Clone, Copy)]
 pub struct MoveEvent {
     pub m: u64,
     pub to: u64,
@@ -184,7 +184,7 @@ impl IntoEvent for MoveEvent {
 }
 
 /// `Event::Clear`.
-#[derive(Clone, Copy, PartialEq, Eq, Debug)]
+#[derive(Clone, Copy)]
 pub struct ClearEvent {
     pub m: u64,
     pub r: u64,
@@ -208,7 +208,7 @@ impl IntoEvent for ClearEvent {
 }
 
 /// `Event::Mark`.
-#[derive(Clone, Copy, PartialEq, Eq, Debug)]
+#[derive(Clone, Copy)]
 pub struct MarkEvent;
 
 impl IntoEvent for MarkEvent {

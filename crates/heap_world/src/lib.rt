@@ -128,7 +128,7 @@ impl Config {
 }
 
 /// The outcome of making an object, as `unmake` needs it.
-#[derive(Clone, Copy, PartialEq, Eq, Debug)]
+#[derive(Clone, Copy)]
 pub struct Created {
     /// The id of the object.
     pub id: u64,
@@ -141,7 +141,7 @@ pub struct Created {
 }
 
 /// The outcome of writing a value, as `unput` needs it.
-#[derive(Clone, Copy, PartialEq, Eq, Debug)]
+#[derive(Clone, Copy)]
 pub struct Overwritten {
     /// The place of the object.
     pub at: ObjRef,
@@ -150,7 +150,7 @@ pub struct Overwritten {
 }
 
 /// The outcome of writing a reference, as `unstore` needs it.
-#[derive(Clone, Copy, PartialEq, Eq, Debug)]
+#[derive(Clone, Copy)]
 pub struct Replaced {
     /// The place of the object.
     pub at: ObjRef,
@@ -161,7 +161,7 @@ pub struct Replaced {
 }
 
 /// The outcome of reading a slot.
-#[derive(Clone, Copy, PartialEq, Eq, Debug)]
+#[derive(Clone, Copy)]
 pub struct Loaded {
     /// The word of the slot.
     pub word: u64,

@@ -6,7 +6,7 @@ ghost use Rattle.heap_questions.specs.Newest.{event_with};
 use heap_step::Undo;
 
 /// What a step did, and what it overwrote. Objects are told by their ids.
-#[derive(Clone, Copy, PartialEq, Eq, Debug)]
+#[derive(Clone, Copy)]
 pub enum PastEvent {
     /// A value was written to a slot: its old word.
     Put { id: u64, slot: u64, old: u64 },

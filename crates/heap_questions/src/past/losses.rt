@@ -15,7 +15,7 @@ use heap_trail::Machine;
 use std::alloc::Global;
 
 /// Whether registers reach an object, or when they lost it.
-#[derive(Clone, Copy, PartialEq, Eq, Debug)]
+#[derive(Clone, Copy)]
 pub enum Loss {
     /// A register reaches the object.
     Reached,

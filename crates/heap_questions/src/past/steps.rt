@@ -17,7 +17,7 @@ use heap_world::World;
 use std::alloc::Global;
 
 /// A retained step: the place that it led to, and what it did.
-#[derive(Clone, Copy, PartialEq, Eq, Debug)]
+#[derive(Clone, Copy)]
 pub struct PastStep {
     pub place: u64,
     pub event: PastEvent,

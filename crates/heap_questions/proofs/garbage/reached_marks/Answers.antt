@@ -1,5 +1,5 @@
 use Rattle.std.proofs.Common.{Bool, List, [], ◌∷◌, ◌++◌, map, take, ap, sym, ◌∙◌, arith}
-use Rattle.std.proofs.lemmas.List.{map_more}
+use Rattle.std.proofs.lemmas.List.{map_more, take_all}
 use Rattle.hprof_text.proofs.Loops.{some_item}
 use Rattle.std.proofs.lemmas.Option.{get_or_from_slice_get}
 use Rattle.heap_questions.specs.declared.nodes.Node.{Node}
@@ -17,3 +17,6 @@ loop-node-preserved c =
     ∙ ap (λ (bs : List Bool). bs ++ c.is_reached.result ∷ []) c.loop-node.invariant
     ∙ ap (λ b. map f (take i nodes) ++ b ∷ []) (c.is_reached.ensures ∙ ap (is_reached nodes c.args.seen.now) x ∙ ap f (sym (get_or_from_slice_get nodes i n.0 n.0 n.1)))
     ∙ sym (map_more f nodes i n.0 (omega arith))
+
+pub returns-clause-marks : goal.returns-clause-marks
+returns-clause-marks c = c.loop-node.invariant ∙ ap (map (λ (n : Node). is_reached c.args.nodes.now c.args.seen.now n.id)) (take_all c.loop-node.node c.args.nodes.now (omega (arith, c.loop-node-test.false, c.len-node-end.ensures)))

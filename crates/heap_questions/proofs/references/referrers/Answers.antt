@@ -3,7 +3,7 @@ use Rattle.std.specs.Prelude.{flat_map}
 use Rattle.std.proofs.lemmas.List.{take_all}
 use Rattle.hprof_text.proofs.ViewedObjects.{here, within, none_left}
 use Rattle.heap_questions.specs.Referrers.{naming_slots, naming_registers}
-use Rattle.heap_questions.proofs.Passing.{same_object, slots_more}
+use Rattle.heap_questions.proofs.Passing.{listed, same_object, slots_more}
 use Rattle.heap_questions.proofs.references.referrers.Goals as goal
 
 pub returns-clause-all : goal.returns-clause-all
@@ -31,3 +31,12 @@ loop-here-preserved g c =
           (c.in_ok-add_slots.ensures.added ∙ ap₂ (λ cs o. c.loop-here.all.items ++ naming_slots cs c.args.id o) c.classes-classes.ensures.value same);
       passed = within (g.V.View.places v) i at e;
     }
+
+pub id-requires : goal.id-requires
+id-requires g c = listed (g.V.View.places c.args.view.now) c.loop-here.passed c.in-Some.at (sym c.loop-here.invariant.here ∙ c.in-Some.is)
+
+pub kind-requires : goal.kind-requires
+kind-requires g c = listed (g.V.View.places c.args.view.now) c.loop-here.passed c.in-Some.at (sym c.loop-here.invariant.here ∙ c.in-Some.is)
+
+pub words-requires : goal.words-requires
+words-requires g c = listed (g.V.View.places c.args.view.now) c.loop-here.passed c.in-Some.at (sym c.loop-here.invariant.here ∙ c.in-Some.is)

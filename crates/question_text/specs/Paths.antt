@@ -22,11 +22,15 @@ step_texts image y [] = []
 step_texts image y (s ∷ ss) =
     option_map_or (λ z. step_text y s z ++ step_texts image z ss) (named image y s) []
 
+-- the lines of a path along these slots from register r, which names y
+abbrev pub route_text : Image → ℕ → ℕ → List ℕ → List ℕ
+route_text image r y slots =
+    (root_text r y ++ step_texts image y slots) ++ count_text (length slots)
+
 -- the lines of a path from register r along these slots
 abbrev pub IsRouteText : Image → ℕ → List ℕ → List ℕ → Type 0
 IsRouteText image r slots text =
-    (y : ℕ) × (slice_get image.registers r ≡ Some y)
-    × (text ≡ (root_text r y ++ step_texts image y slots) ++ count_text (length slots))
+    (y : ℕ) × (slice_get image.registers r ≡ Some y) × (text ≡ route_text image r y slots)
 
 -- of all shortest paths to x the first by register, then by slot; or no register reaches x
 abbrev pub IsFoundText : ℕ → Image → List ℕ → Type 0

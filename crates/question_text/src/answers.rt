@@ -1,5 +1,6 @@
 //! The answers of questions.
 ghost use Rattle.std.specs.Prelude.{◌≡◌};
+ghost use Rattle.heap_pins.specs.Pin.{pin_image};
 ghost use Rattle.session_text.specs.Replies.{line_answer_text};
 ghost use Rattle.question_text.specs.Answers.{IsAnswer, IsAnswerOfLine};
 ghost use Rattle.question_text.specs.ClassLists.{IsClassesText};
@@ -9,7 +10,7 @@ ghost use Rattle.question_text.specs.Objects.{IsShowText, shows_mark};
 ghost use Rattle.question_text.specs.Paths.{IsPathText};
 ghost use Rattle.question_text.specs.Registers.{IsRegistersText};
 ghost use Rattle.question_text.specs.Referrers.{IsReferrersText};
-ghost use Rattle.question_text.specs.Moments.{IsAnswerAbout, IsAnswerBetween, image_at, told_text};
+ghost use Rattle.question_text.specs.Moments.{IsAnswerAbout, IsAnswerBesides, IsAnswerBetween, image_at, told_text};
 
 use crate::at::{moment_at, view_of};
 use crate::birth::born_answer;
@@ -27,6 +28,7 @@ use crate::registers::registers_answer;
 use crate::rows::{Unanswered, reason_line};
 use crate::show::{show_answer, shows_mark};
 use crate::write::wrote_answer;
+use heap_pins::PinView;
 use heap_trail::Machine;
 use session_text::LineAnswer;
 use std::alloc::Global;
@@ -59,16 +61,29 @@ fn garbage(alloc: Global, machine: &Machine, at: At) -> Result<Vec<u8>, Unanswer
     Ok(garbage_text(alloc, &view_of(machine, &moment)?)?)
 }
 
+// Returns the lines of `growth` from a view of the machine to a newer state.
+fn growth_since(
+    alloc: Global,
+    machine: &Machine,
+    older: &PinView<'_>,
+    newer: At,
+) -> Result<Vec<u8>, Unanswered>
+    requires { older.now.ids ≡ machine.now.ids }
+    ensures { IsAnswerBesides
+        (IsGrowthText machine.now.ids (pin_image older.now.pin older.now.state))
+        (image_at newer machine.now) (told_text result) }
+{
+    let moment = moment_at(machine, newer)?;
+    Ok(growth_answer(alloc, older, &view_of(machine, &moment)?)?)
+}
+
 // Returns the lines of `growth AT AT`. Both states are held before either is looked at.
 fn growth(alloc: Global, machine: &Machine, older: At, newer: At) -> Result<Vec<u8>, Unanswered>
     ensures { IsAnswerBetween (IsGrowthText machine.now.ids) (image_at older machine.now)
         (image_at newer machine.now) (told_text result) }
 {
-    let before = moment_at(machine, older)?;
-    let older_view = view_of(machine, &before)?;
-    let after = moment_at(machine, newer)?;
-    let newer_view = view_of(machine, &after)?;
-    Ok(growth_answer(alloc, &older_view, &newer_view)?)
+    let moment = moment_at(machine, older)?;
+    growth_since(alloc, machine, &view_of(machine, &moment)?, newer)
 }
 
 // Returns the lines of `registers AT`.

@@ -4,7 +4,7 @@ ghost use Rattle.heap_class.specs.declared.Refusal.TheVariants.{NoMemory};
 ghost use Rattle.heap_questions.specs.Graph.{IsPathTo, followed, named};
 ghost use Rattle.question_text.specs.Appends.{Appends, ReturnsText};
 ghost use Rattle.question_text.specs.Moments.{IsToldOf, told_text};
-ghost use Rattle.question_text.specs.Paths.{IsPathText, IsRouteText, root_text, step_text, step_texts};
+ghost use Rattle.question_text.specs.Paths.{IsPathText, IsRouteText, root_text, route_text, step_text, step_texts};
 
 use crate::id::push_id;
 use crate::referrers::push_register;
@@ -68,6 +68,22 @@ fn push_root(text: &mut Vec<u8>, register: u64, id: u64) -> Result<(), Refusal>
     push_words(text, b"\n")
 }
 
+// Appends the lines of a path that begins with the object that a register names. Fails with NoMemory.
+fn push_route<V: View>(
+    text: &mut Vec<u8>,
+    index: &ObjectIndex<'_, V>,
+    path: &Path,
+    start: u64,
+) -> Result<(), Refusal>
+    requires { IsSome (followed index.now start path.now.slots.items) }
+    ensures { Appends (route_text index.now path.now.register start path.now.slots.items)
+        text.old.items text.new.items result }
+{
+    push_root(text, path.register, start)?;
+    push_steps(text, index, start, path.slots.as_slice())?;
+    push_count(text, path.slots.len() as u64)
+}
+
 // Returns the lines of a path to an object. Fails with NoMemory.
 fn route_text<V: View>(alloc: Global, view: &V, path: &Path, id: u64) -> Result<Vec<u8>, Refusal>
     requires { IsPathTo (V.image view.now) path.now.register path.now.slots.items id }
@@ -77,10 +93,10 @@ fn route_text<V: View>(alloc: Global, view: &V, path: &Path, id: u64) -> Result<
     let start = view.registers()[path.register as usize];
     let index = ObjectIndex::new(alloc, view)?;
     let mut text = Vec::new(alloc);
-    push_root(&mut text, path.register, start)?;
-    push_steps(&mut text, &index, start, path.slots.as_slice())?;
-    push_count(&mut text, path.slots.len() as u64)?;
-    Ok(text)
+    match push_route(&mut text, &index, path, start) {
+        Ok(()) => Ok(text),
+        Err(refusal) => Err(refusal),
+    }
 }
 
 // Returns the answer of `path` about a view. Fails with NoObject if the id names no object, with Unreachable if no register

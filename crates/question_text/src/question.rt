@@ -10,7 +10,7 @@ use session_grammar::number::number_of;
 use session_grammar::words::{Words, is_word};
 
 /// The state that a question is about.
-#[derive(Clone, Copy, PartialEq, Eq, Debug)]
+#[derive(Clone, Copy)]
 pub enum At {
     /// The current state: `-`.
     Current,
@@ -21,7 +21,7 @@ pub enum At {
 }
 
 /// A question that a line asks.
-#[derive(Clone, Copy, PartialEq, Eq, Debug)]
+#[derive(Clone, Copy)]
 pub enum Question {
     /// How many objects there are of each class, and their bytes.
     Histogram(At),

@@ -55,6 +55,7 @@ fn goes<L: Heap, R: Wait>(
     wanted: Pumped,
     bytes: usize,
 ) -> Option<bool> {
+    let pin = opened_pin(rt, shared)?;
     let FourSeats {
         meter,
         out: _,
@@ -62,7 +63,6 @@ fn goes<L: Heap, R: Wait>(
         asker,
         feed,
     } = new_meter(alloc)?;
-    let pin = opened_pin(rt, shared)?;
     let sink = Sink::new(text);
     let (pumped, sink) = pump_asked(rt, shared, pin, &meter, asker, feed, turn, sink);
     closes_pin(rt, shared, pin);

@@ -117,6 +117,7 @@ fn pipe_whole<'a, L: Heap + Send + Sync, R: Threads + Wait + Sync>(
     sink: Sink<'a>,
     first: u64,
 ) -> Option<(Went, Sink<'a>)> {
+    let pin = opened_pin(rt, shared)?;
     let FourSeats {
         meter,
         out,
@@ -124,7 +125,6 @@ fn pipe_whole<'a, L: Heap + Send + Sync, R: Threads + Wait + Sync>(
         asker: _,
         feed: _,
     } = new_meter(alloc)?;
-    let pin = opened_pin(rt, shared)?;
     let Ok((ends, known)) = pipe(alloc) else {
         return None;
     };

@@ -36,6 +36,8 @@ fn gate_outlet_first_put(rt: HostRuntime) -> Result<(), Fail> {
 pub fn stream_beside<L: Heap + Send + Sync, R: Threads + Wait + Sync>(
     Stage(rt, alloc, shared, five): Stage<'_, L, R>,
 ) -> Option<bool> {
+    let text = one_point(rt, alloc, shared, &mut five.user)?;
+    let pin = opened_pin(rt, shared)?;
     let FourSeats {
         meter,
         out,
@@ -43,8 +45,6 @@ pub fn stream_beside<L: Heap + Send + Sync, R: Threads + Wait + Sync>(
         asker: _,
         feed,
     } = new_meter(alloc)?;
-    let text = one_point(rt, alloc, shared, &mut five.user)?;
-    let pin = opened_pin(rt, shared)?;
     let went = streamed_beside(
         rt,
         alloc,
@@ -70,6 +70,7 @@ fn is_beginning<L: Heap + Send + Sync, R: Threads + Wait + Sync>(
     shared: &Shared<L>,
     text: &[u8],
 ) -> Option<bool> {
+    let pin = opened_pin(rt, shared)?;
     let FourSeats {
         meter,
         out,
@@ -77,7 +78,6 @@ fn is_beginning<L: Heap + Send + Sync, R: Threads + Wait + Sync>(
         asker,
         feed,
     } = new_meter(alloc)?;
-    let pin = opened_pin(rt, shared)?;
     let seats = stream_seats(&meter, out, feed);
     let (held, (pumped, taken, is_text)) = streamed_cancelled(
         rt, alloc, shared, pin, text, asker, seats,
@@ -94,9 +94,8 @@ pub fn stream_cancelled<L: Heap + Send + Sync, R: Threads + Wait + Sync>(
     if !has_points(rt, alloc, shared, &mut five.user, 2000) {
         return None;
     }
-    let pin = opened_pin(rt, shared)?;
     let done = (Pumped::Done { bytes: 66412 }, 66412);
-    let is_whole = unread(rt, alloc, shared, pin, false, Sink::new(&[])) == Some(done);
+    let is_whole = unread(rt, alloc, shared, false, Sink::new(&[])) == Some(done);
     let (_, _, text) = pumped_now(rt, shared, Vec::new(alloc))?;
     Some(is_whole && is_beginning(rt, alloc, shared, text.as_slice()) == Some(true))
 }

@@ -7,7 +7,7 @@ use heap_trail::Reply;
 
 /// What a list of actions was answered, pieces apart, with the state after it; the pieces of its dumps; and whether a pin was lost
 /// because memory for it was refused.
-#[derive(Clone, Copy, PartialEq, Eq, Debug)]
+#[derive(Clone, Copy, PartialEq, Eq)]
 pub struct ActionReport {
     answers: Digest,
     pieces: Digest,

@@ -4,7 +4,7 @@
 const PRIME: u64 = 0x100_0000_01b3;
 
 /// The FNV-1a hash of numbers, each taken whole.
-#[derive(Clone, Copy, PartialEq, Eq, Debug)]
+#[derive(Clone, Copy, PartialEq, Eq)]
 pub struct Digest(u64);
 
 impl Digest {

@@ -19,7 +19,7 @@ use std::marker::Model;
 use std::mem;
 
 /// The outcome of `mark`, as `unmark` needs it.
-#[derive(Clone, Copy, PartialEq, Eq, Debug)]
+#[derive(Clone, Copy, PartialEq, Eq)]
 pub struct Marked {
     /// The id of the object that was taken off the gray stack.
     pub parent: u64,

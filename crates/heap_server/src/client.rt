@@ -14,7 +14,7 @@ use std::thread;
 use std::thread::Threads;
 
 /// How a client ended.
-#[derive(Clone, Copy, PartialEq, Eq, Debug)]
+#[derive(Clone, Copy, PartialEq, Eq)]
 pub enum Asked {
     /// All that came was copied.
     Done,

@@ -10,7 +10,7 @@ use std::sync::Wait;
 pub const ROOM: usize = 4096;
 
 /// How a copy ended.
-#[derive(Clone, Copy, PartialEq, Eq, Debug)]
+#[derive(Clone, Copy, PartialEq, Eq)]
 pub enum Copied {
     /// At the end of input.
     Whole,

@@ -83,7 +83,7 @@ pub enum Reply {
 }
 
 /// A pin that was opened: its number, counted from 1, and its place.
-#[derive(Clone, Copy, PartialEq, Eq, Debug)]
+#[derive(Clone, Copy, PartialEq, Eq)]
 pub struct PinAt {
     pub pin: u64,
     pub at: u64,

@@ -24,7 +24,7 @@ use std::time::Clock;
 const LINE: usize = 20;
 
 /// What serves a heap: its ports, its sessions and its workers.
-#[derive(Clone, Copy, Debug)]
+#[derive(Clone, Copy)]
 pub struct Service {
     /// The port for sessions.
     pub port: u16,

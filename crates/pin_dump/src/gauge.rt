@@ -19,7 +19,7 @@ pub trait Gauge {
 }
 
 /// A gauge that does nothing.
-#[derive(Clone, Copy, Debug)]
+#[derive(Clone, Copy)]
 pub struct Silent;
 
 impl Gauge for Silent {

@@ -37,7 +37,7 @@ pub use write::write_all;
 pub const READ_LIMIT: u64 = 1_000_000;
 
 /// The way in which a session ended.
-#[derive(Clone, Copy, PartialEq, Eq, Debug)]
+#[derive(Clone, Copy, PartialEq, Eq)]
 pub enum Ended {
     /// By the line `end`.
     Quit,
@@ -58,7 +58,7 @@ pub enum Ended {
 }
 
 /// The way in which reading ended.
-#[derive(Clone, Copy, PartialEq, Eq, Debug)]
+#[derive(Clone, Copy, PartialEq, Eq)]
 pub enum ReadEnd {
     /// At the end of input.
     Over,

@@ -13,7 +13,7 @@ use heap_trail::Action;
 use session_grammar::words::SPACE;
 
 // The beginning of a line that may be answered at once.
-#[derive(Clone, Copy, PartialEq, Eq, Debug)]
+#[derive(Clone, Copy, PartialEq, Eq)]
 enum Verb {
     // `load `.
     Load,
@@ -36,7 +36,7 @@ enum Verb {
 }
 
 /// The outcome of a fast reading of a text's first line.
-#[derive(Clone, Copy, PartialEq, Eq, Debug)]
+#[derive(Clone, Copy, PartialEq, Eq)]
 pub enum Quick {
     /// The line wasn't answered. It is read as any other, if it is whole.
     No,

@@ -15,7 +15,7 @@ use std::test::*;
 use std::thread::Threads;
 
 /// How a worker ended.
-#[derive(Clone, Copy, PartialEq, Eq, Debug)]
+#[derive(Clone, Copy, PartialEq, Eq)]
 pub enum WorkEnd {
     /// The end of the marker's work.
     Marked(MarkEnd),

@@ -1,5 +1,6 @@
 pub mod Image
 pub mod Text
+pub mod Sections
 pub mod Segments
 pub mod Sizes
 pub mod Records

@@ -29,10 +29,6 @@ class_ids ids k sup =
 abbrev pub class_counts : ℕ → ℕ → List ℕ
 class_counts size fields = u4 size ++ u2 0 ++ u2 0 ++ u2 fields
 
--- the root of class k
-abbrev pub sticky_root : IdSize → ℕ → List ℕ
-sticky_root ids k = u1 0x05 ++ id ids (class_id k)
-
 -- the bytes before the values of an instance of class k: its id, the class's id, and the size of the values
 abbrev pub instance_head : IdSize → ℕ → ℕ → ℕ → List ℕ
 instance_head ids x k size = u1 0x21 ++ id ids x ++ u4 1 ++ id ids (class_id k) ++ u4 size

@@ -1,5 +1,5 @@
 -- The records of a dump: HPROF, JAVA PROFILE 1.0.2, with identifiers of either size.
-use Rattle.std.specs.Prelude.{ℕ, ◌+◌, ◌*◌, ◌/◌, ◌%◌, ◌^◌, not, ◌==◌, List, ◌++◌, length, map, filter, flat_map, zip, codes}
+use Rattle.std.specs.Prelude.{ℕ, ◌+◌, ◌*◌, ◌/◌, ◌%◌, ◌^◌, List, ◌++◌, length, flat_map, zip, codes}
 use Rattle.std.specs.Option.{option_map_or}
 use Rattle.std.specs.List.{enumerate_from}
 use Rattle.byteorder.specs.Endian.{big_bytes}
@@ -77,9 +77,9 @@ class_dump ids classes c =
     ++ u4 (instance_size ids classes c.0) ++ u2 0 ++ u2 0 ++ u2 (length c.1.fields)
     ++ flat_map (field_entry ids classes) c.1.fields
 
--- the root of a class
-unfoldable pub root_sticky_class : IdSize → ℕ × Class → List ℕ
-root_sticky_class ids c = u1 0x05 ++ id ids (class_id c.0)
+-- the root of class k
+unfoldable pub root_sticky_class : IdSize → ℕ → List ℕ
+root_sticky_class ids k = u1 0x05 ++ id ids (class_id k)
 
 -- the root of an object, of an unknown kind of root
 unfoldable pub root_unknown : IdSize → ℕ → List ℕ
@@ -105,29 +105,10 @@ dump_of ids classes x (Prim kind) words =
 unfoldable pub object_dump : IdSize → List Class → DumpedObject → List ℕ
 object_dump ids classes o = dump_of ids classes o.id o.kind o.words
 
--- ---- the parts of the text
+-- ---- the records before the segments
 
--- the records before the segments: header, names, classes, and the empty trace
+-- the header, names, classes, and the empty trace
 unfoldable pub opening_records : IdSize → Image → ℕ → List ℕ
 opening_records ids image time =
     header ids time ++ flat_map (utf8 ids) (enumerate_from 1 (name_table image.classes))
     ++ flat_map (load_class ids image.classes) (enumerate_from 0 image.classes) ++ trace
-
--- the sub-records of the classes, then their roots
-unfoldable pub class_records : IdSize → Image → List (List ℕ)
-class_records ids image =
-    map (class_dump ids image.classes) (enumerate_from 0 image.classes)
-    ++ map (root_sticky_class ids) (enumerate_from 0 image.classes)
-
--- the sub-records of the objects
-unfoldable pub object_records : IdSize → Image → List (List ℕ)
-object_records ids image = map (object_dump ids image.classes) image.objects
-
--- the roots of the registers that aren't null
-unfoldable pub register_roots : IdSize → Image → List (List ℕ)
-register_roots ids image = map (root_unknown ids) (filter (λ x. not (x == 0)) image.registers)
-
--- all sub-records, in order
-unfoldable pub sub_records : IdSize → Image → List (List ℕ)
-sub_records ids image =
-    class_records ids image ++ object_records ids image ++ register_roots ids image

@@ -5,10 +5,10 @@ ghost use Rattle.heap_class.specs.Classes.{sup_of};
 ghost use Rattle.heap_class.specs.Limits.{class_limit, name_limit, array_limit};
 ghost use Rattle.hprof_text.specs.SegmentContents.{HasRoom};
 ghost use Rattle.hprof_text.specs.Image.{IsKnown};
-ghost use Rattle.hprof_text.specs.Records.{class_at, record_head, field_bytes, class_ids, class_counts, instance_head, sticky_root};
+ghost use Rattle.hprof_text.specs.Records.{class_at, record_head, field_bytes, class_ids, class_counts, instance_head};
 ghost use Rattle.heap_class.specs.declared.IdSize.TheVariants.{Eight};
 ghost use Rattle.heap_class.specs.declared.ObjKind.TheVariants.{Instance, Array, Prim};
-ghost use Rattle.hprof_text.specs.Text.{class_id, header, utf8, load_class, trace, class_dump, root_unknown, dump_of};
+ghost use Rattle.hprof_text.specs.Text.{class_id, header, utf8, load_class, trace, class_dump, root_sticky_class, root_unknown, dump_of};
 
 use crate::segment_bytes::SegmentBytes;
 use crate::sizes::instance_size;
@@ -184,10 +184,11 @@ impl SegmentBytes {
     }
 
     /// Appends the root of a class. There must be room.
+    #[tactic(auto, unfolding(crate::specs::Text::root_sticky_class))]
     pub fn root_sticky_class(&mut self, ids: IdSize, class: ClassNo)
-        requires room { HasRoom self.old (sticky_root ids class) }
+        requires room { HasRoom self.old (root_sticky_class ids class) }
         requires few { class < class_limit }
-        ensures written { self.new.written ≡ self.old.written ++ sticky_root ids class }
+        ensures written { self.new.written ≡ self.old.written ++ root_sticky_class ids class }
         ensures limit { self.new.limit ≡ self.old.limit }
     {
         self.u1(0x05);

@@ -1,17 +1,20 @@
 //! A segment as it is filled: each sub-record is offered to it, and is written if there is room.
-ghost use Rattle.std.specs.Prelude.{◌+◌, ◌≡◌, ◌<◌, ◌≤◌, [], length, IfOk, IfErr};
+ghost use Rattle.std.specs.Prelude.{◌+◌, ◌≡◌, ◌<◌, ◌≤◌, [], ℕ, List, Some, length, slice_get, IfOk, IfErr};
 ghost use Rattle.heap_class.specs.Limits.{class_limit, array_limit};
 ghost use Rattle.heap_class.specs.declared.ObjKind.TheVariants.{Instance, Array, Prim};
 ghost use Rattle.heap_class.specs.declared.Refusal.TheVariants.{NoMemory};
-ghost use Rattle.hprof_text.specs.SegmentFilling.{takes, IsOffered};
+ghost use Rattle.hprof_text.specs.declared.section.Section.TheVariants.{Numbered};
+ghost use Rattle.hprof_text.specs.SegmentFilling.{takes, IsOffered, IsItemOffered};
 ghost use Rattle.hprof_text.specs.Image.{IsKnown};
 ghost use Rattle.hprof_text.specs.Records.{class_at};
+ghost use Rattle.hprof_text.specs.Sections.{items_of};
 ghost use Rattle.hprof_text.specs.Sizes.{sub_record_limit};
 ghost use Rattle.hprof_text.specs.Text.{record_of, class_dump, root_sticky_class, root_unknown, dump_of};
 
+use crate::section::NumberedSection;
 use crate::segment_bytes::SegmentBytes;
 use crate::sizes::{array_size, class_size, dump_size, prim_size, root_size};
-use crate::{Bytes, SEGMENT_LIMIT};
+use crate::{Bytes, SEGMENT_LIMIT, View};
 use heap_class::{ClassNo, FirstClasses, IdSize, Kind, ObjKind, Refusal};
 use std::alloc::Global;
 use std::marker::Model;
@@ -73,13 +76,8 @@ impl Segment {
         length == 0 || length + size <= SEGMENT_LIMIT
     }
 
-    /// Offers the sub-record of a class, and tells whether it was taken.
-    pub fn offer_class_dump(
-        &mut self,
-        ids: IdSize,
-        classes: &FirstClasses<'_>,
-        class: ClassNo,
-    ) -> bool
+    // Offers the sub-record of a class, and tells whether it was taken.
+    fn offer_class_dump(&mut self, ids: IdSize, classes: &FirstClasses<'_>, class: ClassNo) -> bool
         requires { class < length classes.now }
         ensures { IsOffered (class_dump ids classes.now (class, class_at classes.now class))
             self.old self.new result }
@@ -92,11 +90,10 @@ impl Segment {
         taken
     }
 
-    /// Offers the root of a class, and tells whether it was taken.
-    pub fn offer_class_root(&mut self, ids: IdSize, class: ClassNo) -> bool
+    // Offers the root of a class, and tells whether it was taken.
+    fn offer_class_root(&mut self, ids: IdSize, class: ClassNo) -> bool
         requires { class < class_limit }
-        ensures { IsOffered (root_sticky_class ids (class, class_at [] class)) self.old self.new
-            result }
+        ensures { IsOffered (root_sticky_class ids class) self.old self.new result }
     {
         let taken = self.takes(root_size(ids));
         if taken {
@@ -182,8 +179,8 @@ impl Segment {
         }
     }
 
-    /// Offers the root of a register that isn't null, and tells whether it was taken.
-    pub fn offer_register_root(&mut self, ids: IdSize, register: u64) -> bool
+    // Offers the root of a register that isn't null, and tells whether it was taken.
+    fn offer_register_root(&mut self, ids: IdSize, register: u64) -> bool
         ensures { IsOffered (root_unknown ids register) self.old self.new result }
     {
         let taken = self.takes(root_size(ids));
@@ -191,6 +188,27 @@ impl Segment {
             self.buffer.root_unknown(ids, register);
         }
         taken
+    }
+
+    /// Offers a view's item of a section by its number, and tells whether it was taken. An item that has no sub-record is.
+    #[tactic(auto, using(crate::proofs::Sections::items_counted))]
+    pub fn offer_item<V: View>(&mut self, view: &V, section: NumberedSection, number: u64) -> bool
+        requires { number
+            < length (items_of (V.ids view.now) (V.image view.now) (Numbered section)) }
+        ensures { (item : List (List ℕ))
+            → slice_get (items_of (V.ids view.now) (V.image view.now) (Numbered section)) number ≡ Some item
+            → IsItemOffered item self.old self.new result }
+    {
+        let classes = view.classes();
+        let ids = view.id_size();
+        match section {
+            NumberedSection::ClassDumps => self.offer_class_dump(ids, &classes, number),
+            NumberedSection::ClassRoots => self.offer_class_root(ids, number),
+            NumberedSection::RegisterRoots => {
+                let register = view.registers()[number as usize];
+                register == 0 || self.offer_register_root(ids, register)
+            }
+        }
     }
 
     /// Returns the record with this tag and the body. Takes no memory.

@@ -1,20 +1,20 @@
 -- A segment filled with what it takes is the next segment.
-use Rattle.std.proofs.Common.{◌≡◌, ℕ, ◌+◌, ◌<◌, Bool, true, false, List, [], ◌∷◌, ◌++◌, length, map, refl, sym, ap, ap₂, ◌∙◌, subst, arith, append_assoc, length-append}
+use Rattle.std.proofs.Common.{◌≡◌, ℕ, ◌+◌, ◌<◌, ◌≤◌, Bool, true, false, List, [], ◌∷◌, ◌++◌, length, map, refl, sym, ap, ap₂, ◌∙◌, subst, arith, append_assoc, length-append}
 use Rattle.std.specs.Prelude.{nat_le, slice_get, Some, ◌==◌}
 use Rattle.std.proofs.lemmas.Option.{same_Some}
 use Rattle.std.specs.List.{concat}
 use Rattle.std.proofs.lemmas.List.{append-nil}
 use Rattle.heap_class.specs.declared.IdSize.{IdSize}
+use Rattle.hprof_text.specs.Cursors.{from_item}
 use Rattle.hprof_text.specs.declared.section.NumberedSection.{NumberedSection}
 use Rattle.hprof_text.specs.declared.section.Section.{Section}
 use Rattle.hprof_text.specs.declared.section.Section.TheVariants.{Numbered}
 use Rattle.hprof_text.specs.Image.{Image}
-use Rattle.hprof_text.specs.Sections.{items_of, from_item}
-use Rattle.hprof_text.specs.Text.{record_of}
+use Rattle.hprof_text.specs.Text.{record_of, items_of, after, records_in}
 use Rattle.hprof_text.specs.Segments.{segment_limit, cut_at, segments_of, segment_records}
 use Rattle.hprof_text.specs.SegmentFilling.{takes, body_filled, IsOffered, IsItemOffered}
 use Rattle.hprof_text.proofs.Cutting.{Cutting, cut_by}
-use Rattle.hprof_text.proofs.Sections.{HasOnly, HasNone, from_next}
+use Rattle.hprof_text.proofs.Sections.{HasOnly, HasNone, from_next, from_past}
 
 -- ---- one sub-record
 
@@ -61,6 +61,10 @@ pub item_left : (ids : IdSize) (image : Image) (s : Section) (n start : ℕ) (it
 item_left ids image s n start item old now new taken e t o h =
     h ∙ ap (body_filled now) (from_next ids image s n item e) ∙ subst (IsItemOffered item now new) t o (from_item ids image s (n + 1))
     ∙ ap (λ l. let p : List ℕ × List (List ℕ) = (new, l) in p) (sym (from_next ids image s n item e))
+
+-- all items are taken
+pub items_taken : (ids : IdSize) (image : Image) (s : Section) (n start : ℕ) (old now : List ℕ) → length (items_of ids image s) ≤ n → body_filled old (from_item ids image s start) ≡ body_filled now (from_item ids image s n) → body_filled old (from_item ids image s start) ≡ body_filled now (records_in ids image (after s))
+items_taken ids image s n start old now l h = h ∙ ap (body_filled now) (from_past ids image s n l)
 
 -- ---- the whole segment
 

@@ -16,8 +16,7 @@ use Rattle.heap_class.specs.Limits.{array_limit}
 use Rattle.heap_class.specs.Kinds.{type_code}
 use Rattle.heap_class.specs.Classes.{slots_of, name_table, name_id, instance_size}
 use Rattle.hprof_text.specs.Image.{Image, IsKnown, IsDumpable}
-use Rattle.hprof_text.specs.Sections.{sub_records}
-use Rattle.hprof_text.specs.Text.{class_id}
+use Rattle.hprof_text.specs.Text.{class_id, sub_records}
 use Rattle.hprof_text.specs.Segments.{segment_limit, size_of, segments_of, sizes_at, segment_sizes}
 use Rattle.hprof_text.specs.Fits.{FitsBytes, FitsId, Utf8Fits, LoadClassFits, FieldFits, ClassDumpFits, DumpFits, HoldsWhole}
 use Rattle.hprof_text.proofs.Bounds.{instance_small, id_small}

@@ -5,8 +5,7 @@ use Rattle.std.proofs.lemmas.List.{append-nil}
 use Rattle.std.proofs.lemmas.List.Folds.{concat-append}
 use Rattle.heap_class.specs.declared.IdSize.{IdSize}
 use Rattle.hprof_text.specs.Image.{Image}
-use Rattle.hprof_text.specs.Sections.{sub_records}
-use Rattle.hprof_text.specs.Text.{opening_records}
+use Rattle.hprof_text.specs.Text.{opening_records, sub_records}
 use Rattle.hprof_text.specs.Segments.{segment_records, end_record, dump_text, pieces_of}
 use Rattle.hprof_text.specs.Laws.{PiecesJoin}
 

@@ -14,11 +14,10 @@ use Rattle.heap_class.specs.declared.ObjKind.TheVariants.{Instance, Array, Prim}
 use Rattle.heap_class.specs.Kinds.{id_bytes, width_of, type_code}
 use Rattle.heap_class.specs.Classes.{Class, slots_of, name_table, name_id, instance_size}
 use Rattle.hprof_text.specs.Image.{Image, IsKnown}
-use Rattle.hprof_text.specs.Sections.{sub_records}
 use Rattle.hprof_text.specs.Sizes.{names_size, opening_size, root_size, dump_size, utf8_size, records_size, text_size}
 use Rattle.hprof_text.specs.Records.{opening_of}
 use Rattle.hprof_text.specs.Segments.{segment_limit, size_of, segments_of, segment_sizes, segment_records, end_record, dump_text}
-use Rattle.hprof_text.specs.Text.{id, u1, u4, record_of, header, utf8, load_class, trace, field_entry, class_dump, root_sticky_class, root_unknown, value_bytes, dump_of, class_id, opening_records}
+use Rattle.hprof_text.specs.Text.{id, u1, u4, record_of, header, utf8, load_class, trace, field_entry, class_dump, root, value_bytes, dump_of, class_id, opening_records, sub_records}
 use Rattle.hprof_text.proofs.SegmentSizes.{are_sizes}
 
 -- a record is 9 bytes longer than its body
@@ -85,15 +84,9 @@ dump_length ids classes x (Prim kind) words h =
     let i : length (id ids x) ≡ id_bytes ids = id_length ids x in
     simp length-append (omega (arith, v, i))
 
--- ---- roots
-
-pub root_length : (ids : IdSize) (x : ℕ) → length (root_unknown ids x) ≡ root_size ids
-unfolding root_unknown
-root_length ids x = omega (arith, length-append (u1 0xff) (id ids x), id_length ids x)
-
-pub sticky_length : (ids : IdSize) (k : ℕ) → length (root_sticky_class ids k) ≡ root_size ids
-unfolding root_sticky_class
-sticky_length ids k = omega (arith, length-append (u1 0x05) (id ids (class_id k)), id_length ids (class_id k))
+pub root_length : (ids : IdSize) (tag x : ℕ) → length (root ids tag x) ≡ root_size ids
+unfolding root
+root_length ids tag x = omega (arith, length-append (u1 tag) (id ids x), id_length ids x)
 
 -- ---- what stands before the segments
 

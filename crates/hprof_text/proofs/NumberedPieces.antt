@@ -1,6 +1,6 @@
 -- The pieces by number, and the cursors at them.
 use Rattle.std.proofs.Common.{◌≡◌, ◌≢◌, ◌≤◌, ◌<◌, ℕ, zero, suc, ◌+◌, Bool, true, false, List, [], ◌∷◌, ◌++◌, length, drop, refl, sym, ap, ap₂, ◌∙◌, subst, inl, inr, arith, add-one, length-append}
-use Rattle.std.specs.Prelude.{slice_get, slice_index_or, Some, unwrap_or, nat_le, All}
+use Rattle.std.specs.Prelude.{slice_get, slice_index_or, Option, Some, None, unwrap_or, nat_le, All}
 use Rattle.std.proofs.lemmas.Option.{slice_get_past}
 use Rattle.std.proofs.lemmas.List.Elements.{All-nil, All-head}
 use Rattle.std.proofs.lemmas.Bool.Decides.{leb_tells}
@@ -10,14 +10,14 @@ use Rattle.heap_class.specs.declared.ObjRef.{ObjRef}
 use Rattle.hprof_text.specs.declared.Cursor.{Cursor}
 use Rattle.hprof_text.specs.declared.Cursor.TheVariants.{Start, Item, Object, End, Past}
 use Rattle.hprof_text.specs.declared.section.NumberedSection.TheVariants.{ClassDumps}
+use Rattle.hprof_text.specs.declared.section.Section.{Section}
 use Rattle.hprof_text.specs.declared.section.Section.TheVariants.{Numbered, Objects}
 use Rattle.hprof_text.specs.declared.Piece.{Piece}
-use Rattle.hprof_text.specs.Cursors.{IsAt, IsBefore, IsRest}
+use Rattle.hprof_text.specs.Cursors.{IsAt, IsBefore, IsRest, from_item, sections_from}
 use Rattle.hprof_text.specs.SegmentFilling.{body_filled, IsFilledTo}
 use Rattle.hprof_text.specs.Image.{Image}
-use Rattle.hprof_text.specs.Sections.{sub_records, from_item}
 use Rattle.hprof_text.specs.Segments.{segments_of, segment_records, end_record, records_from, pieces_of, nth_piece, piece_of}
-use Rattle.hprof_text.specs.Text.{record_of, opening_records}
+use Rattle.hprof_text.specs.Text.{record_of, opening_records, sub_records, records_in}
 use Rattle.hprof_text.proofs.FilledSegments.{record_more, body_more, filled_none}
 use Rattle.hprof_text.proofs.Loops.{drop_item}
 use Rattle.hprof_text.proofs.Sections.{HasBytes, from_bytes}
@@ -61,6 +61,12 @@ filled_to ids image places rest cursor old new left e r = (sym (ap (λ p. p.0) e
 
 pub filled_on : (ids : IdSize) (image : Image) (places : List ObjRef) (rest others : List (List ℕ)) (cursor : Cursor) (old now new : List ℕ) → body_filled old rest ≡ body_filled now others → IsFilledTo ids image places others cursor now new → IsFilledTo ids image places rest cursor old new
 filled_on ids image places rest others cursor old now new e f = (f.0 ∙ ap (λ p. p.0) (sym e), subst (IsRest ids image places cursor) (ap (λ p. p.1) (sym e)) f.1)
+
+-- no section is left
+pub filled_all : (ids : IdSize) (image : Image) (places : List ObjRef) (rest : List (List ℕ)) (next : Option Section) (old now : List ℕ) → next ≡ None → body_filled old rest ≡ body_filled now (records_in ids image (sections_from next)) → IsFilledTo ids image places rest End old now
+filled_all ids image places rest next old now e h =
+    let end = ap (λ s. body_filled now (records_in ids image (sections_from s))) e in
+    filled_to ids image places rest End old now [] (h ∙ end ∙ filled_none now) refl
 
 -- ---- a piece by its number
 

@@ -6,8 +6,7 @@ use Rattle.std.proofs.lemmas.List.{length-map}
 use Rattle.heap_class.specs.declared.IdSize.{IdSize}
 use Rattle.hprof_text.specs.Image.{Image}
 use Rattle.hprof_text.specs.Segments.{segment_limit, cut_at, segments_of, segment_records, end_record, pieces_of}
-use Rattle.hprof_text.specs.Sections.{sub_records}
-use Rattle.hprof_text.specs.Text.{record_of}
+use Rattle.hprof_text.specs.Text.{record_of, sub_records}
 use Rattle.hprof_text.specs.Laws.{PiecesFew}
 use Rattle.hprof_text.proofs.Cutting.{cut_by}
 use Rattle.hprof_text.proofs.Sections.{subs_few}

@@ -13,16 +13,16 @@ use Rattle.heap_class.specs.declared.IdSize.{IdSize}
 use Rattle.heap_class.specs.declared.ObjKind.{ObjKind}
 use Rattle.heap_class.specs.declared.ObjKind.TheVariants.{Instance, Array, Prim}
 use Rattle.heap_class.specs.Classes.{Class}
+use Rattle.hprof_text.specs.Cursors.{from_item}
 use Rattle.hprof_text.specs.declared.section.NumberedSection.{NumberedSection}
 use Rattle.hprof_text.specs.declared.section.NumberedSection.TheVariants.{ClassDumps, ClassRoots, RegisterRoots}
 use Rattle.hprof_text.specs.declared.section.Section.{Section}
 use Rattle.hprof_text.specs.declared.section.Section.TheVariants.{Numbered, Objects}
 use Rattle.hprof_text.specs.Image.{Image, DumpedObject, IsDumpable}
 use Rattle.hprof_text.specs.Records.{class_at}
-use Rattle.hprof_text.specs.Sections.{items_of, joined, records_in, after, sections, from_item, sub_records}
-use Rattle.hprof_text.specs.Text.{class_dump, root_sticky_class, root_unknown, dump_of, object_dump}
+use Rattle.hprof_text.specs.Text.{class_dump, root_sticky_class, root_unknown, dump_of, object_dump, items_of, joined, records_in, after, sections, sub_records, root, class_id}
 use Rattle.hprof_text.proofs.Bounds.{class_size_small, id_small, dump_size_small}
-use Rattle.hprof_text.proofs.Lengths.{class_dump_length, sticky_length, root_length, dump_length}
+use Rattle.hprof_text.proofs.Lengths.{class_dump_length, root_length, dump_length}
 use Rattle.hprof_text.proofs.Loops.{class_item, drop_item, numbered}
 use Rattle.hprof_text.proofs.Tables.{IsSmall, classes_small}
 
@@ -58,9 +58,9 @@ class_bytes : (ids : IdSize) (classes : List Class) (c : ℕ × Class) → HasBy
 unfolding class_dump
 class_bytes ids classes c = omega arith
 
-sticky_bytes : (ids : IdSize) (k : ℕ) → HasBytes (root_sticky_class ids k)
-unfolding root_sticky_class
-sticky_bytes ids k = omega arith
+root_bytes : (ids : IdSize) (tag x : ℕ) → HasBytes (root ids tag x)
+unfolding root
+root_bytes ids tag x = omega arith
 
 object_bytes : (ids : IdSize) (classes : List Class) (x : ℕ) (kind : ObjKind) (words : List ℕ) → HasBytes (dump_of ids classes x kind words)
 unfolding dump_of
@@ -69,14 +69,13 @@ object_bytes ids classes x (Array k) words = omega arith
 object_bytes ids classes x (Prim k) words = omega arith
 
 register_item : (ids : IdSize) (x : ℕ) (b : Bool) → IsItem (if b then [] else root_unknown ids x ∷ [])
-unfolding root_unknown
 register_item ids x true = tt
-register_item ids x false = omega arith
+register_item ids x false = root_bytes ids 0xff x
 
 pub are_items : (ids : IdSize) (image : Image) (s : Section) → All IsItem (items_of ids image s)
 unfolding items_of object_dump
 are_items ids image (Numbered ClassDumps) = All-map IsItem (λ c. class_dump ids image.classes c ∷ []) (enumerate_from 0 image.classes) (λ k c l. class_bytes ids image.classes _)
-are_items ids image (Numbered ClassRoots) = All-map IsItem (λ c. root_sticky_class ids c.0 ∷ []) (enumerate_from 0 image.classes) (λ k c l. sticky_bytes ids _)
+are_items ids image (Numbered ClassRoots) = All-map IsItem (λ c. root_sticky_class ids c.0 ∷ []) (enumerate_from 0 image.classes) (λ k c l. root_bytes ids 0x05 _)
 are_items ids image Objects = All-map IsItem (λ o. object_dump ids image.classes o ∷ []) image.objects (λ k o l. object_bytes ids image.classes _ _ _)
 are_items ids image (Numbered RegisterRoots) = All-map IsItem (λ x. if x == 0 then [] else root_unknown ids x ∷ []) image.registers (λ k x l. register_item ids _ _)
 
@@ -90,7 +89,7 @@ one_short x h = All-cons IsWithin x [] h (All-nil IsWithin)
 
 register_short : (ids : IdSize) (x : ℕ) (b : Bool) → All IsWithin (if b then [] else root_unknown ids x ∷ [])
 register_short ids x true = All-nil IsWithin
-register_short ids x false = one_short (root_unknown ids x) (omega (arith, root_length ids x, id_small ids))
+register_short ids x false = one_short (root_unknown ids x) (omega (arith, root_length ids 0xff x, id_small ids))
 
 pub items_short : (ids : IdSize) (image : Image) → IsDumpable image → (s : Section) → All (All IsWithin) (items_of ids image s)
 unfolding items_of object_dump
@@ -102,7 +101,7 @@ items_short ids image d (Numbered ClassDumps) =
     (λ k c l s. one_short (class_dump ids image.classes (k, c)) (omega (arith, class_dump_length ids image.classes (k, c), class_size_small ids (length c.fields) s.fields)))
     (classes_small image.classes d.classes))
 items_short ids image d (Numbered ClassRoots) =
-    All-map (All IsWithin) (λ c. root_sticky_class ids c.0 ∷ []) (enumerate_from 0 image.classes) (λ k c l. one_short (root_sticky_class ids _) (omega (arith, sticky_length ids (get_or (enumerate_from 0 image.classes) k c).0, id_small ids)))
+    All-map (All IsWithin) (λ c. root_sticky_class ids c.0 ∷ []) (enumerate_from 0 image.classes) (λ k c l. one_short (root_sticky_class ids _) (omega (arith, root_length ids 0x05 (class_id (get_or (enumerate_from 0 image.classes) k c).0), id_small ids)))
 items_short ids image d Objects =
     All-map (All IsWithin) (λ o. object_dump ids image.classes o ∷ []) image.objects
     (λ k o l.

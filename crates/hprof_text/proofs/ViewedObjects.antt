@@ -10,9 +10,8 @@ use Rattle.heap_class.specs.Limits.{array_limit}
 pub use Rattle.heap_class.proofs.Lists.{got_is_in as is_there}
 use Rattle.hprof_text.specs.Image.{Image, DumpedObject, IsKnown, IsDumpable}
 use Rattle.hprof_text.specs.declared.section.Section.TheVariants.{Objects}
-use Rattle.hprof_text.specs.Sections.{items_of}
 use Rattle.hprof_text.specs.Sizes.{dump_size}
-use Rattle.hprof_text.specs.Text.{dump_of, object_dump}
+use Rattle.hprof_text.specs.Text.{dump_of, object_dump, items_of}
 use Rattle.hprof_text.proofs.Lengths.{dump_length}
 use Rattle.hprof_text.proofs.Loops.{some_item}
 use Rattle.hprof_text.proofs.Sections.{object_there, items_counted}

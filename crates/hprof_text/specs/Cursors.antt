@@ -1,13 +1,23 @@
 -- The places of cursors.
-use Rattle.std.specs.Prelude.{◌≡◌, ℕ, ◌+◌, ◌≤◌, List, [], length, drop, slice_get, Some}
+use Rattle.std.specs.Prelude.{◌≡◌, ℕ, ◌+◌, ◌≤◌, List, [], ◌∷◌, ◌++◌, length, drop, slice_get, Option, Some, None}
 use Rattle.heap_class.specs.declared.IdSize.{IdSize}
 use Rattle.heap_class.specs.declared.ObjRef.{ObjRef}
 use Rattle.hprof_text.specs.declared.Cursor.{Cursor}
 use Rattle.hprof_text.specs.declared.Cursor.TheVariants.{Start, Item, Object, End, Past}
+use Rattle.hprof_text.specs.declared.section.Section.{Section}
 use Rattle.hprof_text.specs.declared.section.Section.TheVariants.{Numbered, Objects}
 use Rattle.hprof_text.specs.Image.{Image}
-use Rattle.hprof_text.specs.Sections.{sub_records, from_item}
+use Rattle.hprof_text.specs.Text.{after, items_of, joined, records_in, sub_records}
 use Rattle.hprof_text.specs.Segments.{records_from}
+
+-- the sections from this one on, or none
+abbrev pub sections_from : Option Section → List Section
+sections_from (Some s) = s ∷ after s
+sections_from None = []
+
+-- the sub-records from item n of a section on
+abbrev pub from_item : IdSize → Image → Section → ℕ → List (List ℕ)
+from_item ids image s n = joined (drop n (items_of ids image s)) ++ records_in ids image (after s)
 
 -- these are the sub-records from the cursor on, of a view whose objects have these places
 abbrev pub IsRest : IdSize → Image → List ObjRef → Cursor → List (List ℕ) → Type 0

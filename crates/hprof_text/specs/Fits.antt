@@ -10,8 +10,7 @@ use Rattle.heap_class.specs.declared.ObjKind.TheVariants.{Instance, Array, Prim}
 use Rattle.heap_class.specs.Kinds.{id_bytes, width_of, type_code}
 use Rattle.heap_class.specs.Classes.{Class, slots_of, slot_kinds_of, name_table, name_id, instance_size}
 use Rattle.hprof_text.specs.Image.{Image}
-use Rattle.hprof_text.specs.Sections.{sub_records}
-use Rattle.hprof_text.specs.Text.{class_id, utf8, load_class, trace, value_bytes}
+use Rattle.hprof_text.specs.Text.{class_id, utf8, load_class, trace, value_bytes, sub_records}
 use Rattle.hprof_text.specs.Segments.{segment_limit, size_of, segments_of}
 
 -- n fits in this number of bytes

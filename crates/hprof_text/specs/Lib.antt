@@ -1,6 +1,5 @@
 pub mod Image
 pub mod Text
-pub mod Sections
 pub mod Segments
 pub mod Sizes
 pub mod Records

@@ -4,9 +4,9 @@ use Rattle.heap_class.specs.declared.IdSize.{IdSize}
 use Rattle.heap_class.specs.declared.ObjRef.{ObjRef}
 use Rattle.hprof_text.specs.declared.Cursor.{Cursor}
 use Rattle.hprof_text.specs.declared.section.Section.{Section}
-use Rattle.hprof_text.specs.Cursors.{IsRest}
+use Rattle.hprof_text.specs.Cursors.{IsRest, from_item}
 use Rattle.hprof_text.specs.Image.{Image}
-use Rattle.hprof_text.specs.Sections.{after, records_in, from_item}
+use Rattle.hprof_text.specs.Text.{after, records_in}
 use Rattle.hprof_text.specs.Segments.{segment_limit}
 
 -- whether a body takes a sub-record of n bytes; an empty body takes any

@@ -4,8 +4,7 @@ use Rattle.std.specs.List.{concat}
 use Rattle.heap_class.specs.declared.IdSize.{IdSize}
 use Rattle.hprof_text.specs.declared.Piece.{Piece}
 use Rattle.hprof_text.specs.Image.{Image}
-use Rattle.hprof_text.specs.Sections.{sub_records}
-use Rattle.hprof_text.specs.Text.{record_of, opening_records}
+use Rattle.hprof_text.specs.Text.{record_of, opening_records, sub_records}
 
 -- the largest size of a segment's body in bytes, unless it is a single sub-record
 abbrev pub segment_limit : ℕ

@@ -6,7 +6,7 @@ use Rattle.heap_class.specs.declared.ObjKind.TheVariants.{Instance, Array, Prim}
 use Rattle.heap_class.specs.Kinds.{id_bytes, width_of}
 use Rattle.heap_class.specs.Classes.{Class, name_table, instance_size}
 use Rattle.hprof_text.specs.Image.{Image}
-use Rattle.hprof_text.specs.Sections.{sub_records}
+use Rattle.hprof_text.specs.Text.{sub_records}
 use Rattle.hprof_text.specs.Segments.{segment_limit, sizes_at, segment_sizes}
 
 -- the largest size of the sub-record of a class

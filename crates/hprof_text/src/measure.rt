@@ -1,7 +1,8 @@
 //! The length of a dump, added up from the sizes of its sub-records.
 ghost use Rattle.std.specs.Prelude.{◌≡◌, ◌+◌, ◌<◌, ◌≤◌, ◌^◌, [], ◌∷◌, length, map};
+ghost use Rattle.hprof_text.specs.Cursors.{from_item};
 ghost use Rattle.hprof_text.specs.declared.section.Section.TheVariants.{Numbered, Objects};
-ghost use Rattle.hprof_text.specs.Sections.{after, records_in, from_item, sub_records};
+ghost use Rattle.hprof_text.specs.Text.{after, records_in, sub_records};
 ghost use Rattle.hprof_text.specs.SizeSums.{IsAdded, IsMeasured, section_limit, total};
 ghost use Rattle.hprof_text.specs.Sizes.{records_size};
 

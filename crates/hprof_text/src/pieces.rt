@@ -5,7 +5,7 @@ ghost use Rattle.hprof_text.specs.declared.Cursor.TheVariants.{Past};
 ghost use Rattle.hprof_text.specs.declared.section.Section.TheVariants.{Numbered, Objects};
 ghost use Rattle.hprof_text.specs.Records.{opening_of};
 ghost use Rattle.hprof_text.specs.Cursors.{IsAt, IsBefore, IsRest};
-ghost use Rattle.hprof_text.specs.Sections.{after, records_in};
+ghost use Rattle.hprof_text.specs.Text.{after, records_in};
 ghost use Rattle.hprof_text.specs.SegmentFilling.{IsFilledFrom, IsFilledTo};
 ghost use Rattle.hprof_text.specs.Segments.{piece_of};
 

@@ -2,7 +2,8 @@
 ghost use Rattle.std.specs.Prelude.{◌≡◌, ◌<◌, ◌≤◌, ℕ, List, Some, IfSome, length, map, slice_get};
 ghost use Rattle.std.specs.Option.{option_to_list};
 ghost use Rattle.heap_class.specs.Limits.{class_limit};
-ghost use Rattle.hprof_text.specs.Sections.{sections, after, sections_from, items_of};
+ghost use Rattle.hprof_text.specs.Cursors.{sections_from};
+ghost use Rattle.hprof_text.specs.Text.{sections, after, items_of};
 ghost use Rattle.hprof_text.specs.Sizes.{class_size_limit};
 ghost use Rattle.hprof_text.specs.declared.section.Section.TheVariants.{Numbered};
 

@@ -7,10 +7,10 @@ ghost use Rattle.hprof_text.specs.declared.section.Section.TheVariants.{Numbered
 ghost use Rattle.hprof_text.specs.SegmentFilling.{takes, IsOffered, IsItemOffered};
 ghost use Rattle.hprof_text.specs.Image.{IsKnown};
 ghost use Rattle.hprof_text.specs.Records.{class_at};
-ghost use Rattle.hprof_text.specs.Sections.{items_of};
 ghost use Rattle.hprof_text.specs.Sizes.{sub_record_limit};
-ghost use Rattle.hprof_text.specs.Text.{record_of, class_dump, root_sticky_class, root_unknown, dump_of};
+ghost use Rattle.hprof_text.specs.Text.{record_of, class_dump, root, dump_of, items_of};
 
+use crate::records::class_id;
 use crate::section::NumberedSection;
 use crate::segment_bytes::SegmentBytes;
 use crate::sizes::{array_size, class_size, dump_size, prim_size, root_size};
@@ -90,14 +90,13 @@ impl Segment {
         taken
     }
 
-    // Offers the root of a class, and tells whether it was taken.
-    fn offer_class_root(&mut self, ids: IdSize, class: ClassNo) -> bool
-        requires { class < class_limit }
-        ensures { IsOffered (root_sticky_class ids class) self.old self.new result }
+    // Offers a root with this tag, and tells whether it was taken.
+    fn offer_root(&mut self, ids: IdSize, tag: u8, id: u64) -> bool
+        ensures { IsOffered (root ids tag id) self.old self.new result }
     {
         let taken = self.takes(root_size(ids));
         if taken {
-            self.buffer.root_sticky_class(ids, class);
+            self.buffer.root(ids, tag, id);
         }
         taken
     }
@@ -179,17 +178,6 @@ impl Segment {
         }
     }
 
-    // Offers the root of a register that isn't null, and tells whether it was taken.
-    fn offer_register_root(&mut self, ids: IdSize, register: u64) -> bool
-        ensures { IsOffered (root_unknown ids register) self.old self.new result }
-    {
-        let taken = self.takes(root_size(ids));
-        if taken {
-            self.buffer.root_unknown(ids, register);
-        }
-        taken
-    }
-
     /// Offers a view's item of a section by its number, and tells whether it was taken. An item that has no sub-record is.
     #[tactic(auto, using(crate::proofs::Sections::items_counted))]
     pub fn offer_item<V: View>(&mut self, view: &V, section: NumberedSection, number: u64) -> bool
@@ -203,10 +191,10 @@ impl Segment {
         let ids = view.id_size();
         match section {
             NumberedSection::ClassDumps => self.offer_class_dump(ids, &classes, number),
-            NumberedSection::ClassRoots => self.offer_class_root(ids, number),
+            NumberedSection::ClassRoots => self.offer_root(ids, 0x05, class_id(number)),
             NumberedSection::RegisterRoots => {
                 let register = view.registers()[number as usize];
-                register == 0 || self.offer_register_root(ids, register)
+                register == 0 || self.offer_root(ids, 0xff, register)
             }
         }
     }

@@ -1,5 +1,5 @@
 use Rattle.std.proofs.Common.{length, map, sym, ap, ◌∙◌, arith}
-use Rattle.hprof_text.specs.Sections.{records_in, sub_records}
+use Rattle.hprof_text.specs.Text.{records_in, sub_records}
 use Rattle.hprof_text.specs.SizeSums.{total_with}
 use Rattle.hprof_text.proofs.AddedSizes.{none_measured, total_small}
 use Rattle.hprof_text.proofs.measure.segments_size.Goals as goal

@@ -1,5 +1,6 @@
 use Rattle.std.proofs.Common.{◌+◌, ◌*◌, ◌≤◌, ◌≡◌, length, map}
-use Rattle.hprof_text.specs.Sections.{sections, records_in, sections_from, sub_records}
+use Rattle.hprof_text.specs.Cursors.{sections_from}
+use Rattle.hprof_text.specs.Text.{sections, records_in, sub_records}
 use Rattle.hprof_text.specs.SizeSums.{section_limit, total_with}
 use Rattle.hprof_text.specs.Sizes.{records_size}
 use Rattle.hprof_text.proofs.measure.segments_size.Given as goal

@@ -1,13 +1,12 @@
-use Rattle.std.proofs.Common.{◌+◌, ◌*◌, ◌≤◌, ◌<◌, ℕ, Option, [], ◌∷◌, length, map, sym, ap, ◌∙◌, subst, arith}
-use Rattle.std.specs.Prelude.{IfSome}
-use Rattle.std.specs.Option.{option_to_list}
-use Rattle.hprof_text.specs.Sections.{items_of, from_item}
-use Rattle.hprof_text.specs.SizeSums.{IsMeasured, total_with}
+use Rattle.std.proofs.Common.{◌+◌, ◌*◌, ◌≤◌, ◌<◌, ℕ, Option, sym, subst, arith}
+use Rattle.std.specs.Prelude.{IfSome, Some, None}
+use Rattle.hprof_text.specs.Cursors.{from_item}
+use Rattle.hprof_text.specs.Text.{items_of}
+use Rattle.hprof_text.specs.SizeSums.{IsMeasured}
 use Rattle.hprof_text.specs.declared.measure.Measure.{Measure}
 use Rattle.hprof_text.specs.declared.section.Section.TheVariants.{Numbered}
-use Rattle.hprof_text.proofs.AddedSizes.{item_measured, none_added}
+use Rattle.hprof_text.proofs.AddedSizes.{item_measured, items_measured, none_added}
 use Rattle.hprof_text.proofs.Loops.{some_item}
-use Rattle.hprof_text.proofs.Sections.{from_past}
 use Rattle.hprof_text.proofs.measure.Measure.add_items.Goals.{in-Some, in_default}
 use Rattle.hprof_text.proofs.measure.Measure.add_items.Goals as goal
 
@@ -25,13 +24,12 @@ loop-number-preserved g c =
     let Kept : Measure → Type 0 = λ m. IsMeasured rest (from_item ids image s (n + 1)) old m × (m.closed + m.body ≤ old.closed + old.body + (n + 1) * 656) in
     elim c.match-size.branch [
       | in-Some w ↦
-          let size = w.in-Some.size in
           let small = subst (λ (o : Option ℕ). IfSome o (λ k. (0 < k) × (k ≤ 647))) w.in-Some.is c.size.ensures.limit in
-          subst Kept (sym w.self-is) (
-            item_measured ids image s n item.0 rest (size ∷ []) old now w.add.new.self item.1 (sized ∙ ap option_to_list w.in-Some.is) w.add.ensures.added c.loop-number.invariant.0,
-            omega (arith, c.loop-number.invariant.1, w.add.ensures.limit, small.1),
-          )
-      | in_default w ↦ subst Kept (sym w.self-is) (item_measured ids image s n item.0 rest [] old now now item.1 (sized ∙ ap option_to_list w.in_default.is) (none_added now) c.loop-number.invariant.0, omega (arith, c.loop-number.invariant.1))
+          let added = item_measured ids image s n item.0 rest c.size.result (Some w.in-Some.size) old now w.add.new.self item.1 sized w.in-Some.is w.add.ensures.added c.loop-number.invariant.0 in
+          subst Kept (sym w.self-is) (added, omega (arith, c.loop-number.invariant.1, w.add.ensures.limit, small.1))
+      | in_default w ↦
+          let added = item_measured ids image s n item.0 rest c.size.result None old now now item.1 sized w.in_default.is (none_added now) c.loop-number.invariant.0 in
+          subst Kept (sym w.self-is) (added, omega (arith, c.loop-number.invariant.1))
     ]
 
 pub returns-clause-added : goal.returns-clause-added
@@ -39,5 +37,4 @@ returns-clause-added g c =
     let ids = g.V.View.ids c.args.view.now in
     let image = g.V.View.image c.args.view.now in
     let n = c.loop-number.number in
-    let past = from_past ids image (Numbered c.args.section) n (omega (arith, c.loop-number-test.false, c.count-number-end.ensures.value)) in
-    ap (λ l. total_with c.loop-number.self (map length l)) (sym past) ∙ c.loop-number.invariant.0
+    items_measured ids image (Numbered c.args.section) n (from_item ids image (Numbered c.args.section) 0) c.args.self.now c.loop-number.self (omega (arith, c.loop-number-test.false, c.count-number-end.ensures.value)) c.loop-number.invariant.0

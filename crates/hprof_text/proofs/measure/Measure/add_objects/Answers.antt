@@ -1,11 +1,11 @@
-use Rattle.std.proofs.Common.{[], ◌∷◌, length, map, sym, ◌∙◌, ap, ap₂, arith}
-use Rattle.hprof_text.specs.Sections.{from_item}
-use Rattle.hprof_text.specs.SizeSums.{total_with}
+use Rattle.std.proofs.Common.{[], ◌∷◌, length, refl, sym, ◌∙◌, ap, ap₂, arith}
+use Rattle.std.specs.Prelude.{Some}
+use Rattle.hprof_text.specs.Cursors.{from_item}
 use Rattle.hprof_text.specs.Sizes.{dump_size}
 use Rattle.hprof_text.specs.Text.{object_dump}
 use Rattle.hprof_text.specs.declared.section.Section.TheVariants.{Objects}
-use Rattle.hprof_text.proofs.AddedSizes.{item_measured}
-use Rattle.hprof_text.proofs.Sections.{from_past, object_there}
+use Rattle.hprof_text.proofs.AddedSizes.{item_measured, items_measured}
+use Rattle.hprof_text.proofs.Sections.{object_there}
 use Rattle.hprof_text.proofs.ViewedObjects.{fewer_left, here, object_sized, objects_past, within}
 use Rattle.hprof_text.proofs.measure.Measure.add_objects.Goals as goal
 
@@ -31,7 +31,7 @@ loop-here-preserved g c =
     let sized = ap (λ n. n ∷ []) (object_sized ids image i c.kind.result c.words.result.now h ∙ sym (c.dump_size.ensures.value ∙ size)) in
     record {
       here = c.next-here.ensures i e;
-      added = item_measured ids image Objects i item (from_item ids image Objects 0) (c.dump_size.result ∷ []) c.args.self.now c.loop-here.self c.add.new.self (object_there ids image i h.object h.there) sized c.add.ensures.added c.loop-here.invariant.added;
+      added = item_measured ids image Objects i item (from_item ids image Objects 0) (Some c.dump_size.result) (Some c.dump_size.result) c.args.self.now c.loop-here.self c.add.new.self (object_there ids image i h.object h.there) sized refl c.add.ensures.added c.loop-here.invariant.added;
       limit = omega (arith, c.loop-here.invariant.limit, c.add.ensures.limit, c.dump_size.ensures.limit);
       passed = within places i c.in-Some.at e;
     }
@@ -41,4 +41,4 @@ returns-clause-added g c =
     let ids = g.V.View.ids c.args.view.now in
     let image = g.V.View.image c.args.view.now in
     let h = objects_past ids image (g.V.View.places c.args.view.now) c.loop-here.passed (sym c.in_default.is ∙ c.loop-here.invariant.here) c.classes-classes.ensures.placed in
-    ap (λ l. total_with c.loop-here.self (map length l)) (sym (from_past ids image Objects c.loop-here.passed h)) ∙ c.loop-here.invariant.added
+    items_measured ids image Objects c.loop-here.passed (from_item ids image Objects 0) c.args.self.now c.loop-here.self h c.loop-here.invariant.added

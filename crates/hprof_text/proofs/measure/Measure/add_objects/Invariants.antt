@@ -1,6 +1,6 @@
 use Rattle.std.proofs.Common.{◌≡◌, ◌≤◌, ◌-◌, ◌+◌, ◌*◌, length}
 use Rattle.std.specs.Prelude.{slice_get}
-use Rattle.hprof_text.specs.Sections.{from_item}
+use Rattle.hprof_text.specs.Cursors.{from_item}
 use Rattle.hprof_text.specs.SizeSums.{IsMeasured}
 use Rattle.hprof_text.specs.declared.section.Section.TheVariants.{Objects}
 use Rattle.hprof_text.proofs.measure.Measure.add_objects.Given as goal

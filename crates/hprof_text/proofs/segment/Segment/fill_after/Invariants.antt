@@ -1,5 +1,6 @@
 use Rattle.std.proofs.Common.{◌≡◌, length}
-use Rattle.hprof_text.specs.Sections.{after, records_in, sections_from}
+use Rattle.hprof_text.specs.Cursors.{sections_from}
+use Rattle.hprof_text.specs.Text.{after, records_in}
 use Rattle.hprof_text.specs.SegmentFilling.{body_filled}
 use Rattle.hprof_text.proofs.segment.Segment.fill_after.Given as goal
 

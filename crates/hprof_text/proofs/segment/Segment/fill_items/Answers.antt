@@ -1,12 +1,11 @@
-use Rattle.std.proofs.Common.{refl, ap, ◌∙◌, arith}
-use Rattle.hprof_text.specs.Sections.{items_of, from_item}
-use Rattle.hprof_text.specs.SegmentFilling.{body_filled}
+use Rattle.std.proofs.Common.{refl, arith}
+use Rattle.hprof_text.specs.Cursors.{from_item}
+use Rattle.hprof_text.specs.Text.{items_of}
 use Rattle.hprof_text.specs.declared.Cursor.TheVariants.{Item}
 use Rattle.hprof_text.specs.declared.section.Section.TheVariants.{Numbered}
-use Rattle.hprof_text.proofs.FilledSegments.{item_taken, item_left}
+use Rattle.hprof_text.proofs.FilledSegments.{item_taken, item_left, items_taken}
 use Rattle.hprof_text.proofs.Loops.{some_item}
 use Rattle.hprof_text.proofs.NumberedPieces.{filled_to}
-use Rattle.hprof_text.proofs.Sections.{from_past}
 use Rattle.hprof_text.proofs.segment.Segment.fill_items.Goals as goal
 
 pub returns-then-not-offer_item : goal.returns-then-not-offer_item
@@ -32,4 +31,4 @@ pub returns : goal.returns
 returns g c =
     let ids = g.V.View.ids c.args.view.now in
     let image = g.V.View.image c.args.view.now in
-    c.loop-number.invariant ∙ ap (body_filled c.loop-number.self) (from_past ids image (Numbered c.args.section) c.loop-number.number (omega (arith, c.loop-number-test.false, c.count-number-end.ensures.value)))
+    items_taken ids image (Numbered c.args.section) c.loop-number.number c.args.from c.args.self.now c.loop-number.self (omega (arith, c.loop-number-test.false, c.count-number-end.ensures.value)) c.loop-number.invariant

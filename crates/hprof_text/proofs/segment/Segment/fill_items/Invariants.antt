@@ -1,5 +1,5 @@
 use Rattle.std.proofs.Common.{◌≡◌}
-use Rattle.hprof_text.specs.Sections.{from_item}
+use Rattle.hprof_text.specs.Cursors.{from_item}
 use Rattle.hprof_text.specs.SegmentFilling.{body_filled}
 use Rattle.hprof_text.specs.declared.section.Section.TheVariants.{Numbered}
 use Rattle.hprof_text.proofs.segment.Segment.fill_items.Given as goal

@@ -1,13 +1,12 @@
 use Rattle.std.proofs.Common.{◌≡◌, ◌+◌, [], ◌∷◌, refl, sym, ap, ◌∙◌, arith}
 use Rattle.std.specs.Prelude.{slice_get}
-use Rattle.hprof_text.specs.Sections.{from_item}
+use Rattle.hprof_text.specs.Cursors.{from_item}
 use Rattle.hprof_text.specs.SegmentFilling.{body_filled}
 use Rattle.hprof_text.specs.Text.{dump_of}
 use Rattle.hprof_text.specs.declared.Cursor.TheVariants.{Object}
 use Rattle.hprof_text.specs.declared.section.Section.TheVariants.{Objects}
-use Rattle.hprof_text.proofs.FilledSegments.{by_one, item_taken, item_left}
+use Rattle.hprof_text.proofs.FilledSegments.{by_one, item_taken, item_left, items_taken}
 use Rattle.hprof_text.proofs.NumberedPieces.{filled_to}
-use Rattle.hprof_text.proofs.Sections.{from_past}
 use Rattle.hprof_text.proofs.ViewedObjects.{here, object_record, within, objects_past}
 use Rattle.hprof_text.proofs.segment.Segment.fill_objects.Goals as goal
 
@@ -72,4 +71,4 @@ returns g c = λ n b l.
     let image = g.V.View.image v in
     let i = n + c.loop-here.passed in
     let h = objects_past ids image (g.V.View.places v) i (sym c.in_default.is ∙ c.loop-here.invariant.here n b) c.classes-classes.ensures.placed in
-    c.loop-here.invariant.filled n b ∙ ap (body_filled c.loop-here.self) (from_past ids image Objects i h)
+    items_taken ids image Objects i n c.args.self.now c.loop-here.self h (c.loop-here.invariant.filled n b)

@@ -1,6 +1,6 @@
 use Rattle.std.proofs.Common.{◌≡◌, ◌≤◌, ◌+◌, ◌-◌, ℕ, length}
 use Rattle.std.specs.Prelude.{slice_get}
-use Rattle.hprof_text.specs.Sections.{from_item}
+use Rattle.hprof_text.specs.Cursors.{from_item}
 use Rattle.hprof_text.specs.SegmentFilling.{body_filled}
 use Rattle.hprof_text.specs.declared.section.Section.TheVariants.{Objects}
 use Rattle.hprof_text.proofs.segment.Segment.fill_objects.Given as goal

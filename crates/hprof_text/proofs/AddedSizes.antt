@@ -1,10 +1,13 @@
 -- Sizes that are added up.
 use Rattle.std.proofs.Common.{◌≡◌, ℕ, zero, suc, ◌+◌, ◌≤◌, ◌<◌, Bool, true, false, List, [], ◌∷◌, ◌++◌, length, map, refl, sym, ap, ap₂, ◌∙◌, arith, inl, inr}
-use Rattle.std.specs.Prelude.{nat_le, sum_by, slice_get, Option, Some, ◌⊎◌}
+use Rattle.std.specs.Prelude.{nat_le, sum_by, slice_get, Option, Some, None, ◌⊎◌}
 use Rattle.std.specs.Option.{option_to_list}
 use Rattle.heap_class.specs.declared.IdSize.{IdSize}
 use Rattle.hprof_text.specs.Cursors.{from_item}
+use Rattle.heap_class.specs.Classes.{Class}
+use Rattle.hprof_text.specs.declared.section.SubRecord.{SubRecord}
 use Rattle.hprof_text.specs.Image.{Image}
+use Rattle.hprof_text.specs.Records.{bytes_of}
 use Rattle.std.proofs.lemmas.List.{map-append}
 use Rattle.std.proofs.lemmas.List.Sums.{sum_by-cons}
 use Rattle.std.proofs.lemmas.Bool.Decides.{leb_tells}
@@ -68,12 +71,18 @@ none_measured m sizes x y = let z : 0 + records_size sizes ≡ records_size size
 
 -- ---- one item of a section
 
-pub item_measured : (ids : IdSize) (image : Image) (s : Section) (n : ℕ) (item rest : List (List ℕ)) (size is : Option ℕ) (old now new : Measure) → slice_get (items_of ids image s) n ≡ Some item → map length item ≡ option_to_list size → size ≡ is → IsAdded (option_to_list is) now new
+pub item_measured : (ids : IdSize) (image : Image) (s : Section) (n : ℕ) (item rest : List (List ℕ)) (sizes : List ℕ) (old now new : Measure) → slice_get (items_of ids image s) n ≡ Some item → map length item ≡ sizes → IsAdded sizes now new
     → IsMeasured rest (from_item ids image s n) old now → IsMeasured rest (from_item ids image s (n + 1)) old new
-item_measured ids image s n item rest size is old now new e m i a h =
+item_measured ids image s n item rest sizes old now new e m a h =
     let left = from_item ids image s (n + 1) in
-    let sizes = ap (λ o. option_to_list o ++ map length left) (sym i) ∙ ap (λ l. l ++ map length left) (sym m) in
-    a (map length left) ∙ ap (total_with now) (sizes ∙ sym (map-append length item left) ∙ ap (map length) (sym (from_next ids image s n item e))) ∙ h
+    a (map length left) ∙ ap (total_with now) (ap (λ l. l ++ map length left) (sym m) ∙ sym (map-append length item left) ∙ ap (map length) (sym (from_next ids image s n item e))) ∙ h
+
+-- the sizes of an item's sub-record, if it has one
+pub sub_sized : (ids : IdSize) (classes : List Class) (given : Option SubRecord) (sub : SubRecord) (s : IdSize) (cs : List Class) (size : ℕ) → given ≡ Some sub → s ≡ ids → cs ≡ classes → size ≡ length (bytes_of s cs sub) → map length (map (bytes_of ids classes) (option_to_list given)) ≡ size ∷ []
+sub_sized ids classes given sub s cs size g x y e = ap (λ r. map length (map (bytes_of ids classes) (option_to_list r))) g ∙ ap (λ n. n ∷ []) (ap₂ (λ t ds. length (bytes_of t ds sub)) (sym x) (sym y) ∙ sym e)
+
+pub none_sized : (ids : IdSize) (classes : List Class) (given : Option SubRecord) → given ≡ None → map length (map (bytes_of ids classes) (option_to_list given)) ≡ []
+none_sized ids classes given g = ap (λ r. map length (map (bytes_of ids classes) (option_to_list r))) g
 
 pub items_measured : (ids : IdSize) (image : Image) (s : Section) (n : ℕ) (rest : List (List ℕ)) (old now : Measure) → length (items_of ids image s) ≤ n → IsMeasured rest (from_item ids image s n) old now → IsMeasured rest (records_in ids image (after s)) old now
 items_measured ids image s n rest old now l h = ap (λ left. total_with now (map length left)) (sym (from_past ids image s n l)) ∙ h

@@ -1,6 +1,7 @@
 -- A segment filled with what it takes is the next segment.
 use Rattle.std.proofs.Common.{◌≡◌, ℕ, ◌+◌, ◌<◌, ◌≤◌, Bool, true, false, List, [], ◌∷◌, ◌++◌, length, map, refl, sym, ap, ap₂, ◌∙◌, subst, arith, append_assoc, length-append}
-use Rattle.std.specs.Prelude.{nat_le, slice_get, Some, ◌==◌}
+use Rattle.std.specs.Prelude.{nat_le, slice_get, Option, Some, None}
+use Rattle.std.specs.Option.{option_to_list}
 use Rattle.std.proofs.lemmas.Option.{same_Some}
 use Rattle.std.specs.List.{concat}
 use Rattle.std.proofs.lemmas.List.{append-nil}
@@ -9,12 +10,15 @@ use Rattle.hprof_text.specs.Cursors.{from_item}
 use Rattle.hprof_text.specs.declared.section.NumberedSection.{NumberedSection}
 use Rattle.hprof_text.specs.declared.section.Section.{Section}
 use Rattle.hprof_text.specs.declared.section.Section.TheVariants.{Numbered}
+use Rattle.hprof_text.specs.declared.section.SubRecord.{SubRecord}
 use Rattle.hprof_text.specs.Image.{Image}
+use Rattle.hprof_text.specs.Records.{bytes_of}
+use Rattle.heap_class.specs.Classes.{Class}
 use Rattle.hprof_text.specs.Text.{record_of, items_of, after, records_in}
 use Rattle.hprof_text.specs.Segments.{segment_limit, cut_at, segments_of, segment_records}
 use Rattle.hprof_text.specs.SegmentFilling.{takes, body_filled, IsOffered, IsItemOffered}
 use Rattle.hprof_text.proofs.Cutting.{Cutting, cut_by}
-use Rattle.hprof_text.proofs.Sections.{HasOnly, HasNone, from_next, from_past}
+use Rattle.hprof_text.proofs.Sections.{from_next, from_past}
 
 -- ---- one sub-record
 
@@ -42,13 +46,18 @@ pub by_one : (x old new : List ℕ) (taken : Bool) → IsOffered x old new taken
 by_one x old new true o more = filled_more old x new more o
 by_one x old new false o more = filled_stop old x new more o
 
-pub one_offered : (ids : IdSize) (image : Image) (section : NumberedSection) (k : ℕ) (x old new : List ℕ) (taken : Bool) → HasOnly ids image section k x → IsOffered x old new taken
-    → (item : List (List ℕ)) → slice_get (items_of ids image (Numbered section)) k ≡ Some item → IsItemOffered item old new taken
-one_offered ids image section k x old new taken a o item b = subst (λ i. IsItemOffered i old new taken) (same_Some (x ∷ []) item (sym a ∙ b)) (by_one x old new taken o)
+pub sub_offered : (ids : IdSize) (image : Image) (section : NumberedSection) (k : ℕ) (given : Option SubRecord) (sub : SubRecord) (s : IdSize) (cs : List Class) (old new : List ℕ) (taken : Bool) → slice_get (items_of ids image (Numbered section)) k ≡ Some (map (bytes_of ids image.classes) (option_to_list given))
+    → given ≡ Some sub → s ≡ ids → cs ≡ image.classes → IsOffered (bytes_of s cs sub) old new taken → (item : List (List ℕ)) → slice_get (items_of ids image (Numbered section)) k ≡ Some item → IsItemOffered item old new taken
+sub_offered ids image section k given sub s cs old new taken a g x y o item b =
+    let one : bytes_of s cs sub ∷ [] ≡ map (bytes_of ids image.classes) (option_to_list given) = ap₂ (λ t ds. bytes_of t ds sub ∷ []) x y ∙ ap (λ r. map (bytes_of ids image.classes) (option_to_list r)) (sym g) in
+    subst (λ i. IsItemOffered i old new taken) (one ∙ same_Some _ item (sym a ∙ b)) (by_one (bytes_of s cs sub) old new taken o)
 
 -- an item without a sub-record is taken
-pub none_offered : (ids : IdSize) (image : Image) (section : NumberedSection) (k n : ℕ) (old : List ℕ) → HasNone ids image section k → n ≡ 0 → (item : List (List ℕ)) → slice_get (items_of ids image (Numbered section)) k ≡ Some item → IsItemOffered item old old (n == 0)
-none_offered ids image section k n old a z item b = subst (λ i. IsItemOffered i old old (n == 0)) (same_Some [] item (sym a ∙ b)) (subst (IsItemOffered [] old old) (ap (λ m. m == 0) (sym z)) (λ more. refl))
+pub none_offered : (ids : IdSize) (image : Image) (section : NumberedSection) (k : ℕ) (given : Option SubRecord) (old : List ℕ) → slice_get (items_of ids image (Numbered section)) k ≡ Some (map (bytes_of ids image.classes) (option_to_list given)) → given ≡ None
+    → (item : List (List ℕ)) → slice_get (items_of ids image (Numbered section)) k ≡ Some item → IsItemOffered item old old true
+none_offered ids image section k given old a g item b =
+    let none : [] ≡ map (bytes_of ids image.classes) (option_to_list given) = ap (λ r. map (bytes_of ids image.classes) (option_to_list r)) (sym g) in
+    subst (λ i. IsItemOffered i old old true) (none ∙ same_Some _ item (sym a ∙ b)) (λ more. refl)
 
 -- the item is taken, and the next one's turn has come
 pub item_taken : (ids : IdSize) (image : Image) (s : Section) (n start : ℕ) (item : List (List ℕ)) (old now new : List ℕ) (taken : Bool) → slice_get (items_of ids image s) n ≡ Some item → taken ≡ true → IsItemOffered item now new taken

@@ -1,5 +1,5 @@
 -- What holds of the items of each section.
-use Rattle.std.proofs.Common.{◌≡◌, ◌≢◌, ℕ, ◌+◌, ◌<◌, ◌≤◌, Bool, true, false, List, [], ◌∷◌, ◌++◌, length, map, drop, get_or, sym, ap, ap₂, ◌∙◌, subst, arith, append_assoc, length-append, inl, inr}
+use Rattle.std.proofs.Common.{◌≡◌, ◌≢◌, ℕ, ◌+◌, ◌<◌, ◌≤◌, Bool, true, false, List, [], ◌∷◌, ◌++◌, length, map, drop, get_or, sym, ap, ◌∙◌, subst, arith, append_assoc, length-append, inl, inr}
 use Rattle.std.specs.Prelude.{◌==◌, slice_get, Some, All, if◌then◌else◌, sum_by}
 use Rattle.std.specs.List.{enumerate_from}
 use Rattle.std.specs.Option.{option_map}
@@ -8,7 +8,7 @@ use Rattle.std.proofs.lemmas.List.FromFn.{length-enumerate_from}
 use Rattle.std.proofs.lemmas.List.Sums.{sum_by-cons}
 use Rattle.std.proofs.lemmas.List.Elements.{All-nil, All-cons, All-head, All-tail, All-append, All-drop, All-map}
 use Rattle.std.proofs.lemmas.Bool.Decides.{eqb_tells}
-use Rattle.std.proofs.lemmas.Option.{slice_get-map, slice_get-get_or, same_Some}
+use Rattle.std.proofs.lemmas.Option.{slice_get-map, slice_get-get_or}
 use Rattle.heap_class.specs.declared.IdSize.{IdSize}
 use Rattle.heap_class.specs.declared.ObjKind.{ObjKind}
 use Rattle.heap_class.specs.declared.ObjKind.TheVariants.{Instance, Array, Prim}
@@ -123,18 +123,15 @@ HasNone ids image section k = slice_get (items_of ids image (Numbered section)) 
 within : (ids : IdSize) (image : Image) (section same : NumberedSection) (k : ℕ) → section ≡ same → k < length (items_of ids image (Numbered section)) → k < count_of image (Numbered same)
 within ids image section same k e h = let l = subst (λ s. k < length (items_of ids image (Numbered s))) e h in omega (arith, l, items_counted ids image (Numbered same))
 
-pub class_dump_there : (ids : IdSize) (image : Image) (section : NumberedSection) (k : ℕ) (s : IdSize) (cs : List Class) → section ≡ ClassDumps → s ≡ ids → cs ≡ image.classes → k < length (items_of ids image (Numbered section)) → HasOnly ids image section k (class_dump s cs (k, class_at cs k))
+pub class_dump_there : (ids : IdSize) (image : Image) (section : NumberedSection) (k : ℕ) → section ≡ ClassDumps → k < length (items_of ids image (Numbered section)) → HasOnly ids image section k (class_dump ids image.classes (k, class_at image.classes k))
 unfolding items_of
-class_dump_there ids image section k s cs e a b h =
-    let f : ℕ × Class → List (List ℕ) = λ c. class_dump ids image.classes c ∷ [] in
-    ap (λ t. slice_get (items_of ids image (Numbered t)) k) e ∙ class_item f image.classes k (within ids image section ClassDumps k e h)
-    ∙ ap₂ (λ t ds. Some (class_dump t ds (k, class_at ds k) ∷ [])) (sym a) (sym b)
+class_dump_there ids image section k e h = ap (λ t. slice_get (items_of ids image (Numbered t)) k) e ∙ class_item (λ c. class_dump ids image.classes c ∷ []) image.classes k (within ids image section ClassDumps k e h)
 
-pub class_root_there : (ids : IdSize) (image : Image) (section : NumberedSection) (k : ℕ) (s : IdSize) → section ≡ ClassRoots → s ≡ ids → k < length (items_of ids image (Numbered section)) → HasOnly ids image section k (root_sticky_class s k)
+pub class_root_there : (ids : IdSize) (image : Image) (section : NumberedSection) (k x : ℕ) → section ≡ ClassRoots → x ≡ class_id k → k < length (items_of ids image (Numbered section)) → HasOnly ids image section k (root ids 0x05 x)
 unfolding items_of
-class_root_there ids image section k s e a h =
+class_root_there ids image section k x e i h =
     ap (λ t. slice_get (items_of ids image (Numbered t)) k) e ∙ class_item (λ c. root_sticky_class ids c.0 ∷ []) image.classes k (within ids image section ClassRoots k e h)
-    ∙ ap (λ t. Some (root_sticky_class t k ∷ [])) (sym a)
+    ∙ ap (λ y. Some (root ids 0x05 y ∷ [])) (sym i)
 
 register_there : (ids : IdSize) (image : Image) (section : NumberedSection) (k : ℕ) (xs : List ℕ) (b : Bool) → section ≡ RegisterRoots → xs ≡ image.registers → k < length (items_of ids image (Numbered section)) → (get_or xs k 0 == 0) ≡ b
     → slice_get (items_of ids image (Numbered section)) k ≡ Some (if b then [] else root_unknown ids (get_or xs k 0) ∷ [])
@@ -149,21 +146,12 @@ register_there ids image section k xs b e a h z =
 pub null_there : (ids : IdSize) (image : Image) (section : NumberedSection) (k : ℕ) (xs : List ℕ) → section ≡ RegisterRoots → xs ≡ image.registers → k < length (items_of ids image (Numbered section)) → get_or xs k 0 ≡ 0 → HasNone ids image section k
 null_there ids image section k xs e a h z = register_there ids image section k xs true e a h (ap (λ x. x == 0) z)
 
-pub register_root_there : (ids : IdSize) (image : Image) (section : NumberedSection) (k : ℕ) (s : IdSize) (xs : List ℕ) → section ≡ RegisterRoots → s ≡ ids → xs ≡ image.registers → k < length (items_of ids image (Numbered section)) → get_or xs k 0 ≢ 0 → HasOnly ids image section k (root_unknown s (get_or xs k 0))
-register_root_there ids image section k s xs e a b h z =
-    register_there ids image section k xs false e b h (elim (eqb_tells (get_or xs k 0) 0) [ inl p ↦ absurd (z p.1) | inr p ↦ p.0 ])
-    ∙ ap (λ t. Some (root_unknown t (get_or xs k 0) ∷ [])) (sym a)
+pub register_root_there : (ids : IdSize) (image : Image) (section : NumberedSection) (k : ℕ) (xs : List ℕ) → section ≡ RegisterRoots → xs ≡ image.registers → k < length (items_of ids image (Numbered section)) → get_or xs k 0 ≢ 0 → HasOnly ids image section k (root_unknown ids (get_or xs k 0))
+register_root_there ids image section k xs e a h z = register_there ids image section k xs false e a h (elim (eqb_tells (get_or xs k 0) 0) [ inl p ↦ absurd (z p.1) | inr p ↦ p.0 ])
 
 pub object_there : (ids : IdSize) (image : Image) (i : ℕ) (o : DumpedObject) → slice_get image.objects i ≡ Some o → slice_get (items_of ids image Objects) i ≡ Some (object_dump ids image.classes o ∷ [])
 unfolding items_of
 object_there ids image i o e = slice_get-map (λ p. object_dump ids image.classes p ∷ []) image.objects i ∙ ap (option_map (λ p. object_dump ids image.classes p ∷ [])) e
-
--- its size
-pub one_sized : (ids : IdSize) (image : Image) (section : NumberedSection) (k n : ℕ) (x : List ℕ) → HasOnly ids image section k x → n ≡ length x → (item : List (List ℕ)) → slice_get (items_of ids image (Numbered section)) k ≡ Some item → map length item ≡ n ∷ []
-one_sized ids image section k n x a e item b = ap (map length) (same_Some item (x ∷ []) (sym b ∙ a)) ∙ ap (λ m. m ∷ []) (sym e)
-
-pub none_sized : (ids : IdSize) (image : Image) (section : NumberedSection) (k : ℕ) → HasNone ids image section k → (item : List (List ℕ)) → slice_get (items_of ids image (Numbered section)) k ≡ Some item → map length item ≡ []
-none_sized ids image section k a item b = ap (map length) (same_Some item [] (sym b ∙ a))
 
 -- ---- for all sections alike
 

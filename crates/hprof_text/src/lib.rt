@@ -50,7 +50,7 @@ pub struct Piece {
 pub enum Cursor {
     /// Before the first piece.
     Start,
-    /// Before the items of a section from this number on. The first sub-record after it begins the next segment.
+    /// Before this item of a section, by its number. The first sub-record from there on begins the next segment.
     Item(NumberedSection, u64),
     /// Before the sub-record of the object at a place, which begins the next segment.
     Object(ObjRef),

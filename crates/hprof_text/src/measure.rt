@@ -52,9 +52,11 @@ impl Measure {
         ensures limit { self.new.closed + self.new.body
             ≤ self.old.closed + self.old.body + section_limit }
     {
+        let classes = view.classes();
+        let ids = view.id_size();
         for number in 0..section.count(view) {
-            if let Some(size) = section.size(view, number) {
-                self.add(size);
+            if let Some(sub) = section.item(view, number) {
+                self.add(sub.size(ids, &classes));
             }
         }
     }

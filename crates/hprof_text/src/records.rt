@@ -5,11 +5,12 @@ ghost use Rattle.heap_class.specs.Classes.{sup_of};
 ghost use Rattle.heap_class.specs.Limits.{class_limit, name_limit, array_limit};
 ghost use Rattle.hprof_text.specs.SegmentContents.{HasRoom};
 ghost use Rattle.hprof_text.specs.Image.{IsKnown};
-ghost use Rattle.hprof_text.specs.Records.{class_at, record_head, field_bytes, class_ids, class_counts, instance_head};
+ghost use Rattle.hprof_text.specs.Records.{class_at, record_head, field_bytes, class_ids, class_counts, instance_head, bytes_of, IsOfClasses};
 ghost use Rattle.heap_class.specs.declared.IdSize.TheVariants.{Eight};
 ghost use Rattle.heap_class.specs.declared.ObjKind.TheVariants.{Instance, Array, Prim};
 ghost use Rattle.hprof_text.specs.Text.{class_id, header, utf8, load_class, trace, class_dump, root, root_sticky_class, root_unknown, dump_of};
 
+use crate::section::SubRecord;
 use crate::segment_bytes::SegmentBytes;
 use crate::sizes::instance_size;
 use byteorder::{BigEndian, ByteOrder};
@@ -211,6 +212,20 @@ impl SegmentBytes {
         ensures limit { self.new.limit ≡ self.old.limit }
     {
         self.root(ids, 0xff, object);
+    }
+
+    /// Appends the sub-record of an item. There must be room.
+    pub fn sub_record(&mut self, ids: IdSize, classes: &FirstClasses<'_>, sub: SubRecord)
+        requires room { HasRoom self.old (bytes_of ids classes.now sub) }
+        requires known { IsOfClasses classes.now sub }
+        requires few { length classes.now ≤ class_limit }
+        ensures written { self.new.written ≡ self.old.written ++ bytes_of ids classes.now sub }
+        ensures limit { self.new.limit ≡ self.old.limit }
+    {
+        match sub {
+            SubRecord::ClassDump(class) => self.class_dump(ids, classes, class),
+            SubRecord::Root(tag, id) => self.root(ids, tag, id),
+        }
     }
 
     // Appends the bytes before the values of an INSTANCE DUMP. Ids of eight bytes are usual, so with them all is appended at

@@ -6,14 +6,13 @@ ghost use Rattle.heap_class.specs.declared.Refusal.TheVariants.{NoMemory};
 ghost use Rattle.hprof_text.specs.declared.section.Section.TheVariants.{Numbered};
 ghost use Rattle.hprof_text.specs.SegmentFilling.{takes, IsOffered, IsItemOffered};
 ghost use Rattle.hprof_text.specs.Image.{IsKnown};
-ghost use Rattle.hprof_text.specs.Records.{class_at};
+ghost use Rattle.hprof_text.specs.Records.{bytes_of, IsOfClasses};
 ghost use Rattle.hprof_text.specs.Sizes.{sub_record_limit};
-ghost use Rattle.hprof_text.specs.Text.{record_of, class_dump, root, dump_of, items_of};
+ghost use Rattle.hprof_text.specs.Text.{record_of, dump_of, items_of};
 
-use crate::records::class_id;
-use crate::section::NumberedSection;
+use crate::section::{NumberedSection, SubRecord};
 use crate::segment_bytes::SegmentBytes;
-use crate::sizes::{array_size, class_size, dump_size, prim_size, root_size};
+use crate::sizes::{array_size, dump_size, prim_size};
 use crate::{Bytes, SEGMENT_LIMIT, View};
 use heap_class::{ClassNo, FirstClasses, IdSize, Kind, ObjKind, Refusal};
 use std::alloc::Global;
@@ -76,27 +75,15 @@ impl Segment {
         length == 0 || length + size <= SEGMENT_LIMIT
     }
 
-    // Offers the sub-record of a class, and tells whether it was taken.
-    fn offer_class_dump(&mut self, ids: IdSize, classes: &FirstClasses<'_>, class: ClassNo) -> bool
-        requires { class < length classes.now }
-        ensures { IsOffered (class_dump ids classes.now (class, class_at classes.now class))
-            self.old self.new result }
+    // Offers the sub-record of an item, and tells whether it was taken.
+    fn offer(&mut self, ids: IdSize, classes: &FirstClasses<'_>, sub: SubRecord) -> bool
+        requires { IsOfClasses classes.now sub }
+        ensures { IsOffered (bytes_of ids classes.now sub) self.old self.new result }
     {
         let _count = classes.len();
-        let taken = self.takes(class_size(ids, classes, class));
+        let taken = self.takes(sub.size(ids, classes));
         if taken {
-            self.buffer.class_dump(ids, classes, class);
-        }
-        taken
-    }
-
-    // Offers a root with this tag, and tells whether it was taken.
-    fn offer_root(&mut self, ids: IdSize, tag: u8, id: u64) -> bool
-        ensures { IsOffered (root ids tag id) self.old self.new result }
-    {
-        let taken = self.takes(root_size(ids));
-        if taken {
-            self.buffer.root(ids, tag, id);
+            self.buffer.sub_record(ids, classes, sub);
         }
         taken
     }
@@ -179,23 +166,17 @@ impl Segment {
     }
 
     /// Offers a view's item of a section by its number, and tells whether it was taken. An item that has no sub-record is.
-    #[tactic(auto, using(crate::proofs::Sections::items_counted))]
     pub fn offer_item<V: View>(&mut self, view: &V, section: NumberedSection, number: u64) -> bool
         requires { number
             < length (items_of (V.ids view.now) (V.image view.now) (Numbered section)) }
         ensures { (item : List (List ℕ))
-            → slice_get (items_of (V.ids view.now) (V.image view.now) (Numbered section)) number ≡ Some item
+            → slice_get (items_of (V.ids view.now) (V.image view.now) (Numbered section)) number
+            ≡ Some item
             → IsItemOffered item self.old self.new result }
     {
-        let classes = view.classes();
-        let ids = view.id_size();
-        match section {
-            NumberedSection::ClassDumps => self.offer_class_dump(ids, &classes, number),
-            NumberedSection::ClassRoots => self.offer_root(ids, 0x05, class_id(number)),
-            NumberedSection::RegisterRoots => {
-                let register = view.registers()[number as usize];
-                register == 0 || self.offer_root(ids, 0xff, register)
-            }
+        match section.item(view, number) {
+            Some(sub) => self.offer(view.id_size(), &view.classes(), sub),
+            None => true,
         }
     }
 

@@ -1,5 +1,4 @@
-use Rattle.std.proofs.Common.{[], ◌∷◌, length, refl, sym, ◌∙◌, ap, ap₂, arith}
-use Rattle.std.specs.Prelude.{Some}
+use Rattle.std.proofs.Common.{[], ◌∷◌, length, sym, ◌∙◌, ap, ap₂, arith}
 use Rattle.hprof_text.specs.Cursors.{from_item}
 use Rattle.hprof_text.specs.Sizes.{dump_size}
 use Rattle.hprof_text.specs.Text.{object_dump}
@@ -31,7 +30,7 @@ loop-here-preserved g c =
     let sized = ap (λ n. n ∷ []) (object_sized ids image i c.kind.result c.words.result.now h ∙ sym (c.dump_size.ensures.value ∙ size)) in
     record {
       here = c.next-here.ensures i e;
-      added = item_measured ids image Objects i item (from_item ids image Objects 0) (Some c.dump_size.result) (Some c.dump_size.result) c.args.self.now c.loop-here.self c.add.new.self (object_there ids image i h.object h.there) sized refl c.add.ensures.added c.loop-here.invariant.added;
+      added = item_measured ids image Objects i item (from_item ids image Objects 0) (c.dump_size.result ∷ []) c.args.self.now c.loop-here.self c.add.new.self (object_there ids image i h.object h.there) sized c.add.ensures.added c.loop-here.invariant.added;
       limit = omega (arith, c.loop-here.invariant.limit, c.add.ensures.limit, c.dump_size.ensures.limit);
       passed = within places i c.in-Some.at e;
     }

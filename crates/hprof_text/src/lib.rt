@@ -27,7 +27,7 @@ mod segment_bytes;
 mod sizes;
 
 pub use crate::list_view::{ListView, ListedObject};
-pub use crate::section::NumberedSection;
+pub use crate::section::{NumberedSection, SubRecord};
 pub use crate::segment_bytes::SegmentBytes;
 
 /// The most bytes of a segment's body, unless it is a single sub-record.

@@ -38,7 +38,7 @@ pub enum SubRecord {
 pub enum Section {
     /// Items that have numbers.
     Numbered(NumberedSection),
-    /// The sub-record of each object. Objects have places.
+    /// The sub-record of each object. Objects have places, and no numbers.
     Objects,
 }
 
@@ -66,7 +66,7 @@ impl Section {
 }
 
 impl NumberedSection {
-    /// Counts the items of a view.
+    /// Counts a view's items.
     #[tactic(auto, using(crate::proofs::Sections::items_counted))]
     pub fn count<V: View>(self, view: &V) -> u64
         ensures value { result
@@ -81,7 +81,7 @@ impl NumberedSection {
         }
     }
 
-    /// Returns the sub-record of an item, or None if it has none.
+    /// Returns the sub-record of a view's item, or None if it has none.
     #[tactic(auto, using(crate::proofs::Sections::items_counted, crate::proofs::Sections::class_dump_there, crate::proofs::Sections::class_root_there, crate::proofs::Sections::null_there, crate::proofs::Sections::register_root_there))]
     pub fn item<V: View>(self, view: &V, number: u64) -> Option<SubRecord>
         requires { number < length (items_of (V.ids view.now) (V.image view.now) (Numbered self)) }
@@ -115,7 +115,7 @@ impl SubRecord {
     {
         match self {
             SubRecord::ClassDump(class) => class_size(ids, classes, class),
-            SubRecord::Root(_, _) => root_size(ids),
+            SubRecord::Root(..) => root_size(ids),
         }
     }
 }

@@ -55,8 +55,8 @@ impl Measure {
         let classes = view.classes();
         let ids = view.id_size();
         for number in 0..section.count(view) {
-            if let Some(sub) = section.item(view, number) {
-                self.add(sub.size(ids, &classes));
+            if let Some(sub_record) = section.item(view, number) {
+                self.add(sub_record.size(ids, &classes));
             }
         }
     }

@@ -215,14 +215,15 @@ impl SegmentBytes {
     }
 
     /// Appends the sub-record of an item. There must be room.
-    pub fn sub_record(&mut self, ids: IdSize, classes: &FirstClasses<'_>, sub: SubRecord)
-        requires room { HasRoom self.old (bytes_of ids classes.now sub) }
-        requires known { IsOfClasses classes.now sub }
+    pub fn sub_record(&mut self, ids: IdSize, classes: &FirstClasses<'_>, sub_record: SubRecord)
+        requires room { HasRoom self.old (bytes_of ids classes.now sub_record) }
+        requires known { IsOfClasses classes.now sub_record }
         requires few { length classes.now ≤ class_limit }
-        ensures written { self.new.written ≡ self.old.written ++ bytes_of ids classes.now sub }
+        ensures written { self.new.written
+            ≡ self.old.written ++ bytes_of ids classes.now sub_record }
         ensures limit { self.new.limit ≡ self.old.limit }
     {
-        match sub {
+        match sub_record {
             SubRecord::ClassDump(class) => self.class_dump(ids, classes, class),
             SubRecord::Root(tag, id) => self.root(ids, tag, id),
         }

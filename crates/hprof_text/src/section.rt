@@ -85,8 +85,10 @@ impl NumberedSection {
     #[tactic(auto, using(crate::proofs::Sections::items_counted, crate::proofs::Sections::class_dump_there, crate::proofs::Sections::class_root_there, crate::proofs::Sections::null_there, crate::proofs::Sections::register_root_there))]
     pub fn item<V: View>(self, view: &V, number: u64) -> Option<SubRecord>
         requires { number < length (items_of (V.ids view.now) (V.image view.now) (Numbered self)) }
-        ensures value { slice_get (items_of (V.ids view.now) (V.image view.now) (Numbered self)) number
-            ≡ Some (map (bytes_of (V.ids view.now) (V.image view.now).classes) (option_to_list result)) }
+        ensures value { slice_get (items_of (V.ids view.now) (V.image view.now) (Numbered self))
+            number
+            ≡ Some (map (bytes_of (V.ids view.now) (V.image view.now).classes)
+            (option_to_list result)) }
         ensures known { IfSome result (IsOfClasses (V.image view.now).classes) }
     {
         let _classes = view.classes();

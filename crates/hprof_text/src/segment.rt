@@ -76,14 +76,14 @@ impl Segment {
     }
 
     // Offers the sub-record of an item, and tells whether it was taken.
-    fn offer(&mut self, ids: IdSize, classes: &FirstClasses<'_>, sub: SubRecord) -> bool
-        requires { IsOfClasses classes.now sub }
-        ensures { IsOffered (bytes_of ids classes.now sub) self.old self.new result }
+    fn offer(&mut self, ids: IdSize, classes: &FirstClasses<'_>, sub_record: SubRecord) -> bool
+        requires { IsOfClasses classes.now sub_record }
+        ensures { IsOffered (bytes_of ids classes.now sub_record) self.old self.new result }
     {
         let _count = classes.len();
-        let taken = self.takes(sub.size(ids, classes));
+        let taken = self.takes(sub_record.size(ids, classes));
         if taken {
-            self.buffer.sub_record(ids, classes, sub);
+            self.buffer.sub_record(ids, classes, sub_record);
         }
         taken
     }
@@ -175,7 +175,7 @@ impl Segment {
             → IsItemOffered item self.old self.new result }
     {
         match section.item(view, number) {
-            Some(sub) => self.offer(view.id_size(), &view.classes(), sub),
+            Some(sub_record) => self.offer(view.id_size(), &view.classes(), sub_record),
             None => true,
         }
     }

@@ -24,7 +24,7 @@ loop-number-preserved g c =
     elim c.match-item.branch [
       | in-Some w ↦
           let size = w.size.result in
-          let sized = sub_sized ids image.classes given w.in-Some.sub c.id_size-ids.result c.classes-classes.result size w.in-Some.is c.id_size-ids.ensures c.classes-classes.ensures.value w.size.ensures.value in
+          let sized = sub_sized ids image.classes given w.in-Some.sub_record c.id_size-ids.result c.classes-classes.result size w.in-Some.is c.id_size-ids.ensures c.classes-classes.ensures.value w.size.ensures.value in
           let added = item_measured ids image s n item rest (size ∷ []) old now w.add.new.self c.item.ensures.value sized w.add.ensures.added c.loop-number.invariant.0 in
           subst Kept (sym w.self-is) (added, omega (arith, c.loop-number.invariant.1, w.add.ensures.limit, w.size.ensures.limit.1))
       | in_default w ↦

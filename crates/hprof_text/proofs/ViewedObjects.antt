@@ -81,6 +81,10 @@ none_left places j e = elim (slice_get_cases places j).1 [ inl p ↦ absurd (non
     none_some : (x : ObjRef) → ◌≡◌ {A = Option ObjRef} None (Some x) → ⊥
     none_some x e = cc
 
+-- and all have been passed
+pub all_visited : (image : Image) (places : List ObjRef) (i : ℕ) (next : Option ObjRef) → next ≡ slice_get places i → next ≡ None → i ≤ length places → length places ≡ length image.objects → i ≡ length image.objects
+all_visited image places i next e none passed placed = omega (arith, none_left places i (sym none ∙ e), passed, placed)
+
 -- the record of the object at place i, by what a view tells of it
 pub object_record : (ids : IdSize) (image : Image) (places : List ObjRef) (i : ℕ) (at : ObjRef) (s : IdSize) (cs : List Class) (x : ℕ) (kind : ObjKind) (words : List ℕ) → IsDumpable image → length places ≡ length image.objects → slice_get places i ≡ Some at
     → s ≡ ids → cs ≡ image.classes → IfSome (slice_get image.objects i) (λ o. x ≡ o.id) → IfSome (slice_get image.objects i) (λ o. kind ≡ o.kind) → IfSome (slice_get image.objects i) (λ o. words ≡ o.words)

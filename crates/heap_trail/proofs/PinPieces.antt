@@ -5,10 +5,11 @@ use Rattle.heap_class.specs.declared.IdSize.{IdSize}
 use Rattle.heap_class.specs.declared.ObjRef.{ObjRef}
 use Rattle.heap_world.specs.State.{HeapState}
 use Rattle.hprof_text.specs.declared.Cursor.{Cursor}
-use Rattle.hprof_text.specs.declared.Cursor.TheVariants.{Start, ClassDump, ClassRoot, Object, RegisterRoot, End, Past}
+use Rattle.hprof_text.specs.declared.Cursor.TheVariants.{Start, Item, Object, End, Past}
 use Rattle.hprof_text.specs.declared.Piece.{Piece}
 use Rattle.hprof_text.specs.Image.{Image}
 use Rattle.hprof_text.specs.Cursors.{IsBefore, IsAt}
+use Rattle.hprof_text.specs.Laws.{piece_limit}
 use Rattle.hprof_text.specs.Segments.{segment_records, end_record, records_from, pieces_of}
 use Rattle.hprof_text.specs.Text.{sub_records}
 use Rattle.hprof_text.proofs.PieceCounts.{pieces_few}
@@ -22,10 +23,8 @@ use Rattle.heap_trail.specs.OpenPins.{IsGivenOf, CanGive, given_after, IsNextPie
 
 pub not_past : (cursor : Cursor) → (cursor ≡ Past → ⊥) → is_past cursor ≡ false
 not_past Start n = refl
-not_past (ClassDump k) n = refl
-not_past (ClassRoot k) n = refl
+not_past (Item s k) n = refl
 not_past (Object at) n = refl
-not_past (RegisterRoot k) n = refl
 not_past End n = refl
 not_past Past n = absurd (n refl)
 
@@ -51,25 +50,21 @@ before_end ids image rest i b =
 
 within : (ids : IdSize) (image : Image) (places : List ObjRef) (cursor : Cursor) (i : ℕ) → IsAt ids image places cursor i → is_past cursor ≡ false → i < length (records_from (sub_records ids image)) + 1
 within ids image places Start i at e = omega (arith, at)
-within ids image places (ClassDump n) i at e = before_end ids image _ i at
-within ids image places (ClassRoot n) i at e = before_end ids image _ i at
-within ids image places (Object o) i at e = before_end ids image _ i at.2
-within ids image places (RegisterRoot n) i at e = before_end ids image _ i at
-within ids image places End i at e = before_end ids image _ i at
+within ids image places (Item s n) i at e = before_end ids image at.0 i at.2
+within ids image places (Object o) i at e = before_end ids image at.0 i at.2
+within ids image places End i at e = before_end ids image at.0 i at.2
 within ids image places Past i at e = cc
 
 past_end : (ids : IdSize) (image : Image) (places : List ObjRef) (cursor : Cursor) (i : ℕ) → IsAt ids image places cursor i → is_past cursor ≡ true → length (records_from (sub_records ids image)) + 1 ≤ i
 past_end ids image places Start i at e = cc
-past_end ids image places (ClassDump n) i at e = cc
-past_end ids image places (ClassRoot n) i at e = cc
+past_end ids image places (Item s n) i at e = cc
 past_end ids image places (Object o) i at e = cc
-past_end ids image places (RegisterRoot n) i at e = cc
 past_end ids image places End i at e = cc
 past_end ids image places Past i at e = at
 
 pub may_count : (ids : IdSize) (w : HeapState) (h : Held) → CanGive ids w h → MayCount h
 may_count ids w (Kept place pin cursor given) can =
-    let few : length (pieces_of ids (pin_image pin w) 0) ≤ 66178 = pieces_few ids (pin_image pin w) 0 (view_dumpable pin w can.0) in
+    let few : length (pieces_of ids (pin_image pin w) 0) ≤ piece_limit = pieces_few ids (pin_image pin w) 0 (view_dumpable pin w can.0) in
     omega (arith, few, how_many ids (pin_image pin w) 0, can.1.1)
 may_count ids w (Lost cause) can = tt
 

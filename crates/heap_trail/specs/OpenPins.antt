@@ -13,6 +13,7 @@ use Rattle.heap_class.specs.declared.IdSize.{IdSize}
 use Rattle.hprof_text.specs.declared.Cursor.{Cursor}
 use Rattle.hprof_text.specs.declared.Cursor.TheVariants.{Past}
 use Rattle.hprof_text.specs.Cursors.{IsAt}
+use Rattle.hprof_text.specs.Laws.{piece_limit}
 use Rattle.hprof_text.specs.Image.{Image}
 use Rattle.hprof_text.specs.declared.Piece.{Piece}
 use Rattle.hprof_text.specs.Segments.{records_from, pieces_of, piece_of}
@@ -167,7 +168,7 @@ held_advanced to (Lost cause) = Lost cause
 
 -- far fewer pieces were given than are counted
 abbrev pub MayCount : Held → Type 0
-MayCount (Kept place pin cursor given) = given ≤ 66178
+MayCount (Kept place pin cursor given) = given ≤ piece_limit
 MayCount (Lost cause) = Unit {0}
 
 -- the pin gave this piece, its next, and its cursor stands at the one after it

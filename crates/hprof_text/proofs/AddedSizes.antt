@@ -1,15 +1,23 @@
 -- Sizes that are added up.
-use Rattle.std.proofs.Common.{◌≡◌, ℕ, zero, suc, ◌+◌, ◌≤◌, ◌<◌, Bool, true, false, List, [], ◌∷◌, ◌++◌, length, map, take, get_or, replicate, refl, sym, ap, ap₂, ◌∙◌, subst, arith, add-one, append_assoc, inl, inr}
-use Rattle.std.specs.Prelude.{nat_le, sum_by, count_by, not, ◌==◌, ◌⊎◌}
+use Rattle.std.proofs.Common.{◌≡◌, ℕ, zero, suc, ◌+◌, ◌≤◌, ◌<◌, Bool, true, false, List, [], ◌∷◌, ◌++◌, length, map, refl, sym, ap, ap₂, ◌∙◌, arith, inl, inr}
+use Rattle.std.specs.Prelude.{nat_le, sum_by, slice_get, Option, Some, None, ◌⊎◌}
+use Rattle.std.specs.Option.{option_to_list}
 use Rattle.heap_class.specs.declared.IdSize.{IdSize}
+use Rattle.hprof_text.specs.Cursors.{from_item}
+use Rattle.heap_class.specs.Classes.{Class}
+use Rattle.hprof_text.specs.declared.section.SubRecord.{SubRecord}
 use Rattle.hprof_text.specs.Image.{Image}
-use Rattle.std.proofs.lemmas.List.{map-append, take_more, append-nil}
+use Rattle.hprof_text.specs.Records.{bytes_of}
+use Rattle.std.proofs.lemmas.List.{map-append}
 use Rattle.std.proofs.lemmas.List.Sums.{sum_by-cons}
 use Rattle.std.proofs.lemmas.Bool.Decides.{leb_tells}
+use Rattle.hprof_text.specs.declared.section.Section.{Section}
+use Rattle.hprof_text.specs.Text.{items_of, after, records_in}
 use Rattle.hprof_text.specs.Segments.{segment_limit, sizes_at, segment_sizes}
 use Rattle.hprof_text.specs.declared.measure.Measure.{Measure}
-use Rattle.hprof_text.specs.Sizes.{class_size, object_size, root_size, sub_sizes, records_size, records_size_at, records_size_after}
-use Rattle.hprof_text.specs.SizeSums.{total_with, total, IsMeasured}
+use Rattle.hprof_text.specs.Sizes.{records_size, records_size_at, records_size_after}
+use Rattle.hprof_text.specs.SizeSums.{total_with, total, IsAdded, IsMeasured}
+use Rattle.hprof_text.proofs.Sections.{from_next, from_past}
 
 -- ---- one size
 
@@ -56,28 +64,31 @@ closed body n more h k e =
     ∙ ap (λ b. sum_by (λ n. 9 + n) (by_room b body n more)) (sym e)
     ∙ sym (after_some body (n ∷ more) h)
 
--- ---- one after another
+-- ---- none so far
 
-pub measured_none : (m : Measure) → IsMeasured [] m m
-measured_none m more = refl
+pub none_measured : (m : Measure) (sizes : List ℕ) → m.closed ≡ 0 → m.body ≡ 0 → total_with m sizes ≡ records_size sizes
+none_measured m sizes x y = let z : 0 + records_size sizes ≡ records_size sizes = omega arith in ap₂ (λ a b. a + records_size_after b sizes) x y ∙ z
 
-pub measured_more : (sizes others : List ℕ) (a b c : Measure) → IsMeasured sizes a b → IsMeasured others b c → IsMeasured (sizes ++ others) a c
-measured_more sizes others a b c h k more = k more ∙ h (others ++ more) ∙ ap (total_with a) (sym (append_assoc sizes others more))
+-- ---- one item of a section
 
-pub measured_as : (xs ys : List ℕ) (a b : Measure) → xs ≡ ys → IsMeasured xs a b → IsMeasured ys a b
-measured_as xs ys a b e = subst (λ l. IsMeasured l a b) e
+pub item_measured : (ids : IdSize) (image : Image) (s : Section) (n : ℕ) (item rest : List (List ℕ)) (sizes : List ℕ) (old now new : Measure) → slice_get (items_of ids image s) n ≡ Some item → map length item ≡ sizes → IsAdded sizes now new
+    → IsMeasured rest (from_item ids image s n) old now → IsMeasured rest (from_item ids image s (n + 1)) old new
+item_measured ids image s n item rest sizes old now new e m a h =
+    let left = from_item ids image s (n + 1) in
+    a (map length left) ∙ ap (total_with now) (ap (λ l. l ++ map length left) (sym m) ∙ sym (map-append length item left) ∙ ap (map length) (sym (from_next ids image s n item e))) ∙ h
 
--- ---- a list's, one by one
+-- the sizes of an item's sub-record, if it has one
+pub sub_sized : (ids : IdSize) (classes : List Class) (given : Option SubRecord) (sub : SubRecord) (s : IdSize) (cs : List Class) (size : ℕ) → given ≡ Some sub → s ≡ ids → cs ≡ classes → size ≡ length (bytes_of s cs sub) → map length (map (bytes_of ids classes) (option_to_list given)) ≡ size ∷ []
+sub_sized ids classes given sub s cs size g x y e = ap (λ r. map length (map (bytes_of ids classes) (option_to_list r))) g ∙ ap (λ n. n ∷ []) (ap₂ (λ t ds. length (bytes_of t ds sub)) (sym x) (sym y) ∙ sym e)
 
-pub taken_sizes : {X : Type 0} (f : X → ℕ) (xs : List X) (i : ℕ) (x : X) → i < length xs → x ≡ get_or xs i x → map f (take i xs) ++ f x ∷ [] ≡ map f (take (i + 1) xs)
-taken_sizes f xs i x h e =
-    ap (λ y. map f (take i xs) ++ f y ∷ []) e
-    ∙ sym (map-append f (take i xs) (get_or xs i x ∷ []))
-    ∙ ap (map f) (sym (take_more xs i x h))
+pub none_sized : (ids : IdSize) (classes : List Class) (given : Option SubRecord) → given ≡ None → map length (map (bytes_of ids classes) (option_to_list given)) ≡ []
+none_sized ids classes given g = ap (λ r. map length (map (bytes_of ids classes) (option_to_list r))) g
 
-pub replicated : (n size : ℕ) → replicate n size ++ size ∷ [] ≡ replicate (n + 1) size
-replicated zero size = refl
-replicated (suc n) size = ap (λ l. size ∷ l) (replicated n size ∙ ap (λ k. replicate k size) (add-one n)) ∙ ap (λ k. replicate k size) (sym (add-one (suc n)))
+pub items_measured : (ids : IdSize) (image : Image) (s : Section) (n : ℕ) (rest : List (List ℕ)) (old now : Measure) → length (items_of ids image s) ≤ n → IsMeasured rest (from_item ids image s n) old now → IsMeasured rest (records_in ids image (after s)) old now
+items_measured ids image s n rest old now l h = ap (λ left. total_with now (map length left)) (sym (from_past ids image s n l)) ∙ h
+
+pub none_added : (m : Measure) → IsAdded [] m m
+none_added m more = refl
 
 -- ---- all of them
 
@@ -98,20 +109,3 @@ total_small m = elim (zero_or_some m.body) [ inl z ↦ omega (arith, total_none 
     zero_or_some : (n : ℕ) → (n ≡ 0) ⊎ (0 < n)
     zero_or_some zero = inl refl
     zero_or_some (suc n) = inr (omega arith)
-
--- the sub-records of a dump, one part after another
-pub all_measured : (ids : IdSize) (image : Image) (a b c d e : Measure) → a.closed ≡ 0 → a.body ≡ 0
-    → IsMeasured (map (class_size ids) image.classes) a b
-    → IsMeasured (replicate (length image.classes) (root_size ids)) b c
-    → IsMeasured (map (object_size ids image.classes) image.objects) c d
-    → IsMeasured (replicate (count_by (λ x. not (x == 0)) image.registers) (root_size ids)) d e
-    → total e ≡ records_size (sub_sizes ids image)
-unfolding sub_sizes
-all_measured ids image a b c d e x y h i j k =
-    let p = map (class_size ids) image.classes in
-    let q = replicate (length image.classes) (root_size ids) in
-    let r = map (object_size ids image.classes) image.objects in
-    let s = replicate (count_by (λ x. not (x == 0)) image.registers) (root_size ids) in
-    let w : IsMeasured (p ++ q ++ r ++ s) a e = measured_more (p ++ q ++ r) s a d e (measured_more (p ++ q) r a c d (measured_more p q a b c h i) j) k in
-    let z : 0 + records_size (p ++ q ++ r ++ s ++ []) ≡ records_size (p ++ q ++ r ++ s ++ []) = omega arith in
-    w [] ∙ ap₂ (λ m n. m + records_size_after n (p ++ q ++ r ++ s ++ [])) x y ∙ z ∙ ap records_size (append-nil (p ++ q ++ r ++ s))

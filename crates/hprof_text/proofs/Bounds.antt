@@ -1,13 +1,20 @@
 -- Bounds on sizes.
 use Rattle.std.proofs.Common.{◌≤◌, ℕ, ◌+◌, ◌*◌, List, [], ◌∷◌, length, arith}
 use Rattle.std.specs.Prelude.{sum_by}
+use Rattle.std.proofs.lemmas.Nat.{mul-le}
 use Rattle.std.proofs.lemmas.List.Sums.{sum_by-cons}
 use Rattle.heap_class.specs.declared.IdSize.{IdSize}
 use Rattle.heap_class.specs.declared.IdSize.TheVariants.{Four, Eight}
 use Rattle.heap_class.specs.declared.Kind.{Kind}
 use Rattle.heap_class.specs.declared.Kind.TheVariants.{Boolean, Char, Float, Double, Byte, Short, Int, Long}
 use Rattle.heap_class.specs.Kinds.{id_bytes, width_of}
-use Rattle.heap_class.specs.Classes.{Class, slots_of, instance_size}
+use Rattle.heap_class.specs.declared.ObjKind.{ObjKind}
+use Rattle.heap_class.specs.declared.ObjKind.TheVariants.{Instance, Array, Prim}
+use Rattle.heap_class.specs.Limits.{array_limit}
+use Rattle.heap_class.specs.Classes.{Class, slots_of, instance_size, IsClassTable}
+use Rattle.heap_class.proofs.FewSlots.{slots_few}
+use Rattle.hprof_text.specs.Image.{IsKnown}
+use Rattle.hprof_text.specs.Sizes.{dump_size}
 
 pub width_small : (ids : IdSize) (k : Kind) → width_of ids k ≤ 8
 width_small Four Kind.Object = omega arith
@@ -36,3 +43,9 @@ class_size_small Eight n h = omega (arith, h)
 pub id_small : (ids : IdSize) → id_bytes ids ≤ 8
 id_small Four = omega arith
 id_small Eight = omega arith
+
+pub dump_size_small : (ids : IdSize) (classes : List Class) → IsClassTable [] classes → (kind : ObjKind) (n : ℕ) → IsKnown classes kind n → n ≤ array_limit → dump_size ids classes kind n ≤ 8217
+unfolding dump_size
+dump_size_small ids classes t (Instance k) n h l = omega (arith, id_small ids, instance_small ids classes k (slots_few classes t k))
+dump_size_small ids classes t (Array k) n h l = omega (arith, id_small ids, mul-le (id_bytes ids) n 8 1024 (id_small ids) l)
+dump_size_small ids classes t (Prim kind) n h l = omega (arith, id_small ids, mul-le (width_of ids kind) n 8 1024 (width_small ids kind) l)

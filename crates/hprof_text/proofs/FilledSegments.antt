@@ -1,15 +1,24 @@
 -- A segment filled with what it takes is the next segment.
-use Rattle.std.proofs.Common.{◌≡◌, ◌≢◌, ℕ, zero, suc, ◌+◌, ◌≤◌, ◌<◌, Bool, true, false, List, [], ◌∷◌, ◌++◌, length, map, drop, refl, sym, ap, ap₂, ◌∙◌, subst, arith, append_assoc, length-append, cond, inl, inr}
-use Rattle.std.specs.Prelude.{nat_le, slice_get, Option, Some, filter, not, ◌==◌}
+use Rattle.std.proofs.Common.{◌≡◌, ℕ, ◌+◌, ◌<◌, ◌≤◌, Bool, true, false, List, [], ◌∷◌, ◌++◌, length, map, refl, sym, ap, ap₂, ◌∙◌, subst, arith, append_assoc, length-append}
+use Rattle.std.specs.Prelude.{nat_le, slice_get, Option, Some, None}
+use Rattle.std.specs.Option.{option_to_list}
+use Rattle.std.proofs.lemmas.Option.{same_Some}
 use Rattle.std.specs.List.{concat}
-use Rattle.std.proofs.lemmas.List.{append-nil, drop_all}
-use Rattle.std.proofs.lemmas.Bool.Decides.{eqb_tells}
+use Rattle.std.proofs.lemmas.List.{append-nil}
 use Rattle.heap_class.specs.declared.IdSize.{IdSize}
-use Rattle.hprof_text.specs.Text.{record_of, root_unknown}
-use Rattle.hprof_text.specs.Cursors.{from_register}
+use Rattle.hprof_text.specs.Cursors.{from_item}
+use Rattle.hprof_text.specs.declared.section.NumberedSection.{NumberedSection}
+use Rattle.hprof_text.specs.declared.section.Section.{Section}
+use Rattle.hprof_text.specs.declared.section.Section.TheVariants.{Numbered}
+use Rattle.hprof_text.specs.declared.section.SubRecord.{SubRecord}
+use Rattle.hprof_text.specs.Image.{Image}
+use Rattle.hprof_text.specs.Records.{bytes_of}
+use Rattle.heap_class.specs.Classes.{Class}
+use Rattle.hprof_text.specs.Text.{record_of, items_of, after, records_in}
 use Rattle.hprof_text.specs.Segments.{segment_limit, cut_at, segments_of, segment_records}
-use Rattle.hprof_text.specs.SegmentFilling.{takes, body_filled, IsOffered}
+use Rattle.hprof_text.specs.SegmentFilling.{takes, body_filled, IsOffered, IsItemOffered}
 use Rattle.hprof_text.proofs.Cutting.{Cutting, cut_by}
+use Rattle.hprof_text.proofs.Sections.{from_next, from_past}
 
 -- ---- one sub-record
 
@@ -31,51 +40,40 @@ pub filled_none : (body : List ℕ) → body_filled body [] ≡ (body, [])
 unfolding body_filled
 filled_none body = refl
 
--- ---- one of a list
+-- ---- one item of a section
 
-pub drop_item : {X : Type 0} (xs : List X) (n : ℕ) (x : X) → slice_get xs n ≡ Some x → drop n xs ≡ x ∷ drop (n + 1) xs
-drop_item [] n x h = absurd (cc)
-drop_item (y ∷ ys) zero x h = ap (λ z. z ∷ ys) (same y x h)
-  where
-    same : {X : Type 0} (y x : X) → ◌≡◌ {A = Option X} (Some y) (Some x) → y ≡ x
-    same y x h = cc
-drop_item (y ∷ ys) (suc n) x h = drop_item ys n x h ∙ ap (λ k. x ∷ drop k (y ∷ ys)) (let e : suc (n + 1) ≡ suc n + 1 = omega arith in e)
+pub by_one : (x old new : List ℕ) (taken : Bool) → IsOffered x old new taken → IsItemOffered (x ∷ []) old new taken
+by_one x old new true o more = filled_more old x new more o
+by_one x old new false o more = filled_stop old x new more o
 
-pub items_more : (items : List (List ℕ)) (n : ℕ) (x old now new : List ℕ) (start : ℕ) (more : List (List ℕ)) → slice_get items n ≡ Some x → IsOffered x now new true
-    → body_filled old (drop start items ++ more) ≡ body_filled now (drop n items ++ more) → body_filled old (drop start items ++ more) ≡ body_filled new (drop (n + 1) items ++ more)
-items_more items n x old now new start more e o h = h ∙ ap (λ l. body_filled now (l ++ more)) (drop_item items n x e) ∙ filled_more now x new (drop (n + 1) items ++ more) o
+pub sub_offered : (ids : IdSize) (image : Image) (section : NumberedSection) (k : ℕ) (given : Option SubRecord) (sub : SubRecord) (s : IdSize) (cs : List Class) (old new : List ℕ) (taken : Bool) → slice_get (items_of ids image (Numbered section)) k ≡ Some (map (bytes_of ids image.classes) (option_to_list given))
+    → given ≡ Some sub → s ≡ ids → cs ≡ image.classes → IsOffered (bytes_of s cs sub) old new taken → (item : List (List ℕ)) → slice_get (items_of ids image (Numbered section)) k ≡ Some item → IsItemOffered item old new taken
+sub_offered ids image section k given sub s cs old new taken a g x y o item b =
+    let one : bytes_of s cs sub ∷ [] ≡ map (bytes_of ids image.classes) (option_to_list given) = ap₂ (λ t ds. bytes_of t ds sub ∷ []) x y ∙ ap (λ r. map (bytes_of ids image.classes) (option_to_list r)) (sym g) in
+    subst (λ i. IsItemOffered i old new taken) (one ∙ same_Some _ item (sym a ∙ b)) (by_one (bytes_of s cs sub) old new taken o)
 
-pub items_stop : (items : List (List ℕ)) (n : ℕ) (x old now new : List ℕ) (start : ℕ) (more : List (List ℕ)) → slice_get items n ≡ Some x → IsOffered x now new false
-    → body_filled old (drop start items ++ more) ≡ body_filled now (drop n items ++ more) → body_filled old (drop start items ++ more) ≡ (new, drop n items ++ more)
-items_stop items n x old now new start more e o h =
-    h ∙ ap (λ l. body_filled now (l ++ more)) (drop_item items n x e) ∙ filled_stop now x new (drop (n + 1) items ++ more) o
-    ∙ ap (λ l. let p : List ℕ × List (List ℕ) = (new, l ++ more) in p) (sym (drop_item items n x e))
+-- an item without a sub-record is taken
+pub none_offered : (ids : IdSize) (image : Image) (section : NumberedSection) (k : ℕ) (given : Option SubRecord) (old : List ℕ) → slice_get (items_of ids image (Numbered section)) k ≡ Some (map (bytes_of ids image.classes) (option_to_list given)) → given ≡ None
+    → (item : List (List ℕ)) → slice_get (items_of ids image (Numbered section)) k ≡ Some item → IsItemOffered item old old true
+none_offered ids image section k given old a g item b =
+    let none : [] ≡ map (bytes_of ids image.classes) (option_to_list given) = ap (λ r. map (bytes_of ids image.classes) (option_to_list r)) (sym g) in
+    subst (λ i. IsItemOffered i old old true) (none ∙ same_Some _ item (sym a ∙ b)) (λ more. refl)
 
-pub items_done : (items : List (List ℕ)) (n : ℕ) (old now : List ℕ) (start : ℕ) (more : List (List ℕ)) → length items ≤ n
-    → body_filled old (drop start items ++ more) ≡ body_filled now (drop n items ++ more) → body_filled old (drop start items ++ more) ≡ body_filled now more
-items_done items n old now start more l h = h ∙ ap (λ d. body_filled now (d ++ more)) (drop_all n items l)
+-- the item is taken, and the next one's turn has come
+pub item_taken : (ids : IdSize) (image : Image) (s : Section) (n start : ℕ) (item : List (List ℕ)) (old now new : List ℕ) (taken : Bool) → slice_get (items_of ids image s) n ≡ Some item → taken ≡ true → IsItemOffered item now new taken
+    → body_filled old (from_item ids image s start) ≡ body_filled now (from_item ids image s n) → body_filled old (from_item ids image s start) ≡ body_filled new (from_item ids image s (n + 1))
+item_taken ids image s n start item old now new taken e t o h = h ∙ ap (body_filled now) (from_next ids image s n item e) ∙ subst (IsItemOffered item now new) t o (from_item ids image s (n + 1))
 
--- ---- the roots of the registers
+-- the item isn't taken, and is the first that is left
+pub item_left : (ids : IdSize) (image : Image) (s : Section) (n start : ℕ) (item : List (List ℕ)) (old now new : List ℕ) (taken : Bool) → slice_get (items_of ids image s) n ≡ Some item → taken ≡ false → IsItemOffered item now new taken
+    → body_filled old (from_item ids image s start) ≡ body_filled now (from_item ids image s n) → body_filled old (from_item ids image s start) ≡ (new, from_item ids image s n)
+item_left ids image s n start item old now new taken e t o h =
+    h ∙ ap (body_filled now) (from_next ids image s n item e) ∙ subst (IsItemOffered item now new) t o (from_item ids image s (n + 1))
+    ∙ ap (λ l. let p : List ℕ × List (List ℕ) = (new, l) in p) (sym (from_next ids image s n item e))
 
-abbrev pub roots_of : IdSize → List ℕ → List (List ℕ)
-roots_of ids registers = map (root_unknown ids) (filter (λ x. not (x == 0)) registers)
-
-roots_by : (ids : IdSize) (x : ℕ) (xs : List ℕ) → roots_of ids (x ∷ xs) ≡ cond (not (x == 0)) (root_unknown ids x ∷ roots_of ids xs) (roots_of ids xs)
-roots_by ids x xs = go (not (x == 0))
-  where
-    go : (b : Bool) → map (root_unknown ids) (cond b (x ∷ filter (λ y. not (y == 0)) xs) (filter (λ y. not (y == 0)) xs)) ≡ cond b (root_unknown ids x ∷ roots_of ids xs) (roots_of ids xs)
-    go true = refl
-    go false = refl
-
-pub root_more : (ids : IdSize) (registers : List ℕ) (n x : ℕ) → slice_get registers n ≡ Some x → x ≢ 0 → from_register ids registers n ≡ root_unknown ids x ∷ from_register ids registers (n + 1)
-root_more ids registers n x e h =
-    ap (roots_of ids) (drop_item registers n x e) ∙ roots_by ids x (drop (n + 1) registers)
-    ∙ elim (eqb_tells x 0) [ inl p ↦ absurd (h p.1) | inr p ↦ ap (λ b. cond (not b) (root_unknown ids x ∷ roots_of ids (drop (n + 1) registers)) (roots_of ids (drop (n + 1) registers))) p.0 ]
-
-pub no_root : (ids : IdSize) (registers : List ℕ) (n x : ℕ) → slice_get registers n ≡ Some x → x ≡ 0 → from_register ids registers n ≡ from_register ids registers (n + 1)
-no_root ids registers n x e h =
-    ap (roots_of ids) (drop_item registers n x e) ∙ roots_by ids x (drop (n + 1) registers)
-    ∙ elim (eqb_tells x 0) [ inl p ↦ ap (λ b. cond (not b) (root_unknown ids x ∷ roots_of ids (drop (n + 1) registers)) (roots_of ids (drop (n + 1) registers))) p.0 | inr p ↦ absurd (p.1 h) ]
+-- all items are taken
+pub items_taken : (ids : IdSize) (image : Image) (s : Section) (n start : ℕ) (old now : List ℕ) → length (items_of ids image s) ≤ n → body_filled old (from_item ids image s start) ≡ body_filled now (from_item ids image s n) → body_filled old (from_item ids image s start) ≡ body_filled now (records_in ids image (after s))
+items_taken ids image s n start old now l h = h ∙ ap (body_filled now) (from_past ids image s n l)
 
 -- ---- the whole segment
 

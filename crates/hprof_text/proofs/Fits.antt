@@ -1,11 +1,10 @@
 -- The numbers of a text fit in their bytes.
-use Rattle.std.proofs.Common.{◌≡◌, ℕ, ◌+◌, ◌^◌, ◌<◌, ◌≤◌, not, Bool, true, false, List, [], ◌∷◌, ◌++◌, length, map, replicate, arith, Option, Some, None, refl, sym, ap, ◌∙◌, subst}
-use Rattle.std.specs.Prelude.{◌==◌, count_by, nat_le, All}
+use Rattle.std.proofs.Common.{◌≡◌, ℕ, ◌+◌, ◌^◌, ◌<◌, ◌≤◌, not, Bool, true, false, List, [], ◌∷◌, length, map, arith, Option, Some, None, refl, sym, subst}
+use Rattle.std.specs.Prelude.{nat_le, All}
 use Rattle.std.specs.Option.{option_map_or}
 use Rattle.std.specs.List.{enumerate_from}
 use Rattle.std.specs.Str.{bytes_eq}
-use Rattle.std.proofs.lemmas.Nat.{mul-le}
-use Rattle.std.proofs.lemmas.List.Elements.{All-nil, All-cons, All-head, All-tail, All-weaker, All-append, All-map, All-replicate}
+use Rattle.std.proofs.lemmas.List.Elements.{All-nil, All-cons, All-head, All-tail, All-map}
 use Rattle.std.proofs.lemmas.List.Sums.{prefix_len-le-length}
 use Rattle.heap_class.specs.declared.IdSize.{IdSize}
 use Rattle.heap_class.specs.declared.IdSize.TheVariants.{Four, Eight}
@@ -14,15 +13,16 @@ use Rattle.heap_class.specs.declared.Field.{Field}
 use Rattle.heap_class.specs.declared.ObjKind.{ObjKind}
 use Rattle.heap_class.specs.declared.ObjKind.TheVariants.{Instance, Array, Prim}
 use Rattle.heap_class.specs.Limits.{array_limit}
-use Rattle.heap_class.specs.Kinds.{id_bytes, width_of, type_code}
-use Rattle.heap_class.specs.Classes.{Class, slots_of, name_table, name_id, instance_size, IsClassTable}
-use Rattle.hprof_text.specs.Image.{Image, DumpedObject, IsKnown, IsDumpable}
+use Rattle.heap_class.specs.Kinds.{type_code}
+use Rattle.heap_class.specs.Classes.{slots_of, name_table, name_id, instance_size}
+use Rattle.hprof_text.specs.Image.{Image, IsKnown, IsDumpable}
 use Rattle.hprof_text.specs.Text.{class_id, sub_records}
 use Rattle.hprof_text.specs.Segments.{segment_limit, size_of, segments_of, sizes_at, segment_sizes}
-use Rattle.hprof_text.specs.Sizes.{class_size, root_size, dump_size, object_size, sub_sizes}
 use Rattle.hprof_text.specs.Fits.{FitsBytes, FitsId, Utf8Fits, LoadClassFits, FieldFits, ClassDumpFits, DumpFits, HoldsWhole}
-use Rattle.hprof_text.proofs.Bounds.{width_small, instance_small, class_size_small, id_small}
-use Rattle.hprof_text.proofs.Lengths.{utf8_length, load_length, trace_length, values_length, sub_lengths}
+use Rattle.hprof_text.proofs.Bounds.{instance_small, id_small}
+use Rattle.hprof_text.proofs.Lengths.{utf8_length, load_length, trace_length, values_length}
+use Rattle.hprof_text.proofs.Loops.{numbered}
+use Rattle.hprof_text.proofs.Sections.{subs_short}
 use Rattle.hprof_text.proofs.SegmentSizes.{are_sizes}
 use Rattle.heap_class.proofs.FewSlots.{slots_few}
 use Rattle.hprof_text.proofs.Tables.{IsShort, IsSmall, classes_small, table_short, table_names_few}
@@ -39,35 +39,9 @@ code_small _ = omega arith
 
 -- ---- the segments
 
-dump_size_small : (ids : IdSize) (classes : List Class) → IsClassTable [] classes → (kind : ObjKind) (n : ℕ) → IsKnown classes kind n → n ≤ array_limit → dump_size ids classes kind n ≤ 8217
-unfolding dump_size
-dump_size_small ids classes t (Instance k) n h l = omega (arith, id_small ids, instance_small ids classes k (slots_few classes t k))
-dump_size_small ids classes t (Array k) n h l = omega (arith, id_small ids, mul-le (id_bytes ids) n 8 1024 (id_small ids) l)
-dump_size_small ids classes t (Prim kind) n h l = omega (arith, id_small ids, mul-le (width_of ids kind) n 8 1024 (width_small ids kind) l)
-
-objects_small : (ids : IdSize) (image : Image) → IsDumpable image → All (λ (o : DumpedObject). object_size ids image.classes o ≤ 8217) image.objects
-objects_small ids image d k o h = dump_size_small ids image.classes d.classes _ _ (d.known k o h) (d.small k o h)
-
 -- the body of a sub-record or of a segment has at most 8217 bytes
 abbrev IsShortBody : ℕ → Type 0
 IsShortBody n = n ≤ 8217
-
-subs_short : (ids : IdSize) (image : Image) → IsDumpable image → All IsShortBody (sub_sizes ids image)
-unfolding sub_sizes
-subs_short ids image d =
-    let cs = classes_small image.classes d.classes in
-    let r : root_size ids ≤ 8217 = omega (arith, id_small ids) in
-    let a = map (class_size ids) image.classes in
-    let b = replicate (length image.classes) (root_size ids) in
-    let c = map (object_size ids image.classes) image.objects in
-    let e = replicate (count_by (λ (x : ℕ). not (x == 0)) image.registers) (root_size ids) in
-    All-append IsShortBody (a ++ b ++ c) e
-    (All-append IsShortBody (a ++ b) c
-    (All-append IsShortBody a b
-    (All-map IsShortBody (class_size ids) image.classes (All-weaker (IsSmall (length image.classes)) (λ c. class_size ids c ≤ 8217) (λ c s. omega (arith, class_size_small ids (length c.fields) s.fields)) image.classes cs))
-    (All-replicate IsShortBody (length image.classes) (root_size ids) r))
-    (All-map IsShortBody (object_size ids image.classes) image.objects (objects_small ids image d)))
-    (All-replicate IsShortBody (count_by (λ (x : ℕ). not (x == 0)) image.registers) (root_size ids) r)
 
 sizes_short : (size : ℕ) (ns : List ℕ) → size ≤ 8217 → All IsShortBody ns → All IsShortBody (sizes_at segment_limit size ns)
 unfolding sizes_at
@@ -86,8 +60,9 @@ all_short (n ∷ ns) a = sizes_short n ns (All-head IsShortBody n ns a) (All-tai
 
 segments_fit : (ids : IdSize) (image : Image) → IsDumpable image → All (λ s. FitsBytes 4 (size_of s)) (segments_of segment_limit (sub_records ids image))
 segments_fit ids image d =
-    let e = are_sizes segment_limit (sub_records ids image) ∙ ap (segment_sizes segment_limit) (sub_lengths ids image d) in
-    let a : All IsShortBody (map size_of (segments_of segment_limit (sub_records ids image))) = subst (All IsShortBody) (sym e) (all_short (sub_sizes ids image) (subs_short ids image d)) in
+    let subs = sub_records ids image in
+    let short = all_short (map length subs) (All-map IsShortBody length subs (subs_short ids image d)) in
+    let a : All IsShortBody (map size_of (segments_of segment_limit subs)) = subst (All IsShortBody) (sym (are_sizes segment_limit subs)) short in
     unmapped (segments_of segment_limit (sub_records ids image)) a
   where
     unmapped : (ss : List (List (List ℕ))) → All IsShortBody (map size_of ss) → All (λ s. FitsBytes 4 (size_of s)) ss
@@ -95,15 +70,6 @@ segments_fit ids image d =
     unmapped (s ∷ ss) a =
         let h : size_of s ≤ 8217 = All-head IsShortBody (size_of s) (map size_of ss) a in
         All-cons (λ s. FitsBytes 4 (size_of s)) s ss (omega (arith, h)) (unmapped ss (All-tail IsShortBody (size_of s) (map size_of ss) a))
-
--- ---- items of a list, each with its number
-
-numbered : {A : Type 0} (P : ℕ × A → Type 0) (Q : A → Type 0) (m n : ℕ) (xs : List A) → n + length xs ≤ m → ((k : ℕ) (x : A) → k < m → Q x → P (k, x)) → All Q xs → All P (enumerate_from n xs)
-numbered P Q m n [] l h q = All-nil P
-numbered P Q m n (x ∷ xs) l h q =
-    let here : n < m = omega (arith, l) in
-    let later : n + 1 + length xs ≤ m = omega (arith, l) in
-    All-cons P (n, x) (enumerate_from (n + 1) xs) (h n x here (All-head Q x xs q)) (numbered P Q m (n + 1) xs later h (All-tail Q x xs q))
 
 -- ---- each part
 

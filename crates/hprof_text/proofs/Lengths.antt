@@ -1,11 +1,10 @@
 -- How long the parts of a text are.
-use Rattle.std.proofs.Common.{◌≡◌, ℕ, suc, ◌+◌, ◌*◌, List, [], ◌∷◌, ◌++◌, length, map, replicate, refl, sym, ap, ap₂, ◌∙◌, arith, length-append}
-use Rattle.std.specs.Prelude.{flat_map, sum_by, filter, not, ◌==◌, zip, All}
+use Rattle.std.proofs.Common.{◌≡◌, ℕ, suc, ◌+◌, ◌*◌, List, [], ◌∷◌, ◌++◌, length, map, refl, sym, ap, ap₂, ◌∙◌, arith, length-append}
+use Rattle.std.specs.Prelude.{flat_map, sum_by, zip}
 use Rattle.std.specs.Option.{option_map_or}
 use Rattle.std.specs.List.{concat, enumerate_from}
-use Rattle.std.proofs.lemmas.List.{map-append}
 use Rattle.std.proofs.lemmas.List.FromFn.{length-enumerate_from}
-use Rattle.std.proofs.lemmas.List.Sums.{sum_by-cons, length-filter}
+use Rattle.std.proofs.lemmas.List.Sums.{sum_by-cons}
 use Rattle.byteorder.specs.Numbers.{length-bytes_high_first}
 use Rattle.heap_class.specs.declared.IdSize.{IdSize}
 use Rattle.heap_class.specs.declared.Kind.{Kind}
@@ -14,11 +13,11 @@ use Rattle.heap_class.specs.declared.ObjKind.{ObjKind}
 use Rattle.heap_class.specs.declared.ObjKind.TheVariants.{Instance, Array, Prim}
 use Rattle.heap_class.specs.Kinds.{id_bytes, width_of, type_code}
 use Rattle.heap_class.specs.Classes.{Class, slots_of, name_table, name_id, instance_size}
-use Rattle.hprof_text.specs.Image.{Image, DumpedObject, IsKnown, IsDumpable}
-use Rattle.hprof_text.specs.Sizes.{names_size, opening_size, class_size, root_size, dump_size, object_size, utf8_size, sub_sizes, records_size, text_size}
+use Rattle.hprof_text.specs.Image.{Image, IsKnown}
+use Rattle.hprof_text.specs.Sizes.{names_size, opening_size, root_size, dump_size, utf8_size, records_size, text_size}
 use Rattle.hprof_text.specs.Records.{opening_of}
 use Rattle.hprof_text.specs.Segments.{segment_limit, size_of, segments_of, segment_sizes, segment_records, end_record, dump_text}
-use Rattle.hprof_text.specs.Text.{id, u1, u4, record_of, header, utf8, load_class, trace, field_entry, class_dump, root_sticky_class, root_unknown, value_bytes, dump_of, object_dump, class_id, opening_records, class_records, object_records, register_roots, sub_records}
+use Rattle.hprof_text.specs.Text.{id, u1, u4, record_of, header, utf8, load_class, trace, field_entry, class_dump, root, value_bytes, dump_of, class_id, opening_records, sub_records}
 use Rattle.hprof_text.proofs.SegmentSizes.{are_sizes}
 
 -- a record is 9 bytes longer than its body
@@ -85,49 +84,9 @@ dump_length ids classes x (Prim kind) words h =
     let i : length (id ids x) ≡ id_bytes ids = id_length ids x in
     simp length-append (omega (arith, v, i))
 
--- ---- the sub-records
-
-class_lengths : (ids : IdSize) (classes : List Class) (n : ℕ) (cs : List Class) → map length (map (class_dump ids classes) (enumerate_from n cs)) ≡ map (class_size ids) cs
-class_lengths ids classes n [] = refl
-class_lengths ids classes n (c ∷ cs) = ap₂ (λ a b. a ∷ b) (class_dump_length ids classes (n, c)) (class_lengths ids classes (n + 1) cs)
-
-pub root_length : (ids : IdSize) (x : ℕ) → length (root_unknown ids x) ≡ root_size ids
-unfolding root_unknown
-root_length ids x = omega (arith, length-append (u1 0xff) (id ids x), id_length ids x)
-
-pub sticky_length : (ids : IdSize) (c : ℕ × Class) → length (root_sticky_class ids c) ≡ root_size ids
-unfolding root_sticky_class
-sticky_length ids c = omega (arith, length-append (u1 0x05) (id ids (class_id c.0)), id_length ids (class_id c.0))
-
--- items of one length each
-lengths_alike : {A : Type 0} (f : A → List ℕ) (n : ℕ) → ((x : A) → length (f x) ≡ n) → (xs : List A) → map length (map f xs) ≡ replicate (length xs) n
-lengths_alike f n h [] = refl
-lengths_alike f n h (x ∷ xs) = ap₂ (λ a b. a ∷ b) (h x) (lengths_alike f n h xs)
-
-abbrev IsKnownObject : List Class → DumpedObject → Type 0
-IsKnownObject classes o = IsKnown classes o.kind (length o.words)
-
-object_lengths : (ids : IdSize) (classes : List Class) (os : List DumpedObject) → All (IsKnownObject classes) os → map length (map (object_dump ids classes) os) ≡ map (object_size ids classes) os
-unfolding object_dump
-object_lengths ids classes [] h = refl
-object_lengths ids classes (o ∷ os) h = ap₂ (λ a b. a ∷ b) (dump_length ids classes o.id o.kind o.words (h 0 o (omega arith))) (object_lengths ids classes os (λ k d e. h (suc k) d (omega (arith, e))))
-
-pub sub_lengths : (ids : IdSize) (image : Image) → IsDumpable image → map length (sub_records ids image) ≡ sub_sizes ids image
-unfolding sub_records class_records object_records register_roots sub_sizes
-sub_lengths ids image d =
-    let cs : List Class = image.classes in
-    let a : List (List ℕ) = map (class_dump ids cs) (enumerate_from 0 cs) in
-    let b : List (List ℕ) = map (root_sticky_class ids) (enumerate_from 0 cs) in
-    let c : List (List ℕ) = map (object_dump ids cs) image.objects in
-    let e : List (List ℕ) = map (root_unknown ids) (filter (λ x. not (x == 0)) image.registers) in
-    let s : ℕ = root_size ids in
-    map-append length (a ++ b ++ c) e
-    ∙ ap₂ (λ l m. l ++ m)
-    (map-append length (a ++ b) c
-    ∙ ap₂ (λ l m. l ++ m)
-    (map-append length a b ∙ ap₂ (λ l m. l ++ m) (class_lengths ids cs 0 cs) (lengths_alike (root_sticky_class ids) s (sticky_length ids) (enumerate_from 0 cs) ∙ ap (λ n. replicate n s) (length-enumerate_from 0 cs)))
-    (object_lengths ids cs image.objects d.known))
-    (lengths_alike (root_unknown ids) s (root_length ids) (filter (λ x. not (x == 0)) image.registers) ∙ ap (λ n. replicate n s) (length-filter (λ x. not (x == 0)) image.registers))
+pub root_length : (ids : IdSize) (tag x : ℕ) → length (root ids tag x) ≡ root_size ids
+unfolding root
+root_length ids tag x = omega (arith, length-append (u1 tag) (id ids x), id_length ids x)
 
 -- ---- what stands before the segments
 
@@ -178,13 +137,13 @@ records_length (s ∷ ss) =
     ∙ ap₂ (λ a b. a + b) (length-record_of 0x1c (concat s)) (records_length ss)
     ∙ sym (sum_by-cons (λ n. 9 + n) (size_of s) (map size_of ss))
 
-pub text_length : (ids : IdSize) (image : Image) (time : ℕ) → IsDumpable image → length (dump_text ids image time) ≡ text_size ids image
+pub text_length : (ids : IdSize) (image : Image) (time : ℕ) → length (dump_text ids image time) ≡ text_size ids image
 unfolding dump_text opening_records segment_records end_record text_size records_size
-text_length ids image time d =
+text_length ids image time =
     let subs : List (List ℕ) = sub_records ids image in
     let o : length (opening_of ids image.classes time) ≡ opening_size ids image.classes = opening_length ids image.classes time in
     let e : length (record_of 0x2c []) ≡ 9 = length-record_of 0x2c [] in
-    let b : length (concat (map (λ s. record_of 0x1c (concat s)) (segments_of segment_limit subs))) ≡ sum_by (λ n. 9 + n) (segment_sizes segment_limit (sub_sizes ids image))
-    = records_length (segments_of segment_limit subs) ∙ ap (sum_by (λ n. 9 + n)) (are_sizes segment_limit subs ∙ ap (segment_sizes segment_limit) (sub_lengths ids image d)) in
+    let b : length (concat (map (λ s. record_of 0x1c (concat s)) (segments_of segment_limit subs))) ≡ sum_by (λ n. 9 + n) (segment_sizes segment_limit (map length subs))
+    = records_length (segments_of segment_limit subs) ∙ ap (sum_by (λ n. 9 + n)) (are_sizes segment_limit subs) in
     length-append (opening_of ids image.classes time ++ concat (map (λ s. record_of 0x1c (concat s)) (segments_of segment_limit subs))) (record_of 0x2c [])
     ∙ ap₂ (λ x y. x + y) (length-append (opening_of ids image.classes time) (concat (map (λ s. record_of 0x1c (concat s)) (segments_of segment_limit subs))) ∙ ap₂ (λ x y. x + y) o b) e

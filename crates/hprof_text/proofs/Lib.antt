@@ -12,7 +12,7 @@ pub mod Fits
 pub mod Ids
 pub mod PieceCounts
 pub mod Loops
-pub mod ClassItems
+pub mod Sections
 pub mod WrittenRecords
 pub mod NumberedPieces
 pub mod ViewedObjects

@@ -1,9 +1,10 @@
 -- A loop that appends what each item of a list gives.
 use Rattle.std.proofs.Common.{◌≡◌, ℕ, zero, suc, ◌+◌, ◌<◌, ◌≤◌, List, [], ◌∷◌, ◌++◌, length, take, drop, get_or, map, refl, sym, ap, ap₂, ◌∙◌, subst, arith, append_assoc, length-append}
-use Rattle.std.specs.Prelude.{flat_map, zip, Option, Some, slice_get, IfSome, sum_by}
+use Rattle.std.specs.Prelude.{flat_map, zip, Option, Some, slice_get, IfSome, sum_by, All}
 use Rattle.std.specs.List.{enumerate_from}
 use Rattle.std.specs.Option.{option_map}
-use Rattle.std.proofs.lemmas.List.{append-nil, take_more, get_or_default, take_all, length-map, take-append-drop}
+use Rattle.std.proofs.lemmas.List.{append-nil, take_more, get_or_default, take_all, take-append-drop}
+use Rattle.std.proofs.lemmas.List.Elements.{All-nil, All-cons, All-head, All-tail}
 use Rattle.std.proofs.lemmas.List.Sums.{sum_by_more}
 use Rattle.std.proofs.lemmas.List.Concat.{flat_map-append}
 use Rattle.std.proofs.lemmas.List.Folds.{length-flat_map-take}
@@ -84,6 +85,14 @@ some_item [] i h = absurd (omega (arith, h))
 some_item (x ∷ xs) zero h = (x, refl)
 some_item (x ∷ xs) (suc i) h = some_item xs i (omega (arith, h))
 
+pub drop_item : {X : Type 0} (xs : List X) (n : ℕ) (x : X) → slice_get xs n ≡ Some x → drop n xs ≡ x ∷ drop (n + 1) xs
+drop_item [] n x h = absurd (cc)
+drop_item (y ∷ ys) zero x h = ap (λ z. z ∷ ys) (same y x h)
+  where
+    same : {X : Type 0} (y x : X) → ◌≡◌ {A = Option X} (Some y) (Some x) → y ≡ x
+    same y x h = cc
+drop_item (y ∷ ys) (suc n) x h = drop_item ys n x h ∙ ap (λ k. x ∷ drop k (y ∷ ys)) (let e : suc (n + 1) ≡ suc n + 1 = omega arith in e)
+
 -- a sum over the items so far, and one more
 pub sum_so_far : {X : Type 0} (f : X → ℕ) (xs : List X) (i : ℕ) (x : X) → i < length xs → x ≡ get_or xs i x → sum_by f (take (i + 1) xs) ≡ sum_by f (take i xs) + f x
 sum_so_far f xs i x h e = sum_by_more f xs i x h ∙ ap (λ y. sum_by f (take i xs) + f y) (sym e)
@@ -113,17 +122,22 @@ more_field ids classes fs i n kind old now new h a b s e =
     let p = some_item fs i h in
     so_far_more (field_entry ids classes) fs old now new i p.0 h (item_got fs i p.0 p.1) s (e ∙ ap (λ l. now ++ l) (field_is ids classes fs i n kind p.0 p.1 a b))
 
--- ---- a sub-record of each class
+-- ---- what each class gives
 
-pub class_item : (f : ℕ × Class → List ℕ) (classes : List Class) (k : ℕ) → k < length classes → slice_get (map f (enumerate_from 0 classes)) k ≡ Some (f (k, class_at classes k))
+pub class_item : {X : Type 0} (f : ℕ × Class → X) (classes : List Class) (k : ℕ) → k < length classes → slice_get (map f (enumerate_from 0 classes)) k ≡ Some (f (k, class_at classes k))
 class_item f classes k h =
     let g : k < length (enumerate_from 0 classes) = omega (arith, length-enumerate_from 0 classes, h) in
     let d : ℕ × Class = (k, class_at classes k) in
     slice_get-map f (enumerate_from 0 classes) k
     ∙ ap (option_map f) (slice_get-get_or (enumerate_from 0 classes) k d g ∙ ap Some (sym (item_numbered 0 k classes k (class_at classes k) (omega arith) h (item_at classes k (array_class []) h))))
 
-pub length_items : (f : ℕ × Class → List ℕ) (classes : List Class) → length (map f (enumerate_from 0 classes)) ≡ length classes
-length_items f classes = length-map (enumerate_from 0 classes) f ∙ length-enumerate_from 0 classes
+-- what holds of each item with its number
+pub numbered : {A : Type 0} (P : ℕ × A → Type 0) (Q : A → Type 0) (m n : ℕ) (xs : List A) → n + length xs ≤ m → ((k : ℕ) (x : A) → k < m → Q x → P (k, x)) → All Q xs → All P (enumerate_from n xs)
+numbered P Q m n [] l h q = All-nil P
+numbered P Q m n (x ∷ xs) l h q =
+    let here : n < m = omega (arith, l) in
+    let later : n + 1 + length xs ≤ m = omega (arith, l) in
+    All-cons P (n, x) (enumerate_from (n + 1) xs) (h n x here (All-head Q x xs q)) (numbered P Q m (n + 1) xs later h (All-tail Q x xs q))
 
 -- ---- several at a time
 

@@ -1,98 +1,50 @@
 -- The pieces by number, and the cursors at them.
-use Rattle.std.proofs.Common.{◌≡◌, ◌≢◌, ◌≤◌, ◌<◌, ℕ, zero, suc, ◌+◌, Bool, true, false, List, [], ◌∷◌, ◌++◌, length, map, drop, refl, sym, ap, ap₂, ◌∙◌, subst, inl, inr, arith, add-one, append_assoc, length-append}
-use Rattle.std.specs.Prelude.{slice_get, slice_index_or, Some, unwrap_or, nat_le, All, filter, not, ◌==◌}
-use Rattle.std.specs.List.{enumerate_from}
+use Rattle.std.proofs.Common.{◌≡◌, ◌≢◌, ◌≤◌, ◌<◌, ℕ, zero, suc, ◌+◌, Bool, true, false, List, [], ◌∷◌, ◌++◌, length, drop, refl, sym, ap, ap₂, ◌∙◌, subst, inl, inr, arith, add-one, length-append}
+use Rattle.std.specs.Prelude.{slice_get, slice_index_or, Option, Some, None, unwrap_or, nat_le, All}
 use Rattle.std.proofs.lemmas.Option.{slice_get_past}
-use Rattle.std.proofs.lemmas.List.Elements.{All-append, All-drop, All-map, All-nil, All-head}
+use Rattle.std.proofs.lemmas.List.Elements.{All-nil, All-head}
 use Rattle.std.proofs.lemmas.Bool.Decides.{leb_tells}
 use Rattle.std.proofs.lemmas.List.{length-drop}
 use Rattle.heap_class.specs.declared.IdSize.{IdSize}
-use Rattle.heap_class.specs.Classes.{Class}
 use Rattle.heap_class.specs.declared.ObjRef.{ObjRef}
-use Rattle.heap_class.specs.declared.ObjKind.{ObjKind}
-use Rattle.heap_class.specs.declared.ObjKind.TheVariants.{Instance, Array, Prim}
 use Rattle.hprof_text.specs.declared.Cursor.{Cursor}
-use Rattle.hprof_text.specs.declared.Cursor.TheVariants.{Start, ClassDump, ClassRoot, Object, RegisterRoot, End, Past}
+use Rattle.hprof_text.specs.declared.Cursor.TheVariants.{Start, Item, Object, End, Past}
+use Rattle.hprof_text.specs.declared.section.NumberedSection.TheVariants.{ClassDumps}
+use Rattle.hprof_text.specs.declared.section.Section.{Section}
+use Rattle.hprof_text.specs.declared.section.Section.TheVariants.{Numbered, Objects}
 use Rattle.hprof_text.specs.declared.Piece.{Piece}
-use Rattle.hprof_text.specs.Cursors.{IsAt, IsBefore, from_class, from_root, from_object, from_register}
-use Rattle.hprof_text.specs.SegmentFilling.{body_filled, IsRest, IsFilledTo}
-use Rattle.hprof_text.specs.Image.{Image, DumpedObject}
+use Rattle.hprof_text.specs.Cursors.{IsAt, IsBefore, IsRest, from_item, sections_from}
+use Rattle.hprof_text.specs.SegmentFilling.{body_filled, IsFilledTo}
+use Rattle.hprof_text.specs.Image.{Image}
 use Rattle.hprof_text.specs.Segments.{segments_of, segment_records, end_record, records_from, pieces_of, nth_piece, piece_of}
-use Rattle.hprof_text.specs.Text.{record_of, class_dump, root_sticky_class, root_unknown, dump_of, object_dump, class_records, object_records, register_roots, sub_records, opening_records}
-use Rattle.hprof_text.proofs.FilledSegments.{record_more, body_more, filled_none, drop_item}
+use Rattle.hprof_text.specs.Text.{record_of, opening_records, sub_records, records_in}
+use Rattle.hprof_text.proofs.FilledSegments.{record_more, body_more, filled_none}
+use Rattle.hprof_text.proofs.Loops.{drop_item}
+use Rattle.hprof_text.proofs.Sections.{HasBytes, from_bytes}
 
--- ---- each sub-record has bytes
-
-abbrev HasBytes : List ℕ → Type 0
-HasBytes x = 0 < length x
-
-some_class : (ids : IdSize) (classes : List Class) (c : ℕ × Class) → HasBytes (class_dump ids classes c)
-unfolding class_dump
-some_class ids classes c = omega arith
-
-some_sticky : (ids : IdSize) (c : ℕ × Class) → HasBytes (root_sticky_class ids c)
-unfolding root_sticky_class
-some_sticky ids c = omega arith
-
-some_root : (ids : IdSize) (x : ℕ) → HasBytes (root_unknown ids x)
-unfolding root_unknown
-some_root ids x = omega arith
-
-some_dump : (ids : IdSize) (classes : List Class) (x : ℕ) (kind : ObjKind) (words : List ℕ) → HasBytes (dump_of ids classes x kind words)
-unfolding dump_of
-some_dump ids classes x (Instance k) words = omega arith
-some_dump ids classes x (Array k) words = omega arith
-some_dump ids classes x (Prim k) words = omega arith
-
-some_object : (ids : IdSize) (classes : List Class) (o : DumpedObject) → HasBytes (object_dump ids classes o)
-unfolding object_dump
-some_object ids classes o = some_dump ids classes o.id o.kind o.words
-
-some_of : {X : Type 0} (f : X → List ℕ) → ((x : X) → HasBytes (f x)) → (n : ℕ) (xs : List X) → All HasBytes (drop n (map f xs))
-some_of f h n xs = All-drop HasBytes n (map f xs) (All-map HasBytes f xs (λ k x l. h _))
-
-registers_some : (ids : IdSize) (image : Image) (n : ℕ) → All HasBytes (from_register ids image.registers n)
-registers_some ids image n = some_of (root_unknown ids) (some_root ids) 0 (filter (λ x. not (x == 0)) (drop n image.registers))
-
-objects_some : (ids : IdSize) (image : Image) (n : ℕ) → All HasBytes (from_object ids image n)
-unfolding object_records
-objects_some ids image n = All-append HasBytes (drop n (object_records ids image)) _ (some_of (object_dump ids image.classes) (some_object ids image.classes) n image.objects) (registers_some ids image 0)
-
-roots_some : (ids : IdSize) (image : Image) (n : ℕ) → All HasBytes (from_root ids image n)
-roots_some ids image n = All-append HasBytes (drop n (map (root_sticky_class ids) (enumerate_from 0 image.classes))) _ (some_of (root_sticky_class ids) (some_sticky ids) n (enumerate_from 0 image.classes)) (objects_some ids image 0)
-
-classes_some : (ids : IdSize) (image : Image) (n : ℕ) → All HasBytes (from_class ids image n)
-classes_some ids image n = All-append HasBytes (drop n (map (class_dump ids image.classes) (enumerate_from 0 image.classes))) _ (some_of (class_dump ids image.classes) (some_class ids image.classes) n (enumerate_from 0 image.classes)) (roots_some ids image 0)
+-- ---- cursors
 
 pub rest_some : (ids : IdSize) (image : Image) (places : List ObjRef) (cursor : Cursor) (rest : List (List ℕ)) → IsRest ids image places cursor rest → All HasBytes rest
 rest_some ids image places Start rest h = absurd h
-rest_some ids image places (ClassDump n) rest h = subst (All HasBytes) (sym h) (classes_some ids image n)
-rest_some ids image places (ClassRoot n) rest h = subst (All HasBytes) (sym h) (roots_some ids image n)
-rest_some ids image places (Object at) rest h = subst (All HasBytes) (sym h.2) (objects_some ids image h.0)
-rest_some ids image places (RegisterRoot n) rest h = subst (All HasBytes) (sym h) (registers_some ids image n)
+rest_some ids image places (Item s n) rest h = subst (All HasBytes) (sym h) (from_bytes ids image (Numbered s) n)
+rest_some ids image places (Object at) rest h = subst (All HasBytes) (sym h.2) (from_bytes ids image Objects h.0)
 rest_some ids image places End rest h = subst (All HasBytes) (sym h) (All-nil HasBytes)
 rest_some ids image places Past rest h = absurd h
-
--- ---- cursors
 
 -- a cursor that is neither before the first piece nor past the last stands where what is left of it begins
 pub rest_at : (ids : IdSize) (image : Image) (places : List ObjRef) (cursor : Cursor) (rest : List (List ℕ)) (i : ℕ) → IsRest ids image places cursor rest → IsBefore ids image rest i → IsAt ids image places cursor i
 rest_at ids image places Start rest i h b = absurd h
-rest_at ids image places (ClassDump n) rest i h b = subst (λ r. IsBefore ids image r i) h b
-rest_at ids image places (ClassRoot n) rest i h b = subst (λ r. IsBefore ids image r i) h b
-rest_at ids image places (Object at) rest i h b = (h.0, h.1, subst (λ r. IsBefore ids image r i) h.2 b)
-rest_at ids image places (RegisterRoot n) rest i h b = subst (λ r. IsBefore ids image r i) h b
-rest_at ids image places End rest i h b = subst (λ r. IsBefore ids image r i) h b
+rest_at ids image places (Item s n) rest i h b = (rest, h, b)
+rest_at ids image places (Object at) rest i h b = (rest, h, b)
+rest_at ids image places End rest i h b = (rest, h, b)
 rest_at ids image places Past rest i h b = absurd h
 
 -- and where it stands, something of the dump is left
 pub at_rest : (ids : IdSize) (image : Image) (places : List ObjRef) (cursor : Cursor) (i : ℕ) → cursor ≢ Start → cursor ≢ Past → IsAt ids image places cursor i → (rest : List (List ℕ)) × IsRest ids image places cursor rest × IsBefore ids image rest i
 at_rest ids image places Start i s p h = absurd (s refl)
-at_rest ids image places (ClassDump n) i s p h = (from_class ids image n, refl, h)
-at_rest ids image places (ClassRoot n) i s p h = (from_root ids image n, refl, h)
-at_rest ids image places (Object at) i s p h = (from_object ids image h.0, (h.0, h.1, refl), h.2)
-at_rest ids image places (RegisterRoot n) i s p h = (from_register ids image.registers n, refl, h)
-at_rest ids image places End i s p h = ([], refl, h)
+at_rest ids image places (Item s n) i _ p h = h
+at_rest ids image places (Object at) i s p h = h
+at_rest ids image places End i s p h = h
 at_rest ids image places Past i s p h = absurd (p refl)
 
 -- past the last piece is past it at each later number
@@ -109,6 +61,12 @@ filled_to ids image places rest cursor old new left e r = (sym (ap (λ p. p.0) e
 
 pub filled_on : (ids : IdSize) (image : Image) (places : List ObjRef) (rest others : List (List ℕ)) (cursor : Cursor) (old now new : List ℕ) → body_filled old rest ≡ body_filled now others → IsFilledTo ids image places others cursor now new → IsFilledTo ids image places rest cursor old new
 filled_on ids image places rest others cursor old now new e f = (f.0 ∙ ap (λ p. p.0) (sym e), subst (IsRest ids image places cursor) (ap (λ p. p.1) (sym e)) f.1)
+
+-- no section is left
+pub filled_all : (ids : IdSize) (image : Image) (places : List ObjRef) (rest : List (List ℕ)) (next : Option Section) (old now : List ℕ) → next ≡ None → body_filled old rest ≡ body_filled now (records_in ids image (sections_from next)) → IsFilledTo ids image places rest End old now
+filled_all ids image places rest next old now e h =
+    let end = ap (λ s. body_filled now (records_in ids image (sections_from s))) e in
+    filled_to ids image places rest End old now [] (h ∙ end ∙ filled_none now) refl
 
 -- ---- a piece by its number
 
@@ -202,17 +160,10 @@ filled_next ids image places cursor next rest i begun body empty r filled b =
 
 -- ---- the ends
 
--- the first sub-record is the first of a class, where there is one
-pub all_from_class : (ids : IdSize) (image : Image) → sub_records ids image ≡ from_class ids image 0
-unfolding sub_records class_records object_records register_roots
-all_from_class ids image =
-    grouped (map (class_dump ids image.classes) (enumerate_from 0 image.classes)) (map (root_sticky_class ids) (enumerate_from 0 image.classes)) (map (object_dump ids image.classes) image.objects) (map (root_unknown ids) (filter (λ x. not (x == 0)) image.registers))
-  where
-    grouped : (a b c d : List (List ℕ)) → (a ++ b) ++ c ++ d ≡ a ++ (b ++ (c ++ d))
-    grouped a b c d = simp append_assoc refl
-
-pub first_at : (ids : IdSize) (image : Image) (places : List ObjRef) → IsAt ids image places (ClassDump 0) 1
-first_at ids image places = (0, refl, ap records_from (all_from_class ids image))
+-- the first sub-record is that of the first section's first item that has one
+pub first_at : (ids : IdSize) (image : Image) (places : List ObjRef) → IsAt ids image places (Item ClassDumps 0) 1
+unfolding sub_records
+first_at ids image places = (from_item ids image (Numbered ClassDumps) 0, refl, (0, refl, refl))
 
 pub piece_past : (ids : IdSize) (image : Image) (time i : ℕ) (bytes : List ℕ) → bytes ≡ [] → length (records_from (sub_records ids image)) + 1 ≤ i → piece_with bytes true ≡ piece_of ids image time i
 unfolding piece_of pieces_of nth_piece

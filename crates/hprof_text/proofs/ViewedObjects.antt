@@ -1,9 +1,7 @@
 -- What a view tells of the object at a place.
-use Rattle.std.proofs.Common.{◌≡◌, ◌≤◌, ◌<◌, ℕ, ◌+◌, ◌-◌, List, length, get_or, sym, ap, ap₂, ◌∙◌, subst, arith, inl, inr}
-use Rattle.std.specs.Option.{option_map}
-use Rattle.std.proofs.lemmas.List.{length-map}
+use Rattle.std.proofs.Common.{◌≡◌, ◌≤◌, ◌<◌, ℕ, ◌+◌, ◌-◌, List, [], ◌∷◌, length, get_or, sym, ap, ap₂, ◌∙◌, subst, arith, inl, inr}
 use Rattle.std.specs.Prelude.{slice_get, Option, Some, None, IfSome}
-use Rattle.std.proofs.lemmas.Option.{slice_get_within, slice_get_cases, slice_get-map, get_or_from_slice_get}
+use Rattle.std.proofs.lemmas.Option.{slice_get_within, slice_get_cases, get_or_from_slice_get}
 use Rattle.heap_class.specs.declared.IdSize.{IdSize}
 use Rattle.heap_class.specs.Classes.{Class}
 use Rattle.heap_class.specs.declared.ObjKind.{ObjKind}
@@ -11,8 +9,12 @@ use Rattle.heap_class.specs.declared.ObjRef.{ObjRef}
 use Rattle.heap_class.specs.Limits.{array_limit}
 pub use Rattle.heap_class.proofs.Lists.{got_is_in as is_there}
 use Rattle.hprof_text.specs.Image.{Image, DumpedObject, IsKnown, IsDumpable}
-use Rattle.hprof_text.specs.Text.{dump_of, object_dump, object_records}
+use Rattle.hprof_text.specs.declared.section.Section.TheVariants.{Objects}
+use Rattle.hprof_text.specs.Sizes.{dump_size}
+use Rattle.hprof_text.specs.Text.{dump_of, object_dump, items_of}
+use Rattle.hprof_text.proofs.Lengths.{dump_length}
 use Rattle.hprof_text.proofs.Loops.{some_item}
+use Rattle.hprof_text.proofs.Sections.{object_there, items_counted}
 
 -- the object at a place, by what a view tells of it
 pub record IsHere (image : Image) (i : ℕ) (kind : ObjKind) (words : List ℕ) : Type 0 where
@@ -86,14 +88,19 @@ all_visited image places i next e none passed placed = omega (arith, none_left p
 -- the record of the object at place i, by what a view tells of it
 pub object_record : (ids : IdSize) (image : Image) (places : List ObjRef) (i : ℕ) (at : ObjRef) (s : IdSize) (cs : List Class) (x : ℕ) (kind : ObjKind) (words : List ℕ) → IsDumpable image → length places ≡ length image.objects → slice_get places i ≡ Some at
     → s ≡ ids → cs ≡ image.classes → IfSome (slice_get image.objects i) (λ o. x ≡ o.id) → IfSome (slice_get image.objects i) (λ o. kind ≡ o.kind) → IfSome (slice_get image.objects i) (λ o. words ≡ o.words)
-    → slice_get (object_records ids image) i ≡ Some (dump_of s cs x kind words)
-unfolding object_records
+    → slice_get (items_of ids image Objects) i ≡ Some (dump_of s cs x kind words ∷ [])
 object_record ids image places i at s cs x kind words d n e a b f g h =
     let o = here image places i at kind words d n e g h in
-    slice_get-map (object_dump ids image.classes) image.objects i
-    ∙ ap (option_map (object_dump ids image.classes)) o.there
-    ∙ ap Some (sym (object_bytes_are ids image i o.object s cs x kind words o.there a b f o.same_kind o.same_words))
+    object_there ids image i o.object o.there
+    ∙ ap (λ l. Some (l ∷ [])) (sym (object_bytes_are ids image i o.object s cs x kind words o.there a b f o.same_kind o.same_words))
 
-pub count_records : (ids : IdSize) (image : Image) → length (object_records ids image) ≡ length image.objects
-unfolding object_records
-count_records ids image = length-map image.objects (object_dump ids image.classes)
+-- its size, by what a view tells of it
+pub object_sized : (ids : IdSize) (image : Image) (i : ℕ) (kind : ObjKind) (words : List ℕ) (here : IsHere image i kind words) → length (object_dump ids image.classes here.object) ≡ dump_size ids image.classes kind (length words)
+unfolding object_dump
+object_sized ids image i kind words h =
+    ap₂ (λ k ws. length (dump_of ids image.classes h.object.id k ws)) (sym h.same_kind) (sym h.same_words)
+    ∙ dump_length ids image.classes h.object.id kind words h.known
+
+-- all have been passed, where there are no more
+pub objects_past : (ids : IdSize) (image : Image) (places : List ObjRef) (i : ℕ) → None ≡ slice_get places i → length places ≡ length image.objects → length (items_of ids image Objects) ≤ i
+objects_past ids image places i e n = omega (arith, none_left places i e, n, items_counted ids image Objects)

@@ -1,5 +1,5 @@
 -- For proofs: sums of sizes of segments.
-use Rattle.std.specs.Prelude.{◌≡◌, ℕ, ◌+◌, List, [], ◌++◌}
+use Rattle.std.specs.Prelude.{◌≡◌, ℕ, ◌+◌, List, [], ◌++◌, length, map}
 use Rattle.hprof_text.specs.declared.measure.Measure.{Measure}
 use Rattle.hprof_text.specs.Sizes.{records_size_after}
 
@@ -12,5 +12,13 @@ abbrev pub total : Measure → ℕ
 total m = total_with m []
 
 -- sub-records of these sizes were added
-abbrev pub IsMeasured : List ℕ → Measure → Measure → Type 0
-IsMeasured sizes old new = (more : List ℕ) → total_with new more ≡ total_with old (sizes ++ more)
+abbrev pub IsAdded : List ℕ → Measure → Measure → Type 0
+IsAdded sizes old new = (more : List ℕ) → total_with new more ≡ total_with old (sizes ++ more)
+
+-- of these sub-records all were added but those that are left
+abbrev pub IsMeasured : List (List ℕ) → List (List ℕ) → Measure → Measure → Type 0
+IsMeasured rest left old new = total_with new (map length left) ≡ total_with old (map length rest)
+
+-- the most bytes that the items of a section add, with the heads of their segments: 65,536 sub-records of 8,217 bytes
+abbrev pub section_limit : ℕ
+section_limit = 539099136

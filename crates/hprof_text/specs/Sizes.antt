@@ -1,11 +1,12 @@
 -- The sizes of the parts of a dump in bytes.
-use Rattle.std.specs.Prelude.{ℕ, zero, suc, ◌+◌, ◌*◌, not, ◌==◌, List, ◌++◌, length, map, replicate, count_by, sum_by}
+use Rattle.std.specs.Prelude.{ℕ, zero, suc, ◌+◌, ◌*◌, List, length, map, sum_by}
 use Rattle.heap_class.specs.declared.IdSize.{IdSize}
 use Rattle.heap_class.specs.declared.ObjKind.{ObjKind}
 use Rattle.heap_class.specs.declared.ObjKind.TheVariants.{Instance, Array, Prim}
 use Rattle.heap_class.specs.Kinds.{id_bytes, width_of}
 use Rattle.heap_class.specs.Classes.{Class, name_table, instance_size}
-use Rattle.hprof_text.specs.Image.{Image, DumpedObject}
+use Rattle.hprof_text.specs.Image.{Image}
+use Rattle.hprof_text.specs.Text.{sub_records}
 use Rattle.hprof_text.specs.Segments.{segment_limit, sizes_at, segment_sizes}
 
 -- the largest size of the sub-record of a class
@@ -51,18 +52,6 @@ dump_size ids classes (Instance k) n = 9 + 2 * id_bytes ids + instance_size ids 
 dump_size ids classes (Array k) n = 9 + 2 * id_bytes ids + id_bytes ids * n
 dump_size ids classes (Prim kind) n = 10 + id_bytes ids + width_of ids kind * n
 
--- the size of the sub-record of an object
-abbrev pub object_size : IdSize → List Class → DumpedObject → ℕ
-object_size ids classes o = dump_size ids classes o.kind (length o.words)
-
--- the sizes of the sub-records, in order
-unfoldable pub sub_sizes : IdSize → Image → List ℕ
-sub_sizes ids image =
-    map (class_size ids) image.classes
-    ++ replicate (length image.classes) (root_size ids)
-    ++ map (object_size ids image.classes) image.objects
-    ++ replicate (count_by (λ x. not (x == 0)) image.registers) (root_size ids)
-
 -- ---- the records of the segments
 
 -- the size of the records of segments whose sub-records have these sizes
@@ -80,4 +69,4 @@ records_size_after (suc n) sizes = records_size_at (suc n) sizes
 
 -- the size of the whole text
 unfoldable pub text_size : IdSize → Image → ℕ
-text_size ids image = opening_size ids image.classes + records_size (sub_sizes ids image) + 9
+text_size ids image = opening_size ids image.classes + records_size (map length (sub_records ids image)) + 9

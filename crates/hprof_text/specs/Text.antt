@@ -1,5 +1,5 @@
 -- The records of a dump: HPROF, JAVA PROFILE 1.0.2, with identifiers of either size.
-use Rattle.std.specs.Prelude.{ℕ, ◌+◌, ◌*◌, ◌/◌, ◌%◌, ◌^◌, not, ◌==◌, List, ◌++◌, length, map, filter, flat_map, zip, codes}
+use Rattle.std.specs.Prelude.{ℕ, ◌+◌, ◌*◌, ◌/◌, ◌%◌, ◌^◌, ◌==◌, List, [], ◌∷◌, ◌++◌, length, map, drop, if◌then◌else◌, flat_map, zip, codes}
 use Rattle.std.specs.Option.{option_map_or}
 use Rattle.std.specs.List.{enumerate_from}
 use Rattle.byteorder.specs.Endian.{big_bytes}
@@ -11,6 +11,9 @@ use Rattle.heap_class.specs.declared.ObjKind.TheVariants.{Instance, Array, Prim}
 use Rattle.heap_class.specs.Kinds.{id_bytes, width_of, type_code}
 use Rattle.heap_class.specs.Classes.{Class, slots_of, name_table, name_id, instance_size}
 use Rattle.hprof_text.specs.Image.{Image, DumpedObject}
+use Rattle.hprof_text.specs.declared.section.NumberedSection.TheVariants.{ClassDumps, ClassRoots, RegisterRoots}
+use Rattle.hprof_text.specs.declared.section.Section.{Section}
+use Rattle.hprof_text.specs.declared.section.Section.TheVariants.{Numbered, Objects}
 
 -- ---- numbers
 
@@ -77,13 +80,17 @@ class_dump ids classes c =
     ++ u4 (instance_size ids classes c.0) ++ u2 0 ++ u2 0 ++ u2 (length c.1.fields)
     ++ flat_map (field_entry ids classes) c.1.fields
 
--- the root of a class
-unfoldable pub root_sticky_class : IdSize → ℕ × Class → List ℕ
-root_sticky_class ids c = u1 0x05 ++ id ids (class_id c.0)
+-- a root with this tag: the id of an object or of a class
+unfoldable pub root : IdSize → ℕ → ℕ → List ℕ
+root ids tag x = u1 tag ++ id ids x
+
+-- the root of class k
+abbrev pub root_sticky_class : IdSize → ℕ → List ℕ
+root_sticky_class ids k = root ids 0x05 (class_id k)
 
 -- the root of an object, of an unknown kind of root
-unfoldable pub root_unknown : IdSize → ℕ → List ℕ
-root_unknown ids x = u1 0xff ++ id ids x
+abbrev pub root_unknown : IdSize → ℕ → List ℕ
+root_unknown ids x = root ids 0xff x
 
 -- a slot's word in as many bytes as its kind has
 unfoldable pub value_bytes : IdSize → Kind × ℕ → List ℕ
@@ -105,29 +112,46 @@ dump_of ids classes x (Prim kind) words =
 unfoldable pub object_dump : IdSize → List Class → DumpedObject → List ℕ
 object_dump ids classes o = dump_of ids classes o.id o.kind o.words
 
--- ---- the parts of the text
+-- ---- the records before the segments
 
--- the records before the segments: header, names, classes, and the empty trace
+-- the header, names, classes, and the empty trace
 unfoldable pub opening_records : IdSize → Image → ℕ → List ℕ
 opening_records ids image time =
     header ids time ++ flat_map (utf8 ids) (enumerate_from 1 (name_table image.classes))
     ++ flat_map (load_class ids image.classes) (enumerate_from 0 image.classes) ++ trace
 
--- the sub-records of the classes, then their roots
-unfoldable pub class_records : IdSize → Image → List (List ℕ)
-class_records ids image =
-    map (class_dump ids image.classes) (enumerate_from 0 image.classes)
-    ++ map (root_sticky_class ids) (enumerate_from 0 image.classes)
+-- ---- the sections
 
--- the sub-records of the objects
-unfoldable pub object_records : IdSize → Image → List (List ℕ)
-object_records ids image = map (object_dump ids image.classes) image.objects
+-- the sections, in order: the sub-records of the classes, the roots of the classes, the sub-records of the objects, and the
+-- roots of the registers
+abbrev pub sections : List Section
+sections = Numbered ClassDumps ∷ Numbered ClassRoots ∷ Objects ∷ Numbered RegisterRoots ∷ []
 
--- the roots of the registers that aren't null
-unfoldable pub register_roots : IdSize → Image → List (List ℕ)
-register_roots ids image = map (root_unknown ids) (filter (λ x. not (x == 0)) image.registers)
+-- the sections after a section
+abbrev pub after : Section → List Section
+after (Numbered ClassDumps) = drop 1 sections
+after (Numbered ClassRoots) = drop 2 sections
+after Objects = drop 3 sections
+after (Numbered RegisterRoots) = drop 4 sections
+
+-- the items of a section: for each class, object or register its sub-record, but none for a register that is null
+unfoldable pub items_of : IdSize → Image → Section → List (List (List ℕ))
+items_of ids image (Numbered ClassDumps) =
+    map (λ c. class_dump ids image.classes c ∷ []) (enumerate_from 0 image.classes)
+items_of ids image (Numbered ClassRoots) =
+    map (λ c. root_sticky_class ids c.0 ∷ []) (enumerate_from 0 image.classes)
+items_of ids image Objects = map (λ o. object_dump ids image.classes o ∷ []) image.objects
+items_of ids image (Numbered RegisterRoots) =
+    map (λ x. if x == 0 then [] else root_unknown ids x ∷ []) image.registers
+
+-- the sub-records of these items, in order
+abbrev pub joined : List (List (List ℕ)) → List (List ℕ)
+joined items = flat_map (λ item. item) items
+
+-- the sub-records of these sections, in order
+abbrev pub records_in : IdSize → Image → List Section → List (List ℕ)
+records_in ids image several = flat_map (λ s. joined (items_of ids image s)) several
 
 -- all sub-records, in order
 unfoldable pub sub_records : IdSize → Image → List (List ℕ)
-sub_records ids image =
-    class_records ids image ++ object_records ids image ++ register_roots ids image
+sub_records ids image = records_in ids image sections

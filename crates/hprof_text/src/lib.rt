@@ -10,10 +10,10 @@ ghost use Rattle.hprof_text.specs.Cursors.{IsAt};
 ghost use Rattle.hprof_text.specs.Laws.{EqualIds, IsCut, NumbersFit, PiecesFew, PiecesJoin};
 ghost use Rattle.hprof_text.specs.Segments.{dump_text, piece_of};
 
-use crate::measure::Measure;
+use crate::measure::segments_size;
 use crate::pieces::{past_from, segment_from, start_from};
-use crate::sizes::{not_null, opening_size, root_size};
-use heap_class::{ClassNo, FirstClasses, IdSize, Items, ObjKind, ObjRef, Refusal};
+use crate::sizes::opening_size;
+use heap_class::{FirstClasses, IdSize, Items, ObjKind, ObjRef, Refusal};
 use std::alloc::Global;
 
 mod list_view;
@@ -21,11 +21,13 @@ mod measure;
 mod parts;
 mod pieces;
 mod records;
+mod section;
 mod segment;
 mod segment_bytes;
 mod sizes;
 
 pub use crate::list_view::{ListView, ListedObject};
+pub use crate::section::{NumberedSection, SubRecord};
 pub use crate::segment_bytes::SegmentBytes;
 
 /// The most bytes of a segment's body, unless it is a single sub-record.
@@ -48,14 +50,10 @@ pub struct Piece {
 pub enum Cursor {
     /// Before the first piece.
     Start,
-    /// Before the sub-record of a class, which begins the next segment.
-    ClassDump(ClassNo),
-    /// Before the root of a class, which begins the next segment.
-    ClassRoot(ClassNo),
+    /// Before this item of a section, by its number. The first sub-record from there on begins the next segment.
+    Item(NumberedSection, u64),
     /// Before the sub-record of the object at a place, which begins the next segment.
     Object(ObjRef),
-    /// Before the roots of the registers from this number on that aren't null. The first of them begins the next segment.
-    RegisterRoot(u64),
     /// Before the end.
     End,
     /// Past the last piece.
@@ -121,14 +119,7 @@ pub trait View {
 pub fn text_len<V: View>(view: &V) -> u64
     ensures { (time : ℕ) → result ≡ length (dump_text (V.ids view.now) (V.image view.now) time) }
 {
-    let ids = view.id_size();
-    let classes = view.classes();
-    let mut measure = Measure::new();
-    measure.add_classes(ids, &classes);
-    measure.add_each(classes.len(), root_size(ids));
-    measure.add_objects(view);
-    measure.add_each(not_null(view.registers()), root_size(ids));
-    opening_size(ids, &classes) + measure.total() + 9
+    opening_size(view.id_size(), &view.classes()) + segments_size(view) + 9
 }
 
 /// Returns piece `index` of a view's dump, from 0. It is empty past the last. Fails with NoMemory if an allocation fails.

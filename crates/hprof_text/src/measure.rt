@@ -1,13 +1,14 @@
 //! The length of a dump, added up from the sizes of its sub-records.
-ghost use Rattle.std.specs.Prelude.{◌≡◌, ◌+◌, ◌*◌, ◌<◌, ◌≤◌, ◌^◌, [], ◌∷◌, length, map, replicate};
-ghost use Rattle.heap_class.specs.Limits.{class_limit};
-ghost use Rattle.hprof_text.specs.Image.{object_limit};
-ghost use Rattle.hprof_text.specs.SizeSums.{IsMeasured, total};
-ghost use Rattle.hprof_text.specs.Sizes.{class_size, class_size_limit, object_size, sub_record_limit};
+ghost use Rattle.std.specs.Prelude.{◌≡◌, ◌+◌, ◌<◌, ◌≤◌, ◌^◌, [], ◌∷◌, length, map};
+ghost use Rattle.hprof_text.specs.Cursors.{from_item};
+ghost use Rattle.hprof_text.specs.declared.section.Section.TheVariants.{Numbered, Objects};
+ghost use Rattle.hprof_text.specs.Text.{after, records_in, sub_records};
+ghost use Rattle.hprof_text.specs.SizeSums.{IsAdded, IsMeasured, section_limit, total};
+ghost use Rattle.hprof_text.specs.Sizes.{records_size};
 
-use crate::sizes::{class_size, dump_size};
+use crate::section::{NumberedSection, Section};
+use crate::sizes::dump_size;
 use crate::{SEGMENT_LIMIT, View};
-use heap_class::{FirstClasses, IdSize};
 
 /// The sizes of the segments so far, in bytes: of those that are closed, with their heads, and of the body of the open one, if
 /// there is one.
@@ -29,7 +30,7 @@ impl Measure {
     pub fn add(&mut self, size: u64)
         requires some { 0 < size }
         requires limit { self.old.closed + self.old.body + size < 2 ^ 40 }
-        ensures added { IsMeasured (size ∷ []) self.old self.new }
+        ensures added { IsAdded (size ∷ []) self.old self.new }
         ensures limit { self.new.closed + self.new.body
             ≤ self.old.closed + self.old.body + size + 9 }
     {
@@ -41,38 +42,32 @@ impl Measure {
         }
     }
 
-    /// Adds the sub-records of the classes.
-    pub fn add_classes(&mut self, ids: IdSize, classes: &FirstClasses<'_>)
-        requires { (self.old.closed ≡ 0) × (self.old.body ≡ 0) }
-        ensures added { IsMeasured (map (class_size ids) classes.now) self.old self.new }
-        ensures limit { self.new.closed + self.new.body ≤ class_limit * (9 + class_size_limit) }
-    {
-        for class in 0..classes.len() {
-            self.add(class_size(ids, classes, class));
-        }
-    }
-
-    /// Adds `count` sub-records of `size` bytes.
-    pub fn add_each(&mut self, count: u64, size: u64)
-        requires some { (0 < size) × (size ≤ 9) × (count ≤ class_limit) }
-        requires limit { self.old.closed + self.old.body < 2 ^ 32 }
-        ensures added { IsMeasured (replicate count size) self.old self.new }
-        ensures limit { self.new.closed + self.new.body
-            ≤ self.old.closed + self.old.body + class_limit * 18 }
-    {
-        for _added in 0..count {
-            self.add(size);
-        }
-    }
-
-    /// Adds the sub-records of a view's objects.
-    pub fn add_objects<V: View>(&mut self, view: &V)
-        requires { self.old.closed + self.old.body < 2 ^ 24 }
+    // Adds the sub-records of a view's items of a section.
+    fn add_items<V: View>(&mut self, view: &V, section: NumberedSection)
+        requires { self.old.closed + self.old.body < 2 ^ 32 }
         ensures added { IsMeasured
-            (map (object_size (V.ids view.now) (V.image view.now).classes)
-            (V.image view.now).objects) self.old self.new }
-        ensures limit { self.new.closed + self.new.body < 2 ^ 24
-            + object_limit * (9 + sub_record_limit) }
+            (from_item (V.ids view.now) (V.image view.now) (Numbered section) 0)
+            (records_in (V.ids view.now) (V.image view.now) (after (Numbered section))) self.old
+            self.new }
+        ensures limit { self.new.closed + self.new.body
+            ≤ self.old.closed + self.old.body + section_limit }
+    {
+        let classes = view.classes();
+        let ids = view.id_size();
+        for number in 0..section.count(view) {
+            if let Some(sub_record) = section.item(view, number) {
+                self.add(sub_record.size(ids, &classes));
+            }
+        }
+    }
+
+    // Adds the sub-records of a view's objects.
+    fn add_objects<V: View>(&mut self, view: &V)
+        requires { self.old.closed + self.old.body < 2 ^ 32 }
+        ensures added { IsMeasured (from_item (V.ids view.now) (V.image view.now) Objects 0)
+            (records_in (V.ids view.now) (V.image view.now) (after Objects)) self.old self.new }
+        ensures limit { self.new.closed + self.new.body
+            ≤ self.old.closed + self.old.body + section_limit }
     {
         let classes = view.classes();
         let ids = view.id_size();
@@ -97,4 +92,22 @@ impl Measure {
             self.closed + 9 + self.body
         }
     }
+}
+
+/// Returns the size of the segments of a view's dump, with their heads, in bytes.
+pub fn segments_size<V: View>(view: &V) -> u64
+    ensures value { result
+        ≡ records_size (map length (sub_records (V.ids view.now) (V.image view.now))) }
+    ensures limit { result < 2 ^ 32 }
+{
+    let mut measure = Measure::new();
+    let mut next = Some(Section::first());
+    while let Some(section) = next {
+        match section {
+            Section::Numbered(section) => measure.add_items(view, section),
+            Section::Objects => measure.add_objects(view),
+        }
+        next = section.next();
+    }
+    measure.total()
 }

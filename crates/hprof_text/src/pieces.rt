@@ -1,19 +1,20 @@
 //! The pieces of a dump: the opening records, the segments, and the end.
-ghost use Rattle.std.specs.Prelude.{◌≡◌, ◌+◌, ◌≤◌, ◌^◌, ℕ, List, length, map, slice_get, IfOk, IfErr};
-ghost use Rattle.std.specs.List.{enumerate_from};
+ghost use Rattle.std.specs.Prelude.{◌≡◌, ◌+◌, ◌≤◌, ◌^◌, ℕ, List, length, slice_get, IfOk, IfErr};
 ghost use Rattle.heap_class.specs.declared.Refusal.TheVariants.{NoMemory};
 ghost use Rattle.hprof_text.specs.declared.Cursor.TheVariants.{Past};
+ghost use Rattle.hprof_text.specs.declared.section.Section.TheVariants.{Numbered, Objects};
 ghost use Rattle.hprof_text.specs.Records.{opening_of};
-ghost use Rattle.hprof_text.specs.Cursors.{IsAt, IsBefore, from_class, from_root, from_object, from_register};
-ghost use Rattle.hprof_text.specs.SegmentFilling.{IsFilledFrom, IsFilledTo, IsFilledBefore, IsFilledRoots, IsRest};
+ghost use Rattle.hprof_text.specs.Cursors.{IsAt, IsBefore, IsRest};
+ghost use Rattle.hprof_text.specs.Text.{after, records_in};
+ghost use Rattle.hprof_text.specs.SegmentFilling.{IsFilledFrom, IsFilledTo};
 ghost use Rattle.hprof_text.specs.Segments.{piece_of};
-ghost use Rattle.hprof_text.specs.Text.{class_dump, root_sticky_class, object_records};
 
+use crate::section::{NumberedSection, Section};
 use crate::segment::Segment;
 use crate::segment_bytes::SegmentBytes;
 use crate::sizes::opening_size;
 use crate::{Bytes, Cursor, Piece, View};
-use heap_class::{ClassNo, FirstClasses, IdSize, ObjRef, Refusal};
+use heap_class::{FirstClasses, IdSize, ObjRef, Refusal};
 use std::alloc::Global;
 
 // The tag of a HEAP DUMP SEGMENT record.
@@ -23,49 +24,31 @@ const HEAP_DUMP_SEGMENT: u8 = 0x1c;
 const HEAP_DUMP_END: u8 = 0x2c;
 
 impl Segment {
-    // Offers the sub-records of the classes from number `from` on. Returns the first that wasn't taken.
-    fn fill_class_dumps(
+    // Offers a view's items of a section from number `from` on. Returns the cursor at the first that wasn't taken.
+    fn fill_items<V: View>(
         &mut self,
-        ids: IdSize,
-        classes: &FirstClasses<'_>,
-        from: ClassNo,
-    ) -> Option<ClassNo>
-        ensures { IsFilledFrom (map (class_dump ids classes.now) (enumerate_from 0 classes.now))
-            from result self.old self.new }
+        view: &V,
+        section: NumberedSection,
+        from: u64,
+    ) -> Option<Cursor>
+        ensures { IsFilledFrom (V.ids view.now) (V.image view.now) (V.places view.now)
+            (Numbered section) from result self.old self.new }
     {
-        for class in from..classes.len() {
-            if !self.offer_class_dump(ids, classes, class) {
-                return Some(class);
+        for number in from..section.count(view) {
+            if !self.offer_item(view, section, number) {
+                return Some(Cursor::Item(section, number));
             }
         }
         None
     }
 
-    // Offers the roots of the classes from number `from` on. Returns the first whose root wasn't taken.
-    fn fill_class_roots(
-        &mut self,
-        ids: IdSize,
-        classes: &FirstClasses<'_>,
-        from: ClassNo,
-    ) -> Option<ClassNo>
-        ensures { IsFilledFrom (map (root_sticky_class ids) (enumerate_from 0 classes.now)) from
-            result self.old self.new }
-    {
-        for class in from..classes.len() {
-            if !self.offer_class_root(ids, class) {
-                return Some(class);
-            }
-        }
-        None
-    }
-
-    // Offers the sub-records of a view's objects from a place on. Returns the place of the first that wasn't taken.
-    fn fill_objects<V: View>(&mut self, view: &V, from: Option<ObjRef>) -> Option<ObjRef>
+    // Offers the sub-records of a view's objects from a place on. Returns the cursor at the first that wasn't taken.
+    fn fill_objects<V: View>(&mut self, view: &V, from: Option<ObjRef>) -> Option<Cursor>
         requires { (n : ℕ) × (from ≡ slice_get (V.places view.now) n)
             × (n ≤ length (V.places view.now)) }
         ensures { (n : ℕ) → from ≡ slice_get (V.places view.now) n → n ≤ length (V.places view.now)
-            → IsFilledBefore (V.places view.now)
-            (object_records (V.ids view.now) (V.image view.now)) n result self.old self.new }
+            → IsFilledFrom (V.ids view.now) (V.image view.now) (V.places view.now) Objects n result
+            self.old self.new }
     {
         let classes = view.classes();
         let ids = view.id_size();
@@ -73,7 +56,7 @@ impl Segment {
         let mut here = from;
         while let Some(at) = here {
             if !self.offer_object(ids, &classes, view.id(at), view.kind(at), view.words(at)) {
-                return here;
+                return Some(Cursor::Object(at));
             }
             passed += 1;
             here = view.next(at);
@@ -81,68 +64,27 @@ impl Segment {
         None
     }
 
-    // Offers the roots of the registers from number `from` on that aren't null. Returns the first whose root wasn't taken.
-    fn fill_register_roots(&mut self, ids: IdSize, registers: &[u64], from: u64) -> Option<u64>
-        ensures { IsFilledRoots ids registers.now from result self.old self.new }
-    {
-        for index in from as usize..registers.len() {
-            let register = registers[index];
-            if register != 0 && !self.offer_register_root(ids, register) {
-                return Some(index as u64);
-            }
-        }
-        None
-    }
-
-    // Fills the segment from a register's root on. Returns the cursor at the first sub-record that is left.
-    fn fill_from_register<V: View>(&mut self, view: &V, from: u64) -> Cursor
+    // Offers the items of the sections after this one. Returns the cursor at the first sub-record that is left.
+    fn fill_after<V: View>(&mut self, view: &V, section: Section) -> Cursor
         ensures { IsFilledTo (V.ids view.now) (V.image view.now) (V.places view.now)
-            (from_register (V.ids view.now) (V.image view.now).registers from) result self.old
+            (records_in (V.ids view.now) (V.image view.now) (after section)) result self.old
             self.new }
     {
-        match self.fill_register_roots(view.id_size(), view.registers(), from) {
-            Some(register) => Cursor::RegisterRoot(register),
-            None => Cursor::End,
+        let mut next = section.next();
+        while let Some(section) = next {
+            let left = match section {
+                Section::Numbered(section) => self.fill_items(view, section, 0),
+                Section::Objects => self.fill_objects(view, view.first()),
+            };
+            if let Some(cursor) = left {
+                return cursor;
+            }
+            next = section.next();
         }
+        Cursor::End
     }
 
-    // Fills the segment from an object on, or from the first register's root if there is no object.
-    fn fill_from_object<V: View>(&mut self, view: &V, from: Option<ObjRef>) -> Cursor
-        requires { (n : ℕ) × (from ≡ slice_get (V.places view.now) n)
-            × (n ≤ length (V.places view.now)) }
-        ensures { (n : ℕ) → from ≡ slice_get (V.places view.now) n → n ≤ length (V.places view.now)
-            → IsFilledTo (V.ids view.now) (V.image view.now) (V.places view.now)
-            (from_object (V.ids view.now) (V.image view.now) n) result self.old self.new }
-    {
-        match self.fill_objects(view, from) {
-            Some(at) => Cursor::Object(at),
-            None => self.fill_from_register(view, 0),
-        }
-    }
-
-    // Fills the segment from a class's root on.
-    fn fill_from_root<V: View>(&mut self, view: &V, from: ClassNo) -> Cursor
-        ensures { IsFilledTo (V.ids view.now) (V.image view.now) (V.places view.now)
-            (from_root (V.ids view.now) (V.image view.now) from) result self.old self.new }
-    {
-        match self.fill_class_roots(view.id_size(), &view.classes(), from) {
-            Some(class) => Cursor::ClassRoot(class),
-            None => self.fill_from_object(view, view.first()),
-        }
-    }
-
-    // Fills the segment from a class on.
-    fn fill_from_class<V: View>(&mut self, view: &V, from: ClassNo) -> Cursor
-        ensures { IsFilledTo (V.ids view.now) (V.image view.now) (V.places view.now)
-            (from_class (V.ids view.now) (V.image view.now) from) result self.old self.new }
-    {
-        match self.fill_class_dumps(view.id_size(), &view.classes(), from) {
-            Some(class) => Cursor::ClassDump(class),
-            None => self.fill_from_root(view, 0),
-        }
-    }
-
-    // Fills the segment from the cursor on.
+    // Fills the segment from the cursor on. Returns the cursor at the first sub-record that is left.
     fn fill<V: View>(&mut self, view: &V, cursor: Cursor) -> Cursor
         requires { (rest : List (List ℕ))
             × IsRest (V.ids view.now) (V.image view.now) (V.places view.now) cursor rest }
@@ -152,12 +94,16 @@ impl Segment {
             self.old self.new }
     {
         match cursor {
-            Cursor::ClassDump(class) => self.fill_from_class(view, class),
-            Cursor::ClassRoot(class) => self.fill_from_root(view, class),
-            Cursor::Object(at) => self.fill_from_object(view, Some(at)),
-            Cursor::RegisterRoot(register) => self.fill_from_register(view, register),
-            Cursor::End => Cursor::End,
+            Cursor::Item(section, from) => match self.fill_items(view, section, from) {
+                Some(left) => left,
+                None => self.fill_after(view, Section::Numbered(section)),
+            },
+            Cursor::Object(at) => match self.fill_objects(view, Some(at)) {
+                Some(left) => left,
+                None => self.fill_after(view, Section::Objects),
+            },
             Cursor::Start => Cursor::Start,
+            Cursor::End => Cursor::End,
             Cursor::Past => Cursor::Past,
         }
     }
@@ -193,7 +139,10 @@ pub fn start_from<V: View>(alloc: Global, view: &V, time: u64) -> Result<(Piece,
     ensures refused { IfErr result (λ e. e ≡ NoMemory) }
 {
     let bytes = opening_bytes(alloc, view.id_size(), &view.classes(), time)?;
-    Ok((Piece { bytes, last: false }, Cursor::ClassDump(0)))
+    Ok((
+        Piece { bytes, last: false },
+        Cursor::Item(NumberedSection::ClassDumps, 0),
+    ))
 }
 
 /// Returns the piece of the segment at the cursor, or of the end if no sub-record is left, and the cursor after it. Fails with

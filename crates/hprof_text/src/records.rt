@@ -5,11 +5,12 @@ ghost use Rattle.heap_class.specs.Classes.{sup_of};
 ghost use Rattle.heap_class.specs.Limits.{class_limit, name_limit, array_limit};
 ghost use Rattle.hprof_text.specs.SegmentContents.{HasRoom};
 ghost use Rattle.hprof_text.specs.Image.{IsKnown};
-ghost use Rattle.hprof_text.specs.Records.{class_at, record_head, field_bytes, class_ids, class_counts, instance_head, sticky_root};
+ghost use Rattle.hprof_text.specs.Records.{class_at, record_head, field_bytes, class_ids, class_counts, instance_head, bytes_of, IsOfClasses};
 ghost use Rattle.heap_class.specs.declared.IdSize.TheVariants.{Eight};
 ghost use Rattle.heap_class.specs.declared.ObjKind.TheVariants.{Instance, Array, Prim};
-ghost use Rattle.hprof_text.specs.Text.{class_id, header, utf8, load_class, trace, class_dump, root_unknown, dump_of};
+ghost use Rattle.hprof_text.specs.Text.{class_id, header, utf8, load_class, trace, class_dump, root, root_sticky_class, root_unknown, dump_of};
 
+use crate::section::SubRecord;
 use crate::segment_bytes::SegmentBytes;
 use crate::sizes::instance_size;
 use byteorder::{BigEndian, ByteOrder};
@@ -183,26 +184,49 @@ impl SegmentBytes {
         self.fields(ids, classes, class);
     }
 
-    /// Appends the root of a class. There must be room.
-    pub fn root_sticky_class(&mut self, ids: IdSize, class: ClassNo)
-        requires room { HasRoom self.old (sticky_root ids class) }
-        requires few { class < class_limit }
-        ensures written { self.new.written ≡ self.old.written ++ sticky_root ids class }
+    /// Appends a root with this tag, of an object or a class. There must be room.
+    #[tactic(auto, unfolding(crate::specs::Text::root))]
+    pub fn root(&mut self, ids: IdSize, tag: u8, id: u64)
+        requires { HasRoom self.old (root ids tag id) }
+        ensures written { self.new.written ≡ self.old.written ++ root ids tag id }
         ensures limit { self.new.limit ≡ self.old.limit }
     {
-        self.u1(0x05);
-        self.id(ids, class_id(class));
+        self.u1(tag);
+        self.id(ids, id);
+    }
+
+    /// Appends the root of a class. There must be room.
+    pub fn root_sticky_class(&mut self, ids: IdSize, class: ClassNo)
+        requires room { HasRoom self.old (root_sticky_class ids class) }
+        requires few { class < class_limit }
+        ensures written { self.new.written ≡ self.old.written ++ root_sticky_class ids class }
+        ensures limit { self.new.limit ≡ self.old.limit }
+    {
+        self.root(ids, 0x05, class_id(class));
     }
 
     /// Appends the root of an object, of an unknown kind of root. There must be room.
-    #[tactic(auto, unfolding(crate::specs::Text::root_unknown))]
     pub fn root_unknown(&mut self, ids: IdSize, object: u64)
         requires { HasRoom self.old (root_unknown ids object) }
         ensures written { self.new.written ≡ self.old.written ++ root_unknown ids object }
         ensures limit { self.new.limit ≡ self.old.limit }
     {
-        self.u1(0xff);
-        self.id(ids, object);
+        self.root(ids, 0xff, object);
+    }
+
+    /// Appends the sub-record of an item. There must be room.
+    pub fn sub_record(&mut self, ids: IdSize, classes: &FirstClasses<'_>, sub_record: SubRecord)
+        requires room { HasRoom self.old (bytes_of ids classes.now sub_record) }
+        requires known { IsOfClasses classes.now sub_record }
+        requires few { length classes.now ≤ class_limit }
+        ensures written { self.new.written
+            ≡ self.old.written ++ bytes_of ids classes.now sub_record }
+        ensures limit { self.new.limit ≡ self.old.limit }
+    {
+        match sub_record {
+            SubRecord::ClassDump(class) => self.class_dump(ids, classes, class),
+            SubRecord::Root(tag, id) => self.root(ids, tag, id),
+        }
     }
 
     // Appends the bytes before the values of an INSTANCE DUMP. Ids of eight bytes are usual, so with them all is appended at

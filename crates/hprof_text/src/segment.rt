@@ -1,17 +1,19 @@
 //! A segment as it is filled: each sub-record is offered to it, and is written if there is room.
-ghost use Rattle.std.specs.Prelude.{◌+◌, ◌≡◌, ◌<◌, ◌≤◌, [], length, IfOk, IfErr};
+ghost use Rattle.std.specs.Prelude.{◌+◌, ◌≡◌, ◌<◌, ◌≤◌, [], ℕ, List, Some, length, slice_get, IfOk, IfErr};
 ghost use Rattle.heap_class.specs.Limits.{class_limit, array_limit};
 ghost use Rattle.heap_class.specs.declared.ObjKind.TheVariants.{Instance, Array, Prim};
 ghost use Rattle.heap_class.specs.declared.Refusal.TheVariants.{NoMemory};
-ghost use Rattle.hprof_text.specs.SegmentFilling.{takes, IsOffered};
+ghost use Rattle.hprof_text.specs.declared.section.Section.TheVariants.{Numbered};
+ghost use Rattle.hprof_text.specs.SegmentFilling.{takes, IsOffered, IsItemOffered};
 ghost use Rattle.hprof_text.specs.Image.{IsKnown};
-ghost use Rattle.hprof_text.specs.Records.{class_at};
+ghost use Rattle.hprof_text.specs.Records.{bytes_of, IsOfClasses};
 ghost use Rattle.hprof_text.specs.Sizes.{sub_record_limit};
-ghost use Rattle.hprof_text.specs.Text.{record_of, class_dump, root_sticky_class, root_unknown, dump_of};
+ghost use Rattle.hprof_text.specs.Text.{record_of, dump_of, items_of};
 
+use crate::section::{NumberedSection, SubRecord};
 use crate::segment_bytes::SegmentBytes;
-use crate::sizes::{array_size, class_size, dump_size, prim_size, root_size};
-use crate::{Bytes, SEGMENT_LIMIT};
+use crate::sizes::{array_size, dump_size, prim_size};
+use crate::{Bytes, SEGMENT_LIMIT, View};
 use heap_class::{ClassNo, FirstClasses, IdSize, Kind, ObjKind, Refusal};
 use std::alloc::Global;
 use std::marker::Model;
@@ -73,34 +75,15 @@ impl Segment {
         length == 0 || length + size <= SEGMENT_LIMIT
     }
 
-    /// Offers the sub-record of a class, and tells whether it was taken.
-    pub fn offer_class_dump(
-        &mut self,
-        ids: IdSize,
-        classes: &FirstClasses<'_>,
-        class: ClassNo,
-    ) -> bool
-        requires { class < length classes.now }
-        ensures { IsOffered (class_dump ids classes.now (class, class_at classes.now class))
-            self.old self.new result }
+    // Offers the sub-record of an item, and tells whether it was taken.
+    fn offer(&mut self, ids: IdSize, classes: &FirstClasses<'_>, sub_record: SubRecord) -> bool
+        requires { IsOfClasses classes.now sub_record }
+        ensures { IsOffered (bytes_of ids classes.now sub_record) self.old self.new result }
     {
         let _count = classes.len();
-        let taken = self.takes(class_size(ids, classes, class));
+        let taken = self.takes(sub_record.size(ids, classes));
         if taken {
-            self.buffer.class_dump(ids, classes, class);
-        }
-        taken
-    }
-
-    /// Offers the root of a class, and tells whether it was taken.
-    pub fn offer_class_root(&mut self, ids: IdSize, class: ClassNo) -> bool
-        requires { class < class_limit }
-        ensures { IsOffered (root_sticky_class ids (class, class_at [] class)) self.old self.new
-            result }
-    {
-        let taken = self.takes(root_size(ids));
-        if taken {
-            self.buffer.root_sticky_class(ids, class);
+            self.buffer.sub_record(ids, classes, sub_record);
         }
         taken
     }
@@ -182,15 +165,19 @@ impl Segment {
         }
     }
 
-    /// Offers the root of a register that isn't null, and tells whether it was taken.
-    pub fn offer_register_root(&mut self, ids: IdSize, register: u64) -> bool
-        ensures { IsOffered (root_unknown ids register) self.old self.new result }
+    /// Offers a view's item of a section by its number, and tells whether it was taken. An item that has no sub-record is.
+    pub fn offer_item<V: View>(&mut self, view: &V, section: NumberedSection, number: u64) -> bool
+        requires { number
+            < length (items_of (V.ids view.now) (V.image view.now) (Numbered section)) }
+        ensures { (item : List (List ℕ))
+            → slice_get (items_of (V.ids view.now) (V.image view.now) (Numbered section)) number
+            ≡ Some item
+            → IsItemOffered item self.old self.new result }
     {
-        let taken = self.takes(root_size(ids));
-        if taken {
-            self.buffer.root_unknown(ids, register);
+        match section.item(view, number) {
+            Some(sub_record) => self.offer(view.id_size(), &view.classes(), sub_record),
+            None => true,
         }
-        taken
     }
 
     /// Returns the record with this tag and the body. Takes no memory.

@@ -1,9 +1,9 @@
 //! The sizes of the parts of a dump in bytes. Each is known from the classes and the number of words, before a byte is written.
-ghost use Rattle.std.specs.Prelude.{◌≡◌, ◌<◌, ◌≤◌, ◌==◌, [], ℕ, not, count_by, length};
+ghost use Rattle.std.specs.Prelude.{◌≡◌, ◌<◌, ◌≤◌, [], ℕ, length};
 ghost use Rattle.heap_class.specs.Classes.{instance_size, name_table};
 ghost use Rattle.heap_class.specs.Limits.{array_limit, instance_size_limit};
 ghost use Rattle.heap_class.specs.declared.ObjKind.TheVariants.{Array, Prim};
-ghost use Rattle.hprof_text.specs.Image.{IsKnown, register_limit};
+ghost use Rattle.hprof_text.specs.Image.{IsKnown};
 ghost use Rattle.hprof_text.specs.Records.{class_at};
 ghost use Rattle.hprof_text.specs.Sizes.{names_size, opening_size, class_size, dump_size, root_size, class_size_limit, names_size_limit, opening_size_limit, sub_record_limit};
 
@@ -97,13 +97,4 @@ pub fn dump_size(ids: IdSize, classes: &FirstClasses<'_>, kind: ObjKind, words: 
         ObjKind::Array(_) => array_size(ids, words),
         ObjKind::Prim(kind) => prim_size(ids, kind, words),
     }
-}
-
-/// Counts the registers that aren't null.
-pub fn not_null(registers: &[u64]) -> u64
-    requires { length registers.now ≤ register_limit }
-    ensures value { result ≡ count_by (λ x. not (x == 0)) registers.now }
-    ensures limit { result ≤ register_limit }
-{
-    registers.iter().filter(|x| **x != 0).count() as u64
 }

@@ -1,9 +1,11 @@
-use Rattle.std.proofs.Common.{[], ◌∷◌, length, map, take, sym, ◌∙◌, ap, ap₂, arith}
-use Rattle.std.proofs.lemmas.Option.{slice_get_within}
-use Rattle.hprof_text.specs.Sizes.{dump_size, object_size}
-use Rattle.hprof_text.proofs.Loops.{all_taken, item_got}
-use Rattle.hprof_text.proofs.AddedSizes.{measured_more, measured_as, taken_sizes}
-use Rattle.hprof_text.proofs.ViewedObjects.{all_visited, fewer_left, here, within}
+use Rattle.std.proofs.Common.{[], ◌∷◌, length, sym, ◌∙◌, ap, ap₂, arith}
+use Rattle.hprof_text.specs.Cursors.{from_item}
+use Rattle.hprof_text.specs.Sizes.{dump_size}
+use Rattle.hprof_text.specs.Text.{object_dump}
+use Rattle.hprof_text.specs.declared.section.Section.TheVariants.{Objects}
+use Rattle.hprof_text.proofs.AddedSizes.{item_measured, items_measured}
+use Rattle.hprof_text.proofs.Sections.{object_there}
+use Rattle.hprof_text.proofs.ViewedObjects.{fewer_left, here, object_sized, objects_past, within}
 use Rattle.hprof_text.proofs.measure.Measure.add_objects.Goals as goal
 
 pub add-requires-clause-limit : goal.add-requires-clause-limit
@@ -23,21 +25,19 @@ loop-here-preserved g c =
     let i = c.loop-here.passed in
     let e = sym c.loop-here.invariant.here ∙ c.in-Some.is in
     let h = here image places i c.in-Some.at c.kind.result c.words.result.now c.classes-classes.ensures.limits c.classes-classes.ensures.placed e (c.kind.ensures i e) (c.words.ensures i e) in
-    let f = object_size ids image.classes in
-    let d = c.dump_size.ensures.value
-    ∙ ap₂ (λ s cs. dump_size s cs c.kind.result (length c.words.result.now)) c.id_size-ids.ensures c.classes-classes.ensures.value
-    ∙ ap₂ (λ k ws. dump_size ids image.classes k (length ws)) h.same_kind h.same_words in
-    let added = measured_as (c.dump_size.result ∷ []) (f h.object ∷ []) c.loop-here.self c.add.new.self (ap (λ n. n ∷ []) d) c.add.ensures.added in
-    let w = slice_get_within image.objects i h.object h.there in
+    let size = ap₂ (λ s cs. dump_size s cs c.kind.result (length c.words.result.now)) c.id_size-ids.ensures c.classes-classes.ensures.value in
+    let item = object_dump ids image.classes h.object ∷ [] in
+    let sized = ap (λ n. n ∷ []) (object_sized ids image i c.kind.result c.words.result.now h ∙ sym (c.dump_size.ensures.value ∙ size)) in
     record {
       here = c.next-here.ensures i e;
-      added = measured_as _ _ _ _ (taken_sizes f image.objects i h.object w (item_got image.objects i h.object h.there)) (measured_more (map f (take i image.objects)) (f h.object ∷ []) c.args.self.now c.loop-here.self c.add.new.self c.loop-here.invariant.added added);
+      added = item_measured ids image Objects i item (from_item ids image Objects 0) (c.dump_size.result ∷ []) c.args.self.now c.loop-here.self c.add.new.self (object_there ids image i h.object h.there) sized c.add.ensures.added c.loop-here.invariant.added;
       limit = omega (arith, c.loop-here.invariant.limit, c.add.ensures.limit, c.dump_size.ensures.limit);
       passed = within places i c.in-Some.at e;
     }
 
 pub returns-clause-added : goal.returns-clause-added
 returns-clause-added g c =
+    let ids = g.V.View.ids c.args.view.now in
     let image = g.V.View.image c.args.view.now in
-    let e = all_visited image (g.V.View.places c.args.view.now) c.loop-here.passed _ c.loop-here.invariant.here c.in_default.is c.loop-here.invariant.passed c.classes-classes.ensures.placed in
-    measured_as _ _ _ _ (ap (map (object_size (g.V.View.ids c.args.view.now) image.classes)) (all_taken c.loop-here.passed image.objects e)) c.loop-here.invariant.added
+    let h = objects_past ids image (g.V.View.places c.args.view.now) c.loop-here.passed (sym c.in_default.is ∙ c.loop-here.invariant.here) c.classes-classes.ensures.placed in
+    items_measured ids image Objects c.loop-here.passed (from_item ids image Objects 0) c.args.self.now c.loop-here.self h c.loop-here.invariant.added

@@ -1,13 +1,14 @@
-use Rattle.std.proofs.Common.{◌≡◌, ◌≤◌, ◌-◌, ◌+◌, ◌*◌, length, map, take}
+use Rattle.std.proofs.Common.{◌≡◌, ◌≤◌, ◌-◌, ◌+◌, ◌*◌, length}
 use Rattle.std.specs.Prelude.{slice_get}
+use Rattle.hprof_text.specs.Cursors.{from_item}
 use Rattle.hprof_text.specs.SizeSums.{IsMeasured}
-use Rattle.hprof_text.specs.Sizes.{object_size}
+use Rattle.hprof_text.specs.declared.section.Section.TheVariants.{Objects}
 use Rattle.hprof_text.proofs.measure.Measure.add_objects.Given as goal
 
 abbrev pub invariant-loop-here : goal.invariant-loop-here
 invariant-loop-here g l = record {
   here : l.here ≡ slice_get (g.V.View.places l.view) l.passed;
-  added : IsMeasured (map (object_size (g.V.View.ids l.view) (g.V.View.image l.view).classes) (take l.passed (g.V.View.image l.view).objects)) l.initial.self l.self;
+  added : IsMeasured (from_item (g.V.View.ids l.view) (g.V.View.image l.view) Objects 0) (from_item (g.V.View.ids l.view) (g.V.View.image l.view) Objects l.passed) l.initial.self l.self;
   limit : l.self.closed + l.self.body ≤ l.initial.self.closed + l.initial.self.body + l.passed * 8226;
   passed : l.passed ≤ length (g.V.View.places l.view);
 }

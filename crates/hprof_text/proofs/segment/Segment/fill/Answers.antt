@@ -1,5 +1,5 @@
 use Rattle.std.proofs.Common.{subst}
-use Rattle.hprof_text.specs.SegmentFilling.{IsRest}
+use Rattle.hprof_text.specs.Cursors.{IsRest}
 use Rattle.hprof_text.proofs.NumberedPieces.{filled_end}
 use Rattle.hprof_text.proofs.segment.Segment.fill.Goals as goal
 

@@ -1,9 +1,13 @@
-use Rattle.std.proofs.Common.{◌≡◌, ◌+◌, ◌++◌, drop, sym, ap, ◌∙◌, subst, arith}
+use Rattle.std.proofs.Common.{◌≡◌, ◌+◌, [], ◌∷◌, refl, sym, ap, ◌∙◌, arith}
 use Rattle.std.specs.Prelude.{slice_get}
-use Rattle.hprof_text.specs.SegmentFilling.{body_filled, IsOffered}
-use Rattle.hprof_text.specs.Text.{dump_of, object_records}
-use Rattle.hprof_text.proofs.FilledSegments.{items_more, items_stop, items_done}
-use Rattle.hprof_text.proofs.ViewedObjects.{object_record, count_records, within, none_left}
+use Rattle.hprof_text.specs.Cursors.{from_item}
+use Rattle.hprof_text.specs.SegmentFilling.{body_filled}
+use Rattle.hprof_text.specs.Text.{dump_of}
+use Rattle.hprof_text.specs.declared.Cursor.TheVariants.{Object}
+use Rattle.hprof_text.specs.declared.section.Section.TheVariants.{Objects}
+use Rattle.hprof_text.proofs.FilledSegments.{by_one, item_taken, item_left, items_taken}
+use Rattle.hprof_text.proofs.NumberedPieces.{filled_to}
+use Rattle.hprof_text.proofs.ViewedObjects.{here, object_record, within, objects_past}
 use Rattle.hprof_text.proofs.segment.Segment.fill_objects.Goals as goal
 
 pub returns-then-not-offer_object : goal.returns-then-not-offer_object
@@ -17,7 +21,16 @@ returns-then-not-offer_object g c = λ n b l.
     let e = sym (c.loop-here.invariant.here n b) ∙ c.in-Some.is in
     let x = dump_of c.id_size-ids.result c.classes-classes.result c.id.result c.kind.result c.words.result.now in
     let r = object_record ids image places i at c.id_size-ids.result c.classes-classes.result c.id.result c.kind.result c.words.result.now c.classes-classes.ensures.limits c.classes-classes.ensures.placed e c.id_size-ids.ensures c.classes-classes.ensures.value (c.id.ensures i e) (c.kind.ensures i e) (c.words.ensures i e) in
-    (i, e, λ more. items_stop (object_records ids image) i x c.args.self.now c.loop-here.self c.offer_object.new.self n more r (subst (IsOffered x c.loop-here.self c.offer_object.new.self) c.if-not-offer_object.true c.offer_object.ensures) (c.loop-here.invariant.filled n b more))
+    let o = by_one x c.loop-here.self c.offer_object.new.self c.offer_object.result c.offer_object.ensures in
+    filled_to ids image places (from_item ids image Objects n) (Object at) c.args.self.now c.offer_object.new.self (from_item ids image Objects i)
+    (item_left ids image Objects i n (x ∷ []) c.args.self.now c.loop-here.self c.offer_object.new.self c.offer_object.result r c.if-not-offer_object.true o (c.loop-here.invariant.filled n b)) (i, e, refl)
+
+pub offer_object-requires-clause-small : goal.offer_object-requires-clause-small
+offer_object-requires-clause-small g c =
+    let v = c.args.view.now in
+    let i = c.requires.0 + c.loop-here.passed in
+    let e = sym (c.loop-here.invariant.here c.requires.0 c.requires.1) ∙ c.in-Some.is in
+    (here (g.V.View.image v) (g.V.View.places v) i c.in-Some.at c.kind.result c.words.result.now c.classes-classes.ensures.limits c.classes-classes.ensures.placed e (c.kind.ensures i e) (c.words.ensures i e)).small
 
 pub loop-here-smaller : goal.loop-here-smaller
 loop-here-smaller g c =
@@ -41,21 +54,21 @@ loop-here-preserved g c =
           let s : n + p + 1 ≡ n + (p + 1) = omega arith in
           c.next-here.ensures (n + p) e ∙ ap (slice_get places) s;
       passed = λ n b l. omega (arith, within places (n + p) at (sym (c.loop-here.invariant.here n b) ∙ c.in-Some.is));
-      filled = λ n b more.
+      filled = λ n b.
           let i = n + p in
           let e = sym (c.loop-here.invariant.here n b) ∙ c.in-Some.is in
           let r = object_record ids image places i at c.id_size-ids.result c.classes-classes.result c.id.result c.kind.result c.words.result.now c.classes-classes.ensures.limits c.classes-classes.ensures.placed e c.id_size-ids.ensures c.classes-classes.ensures.value (c.id.ensures i e) (c.kind.ensures i e) (c.words.ensures i e) in
+          let o = by_one x c.loop-here.self c.offer_object.new.self c.offer_object.result c.offer_object.ensures in
           let s : n + p + 1 ≡ n + (p + 1) = omega arith in
-          items_more (object_records ids image) i x c.args.self.now c.loop-here.self c.offer_object.new.self n more r (subst (IsOffered x c.loop-here.self c.offer_object.new.self) c.if-not-offer_object.false c.offer_object.ensures) (c.loop-here.invariant.filled n b more)
-          ∙ ap (λ k. body_filled c.offer_object.new.self (drop k (object_records ids image) ++ more)) s;
+          item_taken ids image Objects i n (x ∷ []) c.args.self.now c.loop-here.self c.offer_object.new.self c.offer_object.result r c.if-not-offer_object.false o (c.loop-here.invariant.filled n b)
+          ∙ ap (λ k. body_filled c.offer_object.new.self (from_item ids image Objects k)) s;
     }
 
 pub returns : goal.returns
-returns g c = λ n b l more.
+returns g c = λ n b l.
     let v = c.args.view.now in
     let ids = g.V.View.ids v in
     let image = g.V.View.image v in
-    let places = g.V.View.places v in
     let i = n + c.loop-here.passed in
-    let h = none_left places i (sym c.in_default.is ∙ c.loop-here.invariant.here n b) in
-    items_done (object_records ids image) i c.args.self.now c.loop-here.self n more (omega (arith, h, count_records ids image, c.classes-classes.ensures.placed)) (c.loop-here.invariant.filled n b more)
+    let h = objects_past ids image (g.V.View.places v) i (sym c.in_default.is ∙ c.loop-here.invariant.here n b) c.classes-classes.ensures.placed in
+    items_taken ids image Objects i n c.args.self.now c.loop-here.self h (c.loop-here.invariant.filled n b)

@@ -1,6 +1,6 @@
 -- What names an object, slot by slot.
 use Rattle.std.proofs.Common.{◌≡◌, ◌≢◌, ℕ, ◌+◌, ◌<◌, Bool, true, false, cond, List, [], ◌∷◌, ◌++◌, length, map, take, get_or, refl, sym, ap, ap₂, ◌∙◌, subst, arith, append_assoc}
-use Rattle.std.specs.Prelude.{slice_get, Contains, Option, Some, None, filter, flat_map, ◌==◌, IfSome}
+use Rattle.std.specs.Prelude.{slice_get, Option, Some, None, filter, flat_map, ◌==◌, IfSome}
 use Rattle.std.specs.Option.{option_map_or}
 use Rattle.std.specs.List.{range_with_len}
 use Rattle.std.proofs.lemmas.List.{append-nil, map-id, map-append, take_more}
@@ -15,10 +15,6 @@ use Rattle.hprof_text.specs.Image.{Image, DumpedObject}
 use Rattle.heap_questions.specs.Graph.{slot_names, slot_refers}
 use Rattle.heap_questions.specs.Referrers.{names_at, naming_slots}
 use Rattle.heap_questions.specs.declared.references.Referrer.{Referrer}
-
--- an item at a place is in the list
-pub listed : {A : Type 0} (xs : List A) (n : ℕ) (x : A) → slice_get xs n ≡ Some x → Contains xs x
-listed xs n x e = (n, slice_get_within xs n x e, get_or_from_slice_get xs n x x e)
 
 -- the first n numbers that pass, each as f makes it
 abbrev pub passing : (ℕ → Bool) → (ℕ → Referrer) → ℕ → List Referrer

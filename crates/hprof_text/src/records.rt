@@ -8,7 +8,7 @@ ghost use Rattle.hprof_text.specs.Image.{IsKnown};
 ghost use Rattle.hprof_text.specs.Records.{class_at, record_head, field_bytes, class_ids, class_counts, instance_head, bytes_of, IsOfClasses};
 ghost use Rattle.heap_class.specs.declared.IdSize.TheVariants.{Eight};
 ghost use Rattle.heap_class.specs.declared.ObjKind.TheVariants.{Instance, Array, Prim};
-ghost use Rattle.hprof_text.specs.Text.{class_id, header, utf8, load_class, trace, class_dump, root, root_sticky_class, root_unknown, dump_of};
+ghost use Rattle.hprof_text.specs.Text.{class_id, header, utf8, load_class, trace, class_dump, root, dump_of};
 
 use crate::section::SubRecord;
 use crate::segment_bytes::SegmentBytes;
@@ -193,25 +193,6 @@ impl SegmentBytes {
     {
         self.u1(tag);
         self.id(ids, id);
-    }
-
-    /// Appends the root of a class. There must be room.
-    pub fn root_sticky_class(&mut self, ids: IdSize, class: ClassNo)
-        requires room { HasRoom self.old (root_sticky_class ids class) }
-        requires few { class < class_limit }
-        ensures written { self.new.written ≡ self.old.written ++ root_sticky_class ids class }
-        ensures limit { self.new.limit ≡ self.old.limit }
-    {
-        self.root(ids, 0x05, class_id(class));
-    }
-
-    /// Appends the root of an object, of an unknown kind of root. There must be room.
-    pub fn root_unknown(&mut self, ids: IdSize, object: u64)
-        requires { HasRoom self.old (root_unknown ids object) }
-        ensures written { self.new.written ≡ self.old.written ++ root_unknown ids object }
-        ensures limit { self.new.limit ≡ self.old.limit }
-    {
-        self.root(ids, 0xff, object);
     }
 
     /// Appends the sub-record of an item. There must be room.

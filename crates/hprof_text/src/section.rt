@@ -13,6 +13,12 @@ use crate::records::class_id;
 use crate::sizes::{class_size, root_size};
 use heap_class::{ClassNo, FirstClasses, IdSize};
 
+// The tag of ROOT STICKY CLASS.
+const ROOT_STICKY_CLASS: u8 = 0x05;
+
+// The tag of ROOT UNKNOWN.
+const ROOT_UNKNOWN: u8 = 0xff;
+
 /// A section whose items have numbers.
 #[derive(Clone, Copy, PartialEq, Eq, Debug)]
 pub enum NumberedSection {
@@ -94,13 +100,16 @@ impl NumberedSection {
         let _classes = view.classes();
         match self {
             NumberedSection::ClassDumps => Some(SubRecord::ClassDump(number)),
-            NumberedSection::ClassRoots => Some(SubRecord::Root(0x05, class_id(number))),
+            NumberedSection::ClassRoots => Some(SubRecord::Root(
+                ROOT_STICKY_CLASS,
+                class_id(number),
+            )),
             NumberedSection::RegisterRoots => {
                 let register = view.registers()[number as usize];
                 if register == 0 {
                     None
                 } else {
-                    Some(SubRecord::Root(0xff, register))
+                    Some(SubRecord::Root(ROOT_UNKNOWN, register))
                 }
             }
         }

@@ -1,9 +1,8 @@
 use Rattle.std.proofs.Common.{length, sym, ap, ◌∙◌, arith}
 use Rattle.std.specs.Prelude.{slice_get}
 use Rattle.std.proofs.lemmas.List.{length_push}
-use Rattle.hprof_text.proofs.ViewedObjects.{within, none_left}
+use Rattle.hprof_text.proofs.ViewedObjects.{is_there, within, none_left}
 use Rattle.heap_questions.proofs.NodePlaces.{all_nodes, ids_more, places_more}
-use Rattle.heap_questions.proofs.Passing.{listed}
 use Rattle.heap_questions.proofs.nodes.nodes_of.Goals as goal
 
 pub loop-here-preserved : goal.loop-here-preserved
@@ -32,4 +31,4 @@ returns-clause-nodes g c =
     all_nodes (g.V.View.image v) (g.V.View.places v) c.loop-here.nodes.items c.loop-here.invariant.ids c.loop-here.invariant.places n c.classes-classes.ensures.placed
 
 pub id-requires : goal.id-requires
-id-requires g c = listed (g.V.View.places c.args.view.now) (length c.loop-here.nodes.items) c.in-Some.at (sym c.loop-here.invariant.here ∙ c.in-Some.is)
+id-requires g c = is_there (g.V.View.places c.args.view.now) (length c.loop-here.nodes.items) c.in-Some.at (sym c.loop-here.invariant.here ∙ c.in-Some.is)

@@ -1,9 +1,8 @@
 use Rattle.std.proofs.Common.{◌≡◌, sym, ◌∙◌}
 use Rattle.std.specs.Prelude.{slice_get}
 use Rattle.hprof_text.specs.Image.{DumpedObject}
-use Rattle.hprof_text.proofs.ViewedObjects.{all_visited, fewer_left, visited}
+use Rattle.hprof_text.proofs.ViewedObjects.{all_visited, fewer_left, is_there, visited}
 use Rattle.heap_questions.proofs.NamedObjects.{object_none, others_more, said_of, shown_is, viewed}
-use Rattle.heap_questions.proofs.Passing.{listed}
 use Rattle.heap_questions.proofs.objects.object_with.Goals as goal
 
 pub returns-then-id : goal.returns-then-id
@@ -34,10 +33,10 @@ returns g c =
     sym (object_none image c.args.id c.loop-here.passed c.loop-here.invariant.others (all_visited image (g.V.View.places c.args.view.now) c.loop-here.passed _ c.loop-here.invariant.here c.in_default.is c.loop-here.invariant.passed c.classes-classes.ensures.placed))
 
 pub id-requires : goal.id-requires
-id-requires g c = listed (g.V.View.places c.args.view.now) c.loop-here.passed c.in-Some.at (sym c.loop-here.invariant.here ∙ c.in-Some.is)
+id-requires g c = is_there (g.V.View.places c.args.view.now) c.loop-here.passed c.in-Some.at (sym c.loop-here.invariant.here ∙ c.in-Some.is)
 
 pub kind-kind-requires : goal.kind-kind-requires
-kind-kind-requires g c = listed (g.V.View.places c.args.view.now) c.loop-here.passed c.in-Some.at (sym c.loop-here.invariant.here ∙ c.in-Some.is)
+kind-kind-requires g c = is_there (g.V.View.places c.args.view.now) c.loop-here.passed c.in-Some.at (sym c.loop-here.invariant.here ∙ c.in-Some.is)
 
 pub words-words-requires : goal.words-words-requires
-words-words-requires g c = listed (g.V.View.places c.args.view.now) c.loop-here.passed c.in-Some.at (sym c.loop-here.invariant.here ∙ c.in-Some.is)
+words-words-requires g c = is_there (g.V.View.places c.args.view.now) c.loop-here.passed c.in-Some.at (sym c.loop-here.invariant.here ∙ c.in-Some.is)

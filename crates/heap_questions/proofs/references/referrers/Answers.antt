@@ -1,9 +1,9 @@
 use Rattle.std.proofs.Common.{◌≤◌, ◌++◌, length, sym, ap, ap₂, ◌∙◌, arith}
 use Rattle.std.specs.Prelude.{flat_map}
 use Rattle.std.proofs.lemmas.List.{take_all}
-use Rattle.hprof_text.proofs.ViewedObjects.{here, within, none_left}
+use Rattle.hprof_text.proofs.ViewedObjects.{here, is_there, within, none_left}
 use Rattle.heap_questions.specs.Referrers.{naming_slots, naming_registers}
-use Rattle.heap_questions.proofs.Passing.{listed, same_object, slots_more}
+use Rattle.heap_questions.proofs.Passing.{same_object, slots_more}
 use Rattle.heap_questions.proofs.references.referrers.Goals as goal
 
 pub returns-clause-all : goal.returns-clause-all
@@ -33,10 +33,10 @@ loop-here-preserved g c =
     }
 
 pub id-requires : goal.id-requires
-id-requires g c = listed (g.V.View.places c.args.view.now) c.loop-here.passed c.in-Some.at (sym c.loop-here.invariant.here ∙ c.in-Some.is)
+id-requires g c = is_there (g.V.View.places c.args.view.now) c.loop-here.passed c.in-Some.at (sym c.loop-here.invariant.here ∙ c.in-Some.is)
 
 pub kind-requires : goal.kind-requires
-kind-requires g c = listed (g.V.View.places c.args.view.now) c.loop-here.passed c.in-Some.at (sym c.loop-here.invariant.here ∙ c.in-Some.is)
+kind-requires g c = is_there (g.V.View.places c.args.view.now) c.loop-here.passed c.in-Some.at (sym c.loop-here.invariant.here ∙ c.in-Some.is)
 
 pub words-requires : goal.words-requires
-words-requires g c = listed (g.V.View.places c.args.view.now) c.loop-here.passed c.in-Some.at (sym c.loop-here.invariant.here ∙ c.in-Some.is)
+words-requires g c = is_there (g.V.View.places c.args.view.now) c.loop-here.passed c.in-Some.at (sym c.loop-here.invariant.here ∙ c.in-Some.is)

@@ -7,7 +7,7 @@ use Rattle.hprof_text.specs.declared.Cursor.TheVariants.{Object}
 use Rattle.hprof_text.specs.declared.section.Section.TheVariants.{Objects}
 use Rattle.hprof_text.proofs.FilledSegments.{by_one, item_taken, item_left, items_taken}
 use Rattle.hprof_text.proofs.NumberedPieces.{filled_to}
-use Rattle.hprof_text.proofs.ViewedObjects.{here, object_record, within, objects_past}
+use Rattle.hprof_text.proofs.ViewedObjects.{here, is_there, object_record, within, objects_past}
 use Rattle.hprof_text.proofs.segment.Segment.fill_objects.Goals as goal
 
 pub returns-then-not-offer_object : goal.returns-then-not-offer_object
@@ -72,3 +72,12 @@ returns g c = λ n b l.
     let i = n + c.loop-here.passed in
     let h = objects_past ids image (g.V.View.places v) i (sym c.in_default.is ∙ c.loop-here.invariant.here n b) c.classes-classes.ensures.placed in
     items_taken ids image Objects i n c.args.self.now c.loop-here.self h (c.loop-here.invariant.filled n b)
+
+pub id-requires : goal.id-requires
+id-requires g c = is_there (g.V.View.places c.args.view.now) (c.requires.0 + c.loop-here.passed) c.in-Some.at (sym (c.loop-here.invariant.here c.requires.0 c.requires.1) ∙ c.in-Some.is)
+
+pub kind-requires : goal.kind-requires
+kind-requires g c = is_there (g.V.View.places c.args.view.now) (c.requires.0 + c.loop-here.passed) c.in-Some.at (sym (c.loop-here.invariant.here c.requires.0 c.requires.1) ∙ c.in-Some.is)
+
+pub words-requires : goal.words-requires
+words-requires g c = is_there (g.V.View.places c.args.view.now) (c.requires.0 + c.loop-here.passed) c.in-Some.at (sym (c.loop-here.invariant.here c.requires.0 c.requires.1) ∙ c.in-Some.is)

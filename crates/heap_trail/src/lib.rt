@@ -1,7 +1,10 @@
 //! The machine: the current state, the retained past, and the pins on it.
 #![tactic(auto)]
 
-ghost use Rattle.std.specs.Prelude.{◌≡◌, true, ◌<◌, ◌≤◌, ◌+◌, ◌-◌, ◌^◌, ℕ, List, length, map, None, Some, IfOk, IfErr, OnOk, OnErr};
+ghost use Rattle.std.specs.Prelude.{◌≡◌, true, ◌<◌, ◌≤◌, ◌+◌, ◌-◌, ◌^◌, ℕ, List, [], length, map, None, Some, IfOk, IfErr, OnOk, OnErr};
+ghost use Rattle.std.specs.Vec.{vec_capacity};
+ghost use Rattle.circular_buffer.specs.Buffer.{buffer};
+ghost use Rattle.heap_world.specs.Limits.{keep_limit};
 ghost use Rattle.heap_class.specs.declared.IdSize.{IdSize};
 ghost use Rattle.heap_class.specs.declared.Refusal.TheVariants.{NoMemory};
 ghost use Rattle.heap_step.specs.declared.Event.{Event};
@@ -13,6 +16,7 @@ ghost use Rattle.heap_world.specs.Legal.{IsLegal};
 ghost use Rattle.heap_trail.specs.declared.Action.TheVariants.{OpenPin, Step, Rewind};
 ghost use Rattle.heap_trail.specs.declared.Reply.TheVariants.{Answered, Pinned, Place, Refused};
 ghost use Rattle.heap_trail.specs.Headline.{Headline};
+ghost use Rattle.heap_trail.specs.Limits.{pin_limit};
 ghost use Rattle.heap_trail.specs.Laws.{FindsSnapshot, IsTrail, GivesText, KeepsImage, DumpIsWhole, LeadsBack, LeavesTrail, ReachesLive, SparesReached};
 ghost use Rattle.heap_trail.specs.Machine.{IsSmall, Machine, Allocation, MayFail, MayReply, acted, opening_machine};
 ghost use Rattle.heap_trail.specs.OpenPins.{AreAllBelow, EachMayKeep, EachSized, slot_after_rewind};
@@ -180,6 +184,18 @@ fn remember(pins: &mut [NumberedPin], world: &World, records: &mut RecordRing, l
     }
 }
 
+// Creates a ring with room for `keep` records, and a list with room for all pins. Fails with NoMemory.
+fn room_for(alloc: Global, keep: u64) -> Result<(RecordRing, Vec<NumberedPin>), Refusal>
+    requires { keep ≤ keep_limit }
+    ensures records { IfOk result (λ r. r.0 ≡ buffer [] keep) }
+    ensures pins { IfOk result (λ r. (r.1.items ≡ []) × (pin_limit ≤ vec_capacity r.1)) }
+    ensures refused { IfErr result (λ e. e ≡ NoMemory) }
+{
+    let records = RecordRing::with_capacity(alloc, keep as usize)?;
+    let pins = Vec::with_capacity(alloc, PIN_LIMIT)?;
+    Ok((records, pins))
+}
+
 // Loses the pins above a place.
 fn lose_above(pins: &mut [NumberedPin], to: u64)
     ensures { pins.new ≡ map (slot_after_rewind to) pins.old }
@@ -199,25 +215,20 @@ impl Machine {
     {
         let keep = config.keep();
         let ids = config.ids();
+        let (records, pins) = room_for(alloc, keep)?;
         let world = World::new(alloc, config)?;
-        let pins = Vec::with_capacity(alloc, PIN_LIMIT)?;
-        match RecordRing::with_capacity(alloc, keep as usize) {
-            Ok(records) => {
-                // Its contract says that the heap is legal.
-                world.phase();
-                Ok(Machine {
-                    alloc,
-                    world,
-                    records,
-                    place: 0,
-                    keep,
-                    ids,
-                    next: 1,
-                    pins,
-                })
-            }
-            Err(_) => Err(Refusal::NoMemory),
-        }
+        // Its contract says that the heap is legal.
+        world.phase();
+        Ok(Machine {
+            alloc,
+            world,
+            records,
+            place: 0,
+            keep,
+            ids,
+            next: 1,
+            pins,
+        })
     }
 
     /// Takes a step and keeps its record, in place of the oldest if `keep` are there. Fails with ChronicleFull at place 2^62,

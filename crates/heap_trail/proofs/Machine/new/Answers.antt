@@ -6,11 +6,11 @@ use Rattle.heap_trail.specs.Records.{machine_of}
 use Rattle.heap_trail.specs.OpenPins.{pins_of}
 use Rattle.heap_trail.proofs.Machine.new.Goals as goal
 
-pub returns-in-Ok : goal.returns-in-Ok
+pub returns-clause-opened : goal.returns-clause-opened
 unfolding opening_machine pins_of
-returns-in-Ok c =
+returns-clause-opened c =
     let w : c.in_ok-world.world ≡ opening_state c.args.config.regions c.args.config.mutators = c.in_ok-world.ensures.opened in
-    let r : c.in-Ok.records ≡ buffer [] c.keep-keep.result = c.in-Ok.ensures in
+    let r = c.in_ok-records.ensures.records in
     let k : c.keep-keep.result ≡ c.args.config.keep = c.keep-keep.ensures.value in
     let d : c.ids-ids.result ≡ c.args.config.ids = c.ids-ids.ensures in
-    record { opened = λ i. machine_of (d i) (w i) (r i) 0 (k i) 1 (c.in_ok-pins.ensures.items i); refused = tt }
+    λ i. machine_of (d i) (w i) (r i) 0 (k i) 1 (c.in_ok-records.ensures.pins.0 i)

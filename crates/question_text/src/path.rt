@@ -38,6 +38,17 @@ fn push_step(text: &mut Vec<u8>, from: u64, slot: u64, to: u64) -> Result<(), Re
     push_words(text, b"\n")
 }
 
+// Appends the line of the register that a path begins with. Fails with NoMemory.
+#[tactic(auto, unfolding(crate::specs::Paths::root_text))]
+fn push_root(text: &mut Vec<u8>, register: u64, id: u64) -> Result<(), Refusal>
+    ensures { Appends (root_text register id) text.old.items text.new.items result }
+{
+    push_words(text, b"row")?;
+    push_register(text, register)?;
+    push_id(text, id)?;
+    push_words(text, b"\n")
+}
+
 // Appends the lines of the slots that are followed from an object. Fails with NoMemory.
 fn push_steps<V: View>(
     text: &mut Vec<u8>,
@@ -55,17 +66,6 @@ fn push_steps<V: View>(
         here = next;
     }
     Ok(())
-}
-
-// Appends the line of the register that a path begins with. Fails with NoMemory.
-#[tactic(auto, unfolding(crate::specs::Paths::root_text))]
-fn push_root(text: &mut Vec<u8>, register: u64, id: u64) -> Result<(), Refusal>
-    ensures { Appends (root_text register id) text.old.items text.new.items result }
-{
-    push_words(text, b"row")?;
-    push_register(text, register)?;
-    push_id(text, id)?;
-    push_words(text, b"\n")
 }
 
 // Appends the lines of a path that begins with the object that a register names. Fails with NoMemory.

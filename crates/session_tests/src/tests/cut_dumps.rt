@@ -1,5 +1,5 @@
 //! A dump in the middle of which a write fails.
-use super::sessions::{answers, is_answered, new_local, serve_over};
+use super::sessions::{answers, is_answered, on_new, serve_over};
 use heap_scripts::Sink;
 use session_text::{Ended, Local};
 use std::alloc::Global;
@@ -19,8 +19,11 @@ const FOUR_PINNED: &str = "ok pin 2 at 1\nok pin 3 at 1\nok pin 4 at 1\nok pin 5
 
 // Returns what the session that dumps the array writes.
 fn long_text(alloc: Global) -> Option<Vec<u8>> {
-    let mut local = new_local(alloc, 2)?;
-    answers(alloc, &mut local, LONG_DUMP.as_bytes())
+    on_new(
+        alloc,
+        2,
+        |local| answers(alloc, local, LONG_DUMP.as_bytes()),
+    )
 }
 
 // Returns whether four pins can be opened once a writer of this room failed in that session.
@@ -37,8 +40,11 @@ fn leaves_four_pins(alloc: Global, local: &mut Local, text: &[u8], room: usize) 
 
 // Does so on a new machine.
 fn are_left(alloc: Global, text: &[u8], room: usize) -> Option<bool> {
-    let mut local = new_local(alloc, 2)?;
-    Some(leaves_four_pins(alloc, &mut local, text, room))
+    on_new(
+        alloc,
+        2,
+        |local| Some(leaves_four_pins(alloc, local, text, room)),
+    )
 }
 
 // Returns whether four pins are left wherever the writer fails in the dump, tried at each sixteenth byte.

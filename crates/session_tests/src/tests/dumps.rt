@@ -1,6 +1,6 @@
 //! Dumps of one point through the pump, into outlets that fail.
 use super::examples::{DUMP_OF_ONE_POINT, POINT, POINT_MADE};
-use super::sessions::{is_answered, new_local};
+use super::sessions::{is_answered, on_new};
 use dump_pump::{Outlet, Pumped, WriteOutlet, pump};
 use heap_scripts::Sink;
 use pin_dump::{LostCause, PinSource};
@@ -123,8 +123,7 @@ fn all_end_by_hand(alloc: Global, local: &mut Local) -> Option<bool> {
 
 // Does so on a new machine.
 fn all_end_on_one(alloc: Global) -> Option<bool> {
-    let mut local = new_local(alloc, 16)?;
-    all_end_by_hand(alloc, &mut local)
+    on_new(alloc, 16, |local| all_end_by_hand(alloc, local))
 }
 
 #[test]
@@ -152,8 +151,7 @@ fn point_dumped_below(alloc: Global, local: &mut Local) -> Option<(Pumped, usize
 
 // Does so on a new machine.
 fn new_point_dumped_below(alloc: Global) -> Option<(Pumped, usize)> {
-    let mut local = new_local(alloc, 16)?;
-    point_dumped_below(alloc, &mut local)
+    on_new(alloc, 16, |local| point_dumped_below(alloc, local))
 }
 
 #[test]

@@ -1,6 +1,6 @@
 //! Readers and writers that fail.
 use super::examples::{POINT_AND_DUMP, SWEPT_POINTS};
-use super::sessions::{answers, is_answered, new_local, serve_over};
+use super::sessions::{answers, is_answered, on_new, serve_over};
 use super::streams::ByteReader;
 use heap_scripts::Sink;
 use session_text::{Ended, Local};
@@ -50,8 +50,7 @@ fn sound_in(alloc: Global, local: &mut Local, lines: &[u8], ending: &[u8]) -> Op
 
 // Does so on a new machine.
 fn sound_of(alloc: Global, lines: &[u8], ending: &[u8]) -> Option<Sound> {
-    let mut local = new_local(alloc, 1)?;
-    sound_in(alloc, &mut local, lines, ending)
+    on_new(alloc, 1, |local| sound_in(alloc, local, lines, ending))
 }
 
 // Tells whether a machine is as after a sound session.
@@ -67,8 +66,8 @@ fn leads_in(alloc: Global, local: &mut Local, lines: &[u8], sound: &Sound) -> bo
 
 // Tells whether a new machine is so after the first `count` of them.
 fn leads_to(alloc: Global, lines: &[u8], count: usize, sound: &Sound) -> Option<bool> {
-    let mut local = new_local(alloc, 1)?;
-    Some(leads_in(alloc, &mut local, first_lines(lines, count), sound))
+    let first = first_lines(lines, count);
+    on_new(alloc, 1, |local| Some(leads_in(alloc, local, first, sound)))
 }
 
 // Returns whether the third of four lines changes the machine's answers from those before, and the fourth doesn't.
@@ -112,8 +111,11 @@ fn fails_in(alloc: Global, local: &mut Local, lines: &[u8], count: usize, sound:
 
 // Does so on a new machine.
 fn fails_on(alloc: Global, lines: &[u8], count: usize, sound: &Sound) -> Option<bool> {
-    let mut local = new_local(alloc, 1)?;
-    Some(fails_in(alloc, &mut local, lines, count, sound))
+    on_new(
+        alloc,
+        1,
+        |local| Some(fails_in(alloc, local, lines, count, sound)),
+    )
 }
 
 // Returns whether readers fail as they must that give the first `count` whole lines of a session and a part of the next.
@@ -183,8 +185,11 @@ fn stops_on(
     read: usize,
     sound: &Sound,
 ) -> Option<bool> {
-    let mut local = new_local(alloc, 1)?;
-    Some(stops_in(alloc, &mut local, lines, sink, read, sound))
+    on_new(
+        alloc,
+        1,
+        |local| Some(stops_in(alloc, local, lines, sink, read, sound)),
+    )
 }
 
 // Returns how much text there is up to the answer to the line of this number, counted from 1, if writers stop as they must that
@@ -249,8 +254,11 @@ fn is_cut_in(alloc: Global, local: &mut Local, lines: &[u8], writes: usize, soun
 
 // Does so on a new machine.
 fn is_cut(alloc: Global, lines: &[u8], writes: usize, sound: &Sound) -> Option<bool> {
-    let mut local = new_local(alloc, 1)?;
-    Some(is_cut_in(alloc, &mut local, lines, writes, sound))
+    on_new(
+        alloc,
+        1,
+        |local| Some(is_cut_in(alloc, local, lines, writes, sound)),
+    )
 }
 
 // Returns whether writers that take 0, 1, 11 and 600 bytes do so.

@@ -32,6 +32,20 @@ fn stay<R: Threads + Wait + Sync>(
     (done.is_answered, done.asked, done.is_whole.is_some(), stay)
 }
 
+// Creates the commands of a machine that has `pins` pins of others, or returns None if one is refused.
+fn beside(alloc: Global, pins: u64) -> Option<Local> {
+    match new_machine(alloc, 16) {
+        Some(mut machine) => {
+            if opens(&mut machine, pins) {
+                Some(Local::new(machine))
+            } else {
+                None
+            }
+        }
+        None => None,
+    }
+}
+
 // Does so on a new machine.
 fn stay_beside<R: Threads + Wait + Sync>(
     rt: &R,
@@ -39,12 +53,10 @@ fn stay_beside<R: Threads + Wait + Sync>(
     pins: u64,
     line: &str,
 ) -> Option<(bool, u64, bool, bool)> {
-    let mut machine = new_machine(alloc, 16)?;
-    if !opens(&mut machine, pins) {
-        return None;
+    match beside(alloc, pins) {
+        Some(mut local) => Some(stay(rt, alloc, &mut local, pins, line)),
+        None => None,
     }
-    let mut local = Local::new(machine);
-    Some(stay(rt, alloc, &mut local, pins, line))
 }
 
 // With four pins of others there is no room for the pin of the dump, and so no outlet is made.

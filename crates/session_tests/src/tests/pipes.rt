@@ -1,7 +1,7 @@
 //! A dump of two pages, through the pipe, and what a gauge sees of it.
 use super::dumps::pump_state;
 use super::saves::save_seen;
-use super::sessions::{is_answered, new_local};
+use super::sessions::{is_answered, on_new};
 use dump_pump::{Pumped, WriteOutlet};
 use heap_scripts::new;
 use pin_dump::Gauge;
@@ -107,8 +107,7 @@ fn many_saved_in<R: Threads + Wait + Sync>(
 
 // Does so on a new machine.
 fn many_saved<R: Threads + Wait + Sync>(rt: &R, alloc: Global) -> Option<(bool, GaugeNotes)> {
-    let mut local = new_local(alloc, 16)?;
-    many_saved_in(rt, alloc, &mut local)
+    on_new(alloc, 16, |local| many_saved_in(rt, alloc, local))
 }
 
 #[test]

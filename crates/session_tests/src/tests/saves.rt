@@ -1,6 +1,6 @@
 //! Sessions that are saved into memory.
 use super::examples::{DUMP_OF_ONE_POINT, POINT, POINT_SAVED};
-use super::sessions::new_local;
+use super::sessions::on_new;
 use dump_pump::{Outlet, Pumped, WriteOutlet};
 use heap_save::{LastDump, Outlets, Saved};
 use heap_scripts::Sink;
@@ -102,8 +102,7 @@ fn point_saved_in<R: Threads + Wait + Sync>(
 
 // Does so on a new machine.
 fn point_saved<R: Threads + Wait + Sync>(rt: &R, alloc: Global) -> Option<SaveSight> {
-    let mut local = new_local(alloc, 16)?;
-    point_saved_in(rt, alloc, &mut local)
+    on_new(alloc, 16, |local| point_saved_in(rt, alloc, local))
 }
 
 #[test]

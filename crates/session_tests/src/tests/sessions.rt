@@ -12,10 +12,24 @@ pub fn new_machine(alloc: Global, regions: u64) -> Option<Machine> {
     Machine::new(alloc, config).ok()
 }
 
-/// Creates the commands of a machine at place 0, or returns None if memory is refused.
-pub fn new_local(alloc: Global, regions: u64) -> Option<Local> {
+// Creates the commands of a machine at place 0, or returns None if memory is refused.
+fn new_local(alloc: Global, regions: u64) -> Option<Local> {
     match new_machine(alloc, regions) {
         Some(machine) => Some(Local::new(machine)),
+        None => None,
+    }
+}
+
+/// Has a scene act on the commands of a new machine. Returns what it tells, or None if memory is refused.
+pub fn on_new<T: Drop, S: FnOnce(&mut Local) -> Option<T>>(
+    alloc: Global,
+    regions: u64,
+    scene: S,
+) -> Option<T>
+    requires { S.IsAlwaysCallable scene }
+{
+    match new_local(alloc, regions) {
+        Some(mut local) => scene(&mut local),
         None => None,
     }
 }

@@ -2,7 +2,7 @@
 ghost use Rattle.std.specs.Prelude.{◌≡◌, ◌≤◌, ℕ, List, length, [], true, false};
 ghost use Rattle.session_text.specs.Answers.{AnswersCommand, Begins, AnswersTo, BeginsTo};
 ghost use Rattle.session_text.specs.Endings.{flow_of};
-ghost use Rattle.session_grammar.specs.Grammar.{command_of, command_of_text};
+ghost use Rattle.session_grammar.specs.Grammar.{command_of_text};
 ghost use Rattle.session_text.specs.Replies.{line_answer_text};
 ghost use Rattle.session_text.specs.Talks.{AreFirstAnswered, IsFirst, IsFirstCut, IsLineFlow, AreLinesAnswered};
 ghost use Rattle.session_text.specs.Writes.{IsTextAdded};

@@ -1,6 +1,5 @@
 //! The two ends of a pipe, each in a thread of its own.
 ghost use Rattle.std.specs.Prelude.{◌≡◌, []};
-ghost use denote.Param.Send.{IsSync};
 ghost use Rattle.dump_pipe.specs.Claims.{view, IsSeatAt};
 ghost use Rattle.dump_pipe.specs.Ends.{sends_on, receives_on};
 ghost use Rattle.dump_pipe.specs.Seats.{knows};

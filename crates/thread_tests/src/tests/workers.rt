@@ -1,5 +1,4 @@
 //! Workers in one thread: a whole cycle, and gates that let no act begin.
-ghost use Rattle.std.specs.Prelude.{◌<◌, ◌≤◌};
 
 use super::scenes::{Five, Scene, Stage, play_scene};
 use super::shared::acts;

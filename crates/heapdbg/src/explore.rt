@@ -54,12 +54,10 @@ fn begin<'a, R: AllocGlobal + Eprint + Files>(
     ensures hindrance { IfErr result (IsHindrance from) }
 {
     let mut asking = open(rt.alloc(), &request.settings, watch)?;
-    let loaded = if from {
-        load(rt, request, &mut asking)
-    } else {
-        Ok(())
-    };
-    match loaded {
+    if !from {
+        return Ok(asking);
+    }
+    match load(rt, request, &mut asking) {
         Ok(()) => Ok(asking),
         Err(fault) => Err(fault),
     }

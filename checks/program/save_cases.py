@@ -24,6 +24,9 @@ from runs import (
     run,
 )
 
+# How many seconds nothing may come to a terminal; fewer than a run may take.
+PATIENCE = SECONDS / 2
+
 
 def saved(program, path, given=POINT, words=(), **how):
     """Returns what happened to a run of `save` to a file, and then what the file has, None if there is none."""
@@ -156,7 +159,7 @@ def saved_to(program, peer, given, *words, **how):
 
 def late(path, terminal, got):
     """Reads a large dump out of a pipe with a name: two pages or so late, and the rest once a line is on a terminal, for which it
-    waits some seconds, if there is one. Adds to a list what is on the terminal then, and how many bytes come out."""
+    waits at most PATIENCE, if there is one. Adds to a list what is on the terminal then, and how many bytes come out."""
     with open(path, "rb") as pipe:
         count = len(pipe.read(4096))
         time.sleep(0.3)
@@ -165,13 +168,15 @@ def late(path, terminal, got):
         got.append(count + len(pipe.read()))
 
 
-def shown_on(terminal):
-    """Returns what is on a terminal once a line is. Waits some seconds at most."""
-    if not select.select([terminal], [], [], 5)[0]:
-        return b""
-    # A line may be written in parts.
-    time.sleep(0.05)
-    return os.read(terminal, 65536)
+def shown_on(terminal, last=b""):
+    """Returns what is on a terminal once it ends with these bytes, or once anything is if there are none. Waits at most PATIENCE for
+    each part."""
+    shown = b""
+    while not (shown and shown.endswith(last)) and select.select([terminal], [], [], PATIENCE)[0]:
+        # A line may be written in parts.
+        time.sleep(0.05)
+        shown += os.read(terminal, 65536)
+    return shown
 
 
 def saved_late(program, error, terminal=None):
@@ -194,7 +199,8 @@ def saved_beside_a_terminal(program):
     that it shows afterwards, and how much came out of it."""
     terminal, error = os.openpty()
     status, early, size = saved_late(program, error, terminal)
-    rest = shown_on(terminal)
+    # What was written last may reach the terminal after the program's end.
+    rest = shown_on(terminal, b"\n")
     os.close(error)
     os.close(terminal)
     return status, size, [int(line.split()[0]) for line in early.split(b"\r") if line], early + rest

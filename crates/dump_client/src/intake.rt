@@ -13,7 +13,7 @@ use std::sync::Wait;
 pub const PIECE: usize = 4096;
 
 /// How a fetch ended.
-#[derive(Clone, Copy, PartialEq, Eq)]
+#[derive(Clone, Copy)]
 pub enum Finish {
     /// All bytes of a dump came, and were put out.
     Whole,
@@ -24,7 +24,7 @@ pub enum Finish {
 }
 
 /// How a fetch ended, and how many bytes it put out; 2^64 - 1 if they are more.
-#[derive(Clone, Copy, PartialEq, Eq)]
+#[derive(Clone, Copy)]
 pub struct Fetched {
     pub bytes: u64,
     pub finish: Finish,

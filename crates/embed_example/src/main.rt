@@ -52,25 +52,32 @@ fn define_classes<L: Heap, R: Wait>(user: &mut Actor<'_, L, R>, alloc: Global) -
     Some(())
 }
 
-// Returns the actors of the next two seats, or None if there are fewer.
-fn take_two<'a, L: Heap, R: Wait>(
-    actors: &mut Actors<'a, L, R>,
-) -> Option<(Actor<'a, L, R>, Actor<'a, L, R>)> {
-    let first = actors.take()?;
-    let second = actors.take()?;
-    Some((first, second))
+// The actors of two mutators, a marker and a sweeper.
+type Team<'a, L, R> = (
+    Actor<'a, L, R>,
+    Actor<'a, L, R>,
+    Actor<'a, L, R>,
+    Actor<'a, L, R>,
+);
+
+// Takes the actors of the next four seats. Returns None if there are fewer.
+fn take_team<'a, L: Heap, R: Wait>(actors: &mut Actors<'a, L, R>) -> Option<Team<'a, L, R>> {
+    Some((
+        actors.take()?,
+        actors.take()?,
+        actors.take()?,
+        actors.take()?,
+    ))
 }
 
 // Has all threads work, each with an actor, dumps beside them, and audits what they did. Returns None if anything was refused.
 fn work<'a, L: Heap + Send + Sync, W: Write + Drop, R: Threads + Wait + Sync>(
     actors: &Actors<'a, L, R>,
-    mutators: (Actor<'a, L, R>, Actor<'a, L, R>),
-    collectors: (Actor<'a, L, R>, Actor<'a, L, R>),
+    team: Team<'a, L, R>,
     file: W,
 ) -> Option<Report<W>> {
     let (rt, alloc, shared) = (actors.rt, actors.alloc, actors.shared);
-    let (mut one, mut two) = mutators;
-    let (mut marker, mut sweeper) = collectors;
+    let (mut one, mut two, mut marker, mut sweeper) = team;
     let pace = &Pace::new(2, AHEAD);
     let dumped = thread::scope(
         thread::scope_env(),
@@ -84,15 +91,17 @@ fn work<'a, L: Heap + Send + Sync, W: Write + Drop, R: Threads + Wait + Sync>(
             let sweeping = scope.spawn(|| sweeper.sweep_cycles(pace, ROUNDS)).ok()?;
             let outlet = WriteOutlet::new(file);
             let dumped = dump(rt, alloc, shared, 0, outlet, LastSeen { bytes: 0 });
-            first.join(rt)?;
-            second.join(rt)?;
-            marking.join(rt).ok()?;
-            sweeping.join(rt).ok()?;
-            Some(dumped)
+            let mutated = first.join(rt).is_some() & second.join(rt).is_some();
+            let collected = marking.join(rt).is_ok() & sweeping.join(rt).is_ok();
+            if mutated & collected {
+                Some(dumped)
+            } else {
+                None
+            }
         },
-    )?;
-    let totals = audit_all(&[one, two, marker]).ok()?;
-    Some((totals, dumped))
+    );
+    let totals = audit_all(&[one, two, marker]);
+    Some((totals.ok()?, dumped?))
 }
 
 // Defines the classes, and has all threads work. Returns None if anything was refused.
@@ -102,9 +111,8 @@ fn run<L: Heap + Send + Sync, W: Write + Drop, R: Threads + Wait + Sync>(
 ) -> Option<Report<W>> {
     let mut user = actors.take()?;
     define_classes(&mut user, actors.alloc)?;
-    let mutators = take_two(&mut actors)?;
-    let collectors = take_two(&mut actors)?;
-    work(&actors, mutators, collectors, file)
+    let team = take_team(&mut actors)?;
+    work(&actors, team, file)
 }
 
 // Opens the heap, and has all threads work on it. Returns None if anything was refused.

@@ -8,7 +8,7 @@ use Rattle.heap_lock.specs.Action.{Action}
 use Rattle.heap_lock.specs.Action.TheVariants.{Step}
 use Rattle.heap_chronicle.specs.declared.entry.Outcome.{Outcome}
 use Rattle.heap_chronicle.specs.declared.entry.Outcome.TheVariants.{Answered}
-use Rattle.heap_lock.specs.declared.receipt.Receipt.{Receipt}
+use Rattle.heap_lock.specs.Receipt.{Receipt}
 use Rattle.heap_lock.specs.LockStates.{Chair, IsReceived, Stands}
 use Rattle.heap.specs.declared.actor.Denial.{Denial}
 use Rattle.heap.specs.Actors.{ActorState, IsClaimed, IsDenied, IsToldRefusal}

@@ -10,9 +10,9 @@ use Rattle.heap_lock.specs.Action.TheVariants.{Step}
 use Rattle.heap_chronicle.specs.declared.entry.Entry.{Entry}
 use Rattle.heap_chronicle.specs.declared.entry.Outcome.{Outcome}
 use Rattle.heap_chronicle.specs.declared.entry.Outcome.TheVariants as Outcomes
-use Rattle.heap_lock.specs.declared.receipt.Receipt.{Receipt}
+use Rattle.heap_lock.specs.Receipt.{Receipt}
 use Rattle.heap_lock.specs.declared.role.Role.{Role}
-use Rattle.heap_lock.specs.declared.audits.Verdict.{Verdict}
+use Rattle.heap_lock.specs.Verdict.{Verdict}
 use Rattle.heap_lock.specs.Audits.{IsVerdict}
 use Rattle.heap_chronicle.specs.Chronicles.{dropped_of}
 use Rattle.heap_chronicle.specs.History.{opening, IsLegalHistory}

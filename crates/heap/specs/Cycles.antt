@@ -3,7 +3,7 @@ use Rattle.std.specs.Prelude.{◌≡◌, ℕ, suc, zero, ◌<◌, ◌-◌, ◌^�
 use Rattle.heap_lock.specs.HeapLimits.{HeapSettings}
 use Rattle.heap_lock.specs.Event.TheVariants as Events
 use Rattle.heap_lock.specs.Action.TheVariants.{Step}
-use Rattle.heap_lock.specs.declared.receipt.Receipt.{Receipt}
+use Rattle.heap_lock.specs.Receipt.{Receipt}
 use Rattle.heap_lock.specs.declared.role.Role.TheVariants.{Marker, Sweeper}
 use Rattle.heap_work.specs.declared.MarkEnd.TheVariants.{Finished}
 use Rattle.heap_work.specs.declared.SweepEnd.TheVariants.{Swept}

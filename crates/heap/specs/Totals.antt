@@ -5,7 +5,7 @@ use Rattle.heap_lock.specs.Action.{Action}
 use Rattle.heap_lock.specs.Action.TheVariants.{Step}
 use Rattle.heap_chronicle.specs.declared.entry.Outcome.{Outcome}
 use Rattle.heap_chronicle.specs.declared.entry.Outcome.TheVariants as Outcomes
-use Rattle.heap_lock.specs.declared.receipt.Receipt.{Receipt}
+use Rattle.heap_lock.specs.Receipt.{Receipt}
 use Rattle.heap.specs.declared.totals.Totals.{Totals}
 use Rattle.heap.specs.Actors.{ActorState}
 

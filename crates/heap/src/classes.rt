@@ -1,5 +1,5 @@
 //! Definitions of classes.
-ghost use Rattle.std.specs.Prelude.{◌≡◌, IfOk, map};
+ghost use Rattle.std.specs.Prelude.{◌≡◌, ◌++◌, ◌∷◌, [], IfOk, OnOk, map};
 ghost use Rattle.heap_lock.specs.Event.TheVariants.{ArrayClass, Class};
 
 use heap_class::{ClassNo, Field, Fields, Kind, Name};
@@ -18,16 +18,36 @@ pub fn define_class(
         (λ e. e
         ≡ Class name.now sup (map (λ f. record { name = f.0.now; kind = f.1 }) fields.now)) }
 {
+    let name = Name::new(alloc, name)?;
+    let fields = Fields::from_vec(own_fields(alloc, fields)?);
+    Ok(Event::Class { name, sup, fields })
+}
+
+// Returns own fields of these names and kinds. Fails if an allocation fails.
+fn own_fields(alloc: Global, fields: &[(&[u8], Kind)]) -> Result<Vec<Field>, AllocError>
+    ensures { IfOk result
+        (λ v. v.items ≡ map (λ f. record { name = f.0.now; kind = f.1 }) fields.now) }
+{
     let mut own = Vec::with_capacity(alloc, fields.len())?;
     for (name, kind) in fields {
-        let name = Name::new(alloc, name)?;
-        own.push(Field { name, kind: *kind })?;
+        push_field(alloc, &mut own, name, *kind)?;
     }
-    Ok(Event::Class {
-        name: Name::new(alloc, name)?,
-        sup,
-        fields: Fields::from_vec(own),
-    })
+    Ok(own)
+}
+
+// Appends a field of this name and kind. Fails if an allocation fails.
+fn push_field(
+    alloc: Global,
+    own: &mut Vec<Field>,
+    name: &[u8],
+    kind: Kind,
+) -> Result<(), AllocError>
+    ensures { OnOk result
+        (own.new.items ≡ own.old.items ++ record { name = name.now; kind = kind } ∷ []) }
+{
+    let name = Name::new(alloc, name)?;
+    own.push(Field { name, kind })?;
+    Ok(())
 }
 
 /// Creates the event that defines a class of object arrays with this name. Fails if an allocation fails.

@@ -1,6 +1,6 @@
 //! What several actors did, by their claims.
 ghost use Rattle.std.specs.Prelude.{◌≡◌, ◌≢◌, count_by, All, Contains, IfErr, IfOk};
-ghost use Rattle.heap_lock.specs.declared.audits.Verdict.TheVariants.{Holds};
+ghost use Rattle.heap_lock.specs.Verdict.TheVariants.{Holds};
 ghost use Rattle.heap.specs.Actors.{IsAudited};
 ghost use Rattle.heap.specs.Totals.{IsTotal, is_finishing, is_making};
 

@@ -5,3 +5,4 @@ pub mod Plain
 pub mod Fields
 pub mod Refusals
 pub mod EventPacks
+pub mod AuditLaws

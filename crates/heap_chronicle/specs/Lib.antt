@@ -4,3 +4,5 @@ pub mod Packs
 pub mod Blocks
 pub mod Chronicles
 pub mod Details
+pub mod Acts
+pub mod Audits

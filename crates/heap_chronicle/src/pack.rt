@@ -3,7 +3,7 @@ use heap_class::Kind;
 use std::mem::size_of;
 
 /// The sort of a deed that is told by at most four numbers and a kind.
-#[derive(Clone, Copy, PartialEq, Eq)]
+#[derive(Clone, Copy)]
 pub enum Deed {
     /// A mutator, a register and a class.
     New,

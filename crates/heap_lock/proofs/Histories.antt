@@ -11,7 +11,6 @@ use Rattle.atomic_table.specs.Seated.{TableId}
 use Rattle.atomic_table.proofs.Lists.{at_set, at_index}
 use Rattle.heap_world.specs.Limits.{HeapSettings}
 use Rattle.heap_trail.specs.declared.Action.{Action}
-use Rattle.heap_trail.specs.Limits.{last_place}
 use Rattle.heap_trail.specs.Trail.{Trail}
 use Rattle.heap_class.specs.declared.IdSize.TheVariants.{Eight}
 use Rattle.heap_trail.specs.declared.Reply.{Reply}
@@ -80,9 +79,9 @@ tally_other n es e ne =
 pub desk_of : (config : HeapSettings) (tables : List TableId) (m : Machine) (es : List Entry) (desks : List Desk) (n : ℕ) (d : Desk) → IsUnderLock config tables m es desks → n < length tables → d ≡ get_or desks n d → IsDesk (table_at tables n) (tally n es) d
 desk_of config tables m es desks n d k lt is = k.booked n d (at_index desks n d (omega (arith, k.count, lt)) is)
 
--- a machine under a chronicle that isn't full isn't at the last place
-pub not_last : (config : HeapSettings) (tables : List TableId) (m : Machine) (es : List Entry) (desks : List Desk) → IsUnderLock config tables m es desks → length es < last_place → m.trail.place < last_place
-not_last config tables m es desks k lt = omega (arith, place_within config.keep (opening config) es, ap (λ (t : Trail). t.place) k.folds, lt)
+-- the place of a machine under its chronicle is the number of entries at most
+pub within_entries : (config : HeapSettings) (tables : List TableId) (m : Machine) (es : List Entry) (desks : List Desk) → IsUnderLock config tables m es desks → m.trail.place ≤ length es
+within_entries config tables m es desks k = omega (arith, place_within config.keep (opening config) es, ap (λ (t : Trail). t.place) k.folds)
 
 -- an entry with the machine's reply is due
 pub is_due : (config : HeapSettings) (tables : List TableId) (m m' : Machine) (es : List Entry) (desks : List Desk) (e : Entry) → IsUnderLock config tables m es desks → is_dump_action e.action ≡ false → MayReply m e.action m' (reply_of e.answer) → MayEnter (reply_of e.answer)

@@ -1,5 +1,4 @@
 pub mod Parts
-pub mod AuditLaws
 pub mod Histories
 pub mod SeatedHeaps
 pub mod DumperCalls

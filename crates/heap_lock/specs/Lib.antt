@@ -9,7 +9,6 @@ pub mod Roles
 pub mod Collector
 pub mod LockStates
 pub mod Blanks
-pub mod Audits
 pub mod Sources
 pub mod Laws
 -- What clauses here, and proofs above, cite of the crates below.
@@ -30,7 +29,10 @@ pub use Rattle.heap_trail.specs.Limits as TrailLimits
 pub use Rattle.heap_trail.specs.Machine
 pub use Rattle.heap_trail.specs.declared.Action
 pub use Rattle.heap_trail.specs.declared.Reply
+pub use Rattle.heap_chronicle.specs.Audits
 pub use Rattle.heap_chronicle.specs.History
 pub use Rattle.heap_chronicle.specs.Limits as ChronicleLimits
+pub use Rattle.heap_chronicle.specs.declared.audits.Verdict
 pub use Rattle.heap_chronicle.specs.declared.entry.Entry
 pub use Rattle.heap_chronicle.specs.declared.entry.Outcome
+pub use Rattle.heap_chronicle.specs.declared.receipt.Receipt

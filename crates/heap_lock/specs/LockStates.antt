@@ -13,7 +13,7 @@ use Rattle.heap_trail.specs.Machine.{MayReply, Machine}
 use Rattle.heap_lock.specs.TableSeats.{Desk}
 use Rattle.heap_chronicle.specs.declared.entry.Entry.{Entry}
 use Rattle.heap_chronicle.specs.declared.entry.Outcome.{Outcome}
-use Rattle.heap_lock.specs.declared.receipt.Receipt.{Receipt}
+use Rattle.heap_chronicle.specs.declared.receipt.Receipt.{Receipt}
 use Rattle.heap_lock.specs.declared.role.Role.{Role}
 use Rattle.heap_lock.specs.declared.view.SeatView.{SeatView}
 use Rattle.heap_lock.specs.declared.view.SeatView.TheVariants.{Book, Share}

@@ -113,13 +113,13 @@ impl Blank {
         ensures tables { IfOk result (λ b. length b.tables ≡ length roles.now) }
         ensures refused { IfErr result (λ e. e ≡ NoMemory) }
     {
-        let machine = Machine::new(alloc, config)?;
         let Ok((desks, stubs)) = make_seats(alloc, roles) else {
             return Err(Refusal::NoMemory);
         };
         let Ok(ledger) = Ledger::new(alloc) else {
             return Err(Refusal::NoMemory);
         };
+        let machine = Machine::new(alloc, config)?;
         Ok(Blank {
             config,
             machine,

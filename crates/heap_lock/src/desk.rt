@@ -9,6 +9,7 @@ use crate::view::SeatView;
 use atomic_table::{Badge, Play};
 use heap_chronicle::Entry;
 use std::marker::Brand;
+use std::snapshot::Snapshot;
 
 /// The entry that a step adds.
 pub trait NotedEntry {
@@ -53,9 +54,9 @@ impl HomeTable<SeatView> {
         &mut self,
         share: Badge<SeatView>,
         turn: u64,
-        entry: &Entry,
+        entry: &Snapshot<Entry>,
     ) -> Badge<SeatView>
-        requires mark { E.mark ≡ (turn, entry.now) }
+        requires mark { E.mark ≡ (turn, entry.now.value) }
         requires desk { HasBook self.old }
         requires share { IsShare (table_of self.old) (tally_in share.views) share }
         ensures desk { BooksAs self.old self.new (book_with self.old E.mark) }
@@ -76,11 +77,16 @@ impl HomeTable<SeatView> {
     }
 
     /// Adds the entry of this turn to the book and to its share, which have one list. Takes no memory.
-    pub fn gain(&mut self, share: Badge<SeatView>, turn: u64, entry: &Entry) -> Badge<SeatView>
+    pub fn gain(
+        &mut self,
+        share: Badge<SeatView>,
+        turn: u64,
+        entry: &Snapshot<Entry>,
+    ) -> Badge<SeatView>
         requires desk { HasBook self.old }
         requires share { IsShare (table_of self.old) (tally_in share.views) share }
-        ensures desk { BooksAs self.old self.new (book_with self.old (turn, entry.now)) }
-        ensures share { IsShare share.table_id (book_with self.old (turn, entry.now)) result }
+        ensures desk { BooksAs self.old self.new (book_with self.old (turn, entry.now.value)) }
+        ensures share { IsShare share.table_id (book_with self.old (turn, entry.now.value)) result }
         ensures same { tally_in share.views ≡ tally_of self.old.own.me.0 }
     {
         self.note::<Brand>(share, turn, entry)

@@ -1,12 +1,10 @@
 //! The heap under its lock, and the seats.
-ghost use Rattle.std.specs.Prelude.{◌≡◌, ◌≢◌, ◌+◌, ◌<◌, true, false, length, MatchBool, MatchOption, IfOk, IfErr, OnErr};
-ghost use Rattle.heap_class.specs.declared.Refusal.TheVariants.{NoMemory, ChronicleFull};
+ghost use Rattle.std.specs.Prelude.{◌≡◌, true, false, length, IfOk, IfErr, OnErr};
 ghost use Rattle.heap_trail.specs.declared.Action.TheVariants.{Step, Rewind};
-ghost use Rattle.heap_trail.specs.Limits.{last_place};
 ghost use Rattle.heap_trail.specs.Machine.{is_dump_action};
 ghost use Rattle.heap_lock.specs.declared.role.Role.TheVariants.{User};
 ghost use Rattle.heap_lock.specs.Tally.{tally_in};
-ghost use Rattle.heap_chronicle.specs.History.{opening, Enters, IsLegalHistory};
+ghost use Rattle.heap_chronicle.specs.History.{opening, IsLegalHistory};
 ghost use Rattle.heap_lock.specs.Blanks.{chair_of};
 ghost use Rattle.heap_lock.specs.Roles.{may};
 ghost use Rattle.heap_lock.specs.Ledgers.{all_in, HasLedger};
@@ -14,18 +12,18 @@ ghost use Rattle.heap_lock.specs.LockStates.{AllSeated, Folds, Stands, IsMoved, 
 
 use crate::desk::Desk;
 use crate::ledger::Ledger;
-use crate::receipt::Receipt;
 use crate::role::{Role, may_for, owner_of};
 use crate::stub::Stub;
 use crate::view::SeatView;
 use atomic_table::Badge;
-use heap_chronicle::{Chronicle, Entry, Outcome};
+use heap_chronicle::{Chronicle, Entry, Receipt};
 use heap_class::Refusal;
 use heap_step::Event;
 use heap_trail::{Action, Machine};
 use heap_world::Config;
 use std::marker::{Brand, Model, PhantomData};
 use std::mem::replace;
+use std::snapshot::Snapshot;
 use std::sync::{Mutex, MutexGuard, Wait};
 
 /// Which heap it is: what it was made with, whether its chronicle rolls, the table of each seat's tally, and that of the ledger.
@@ -101,39 +99,6 @@ impl<L: Heap> Model for Kept<L> {
     ghost invariant = { λ k. IsUnderLock L.config L.tables k.machine k.chronicle.entries
         k.desks.items × HasLedger L.config L.ledger k.machine k.chronicle.entries k.ledger
         × (k.chronicle.rolls ≡ L.rolls) };
-}
-
-// Returns whether the refusal is for want of memory.
-fn wants_memory(refusal: Refusal) -> bool
-    ensures { MatchBool result (refusal ≡ NoMemory) (refusal ≢ NoMemory) }
-{
-    matches!(refusal, Refusal::NoMemory)
-}
-
-// Does an event or a rewind and returns the answer, or None if it finds no memory.
-fn take_step(machine: &mut Machine, action: &Action) -> Option<Outcome>
-    requires deed { is_dump_action action.now ≡ false }
-    requires place { machine.old.trail.place < last_place }
-    ensures { MatchOption result (machine.new ≡ machine.old)
-        (λ o. Enters machine.old action.now machine.new o) }
-{
-    match action {
-        Action::Step(event) => match machine.step(event) {
-            Ok(answer) => Some(Outcome::Answered(answer)),
-            Err(refusal) => {
-                if wants_memory(refusal) {
-                    None
-                } else {
-                    Some(Outcome::Refused(refusal))
-                }
-            }
-        },
-        Action::Rewind(n) => match machine.rewind(*n) {
-            Ok(place) => Some(Outcome::Place(place)),
-            Err(refusal) => Some(Outcome::Refused(refusal)),
-        },
-        _ => unreachable!(),
-    }
 }
 
 impl<L: Heap> Seat<L> {
@@ -235,25 +200,13 @@ impl<L: Heap> Kept<L> {
             ledger,
             heap: _,
         } = self;
-        if chronicle.is_full() {
-            return Err(Refusal::ChronicleFull);
-        }
-        chronicle.reserve()?;
-        let Some(answer) = take_step(machine, &action) else {
-            return Err(Refusal::NoMemory);
-        };
         let number = seat.number;
-        let turn = chronicle.len() as u64 + 1;
-        let entry = Entry {
-            seat: number,
-            action,
-            answer,
-        };
+        let (answer, entry) = chronicle.act(machine, number, action)?;
+        let turn = chronicle.len() as u64;
         let desk = &mut desks[number as usize];
         let share = replace(&mut seat.share, Badge::blank());
         seat.share = desk.gain(share, turn, &entry);
-        ledger.note::<Brand, Action, Outcome>(&entry.action, &answer);
-        chronicle.push(entry);
+        ledger.note::<Brand, Snapshot<Entry>, ()>(&entry, &());
         Ok(Receipt {
             seat: number,
             turn,

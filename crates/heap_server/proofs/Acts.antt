@@ -4,7 +4,7 @@ use Rattle.heap_lock.specs.Refusal.{Refusal}
 use Rattle.heap_lock.specs.HeapLimits.{HeapSettings}
 use Rattle.heap_lock.specs.Action.{Action}
 use Rattle.heap_lock.specs.Reply.{Reply}
-use Rattle.heap_lock.specs.declared.receipt.Receipt.{Receipt}
+use Rattle.heap_lock.specs.Receipt.{Receipt}
 use Rattle.heap_lock.specs.LockStates.{Chair, IsReceived, IsNoEntry, Stands}
 use Rattle.heap_server.specs.JoinedActs.{IsReply, IsActed}
 

@@ -8,7 +8,7 @@ use Rattle.heap_lock.specs.Action.TheVariants.{Step, Rewind, OpenPin, NextPiece,
 use Rattle.heap_lock.specs.Reply.{Reply}
 use Rattle.heap_lock.specs.Reply.TheVariants.{Answered, Place, Pinned, Part, Closed, Refused}
 use Rattle.heap_lock.specs.TrailLaws.{IsPieceOfLegal}
-use Rattle.heap_lock.specs.declared.receipt.Receipt.{Receipt}
+use Rattle.heap_lock.specs.Receipt.{Receipt}
 use Rattle.heap_lock.specs.LockStates.{Chair, IsReceived, IsNoEntry, Stands}
 use Rattle.heap_lock.specs.Calls.{Call, Witnesses}
 use Rattle.heap_lock.specs.History.{reply_of}

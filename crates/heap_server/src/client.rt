@@ -14,7 +14,7 @@ use std::thread;
 use std::thread::Threads;
 
 /// How a client ended.
-#[derive(Clone, Copy, PartialEq, Eq)]
+#[derive(Clone, Copy)]
 pub enum Asked {
     /// All that came was copied.
     Done,

@@ -29,7 +29,7 @@ pub struct Ports {
 }
 
 /// What all sessions over a heap have in common. Contracts see the record itself.
-#[derive(Clone, Copy, PartialEq, Eq)]
+#[derive(Clone, Copy)]
 pub struct Terms {
     /// The time in the headers of dumps, in milliseconds since 1970.
     pub time: u64,

@@ -32,7 +32,7 @@ fn pause<R: Clock>(rt: &R) {
 }
 
 /// The work of a thread that tends the collector.
-#[derive(Clone, Copy, PartialEq, Eq)]
+#[derive(Clone, Copy)]
 pub enum Duty {
     /// To mark each cycle that others begin, by runs of a mark worker.
     Mark,

@@ -12,20 +12,24 @@ ghost use Rattle.heap_step.specs.declared.Undo.{Undo};
 ghost use Rattle.heap_step.specs.Apply.{object_or_null};
 ghost use Rattle.heap_step.specs.Laws.{IsApplied};
 
-use crate::sorts::IntoEvent;
+use crate::sorts::ApplyEvent;
 use crate::{Answer, Effect, Event, Undo};
 use heap_class::{ClassNo, Fields, Kind, Name, NewClass};
 use heap_sweep::Reclaimed;
 use heap_world::{Created, Loaded, World};
 
-impl IntoEvent for Event {
-    ghost event = { λ e. e };
+/// An event of any sort, which is lent.
+#[derive(Clone, Copy)]
+pub struct AnyEvent<'a>(pub &'a Event);
+
+impl<'a> ApplyEvent for AnyEvent<'a> {
+    ghost event = { λ e. e.0.now };
 
     // Some events are inlined, without a call that is given the place of the result, which then stays in registers.
     #[inline(always)]
     #[tactic(auto, using(crate::proofs::AppliedResults::as_event))]
     fn apply_to(&self, world: &mut World) -> Effect {
-        match *self {
+        match *self.0 {
             Event::Load { m, to, from, slot } => load(world, m, to, from, slot),
             Event::Put {
                 m,
@@ -40,13 +44,8 @@ impl IntoEvent for Event {
                 from,
             } => copy(world, m, to, from_m, from),
             Event::Clear { m, r } => clear(world, m, r),
-            _ => Ok(apply_any(world, self)?),
+            _ => Ok(apply_any(world, self.0)?),
         }
-    }
-
-    #[inline(always)]
-    fn into_event(self) -> Event {
-        self
     }
 }
 

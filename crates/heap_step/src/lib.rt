@@ -12,12 +12,14 @@ mod events;
 mod sorts;
 pub mod step;
 
+pub use events::AnyEvent;
 use heap_class::{ClassNo, Fields, Kind, Name, ObjRef, Refusal};
 use heap_mark::Log;
 use heap_region::Storage;
 use heap_sweep::DeadCells;
 pub use sorts::{
-    ClearEvent, IntoEvent, LoadEvent, MarkEvent, MoveEvent, NewEvent, PutEvent, StoreEvent,
+    ApplyEvent, ClearEvent, IntoEvent, LoadEvent, MarkEvent, MoveEvent, NewEvent, PutEvent,
+    StoreEvent,
 };
 use std::mem::size_of;
 pub use step::{apply, apply_sort, weight};

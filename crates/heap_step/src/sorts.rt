@@ -6,8 +6,8 @@ use crate::{Effect, Event};
 use heap_class::ClassNo;
 use heap_world::World;
 
-/// An event, or one whose sort its type tells.
-pub trait IntoEvent: Drop {
+/// An event, or one whose sort its type tells, as it is applied.
+pub trait ApplyEvent: Drop {
     ghost use Rattle.heap_world.specs.Legal.{IsLegal};
     ghost use Rattle.heap_step.specs.declared.Event.{Event};
     ghost use Rattle.heap_step.specs.Laws.{IsApplied};
@@ -18,10 +18,15 @@ pub trait IntoEvent: Drop {
     fn apply_to(&self, world: &mut World) -> Effect
         requires { IsLegal world.old }
         ensures { IsApplied (event self.now) world.old world.new result };
+}
+
+/// An event whose sort its type tells.
+pub trait IntoEvent: ApplyEvent {
+    ghost use Rattle.std.specs.Prelude.{◌≡◌};
 
     /// Returns the event.
     fn into_event(self) -> Event
-        ensures { result ≡ event self };
+        ensures { result ≡ Self.event self };
 }
 
 /// `Event::New`.
@@ -32,7 +37,7 @@ pub struct NewEvent {
     pub class: ClassNo,
 }
 
-impl IntoEvent for NewEvent {
+impl ApplyEvent for NewEvent {
     ghost use Rattle.heap_step.specs.declared.Event.{Event};
 
     ghost event = { λ e. Event.New e.m e.r e.class };
@@ -41,7 +46,9 @@ impl IntoEvent for NewEvent {
     fn apply_to(&self, world: &mut World) -> Effect {
         create(world, self.m, self.r, self.class)
     }
+}
 
+impl IntoEvent for NewEvent {
     #[inline(always)]
     fn into_event(self) -> Event {
         let NewEvent { m, r, class } = self;
@@ -58,7 +65,7 @@ pub struct LoadEvent {
     pub slot: u64,
 }
 
-impl IntoEvent for LoadEvent {
+impl ApplyEvent for LoadEvent {
     ghost use Rattle.heap_step.specs.declared.Event.{Event};
 
     ghost event = { λ e. Event.Load e.m e.to e.from e.slot };
@@ -67,7 +74,9 @@ impl IntoEvent for LoadEvent {
     fn apply_to(&self, world: &mut World) -> Effect {
         load(world, self.m, self.to, self.from, self.slot)
     }
+}
 
+impl IntoEvent for LoadEvent {
     #[inline(always)]
     fn into_event(self) -> Event {
         let LoadEvent { m, to, from, slot } = self;
@@ -84,7 +93,7 @@ pub struct StoreEvent {
     pub source: u64,
 }
 
-impl IntoEvent for StoreEvent {
+impl ApplyEvent for StoreEvent {
     ghost use Rattle.heap_step.specs.declared.Event.{Event};
 
     ghost event = { λ e. Event.Store e.m e.target e.slot e.source };
@@ -93,7 +102,9 @@ impl IntoEvent for StoreEvent {
     fn apply_to(&self, world: &mut World) -> Effect {
         store(world, self.m, self.target, self.slot, self.source)
     }
+}
 
+impl IntoEvent for StoreEvent {
     #[inline(always)]
     fn into_event(self) -> Event {
         let StoreEvent {
@@ -120,7 +131,7 @@ pub struct PutEvent {
     pub value: u64,
 }
 
-impl IntoEvent for PutEvent {
+impl ApplyEvent for PutEvent {
     ghost use Rattle.heap_step.specs.declared.Event.{Event};
 
     ghost event = { λ e. Event.Put e.m e.target e.slot e.value };
@@ -129,7 +140,9 @@ impl IntoEvent for PutEvent {
     fn apply_to(&self, world: &mut World) -> Effect {
         put(world, self.m, self.target, self.slot, self.value)
     }
+}
 
+impl IntoEvent for PutEvent {
     #[inline(always)]
     fn into_event(self) -> Event {
         let PutEvent {
@@ -156,7 +169,7 @@ pub struct MoveEvent {
     pub from: u64,
 }
 
-impl IntoEvent for MoveEvent {
+impl ApplyEvent for MoveEvent {
     ghost use Rattle.heap_step.specs.declared.Event.{Event};
 
     ghost event = { λ e. Event.Move e.m e.to e.from_m e.from };
@@ -165,7 +178,9 @@ impl IntoEvent for MoveEvent {
     fn apply_to(&self, world: &mut World) -> Effect {
         copy(world, self.m, self.to, self.from_m, self.from)
     }
+}
 
+impl IntoEvent for MoveEvent {
     #[inline(always)]
     fn into_event(self) -> Event {
         let MoveEvent {
@@ -190,7 +205,7 @@ pub struct ClearEvent {
     pub r: u64,
 }
 
-impl IntoEvent for ClearEvent {
+impl ApplyEvent for ClearEvent {
     ghost use Rattle.heap_step.specs.declared.Event.{Event};
 
     ghost event = { λ e. Event.Clear e.m e.r };
@@ -199,7 +214,9 @@ impl IntoEvent for ClearEvent {
     fn apply_to(&self, world: &mut World) -> Effect {
         clear(world, self.m, self.r)
     }
+}
 
+impl IntoEvent for ClearEvent {
     #[inline(always)]
     fn into_event(self) -> Event {
         let ClearEvent { m, r } = self;
@@ -211,7 +228,7 @@ impl IntoEvent for ClearEvent {
 #[derive(Clone, Copy)]
 pub struct MarkEvent;
 
-impl IntoEvent for MarkEvent {
+impl ApplyEvent for MarkEvent {
     ghost use Rattle.heap_step.specs.declared.Event.{Event};
 
     ghost event = { λ e. Event.Mark };
@@ -220,7 +237,9 @@ impl IntoEvent for MarkEvent {
     fn apply_to(&self, world: &mut World) -> Effect {
         mark(world)
     }
+}
 
+impl IntoEvent for MarkEvent {
     #[inline(always)]
     fn into_event(self) -> Event {
         Event::Mark

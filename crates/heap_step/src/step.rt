@@ -9,7 +9,8 @@ ghost use Rattle.heap_step.specs.Apply.{refusal_of, state_after, applied, event_
 ghost use Rattle.heap_step.specs.Records.{undo_record, weight};
 ghost use Rattle.heap_step.specs.Laws.{IsApplied, IsLight, IsStep, StaysFound};
 
-use crate::sorts::IntoEvent;
+use crate::events::AnyEvent;
+use crate::sorts::ApplyEvent;
 use crate::{Effect, Event, Undo};
 use heap_world::World;
 
@@ -33,12 +34,12 @@ pub fn apply(world: &mut World, event: &Event) -> Effect
     ensures found { OnOk result (StaysFound world.old world.new) }
 {
     let _phase = world.phase();
-    event.apply_to(world)
+    AnyEvent(event).apply_to(world)
 }
 
 /// Applies an event whose sort its type tells, as `apply` does.
 #[inline(always)]
-pub fn apply_sort<E: IntoEvent>(world: &mut World, event: &E) -> Effect
+pub fn apply_sort<E: ApplyEvent>(world: &mut World, event: &E) -> Effect
     ensures legal { IsLegal world.new }
     ensures effect { IsApplied (E.event event.now) world.old world.new result }
     ensures done { IfOk result

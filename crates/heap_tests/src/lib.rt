@@ -1,5 +1,10 @@
-//! Calls of heap_class, hprof_text, heap_world and heap_trail, and a worked example of the barrier.
+//! The tests in Rattle, of what no session in a file shows. They are one crate, since the drop of each library's types is
+//! proved again in each program.
 #![tactic(auto)]
 
 #[cfg(test)]
-mod tests;
+mod calls;
+#[cfg(test)]
+mod locked;
+#[cfg(test)]
+mod outlets;

@@ -39,7 +39,7 @@ pub use examples::worked_examples;
 use heap_class::{IdSize, Refusal};
 use heap_pins::touched_region;
 use heap_step::step::undo;
-use heap_step::{Answer, Event, IntoEvent, Undo, apply_sort, undo_takes_back};
+use heap_step::{Answer, AnyEvent, ApplyEvent, Event, Undo, apply_sort, undo_takes_back};
 use heap_world::{Config, World};
 use held::NumberedPin;
 use hprof_text::Piece;
@@ -250,12 +250,12 @@ impl Machine {
         ensures finds { OnOk result
             (event.now ≡ Finish → FindsSnapshot self.old.trail.past self.new.trail.current) }
     {
-        self.step_sort(event)
+        self.step_sort(&AnyEvent(event))
     }
 
     // Takes a step whose sort its type tells, as `step` does.
     #[inline(always)]
-    fn step_sort<E: IntoEvent>(&mut self, event: &E) -> Result<Answer, Refusal>
+    fn step_sort<E: ApplyEvent>(&mut self, event: &E) -> Result<Answer, Refusal>
         ensures done { IfOk result
             (λ a. MayReply self.old (Step (E.event event.now)) self.new (Answered a)) }
         ensures refused { IfErr result
@@ -324,7 +324,7 @@ impl Machine {
 
     /// Takes a step and returns its reply, as `act` does.
     #[inline(always)]
-    pub fn reply_to<E: IntoEvent>(&mut self, event: &E) -> Reply
+    pub fn reply_to<E: ApplyEvent>(&mut self, event: &E) -> Reply
         ensures reply { MayReply self.old (Step (E.event event.now)) self.new result }
         ensures small { IsSmall result }
     {
@@ -341,7 +341,7 @@ impl Machine {
         ensures small { IsSmall result }
     {
         match action {
-            Action::Step(event) => self.reply_to(event),
+            Action::Step(event) => self.reply_to(&AnyEvent(event)),
             Action::Rewind(n) => match self.rewind(*n) {
                 Ok(place) => Reply::Place(place),
                 Err(refusal) => Reply::Refused(refusal),

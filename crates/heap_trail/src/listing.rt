@@ -8,7 +8,7 @@ use crate::held::{Held, NumberedPin};
 use heap_class::LostCause;
 
 /// Whether a pin is kept.
-#[derive(Clone, Copy, PartialEq, Eq)]
+#[derive(Clone, Copy)]
 pub enum PinStatus {
     /// The pin shows the state at `place`, and `given` pieces of its dump were given.
     Kept { place: u64, given: u64 },
@@ -17,7 +17,7 @@ pub enum PinStatus {
 }
 
 /// An open pin: its number and whether it is kept.
-#[derive(Clone, Copy, PartialEq, Eq)]
+#[derive(Clone, Copy)]
 pub struct ListedPin {
     pub number: u64,
     pub status: PinStatus,

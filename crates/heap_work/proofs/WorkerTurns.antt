@@ -10,7 +10,7 @@ use Rattle.heap_lock.specs.Action.{Action}
 use Rattle.heap_lock.specs.Action.TheVariants.{Step}
 use Rattle.heap_lock.specs.Entry.{Entry}
 use Rattle.heap_lock.specs.Outcome.{Outcome}
-use Rattle.heap_lock.specs.declared.receipt.Receipt.{Receipt}
+use Rattle.heap_lock.specs.Receipt.{Receipt}
 use Rattle.heap_lock.specs.History.{entry}
 use Rattle.heap_lock.specs.LockStates.{Chair, Stands, with_entry}
 use Rattle.heap_work.specs.declared.MarkEnd.{MarkEnd}

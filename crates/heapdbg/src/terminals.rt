@@ -2,7 +2,7 @@
 use question_text::Watch;
 
 /// The standard streams of the program that are terminals.
-#[derive(Clone, Copy, PartialEq, Eq)]
+#[derive(Clone, Copy)]
 pub struct Terminals {
     /// Standard input.
     pub input: bool,

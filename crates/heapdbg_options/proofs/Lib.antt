@@ -2,3 +2,4 @@ pub mod Words
 pub mod AskedSettings
 pub mod GivenOptions
 pub mod MadeParsers
+pub mod NamedTasks

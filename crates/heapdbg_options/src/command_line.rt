@@ -1,44 +1,27 @@
 //! Reads the command line.
-ghost use Rattle.std.specs.Prelude.{◌≡◌, None, Some, codes, false, IfOk, IfErr, IfSome};
+ghost use Rattle.std.specs.Prelude.{◌≡◌, None, Some, false, IfOk, IfErr, IfSome};
 ghost use Rattle.std.specs.List.{list_all};
 ghost use Rattle.std.specs.Prelude.{option_and_then};
 ghost use Rattle.std.specs.Char.{is_ascii_digit};
-ghost use Rattle.clap.specs.Words.{FailsBy, app_of, fault_of, found_of, kind_of, rows_of};
+ghost use Rattle.clap.specs.Words.{FailsBy, app_of, fault_of, found_of, kind_of, rows_of, subcommand_of, subcommand_rows_of};
 ghost use Rattle.clap.specs.declared.builder.Command.TheViews.{out-Command};
-ghost use Rattle.clap.specs.Words.{App, new_app, rule_of, subcommand_of, subcommand_rows_of, with_rule, with_subcommand};
 ghost use Rattle.heapdbg_options.specs.Parsers.{IsParserOf};
-ghost use Rattle.heapdbg_options.specs.CommandLine.{AreSettingsWithin, HasDefaults, IsBadWith, heap_line, heapdbg_line, named_line, number_in};
+ghost use Rattle.heapdbg_options.specs.CommandLine.{AreSettingsWithin, HasDefaults, IsBadWith, heapdbg_line, named_line, number_in};
 ghost use Rattle.heapdbg_options.specs.CommandLine.{settings_in, settings_of, settings_under, texts, option_value};
-ghost use Rattle.heapdbg_options.specs.CommandLine.{id_size_in, id_size_of, flag_in, out_option, path_of, session_line, task_in, value_option};
-ghost use Rattle.heapdbg_options.specs.Refusals.{IsMistake, IsMistakeIn, IsRefusalOf, version_text};
+ghost use Rattle.heapdbg_options.specs.CommandLine.{id_size_in, id_size_of, flag_in, path_of, task_in};
+ghost use Rattle.heapdbg_options.specs.Refusals.{IsMistake, IsMistakeIn, IsRefusalOf, IsValueOrMistake, version_text};
 
+use crate::option_rows::{CommandRow, with_commands};
 use crate::refusal::{Mistake, VERSION, version};
-use crate::save_options::{save_parser, save_task};
-use crate::session_options::{draw_parser, explore_parser, explore_task, run_parser};
+use crate::save_options::{SAVE, save_task};
+use crate::session_options::{DRAW, EXPLORE, RUN, explore_task};
 use crate::settings::{LineFault, Settings, Task};
-use crate::socket_options::{
-    ask_parser, ask_task, fetch_parser, fetch_task, serve_parser, serve_task,
-};
+use crate::socket_options::{ASK, FETCH, SERVE, ask_task, fetch_task, serve_task};
 use clap::error::ErrorKind;
-use clap::{Arg, ArgAction, ArgMatches, Command, Error};
+use clap::{ArgMatches, Command, Error};
 use heap_class::IdSize;
 use heap_world::{KEEP_LIMIT, MUTATOR_LIMIT, REGION_LIMIT};
 use std::alloc::{AllocError, Global};
-
-// The help for `--time`.
-const TIME_HELP: &str = "Milliseconds since 1970 in the header of a dump [default: 0]";
-
-// The help for `--ids`.
-const IDS_HELP: &str = "Bytes of an identifier in a dump, 4 or 8 [default: 8]";
-
-// The help for `--regions`.
-const REGIONS_HELP: &str = "Regions of the heap, 1 to 256 [default: 16]";
-
-// The help for `--mutators`.
-const MUTATORS_HELP: &str = "Mutators of the heap, 1 to 16 [default: 2]";
-
-// The help for `--keep`.
-const KEEP_HELP: &str = "Steps that can be undone, 1 to 65536 [default: 1024]";
 
 /// Returns the settings that the words ask for, the first of which is the program's name. Fails with Bad if they are no
 /// command line of this program or ask for help or for the version, and with Memory only if an allocation fails.
@@ -81,17 +64,14 @@ fn parse<'a>(alloc: Global, words: &'a [&'a str]) -> Result<ArgMatches<'a>, Erro
     parser.try_get_matches_from(words)
 }
 
+// The commands, in the order of help.
+const COMMANDS: [CommandRow; 7] = [RUN, EXPLORE, SAVE, DRAW, SERVE, ASK, FETCH];
+
 // Creates the parser of the command line: the program's name, and a command that has to follow.
 fn parser<'a>(alloc: Global) -> Result<Command<'a>, AllocError>
     ensures { IsParserOf heapdbg_line result }
 {
-    let run = with_command(Ok(named_parser(alloc)), run_parser(alloc));
-    let explore = with_command(run, explore_parser(alloc));
-    let save = with_command(explore, save_parser(alloc));
-    let draw = with_command(save, draw_parser(alloc));
-    let serve = with_command(draw, serve_parser(alloc));
-    let ask = with_command(serve, ask_parser(alloc));
-    with_command(ask, fetch_parser(alloc))
+    with_commands(alloc, named_parser(alloc), &COMMANDS)
 }
 
 // Creates the parser of the program's name.
@@ -104,140 +84,24 @@ fn named_parser<'a>(alloc: Global) -> Command<'a>
         .subcommand_required(true)
 }
 
-// Adds a command, if both parsers could be made.
-fn with_command<'a>(
-    parser: Result<Command<'a>, AllocError>,
-    command: Result<Command<'a>, AllocError>,
-) -> Result<Command<'a>, AllocError>
-    ensures { (line other : App)
-        → IsParserOf line parser.entry
-        → IsParserOf other command.entry
-        → IsParserOf (with_subcommand line other.top) result }
-{
-    parser?.subcommand(command?)
-}
-
-// Adds an option, if the parser could be made.
-pub(crate) fn with_option<'a>(
-    parser: Result<Command<'a>, AllocError>,
-    option: Arg<'a>,
-) -> Result<Command<'a>, AllocError>
-    requires { option.global ≡ false }
-    ensures { (line : App)
-        → IsParserOf line parser.entry
-        → IsParserOf (with_rule line (rule_of option.entry)) result }
-{
-    parser?.arg(option)
-}
-
-// Has help show this usage, if the parser could be made.
-pub(crate) fn with_usage<'a>(
-    parser: Result<Command<'a>, AllocError>,
-    usage: &'a str,
-) -> Result<Command<'a>, AllocError>
-    ensures { (line : App) → IsParserOf line parser.entry → IsParserOf line result }
-{
-    Ok(parser?.override_usage(usage))
-}
-
-// Creates the parser of a command that has no option.
-pub(crate) fn command_parser<'a>(alloc: Global, name: &'a str, about: &'a str) -> Command<'a>
-    ensures app { app_of result ≡ new_app name.entry.now }
-    ensures local { (out-Command result).has_globals ≡ false }
-{
-    Command::new(alloc, name).about(about)
-}
-
-// Creates the parser of a command that opens a heap, with the options for the heap, its history and its dumps.
-pub(crate) fn session_parser<'a>(
-    alloc: Global,
-    name: &'a str,
-    about: &'a str,
-) -> Result<Command<'a>, AllocError>
-    ensures { IsParserOf (session_line name.entry.now) result }
-{
-    let heap = heap_parser(alloc, name, about);
-    let timed = with_option(heap, value_arg(alloc, "time", TIME_HELP));
-    with_option(timed, value_arg(alloc, "ids", IDS_HELP))
-}
-
-// Creates the parser of a command with the options for the size of the heap and its history.
-fn heap_parser<'a>(alloc: Global, name: &'a str, about: &'a str) -> Result<Command<'a>, AllocError>
-    ensures { IsParserOf (heap_line name.entry.now) result }
-{
-    let named = command_parser(alloc, name, about);
-    let sized = with_option(Ok(named), value_arg(alloc, "regions", REGIONS_HELP));
-    let shared = with_option(sized, value_arg(alloc, "mutators", MUTATORS_HELP));
-    with_option(shared, value_arg(alloc, "keep", KEEP_HELP))
-}
-
-// Creates the option `--NAME PATH`.
-pub(crate) fn path_arg<'a>(alloc: Global, name: &'a str, help: &'a str) -> Arg<'a>
-    ensures rule { rule_of result ≡ value_option name.entry.now }
-    ensures local { result.global ≡ false }
-{
-    option_arg(alloc, name, "PATH", help)
-}
-
-// Creates the option `--out PATH`, which has to be given.
-pub(crate) fn out_arg<'a>(alloc: Global, help: &'a str) -> Arg<'a>
-    ensures rule { rule_of result ≡ out_option }
-    ensures local { result.global ≡ false }
-{
-    path_arg(alloc, "out", help).required(true)
-}
-
-// Creates the option `--NAME N`.
-pub(crate) fn value_arg<'a>(alloc: Global, name: &'a str, help: &'a str) -> Arg<'a>
-    ensures rule { rule_of result ≡ value_option name.entry.now }
-    ensures local { result.global ≡ false }
-{
-    option_arg(alloc, name, "N", help)
-}
-
-// Creates the option `--NAME VALUE`.
-fn option_arg<'a>(alloc: Global, name: &'a str, value: &'a str, help: &'a str) -> Arg<'a>
-    ensures rule { rule_of result ≡ value_option name.entry.now }
-    ensures local { result.global ≡ false }
-{
-    Arg::new(alloc, name)
-        .long(name)
-        .action(ArgAction::Set)
-        .value_name(value)
-        .help(help)
-}
-
-// Creates the option `--questions N`.
-pub(crate) fn questions_arg<'a>(alloc: Global) -> Arg<'a>
-    ensures rule { rule_of result ≡ value_option (codes "questions") }
-    ensures local { result.global ≡ false }
-{
-    let help = "Whether questions are answered, 0 or 1 [default: 0]";
-    value_arg(alloc, "questions", help)
-}
-
 // Returns the settings that the matches ask for, or the mistake in them.
 fn settings_of_matches(matches: &ArgMatches<'_>) -> Result<Settings, Mistake>
-    ensures ok { IfOk result
-        (λ s. option_and_then settings_under (subcommand_rows_of matches.now) ≡ Some s) }
-    ensures none { IfErr result
-        (λ m. option_and_then settings_under (subcommand_rows_of matches.now) ≡ None) }
-    ensures mistake { IfErr result (λ m. IsMistake m (subcommand_rows_of matches.now)) }
+    ensures { IsValueOrMistake (option_and_then settings_under (subcommand_rows_of matches.now))
+        (λ m. IsMistake m (subcommand_rows_of matches.now)) result }
 {
     let Some((name, options)) = matches.subcommand() else {
         return Err(Mistake::Command);
     };
-    let task = task_of(name, options)?;
-    settings_from(task, options)
+    match task_of(name, options) {
+        Ok(task) => settings_from(task, options),
+        Err(mistake) => Err(mistake),
+    }
 }
 
 // Returns the task of a command's name and options, or the mistake in them.
 fn task_of(name: &str, options: &ArgMatches<'_>) -> Result<Task, Mistake>
-    ensures ok { IfOk result
-        (λ task. task_in name.now (rows_of (found_of options.now)) ≡ Some task) }
-    ensures none { IfErr result (λ m. task_in name.now (rows_of (found_of options.now)) ≡ None) }
-    ensures mistake { IfErr result
-        (λ m. IsMistake m (Some (name.now, rows_of (found_of options.now)))) }
+    ensures { IsValueOrMistake (task_in name.now (rows_of (found_of options.now)))
+        (λ m. IsMistake m (Some (name.now, rows_of (found_of options.now)))) result }
 {
     if name == "run" {
         return Ok(Task::Run);
@@ -266,9 +130,8 @@ fn task_of(name: &str, options: &ArgMatches<'_>) -> Result<Task, Mistake>
 
 // Returns the settings of a task's options, or the option whose value is out of its range.
 fn settings_from(task: Task, options: &ArgMatches<'_>) -> Result<Settings, Mistake>
-    ensures ok { IfOk result (λ s. settings_in task (rows_of (found_of options.now)) ≡ Some s) }
-    ensures none { IfErr result (λ m. settings_in task (rows_of (found_of options.now)) ≡ None) }
-    ensures mistake { IfErr result (λ m. IsMistakeIn m (rows_of (found_of options.now))) }
+    ensures { IsValueOrMistake (settings_in task (rows_of (found_of options.now)))
+        (λ m. IsMistakeIn m (rows_of (found_of options.now))) result }
 {
     let Some(regions) = option_value(options, "regions", 16, 1, REGION_LIMIT) else {
         return Err(Mistake::Regions);

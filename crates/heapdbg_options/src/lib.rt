@@ -3,6 +3,7 @@
 
 pub mod command_line;
 pub mod line_words;
+mod option_rows;
 pub mod refusal;
 mod save_options;
 mod session_options;

@@ -1,38 +1,41 @@
 //! The command line of a session that is saved.
 ghost use Rattle.std.specs.Prelude.{option_map};
 ghost use Rattle.clap.specs.Words.{found_of, rows_of};
-ghost use Rattle.heapdbg_options.specs.Parsers.{IsParserOf};
-ghost use Rattle.heapdbg_options.specs.CommandLine.{save_in, save_line, target_in};
+ghost use Rattle.heapdbg_options.specs.CommandLine.{save_in, target_in};
 ghost use Rattle.heapdbg_options.specs.Refusals.{IsChoiceOrMistake, IsTargetMistake, IsTaskOrMistake};
 
-use crate::command_line::{
-    path_arg, questions_arg, session_parser, value_arg, with_option, with_usage,
-};
+use crate::option_rows::{CommandRow, IDS, KEEP, MUTATORS, OptionRow, QUESTIONS, REGIONS, TIME};
 use crate::refusal::Mistake;
 use crate::settings::{Target, Task};
 use crate::socket_options::port_of;
-use clap::{ArgMatches, Command};
-use std::alloc::{AllocError, Global};
+use clap::ArgMatches;
 
-// The help for `--out`.
-const OUT_HELP: &str = "File that the last state is dumped to; if not given, --to is required";
-
-// The help for `--to`.
-const TO_HELP: &str =
-    "Port on 127.0.0.1 that the last state is dumped to, 1 to 65535; if not given, --out is required";
-
-// Creates the parser of the command `save`.
-pub(crate) fn save_parser<'a>(alloc: Global) -> Result<Command<'a>, AllocError>
-    ensures { IsParserOf save_line result }
-{
-    let about =
-        "Runs a session, and dumps the state that it leaves; one of --out and --to is required";
-    let usage = "heapdbg save [OPTIONS] <--out <PATH>|--to <N>>";
-    let session = with_usage(session_parser(alloc, "save", about), usage);
-    let to_file = with_option(session, path_arg(alloc, "out", OUT_HELP));
-    let placed = with_option(to_file, value_arg(alloc, "to", TO_HELP));
-    with_option(placed, questions_arg(alloc))
-}
+// The command `save`.
+pub(crate) const SAVE: CommandRow = CommandRow {
+    name: "save",
+    about: "Runs a session, and dumps the state that it leaves; one of --out and --to is required",
+    usage: Some("heapdbg save [OPTIONS] <--out <PATH>|--to <N>>"),
+    options: &[
+        REGIONS,
+        MUTATORS,
+        KEEP,
+        TIME,
+        IDS,
+        OptionRow {
+            name: "out",
+            value: "PATH",
+            help: "File that the last state is dumped to; if not given, --to is required",
+            is_required: false,
+        },
+        OptionRow {
+            name: "to",
+            value: "N",
+            help: "Port on 127.0.0.1 that the last state is dumped to, 1 to 65535; if not given, --out is required",
+            is_required: false,
+        },
+        QUESTIONS,
+    ],
+};
 
 // Returns the task of the options of `save`: one of the two places has to be given.
 pub(crate) fn save_task(options: &ArgMatches<'_>) -> Result<Task, Mistake>

@@ -1,56 +1,68 @@
 //! The command lines of the tasks between standard input and standard output.
 ghost use Rattle.std.specs.Prelude.{option_map};
 ghost use Rattle.clap.specs.Words.{found_of, rows_of};
-ghost use Rattle.heapdbg_options.specs.Parsers.{IsParserOf};
-ghost use Rattle.heapdbg_options.specs.CommandLine.{draw_line, explore_in, explore_line, explore_with, run_line};
+ghost use Rattle.heapdbg_options.specs.CommandLine.{explore_in, explore_with};
 ghost use Rattle.heapdbg_options.specs.Refusals.{IsChoiceOrMistake, IsExploreMistake, IsTaskOrMistake};
 
-use crate::command_line::{
-    out_arg, path_arg, questions_arg, session_parser, value_arg, with_option,
-};
+use crate::option_rows::{CommandRow, IDS, KEEP, MUTATORS, OptionRow, QUESTIONS, REGIONS, TIME};
 use crate::refusal::Mistake;
 use crate::settings::Task;
 use crate::socket_options::port_of;
-use clap::{ArgMatches, Command};
-use std::alloc::{AllocError, Global};
+use clap::ArgMatches;
 
-// Creates the parser of the command `run`.
-pub(crate) fn run_parser<'a>(alloc: Global) -> Result<Command<'a>, AllocError>
-    ensures { IsParserOf run_line result }
-{
-    let about = "Reads commands from standard input and writes replies to standard output";
-    with_option(session_parser(alloc, "run", about), questions_arg(alloc))
-}
+// The command `run`.
+pub(crate) const RUN: CommandRow = CommandRow {
+    name: "run",
+    about: "Reads commands from standard input and writes replies to standard output",
+    usage: None,
+    options: &[REGIONS, MUTATORS, KEEP, TIME, IDS, QUESTIONS],
+};
 
-// The help for `--port`.
-const ASK_PORT_HELP: &str =
-    "Port on 127.0.0.1 of a heap that is served, to ask about that, 1 to 65535; not with --from";
+// The command `explore`.
+pub(crate) const EXPLORE: CommandRow = CommandRow {
+    name: "explore",
+    about: "Reads commands and questions from standard input and writes answers to standard output",
+    usage: None,
+    options: &[
+        REGIONS,
+        MUTATORS,
+        KEEP,
+        TIME,
+        IDS,
+        OptionRow {
+            name: "from",
+            value: "PATH",
+            help: "File of lines that are run first; their replies are not shown",
+            is_required: false,
+        },
+        OptionRow {
+            name: "port",
+            value: "N",
+            help: "Port on 127.0.0.1 of a heap that is served, to ask about that, 1 to 65535; not with --from",
+            is_required: false,
+        },
+    ],
+};
 
-// The help for `--from`.
-const FROM_HELP: &str = "File of lines that are run first; their replies are not shown";
-
-// Creates the parser of the command `explore`.
-pub(crate) fn explore_parser<'a>(alloc: Global) -> Result<Command<'a>, AllocError>
-    ensures { IsParserOf explore_line result }
-{
-    let about =
-        "Reads commands and questions from standard input and writes answers to standard output";
-    let session = session_parser(alloc, "explore", about);
-    let filled = with_option(session, path_arg(alloc, "from", FROM_HELP));
-    with_option(filled, value_arg(alloc, "port", ASK_PORT_HELP))
-}
-
-// Creates the parser of the command `draw`.
-pub(crate) fn draw_parser<'a>(alloc: Global) -> Result<Command<'a>, AllocError>
-    ensures { IsParserOf draw_line result }
-{
-    let about = "Runs a session, and draws the regions of the state that it leaves";
-    let session = session_parser(alloc, "draw", about);
-    with_option(
-        session,
-        out_arg(alloc, "File that the picture goes to, as SVG"),
-    )
-}
+// The command `draw`.
+pub(crate) const DRAW: CommandRow = CommandRow {
+    name: "draw",
+    about: "Runs a session, and draws the regions of the state that it leaves",
+    usage: None,
+    options: &[
+        REGIONS,
+        MUTATORS,
+        KEEP,
+        TIME,
+        IDS,
+        OptionRow {
+            name: "out",
+            value: "PATH",
+            help: "File that the picture goes to, as SVG",
+            is_required: true,
+        },
+    ],
+};
 
 // Returns the task of the options of `explore`, or the mistake in them: a file of lines is run first, or the questions are about
 // a heap that is served.

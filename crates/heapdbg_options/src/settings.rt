@@ -8,7 +8,7 @@ use std::fmt;
 use thiserror::Error;
 
 /// The place for the dump of a save.
-#[derive(Clone, Copy, PartialEq, Eq)]
+#[derive(Clone, Copy)]
 pub enum Target {
     /// In the file that the command line names.
     Out,
@@ -17,7 +17,7 @@ pub enum Target {
 }
 
 /// A task of the program.
-#[derive(Clone, Copy, PartialEq, Eq)]
+#[derive(Clone, Copy)]
 pub enum Task {
     /// Runs one session between standard input and standard output.
     Run,
@@ -54,7 +54,7 @@ pub enum Task {
 }
 
 /// The task, and the value of each option.
-#[derive(Clone, Copy, PartialEq, Eq)]
+#[derive(Clone, Copy)]
 pub struct Settings {
     /// The task.
     pub task: Task,

@@ -1,18 +1,14 @@
 //! The command lines of the tasks over sockets.
-ghost use Rattle.std.specs.Prelude.{◌≡◌, codes, false, option_and_then};
-ghost use Rattle.clap.specs.Words.{first_of, found_of, rows_of, rule_of};
-ghost use Rattle.heapdbg_options.specs.Parsers.{IsParserOf};
-ghost use Rattle.heapdbg_options.specs.CommandLine.{ask_in, ask_line, dumps_with, fetch_in, fetch_line, number_in, other_port, port_in, port_limit, port_option, serve_in, serve_line, staffed_line};
+ghost use Rattle.std.specs.Prelude.{◌≡◌, codes, option_and_then};
+ghost use Rattle.clap.specs.Words.{first_of, found_of, rows_of};
+ghost use Rattle.heapdbg_options.specs.CommandLine.{ask_in, dumps_with, fetch_in, number_in, other_port, port_in, port_limit, serve_in};
 ghost use Rattle.heapdbg_options.specs.Refusals.{IsTaskOrMistake};
 
-use crate::command_line::{
-    command_parser, number, option_value, out_arg, questions_arg, session_parser, value_arg,
-    with_option,
-};
+use crate::command_line::{number, option_value};
+use crate::option_rows::{CommandRow, IDS, KEEP, MUTATORS, OptionRow, QUESTIONS, REGIONS, TIME};
 use crate::refusal::Mistake;
 use crate::settings::Task;
-use clap::{Arg, ArgMatches, Command};
-use std::alloc::{AllocError, Global};
+use clap::ArgMatches;
 
 // The highest port.
 const PORT_LIMIT: u64 = 65535;
@@ -23,65 +19,77 @@ const SESSION_LIMIT: u64 = 1000;
 // The largest number of markers, and of sweepers.
 const WORKER_LIMIT: u64 = 1;
 
-// The help for `--dumps`.
-const DUMPS_HELP: &str =
-    "Port on 127.0.0.1 that sends a dump to each client, 1 to 65535 [default: none]";
+// The option `--port N`, which has to be given.
+const PORT: OptionRow = OptionRow {
+    name: "port",
+    value: "N",
+    help: "Port on 127.0.0.1, 1 to 65535",
+    is_required: true,
+};
 
-// The help for `--roll`.
-const ROLL_HELP: &str =
-    "Whether the heap drops old acts in place of refusing new ones, 0 or 1 [default: 0]";
+// The command `serve`.
+pub(crate) const SERVE: CommandRow = CommandRow {
+    name: "serve",
+    about: "Serves sessions over one heap to clients on 127.0.0.1, and tells how each ended",
+    usage: None,
+    options: &[
+        REGIONS,
+        MUTATORS,
+        KEEP,
+        TIME,
+        IDS,
+        PORT,
+        OptionRow {
+            name: "sessions",
+            value: "N",
+            help: "Sessions over the one heap, 1 to 1000 [default: 1]",
+            is_required: false,
+        },
+        OptionRow {
+            name: "workers",
+            value: "N",
+            help: "Threads that mark, and threads that sweep, 0 or 1 of each [default: 0]",
+            is_required: false,
+        },
+        OptionRow {
+            name: "dumps",
+            value: "N",
+            help: "Port on 127.0.0.1 that sends a dump to each client, 1 to 65535 [default: none]",
+            is_required: false,
+        },
+        QUESTIONS,
+        OptionRow {
+            name: "roll",
+            value: "N",
+            help: "Whether the heap drops old acts in place of refusing new ones, 0 or 1 [default: 0]",
+            is_required: false,
+        },
+    ],
+};
 
-// The help for `--sessions`.
-const SESSIONS_HELP: &str = "Sessions over the one heap, 1 to 1000 [default: 1]";
+// The command `ask`.
+pub(crate) const ASK: CommandRow = CommandRow {
+    name: "ask",
+    about: "Sends standard input to a session that is served, and copies what comes back to standard output",
+    usage: None,
+    options: &[PORT],
+};
 
-// The help for `--workers`.
-const WORKERS_HELP: &str = "Threads that mark, and threads that sweep, 0 or 1 of each [default: 0]";
-
-// Creates the parser of the command `serve`.
-pub(crate) fn serve_parser<'a>(alloc: Global) -> Result<Command<'a>, AllocError>
-    ensures { IsParserOf serve_line result }
-{
-    let dumping = with_option(staffed_parser(alloc), value_arg(alloc, "dumps", DUMPS_HELP));
-    let asked = with_option(dumping, questions_arg(alloc));
-    with_option(asked, value_arg(alloc, "roll", ROLL_HELP))
-}
-
-// Creates the parser of the command `serve` with its port, its sessions and its workers.
-fn staffed_parser<'a>(alloc: Global) -> Result<Command<'a>, AllocError>
-    ensures { IsParserOf staffed_line result }
-{
-    let about = "Serves sessions over one heap to clients on 127.0.0.1, and tells how each ended";
-    let session = session_parser(alloc, "serve", about);
-    let served = with_option(session, port_arg(alloc));
-    let shared = with_option(served, value_arg(alloc, "sessions", SESSIONS_HELP));
-    with_option(shared, value_arg(alloc, "workers", WORKERS_HELP))
-}
-
-// Creates the parser of the command `ask`.
-pub(crate) fn ask_parser<'a>(alloc: Global) -> Result<Command<'a>, AllocError>
-    ensures { IsParserOf ask_line result }
-{
-    let about =
-        "Sends standard input to a session that is served, and copies what comes back to standard output";
-    with_option(Ok(command_parser(alloc, "ask", about)), port_arg(alloc))
-}
-
-// Creates the parser of the command `fetch`.
-pub(crate) fn fetch_parser<'a>(alloc: Global) -> Result<Command<'a>, AllocError>
-    ensures { IsParserOf fetch_line result }
-{
-    let named = command_parser(alloc, "fetch", "Fetches a dump of a heap that is served");
-    let served = with_option(Ok(named), port_arg(alloc));
-    with_option(served, out_arg(alloc, "File that the dump goes to"))
-}
-
-// Creates the option `--port N`, which has to be given.
-fn port_arg<'a>(alloc: Global) -> Arg<'a>
-    ensures rule { rule_of result ≡ port_option }
-    ensures local { result.global ≡ false }
-{
-    value_arg(alloc, "port", "Port on 127.0.0.1, 1 to 65535").required(true)
-}
+// The command `fetch`.
+pub(crate) const FETCH: CommandRow = CommandRow {
+    name: "fetch",
+    about: "Fetches a dump of a heap that is served",
+    usage: None,
+    options: &[
+        PORT,
+        OptionRow {
+            name: "out",
+            value: "PATH",
+            help: "File that the dump goes to",
+            is_required: true,
+        },
+    ],
+};
 
 // Returns the task of the options of `serve`, or the mistake in them.
 pub(crate) fn serve_task(options: &ArgMatches<'_>) -> Result<Task, Mistake>

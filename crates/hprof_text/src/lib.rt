@@ -46,7 +46,7 @@ pub struct Piece {
 }
 
 /// The place in a dump at which its next piece begins.
-#[derive(Clone, Copy, PartialEq, Eq, Debug)]
+#[derive(Clone, Copy)]
 pub enum Cursor {
     /// Before the first piece.
     Start,
@@ -129,7 +129,7 @@ pub fn piece_of<V: View>(alloc: Global, view: &V, index: u64, time: u64) -> Resu
 {
     let mut cursor = Cursor::Start;
     for _passed in 0..index {
-        if cursor == Cursor::Past {
+        if matches!(cursor, Cursor::Past) {
             break;
         }
         let (_piece, next) = piece_from(alloc, view, cursor, time)?;

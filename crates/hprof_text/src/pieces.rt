@@ -43,6 +43,7 @@ impl Segment {
     }
 
     // Offers the sub-records of a view's objects from a place on. Returns the cursor at the first that wasn't taken.
+    #[inline(always)]
     fn fill_objects<V: View>(&mut self, view: &V, from: Option<ObjRef>) -> Option<Cursor>
         requires { (n : ℕ) × (from ≡ slice_get (V.places view.now) n)
             × (n ≤ length (V.places view.now)) }

@@ -20,7 +20,7 @@ const ROOT_STICKY_CLASS: u8 = 0x05;
 const ROOT_UNKNOWN: u8 = 0xff;
 
 /// A section whose items have numbers.
-#[derive(Clone, Copy, PartialEq, Eq, Debug)]
+#[derive(Clone, Copy)]
 pub enum NumberedSection {
     /// The sub-record of each class.
     ClassDumps,

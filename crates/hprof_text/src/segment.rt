@@ -165,7 +165,7 @@ impl Segment {
         }
     }
 
-    /// Offers a view's item of a section by its number, and tells whether it was taken. An item that has no sub-record is.
+    /// Offers a view's item of a section by its number, and tells whether it was taken. One that has no sub-record counts as taken.
     pub fn offer_item<V: View>(&mut self, view: &V, section: NumberedSection, number: u64) -> bool
         requires { number
             < length (items_of (V.ids view.now) (V.image view.now) (Numbered section)) }

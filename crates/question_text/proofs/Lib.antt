@@ -1,5 +1,8 @@
 pub mod Totals
 pub mod RankedRows
+pub mod PathSteps
+pub mod ChangedRows
+pub mod ClassRows
 pub mod PinImages
 pub mod NewWords
 pub mod Comments

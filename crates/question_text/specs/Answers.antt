@@ -1,12 +1,17 @@
 -- The answers of questions.
-use Rattle.std.specs.Prelude.{◌≡◌, ℕ, List, Option, Some, None}
+use Rattle.std.specs.Prelude.{◌≡◌, ℕ, List, Option, Some, None, Result, Ok, Err}
+use Rattle.std.specs.Global.{Vec}
+use Rattle.heap_class.specs.declared.IdSize.{IdSize}
+use Rattle.heap_class.specs.declared.Refusal.{Refusal}
 use Rattle.heap_trail.specs.Machine.{Machine}
+use Rattle.hprof_text.specs.Image.{Image}
+use Rattle.question_text.specs.declared.answers.StateQuestion.{StateQuestion}
 use Rattle.question_text.specs.declared.question.Question.{Question}
 use Rattle.question_text.specs.declared.question.Question.TheVariants.{Histogram, Garbage, Growth, Registers, Classes, Referrers, Path, Show, Born, Wrote, Dropped, History, Pins}
 use Rattle.question_text.specs.Births.{IsBornText}
 use Rattle.question_text.specs.ClassLists.{IsClassesText}
 use Rattle.question_text.specs.Histograms.{IsGarbageText, IsHistogramText}
-use Rattle.question_text.specs.Moments.{IsAnswerAbout, IsAnswerBetween, image_at}
+use Rattle.question_text.specs.Moments.{IsAnswerAbout, IsAnswerBetween, image_at, refused_text}
 use Rattle.question_text.specs.Growths.{IsGrowthText}
 use Rattle.question_text.specs.Comments.{unasked_text}
 use Rattle.question_text.specs.Histories.{IsHistoryText}
@@ -18,6 +23,21 @@ use Rattle.question_text.specs.Registers.{IsRegistersText}
 use Rattle.question_text.specs.Referrers.{IsReferrersText}
 use Rattle.question_text.specs.Questions.{question_of}
 use Rattle.question_text.specs.Writes.{IsWroteText}
+
+-- the text of the answer about an image to what a question asks about one state
+abbrev pub IsStateText : StateQuestion → IdSize → Image → List ℕ → Type 0
+IsStateText StateQuestion.Histogram ids = IsHistogramText ids
+IsStateText StateQuestion.Garbage ids = IsGarbageText ids
+IsStateText StateQuestion.Registers ids = IsRegistersText
+IsStateText StateQuestion.Classes ids = IsClassesText
+IsStateText (StateQuestion.Referrers x) ids = IsReferrersText x
+IsStateText (StateQuestion.Path x) ids = IsPathText x
+IsStateText (StateQuestion.Show x marked) ids = IsShowText x marked
+
+-- what is printed: the lines, or the refusal
+abbrev pub lines_text : Result (Vec ℕ) Refusal → List ℕ
+lines_text (Ok text) = text.items
+lines_text (Err e) = refused_text e
 
 -- the text of a question's answer
 abbrev pub IsAnswer : Question → Machine → List ℕ → Type 0

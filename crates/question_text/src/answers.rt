@@ -2,15 +2,9 @@
 ghost use Rattle.std.specs.Prelude.{◌≡◌};
 ghost use Rattle.heap_pins.specs.Pin.{pin_image};
 ghost use Rattle.session_text.specs.Replies.{line_answer_text};
-ghost use Rattle.question_text.specs.Answers.{IsAnswer, IsAnswerOfLine};
-ghost use Rattle.question_text.specs.ClassLists.{IsClassesText};
-ghost use Rattle.question_text.specs.Histograms.{IsGarbageText, IsHistogramText};
+ghost use Rattle.question_text.specs.Answers.{IsAnswer, IsAnswerOfLine, IsStateText, lines_text};
 ghost use Rattle.question_text.specs.Growths.{IsGrowthText};
-ghost use Rattle.question_text.specs.Objects.{IsShowText, shows_mark};
-ghost use Rattle.question_text.specs.Paths.{IsPathText};
-ghost use Rattle.question_text.specs.Registers.{IsRegistersText};
-ghost use Rattle.question_text.specs.Referrers.{IsReferrersText};
-ghost use Rattle.question_text.specs.Moments.{IsAnswerAbout, IsAnswerBesides, IsAnswerBetween, image_at, told_text};
+ghost use Rattle.question_text.specs.Moments.{IsAnswerAbout, IsAnswerBesides, IsAnswerBetween, IsToldOf, image_at, told_text};
 
 use crate::at::{moment_at, view_of};
 use crate::birth::born_answer;
@@ -28,10 +22,30 @@ use crate::registers::registers_answer;
 use crate::rows::{Unanswered, reason_line};
 use crate::show::{show_answer, shows_mark};
 use crate::write::wrote_answer;
+use heap_class::Refusal;
 use heap_pins::PinView;
 use heap_trail::Machine;
 use session_text::LineAnswer;
 use std::alloc::Global;
+
+// What a question asks about one state.
+#[derive(Clone, Copy)]
+enum StateQuestion {
+    // How many objects there are of each class, and their bytes.
+    Histogram,
+    // The same of the objects that no register reaches.
+    Garbage,
+    // What each register names.
+    Registers,
+    // The classes.
+    Classes,
+    // What names the object with this id.
+    Referrers(u64),
+    // Why the object with this id is alive.
+    Path(u64),
+    // The slots of an object, and whether it is marked.
+    Show { id: u64, marked: bool },
+}
 
 // Returns what is printed of the lines of an answer, or if there is none.
 fn line_answer(lines: Result<Vec<u8>, Unanswered>) -> LineAnswer
@@ -43,22 +57,67 @@ fn line_answer(lines: Result<Vec<u8>, Unanswered>) -> LineAnswer
     }
 }
 
-// Returns the lines of `histogram AT`.
-fn histogram(alloc: Global, machine: &Machine, at: At) -> Result<Vec<u8>, Unanswered>
-    ensures { IsAnswerAbout (IsHistogramText machine.now.ids) (image_at at machine.now)
-        (told_text result) }
+// Returns the lines, or the refusal as the reason why there are none.
+fn or_refused(lines: Result<Vec<u8>, Refusal>) -> Result<Vec<u8>, Unanswered>
+    ensures { told_text result ≡ lines_text lines }
 {
-    let moment = moment_at(machine, at)?;
-    Ok(histogram_text(alloc, &view_of(machine, &moment)?)?)
+    Ok(lines?)
 }
 
-// Returns the lines of `garbage AT`.
-fn garbage(alloc: Global, machine: &Machine, at: At) -> Result<Vec<u8>, Unanswered>
-    ensures { IsAnswerAbout (IsGarbageText machine.now.ids) (image_at at machine.now)
+// Returns the lines of a question about the state that a view shows.
+fn view_lines(
+    alloc: Global,
+    view: &PinView<'_>,
+    asked: StateQuestion,
+) -> Result<Vec<u8>, Unanswered>
+    ensures { IsToldOf (IsStateText asked view.now.ids) (pin_image view.now.pin view.now.state)
+        (told_text result) }
+{
+    match asked {
+        StateQuestion::Histogram => or_refused(histogram_text(alloc, view)),
+        StateQuestion::Garbage => or_refused(garbage_text(alloc, view)),
+        StateQuestion::Registers => or_refused(registers_answer(alloc, view)),
+        StateQuestion::Classes => or_refused(classes_answer(alloc, view)),
+        StateQuestion::Referrers(id) => referrers_answer(alloc, view, id),
+        StateQuestion::Path(id) => path_answer(alloc, view, id),
+        StateQuestion::Show { id, marked } => show_answer(alloc, view, id, marked),
+    }
+}
+
+// Returns the lines of a question about one state.
+fn state_lines(
+    alloc: Global,
+    machine: &Machine,
+    at: At,
+    asked: StateQuestion,
+) -> Result<Vec<u8>, Unanswered>
+    ensures { IsAnswerAbout (IsStateText asked machine.now.ids) (image_at at machine.now)
         (told_text result) }
 {
     let moment = moment_at(machine, at)?;
-    Ok(garbage_text(alloc, &view_of(machine, &moment)?)?)
+    view_lines(alloc, &view_of(machine, &moment)?, asked)
+}
+
+// Returns what is printed of a question about one state.
+fn state_answer(alloc: Global, machine: &Machine, at: At, asked: StateQuestion) -> LineAnswer
+    ensures { IsAnswerAbout (IsStateText asked machine.now.ids) (image_at at machine.now)
+        (line_answer_text result) }
+{
+    line_answer(state_lines(alloc, machine, at, asked))
+}
+
+// Returns the lines of `growth` from one view to another.
+fn growth_lines(
+    alloc: Global,
+    older: &PinView<'_>,
+    newer: &PinView<'_>,
+) -> Result<Vec<u8>, Unanswered>
+    requires { older.now.ids ≡ newer.now.ids }
+    ensures { IsToldOf
+        (IsGrowthText newer.now.ids (pin_image older.now.pin older.now.state))
+        (pin_image newer.now.pin newer.now.state) (told_text result) }
+{
+    or_refused(growth_answer(alloc, older, newer))
 }
 
 // Returns the lines of `growth` from a view of the machine to a newer state.
@@ -74,7 +133,7 @@ fn growth_since(
         (image_at newer machine.now) (told_text result) }
 {
     let moment = moment_at(machine, newer)?;
-    Ok(growth_answer(alloc, older, &view_of(machine, &moment)?)?)
+    growth_lines(alloc, older, &view_of(machine, &moment)?)
 }
 
 // Returns the lines of `growth AT AT`. Both states are held before either is looked at.
@@ -86,61 +145,24 @@ fn growth(alloc: Global, machine: &Machine, older: At, newer: At) -> Result<Vec<
     growth_since(alloc, machine, &view_of(machine, &moment)?, newer)
 }
 
-// Returns the lines of `registers AT`.
-fn registers(alloc: Global, machine: &Machine, at: At) -> Result<Vec<u8>, Unanswered>
-    ensures { IsAnswerAbout IsRegistersText (image_at at machine.now) (told_text result) }
-{
-    let moment = moment_at(machine, at)?;
-    Ok(registers_answer(alloc, &view_of(machine, &moment)?)?)
-}
-
-// Returns the lines of `classes AT`.
-fn classes(alloc: Global, machine: &Machine, at: At) -> Result<Vec<u8>, Unanswered>
-    ensures { IsAnswerAbout IsClassesText (image_at at machine.now) (told_text result) }
-{
-    let moment = moment_at(machine, at)?;
-    Ok(classes_answer(alloc, &view_of(machine, &moment)?)?)
-}
-
-// Returns the lines of `referrers AT ID`.
-fn referrers(alloc: Global, machine: &Machine, at: At, id: u64) -> Result<Vec<u8>, Unanswered>
-    ensures { IsAnswerAbout (IsReferrersText id) (image_at at machine.now) (told_text result) }
-{
-    let moment = moment_at(machine, at)?;
-    referrers_answer(alloc, &view_of(machine, &moment)?, id)
-}
-
-// Returns the lines of `path AT ID`.
-fn path(alloc: Global, machine: &Machine, at: At, id: u64) -> Result<Vec<u8>, Unanswered>
-    ensures { IsAnswerAbout (IsPathText id) (image_at at machine.now) (told_text result) }
-{
-    let moment = moment_at(machine, at)?;
-    path_answer(alloc, &view_of(machine, &moment)?, id)
-}
-
-// Returns the lines of `show AT ID`.
-fn show(alloc: Global, machine: &Machine, at: At, id: u64) -> Result<Vec<u8>, Unanswered>
-    ensures { IsAnswerAbout (IsShowText id (shows_mark at machine.now id))
-        (image_at at machine.now) (told_text result) }
-{
-    let moment = moment_at(machine, at)?;
-    let view = view_of(machine, &moment)?;
-    show_answer(alloc, &view, id, shows_mark(machine, at, id))
-}
-
 /// Returns the answer of a question about a machine, or the refusal NoMemory if an allocation fails.
 pub fn answer(alloc: Global, machine: &Machine, question: Question) -> LineAnswer
     ensures { IsAnswer question machine.now (line_answer_text result) }
 {
     match question {
-        Question::Histogram(at) => line_answer(histogram(alloc, machine, at)),
-        Question::Garbage(at) => line_answer(garbage(alloc, machine, at)),
+        Question::Histogram(at) => state_answer(alloc, machine, at, StateQuestion::Histogram),
+        Question::Garbage(at) => state_answer(alloc, machine, at, StateQuestion::Garbage),
         Question::Growth { older, newer } => line_answer(growth(alloc, machine, older, newer)),
-        Question::Registers(at) => line_answer(registers(alloc, machine, at)),
-        Question::Classes(at) => line_answer(classes(alloc, machine, at)),
-        Question::Referrers { at, id } => line_answer(referrers(alloc, machine, at, id)),
-        Question::Path { at, id } => line_answer(path(alloc, machine, at, id)),
-        Question::Show { at, id } => line_answer(show(alloc, machine, at, id)),
+        Question::Registers(at) => state_answer(alloc, machine, at, StateQuestion::Registers),
+        Question::Classes(at) => state_answer(alloc, machine, at, StateQuestion::Classes),
+        Question::Referrers { at, id } => {
+            state_answer(alloc, machine, at, StateQuestion::Referrers(id))
+        }
+        Question::Path { at, id } => state_answer(alloc, machine, at, StateQuestion::Path(id)),
+        Question::Show { at, id } => {
+            let marked = shows_mark(machine, at, id);
+            state_answer(alloc, machine, at, StateQuestion::Show { id, marked })
+        }
         Question::Born(id) => born_answer(machine, id),
         Question::Wrote { id, slot } => wrote_answer(machine, id, slot),
         Question::Dropped(id) => dropped_answer(alloc, machine, id),

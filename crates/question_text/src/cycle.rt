@@ -29,7 +29,7 @@ pub fn is_collect(line: &[u8]) -> bool
 }
 
 /// What a cycle did. Contracts see the record itself.
-#[derive(Clone, Copy, PartialEq, Eq)]
+#[derive(Clone, Copy)]
 pub struct CycleCounts {
     /// The number of objects that it condemned.
     pub condemned: u64,

@@ -4,7 +4,7 @@ ghost use Rattle.heap_class.specs.declared.Refusal.TheVariants.{NoMemory};
 ghost use Rattle.heap_questions.specs.Histogram.{class_rows};
 ghost use Rattle.question_text.specs.Appends.{Appends, ReturnsText};
 ghost use Rattle.question_text.specs.Referrers.{count_text};
-ghost use Rattle.question_text.specs.Growths.{IsGrowthText, changed_text, changed_texts, differs};
+ghost use Rattle.question_text.specs.Growths.{IsGrowthText, changed_text, changed_texts, differs, more_classes};
 
 use crate::histogram::push_counts;
 use crate::names::push_row_name;
@@ -87,6 +87,29 @@ fn changes_text(
     Ok(text)
 }
 
+// Returns the same about two views, with the names of the one that has more classes. Fails with NoMemory.
+fn named_changes<V: View>(
+    alloc: Global,
+    older: &V,
+    newer: &V,
+    changes: &[Change],
+) -> Result<Vec<u8>, Refusal>
+    requires { length changes.now
+        ≤ class_rows
+        + length (more_classes (V.image older.now).classes (V.image newer.now).classes) }
+    ensures { ReturnsText (λ text. text
+        ≡ changed_texts (more_classes (V.image older.now).classes (V.image newer.now).classes)
+        0 changes.now
+        ++ count_text (count_by differs changes.now)) result }
+{
+    let (old_classes, new_classes) = (older.classes(), newer.classes());
+    if new_classes.len() < old_classes.len() {
+        changes_text(alloc, &old_classes, changes)
+    } else {
+        changes_text(alloc, &new_classes, changes)
+    }
+}
+
 // Returns the answer of `growth` from an older view to a newer one. Fails with NoMemory if an allocation fails. Reads each
 // object once.
 pub(crate) fn growth_answer<V: View>(
@@ -101,10 +124,5 @@ pub(crate) fn growth_answer<V: View>(
     let before = count_by_class(alloc, older)?;
     let after = count_by_class(alloc, newer)?;
     let changes = compare(alloc, &before, &after)?;
-    let (old_classes, new_classes) = (older.classes(), newer.classes());
-    if new_classes.len() < old_classes.len() {
-        changes_text(alloc, &old_classes, changes.as_slice())
-    } else {
-        changes_text(alloc, &new_classes, changes.as_slice())
-    }
+    named_changes(alloc, older, newer, changes.as_slice())
 }

@@ -13,13 +13,13 @@ use heap_questions::{PastEvent, PastStep, history};
 use heap_trail::Machine;
 use std::alloc::Global;
 
-// Appends a word, an id and the number of a slot. Fails with NoMemory.
-fn push_slot(text: &mut Vec<u8>, word: &[u8], id: u64, slot: u64) -> Result<(), Refusal>
-    ensures { Appends (and_slot word.now id slot) text.old.items text.new.items result }
+// Appends a word, an id and a number. Fails with NoMemory.
+fn push_numbered(text: &mut Vec<u8>, word: &[u8], id: u64, number: u64) -> Result<(), Refusal>
+    ensures { Appends (and_slot word.now id number) text.old.items text.new.items result }
 {
     push_words(text, word)?;
     push_id(text, id)?;
-    push_number(text, slot)
+    push_number(text, number)
 }
 
 // Appends the numbers of a mutator and its register, and what it named before. Fails with NoMemory.
@@ -46,11 +46,11 @@ fn push_event(text: &mut Vec<u8>, event: PastEvent) -> Result<(), Refusal>
 {
     match event {
         PastEvent::Put { id, slot, old } => {
-            push_slot(text, b" put", id, slot)?;
+            push_numbered(text, b" put", id, slot)?;
             push_number(text, old)
         }
         PastEvent::Store { id, slot, old } => {
-            push_slot(text, b" store", id, slot)?;
+            push_numbered(text, b" store", id, slot)?;
             push_reference(text, old)
         }
         PastEvent::Register { m, r, old } => {
@@ -64,11 +64,7 @@ fn push_event(text: &mut Vec<u8>, event: PastEvent) -> Result<(), Refusal>
         }
         PastEvent::Class => push_words(text, b" class"),
         PastEvent::Snap => push_words(text, b" snap"),
-        PastEvent::Mark { parent, pushed } => {
-            push_words(text, b" mark")?;
-            push_id(text, parent)?;
-            push_number(text, pushed)
-        }
+        PastEvent::Mark { parent, pushed } => push_numbered(text, b" mark", parent, pushed),
         PastEvent::Drain(pushed) => push_counted(text, b" drain", pushed),
         PastEvent::Finish(log) => push_counted(text, b" finish", log),
         PastEvent::Sweep { region, dead } => {

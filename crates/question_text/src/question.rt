@@ -1,8 +1,8 @@
 //! The grammar of questions.
-ghost use Rattle.std.specs.Prelude.{◌≡◌};
+ghost use Rattle.std.specs.Prelude.{◌≡◌, drop};
 ghost use Rattle.session_grammar.specs.Grammar.{words_of_line};
 ghost use Rattle.session_grammar.specs.Reads.{IsNextWord};
-ghost use Rattle.question_text.specs.Questions.{at_and_id, at_of_word, id_and_number, next_at, next_id, one_at, one_id, past_rules, question_by, question_of, two_ats};
+ghost use Rattle.question_text.specs.Questions.{at_and_id, at_of_word, id_and_number, next_at, next_id, one_at, one_id, past_rules, question_by, question_of, question_rules, two_ats};
 
 use crate::id::id_of;
 use session_grammar::command::{at_end, next_number, one_number};
@@ -140,6 +140,30 @@ fn past_question(keyword: &[u8], words: Words) -> Option<Question>
     None
 }
 
+// Reads the words behind a keyword of a question about classes, objects, retained steps or pins.
+#[tactic(auto, unfolding(crate::specs::Questions::question_rules))]
+fn later_question(keyword: &[u8], words: Words) -> Option<Question>
+    ensures { result
+        ≡ question_by (drop 4 question_rules) keyword.now (words_of_line words.entry) }
+{
+    if is_word(keyword, b"classes") {
+        return Some(Question::Classes(one_at(words)?));
+    }
+    if is_word(keyword, b"referrers") {
+        let (at, id) = at_and_id(words)?;
+        return Some(Question::Referrers { at, id });
+    }
+    if is_word(keyword, b"path") {
+        let (at, id) = at_and_id(words)?;
+        return Some(Question::Path { at, id });
+    }
+    if is_word(keyword, b"show") {
+        let (at, id) = at_and_id(words)?;
+        return Some(Question::Show { at, id });
+    }
+    past_question(keyword, words)
+}
+
 /// Returns the question that a line asks, or None if it asks none.
 #[tactic(auto, unfolding(crate::specs::Questions::question_of_words, crate::specs::Questions::question_rules))]
 pub fn question_of(line: &[u8]) -> Option<Question>
@@ -160,20 +184,5 @@ pub fn question_of(line: &[u8]) -> Option<Question>
         let (older, newer) = two_ats(words)?;
         return Some(Question::Growth { older, newer });
     }
-    if is_word(keyword, b"classes") {
-        return Some(Question::Classes(one_at(words)?));
-    }
-    if is_word(keyword, b"referrers") {
-        let (at, id) = at_and_id(words)?;
-        return Some(Question::Referrers { at, id });
-    }
-    if is_word(keyword, b"path") {
-        let (at, id) = at_and_id(words)?;
-        return Some(Question::Path { at, id });
-    }
-    if is_word(keyword, b"show") {
-        let (at, id) = at_and_id(words)?;
-        return Some(Question::Show { at, id });
-    }
-    past_question(keyword, words)
+    later_question(keyword, words)
 }

@@ -12,7 +12,7 @@ use session_text::LineAnswer;
 use std::alloc::Global;
 
 // The reason why a question has no answer.
-#[derive(Clone, Copy, PartialEq, Eq)]
+#[derive(Clone, Copy)]
 pub(crate) enum Unanswered {
     // A refusal that lines of sessions have too.
     Refused(Refusal),

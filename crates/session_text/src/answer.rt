@@ -25,7 +25,7 @@ use session_grammar::spans::FieldSpans;
 use std::alloc::Global;
 
 /// Whether a session goes on after a line.
-#[derive(Clone, Copy, PartialEq, Eq)]
+#[derive(Clone, Copy)]
 pub enum Flow {
     /// The next line comes.
     Next,

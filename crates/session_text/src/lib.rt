@@ -58,7 +58,7 @@ pub enum Ended {
 }
 
 /// The way in which reading ended.
-#[derive(Clone, Copy, PartialEq, Eq)]
+#[derive(Clone, Copy)]
 pub enum ReadEnd {
     /// At the end of input.
     Over,

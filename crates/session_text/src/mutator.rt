@@ -13,7 +13,7 @@ use heap_trail::Action;
 use session_grammar::words::SPACE;
 
 // The beginning of a line that may be answered at once.
-#[derive(Clone, Copy, PartialEq, Eq)]
+#[derive(Clone, Copy)]
 enum Verb {
     // `load `.
     Load,
@@ -36,7 +36,7 @@ enum Verb {
 }
 
 /// The outcome of a fast reading of a text's first line.
-#[derive(Clone, Copy, PartialEq, Eq)]
+#[derive(Clone, Copy)]
 pub enum Quick {
     /// The line wasn't answered. It is read as any other, if it is whole.
     No,
@@ -80,7 +80,6 @@ const REWIND: u32 = 0x6977_6572;
 
 // Returns the keyword that a text begins with.
 #[inline(always)]
-#[tactic(auto, using(crate::proofs::QuickLines::load_in, crate::proofs::QuickLines::store_in, crate::proofs::QuickLines::put_in, crate::proofs::QuickLines::move_in, crate::proofs::QuickLines::clear_in, crate::proofs::QuickLines::new_in, crate::proofs::QuickLines::mark_in, crate::proofs::QuickLines::rewind_in))]
 fn verb_of(text: &[u8]) -> Verb
     ensures { IsVerb text.now result }
 {

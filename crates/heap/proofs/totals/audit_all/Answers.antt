@@ -1,5 +1,5 @@
 use Rattle.std.proofs.Common.{◌≡◌, rules, ◌∙◌, All, ap, length, count_by, subst}
-use Rattle.heap_lock.specs.declared.audits.Verdict.TheVariants.{Holds}
+use Rattle.heap_lock.specs.Verdict.TheVariants.{Holds}
 use Rattle.std.proofs.lemmas.List.{take_all}
 use Rattle.heap.specs.Actors.{IsAudited}
 use Rattle.heap.specs.Totals.{claim_count, finished_count, is_finishing, is_making, made_count}

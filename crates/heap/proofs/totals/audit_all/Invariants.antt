@@ -1,5 +1,5 @@
 use Rattle.std.proofs.Common.{◌≡◌, take, All}
-use Rattle.heap_lock.specs.declared.audits.Verdict.TheVariants.{Holds}
+use Rattle.heap_lock.specs.Verdict.TheVariants.{Holds}
 use Rattle.heap.specs.Actors.{IsAudited}
 use Rattle.heap.specs.Totals.{capped_sum, claim_count, finished_count, made_count}
 use Rattle.heap.proofs.totals.audit_all.Given as goal

@@ -1,5 +1,4 @@
-use Rattle.std.proofs.Common.{◌≡◌, []}
-use Rattle.circular_buffer.specs.Buffer.{buffer}
+use Rattle.std.proofs.Common.{◌≡◌}
 use Rattle.heap_world.specs.State.{opening_state}
 use Rattle.heap_trail.specs.Machine.{opening_machine}
 use Rattle.heap_trail.specs.Records.{machine_of}

@@ -8,9 +8,9 @@ use Rattle.heapdbg_options.proofs.command_line.settings.Goals as goal
 pub returns-in-Ok-settings_of_matches-clause-limits : goal.returns-in-Ok-settings_of_matches-clause-limits
 returns-in-Ok-settings_of_matches-clause-limits c =
     limits_of (subcommand_of heapdbg_line (texts c.args.words.now)) c.in-Ok-settings_of_matches.settings
-    (ap (option_and_then settings_under) (sym c.in-Ok.ensures.ok) ∙ c.in-Ok-settings_of_matches.ensures.ok)
+    (ap (option_and_then settings_under) (sym c.in-Ok.ensures.ok) ∙ c.in-Ok-settings_of_matches.ensures.0)
 
 pub returns-in-Ok-settings_of_matches-clause-defaults : goal.returns-in-Ok-settings_of_matches-clause-defaults
 returns-in-Ok-settings_of_matches-clause-defaults c =
     defaults_of (texts c.args.words.now) c.in-Ok-settings_of_matches.settings
-    (ap (option_and_then settings_under) (sym c.in-Ok.ensures.ok) ∙ c.in-Ok-settings_of_matches.ensures.ok)
+    (ap (option_and_then settings_under) (sym c.in-Ok.ensures.ok) ∙ c.in-Ok-settings_of_matches.ensures.0)

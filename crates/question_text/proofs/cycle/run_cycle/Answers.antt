@@ -1,6 +1,12 @@
 use Rattle.std.proofs.lemmas.Result.{err_from_is_err_and}
-use Rattle.question_text.proofs.CycleSteps.{stops_finish, stops_last, stops_marking, whole_cycle}
+use Rattle.question_text.specs.Collections.{IsCycleStep, IsSweep}
+use Rattle.question_text.proofs.CycleSteps.{stops_finish, stops_last, stops_marking, stops_wider, sweep_is_step, whole_cycle}
 use Rattle.question_text.proofs.cycle.run_cycle.Goals as goal
+
+pub returns-in_err-before-clause-refused : goal.returns-in_err-before-clause-refused
+returns-in_err-before-clause-refused g c =
+    let p = err_from_is_err_and c.from_residual.result c.from_residual.ensures.1 in
+    rw (p.1, p.2) (stops_wider g.S.Steps.denies IsSweep IsCycleStep _ _ _ sweep_is_step c.in_err-before.ensures.refused)
 
 pub returns-in_err-mark_cycle-clause-refused : goal.returns-in_err-mark_cycle-clause-refused
 returns-in_err-mark_cycle-clause-refused g c =

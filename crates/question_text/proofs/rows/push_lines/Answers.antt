@@ -1,5 +1,6 @@
-use Rattle.std.proofs.Common.{◌++◌, [], ◌∷◌, ap, sym, ◌∙◌, take, arith}
+use Rattle.std.proofs.Common.{◌≡◌, ◌++◌, [], ◌∷◌, ℕ, ap, length, sym, ◌∙◌, take, arith}
 use Rattle.std.specs.Prelude.{flat_map}
+use Rattle.std.proofs.Math.Seq.{take-length}
 use Rattle.std.proofs.lemmas.List.{flat_map_more, take_more}
 use Rattle.question_text.proofs.rows.push_lines.Goals as goal
 
@@ -13,3 +14,11 @@ loop-one-preserved g c =
     ∙ ap (λ l. l ++ line one) c.loop-one.invariant
     ∙ flat_map_more line old first one
     ∙ ap (λ xs. old ++ flat_map line xs) (ap (λ x. first ++ x ∷ []) c.one-item.is ∙ sym (take_more c.args.all.now c.loop-one.one-index one (omega arith)))
+
+pub returns : goal.returns
+returns g c =
+    let line = g.T.Lined.line in
+    let old = c.args.text.now.items in
+    let all = c.args.all.now in
+    let end : c.loop-one.one-index ≡ length all = omega (arith, c.loop-one.auto.one-index-end, c.loop-one-test.false) in
+    (c.loop-one.invariant ∙ ap (λ (i : ℕ). old ++ flat_map line (take i all)) end ∙ ap (λ xs. old ++ flat_map line xs) (take-length all), tt)

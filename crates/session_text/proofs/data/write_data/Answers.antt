@@ -1,9 +1,19 @@
-use Rattle.std.proofs.Common.{◌++◌, length, true}
-use Rattle.session_text.specs.Replies.{data_line}
+use Rattle.std.proofs.Common.{◌++◌, length, sym, true, false}
+use Rattle.session_text.specs.Replies.{data_line, data_lines}
 use Rattle.session_text.proofs.DumpLines.{data_lines_go, data_lines_all}
 use Rattle.session_text.proofs.Lists.{zero_of, some_of}
-use Rattle.session_text.proofs.PageTexts.{added_then_here, added_more, added_as}
+use Rattle.session_text.proofs.PageTexts.{added_and_flushed, added_as, added_more, added_short, added_then_here}
 use Rattle.session_text.proofs.data.write_data.Goals as goal
+
+pub returns-then-not-make_room : goal.returns-then-not-make_room
+returns-then-not-make_room g c =
+    let i = c.loop-rest.invariant in
+    let old = c.args.page.now in
+    let a = g.O.Outlet.seen c.args.outlet.now in
+    let page = c.make_room.new.page in
+    let b = g.O.Outlet.seen c.make_room.new.outlet in
+    let rest = data_lines c.loop-rest.rest.now in
+    added_as (i.0 ++ rest) (data_lines c.args.bytes.now) old a page b false (sym i.2) (added_short i.0 rest old a page b page (added_and_flushed i.0 old a c.loop-rest.page (g.O.Outlet.seen c.loop-rest.outlet) page b false i.1 c.if-not-make_room.ensures.added))
 
 pub loop-rest-preserved : goal.loop-rest-preserved
 loop-rest-preserved g c =

@@ -1,0 +1,37 @@
+-- Receipts against a chronicle.
+use Rattle.std.specs.Prelude.{◌≡◌, ℕ, ◌-◌, ◌<◌, List, [], ◌∷◌, slice_get, Some}
+use Rattle.heap_trail.specs.declared.Action.{Action}
+use Rattle.heap_chronicle.specs.declared.audits.Verdict.{Verdict}
+use Rattle.heap_chronicle.specs.declared.audits.Verdict.TheVariants.{Holds, Fails, Dropped}
+use Rattle.heap_chronicle.specs.declared.entry.Entry.{Entry}
+use Rattle.heap_chronicle.specs.declared.receipt.Receipt.{Receipt}
+use Rattle.heap_chronicle.specs.History.{entry}
+
+-- the receipt names an entry, with this action
+abbrev pub NamesEntry : List Entry → Action → Receipt → Type 0
+NamesEntry es action r =
+    (0 < r.turn) × (slice_get es (r.turn - 1) ≡ Some (entry r.seat action r.answer))
+
+-- turns rise, from above `last`, and each receipt names an entry with the action beside it
+abbrev pub Audits : List Entry → ℕ → List (Action × Receipt) → Type 0
+Audits es last [] = Unit {0}
+Audits es last (c ∷ cs) = (last < c.1.turn) × NamesEntry es c.0 c.1 × Audits es c.1.turn cs
+
+-- the same, but a receipt whose entry was dropped may name any
+abbrev pub AuditsKept : ℕ → List Entry → ℕ → List (Action × Receipt) → Type 0
+AuditsKept dropped es last [] = Unit {0}
+AuditsKept dropped es last (c ∷ cs) =
+    (last < c.1.turn) × (dropped < c.1.turn → NamesEntry es c.0 c.1)
+    × AuditsKept dropped es c.1.turn cs
+
+-- the entry of each receipt is kept
+abbrev pub AllAreKept : ℕ → List (Action × Receipt) → Type 0
+AllAreKept dropped [] = Unit {0}
+AllAreKept dropped (c ∷ cs) = (dropped < c.1.turn) × AllAreKept dropped cs
+
+-- the verdict on receipts, if this number of entries was dropped
+abbrev pub IsVerdict : ℕ → List Entry → List (Action × Receipt) → Verdict → Type 0
+IsVerdict dropped es claims Holds = Audits es 0 claims × AllAreKept dropped claims
+IsVerdict dropped es claims Fails = AuditsKept dropped es 0 claims → ⊥
+IsVerdict dropped es claims Dropped =
+    AuditsKept dropped es 0 claims × (AllAreKept dropped claims → ⊥)

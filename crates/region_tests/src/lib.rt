@@ -1,5 +1,0 @@
-//! Tests of the calls of the regions.
-#![tactic(auto)]
-
-#[cfg(test)]
-mod regions;

@@ -22,7 +22,7 @@ test:
 	python3 checks/edits.py fit
 	python3 checks/no_memory.py
 	rt ci
-	@python3 checks/growths.py crates/growths/out/growths crates/growths/stdout crates/heapdbg/out/heapdbg
+	@python3 checks/growths.py crates/heapdbg/out/heapdbg
 	@python3 checks/cases.py crates/heapdbg/out/heapdbg crates/heapdbg/out/heapdbg.by-rattle
 	@python3 checks/streams.py crates/heapdbg/out/heapdbg crates/heapdbg/out/heapdbg.by-rattle
 	@python3 checks/model crates/heapdbg/out/heapdbg crates/heapdbg/out/heapdbg.by-rattle

@@ -17,7 +17,7 @@ import time
 
 from programs import built
 
-LIBRARIES = "dump_pump heap_scripts heap_work"
+LIBRARIES = "dump_pump heap_work"
 NAMES = "acts, finished cycles, rewinds, pairs of equal dumps, pairs with a pin that was lost or refused".split(", ")
 
 

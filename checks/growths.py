@@ -1,14 +1,15 @@
 #!/usr/bin/env python3
-"""Runs built programs once for each of their allocations, which is refused in that run.
+"""Runs the built program once for each of its allocations, which is refused in that run.
 
-Usage: checks/growths.py [-v] GROWTHS WANTED HEAPDBG
-GROWTHS has to print what is in the file WANTED whatever is refused. HEAPDBG does sessions: each ends for want of memory before
-it reads, or refuses one line and answers all others as a session without that line, or loses a pin and answers all but its
-pieces as if it hadn't. It serves two clients at a time: a session that ends for want of memory has answered nothing, and the
-other one goes on, also beside workers and dumps, of which each is whole or a beginning. It saves a dump: that of the session's last state, or a beginning of it, if the dump is lost for want of
-memory. If it is lost before its first byte, or the session isn't dumped, a file that was there stays what it was, and no file is
-made. No session asks for much more memory at once than its settings need. Prints a line for each program or session that goes
-otherwise, and with -v for each how many allocations were refused; ends with status 1 if one goes otherwise."""
+Usage: checks/growths.py [-v] PROGRAM
+A session ends for want of memory before it reads, or refuses one line and answers all others as a session without that line, or
+loses a pin and answers all but its pieces as if it hadn't. A line that was refused is answered as ever when it is given once more,
+and so are all after it. Two clients are served at a time: a session that ends for want of memory has answered nothing, and the
+other one goes on, also beside workers and dumps, of which each is whole or a beginning. A save is the dump of the session's last
+state, or a beginning of it, if the dump is lost for want of memory. If it is lost before its first byte, or the session isn't
+dumped, a file that was there stays what it was, and no file is made. No session asks for much more memory at once than its settings
+need. Prints a line for each session that goes otherwise, and with -v for each how many allocations were refused; ends with status 1
+if one goes otherwise."""
 import contextlib
 import os
 import pathlib
@@ -34,12 +35,20 @@ SESSIONS = {
     "finish_refused_until_ready": """class Node - next:object v:long, new 0 0 0, new 0 1 0, newprim 0 2 long 5, store 0 0 0 1, snap,
         store 0 0 0 0, store 0 0 0 1, mark, mark, mark, finish, drain, drain, finish, sweep 0, snap, mark, mark, mark, finish""",
     "dump_of_object_array": "array [Lq;, newarray 0 0 0 2, store 0 0 1 0, dump -",
+    "pins_beside_a_sweep": """class Node - next:object v:long, new 0 0 0, new 0 1 0, clear 0 1, snap, mark, finish, open -, sweep 0,
+        put 0 0 1 5, open 3, piece 1, piece 1, piece 1, piece 2, piece 2, piece 2, rewind 2""",
     "save_pumps_the_heap": "class Point - x:int y:int, new 0 0 0, put 0 0 0 7, open -, put 0 0 0 9",
 }
 
-# What the first of two clients sends to a heap with workers, whose answers are the same whatever these do; and the second.
-BESIDE_WORKERS = [b"class Point - x:int y:int", b"new 0 0 0", b"put 0 0 0 7", b"newprim 0 1 long 3"]
-IN_A_CYCLE = [b"snap", b"put 0 0 1 8", b"load 0 2 0 1", b"new 0 3 0", b"move 1 0 0 3"]
+# What the first of two clients sends to a heap with workers, whose answers are the same whatever these do; and the second. In the
+# second heap each array fills a region, and a segment of its dump, which goes through the pipe in several pages.
+BESIDE_WORKERS = {
+    2: (
+        [b"class Point - x:int y:int", b"new 0 0 0", b"put 0 0 0 7", b"newprim 0 1 long 3"],
+        [b"snap", b"put 0 0 1 8", b"load 0 2 0 1", b"new 0 3 0", b"move 1 0 0 3"],
+    ),
+    16: ([b"newprim 0 0 long 1024"] * 10, [b"snap", b"put 0 0 1 8"]),
+}
 # What is said of a dump for which no memory was there.
 NO_DUMPS = (b"", b"heapdbg: dump NoMemory\n", b"heapdbg: dump Memory\n")
 
@@ -73,9 +82,14 @@ def replies(out):
     return found
 
 
+def text_of(lines):
+    """Returns the text of lines."""
+    return b"".join(line + b"\n" for line in lines)
+
+
 def session(command, library, lines, number=0):
     """Returns status, replies and standard error of a session."""
-    status, out, error = run(command, library, number, b"".join(line + b"\n" for line in lines))
+    status, out, error = run(command, library, number, text_of(lines))
     return status, replies(out), error
 
 
@@ -100,13 +114,41 @@ def is_right(command, library, lines, status, found, error):
     return all(one == other or one == ([], LOST) for one, other in zip(found, sound))
 
 
+def size_of(data):
+    """Returns how many bytes data lines have."""
+    return sum(len(line) - len(b"data ") for line in data) // 2
+
+
+def is_answered_again(line, once, again, sound):
+    """Tells whether a line that was refused once is answered as ever when it is given again. A dump of a pin then goes on where it was
+    refused."""
+    out = once[0] if line.startswith(b"dump ") and line != b"dump -" else []
+    data, last = sound
+    rest = data[len(out) :]
+    return data[: len(out)] == out and again == (rest, b"ok dump %d" % size_of(rest) if out else last)
+
+
+def goes_on(command, library, lines, found, given):
+    """Tells whether the line that was refused, if one was, is answered as ever when it is given again, and so are all after it. `given`
+    returns the replies to lines among which it stands twice."""
+    lasts = [last for _, last in found]
+    if REFUSED not in lasts:
+        return True
+    at = lasts.index(REFUSED)
+    told = given(lines[: at + 1] + lines[at:])
+    _, sound, _ = session(command, library, lines)
+    good = len(told) == len(lines) + 1 and told[: at + 1] == found[: at + 1] and told[at + 2 :] == sound[at + 1 :]
+    return good and is_answered_again(lines[at], found[at], told[at + 1], sound[at])
+
+
 def wrong_sessions(command, library, lines):
     """Yields the numbers of the allocations after whose refusal a session goes otherwise than it may, and then how many it makes."""
     for number in range(1, LIMIT):
         status, found, error = session(command, library, lines, number)
         if not error:
             return number - 1
-        if not is_right(command, library, lines, status, found, error):
+        good = is_right(command, library, lines, status, found, error)
+        if not (good and goes_on(command, library, lines, found, lambda given: session(command, library, given, number)[1])):
             yield number
     return LIMIT
 
@@ -135,6 +177,11 @@ def served(program, library, number, clients, tries=3):
     return server.returncode, [line.split()[-1] for line in out.splitlines()], answers, error
 
 
+def joined(answers):
+    """Returns the replies to several clients, in order."""
+    return [reply for client in answers for reply in client]
+
+
 def free_ports(count):
     """Returns ports that nobody listens on."""
     with contextlib.ExitStack() as opened:
@@ -142,12 +189,13 @@ def free_ports(count):
         return [server.getsockname()[1] for server in found]
 
 
-def tended(program, library, number, clients, tries=3):
+def tended(program, library, number, clients, regions, tries=3):
     """Serves two clients, one after another, with workers and dumps, and the allocation of this number refused. A dump is fetched
     between the two, and another beside the second. Returns status, the words of the sessions, what each client was answered,
     the dumps, and standard error."""
     port, dumps = free_ports(2)
-    words = [program, "serve", "--port", str(port), "--dumps", str(dumps), "--sessions", "2", "--regions", "2", "--workers", "1"]
+    words = [program, "serve", "--port", str(port), "--dumps", str(dumps), "--sessions", "2", "--workers", "1"]
+    words += ["--regions", str(regions)]
     variables = {"LD_PRELOAD": library, "REFUSED": str(number)}
     answers, fetched = [], []
     with contextlib.ExitStack() as opened, subprocess.Popen(
@@ -168,29 +216,28 @@ def tended(program, library, number, clients, tries=3):
         finally:
             server.kill()
     if tries > 1 and error.endswith(b"heapdbg: listen\n"):
-        return tended(program, library, number, clients, tries - 1)
+        return tended(program, library, number, clients, regions, tries - 1)
     return server.returncode, [line.split()[-1] for line in out.splitlines()], answers, fetched, error
 
 
-def are_dumps(program, library, found, fetched, error):
+def are_dumps(program, library, lines, regions, found, fetched, error):
     """Tells whether the first dump is that of what the first client left, or a beginning of it if that is said, and the second
     begins as a dump does."""
-    kept = [line for line, (_, last) in zip(BESIDE_WORKERS, found) if last != REFUSED]
-    _, _, _, whole = saved(program, library, kept)
+    kept = [line for line, (_, last) in zip(lines, found) if last != REFUSED]
+    _, _, _, whole = saved(program, library, kept, regions=regions)
     first, second = fetched
     said = error.removeprefix(b"refused\n")
     opening = whole[:31]
     return said in NO_DUMPS and (first == whole or said != b"" and whole.startswith(first)) and second[:31] in (b"", opening)
 
 
-def wrong_tended(program, library):
+def wrong_tended(program, library, both, regions):
     """Yields the numbers of the allocations after whose refusal two sessions beside workers and dumps go otherwise than they may, and
     then how many there are. How many each run makes depends on how its threads meet."""
-    command = [program, "run", "--regions", "2"]
-    both = (BESIDE_WORKERS, IN_A_CYCLE)
-    clients = [b"".join(line + b"\n" for line in lines) for lines in both]
+    command = [program, "run", "--regions", str(regions)]
+    clients = [text_of(lines) for lines in both]
     for number in range(1, LIMIT):
-        status, words, answers, fetched, error = tended(program, library, number, clients)
+        status, words, answers, fetched, error = tended(program, library, number, clients, regions)
         if b"refused" not in error:
             return number - 1
         if words == []:
@@ -200,9 +247,9 @@ def wrong_tended(program, library):
             at = words.index(b"memory")
             good = (status, answers[at], words[1 - at]) == (0, [], b"eof")
         else:
-            found = [reply for client in answers for reply in client]
-            good = words == [b"eof", b"eof"] and is_right(command, library, [*both[0], *both[1]], status, found, b"refused\n")
-            good = good and are_dumps(program, library, answers[0], fetched, error)
+            good = words == [b"eof", b"eof"]
+            good = good and is_right(command, library, [*both[0], *both[1]], status, joined(answers), b"refused\n")
+            good = good and are_dumps(program, library, both[0], regions, answers[0], fetched, error)
         if not good:
             yield number
     return LIMIT
@@ -228,11 +275,30 @@ def connected(server, port):
     return None
 
 
+def wrong_acts(program, library, lines):
+    """Yields the numbers of the allocations after whose refusal a session of a shared heap goes otherwise than it may, and then how many
+    it makes."""
+    command = [program, "run", "--regions", "2"]
+    for number in range(1, LIMIT):
+        status, words, answers, error = served(program, library, number, [text_of(lines)])
+        if not error:
+            return number - 1
+        found = joined(answers)
+        if words == [b"memory"]:
+            good = (status, found) == (0, [])
+        else:
+            good = is_right(command, library, lines, status, found, error)
+            good = good and goes_on(command, library, lines, found, lambda it: joined(served(program, library, number, [text_of(it)])[2]))
+        if not good:
+            yield number
+    return LIMIT
+
+
 def wrong_servers(program, library, first, second):
     """Yields the numbers of the allocations after whose refusal two sessions go otherwise than they may, and then how many
     there are."""
     command = [program, "run", "--regions", "2"]
-    clients = [b"".join(line + b"\n" for line in lines) for lines in (first, second)]
+    clients = [text_of(lines) for lines in (first, second)]
     alone = {0: session(command, library, second)[1], 1: session(command, library, first)[1]}
     for number in range(1, LIMIT):
         status, words, answers, error = served(program, library, number, clients)
@@ -244,21 +310,20 @@ def wrong_servers(program, library, first, second):
             at = words.index(b"memory")
             good = (status, answers[at], answers[1 - at]) == (0, [], alone[at]) and words[1 - at] == b"eof"
         else:
-            found = [reply for client in answers for reply in client]
-            good = words == [b"eof", b"eof"] and is_right(command, library, first + second, status, found, error)
+            good = words == [b"eof", b"eof"] and is_right(command, library, first + second, status, joined(answers), error)
         if not good:
             yield number
     return LIMIT
 
 
-def saved(program, library, lines, number=0, before=BEFORE):
+def saved(program, library, lines, number=0, before=BEFORE, regions=2):
     """Returns status, replies and standard error of a session that is saved, and the bytes of its file, which has these before; None
     if there is none before or none afterwards."""
     with tempfile.TemporaryDirectory() as folder:
         path = os.path.join(folder, "out.hprof")
         if before is not None:
             pathlib.Path(path).write_bytes(before)
-        command = [program, "save", "--out", path, "--regions", "2"]
+        command = [program, "save", "--out", path, "--regions", str(regions)]
         status, found, error = session(command, library, lines, number)
         return status, found, error, pathlib.Path(path).read_bytes() if os.path.exists(path) else None
 
@@ -293,17 +358,6 @@ def wrong_saves(program, library, lines):
         if dump == BEFORE:
             good = good and saved(program, library, lines, number, None) == (status, found, error, None)
         if not good:
-            yield number
-    return LIMIT
-
-
-def wrong_runs(command, library, wanted):
-    """Yields the numbers of the allocations after whose refusal a program prints otherwise, and then how many it makes."""
-    for number in range(1, LIMIT):
-        status, out, error = run(command, library, number)
-        if not error:
-            return number - 1
-        if (status, out) != (0, wanted):
             yield number
     return LIMIT
 
@@ -390,24 +444,25 @@ def told(name, numbers, verbose):
     return good
 
 
-def main(growths, wanted, heapdbg, verbose=False):
+def main(heapdbg, verbose=False):
     """Returns the exit status: 0 where every run went as it may."""
     with tempfile.TemporaryDirectory() as folder:
         library = refusing(folder)
-        runs = wrong_runs([os.path.abspath(growths)], library, pathlib.Path(wanted).read_bytes())
-        good = told("growths", runs, verbose)
         program = os.path.abspath(heapdbg)
         command = [program, "run", "--regions", "2"]
+        good = True
         for name, text in SESSIONS.items():
             lines = [line.strip().encode() for line in text.replace("\n", " ").split(",")]
             good = told(name, wrong_sessions(command, library, lines), verbose) and good
             good = told(f"{name}, saved", wrong_saves(program, library, lines), verbose) and good
-            others = wrong_servers(program, library, lines, SECOND)
-            good = told(f"{name}, served", others, verbose) and good
+            good = told(f"{name}, acts", wrong_acts(program, library, lines), verbose) and good
+            good = told(f"{name}, served", wrong_servers(program, library, lines, SECOND), verbose) and good
             for line in wrong_sizes(program, library, lines):
                 print(f"{name}, {line}")
                 good = False
-        good = told("beside workers and dumps", wrong_tended(program, library), verbose) and good
+        for regions, both in BESIDE_WORKERS.items():
+            name = f"{regions} regions beside workers and dumps"
+            good = told(name, wrong_tended(program, library, both, regions), verbose) and good
     return 0 if good else 1
 
 

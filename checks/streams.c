@@ -5,6 +5,7 @@
    MOST    the most bytes that a read or a write takes
    TIMES   how often each of them is interrupted before it is done
    LEFT    after how many bytes all further ones fail
+   ONCE    after how many bytes one call fails, and the next is done
    AGAIN   after how many bytes one call fails as one that would block, and the next is done
    NOTHING 1 if a write that fails takes nothing and says no error
 
@@ -29,7 +30,7 @@
 
 struct stream {
     const char *name;
-    long most, times, left, again, nothing, interrupted;
+    long most, times, left, once, again, nothing, interrupted;
 };
 
 struct counts {
@@ -53,6 +54,7 @@ static void ask(struct stream *stream) {
     stream->most = told(stream->name, "MOST", LONG_MAX);
     stream->times = told(stream->name, "TIMES", 0);
     stream->left = told(stream->name, "LEFT", LONG_MAX);
+    stream->once = told(stream->name, "ONCE", LONG_MAX);
     stream->again = told(stream->name, "AGAIN", LONG_MAX);
     stream->nothing = told(stream->name, "NOTHING", 0);
 }
@@ -90,11 +92,17 @@ static long room(struct stream *stream, size_t size) {
         errno = EAGAIN;
         return -1;
     }
+    if (stream->once == 0) {
+        stream->once = LONG_MAX;
+        errno = EIO;
+        return -1;
+    }
     if (stream->left == 0) {
         errno = EIO;
         return -1;
     }
     long most = stream->most < stream->left ? stream->most : stream->left;
+    most = most < stream->once ? most : stream->once;
     most = most < stream->again ? most : stream->again;
     return size < (size_t)most ? (long)size : most;
 }
@@ -103,6 +111,7 @@ static long room(struct stream *stream, size_t size) {
 static ssize_t took(struct stream *stream, ssize_t done) {
     if (done > 0) {
         stream->left -= stream->left == LONG_MAX ? 0 : done;
+        stream->once -= stream->once == LONG_MAX ? 0 : done;
         stream->again -= stream->again == LONG_MAX ? 0 : done;
     }
     return done;

@@ -4,9 +4,11 @@
 Usage: checks/streams.py PROGRAM ..
 The streams are those of checks/streams.c. Sessions that are read and written in parts are answered as ever; a read that fails, or
 would block, ends a session behind the answers to the lines read whole, and such a write behind the bytes that are out. A save goes
-into files that fail, and is whole though its thread begins late or can't be made. Prints a line for each difference and ends with
-status 1 if there is one. Prints nothing where all is well."""
+into files that fail, and is whole though its thread begins late or can't be made. Behind a served session that a fault ended, the
+next client finds the state that it must have left. Prints a line for each difference and ends with status 1 if there is one. Prints
+nothing where all is well."""
 import concurrent.futures
+import contextlib
 import os
 import pathlib
 import struct
@@ -18,7 +20,7 @@ TOP = pathlib.Path(__file__).resolve().parent.parent
 sys.path[:0] = [str(TOP / "checks"), str(TOP / "checks/model"), str(TOP / "checks/program")]
 
 from cases import stored  # noqa: E402
-from clients import asked, ended_by, served  # noqa: E402
+from clients import asked, connected, ended, ended_by, free_port, rest_of, served  # noqa: E402
 from runs import EXAMPLE, EXAMPLE_REPLIES, POINT, POINT_DUMP, POINT_MADE, dump_of_longs  # noqa: E402
 from save_cases import received, saved_to  # noqa: E402
 from serve_cases import ARRAY  # noqa: E402
@@ -46,6 +48,8 @@ new 0 4 0
 new 0 5 0
 sweep 0
 """
+# Lines whose answers tell the state: the place, the retained steps, classes, objects and registers, and the phase.
+QUESTIONS = b"rewind 0\nrewind 65537\ndump -\nmark\ndrain\nfinish\nsweep 0\nsnap\nrewind 2\ndump -\n"
 MANY_POINTS = b"class Point - x:int y:int\n" + b"new 0 0 0\n" * 2000
 
 
@@ -237,6 +241,65 @@ def blocking_sockets(program):
         yield f"a server that would block after {count} bytes", happened[3:], (1, EXAMPLE_REPLIES[:count], b"heapdbg: read\n")
 
 
+# ---- what a session leaves that ended by a fault
+
+
+def left_by(program, lines, questions, **rules):
+    """Returns what a second client is answered once the session of these lines has ended, by rules as RECEIVED_MOST=1."""
+
+    def clients(port):
+        # A session that ends with lines unread resets its connection.
+        with contextlib.suppress(ConnectionResetError):
+            ended_by(lines)(port)
+        return ended(questions + b"end\n")(port)
+
+    *_, answers = served(program.program, clients, ["--sessions", "2"], env=program.rules(**rules))
+    return answers
+
+
+def states_left(program):
+    """Yields served sessions that end at each byte by a read or a write that fails, and the state that the next client finds: the one
+    behind the lines read whole, or up to the line that was being answered."""
+    for lines in (EXAMPLE, SWEPT):
+        for count in range(len(lines)):
+            read = lines[: lines.rfind(b"\n", 0, count) + 1]
+            came = left_by(program, lines, QUESTIONS, RECEIVED_ONCE=count)
+            yield f"left by a read that fails after {count} bytes", replies(read) + came, replies(read + QUESTIONS)
+        for count in range(len(replies(lines))):
+            read = lines[: line_behind(lines, lines, count)]
+            came = left_by(program, lines, QUESTIONS, RECEIVED_MOST=1, SENT_ONCE=count)
+            yield f"left by a write that fails after {count} bytes", replies(read) + came, replies(read + QUESTIONS)
+    pins = b"".join(b"ok pin %d at 1\n" % pin for pin in range(2, 6))
+    for count in range(21, len(dump_of_longs(1024)), 512):
+        came = left_by(program, ARRAY + b"dump -\n", b"open -\n" * 4, SENT_ONCE=count)
+        yield f"pins left by a dump cut after {count} bytes", came, pins
+
+
+def dump_of(port):
+    """Returns what a server of dumps sends."""
+    with connected(port) as client:
+        return rest_of(client, b"")
+
+
+def outlets_that_fail(program):
+    """Yields dumps of a served heap that can't be sent from some byte on: those before come, the next dump is whole, and the heap is as
+    before. The dump's pieces have 143, 149 and 9 bytes."""
+    told = replies(POINT + QUESTIONS)[len(POINT_MADE) :]
+    counts = [(1, count) for count in range(len(POINT_DUMP))]
+    counts += [(4096, count) for count in (0, 1, 142, 143, 144, 291, 292, 293, 300)]
+    for most, count in counts:
+        dumps = free_port()
+
+        def clients(port):
+            ended(POINT + b"end\n")(port)
+            return (dump_of(dumps), dump_of(dumps), *ended(QUESTIONS + b"end\n")(port))
+
+        rules = program.rules(SENT_MOST=most, SENT_ONCE=len(POINT_MADE) + count)
+        happened = served(program.program, clients, ["--sessions", "2", "--dumps", str(dumps)], env=rules)
+        wanted = (0, b"session 1 quit\nsession 2 quit\n", b"", POINT_DUMP[:count], POINT_DUMP, told)
+        yield f"a dump of which {count} bytes can be sent, {most} at once", happened, wanted
+
+
 # ---- saves
 
 
@@ -290,7 +353,7 @@ def late_threads(program):
 
 
 CHECKS = (in_parts, pages, interrupted, failing_reads, failing_writes, failing_files, failing_saves)
-CHECKS += (would_block, blocking_saves, blocking_sockets, late_threads)
+CHECKS += (would_block, blocking_saves, blocking_sockets, states_left, outlets_that_fail, late_threads)
 
 
 def differences(program, check):

@@ -1,7 +1,3 @@
-//! Calls of heap_region, heap_class, hprof_text, heap_world and heap_trail, and a worked example of the barrier.
-mod barrier;
-mod classes;
+//! Calls that no program makes: a list of actions, and the dump of objects in a list.
 mod drive;
 mod dump_text;
-mod heaps;
-mod regions;

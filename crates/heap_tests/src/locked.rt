@@ -1,6 +1,5 @@
-//! The heap under its lock: seats in one thread and in several, workers, and audits. Dumps through the pipe, beside the meter
-//! and of a shared heap's pins: worked examples, outlets that fail or are held, and streams that are cancelled.
-mod acts;
+//! The heap under its lock: seats in one thread and in several, workers, and audits. Dumps of a shared heap's pins, through the pipe
+//! and beside the meter: outlets that are held, and streams that are cancelled.
 mod cancelling;
 mod ends;
 mod gates;
@@ -9,7 +8,6 @@ mod live_tests;
 mod metered;
 mod meters;
 mod points;
-mod pumps;
 mod rolls;
 mod scenes;
 mod shared;

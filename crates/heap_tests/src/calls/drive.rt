@@ -1,45 +1,36 @@
 //! A list of actions that a machine is driven through.
-use super::heaps::{machine_after, settings};
+use crate::scripts::{new, point};
 use heap_class::Refusal;
-use heap_scripts::new;
-use heap_trail::{Action, Machine, Reply};
-use std::alloc::{AllocError, Global};
+use heap_lock::{Action, Config, Machine};
+use heap_trail::Reply;
+use std::alloc::Global;
 use std::test::Fail;
 
-// Creates a machine that keeps two steps, after a class and an instance of it.
-fn with_node(alloc: Global) -> Result<Machine, Fail> {
-    machine_after(alloc, settings(1, 1, 2)?, &[new(0)])
-}
-
-// Steps, a refused rewind, and what a dump asks for.
-fn actions_of_dump(alloc: Global) -> Result<Vec<Action>, AllocError> {
-    let mut actions = Vec::new(alloc);
-    actions.push(Action::OpenPin(None))?;
-    actions.push(Action::Step(new(0)))?;
-    actions.push(Action::Rewind(9))?;
-    actions.push(Action::NextPiece { pin: 1, time: 7 })?;
-    actions.push(Action::ClosePin(1))?;
-    Ok(actions)
-}
-
-// Returns whether these are the replies to those actions.
+// Returns whether these are the replies to the actions of a dump.
 fn are_replies(replies: &[Reply]) -> bool {
-    match replies {
+    matches!(
+        replies,
         [
             Reply::Pinned { pin: 1, at: 2 },
             Reply::Answered(_),
             Reply::Refused(Refusal::TooFar { .. }),
             Reply::Part(_),
             Reply::Closed,
-        ] => true,
-        _ => false,
-    }
+        ]
+    )
 }
 
-// Drives a machine through actions. Returns whether the replies are as expected, with the place and the number of retained
-// steps after them.
-fn driven(machine: &mut Machine, actions: &[Action]) -> Option<(bool, u64, u64)> {
-    let replies = machine.drive(actions).ok()?;
+// Drives a machine through a step, a refused rewind, and what a dump asks for. Returns whether the replies are as expected, with
+// the place and the number of retained steps after them.
+fn driven(machine: &mut Machine) -> Option<(bool, u64, u64)> {
+    let actions = [
+        Action::OpenPin(None),
+        Action::Step(new(0)),
+        Action::Rewind(9),
+        Action::NextPiece { pin: 1, time: 7 },
+        Action::ClosePin(1),
+    ];
+    let replies = machine.drive(actions.as_slice()).ok()?;
     Some((
         are_replies(&replies),
         machine.place(),
@@ -47,15 +38,25 @@ fn driven(machine: &mut Machine, actions: &[Action]) -> Option<(bool, u64, u64)>
     ))
 }
 
-// Drives a machine with a node through the actions of a dump.
-fn node_driven(alloc: Global) -> Result<Option<(bool, u64, u64)>, Fail> {
-    let actions = actions_of_dump(alloc)?;
-    let mut machine = with_node(alloc)?;
-    Ok(driven(&mut machine, &actions))
+// Does so once there is a point.
+fn point_driven(alloc: Global, machine: &mut Machine) -> Option<(bool, u64, u64)> {
+    let class = point(alloc).ok()?;
+    machine.step(&class).ok()?;
+    machine.step(&new(0)).ok()?;
+    driven(machine)
+}
+
+// Does so on a new machine, which keeps two steps.
+fn new_driven(alloc: Global) -> Option<(bool, u64, u64)> {
+    let config = Config::new(1, 1, 2)?;
+    match Machine::new(alloc, config) {
+        Ok(mut machine) => point_driven(alloc, &mut machine),
+        Err(_) => None,
+    }
 }
 
 #[test]
 fn lists_are_driven(rt: HostRuntime) -> Result<(), Fail> {
-    assert_eq!(rt; node_driven(rt.alloc())?, Some((true, 3, 2)));
+    assert_eq!(rt; new_driven(rt.alloc()), Some((true, 3, 2)));
     Ok(())
 }

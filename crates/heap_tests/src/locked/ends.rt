@@ -6,18 +6,16 @@ ghost use Rattle.dump_pipe.specs.Seats.{knows};
 ghost use Rattle.dump_pipe.specs.declared.end_view.EndView.TheVariants.{Sends, Gets};
 
 use super::meters::{FourSeats, new_meter};
-use super::points::one_point;
 use super::scenes::{Scene, Stage, play_scene};
-use super::shared::{closes_pin, has_points, opened_pin, pumped_now};
+use super::shared::{closes_pin, has_points, opened_pin};
 use super::sinks::reaches;
 use super::sources::Counted;
-use dump_pipe::start::Start;
+use crate::sink::Sink;
 use dump_pipe::{
     BothEnds, Counter, End, Knowledge, Meter, OutSeat, Receiver, Sender, drain_pipe, feed, pipe,
 };
 use dump_pump::{Ending, Pumped, WriteOutlet};
 use heap_lock::{Heap, LockedSource, Shared};
-use heap_scripts::Sink;
 use std::alloc::Global;
 use std::sync::Wait;
 use std::sync::atomic::{AtomicU64, Ordering};
@@ -147,89 +145,5 @@ pub fn nine_asked<L: Heap + Send + Sync, R: Threads + Wait + Sync>(
 #[test]
 fn pipe_needs_two(rt: HostRuntime) -> Result<(), Fail> {
     assert!(rt; play_scene(&rt, rt.alloc(), Scene::NineAsked) == Some(true));
-    Ok(())
-}
-
-// Returns how a pipe goes into an outlet that fails after this number of bytes of the dump of one point, if they are fewer than
-// all.
-fn wanted_end(most: usize) -> Pumped {
-    let bytes = most as u64;
-    if most < 301 {
-        Pumped::OutletFailed { bytes }
-    } else {
-        Pumped::Done { bytes }
-    }
-}
-
-// Returns whether a sink that fails ends the pipe of one point as it should, and a new pin of the heap then gives its whole
-// dump.
-fn fails_as_told<L: Heap + Send + Sync, R: Threads + Wait + Sync>(
-    rt: &R,
-    alloc: Global,
-    shared: &Shared<L>,
-    sink: Sink<'_>,
-) -> Option<bool> {
-    let room = sink.room;
-    let text = sink.rest;
-    let ((ending, given, _, pumped), sink) = pipe_whole(rt, alloc, shared, sink, 0)?;
-    let (again, _, whole) = pumped_now(rt, shared, Sink::new(text))?;
-    Some(
-        (ending, given, pumped) == (Ending::Whole, 3, wanted_end(room))
-            && sink.has_first(room)
-            && again == wanted_end(301)
-            && whole.is_whole(),
-    )
-}
-
-// Returns whether sinks that fail after 0 to 300 bytes, and one that doesn't, end the pipe as they should.
-fn each_fails_as_told<L: Heap + Send + Sync, R: Threads + Wait + Sync>(
-    rt: &R,
-    alloc: Global,
-    shared: &Shared<L>,
-    sink: Sink<'_>,
-) -> bool {
-    for room in 0..302usize {
-        if fails_as_told(rt, alloc, shared, Sink { room, ..sink }) != Some(true) {
-            return false;
-        }
-    }
-    true
-}
-
-/// Drains the dump of one point into sinks that fail, by bytes and at once. Returns whether all goes as it must.
-pub fn failing_ends<L: Heap + Send + Sync, R: Threads + Wait + Sync>(
-    Stage(rt, alloc, shared, five): Stage<'_, L, R>,
-) -> Option<bool> {
-    let text = one_point(rt, alloc, shared, &mut five.user)?;
-    let sink = Sink::new(text.as_slice());
-    Some(
-        each_fails_as_told(rt, alloc, shared, Sink { most: 1, ..sink })
-            && each_fails_as_told(rt, alloc, shared, sink),
-    )
-}
-
-#[test]
-fn outlets_that_fail(rt: HostRuntime) -> Result<(), Fail> {
-    assert!(rt; play_scene(&rt, rt.alloc(), Scene::FailingEnds) == Some(true));
-    Ok(())
-}
-
-// Returns what a start is told that nobody makes in time: whether it was begun, whether one may begin then, and whether it was
-// begun.
-fn given_up<R: Wait>(rt: &R) -> (bool, bool, bool) {
-    let late = Start::new();
-    (late.is_begun(rt), late.begin(), late.is_begun(rt))
-}
-
-// Returns what a start is told that somebody makes in time: whether one may begin, and whether it was begun, twice.
-fn begun<R: Wait>(rt: &R) -> (bool, bool, bool) {
-    let early = Start::new();
-    (early.begin(), early.is_begun(rt), early.is_begun(rt))
-}
-
-#[test]
-fn a_thread_that_never_begins_is_given_up(rt: HostRuntime) -> Result<(), Fail> {
-    let went = (given_up(&rt), begun(&rt));
-    assert!(rt; went == ((false, false, false), (true, true, true)));
     Ok(())
 }

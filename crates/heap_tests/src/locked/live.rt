@@ -48,7 +48,7 @@ pub fn pumped_beside<L: Heap + Send + Sync, R: Threads + Wait + Sync>(
         move || write_once_held(rt, shared, mutator, here, gate),
         move || {
             let writer = Gated::new(text, 0, here, gate);
-            let (pumped, _, writer) = pump_into(rt, shared, pin, writer);
+            let (pumped, writer) = pump_into(rt, shared, pin, writer);
             (pumped, writer.sink.taken, writer.sink.is_text)
         },
     )

@@ -5,9 +5,9 @@ use super::meters::{FourSeats, new_meter, stream_seats};
 use super::points::one_point;
 use super::scenes::{Scene, Stage, play_scene};
 use super::shared::{has_points, opened_pin, pumped_now};
+use crate::sink::Sink;
 use dump_pump::Pumped;
 use heap_lock::{Heap, Shared};
-use heap_scripts::Sink;
 use std::alloc::Global;
 use std::sync::Wait;
 use std::test::*;
@@ -96,7 +96,7 @@ pub fn stream_cancelled<L: Heap + Send + Sync, R: Threads + Wait + Sync>(
     }
     let done = (Pumped::Done { bytes: 66412 }, 66412);
     let is_whole = unread(rt, alloc, shared, false, Sink::new(&[])) == Some(done);
-    let (_, _, text) = pumped_now(rt, shared, Vec::new(alloc))?;
+    let (_, text) = pumped_now(rt, shared, Vec::new(alloc))?;
     Some(is_whole && is_beginning(rt, alloc, shared, text.as_slice()) == Some(true))
 }
 

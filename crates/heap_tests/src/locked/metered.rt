@@ -1,16 +1,15 @@
 //! Dumps of a shared heap's pin that count their bytes by a meter: read, failing, and cancelled before they begin.
 ghost use Rattle.std.specs.Prelude.{◌≡◌};
 ghost use denote.Param.Send.{IsSync};
-ghost use Rattle.dump_pipe.specs.Seats.{knows};
 
 use super::meters::{FourSeats, new_meter, stream_seats};
 use super::scenes::{Scene, Stage, play_scene};
 use super::shared::{has_points, live_pin, opened_pin, pumped_now, stream_into};
 use super::sinks::{Gated, TURNS, reaches};
-use dump_pipe::{Counter, Meter, OutSeat, Progress, ReadSeat, pump_counted};
-use dump_pump::{Pumped, WriteOutlet};
-use heap_lock::{Heap, LockedSource, Shared};
-use heap_scripts::Sink;
+use crate::sink::Sink;
+use dump_pipe::{Progress, ReadSeat};
+use dump_pump::Pumped;
+use heap_lock::{Heap, Shared};
 use live_dump::StreamSeats;
 use std::alloc::Global;
 use std::sync::Wait;
@@ -151,7 +150,7 @@ pub fn metered_streams<L: Heap + Send + Sync, R: Threads + Wait + Sync>(
     let read = is_read(rt, alloc, shared);
     let cancelled = unread(rt, alloc, shared, true, sink);
     let failed = unread(rt, alloc, shared, false, short);
-    let (pumped, _, _) = pumped_now(rt, shared, sink)?;
+    let (pumped, _) = pumped_now(rt, shared, sink)?;
     Some(
         read == Some(true)
             && cancelled == Some((Pumped::Cancelled { bytes: 0 }, 0))
@@ -163,67 +162,5 @@ pub fn metered_streams<L: Heap + Send + Sync, R: Threads + Wait + Sync>(
 #[test]
 fn stream_with_progress_and_cancel(rt: HostRuntime) -> Result<(), Fail> {
     assert!(rt; play_scene(&rt, rt.alloc(), Scene::MeteredStreams) == Some(true));
-    Ok(())
-}
-
-// Puts out the parts of a pin in one thread, into a sink that takes `room` bytes. Returns how it went, how many bytes are out,
-// and what is read then.
-fn counted_of<L: Heap, R: Wait>(
-    rt: &R,
-    shared: &Shared<L>,
-    pin: u64,
-    room: usize,
-    meter: &Meter,
-    out: OutSeat,
-    reader: &mut ReadSeat,
-) -> (Pumped, usize, u64)
-    requires out { out ≡ knows meter.now 0 }
-    requires reader { reader.old.meter ≡ meter.now }
-{
-    let mut source = LockedSource::new(shared, rt, shared.witness(rt), pin, 0);
-    let mut outlet = WriteOutlet::new(Sink {
-        room,
-        ..Sink::new(&[])
-    });
-    let mut counter = Counter::new(meter.progress(), out);
-    let pumped = pump_counted(&mut source, &mut outlet, &mut counter);
-    let read = meter.progress().read(reader);
-    (pumped, outlet.into_writer().taken, read)
-}
-
-// Does so with a new pin and a new meter.
-fn counted_run<L: Heap, R: Wait>(
-    rt: &R,
-    alloc: Global,
-    shared: &Shared<L>,
-    room: usize,
-) -> Option<(Pumped, usize, u64)> {
-    let pin = opened_pin(rt, shared)?;
-    let FourSeats {
-        meter,
-        out,
-        mut reader,
-        asker: _,
-        feed: _,
-    } = new_meter(alloc)?;
-    Some(counted_of(rt, shared, pin, room, &meter, out, &mut reader))
-}
-
-/// Puts out thirty points in one thread, whole and into a sink that fails. Returns whether the meter counts what is out.
-pub fn counted_pumps<L: Heap + Send + Sync, R: Threads + Wait + Sync>(
-    Stage(rt, alloc, shared, five): Stage<'_, L, R>,
-) -> Option<bool> {
-    let made = has_points(rt, alloc, shared, &mut five.user, 30);
-    let whole = counted_run(rt, alloc, shared, usize::MAX);
-    let failed = counted_run(rt, alloc, shared, 200);
-    Some(
-        made && whole == Some((DONE, 1258, 1258))
-            && failed == Some((Pumped::OutletFailed { bytes: 200 }, 200, 200)),
-    )
-}
-
-#[test]
-fn one_thread_counts_what_is_out(rt: HostRuntime) -> Result<(), Fail> {
-    assert!(rt; play_scene(&rt, rt.alloc(), Scene::CountedPumps) == Some(true));
     Ok(())
 }

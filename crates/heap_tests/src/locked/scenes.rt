@@ -1,13 +1,11 @@
 //! Worked examples, each over a new heap under its lock.
 ghost use Rattle.heap_lock.specs.Blanks.{IsNamed};
 
-use super::acts::{five_calls, rewind_between};
 use super::cancelling::cancelled_pumps;
-use super::ends::{failing_ends, nine_asked};
+use super::ends::nine_asked;
 use super::gates::watched_workers;
 use super::live_tests::{pump_beside, stream_beside, stream_cancelled};
-use super::metered::{counted_pumps, metered_streams};
-use super::pumps::failing_pumps;
+use super::metered::metered_streams;
 use super::rolls::rolling;
 use super::threads::four_threads;
 use super::workers::cycles;
@@ -20,18 +18,13 @@ use std::thread::Threads;
 /// What is played on a new heap. The function of the same name says what it is.
 #[derive(Clone, Copy)]
 pub enum Scene {
-    RewindBetween,
-    FiveCalls,
     CancelledPumps,
     NineAsked,
-    FailingEnds,
     WatchedWorkers,
     PumpBeside,
     StreamBeside,
     StreamCancelled,
     MeteredStreams,
-    CountedPumps,
-    FailingPumps,
     Rolling,
     FourThreads,
     Cycles,
@@ -75,18 +68,13 @@ fn play<L: Heap + Send + Sync, R: Threads + Wait + Sync>(
     scene: Scene,
 ) -> Option<bool> {
     match scene {
-        Scene::RewindBetween => rewind_between(stage),
-        Scene::FiveCalls => five_calls(stage),
         Scene::CancelledPumps => cancelled_pumps(stage),
         Scene::NineAsked => nine_asked(stage),
-        Scene::FailingEnds => failing_ends(stage),
         Scene::WatchedWorkers => watched_workers(stage),
         Scene::PumpBeside => pump_beside(stage),
         Scene::StreamBeside => stream_beside(stage),
         Scene::StreamCancelled => stream_cancelled(stage),
         Scene::MeteredStreams => metered_streams(stage),
-        Scene::CountedPumps => counted_pumps(stage),
-        Scene::FailingPumps => failing_pumps(stage),
         Scene::Rolling => rolling(stage),
         Scene::FourThreads => four_threads(stage),
         Scene::Cycles => cycles(stage),

@@ -1,9 +1,9 @@
 //! What scenes do with heaps.
 ghost use Rattle.std.specs.Prelude.{◌≡◌};
 
+use crate::scripts::{new, point};
 use dump_pump::{Pumped, WriteOutlet, pump};
 use heap_lock::{Action, Event, Heap, LockedSource, Receipt, Role, Seat, Shared};
-use heap_scripts::{new, point};
 use live_dump::{LivePin, StreamSeats, stream};
 use std::alloc::Global;
 use std::io::Write;
@@ -115,25 +115,25 @@ pub fn stream_into<L: Heap + Send + Sync, W: Write + Drop, R: Threads + Wait + S
     (pumped, outlet.into_writer())
 }
 
-/// Pumps the dump of a pin into a writer. Returns how it went, how many parts were given, and the writer.
+/// Pumps the dump of a pin into a writer. Returns how it went, and the writer.
 pub fn pump_into<L: Heap, W: Write + Drop, R: Wait>(
     rt: &R,
     shared: &Shared<L>,
     pin: u64,
     writer: W,
-) -> (Pumped, u64, W) {
+) -> (Pumped, W) {
     let mut source = LockedSource::new(shared, rt, shared.witness(rt), pin, 0);
     let mut outlet = WriteOutlet::new(writer);
     let pumped = pump(&mut source, &mut outlet);
-    (pumped, source.count, outlet.into_writer())
+    (pumped, outlet.into_writer())
 }
 
-/// Opens a pin, pumps its dump into a writer and closes it. Returns how it went, how many parts were given, and the writer.
+/// Opens a pin, pumps its dump into a writer and closes it. Returns how it went, and the writer.
 pub fn pumped_now<L: Heap, W: Write + Drop, R: Wait>(
     rt: &R,
     shared: &Shared<L>,
     writer: W,
-) -> Option<(Pumped, u64, W)> {
+) -> Option<(Pumped, W)> {
     let pin = opened_pin(rt, shared)?;
     let went = pump_into(rt, shared, pin, writer);
     closes_pin(rt, shared, pin);

@@ -1,5 +1,5 @@
 //! Waiting for another thread, also before a write.
-use heap_scripts::Sink;
+use crate::sink::Sink;
 use std::io;
 use std::io::{ErrorKind, Write};
 use std::sync::atomic::{AtomicU64, Ordering};

@@ -2,11 +2,11 @@
 
 use super::scenes::{Five, Scene, Stage, play_scene};
 use super::shared::acts;
+use crate::scripts::{new, point};
 use heap_class::Refusal;
 use heap_lock::{
     Action, Answer, Event, Heap, Outcome, Receipt, Role, Seat, Shared, Verdict, audit,
 };
-use heap_scripts::{new, node};
 use heap_work::{Gate, MarkEnd, Open, SweepEnd, mark_worker, sweep_worker};
 use std::alloc::Global;
 use std::sync::Wait;
@@ -37,14 +37,14 @@ pub fn run_worker<L: Heap, R: Wait, G: Gate>(
     }
 }
 
-/// Defines the class of nodes and creates two, in the first two registers. Returns whether all was answered.
+/// Defines the class of points and creates two, in the first two registers. Returns whether all was answered.
 pub fn began<L: Heap, R: Wait>(
     rt: &R,
     alloc: Global,
     shared: &Shared<L>,
     user: &mut Seat<L>,
 ) -> bool {
-    let Ok(class) = node(alloc) else {
+    let Ok(class) = point(alloc) else {
         return false;
     };
     acts(rt, shared, user, class)

@@ -2,7 +2,7 @@
 use std::io;
 use std::io::{ErrorKind, Write};
 
-/// Compares what it takes with a text. It fails once no write or no room is left to it.
+/// Compares what it takes with a text. It fails once no room is left to it.
 #[derive(Clone, Copy)]
 pub struct Sink<'a> {
     /// What is left of the text.
@@ -11,10 +11,6 @@ pub struct Sink<'a> {
     pub taken: usize,
     /// Whether they are the first of the text.
     pub is_text: bool,
-    /// The most bytes that it takes a write.
-    pub most: usize,
-    /// The number of writes that are left to it.
-    pub writes: usize,
     /// The number of bytes that are left to it.
     pub room: usize,
 }
@@ -26,8 +22,6 @@ impl<'a> Sink<'a> {
             rest: text,
             taken: 0,
             is_text: true,
-            most: usize::MAX,
-            writes: usize::MAX,
             room: usize::MAX,
         }
     }
@@ -45,15 +39,14 @@ impl<'a> Sink<'a> {
 
 impl Write for Sink<'_> {
     fn write(&mut self, given: &[u8]) -> io::Result<usize> {
-        let size = given.len().min(self.most).min(self.room);
-        if self.writes == 0 || size == 0 {
+        let size = given.len().min(self.room);
+        if size == 0 {
             return Err(ErrorKind::BrokenPipe.into());
         }
         match self.rest.strip_prefix(&given[..size]) {
             Some(rest) => self.rest = rest,
             None => self.is_text = false,
         }
-        self.writes -= 1;
         self.room -= size;
         self.taken = self.taken.saturating_add(size);
         Ok(size)

@@ -1,4 +1,0 @@
-use Rattle.growths.proofs.acts.run.Given as goal
-
-abbrev pub ghosts-run_in : goal.ghosts-run_in
-ghosts-run_in g a = record { config = a.blank.config; tables = a.blank.tables; ledger = a.blank.ledger; rolls = a.blank.rolls }

@@ -248,8 +248,8 @@ def left_by(program, lines, questions, **rules):
     """Returns what a second client is answered once the session of these lines has ended, by rules as RECEIVED_MOST=1."""
 
     def clients(port):
-        # A session that ends with lines unread resets its connection.
-        with contextlib.suppress(ConnectionResetError):
+        # A session that ends with lines unread resets its connection, maybe while they are sent.
+        with contextlib.suppress(OSError):
             ended_by(lines)(port)
         return ended(questions + b"end\n")(port)
 

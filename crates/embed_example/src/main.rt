@@ -159,15 +159,10 @@ fn print_report<W: Write + Drop, R: Print + Files>(rt: &R, report: &Report<W>) -
     println!(rt; "{receipts} receipts stand in the audit")
 }
 
-// Defines the class of nodes on a machine.
-fn define_node(machine: &mut Machine, alloc: Global) -> Result<(), Refusal> {
-    let class = node_class(alloc)?;
-    machine.step(&class)?;
-    Ok(())
-}
-
-// Makes three nodes on a machine, and undoes that. Returns the place.
-fn make_and_undo(machine: &mut Machine) -> Result<u64, Refusal> {
+// Defines a class and makes three nodes on a machine, and undoes all but the class. Returns the place.
+fn make_and_undo(machine: &mut Machine, alloc: Global) -> Result<u64, Refusal> {
+    let node = node_class(alloc)?;
+    machine.step(&node)?;
     let (m, class) = (0, NODE);
     for r in 0..3u64 {
         machine.step(&Event::New { m, r, class })?;
@@ -175,11 +170,10 @@ fn make_and_undo(machine: &mut Machine) -> Result<u64, Refusal> {
     machine.rewind(3)
 }
 
-// Defines a class and makes three nodes on a machine of one's own, and undoes all but the class. Returns the place.
+// Does so on a machine of one's own.
 fn rewound(alloc: Global, config: Config) -> Result<u64, Refusal> {
     let mut machine = Machine::new(alloc, config)?;
-    define_node(&mut machine, alloc)?;
-    make_and_undo(&mut machine)
+    make_and_undo(&mut machine, alloc)
 }
 
 // Runs the actors, dumps beside them, and prints what they did.

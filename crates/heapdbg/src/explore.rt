@@ -32,35 +32,45 @@ pub fn explore<R: AllocGlobal + Eprint + Files, I: Inlet, O: Outlet>(
     ensures { IsExplored from request.entry.settings (I.seen reader.old) (I.seen reader.new)
         (O.seen writer.old) (O.seen writer.new) result }
 {
-    match begin(rt, request, from, watch) {
-        Ok(mut asking) => {
-            let time = request.settings.time;
-            let ended = serve_asking(rt.alloc(), reader, writer, &mut asking, time);
-            outcome(ended)
-        }
+    match open(rt.alloc(), &request.settings, watch) {
+        Ok(mut asking) => explore_on(rt, request, from, &mut asking, reader, writer),
         Err(fault) => Err(fault),
     }
 }
 
-// Opens the heap, and runs the lines of the file of the path if `from` says so.
-fn begin<'a, R: AllocGlobal + Eprint + Files>(
+// Runs one session over a heap as it begins, after the lines of the file of the path if `from` says so.
+fn explore_on<R: AllocGlobal + Eprint + Files, I: Inlet, O: Outlet>(
     rt: &R,
     request: Request<'_>,
     from: bool,
-    watch: &'a Watch,
-) -> Result<Asking<'a>, Fault>
-    requires { IsHeapWithin request.settings }
-    ensures begun { IfOk result (IsSessionBegun from request.entry.settings) }
+    asking: &mut Asking<'_>,
+    reader: &mut I,
+    writer: &mut O,
+) -> Result<(), Fault>
+    requires { IsOpening request.settings asking.old }
+    ensures { IsExplored from request.entry.settings (I.seen reader.old) (I.seen reader.new)
+        (O.seen writer.old) (O.seen writer.new) result }
+{
+    begin(rt, request, from, asking)?;
+    let ended = serve_asking(rt.alloc(), reader, writer, asking, request.settings.time);
+    outcome(ended)
+}
+
+// Runs the lines of the file of the path on a heap as it begins, if `from` says so.
+fn begin<R: AllocGlobal + Eprint + Files>(
+    rt: &R,
+    request: Request<'_>,
+    from: bool,
+    asking: &mut Asking<'_>,
+) -> Result<(), Fault>
+    requires { IsOpening request.settings asking.old }
+    ensures begun { IfOk result (λ u. IsSessionBegun from request.entry.settings asking.new) }
     ensures hindrance { IfErr result (IsHindrance from) }
 {
-    let mut asking = open(rt.alloc(), &request.settings, watch)?;
-    if !from {
-        return Ok(asking);
+    if from {
+        return load(rt, request, asking);
     }
-    match load(rt, request, &mut asking) {
-        Ok(()) => Ok(asking),
-        Err(fault) => Err(fault),
-    }
+    Ok(())
 }
 
 // Opens the heap.

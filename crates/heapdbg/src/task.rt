@@ -3,6 +3,8 @@ ghost use Rattle.std.specs.Prelude.{◌≡◌, ◌⊎◌, Some, IfOk, IfErr, map
 ghost use Rattle.std.specs.IoError.{error_kind};
 ghost use Rattle.heapdbg_options.specs.CommandLine.{AreSettingsWithin, IsBadWith, IsHeapWithin, settings_of};
 ghost use Rattle.heapdbg_options.specs.Refusals.{IsRefusalOf};
+ghost use Rattle.heapdbg_options.specs.declared.settings.Task.TheVariants.{Save};
+ghost use Rattle.heapdbg.specs.FetchOutcomes.{IsDumpFetched};
 ghost use Rattle.heapdbg.specs.Runs.{IsTaskDone, IsRun, IsRunWith, IsPerformed};
 
 use crate::ask::ask_port;
@@ -161,18 +163,13 @@ where
     ensures { IsTaskDone request.entry.settings.task request.entry.settings (I.seen reader.old)
         (I.seen reader.new) (O.seen writer.old) (O.seen writer.new) result }
 {
-    let Request { settings, path } = request;
+    let settings = request.settings;
     let Screen { is_terminal, watch } = screen;
-    let mut gauge = TerminalGauge::new(rt, rt.alloc(), settings.ids, is_terminal);
     match settings.task {
         Task::Run => run(rt, request, watch, reader, writer),
         Task::Explore { from } => explore(rt, request, from, watch, reader, writer),
         Task::Draw => draw(rt, rt.alloc(), request, reader, writer),
-        Task::Save(Target::Out) => {
-            let to = out_file(rt, file_of(rt, path)?);
-            save(rt, &settings, to, reader, writer, &mut gauge)
-        }
-        Task::Save(Target::To(to)) => save(rt, &settings, peer(rt, to), reader, writer, &mut gauge),
+        Task::Save(target) => save_at(rt, request, target, is_terminal, reader, writer),
         Task::Serve {
             port,
             sessions,
@@ -183,8 +180,47 @@ where
             serve_port(rt, rt.alloc(), &settings, service, writer, is_terminal)
         }
         Task::Ask { port } => ask_port(rt, rt.alloc(), port, input, writer),
-        Task::Fetch { port } => fetch_port(rt, port, file_of(rt, path)?, writer, is_terminal),
+        Task::Fetch { port } => fetch_to(rt, port, request.path, writer, is_terminal),
     }
+}
+
+// Runs a session, and dumps the state that it leaves to a target.
+fn save_at<R, I: Inlet, O: Outlet>(
+    rt: &R,
+    request: Request<'_>,
+    target: Target,
+    is_terminal: bool,
+    reader: &mut I,
+    writer: &mut O,
+) -> Result<(), Fault>
+where
+    R: AllocGlobal + Clock + Eprint + Files + Net + Threads + Wait + Sync,
+    requires { IsHeapWithin request.settings }
+    ensures { IsTaskDone (Save target) request.entry.settings (I.seen reader.old)
+        (I.seen reader.new) (O.seen writer.old) (O.seen writer.new) result }
+{
+    let Request { settings, path } = request;
+    let mut gauge = TerminalGauge::new(rt, rt.alloc(), settings.ids, is_terminal);
+    match target {
+        Target::Out => {
+            let to = out_file(rt, file_of(rt, path)?);
+            save(rt, &settings, to, reader, writer, &mut gauge)
+        }
+        Target::To(port) => save(rt, &settings, peer(rt, port), reader, writer, &mut gauge),
+    }
+}
+
+// Fetches the dump that a port gives into the file of the path.
+fn fetch_to<R: Clock + Eprint + Files + Net + Wait, O: Outlet>(
+    rt: &R,
+    port: u16,
+    path: Option<&str>,
+    writer: &mut O,
+    is_terminal: bool,
+) -> Result<(), Fault>
+    ensures { IsDumpFetched (O.seen writer.old) (O.seen writer.new) result }
+{
+    fetch_port(rt, port, file_of(rt, path)?, writer, is_terminal)
 }
 
 // The text for a word that is no UTF-8.

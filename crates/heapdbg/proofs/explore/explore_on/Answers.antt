@@ -1,13 +1,13 @@
 use Rattle.std.proofs.Common.{inl}
-use Rattle.heapdbg.proofs.explore.explore.Goals as goal
+use Rattle.heapdbg.proofs.explore.explore_on.Goals as goal
 
-pub returns-in-Ok : goal.returns-in-Ok
-returns-in-Ok g c =
+pub returns : goal.returns
+returns g c =
     inl (
       c.serve_asking-ended.result,
-      c.in-Ok.asking,
+      c.begin.new.asking,
       c.serve_asking-ended.new.asking,
-      c.in-Ok.ensures.begun,
+      c.in_ok-begin.ensures.begun,
       c.serve_asking-ended.ensures.session,
       c.serve_asking-ended.ensures.ends,
       c.outcome.ensures,

@@ -60,7 +60,7 @@ struct Watching<'a, W: DumpWatcher + Drop> {
 
 // An outlet, the time in the header of a dump, and the seats of a meter that it needs.
 #[derive(Drop)]
-struct Writing<'a, O: Outlet + Drop> {
+struct Sending<'a, O: Outlet + Drop> {
     outlet: O,
     time: u64,
     meter: &'a Meter,
@@ -106,18 +106,18 @@ fn write<L: Heap + Send + Sync, O: Outlet + Drop, R: Threads + Wait + Sync>(
     rt: &R,
     alloc: Global,
     shared: &Shared<L>,
-    writing: Writing<'_, O>,
+    sending: Sending<'_, O>,
 ) -> (Result<Pumped, Refusal>, O)
-    ensures { IsDumped L.config writing.entry.time (O.seen writing.entry.outlet) result.0
+    ensures { IsDumped L.config sending.entry.time (O.seen sending.entry.outlet) result.0
         (O.seen result.1) }
 {
-    let Writing {
+    let Sending {
         mut outlet,
         time,
         meter,
         out,
         feed,
-    } = writing;
+    } = sending;
     let mut witness = shared.witness(rt);
     let pin = match shared.open_pin(rt, &mut witness, None) {
         Ok(pinned) => pinned.pin,
@@ -145,10 +145,10 @@ fn write_watched<
     rt: &R,
     alloc: Global,
     shared: &Shared<L>,
-    writing: Writing<'_, O>,
+    sending: Sending<'_, O>,
     watching: Watching<'_, W>,
 ) -> Dumped<O, W>
-    ensures { IsDumped L.config writing.entry.time (O.seen writing.entry.outlet) result.end
+    ensures { IsDumped L.config sending.entry.time (O.seen sending.entry.outlet) result.end
         (O.seen result.outlet) }
 {
     let has_ended = AtomicU64::new(0);
@@ -159,7 +159,7 @@ fn write_watched<
         move || -> (Result<Pumped, Refusal>, O)
             requires { IsSync R.row }
         {
-            let written = write(rt, alloc, shared, writing);
+            let written = write(rt, alloc, shared, sending);
             ended.store(1, Ordering::SeqCst);
             written
         },
@@ -206,12 +206,12 @@ pub fn dump<
         reader,
         asker,
     };
-    let writing = Writing {
+    let sending = Sending {
         outlet,
         time,
         meter: &meter,
         out,
         feed,
     };
-    write_watched(rt, alloc, shared, writing, watching)
+    write_watched(rt, alloc, shared, sending, watching)
 }

@@ -5,7 +5,7 @@ use std::str;
 use strsim::levenshtein;
 
 // The keywords of all lines.
-const KEYWORDS: [&str; 36] = [
+const KEYWORDS: &[&str] = &[
     "class",
     "array",
     "new",
@@ -79,7 +79,7 @@ fn nearest(alloc: Global, word: &str) -> Result<Option<&'static str>, AllocError
         let distance = levenshtein(alloc, word, keyword)?;
         if distance < least {
             least = distance;
-            found = Some(keyword);
+            found = Some(*keyword);
         }
     }
     Ok(found)

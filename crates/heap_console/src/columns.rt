@@ -106,21 +106,31 @@ fn add_line(text: &mut Vec<u8>, line: &[u8]) -> Result<(), AllocError> {
     Ok(())
 }
 
-// Returns whole lines, the last without its LF, with their rows in columns. Fails if an allocation fails.
-fn lines_in_columns(alloc: Global, lines: &[u8]) -> Result<Vec<u8>, AllocError> {
-    let mut text = Vec::new(alloc);
-    let mut rows = Vec::new(alloc);
+// Appends whole lines, the last without its LF, with their rows in columns: the rows that stand together, and then the line
+// after them. Fails if an allocation fails.
+fn add_lines<'a>(
+    text: &mut Vec<u8>,
+    rows: &mut Vec<&'a [u8]>,
+    lines: &'a [u8],
+) -> Result<(), AllocError> {
     for line in lines.split(|byte| *byte == LINE_END) {
         match line.strip_prefix(b"row ") {
             Some(row) => rows.push(row)?,
             None => {
-                add_rows(&mut text, rows.as_slice())?;
+                add_rows(text, rows.as_slice())?;
                 rows.clear();
-                add_line(&mut text, line)?;
+                add_line(text, line)?;
             }
         }
     }
-    add_rows(&mut text, rows.as_slice())?;
+    add_rows(text, rows.as_slice())
+}
+
+// Returns whole lines, the last without its LF, with their rows in columns. Fails if an allocation fails.
+fn lines_in_columns(alloc: Global, lines: &[u8]) -> Result<Vec<u8>, AllocError> {
+    let mut text = Vec::new(alloc);
+    let mut rows = Vec::new(alloc);
+    add_lines(&mut text, &mut rows, lines)?;
     Ok(text)
 }
 

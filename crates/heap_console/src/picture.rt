@@ -115,7 +115,7 @@ fn add_rows(
     classes: &FirstClasses<'_>,
     rows: &[Row],
     ranked: &[usize],
-) -> Result<(), Refusal> {
+) -> Result<(), AllocError> {
     let count = rows.len().min(CLASS_ROWS + classes.len() as usize);
     let mut y = y;
     let mut color = 0;
@@ -140,6 +140,41 @@ fn class_lines(ranked: &[usize]) -> u64 {
     ranked.len().min(OTHER) as u64
 }
 
+// A state as it is drawn: its machine, the rows of its histogram and their order, and their colours.
+#[derive(Clone, Copy)]
+struct Drawing<'a> {
+    machine: &'a Machine,
+    rows: &'a [Row],
+    ranked: &'a [usize],
+    palette: &'a Palette,
+}
+
+// Appends the picture of a state that has these classes.
+fn add_picture(
+    alloc: Global,
+    text: &mut Vec<u8>,
+    classes: &FirstClasses<'_>,
+    drawing: Drawing<'_>,
+) -> Result<(), AllocError> {
+    let Drawing {
+        machine,
+        rows,
+        ranked,
+        palette,
+    } = drawing;
+    let world = machine.world();
+    let regions = world.regions();
+    let legend = middle_of(regions.count()).saturating_add(LEGEND_STEP);
+    let behind = legend.saturating_add(LEGEND_STEP.saturating_mul(class_lines(ranked)));
+    let height = behind.saturating_add(LEGEND_STEP.saturating_mul(OTHER_LINES));
+    add_head(text, height)?;
+    add_title(text, machine.place(), rows)?;
+    add_regions(text, regions, world.gray(), palette)?;
+    add_rows(alloc, text, legend, classes, rows, ranked)?;
+    add_strokes(text, behind)?;
+    add(text, b"</svg>\n")
+}
+
 /// Returns a picture of the current state of a machine, as SVG: a row for each region and a pixel for each word, the cells in the
 /// colours of the twelve classes with the most bytes, with dead, marked and gray objects shown, and a legend with the numbers of
 /// the histogram. Fails with NoMemory if an allocation fails. Looks at each cell some twenty times.
@@ -150,24 +185,13 @@ pub fn picture_of(alloc: Global, machine: &Machine) -> Result<Vec<u8>, Refusal> 
     let ranked = ranking(alloc, &histogram)?;
     let rows = histogram.as_slice();
     let palette = Palette::new(alloc, rows.len(), ranked.as_slice())?;
-    let world = machine.world();
-    let regions = world.regions();
-    let legend = middle_of(regions.count()).saturating_add(LEGEND_STEP);
-    let behind = legend.saturating_add(LEGEND_STEP.saturating_mul(class_lines(ranked.as_slice())));
-    let height = behind.saturating_add(LEGEND_STEP.saturating_mul(OTHER_LINES));
-    let mut text = Vec::new(alloc);
-    add_head(&mut text, height)?;
-    add_title(&mut text, machine.place(), rows)?;
-    add_regions(&mut text, regions, world.gray(), &palette)?;
-    add_rows(
-        alloc,
-        &mut text,
-        legend,
-        &view.classes(),
+    let drawing = Drawing {
+        machine,
         rows,
-        ranked.as_slice(),
-    )?;
-    add_strokes(&mut text, behind)?;
-    add(&mut text, b"</svg>\n")?;
+        ranked: ranked.as_slice(),
+        palette: &palette,
+    };
+    let mut text = Vec::new(alloc);
+    add_picture(alloc, &mut text, &view.classes(), drawing)?;
     Ok(text)
 }

@@ -35,12 +35,12 @@ abbrev pub SweepsOnce : HeapSettings → Chair → Chair → SweepEnd → Type 0
 SweepsOnce config s s' end = IsSweepWork config s s' turn_limit end
 
 -- the seat's share is what it was and what runs of a mark worker gained
-abbrev pub Marks : HeapSettings → Chair → Chair → Type 0
-Marks config s s' = (runs : List (Chair × MarkEnd)) × AreRuns (MarksOnce config) s runs s'
+abbrev pub MarkRuns : HeapSettings → Chair → Chair → Type 0
+MarkRuns config s s' = (runs : List (Chair × MarkEnd)) × AreRuns (MarksOnce config) s runs s'
 
 -- the seat's share is what it was and what runs of a sweep worker gained
-abbrev pub Sweeps : HeapSettings → Chair → Chair → Type 0
-Sweeps config s s' = (runs : List (Chair × SweepEnd)) × AreRuns (SweepsOnce config) s runs s'
+abbrev pub SweepRuns : HeapSettings → Chair → Chair → Type 0
+SweepRuns config s s' = (runs : List (Chair × SweepEnd)) × AreRuns (SweepsOnce config) s runs s'
 
 -- the role of the seat for this work
 abbrev pub role_for : Duty → Role
@@ -49,8 +49,8 @@ role_for Sweep = Sweeper
 
 -- the seat's share is what it was and what runs of this work's worker gained
 abbrev pub Tends : Duty → HeapSettings → Chair → Chair → Type 0
-Tends Mark config s s' = Marks config s s'
-Tends Sweep config s s' = Sweeps config s s'
+Tends Mark config s s' = MarkRuns config s s'
+Tends Sweep config s s' = SweepRuns config s s'
 
 -- the marker's seat, the sweeper's, and those of `most` users
 abbrev pub AreStaff : ℕ → List Chair → Type 0
@@ -61,7 +61,7 @@ AreStaff most seats = ⊥
 -- the first two seats of a heap, as the runs of their workers left them
 abbrev pub AreTended : HeapSettings → List Chair → Stub → Stub → Type 0
 AreTended config (marker ∷ sweeper ∷ users) marked swept =
-    Marks config marker (chair_of marked) × Sweeps config sweeper (chair_of swept)
+    MarkRuns config marker (chair_of marked) × SweepRuns config sweeper (chair_of swept)
 AreTended config seats marked swept = ⊥
 
 -- these sessions were over this heap, and this is what its workers did

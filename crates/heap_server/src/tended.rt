@@ -4,7 +4,7 @@ ghost use Rattle.heap_lock.specs.Blanks.{IsNamed};
 ghost use Rattle.heap_lock.specs.Refusal.TheVariants.{NoMemory};
 ghost use Rattle.heap_lock.specs.declared.role.Role.TheVariants as role;
 ghost use Rattle.heap_server.specs.SessionSeats.{IsFor, session_limit};
-ghost use Rattle.heap_server.specs.Tending.{AreStaff, IsTendedOver, Marks, Sweeps};
+ghost use Rattle.heap_server.specs.Tending.{AreStaff, IsTendedOver, MarkRuns, SweepRuns};
 
 use crate::sessions::{Ports, Served, ServedHeap, ServicePlan, Terms, serve_clients};
 use crate::tending::{Duty, tend};
@@ -47,9 +47,9 @@ pub struct Tended<L: Heap> {
 struct MarksFrom<L: Heap>(Snapshot<Seat<L>>);
 
 impl<L: Heap> Promise<Seat<L>> for MarksFrom<L> {
-    ghost use Rattle.heap_server.specs.Tending.{Marks};
+    ghost use Rattle.heap_server.specs.Tending.{MarkRuns};
 
-    ghost kept_by = { λ p seat. Marks L.config p.0.value seat };
+    ghost kept_by = { λ p seat. MarkRuns L.config p.0.value seat };
 }
 
 // The promise that a sweeper's seat comes back as runs of its worker leave it.
@@ -57,9 +57,9 @@ impl<L: Heap> Promise<Seat<L>> for MarksFrom<L> {
 struct SweepsFrom<L: Heap>(Snapshot<Seat<L>>);
 
 impl<L: Heap> Promise<Seat<L>> for SweepsFrom<L> {
-    ghost use Rattle.heap_server.specs.Tending.{Sweeps};
+    ghost use Rattle.heap_server.specs.Tending.{SweepRuns};
 
-    ghost kept_by = { λ p seat. Sweeps L.config p.0.value seat };
+    ghost kept_by = { λ p seat. SweepRuns L.config p.0.value seat };
 }
 
 // Returns the roles of the marker, the sweeper and `sessions` users, in this order. Fails if they can't be allocated.
@@ -136,8 +136,8 @@ pub fn serve_tended<L: Heap + Send + Sync, R: Clock + Eprint + Threads + Wait + 
 ) -> Result<Tended<L>, AllocError>
     requires { AreStaff (length staff.users) (staff.marker ∷ staff.sweeper ∷ staff.users) }
     ensures served { IfOk result (λ t. IsFor (length staff.users) t.served) }
-    ensures marks { IfOk result (λ t. Marks L.config staff.marker t.marker) }
-    ensures sweeps { IfOk result (λ t. Sweeps L.config staff.sweeper t.sweeper) }
+    ensures marks { IfOk result (λ t. MarkRuns L.config staff.marker t.marker) }
+    ensures sweeps { IfOk result (λ t. SweepRuns L.config staff.sweeper t.sweeper) }
 {
     let word = AtomicBool::new(false);
     let stop = &word;
@@ -148,8 +148,8 @@ pub fn serve_tended<L: Heap + Send + Sync, R: Clock + Eprint + Threads + Wait + 
             requires { AreStaff (length staff.users)
                 (staff.marker ∷ staff.sweeper ∷ staff.users) }
             ensures served { IfOk result (λ t. IsFor (length staff.users) t.served) }
-            ensures marks { IfOk result (λ t. Marks L.config staff.marker t.marker) }
-            ensures sweeps { IfOk result (λ t. Sweeps L.config staff.sweeper t.sweeper) }
+            ensures marks { IfOk result (λ t. MarkRuns L.config staff.marker t.marker) }
+            ensures sweeps { IfOk result (λ t. SweepRuns L.config staff.sweeper t.sweeper) }
         {
             let workers = begin_workers(scope, rt, shared, staff.marker, staff.sweeper, stop)?;
             let served = serve_clients(rt, alloc, shared, staff.users, ports, terms);

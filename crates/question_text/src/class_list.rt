@@ -1,5 +1,5 @@
 //! The answer of `classes`.
-ghost use Rattle.std.specs.Prelude.{◌≡◌, ◌<◌, flat_map, length};
+ghost use Rattle.std.specs.Prelude.{◌<◌, flat_map, length};
 ghost use Rattle.std.specs.List.{range_with_len};
 ghost use Rattle.heap_class.specs.Classes.{fields_of};
 ghost use Rattle.heap_class.specs.declared.Refusal.TheVariants.{NoMemory};
@@ -10,11 +10,11 @@ use crate::rows::{push_count, push_number, push_row, push_words};
 use crate::show::field_name;
 use heap_class::{ClassNo, FirstClasses, Kind, Refusal};
 use hprof_text::View;
-use std::alloc::Global;
+use std::alloc::{AllocError, Global};
 
-// Appends a space and a field. Fails with NoMemory.
+// Appends a space and a field. Fails if an allocation fails.
 #[tactic(auto, unfolding(crate::specs::ClassLists::field_words))]
-fn push_field(text: &mut Vec<u8>, name: &[u8], kind: Kind) -> Result<(), Refusal>
+fn push_field(text: &mut Vec<u8>, name: &[u8], kind: Kind) -> Result<(), AllocError>
     ensures { Appends (field_words name.now kind) text.old.items text.new.items result }
 {
     push_words(text, b" ")?;
@@ -23,12 +23,12 @@ fn push_field(text: &mut Vec<u8>, name: &[u8], kind: Kind) -> Result<(), Refusal
     push_words(text, kind.word().as_bytes())
 }
 
-// Appends the own fields of a class, which must be there. Fails with NoMemory.
+// Appends the own fields of a class, which must be there. Fails if an allocation fails.
 fn push_own_fields(
     text: &mut Vec<u8>,
     classes: &FirstClasses<'_>,
     class: ClassNo,
-) -> Result<(), Refusal>
+) -> Result<(), AllocError>
     requires { class < length classes.now }
     ensures { Appends (and_fields (fields_of classes.now class))
         text.old.items text.new.items result }
@@ -42,9 +42,13 @@ fn push_own_fields(
     Ok(())
 }
 
-// Appends what stands for the super of a class, which must be there. Fails with NoMemory.
+// Appends what stands for the super of a class, which must be there. Fails if an allocation fails.
 #[tactic(auto, unfolding(crate::specs::ClassLists::super_words))]
-fn push_super(text: &mut Vec<u8>, classes: &FirstClasses<'_>, class: ClassNo) -> Result<(), Refusal>
+fn push_super(
+    text: &mut Vec<u8>,
+    classes: &FirstClasses<'_>,
+    class: ClassNo,
+) -> Result<(), AllocError>
     requires { class < length classes.now }
     ensures { Appends (super_words classes.now class) text.old.items text.new.items result }
 {
@@ -57,9 +61,13 @@ fn push_super(text: &mut Vec<u8>, classes: &FirstClasses<'_>, class: ClassNo) ->
     }
 }
 
-// Appends the line of a class, which must be there. Fails with NoMemory.
+// Appends the line of a class, which must be there. Fails if an allocation fails.
 #[tactic(auto, unfolding(crate::specs::ClassLists::class_text))]
-fn push_class(text: &mut Vec<u8>, classes: &FirstClasses<'_>, class: ClassNo) -> Result<(), Refusal>
+fn push_class(
+    text: &mut Vec<u8>,
+    classes: &FirstClasses<'_>,
+    class: ClassNo,
+) -> Result<(), AllocError>
     requires { class < length classes.now }
     ensures { Appends (class_text classes.now class) text.old.items text.new.items result }
 {
@@ -71,8 +79,8 @@ fn push_class(text: &mut Vec<u8>, classes: &FirstClasses<'_>, class: ClassNo) ->
     push_words(text, b"\n")
 }
 
-// Appends the lines of all classes. Fails with NoMemory.
-fn push_classes(text: &mut Vec<u8>, classes: &FirstClasses<'_>) -> Result<(), Refusal>
+// Appends the lines of all classes. Fails if an allocation fails.
+fn push_classes(text: &mut Vec<u8>, classes: &FirstClasses<'_>) -> Result<(), AllocError>
     ensures { Appends (flat_map (class_text classes.now) (range_with_len 0 (length classes.now)))
         text.old.items text.new.items result }
 {

@@ -12,7 +12,7 @@ use crate::rows::{push_count, push_words};
 use heap_class::{FirstClasses, Refusal};
 use heap_questions::{Change, compare, count_by_class};
 use hprof_text::View;
-use std::alloc::Global;
+use std::alloc::{AllocError, Global};
 
 // Tells whether a row has other numbers than before.
 fn differs(change: Change) -> bool
@@ -21,14 +21,14 @@ fn differs(change: Change) -> bool
     change.older.objects != change.newer.objects || change.older.bytes != change.newer.bytes
 }
 
-// Appends the line of a row that changed. Fails with NoMemory.
+// Appends the line of a row that changed. Fails if an allocation fails.
 #[tactic(auto, unfolding(crate::specs::Growths::changed_text))]
 fn push_change(
     text: &mut Vec<u8>,
     classes: &FirstClasses<'_>,
     index: usize,
     change: Change,
-) -> Result<(), Refusal>
+) -> Result<(), AllocError>
     requires { index < class_rows + length classes.now }
     ensures { Appends (changed_text classes.now index change) text.old.items text.new.items result }
 {
@@ -52,12 +52,12 @@ fn count_changes(changes: &[Change]) -> u64
     count
 }
 
-// Appends the lines of the rows that changed. Fails with NoMemory.
+// Appends the lines of the rows that changed. Fails if an allocation fails.
 fn push_changes(
     text: &mut Vec<u8>,
     classes: &FirstClasses<'_>,
     changes: &[Change],
-) -> Result<(), Refusal>
+) -> Result<(), AllocError>
     requires { length changes.now ≤ class_rows + length classes.now }
     ensures { Appends (changed_texts classes.now 0 changes.now)
         text.old.items text.new.items result }

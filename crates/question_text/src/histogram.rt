@@ -10,24 +10,24 @@ use crate::rows::{push_number, push_words};
 use heap_class::{FirstClasses, Refusal};
 use heap_questions::{Histogram, Row, count_by_class, count_garbage, ranking};
 use hprof_text::View;
-use std::alloc::Global;
+use std::alloc::{AllocError, Global};
 
-// Appends the numbers of a row, each after a space. Fails with NoMemory.
-pub(crate) fn push_counts(text: &mut Vec<u8>, row: Row) -> Result<(), Refusal>
+// Appends the numbers of a row, each after a space. Fails if an allocation fails.
+pub(crate) fn push_counts(text: &mut Vec<u8>, row: Row) -> Result<(), AllocError>
     ensures { Appends (and_counts row) text.old.items text.new.items result }
 {
     push_number(text, row.objects)?;
     push_number(text, row.bytes)
 }
 
-// Appends the line of a row. Fails with NoMemory.
+// Appends the line of a row. Fails if an allocation fails.
 #[tactic(auto, unfolding(crate::specs::Histograms::row_text))]
 fn push_row(
     text: &mut Vec<u8>,
     classes: &FirstClasses<'_>,
     rows: &[Row],
     index: usize,
-) -> Result<(), Refusal>
+) -> Result<(), AllocError>
     requires within { index < length rows.now }
     requires classes { index < class_rows + length classes.now }
     ensures { Appends (row_text classes.now rows.now index) text.old.items text.new.items result }
@@ -54,8 +54,8 @@ fn sum_of(rows: &[Row]) -> Row
     Row { objects, bytes }
 }
 
-// Appends the last line of a count. Fails with NoMemory.
-fn push_total(text: &mut Vec<u8>, total: Row) -> Result<(), Refusal>
+// Appends the last line of a count. Fails if an allocation fails.
+fn push_total(text: &mut Vec<u8>, total: Row) -> Result<(), AllocError>
     ensures { Appends (total_text total) text.old.items text.new.items result }
 {
     push_words(text, b"ok")?;
@@ -63,13 +63,13 @@ fn push_total(text: &mut Vec<u8>, total: Row) -> Result<(), Refusal>
     push_words(text, b"\n")
 }
 
-// Appends the lines of the rows with these numbers. Fails with NoMemory.
+// Appends the lines of the rows with these numbers. Fails if an allocation fails.
 fn push_rows(
     text: &mut Vec<u8>,
     classes: &FirstClasses<'_>,
     rows: &[Row],
     ranked: &[usize],
-) -> Result<(), Refusal>
+) -> Result<(), AllocError>
     requires within { All (λ g. g < length rows.now) ranked.now }
     requires classes { length rows.now ≡ class_rows + length classes.now }
     ensures { Appends (flat_map (row_text classes.now rows.now) ranked.now)

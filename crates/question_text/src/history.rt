@@ -1,5 +1,5 @@
 //! The answer of `history`.
-ghost use Rattle.std.specs.Prelude.{◌≡◌, ◌++◌};
+ghost use Rattle.std.specs.Prelude.{◌++◌};
 ghost use Rattle.heap_class.specs.declared.Refusal.TheVariants.{NoMemory};
 ghost use Rattle.question_text.specs.Appends.{Appends, ReturnsText};
 ghost use Rattle.question_text.specs.Histories.{IsHistoryText, IsNewestText, and_overwritten, and_slot, event_words};
@@ -11,10 +11,10 @@ use crate::rows::{Lined, Unanswered, counted_lines, push_number, push_row, push_
 use heap_class::Refusal;
 use heap_questions::{PastEvent, PastStep, history};
 use heap_trail::Machine;
-use std::alloc::Global;
+use std::alloc::{AllocError, Global};
 
-// Appends a word, an id and a number. Fails with NoMemory.
-fn push_numbered(text: &mut Vec<u8>, word: &[u8], id: u64, number: u64) -> Result<(), Refusal>
+// Appends a word, an id and a number. Fails if an allocation fails.
+fn push_numbered(text: &mut Vec<u8>, word: &[u8], id: u64, number: u64) -> Result<(), AllocError>
     ensures { Appends (and_slot word.now id number) text.old.items text.new.items result }
 {
     push_words(text, word)?;
@@ -22,8 +22,8 @@ fn push_numbered(text: &mut Vec<u8>, word: &[u8], id: u64, number: u64) -> Resul
     push_number(text, number)
 }
 
-// Appends the numbers of a mutator and its register, and what it named before. Fails with NoMemory.
-fn push_overwritten(text: &mut Vec<u8>, m: u64, r: u64, old: u64) -> Result<(), Refusal>
+// Appends the numbers of a mutator and its register, and what it named before. Fails if an allocation fails.
+fn push_overwritten(text: &mut Vec<u8>, m: u64, r: u64, old: u64) -> Result<(), AllocError>
     ensures { Appends (and_overwritten m r old) text.old.items text.new.items result }
 {
     push_number(text, m)?;
@@ -31,17 +31,17 @@ fn push_overwritten(text: &mut Vec<u8>, m: u64, r: u64, old: u64) -> Result<(), 
     push_reference(text, old)
 }
 
-// Appends a word and a number. Fails with NoMemory.
-fn push_counted(text: &mut Vec<u8>, word: &[u8], n: u64) -> Result<(), Refusal>
+// Appends a word and a number. Fails if an allocation fails.
+fn push_counted(text: &mut Vec<u8>, word: &[u8], n: u64) -> Result<(), AllocError>
     ensures { Appends (word.now ++ and_number n) text.old.items text.new.items result }
 {
     push_words(text, word)?;
     push_number(text, n)
 }
 
-// Appends what a step did and what it overwrote. Fails with NoMemory.
+// Appends what a step did and what it overwrote. Fails if an allocation fails.
 #[tactic(auto, unfolding(crate::specs::Histories::event_words))]
-fn push_event(text: &mut Vec<u8>, event: PastEvent) -> Result<(), Refusal>
+fn push_event(text: &mut Vec<u8>, event: PastEvent) -> Result<(), AllocError>
     ensures { Appends (event_words event) text.old.items text.new.items result }
 {
     match event {
@@ -81,7 +81,7 @@ impl Lined for PastStep {
     ghost line = { past_step_line };
 
     #[tactic(auto, unfolding(crate::specs::Histories::past_step_line))]
-    fn push_line(self, text: &mut Vec<u8>) -> Result<(), Refusal> {
+    fn push_line(self, text: &mut Vec<u8>) -> Result<(), AllocError> {
         push_row(text, self.place)?;
         push_event(text, self.event)?;
         push_words(text, b"\n")

@@ -4,8 +4,8 @@ ghost use Rattle.question_text.specs.Appends.{Appends};
 ghost use Rattle.question_text.specs.Ids.{and_id, and_reference, hex_digit, hex_from, id_of_word, with_hex};
 
 use crate::rows::push_words;
-use heap_class::Refusal;
 use session_grammar::words::is_word;
+use std::alloc::AllocError;
 
 // The number of bytes of an id in a line.
 const ID_SIZE: usize = 10;
@@ -60,8 +60,8 @@ pub(crate) fn id_of(word: &[u8]) -> Option<u64>
     hex_value(&word[2..])
 }
 
-// Appends a space and an id. Fails with NoMemory.
-pub(crate) fn push_id(text: &mut Vec<u8>, id: u64) -> Result<(), Refusal>
+// Appends a space and an id. Fails if an allocation fails.
+pub(crate) fn push_id(text: &mut Vec<u8>, id: u64) -> Result<(), AllocError>
     ensures { Appends (and_id id) text.old.items text.new.items result }
 {
     let mut digits = [0u8; 8];
@@ -72,8 +72,8 @@ pub(crate) fn push_id(text: &mut Vec<u8>, id: u64) -> Result<(), Refusal>
     push_words(text, &digits)
 }
 
-// Appends a space, and an id or `null`. Fails with NoMemory.
-pub(crate) fn push_reference(text: &mut Vec<u8>, id: u64) -> Result<(), Refusal>
+// Appends a space, and an id or `null`. Fails if an allocation fails.
+pub(crate) fn push_reference(text: &mut Vec<u8>, id: u64) -> Result<(), AllocError>
     ensures { Appends (and_reference id) text.old.items text.new.items result }
 {
     if id == 0 {

@@ -1,6 +1,5 @@
 //! The names of what a count's rows count, and of objects' kinds.
-ghost use Rattle.std.specs.Prelude.{◌≡◌, ◌++◌, ◌==◌, ◌<◌, ◌+◌, length, find, IfErr, OnOk};
-ghost use Rattle.heap_class.specs.declared.Refusal.TheVariants.{NoMemory};
+ghost use Rattle.std.specs.Prelude.{◌≡◌, ◌++◌, ◌==◌, ◌<◌, ◌+◌, length, find, OnOk};
 ghost use Rattle.heap_class.specs.Kinds.{type_code};
 ghost use Rattle.heap_questions.specs.Histogram.{class_rows};
 ghost use Rattle.session_grammar.specs.Grammar.{all_kinds};
@@ -8,8 +7,9 @@ ghost use Rattle.question_text.specs.Appends.{Appends};
 ghost use Rattle.question_text.specs.Names.{IsClassThere, array_name, class_name, kind_array_name, row_name};
 
 use crate::rows::push_words;
-use heap_class::{FirstClasses, KINDS, Kind, ObjKind, Refusal};
+use heap_class::{FirstClasses, KINDS, Kind, ObjKind};
 use heap_questions::CLASS_ROWS;
+use std::alloc::AllocError;
 
 // Returns the kind with a type code.
 fn kind_with(code: usize) -> Option<Kind>
@@ -23,17 +23,17 @@ fn kind_with(code: usize) -> Option<Kind>
     None
 }
 
-// Appends the name of the arrays of values of a kind. Fails with NoMemory.
-fn push_kind_name(text: &mut Vec<u8>, kind: Kind) -> Result<(), Refusal>
+// Appends the name of the arrays of values of a kind. Fails if an allocation fails.
+fn push_kind_name(text: &mut Vec<u8>, kind: Kind) -> Result<(), AllocError>
     ensures { Appends (kind_array_name kind) text.old.items text.new.items result }
 {
     push_words(text, kind.word().as_bytes())?;
     push_words(text, b"[]")
 }
 
-// Appends the name of the arrays of values whose kind has a type code. Fails with NoMemory.
+// Appends the name of the arrays of values whose kind has a type code. Fails if an allocation fails.
 #[tactic(auto, unfolding(crate::specs::Names::array_name))]
-fn push_array_name(text: &mut Vec<u8>, code: usize) -> Result<(), Refusal>
+fn push_array_name(text: &mut Vec<u8>, code: usize) -> Result<(), AllocError>
     ensures { Appends (array_name code) text.old.items text.new.items result }
 {
     match kind_with(code) {
@@ -42,16 +42,15 @@ fn push_array_name(text: &mut Vec<u8>, code: usize) -> Result<(), Refusal>
     }
 }
 
-/// Appends the name of what a row counts. Fails with NoMemory.
+/// Appends the name of what a row counts. Fails if an allocation fails.
 #[tactic(auto, unfolding(crate::specs::Names::row_name))]
 pub fn push_row_name(
     text: &mut Vec<u8>,
     classes: &FirstClasses<'_>,
     index: usize,
-) -> Result<(), Refusal>
+) -> Result<(), AllocError>
     requires { index < class_rows + length classes.now }
-    ensures ok { OnOk result (text.new.items ≡ text.old.items ++ row_name classes.now index) }
-    ensures refused { IfErr result (λ e. e ≡ NoMemory) }
+    ensures { OnOk result (text.new.items ≡ text.old.items ++ row_name classes.now index) }
 {
     if index < CLASS_ROWS {
         push_array_name(text, index)
@@ -60,13 +59,13 @@ pub fn push_row_name(
     }
 }
 
-// Appends the name of the class of an object of this kind, which must be there. Fails with NoMemory.
+// Appends the name of the class of an object of this kind, which must be there. Fails if an allocation fails.
 #[tactic(auto, unfolding(crate::specs::Names::class_name))]
 pub(crate) fn push_class_name(
     text: &mut Vec<u8>,
     classes: &FirstClasses<'_>,
     kind: ObjKind,
-) -> Result<(), Refusal>
+) -> Result<(), AllocError>
     requires { IsClassThere classes.now kind }
     ensures { Appends (class_name classes.now kind) text.old.items text.new.items result }
 {

@@ -12,7 +12,7 @@ use crate::rows::{Unanswered, push_count, push_number, push_words};
 use heap_class::Refusal;
 use heap_questions::{ObjectIndex, Path, object_with, shortest_path};
 use hprof_text::View;
-use std::alloc::Global;
+use std::alloc::{AllocError, Global};
 
 // Returns what a slot of the object with this id names. The slot must name an object.
 #[tactic(auto, unfolding(heap_questions::specs::Graph::named, heap_questions::specs::Graph::slot_names))]
@@ -26,9 +26,9 @@ fn named_by<V: View>(index: &ObjectIndex<'_, V>, id: u64, slot: u64) -> u64
     }
 }
 
-// Appends the line of a slot that is followed from one object to another. Fails with NoMemory.
+// Appends the line of a slot that is followed from one object to another. Fails if an allocation fails.
 #[tactic(auto, unfolding(crate::specs::Paths::step_text))]
-fn push_step(text: &mut Vec<u8>, from: u64, slot: u64, to: u64) -> Result<(), Refusal>
+fn push_step(text: &mut Vec<u8>, from: u64, slot: u64, to: u64) -> Result<(), AllocError>
     ensures { Appends (step_text from slot to) text.old.items text.new.items result }
 {
     push_words(text, b"row")?;
@@ -38,9 +38,9 @@ fn push_step(text: &mut Vec<u8>, from: u64, slot: u64, to: u64) -> Result<(), Re
     push_words(text, b"\n")
 }
 
-// Appends the line of the register that a path begins with. Fails with NoMemory.
+// Appends the line of the register that a path begins with. Fails if an allocation fails.
 #[tactic(auto, unfolding(crate::specs::Paths::root_text))]
-fn push_root(text: &mut Vec<u8>, register: u64, id: u64) -> Result<(), Refusal>
+fn push_root(text: &mut Vec<u8>, register: u64, id: u64) -> Result<(), AllocError>
     ensures { Appends (root_text register id) text.old.items text.new.items result }
 {
     push_words(text, b"row")?;
@@ -49,13 +49,13 @@ fn push_root(text: &mut Vec<u8>, register: u64, id: u64) -> Result<(), Refusal>
     push_words(text, b"\n")
 }
 
-// Appends the lines of the slots that are followed from an object. Fails with NoMemory.
+// Appends the lines of the slots that are followed from an object. Fails if an allocation fails.
 fn push_steps<V: View>(
     text: &mut Vec<u8>,
     index: &ObjectIndex<'_, V>,
     start: u64,
     slots: &[u64],
-) -> Result<(), Refusal>
+) -> Result<(), AllocError>
     requires { IsSome (followed index.now start slots.now) }
     ensures { Appends (step_texts index.now start slots.now) text.old.items text.new.items result }
 {
@@ -68,13 +68,13 @@ fn push_steps<V: View>(
     Ok(())
 }
 
-// Appends the lines of a path that begins with the object that a register names. Fails with NoMemory.
+// Appends the lines of a path that begins with the object that a register names. Fails if an allocation fails.
 fn push_route<V: View>(
     text: &mut Vec<u8>,
     index: &ObjectIndex<'_, V>,
     path: &Path,
     start: u64,
-) -> Result<(), Refusal>
+) -> Result<(), AllocError>
     requires { IsSome (followed index.now start path.now.slots.items) }
     ensures { Appends (route_text index.now path.now.register start path.now.slots.items)
         text.old.items text.new.items result }
@@ -95,7 +95,7 @@ fn route_text<V: View>(alloc: Global, view: &V, path: &Path, id: u64) -> Result<
     let mut text = Vec::new(alloc);
     match push_route(&mut text, &index, path, start) {
         Ok(()) => Ok(text),
-        Err(refusal) => Err(refusal),
+        Err(error) => Err(error.into()),
     }
 }
 

@@ -2,7 +2,6 @@
 ghost use Rattle.std.specs.Prelude.{◌≡◌, flat_map, length, map, IfOk};
 ghost use Rattle.heap_class.specs.declared.Refusal.TheVariants.{NoMemory};
 ghost use Rattle.heap_trail.specs.Listings.{listed_pin};
-ghost use Rattle.session_text.specs.Replies.{cause_text};
 ghost use Rattle.question_text.specs.Appends.{Appends, ReturnsText};
 ghost use Rattle.question_text.specs.Moments.{told_text};
 ghost use Rattle.question_text.specs.PinLists.{IsPinsText, pin_text, pins_text, status_words};
@@ -11,11 +10,11 @@ use crate::rows::{Unanswered, push_count, push_number, push_row, push_words};
 use heap_class::Refusal;
 use heap_trail::{ListedPin, Machine, PinStatus};
 use session_text::cause_word;
-use std::alloc::Global;
+use std::alloc::{AllocError, Global};
 
-// Appends a kept pin's place and the number of the pieces given, or why the pin is lost. Fails with NoMemory.
+// Appends a kept pin's place and the number of the pieces given, or why the pin is lost. Fails if an allocation fails.
 #[tactic(auto, unfolding(crate::specs::PinLists::status_words))]
-fn push_status(text: &mut Vec<u8>, status: PinStatus) -> Result<(), Refusal>
+fn push_status(text: &mut Vec<u8>, status: PinStatus) -> Result<(), AllocError>
     ensures { Appends (status_words status) text.old.items text.new.items result }
 {
     match status {
@@ -31,9 +30,9 @@ fn push_status(text: &mut Vec<u8>, status: PinStatus) -> Result<(), Refusal>
     }
 }
 
-// Appends the line of a pin. Fails with NoMemory.
+// Appends the line of a pin. Fails if an allocation fails.
 #[tactic(auto, unfolding(crate::specs::PinLists::pin_text))]
-fn push_pin(text: &mut Vec<u8>, pin: ListedPin) -> Result<(), Refusal>
+fn push_pin(text: &mut Vec<u8>, pin: ListedPin) -> Result<(), AllocError>
     ensures { Appends (pin_text pin) text.old.items text.new.items result }
 {
     push_row(text, pin.number)?;
@@ -41,8 +40,8 @@ fn push_pin(text: &mut Vec<u8>, pin: ListedPin) -> Result<(), Refusal>
     push_words(text, b"\n")
 }
 
-// Appends the lines of the open pins, and returns their number. Fails with NoMemory.
-fn push_pins(text: &mut Vec<u8>, machine: &Machine) -> Result<u64, Refusal>
+// Appends the lines of the open pins, and returns their number. Fails if an allocation fails.
+fn push_pins(text: &mut Vec<u8>, machine: &Machine) -> Result<u64, AllocError>
     ensures appended { Appends (flat_map pin_text (map listed_pin machine.now.pins.open_pins))
         text.old.items text.new.items result }
     ensures count { IfOk result (λ n. n ≡ length machine.now.pins.open_pins) }

@@ -12,18 +12,18 @@ use heap_class::Refusal;
 use heap_questions::{Referrer, object_with, referrers};
 use heap_world::REGISTERS_EACH;
 use hprof_text::View;
-use std::alloc::Global;
+use std::alloc::{AllocError, Global};
 
-// Appends the numbers of a register's mutator and of the register. Fails with NoMemory.
-pub(crate) fn push_register(text: &mut Vec<u8>, register: u64) -> Result<(), Refusal>
+// Appends the numbers of a register's mutator and of the register. Fails if an allocation fails.
+pub(crate) fn push_register(text: &mut Vec<u8>, register: u64) -> Result<(), AllocError>
     ensures { Appends (and_register register) text.old.items text.new.items result }
 {
     push_number(text, register / REGISTERS_EACH)?;
     push_number(text, register % REGISTERS_EACH)
 }
 
-// Appends what names an object. Fails with NoMemory.
-fn push_names(text: &mut Vec<u8>, referrer: Referrer) -> Result<(), Refusal>
+// Appends what names an object. Fails if an allocation fails.
+fn push_names(text: &mut Vec<u8>, referrer: Referrer) -> Result<(), AllocError>
     ensures { Appends (referrer_words referrer) text.old.items text.new.items result }
 {
     match referrer {
@@ -41,7 +41,7 @@ impl Lined for Referrer {
     ghost line = { referrer_text };
 
     #[tactic(auto, unfolding(crate::specs::Referrers::referrer_text))]
-    fn push_line(self, text: &mut Vec<u8>) -> Result<(), Refusal> {
+    fn push_line(self, text: &mut Vec<u8>) -> Result<(), AllocError> {
         push_words(text, b"row")?;
         push_names(text, self)?;
         push_words(text, b"\n")

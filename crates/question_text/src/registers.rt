@@ -1,5 +1,5 @@
 //! The answer of `registers`.
-ghost use Rattle.std.specs.Prelude.{◌≡◌, ◌<◌, All};
+ghost use Rattle.std.specs.Prelude.{◌<◌, All};
 ghost use Rattle.heap_class.specs.declared.Refusal.TheVariants.{NoMemory};
 ghost use Rattle.question_text.specs.Appends.{Appends, ReturnsText};
 ghost use Rattle.question_text.specs.Registers.{IsRegistersText, NamesKnown, named_words, register_text, register_texts};
@@ -11,14 +11,14 @@ use crate::rows::{push_count, push_words};
 use heap_class::{FirstClasses, Refusal};
 use heap_questions::{NamedObject, named_by_registers};
 use hprof_text::View;
-use std::alloc::Global;
+use std::alloc::{AllocError, Global};
 
-// Appends what a register names. Fails with NoMemory.
+// Appends what a register names. Fails if an allocation fails.
 fn push_named(
     text: &mut Vec<u8>,
     classes: &FirstClasses<'_>,
     named: &NamedObject,
-) -> Result<(), Refusal>
+) -> Result<(), AllocError>
     requires { NamesKnown classes.now named.now }
     ensures { Appends (named_words classes.now named.now) text.old.items text.new.items result }
 {
@@ -32,14 +32,14 @@ fn push_named(
     }
 }
 
-// Appends the line of a register. Fails with NoMemory.
+// Appends the line of a register. Fails if an allocation fails.
 #[tactic(auto, unfolding(crate::specs::Registers::register_text))]
 fn push_line(
     text: &mut Vec<u8>,
     classes: &FirstClasses<'_>,
     register: u64,
     named: &NamedObject,
-) -> Result<(), Refusal>
+) -> Result<(), AllocError>
     requires { NamesKnown classes.now named.now }
     ensures { Appends (register_text classes.now register named.now)
         text.old.items text.new.items result }
@@ -50,12 +50,12 @@ fn push_line(
     push_words(text, b"\n")
 }
 
-// Appends the lines of all registers. Fails with NoMemory.
+// Appends the lines of all registers. Fails if an allocation fails.
 fn push_lines(
     text: &mut Vec<u8>,
     classes: &FirstClasses<'_>,
     all: &[NamedObject],
-) -> Result<(), Refusal>
+) -> Result<(), AllocError>
     requires { All (NamesKnown classes.now) all.now }
     ensures { Appends (register_texts classes.now 0 all.now) text.old.items text.new.items result }
 {

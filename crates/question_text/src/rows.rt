@@ -9,7 +9,7 @@ ghost use Rattle.question_text.specs.Referrers.{count_text};
 use heap_class::Refusal;
 use heap_trail::Reply;
 use session_text::LineAnswer;
-use std::alloc::Global;
+use std::alloc::{AllocError, Global};
 
 // The reason why a question has no answer.
 #[derive(Clone, Copy)]
@@ -44,24 +44,24 @@ pub(crate) fn reason_line(reason: Unanswered) -> LineAnswer
     }
 }
 
-// Appends words. Fails with NoMemory.
-pub(crate) fn push_words(text: &mut Vec<u8>, words: &[u8]) -> Result<(), Refusal>
+// Appends words. Fails if an allocation fails.
+pub(crate) fn push_words(text: &mut Vec<u8>, words: &[u8]) -> Result<(), AllocError>
     ensures { Appends words.now text.old.items text.new.items result }
 {
     text.extend_from_slice(words)?;
     Ok(())
 }
 
-// Appends a space and a number. Fails with NoMemory.
-pub(crate) fn push_number(text: &mut Vec<u8>, n: u64) -> Result<(), Refusal>
+// Appends a space and a number. Fails if an allocation fails.
+pub(crate) fn push_number(text: &mut Vec<u8>, n: u64) -> Result<(), AllocError>
     ensures { Appends (and_number n) text.old.items text.new.items result }
 {
     push_words(text, b" ")?;
     push_words(text, itoa::Buffer::new().format(n).as_bytes())
 }
 
-// Appends the beginning of a row: its word, a space and a number. Fails with NoMemory.
-pub(crate) fn push_row(text: &mut Vec<u8>, n: u64) -> Result<(), Refusal>
+// Appends the beginning of a row: its word, a space and a number. Fails if an allocation fails.
+pub(crate) fn push_row(text: &mut Vec<u8>, n: u64) -> Result<(), AllocError>
     ensures { Appends (codes "row" ++ and_number n) text.old.items text.new.items result }
 {
     push_words(text, b"row")?;
@@ -75,13 +75,13 @@ pub(crate) trait Lined: Copy {
 
     ghost line: { Self → List ℕ };
 
-    // Appends its line. Fails with NoMemory.
-    fn push_line(self, text: &mut Vec<u8>) -> Result<(), Refusal>
+    // Appends its line. Fails if an allocation fails.
+    fn push_line(self, text: &mut Vec<u8>) -> Result<(), AllocError>
         ensures { Appends (line self) text.old.items text.new.items result };
 }
 
-// Appends the lines of all. Fails with NoMemory.
-fn push_lines<T: Lined>(text: &mut Vec<u8>, all: &[T]) -> Result<(), Refusal>
+// Appends the lines of all. Fails if an allocation fails.
+fn push_lines<T: Lined>(text: &mut Vec<u8>, all: &[T]) -> Result<(), AllocError>
     ensures { Appends (flat_map T.line all.now) text.old.items text.new.items result }
 {
     for one in all {
@@ -90,8 +90,8 @@ fn push_lines<T: Lined>(text: &mut Vec<u8>, all: &[T]) -> Result<(), Refusal>
     Ok(())
 }
 
-// Appends the last line of an answer that counts its rows. Fails with NoMemory.
-pub(crate) fn push_count(text: &mut Vec<u8>, count: u64) -> Result<(), Refusal>
+// Appends the last line of an answer that counts its rows. Fails if an allocation fails.
+pub(crate) fn push_count(text: &mut Vec<u8>, count: u64) -> Result<(), AllocError>
     ensures { Appends (count_text count) text.old.items text.new.items result }
 {
     push_words(text, b"ok")?;

@@ -16,10 +16,10 @@ use heap_class::{ClassNo, FirstClasses, Kind, ObjKind, Refusal};
 use heap_questions::{ShownObject, object_with};
 use heap_trail::Machine;
 use hprof_text::View;
-use std::alloc::Global;
+use std::alloc::{AllocError, Global};
 
-// Appends a word of a kind: an id or `null`, or a number. Fails with NoMemory.
-fn push_value(text: &mut Vec<u8>, kind: Kind, word: u64) -> Result<(), Refusal>
+// Appends a word of a kind: an id or `null`, or a number. Fails if an allocation fails.
+fn push_value(text: &mut Vec<u8>, kind: Kind, word: u64) -> Result<(), AllocError>
     ensures { Appends (and_value kind word) text.old.items text.new.items result }
 {
     if kind.is_reference() {
@@ -29,9 +29,9 @@ fn push_value(text: &mut Vec<u8>, kind: Kind, word: u64) -> Result<(), Refusal>
     }
 }
 
-// Appends the end of a slot's row: its kind and its word. Fails with NoMemory.
+// Appends the end of a slot's row: its kind and its word. Fails if an allocation fails.
 #[tactic(auto, unfolding(crate::specs::Objects::value_text))]
-fn push_end(text: &mut Vec<u8>, kind: Kind, word: u64) -> Result<(), Refusal>
+fn push_end(text: &mut Vec<u8>, kind: Kind, word: u64) -> Result<(), AllocError>
     ensures { Appends (value_text kind word) text.old.items text.new.items result }
 {
     push_words(text, b" ")?;
@@ -40,7 +40,7 @@ fn push_end(text: &mut Vec<u8>, kind: Kind, word: u64) -> Result<(), Refusal>
     push_words(text, b"\n")
 }
 
-// Appends the row of a slot that is a field with this name. Fails with NoMemory.
+// Appends the row of a slot that is a field with this name. Fails if an allocation fails.
 #[tactic(auto, unfolding(crate::specs::Objects::field_row))]
 fn push_field(
     text: &mut Vec<u8>,
@@ -48,7 +48,7 @@ fn push_field(
     name: &[u8],
     kind: Kind,
     word: u64,
-) -> Result<(), Refusal>
+) -> Result<(), AllocError>
     ensures { Appends (field_row slot name.now kind word) text.old.items text.new.items result }
 {
     push_row(text, slot)?;
@@ -57,9 +57,9 @@ fn push_field(
     push_end(text, kind, word)
 }
 
-// Appends the row of an element. Fails with NoMemory.
+// Appends the row of an element. Fails if an allocation fails.
 #[tactic(auto, unfolding(crate::specs::Objects::element_row))]
-fn push_element(text: &mut Vec<u8>, kind: Kind, index: u64, word: u64) -> Result<(), Refusal>
+fn push_element(text: &mut Vec<u8>, kind: Kind, index: u64, word: u64) -> Result<(), AllocError>
     ensures { Appends (element_row kind index word) text.old.items text.new.items result }
 {
     push_row(text, index)?;
@@ -67,8 +67,8 @@ fn push_element(text: &mut Vec<u8>, kind: Kind, index: u64, word: u64) -> Result
     push_end(text, kind, word)
 }
 
-// Appends the rows of all elements. Fails with NoMemory.
-fn push_elements(text: &mut Vec<u8>, kind: Kind, words: &[u64]) -> Result<(), Refusal>
+// Appends the rows of all elements. Fails if an allocation fails.
+fn push_elements(text: &mut Vec<u8>, kind: Kind, words: &[u64]) -> Result<(), AllocError>
     ensures { Appends (element_rows kind 0 words.now) text.old.items text.new.items result }
 {
     for index in 0..words.len() {
@@ -95,14 +95,14 @@ fn own_count(classes: &FirstClasses<'_>, class: ClassNo, slots: u64) -> u64
     classes.field_count(class).min(slots)
 }
 
-// Appends the rows of the slots from this one on that are own fields of a class. Fails with NoMemory.
+// Appends the rows of the slots from this one on that are own fields of a class. Fails if an allocation fails.
 fn push_own(
     text: &mut Vec<u8>,
     classes: &FirstClasses<'_>,
     class: ClassNo,
     words: &[u64],
     first: usize,
-) -> Result<(), Refusal>
+) -> Result<(), AllocError>
     requires there { class < length classes.now }
     requires within { first ≤ length words.now }
     ensures { Appends (field_rows first (fields_of classes.now class) (drop first words.now))
@@ -118,13 +118,13 @@ fn push_own(
     Ok(())
 }
 
-// Appends the rows of an instance's slots: a class's own fields, then its super's, and so on. Fails with NoMemory.
+// Appends the rows of an instance's slots: a class's own fields, then its super's, and so on. Fails if an allocation fails.
 fn push_fields(
     text: &mut Vec<u8>,
     classes: &FirstClasses<'_>,
     class: ClassNo,
     words: &[u64],
-) -> Result<(), Refusal>
+) -> Result<(), AllocError>
     requires { class < length classes.now }
     ensures { Appends (field_rows 0 (fields_up classes.now (length classes.now) (Some class))
         words.now) text.old.items text.new.items result }
@@ -142,8 +142,8 @@ fn push_fields(
     Ok(())
 }
 
-// Appends what the last line says of an object that is marked. Fails with NoMemory.
-fn push_mark(text: &mut Vec<u8>, marked: bool) -> Result<(), Refusal>
+// Appends what the last line says of an object that is marked. Fails if an allocation fails.
+fn push_mark(text: &mut Vec<u8>, marked: bool) -> Result<(), AllocError>
     ensures { Appends (mark_text marked) text.old.items text.new.items result }
 {
     if marked {
@@ -153,14 +153,14 @@ fn push_mark(text: &mut Vec<u8>, marked: bool) -> Result<(), Refusal>
     }
 }
 
-// Appends the last line: the class, the number of the slots and a mark. The class must be there. Fails with NoMemory.
+// Appends the last line: the class, the number of the slots and a mark. The class must be there. Fails if an allocation fails.
 #[tactic(auto, unfolding(crate::specs::Objects::object_line))]
 fn push_object(
     text: &mut Vec<u8>,
     classes: &FirstClasses<'_>,
     object: &ShownObject<'_>,
     marked: bool,
-) -> Result<(), Refusal>
+) -> Result<(), AllocError>
     requires { IsClassThere classes.now object.now.kind }
     ensures { Appends
         (object_line classes.now object.now.kind (length object.now.words) marked)

@@ -5,7 +5,7 @@ ghost use Rattle.heap_questions.specs.Histogram.{class_rows};
 use crate::picture::cells::{LEFT, add_path_begin, add_path_end};
 use crate::picture::colors::{COLORS, OTHER};
 use crate::picture::text::{add, add_number, add_stroke, add_text_at};
-use heap_class::{FirstClasses, Refusal};
+use heap_class::FirstClasses;
 use heap_questions::Row;
 use question_text::push_row_name;
 use std::alloc::{AllocError, Global};
@@ -48,7 +48,7 @@ pub(crate) fn add_row(
     y: u64,
     classes: &FirstClasses<'_>,
     colored: ColoredRow,
-) -> Result<(), Refusal>
+) -> Result<(), AllocError>
     requires { colored.index < class_rows + length classes.now }
 {
     let ColoredRow { index, color, row } = colored;

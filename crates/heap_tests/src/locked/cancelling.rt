@@ -3,7 +3,7 @@ ghost use Rattle.std.specs.Prelude.{◌≡◌};
 
 use super::meters::{FourSeats, new_meter};
 use super::points::one_point;
-use super::scenes::{Scene, Stage, play_scene};
+use super::scenes::{Scene, Setting, play_scene};
 use super::shared::{closes_pin, opened_pin};
 use super::sources::AskingSource;
 use crate::sink::Sink;
@@ -71,7 +71,7 @@ fn goes<L: Heap, R: Wait>(
 
 /// Pumps three parts, cancelled after two, and never. Returns whether just the parts before are out.
 pub fn cancelled_pumps<L: Heap + Send + Sync, R: Threads + Wait + Sync>(
-    Stage(rt, alloc, shared, five): Stage<'_, L, R>,
+    Setting(rt, alloc, shared, five): Setting<'_, L, R>,
 ) -> Option<bool> {
     let text = one_point(rt, alloc, shared, &mut five.user)?;
     let after_two = Pumped::Cancelled { bytes: 292 };

@@ -6,7 +6,7 @@ ghost use Rattle.dump_pipe.specs.Seats.{knows};
 ghost use Rattle.dump_pipe.specs.declared.end_view.EndView.TheVariants.{Sends, Gets};
 
 use super::meters::{FourSeats, new_meter};
-use super::scenes::{Scene, Stage, play_scene};
+use super::scenes::{Scene, Setting, play_scene};
 use super::shared::{closes_pin, has_points, opened_pin};
 use super::sinks::reaches;
 use super::sources::Counted;
@@ -133,7 +133,7 @@ fn pipe_whole<'a, L: Heap + Send + Sync, R: Threads + Wait + Sync>(
 /// Feeds the dump of 2,000 points, and drains none of it until the source was asked for a ninth part. Returns whether that is
 /// the most that it is asked for before, and all then comes out.
 pub fn nine_asked<L: Heap + Send + Sync, R: Threads + Wait + Sync>(
-    Stage(rt, alloc, shared, five): Stage<'_, L, R>,
+    Setting(rt, alloc, shared, five): Setting<'_, L, R>,
 ) -> Option<bool> {
     let sink = Sink::new(&[]);
     let made = has_points(rt, alloc, shared, &mut five.user, 2000);

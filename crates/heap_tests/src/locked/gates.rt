@@ -1,5 +1,5 @@
 //! Gates of workers: each is passed once before each act, and without the lock.
-use super::scenes::{Scene, Stage, play_scene};
+use super::scenes::{Scene, Setting, play_scene};
 use super::shared::did;
 use super::sinks::reaches;
 use super::workers::{WorkEnd, began, run_worker};
@@ -107,7 +107,7 @@ fn both_go<L: Heap + Send + Sync, R: Threads + Wait + Sync>(
 /// Acts by a user at each pass of a marker, which has five turns, and then of a sweeper, which has one for each region. Returns
 /// whether both went as they must.
 pub fn watched_workers<L: Heap + Send + Sync, R: Threads + Wait + Sync>(
-    Stage(rt, alloc, shared, five): Stage<'_, L, R>,
+    Setting(rt, alloc, shared, five): Setting<'_, L, R>,
 ) -> Option<bool> {
     Some(
         began(rt, alloc, shared, &mut five.user)

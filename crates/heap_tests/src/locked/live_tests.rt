@@ -3,7 +3,7 @@ use super::live::{Seen, pumped_beside, streamed_beside, streamed_cancelled};
 use super::metered::unread;
 use super::meters::{FourSeats, new_meter, stream_seats};
 use super::points::one_point;
-use super::scenes::{Scene, Stage, play_scene};
+use super::scenes::{Scene, Setting, play_scene};
 use super::shared::{has_points, opened_pin, pumped_now};
 use crate::sink::Sink;
 use dump_pump::Pumped;
@@ -18,7 +18,7 @@ const WHOLE: Seen = (Pumped::Done { bytes: 301 }, 301, true);
 
 /// Pumps the dump of one point while a mutator writes to it. Returns whether it is that of its pin.
 pub fn pump_beside<L: Heap + Send + Sync, R: Threads + Wait + Sync>(
-    Stage(rt, alloc, shared, five): Stage<'_, L, R>,
+    Setting(rt, alloc, shared, five): Setting<'_, L, R>,
 ) -> Option<bool> {
     let text = one_point(rt, alloc, shared, &mut five.user)?;
     let pin = opened_pin(rt, shared)?;
@@ -34,7 +34,7 @@ fn gate_outlet_first_put(rt: HostRuntime) -> Result<(), Fail> {
 
 /// Streams the dump of one point while a mutator writes to it. Returns whether it is that of its pin.
 pub fn stream_beside<L: Heap + Send + Sync, R: Threads + Wait + Sync>(
-    Stage(rt, alloc, shared, five): Stage<'_, L, R>,
+    Setting(rt, alloc, shared, five): Setting<'_, L, R>,
 ) -> Option<bool> {
     let text = one_point(rt, alloc, shared, &mut five.user)?;
     let pin = opened_pin(rt, shared)?;
@@ -89,7 +89,7 @@ fn is_beginning<L: Heap + Send + Sync, R: Threads + Wait + Sync>(
 /// Streams 2,000 points, whose dump has 66,412 bytes, and again, cancelled in the middle. Returns whether the first is whole
 /// and the second isn't.
 pub fn stream_cancelled<L: Heap + Send + Sync, R: Threads + Wait + Sync>(
-    Stage(rt, alloc, shared, five): Stage<'_, L, R>,
+    Setting(rt, alloc, shared, five): Setting<'_, L, R>,
 ) -> Option<bool> {
     if !has_points(rt, alloc, shared, &mut five.user, 2000) {
         return None;

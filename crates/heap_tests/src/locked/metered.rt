@@ -3,7 +3,7 @@ ghost use Rattle.std.specs.Prelude.{◌≡◌};
 ghost use denote.Param.Send.{IsSync};
 
 use super::meters::{FourSeats, new_meter, stream_seats};
-use super::scenes::{Scene, Stage, play_scene};
+use super::scenes::{Scene, Setting, play_scene};
 use super::shared::{has_points, live_pin, opened_pin, pumped_now, stream_into};
 use super::sinks::{Gated, TURNS, reaches};
 use crate::sink::Sink;
@@ -140,7 +140,7 @@ pub fn unread<L: Heap + Send + Sync, R: Threads + Wait + Sync>(
 /// Streams thirty points: read along, after somebody asked to cancel, and into a sink that fails. Returns whether each goes as
 /// it must, and a dump after them is whole.
 pub fn metered_streams<L: Heap + Send + Sync, R: Threads + Wait + Sync>(
-    Stage(rt, alloc, shared, five): Stage<'_, L, R>,
+    Setting(rt, alloc, shared, five): Setting<'_, L, R>,
 ) -> Option<bool> {
     if !has_points(rt, alloc, shared, &mut five.user, 30) {
         return None;

@@ -1,5 +1,5 @@
 //! A chronicle that drops its oldest entries, and audits of receipts whose entries it dropped.
-use super::scenes::{Scene, Stage, play_scene};
+use super::scenes::{Scene, Setting, play_scene};
 use super::shared::did;
 use heap_lock::{
     Action, Answer, Event, Heap, Kept, Outcome, Receipt, Seat, Shared, Verdict, audit,
@@ -113,7 +113,7 @@ fn rolls_twice<L: Heap, R: Wait>(rt: &R, shared: &Shared<L>, seat: &mut Seat<L>)
 
 /// Acts 1,500,001 times. Returns whether the chronicle drops its oldest entries when it must, and audits say so.
 pub fn rolling<L: Heap + Send + Sync, R: Threads + Wait + Sync>(
-    Stage(rt, _, shared, five): Stage<'_, L, R>,
+    Setting(rt, _, shared, five): Setting<'_, L, R>,
 ) -> Option<bool> {
     Some(rolls_twice(rt, shared, &mut five.user))
 }

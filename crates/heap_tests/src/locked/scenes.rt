@@ -55,7 +55,7 @@ fn five_of<L: Heap>(seats: &mut Seats<L>) -> Option<Five<L>> {
 
 /// What a scene is played with: the runtime, the allocator, a heap, and its seats.
 #[derive(Drop)]
-pub struct Stage<'a, L: Heap, R>(
+pub struct Setting<'a, L: Heap, R>(
     pub &'a R,
     pub Global,
     pub &'a Shared<L>,
@@ -64,20 +64,20 @@ pub struct Stage<'a, L: Heap, R>(
 
 // Plays a scene. Returns whether all goes as it must, or None if something is refused first.
 fn play<L: Heap + Send + Sync, R: Threads + Wait + Sync>(
-    stage: Stage<'_, L, R>,
+    setting: Setting<'_, L, R>,
     scene: Scene,
 ) -> Option<bool> {
     match scene {
-        Scene::CancelledPumps => cancelled_pumps(stage),
-        Scene::NineAsked => nine_asked(stage),
-        Scene::WatchedWorkers => watched_workers(stage),
-        Scene::PumpBeside => pump_beside(stage),
-        Scene::StreamBeside => stream_beside(stage),
-        Scene::StreamCancelled => stream_cancelled(stage),
-        Scene::MeteredStreams => metered_streams(stage),
-        Scene::Rolling => rolling(stage),
-        Scene::FourThreads => four_threads(stage),
-        Scene::Cycles => cycles(stage),
+        Scene::CancelledPumps => cancelled_pumps(setting),
+        Scene::NineAsked => nine_asked(setting),
+        Scene::WatchedWorkers => watched_workers(setting),
+        Scene::PumpBeside => pump_beside(setting),
+        Scene::StreamBeside => stream_beside(setting),
+        Scene::StreamCancelled => stream_cancelled(setting),
+        Scene::MeteredStreams => metered_streams(setting),
+        Scene::Rolling => rolling(setting),
+        Scene::FourThreads => four_threads(setting),
+        Scene::Cycles => cycles(setting),
     }
 }
 
@@ -92,7 +92,7 @@ fn open_and_play<L: Heap + Send + Sync, R: Threads + Wait + Sync>(
 {
     let (shared, mut seats) = blank.open::<L>();
     match five_of(&mut seats) {
-        Some(mut five) => play(Stage(rt, alloc, &shared, &mut five), scene),
+        Some(mut five) => play(Setting(rt, alloc, &shared, &mut five), scene),
         None => None,
     }
 }

@@ -1,5 +1,5 @@
 //! Seats in threads of their own, whose receipts agree with one history.
-use super::scenes::{Five, Scene, Stage, play_scene};
+use super::scenes::{Five, Scene, Setting, play_scene};
 use super::shared::did;
 use heap_class::Kind;
 use heap_lock::{Action, Event, Heap, Kept, Receipt, Role, Seat, Shared, Verdict, audit};
@@ -153,7 +153,7 @@ fn by_four<L: Heap + Send + Sync, R: Threads + Wait + Sync>(
 
 /// Acts by a mutator, a user, the marker and the sweeper, each in a thread of its own. Returns whether their receipts agree.
 pub fn four_threads<L: Heap + Send + Sync, R: Threads + Wait + Sync>(
-    Stage(rt, alloc, shared, five): Stage<'_, L, R>,
+    Setting(rt, alloc, shared, five): Setting<'_, L, R>,
 ) -> Option<bool> {
     Some(by_four(rt, alloc, shared, five))
 }

@@ -1,6 +1,6 @@
 //! Workers in one thread: a whole cycle, and gates that let no act begin.
 
-use super::scenes::{Five, Scene, Stage, play_scene};
+use super::scenes::{Five, Scene, Setting, play_scene};
 use super::shared::acts;
 use crate::scripts::{new, point};
 use heap_class::Refusal;
@@ -151,7 +151,7 @@ fn stop_at_gates<L: Heap, R: Wait>(rt: &R, shared: &Shared<L>, five: &mut Five<L
 
 /// Runs the workers through a cycle over two objects, and to gates that close in the next. Returns whether all goes as it must.
 pub fn cycles<L: Heap + Send + Sync, R: Threads + Wait + Sync>(
-    Stage(rt, alloc, shared, five): Stage<'_, L, R>,
+    Setting(rt, alloc, shared, five): Setting<'_, L, R>,
 ) -> Option<bool> {
     Some(
         began(rt, alloc, shared, &mut five.user)

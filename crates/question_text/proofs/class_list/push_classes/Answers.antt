@@ -11,7 +11,7 @@ loop-class-preserved c =
     let cs = c.args.classes.now in
     let k = c.loop-class.class in
     let first = c.args.text.now.items in
-    c.in_ok-push_class.ensures.0
+    c.in_ok-push_class.ensures
     ∙ ap (λ (t : List ℕ). t ++ class_text cs k) c.loop-class.invariant
     ∙ flat_map_more (class_text cs) first (range_with_len 0 k) k
     ∙ ap (λ (ks : List ℕ). first ++ flat_map (class_text cs) ks) (sym (one_more_number k))

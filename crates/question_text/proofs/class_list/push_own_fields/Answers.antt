@@ -13,7 +13,7 @@ loop-field-preserved c =
     let one = field_words name kind in
     let rest = and_fields (drop (i + 1) fields) in
     let more : and_fields (drop i fields) ≡ one ++ rest = fields_further i fields name kind (omega arith) c.field_name-name.ensures c.field_kind-kind.ensures in
-    ap (λ (t : List ℕ). t ++ rest) c.in_ok-push_field.ensures.0
+    ap (λ (t : List ℕ). t ++ rest) c.in_ok-push_field.ensures
     ∙ append_assoc c.loop-field.text.items one rest
     ∙ ap (λ (t : List ℕ). c.loop-field.text.items ++ t) (sym more)
     ∙ c.loop-field.invariant

@@ -16,7 +16,7 @@ loop-index-preserved c =
     elim c.if-differs.branch [
       | then-differs+in_ok-push_change w ↦
           ap (λ (t : Vec ℕ Global). t.items ++ rest) w.text-is
-          ∙ ap (λ (t : List ℕ). t ++ rest) w.in_ok-push_change.ensures.0
+          ∙ ap (λ (t : List ℕ). t ++ rest) w.in_ok-push_change.ensures
           ∙ append_assoc text _ rest
           ∙ ap (λ (t : List ℕ). text ++ t) (sym (row_told classes changes i _ _ within c.differs.ensures w.if-differs.true))
           ∙ c.loop-index.invariant

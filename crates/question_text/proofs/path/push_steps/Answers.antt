@@ -28,7 +28,7 @@ loop-slot-preserved g c =
     let split = drop_more slots i 0 c.loop-slot-test.true in
     let whole = c.args.text.now.items ++ step_texts image c.args.start slots in
     record {
-      lines = lines_left image here slot next rest text c.push_step.new.text.items whole c.named_by-next.ensures c.in_ok-push_step.ensures.0
+      lines = lines_left image here slot next rest text c.push_step.new.text.items whole c.named_by-next.ensures c.in_ok-push_step.ensures
           (subst (λ (ss : List ℕ). text ++ step_texts image here ss ≡ whole) split c.loop-slot.invariant.lines);
       leads = leads_on image here slot next rest c.named_by-next.ensures
           (subst (λ (ss : List ℕ). IsSome (followed image here ss)) split c.loop-slot.invariant.leads);

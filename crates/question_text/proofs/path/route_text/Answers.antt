@@ -15,7 +15,7 @@ returns-in-Ok g c =
     let r = c.args.path.now.register in
     let slots = c.args.path.now.slots.items in
     let start = get_or c.registers.result.now r 0 in
-    let told = c.in-Ok.ensures.0
+    let told = c.in-Ok.ensures
     ∙ ap (λ (t : List ℕ). t ++ route_text c.in_ok-index.index r start slots) c.new-text.ensures.items
     ∙ ap (λ (i : Image). route_text i r start slots) c.in_ok-index.ensures.index
     ∙ ap (λ (rs : List ℕ). route_text image r (get_or rs r 0) slots) c.registers.ensures in

@@ -16,7 +16,7 @@ loop-pin-preserved c =
     let h : option_map listed_pin (slice_get pins i) ≡ Some pin = sym c.nth_pin.ensures.value ∙ c.in-Some.is in
     let more = pins_more pins i pin h in
     record {
-      lines = c.in_ok-push_pin.ensures.0
+      lines = c.in_ok-push_pin.ensures
           ∙ ap (λ t. t ++ pin_text pin) c.loop-pin.invariant.lines
           ∙ flat_map_more pin_text first (map listed_pin (take i pins)) pin
           ∙ ap (λ (ps : List ListedPin). first ++ flat_map pin_text ps) (sym more.1);

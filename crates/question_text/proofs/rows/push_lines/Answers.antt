@@ -10,7 +10,7 @@ loop-one-preserved g c =
     let old = c.args.text.now.items in
     let first = take c.loop-one.one-index c.args.all.now in
     let one = c.one-item.result in
-    c.in_ok-push_line.ensures.0
+    c.in_ok-push_line.ensures
     ∙ ap (λ l. l ++ line one) c.loop-one.invariant
     ∙ flat_map_more line old first one
     ∙ ap (λ xs. old ++ flat_map line xs) (ap (λ x. first ++ x ∷ []) c.one-item.is ∙ sym (take_more c.args.all.now c.loop-one.one-index one (omega arith)))
@@ -21,4 +21,4 @@ returns g c =
     let old = c.args.text.now.items in
     let all = c.args.all.now in
     let end : c.loop-one.one-index ≡ length all = omega (arith, c.loop-one.auto.one-index-end, c.loop-one-test.false) in
-    (c.loop-one.invariant ∙ ap (λ (i : ℕ). old ++ flat_map line (take i all)) end ∙ ap (λ xs. old ++ flat_map line xs) (take-length all), tt)
+    c.loop-one.invariant ∙ ap (λ (i : ℕ). old ++ flat_map line (take i all)) end ∙ ap (λ xs. old ++ flat_map line xs) (take-length all)

@@ -14,7 +14,7 @@ returns-in_default c =
     let f = c.loop-depth.first in
     let items = c.loop-depth.text.items in
     let e = ap (λ (o : Option ℕ). field_rows f (fields_up cs n o) (drop f words)) c.in_default.is ∙ ap (λ fs. field_rows f fs (drop f words)) (fields_none cs n) in
-    (sym (ap (λ (t : List ℕ). items ++ t) e ∙ append-nil items) ∙ c.loop-depth.invariant.lines, tt)
+    sym (ap (λ (t : List ℕ). items ++ t) e ∙ append-nil items) ∙ c.loop-depth.invariant.lines
 
 pub loop-depth-preserved : goal.loop-depth-preserved
 loop-depth-preserved c =
@@ -34,7 +34,7 @@ loop-depth-preserved c =
       there = lower c.sup-here.result a (length cs) c.sup-here.ensures.before there;
       within = omega (arith, c.own_count.ensures, c.loop-depth.invariant.within);
       lines = ap (λ (o : Option ℕ). c.push_own.new.text.items ++ field_rows (f + own) (fields_up cs m o) (drop (f + own) words)) c.sup-here.ensures.value
-          ∙ ap (λ (t : List ℕ). t ++ rest) c.in_ok-push_own.ensures.0
+          ∙ ap (λ (t : List ℕ). t ++ rest) c.in_ok-push_own.ensures
           ∙ append_assoc items mid rest
           ∙ ap (λ (t : List ℕ). items ++ t) (sym (rows_of_class cs n m a f own words next c.own_count.ensures))
           ∙ ap (λ (o : Option ℕ). items ++ field_rows f (fields_up cs n o) (drop f words)) (sym c.in-Some.is)

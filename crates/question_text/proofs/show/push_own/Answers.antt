@@ -18,7 +18,7 @@ loop-field-preserved c =
     let rest = field_rows q (drop (i + 1) fields) (drop q words) in
     let more : field_rows j (drop i fields) (drop j words) ≡ row ++ rest =
     rows_more i j q fields words name kind (omega arith) (omega arith) c.field_name-name.ensures c.field_kind-kind.ensures (omega arith) in
-    ap (λ (t : List ℕ). t ++ rest) c.in_ok-push_field.ensures.0
+    ap (λ (t : List ℕ). t ++ rest) c.in_ok-push_field.ensures
     ∙ append_assoc c.loop-field.text.items row rest
     ∙ ap (λ (t : List ℕ). c.loop-field.text.items ++ t) (sym more)
     ∙ c.loop-field.invariant
@@ -27,4 +27,4 @@ pub returns : goal.returns
 returns c =
     let e = rows_end (c.args.first + c.loop-field.field) c.loop-field.field (c.args.first + c.loop-field.field) (fields_of c.args.classes.now c.args.class) c.args.words.now
     (used_up (length (fields_of c.args.classes.now c.args.class)) (length c.args.words.now) c.args.first c.own_count-count.result c.loop-field.field c.own_count-count.ensures c.loop-field-test.false c.requires.within) in
-    (sym (ap (λ (t : List ℕ). c.loop-field.text.items ++ t) e ∙ append-nil c.loop-field.text.items) ∙ c.loop-field.invariant, tt)
+    sym (ap (λ (t : List ℕ). c.loop-field.text.items ++ t) e ∙ append-nil c.loop-field.text.items) ∙ c.loop-field.invariant

@@ -128,14 +128,16 @@ def is_answered_again(line, once, again, sound):
     return data[: len(out)] == out and again == (rest, b"ok dump %d" % size_of(rest) if out else last)
 
 
-def goes_on(command, library, lines, found, given):
+def goes_on(command, library, lines, found, given, tries=3):
     """Tells whether the line that was refused, if one was, is answered as ever when it is given again, and so are all after it. `given`
-    returns the replies to lines among which it stands twice."""
+    returns the replies to lines among which it stands twice, and is asked again if the same allocation was another one."""
     lasts = [last for _, last in found]
     if REFUSED not in lasts:
         return True
     at = lasts.index(REFUSED)
     told = given(lines[: at + 1] + lines[at:])
+    if tries > 1 and told[: at + 1] != found[: at + 1]:
+        return goes_on(command, library, lines, found, given, tries - 1)
     _, sound, _ = session(command, library, lines)
     good = len(told) == len(lines) + 1 and told[: at + 1] == found[: at + 1] and told[at + 2 :] == sound[at + 1 :]
     return good and is_answered_again(lines[at], found[at], told[at + 1], sound[at])

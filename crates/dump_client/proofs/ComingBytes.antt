@@ -4,10 +4,10 @@ use Rattle.std.proofs.lemmas.List.{append-nil, take-append-drop, length-append, 
 use Rattle.std.specs.Io.KnownBytes.{Keeps}
 use Rattle.dump_pump.specs.Outlets.{Outgoing}
 use Rattle.dump_pump.specs.Pumps.{PutsAll}
-use Rattle.session_text.specs.Inlets.{Incoming, NothingLeft, whole}
-use Rattle.dump_scan.specs.Records.{completes, is_whole_dump}
-use Rattle.dump_scan.specs.declared.scan.Scan.{Scan}
-use Rattle.dump_scan.specs.declared.scan.Scan.TheVariants.{Within}
+use Rattle.dump_pump.specs.Inlets.{Incoming, NothingLeft, whole}
+use Rattle.hprof_records.specs.Records.{completes, is_whole_dump}
+use Rattle.hprof_records.specs.declared.scan.Scan.{Scan}
+use Rattle.hprof_records.specs.declared.scan.Scan.TheVariants.{Within}
 use Rattle.dump_client.specs.Fetches.{EndsFetch, IsFetched, HasCome, finish_of, told_limit}
 use Rattle.dump_client.specs.declared.intake.Finish.TheVariants.{Whole, Cut, WriteFault}
 use Rattle.session_text.proofs.AnsweredLines.{keeps_then}

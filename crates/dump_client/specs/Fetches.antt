@@ -3,13 +3,13 @@ use Rattle.std.specs.Prelude.{◌≡◌, ◌⊎◌, ℕ, ◌+◌, true, false, L
 use Rattle.std.specs.Io.KnownBytes.{Keeps}
 use mathlib.Core.List.{IsPrefix}
 use Rattle.dump_pump.specs.Outlets.{Outgoing}
-use Rattle.session_text.specs.Inlets.{Incoming, NothingLeft, whole}
+use Rattle.dump_pump.specs.Inlets.{Incoming, NothingLeft, whole}
 use Rattle.session_text.specs.Replies.{line}
-use Rattle.dump_scan.specs.Records.{completes, is_whole_dump}
+use Rattle.hprof_records.specs.Records.{completes, is_whole_dump}
 use Rattle.dump_client.specs.declared.intake.Fetched.{Fetched}
 use Rattle.dump_client.specs.declared.intake.Finish.{Finish}
 use Rattle.dump_client.specs.declared.intake.Finish.TheVariants.{Whole, Cut, WriteFault}
-use Rattle.dump_scan.specs.declared.scan.Scan.{Scan}
+use Rattle.hprof_records.specs.declared.scan.Scan.{Scan}
 
 -- the largest number of bytes that is told
 abbrev pub told_limit : ℕ

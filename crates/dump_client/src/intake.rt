@@ -5,7 +5,7 @@ ghost use Rattle.dump_client.specs.Fetches.{IsFetched, finish_of};
 use crate::watcher::Watcher;
 use dump_pump::Outlet;
 use dump_pump::transfer::put_all;
-use dump_scan::Scan;
+use hprof_records::Scan;
 use session_text::{Inlet, Take};
 use std::sync::Wait;
 

@@ -1,4 +1,5 @@
 pub mod Outlets
+pub mod Inlets
 pub mod Sources
 pub mod Pumps
 -- What clauses here, and proofs above, cite of the crates below.

@@ -1,8 +1,10 @@
-//! Outlets for the bytes of a dump and the lines of a session, and sources of a dump's parts.
+//! Outlets for the bytes of a dump and the lines of a session, inlets for bytes that come, and sources of a dump's parts.
 #![tactic(auto)]
 
+pub mod inlet;
 pub mod ledger;
 pub mod outlet;
+pub mod read_inlet;
 pub mod source;
 pub mod transfer;
 pub mod write_outlet;
@@ -12,7 +14,9 @@ pub use hprof_text::Piece;
 // Re-exports the ghost list in which ends of dumps and sessions note what they saw. The kit has such a type in its HTTP
 // server alone. Nothing else of that crate is used.
 pub use http_server::Log;
+pub use inlet::{Inlet, Take};
 pub use outlet::Outlet;
+pub use read_inlet::ReadInlet;
 pub use source::{Ending, Next, Source};
 pub use transfer::{Pumped, pump};
 pub use write_outlet::WriteOutlet;

@@ -4,7 +4,7 @@ use Rattle.dump_pump.specs.Outlets.{Outgoing}
 use Rattle.question_text.specs.declared.asking.Asking.{Asking}
 use Rattle.question_text.specs.Sessions.{ServesAsking}
 use Rattle.session_text.specs.declared.Ended.{Ended}
-use Rattle.session_text.specs.Inlets.{Incoming}
+use Rattle.dump_pump.specs.Inlets.{Incoming}
 
 -- the lines that some inlet gave were served, and what was written for them is not shown
 abbrev pub IsLoaded : ℕ → Asking → Asking → Ended → Type 0

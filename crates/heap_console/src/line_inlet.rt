@@ -4,9 +4,9 @@ ghost use Rattle.heap_console.specs.Lines.{IsLineGiven};
 
 use crate::columns::LINE_END;
 use dump_pump::Log;
+use dump_pump::inlet::count_of;
 use dump_pump::ledger::note_bytes;
 use question_text::{BAD_COMMAND, Watch};
-use session_text::inlet::count_of;
 use session_text::{Inlet, Take};
 use std::alloc::{AllocError, Global};
 use std::io::{BufRead, BufReader, Read};
@@ -31,7 +31,7 @@ pub(crate) struct LineInlet<'a, F: Read + Drop, R> {
 impl<'a, F: Read + Drop, R> Model for LineInlet<'a, F, R> {
     ghost use Rattle.std.specs.Prelude.{None, length, map};
     ghost use Rattle.dump_pump.specs.Outlets.{bytes_of};
-    ghost use Rattle.session_text.specs.Inlets.{Incoming};
+    ghost use Rattle.dump_pump.specs.Inlets.{Incoming};
 
     ghost Value = { Incoming };
 

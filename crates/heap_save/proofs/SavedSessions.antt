@@ -6,7 +6,7 @@ use Rattle.dump_pump.specs.Outlets.{Outgoing}
 use Rattle.pin_dump.specs.Machine.{Machine}
 use Rattle.session_text.specs.declared.Ended.{Ended}
 use Rattle.session_text.specs.Endings.{EndsSession, ended_of}
-use Rattle.session_text.specs.Inlets.{Incoming}
+use Rattle.dump_pump.specs.Inlets.{Incoming}
 use Rattle.session_text.specs.Limits.{is_whole_session}
 use Rattle.session_text.specs.Local.{own_closed}
 use Rattle.session_text.specs.Session.{IsSession}

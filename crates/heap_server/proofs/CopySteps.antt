@@ -4,7 +4,7 @@ use Rattle.std.proofs.lemmas.List.{append-nil, take-append-drop, length-drop, ta
 use Rattle.std.specs.Io.KnownBytes.{Keeps}
 use Rattle.dump_pump.specs.Outlets.{Outgoing}
 use Rattle.dump_pump.specs.Pumps.{PutsAll}
-use Rattle.session_text.specs.Inlets.{Incoming, NothingLeft, whole}
+use Rattle.dump_pump.specs.Inlets.{Incoming, NothingLeft, whole}
 use Rattle.heap_server.specs.declared.copy.Copied.TheVariants.{Whole, ReadFault, WriteFault}
 use Rattle.heap_server.specs.Copies.{IsGoing, Copies, Takes}
 use Rattle.session_text.proofs.AnsweredLines.{keeps_then}

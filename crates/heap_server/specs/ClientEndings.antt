@@ -2,7 +2,7 @@
 use Rattle.std.specs.Prelude.{◌≡◌, ◌⊎◌, ℕ, [], Bool, true, false, codes}
 use Rattle.dump_pump.specs.Outlets.{Outgoing}
 use Rattle.dump_pump.specs.Pumps.{PutsAll}
-use Rattle.session_text.specs.Inlets.{Incoming}
+use Rattle.dump_pump.specs.Inlets.{Incoming}
 use Rattle.heap_server.specs.declared.client.Asked.{Asked}
 use Rattle.heap_server.specs.declared.client.Asked.TheVariants.{Done, ReadFault as Unread, WriteFault as Unwritten, NoMemory}
 use Rattle.heap_server.specs.declared.copy.Copied.{Copied}

@@ -2,7 +2,7 @@
 use Rattle.std.specs.Prelude.{◌≡◌, ℕ, ◌+◌, List, ◌++◌}
 use Rattle.std.specs.Io.KnownBytes.{Keeps}
 use Rattle.dump_pump.specs.Outlets.{Outgoing}
-use Rattle.session_text.specs.Inlets.{Incoming, NothingLeft, whole}
+use Rattle.dump_pump.specs.Inlets.{Incoming, NothingLeft, whole}
 use Rattle.session_text.specs.Writes.{IsCutShort}
 use Rattle.heap_server.specs.declared.copy.Copied.{Copied}
 use Rattle.heap_server.specs.declared.copy.Copied.TheVariants.{Whole, ReadFault, WriteFault}

@@ -6,7 +6,7 @@ use Rattle.dump_pump.specs.Outlets.{Outgoing}
 use Rattle.heapdbg_options.specs.IdSize.{IdSize}
 use Rattle.session_text.specs.Machine.{Machine, opening_machine}
 use Rattle.session_text.specs.declared.Ended.{Ended}
-use Rattle.session_text.specs.Inlets.{Incoming}
+use Rattle.dump_pump.specs.Inlets.{Incoming}
 use Rattle.session_text.specs.Endings.{EndsSession}
 use Rattle.session_text.specs.Limits.{is_whole_session}
 use Rattle.session_text.specs.Session.{IsSession}

@@ -7,7 +7,7 @@ use Rattle.question_text.specs.declared.asking.Asking.{Asking}
 use Rattle.question_text.specs.Sessions.{ServesAsking}
 use Rattle.session_text.specs.declared.Ended.{Ended}
 use Rattle.session_text.specs.Endings.{EndsSession}
-use Rattle.session_text.specs.Inlets.{Incoming}
+use Rattle.dump_pump.specs.Inlets.{Incoming}
 use Rattle.heapdbg.specs.declared.failure.Fault.{Fault}
 use Rattle.heapdbg.specs.declared.failure.Fault.TheVariants.{From, Memory}
 use Rattle.heapdbg_options.specs.declared.settings.Settings.{Settings}

@@ -1,7 +1,7 @@
 -- The outcomes of a fetch. Files and sockets tell nothing of their bytes.
 use Rattle.std.specs.Prelude.{◌≡◌, ◌⊎◌, Bool, true, false, [], Result, Ok, Err}
 use Rattle.dump_pump.specs.Outlets.{Outgoing}
-use Rattle.session_text.specs.Inlets.{Incoming}
+use Rattle.dump_pump.specs.Inlets.{Incoming}
 use Rattle.session_text.specs.Writes.{IsTextWritten}
 use Rattle.dump_client.specs.Fetches.{IsFetched, fetch_line_of}
 use Rattle.dump_client.specs.declared.intake.Fetched.{Fetched}

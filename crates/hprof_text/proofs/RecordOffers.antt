@@ -43,9 +43,3 @@ over_nine size head items written given g s w h n =
     ∙ take_all size given (omega (arith, l, s))
     ∙ g
     ∙ ap (λ m. head ++ drop 9 m) w
-
--- a head as its bytes are set one by one
-pub head_is : (tag size : ℕ) (four more : List ℕ) → tag < 256 → four ≡ big_bytes 4 size → tag ∷ 0 ∷ 0 ∷ 0 ∷ 0 ∷ (four ++ [] ++ more) ≡ record_head tag size ++ more
-head_is tag size four more h e =
-    let m : tag % 256 ≡ tag = omega (arith, h) in
-    ap₂ (λ t l. t ∷ 0 ∷ 0 ∷ 0 ∷ 0 ∷ (l ++ more)) (sym m) (append-nil four ∙ e)

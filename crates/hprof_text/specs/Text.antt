@@ -3,6 +3,8 @@ use Rattle.std.specs.Prelude.{ℕ, ◌+◌, ◌*◌, ◌/◌, ◌%◌, ◌^◌, 
 use Rattle.std.specs.Option.{option_map_or}
 use Rattle.std.specs.List.{enumerate_from}
 use Rattle.byteorder.specs.Endian.{big_bytes}
+pub use Rattle.hprof_records.specs.Heads.{u1, u2, u4}
+unfoldable pub use Rattle.hprof_records.specs.Heads.{record_of}
 use Rattle.heap_class.specs.declared.IdSize.{IdSize}
 use Rattle.heap_class.specs.declared.Kind.{Kind}
 use Rattle.heap_class.specs.declared.Field.{Field}
@@ -17,18 +19,6 @@ use Rattle.hprof_text.specs.declared.section.Section.TheVariants.{Numbered, Obje
 
 -- ---- numbers
 
--- the byte of a number below 256
-abbrev pub u1 : ℕ → List ℕ
-u1 n = big_bytes 1 n
-
--- the two bytes of a number, the highest first
-abbrev pub u2 : ℕ → List ℕ
-u2 n = big_bytes 2 n
-
--- the four bytes of a number, the highest first
-abbrev pub u4 : ℕ → List ℕ
-u4 n = big_bytes 4 n
-
 -- the bytes of an identifier, the highest first
 abbrev pub id : IdSize → ℕ → List ℕ
 id ids n = big_bytes (id_bytes ids) n
@@ -40,10 +30,6 @@ abbrev pub class_id : ℕ → ℕ
 class_id k = 0x00100000 + 8 * k
 
 -- ---- records: tag, time 0, length of the body, body
-
--- a record with this tag and body
-unfoldable pub record_of : ℕ → List ℕ → List ℕ
-record_of tag body = u1 tag ++ u4 0 ++ u4 (length body) ++ body
 
 -- the header: the format's name, the size of identifiers, and the time in milliseconds since 1970
 unfoldable pub header : IdSize → ℕ → List ℕ

@@ -185,9 +185,8 @@ impl Segment {
         ensures value { result ≡ record_of tag self }
         ensures limit { length result ≤ 9 + sub_record_limit }
     {
-        let length = self.len() as u32;
         let Segment { mut buffer } = self;
-        buffer.set_head(tag, length);
+        buffer.set_head(tag);
         Bytes::from_vec(buffer.into_vec())
     }
 }

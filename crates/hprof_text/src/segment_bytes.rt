@@ -1,12 +1,12 @@
 //! A buffer for bytes, in room that is reserved at once.
-ghost use Rattle.std.specs.Prelude.{◌≡◌, ◌≤◌, ◌++◌, length, drop, [], IfOk};
-ghost use Rattle.hprof_text.specs.Records.{record_head};
+ghost use Rattle.std.specs.Prelude.{◌≡◌, ◌+◌, ◌<◌, ◌≤◌, ◌^◌, ◌++◌, length, drop, [], IfOk};
 ghost use Rattle.hprof_text.specs.SegmentContents.{HasRoom};
-ghost use Rattle.hprof_text.specs.Text.{u1, u4, id};
+ghost use Rattle.hprof_text.specs.Text.{u1, u4, id, record_of};
 ghost use Rattle.byteorder.specs.Endian.{big_bytes};
 
 use byteorder::{BigEndian, ByteOrder};
 use heap_class::IdSize;
+use hprof_records::write_head;
 use std::alloc::{AllocError, Global};
 use std::marker::Model;
 
@@ -27,17 +27,6 @@ impl Model for SegmentBytes {
     ghost view = { λ b. record { written = b.bytes.items; limit = b.limit } };
 
     ghost invariant = { λ b. b.limit ≤ vec_capacity b.bytes };
-}
-
-// Writes the head of a record over the first nine bytes.
-fn write_head(bytes: &mut [u8], tag: u8, size: u32)
-    requires { 9 ≤ length bytes.old }
-    ensures { bytes.new ≡ record_head tag size ++ drop 9 bytes.old }
-{
-    let mut head = [0; 9];
-    head[0] = tag;
-    BigEndian::write_u32(&mut head[5..], size);
-    bytes[..9].copy_from_slice(&head);
 }
 
 impl SegmentBytes {
@@ -64,13 +53,15 @@ impl SegmentBytes {
         self.bytes.len()
     }
 
-    /// Writes the head of a record whose body has `size` bytes over the first nine bytes, which must be written.
-    pub fn set_head(&mut self, tag: u8, size: u32)
-        requires { 9 ≤ length self.old.written }
-        ensures written { self.new.written ≡ record_head tag size ++ drop 9 self.old.written }
+    /// Writes the head of a record over the first nine bytes, which must be written. Its body is what was written behind them,
+    /// of less than 2^32 bytes.
+    pub fn set_head(&mut self, tag: u8)
+        requires room { 9 ≤ length self.old.written }
+        requires fits { length self.old.written < 9 + 2 ^ 32 }
+        ensures written { self.new.written ≡ record_of tag (drop 9 self.old.written) }
         ensures limit { self.new.limit ≡ self.old.limit }
     {
-        write_head(&mut self.bytes, tag, size);
+        write_head(&mut self.bytes, tag);
     }
 
     /// Appends bytes, for which there must be room. Takes no memory.

@@ -19,7 +19,7 @@ use Rattle.session_text.specs.Answers.{Reaction, AnswerRelation, AnswersTo, Begi
 use Rattle.session_text.specs.Dumps.{Acts, DumpsPin, WritesDump}
 use Rattle.session_text.specs.Endings.{EndsSession, ended_of, flow_of}
 use Rattle.session_grammar.specs.Grammar.{command_of}
-use Rattle.session_text.specs.Inlets.{Incoming, whole}
+use Rattle.dump_pump.specs.Inlets.{Incoming, whole}
 use Rattle.session_grammar.specs.Lines.{NoLf, IsLineAt}
 use Rattle.session_grammar.specs.Reads.{TakesMemory}
 use Rattle.session_text.specs.Replies.{reply_text}

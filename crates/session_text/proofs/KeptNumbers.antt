@@ -12,7 +12,7 @@ use Rattle.session_text.specs.declared.commands.Local.{Local}
 use Rattle.session_text.specs.Answers.{AnswerRelation, AnswersCommand, Begins, AnswersTo, BeginsTo, Reaction, all_bad}
 use Rattle.session_text.specs.Dumps.{Acts, DumpsOn, Dumps, ClosesAfter}
 use Rattle.dump_pump.specs.Sources.{part_limit}
-use Rattle.session_text.specs.Inlets.{Incoming}
+use Rattle.dump_pump.specs.Inlets.{Incoming}
 use Rattle.session_text.specs.Replies.{piece_in, pin_in}
 use Rattle.session_text.specs.Talks.{AnswersAll, FailsWhileWriting, IsTruncatedRun, IsSessionServed, Serves}
 use Rattle.session_text.proofs.SessionCommands.{acts}

@@ -7,8 +7,9 @@ use Rattle.std.specs.Bool.{◌==◌}
 use Rattle.std.proofs.lemmas.Bool.Decides.{nat_tests}
 use Rattle.std.proofs.lemmas.Slice.{take-put_mid_below}
 use borrow.Rule.Slice.PartMut.{put_mid, post_of}
-use Rattle.session_text.specs.declared.inlet.Take.{Take}
-use Rattle.session_text.specs.Inlets.{Incoming, IsTake, IsInletRead, count_of}
+use Rattle.dump_pump.specs.declared.inlet.Take.{Take}
+use Rattle.dump_pump.specs.Inlets.{Incoming, IsTake, count_of}
+use Rattle.session_text.specs.Buffers.{IsInletRead}
 use Rattle.session_grammar.specs.Lines.{NoLf}
 
 pub split_at : (xs : List ℕ) (n : ℕ) → n < length xs → get_or xs n 0 ≡ 10 → xs ≡ take n xs ++ 10 ∷ drop (n + 1) xs

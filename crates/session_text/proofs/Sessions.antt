@@ -12,7 +12,7 @@ use Rattle.session_text.specs.declared.ReadEnd.TheVariants.{Over, Failed, Spent}
 use Rattle.session_text.specs.declared.commands.Local.{Local}
 use Rattle.session_text.specs.Answers.{AnswersCommand, Begins, all_bad}
 use Rattle.session_grammar.specs.Grammar.{command_of}
-use Rattle.session_text.specs.Inlets.{Incoming, whole}
+use Rattle.dump_pump.specs.Inlets.{Incoming, whole}
 use Rattle.session_text.specs.Session.{Talk, after_up_to, after_command, FitLines, AllocationsFit, talked, session_of, ShowsSession, CutsLine, CutsEnd, CutsPage, IsSession}
 use Rattle.session_text.specs.Talks.{stream, IsTalk, EndsCleanly, FailsWhileWriting, IsTruncatedRun, Serves}
 use Rattle.session_text.specs.Writes.{IsCutShort, IsTextWritten}

@@ -6,7 +6,7 @@ use Rattle.session_text.specs.declared.Ended.TheVariants.{Quit, Eof, CutLine, To
 use Rattle.session_text.specs.declared.TheConstants.{READ_LIMIT}
 use Rattle.session_text.specs.declared.answer.Flow.{Flow}
 use Rattle.session_text.specs.declared.answer.Flow.TheVariants.{Next, Fault}
-use Rattle.session_text.specs.Inlets.{Incoming, NothingLeft}
+use Rattle.dump_pump.specs.Inlets.{Incoming, NothingLeft}
 use Rattle.session_text.specs.Writes.{IsTextWritten}
 
 -- the next line comes, unless a write failed

@@ -1,5 +1,5 @@
 pub mod Limits
-pub mod Inlets
+pub mod Buffers
 pub mod Local
 pub mod Replies
 pub mod Writes
@@ -13,4 +13,5 @@ pub mod Laws
 -- What clauses here, and proofs above, cite of the crates below.
 pub use Rattle.heap_trail.specs.Machine
 pub use Rattle.byteorder.specs.Endian
+pub use Rattle.dump_pump.specs.Inlets
 pub use Rattle.dump_pump.specs.Outlets

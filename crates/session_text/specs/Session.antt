@@ -18,7 +18,7 @@ use Rattle.session_grammar.specs.declared.command.Command.TheVariants.{Blank, Ba
 use Rattle.session_text.specs.Dumps.{total_line}
 use Rattle.dump_pump.specs.Sources.{part_limit}
 use Rattle.session_grammar.specs.Grammar.{command_of}
-use Rattle.session_text.specs.Inlets.{Incoming, whole}
+use Rattle.dump_pump.specs.Inlets.{Incoming, whole}
 use Rattle.session_grammar.specs.Reads.{ActionTakesMemory}
 use Rattle.session_text.specs.Replies.{reply_text, data_lines, piece_in, pin_in}
 use Rattle.session_text.specs.Talks.{IsLine, BeginsWith}

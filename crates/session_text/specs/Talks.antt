@@ -12,7 +12,7 @@ use Rattle.session_grammar.specs.declared.command.Command.{Command}
 use Rattle.session_grammar.specs.declared.command.Command.TheVariants.{End}
 use Rattle.session_text.specs.Answers.{Reaction, AnswerRelation}
 use Rattle.session_grammar.specs.Grammar.{command_of}
-use Rattle.session_text.specs.Inlets.{Incoming, NothingLeft, whole}
+use Rattle.dump_pump.specs.Inlets.{Incoming, NothingLeft, whole}
 use Rattle.session_grammar.specs.Lines.{NoLf}
 use Rattle.session_text.specs.Writes.{IsTextWritten, IsTextAdded}
 

@@ -1,11 +1,12 @@
 //! The bytes that were read and aren't answered yet.
 ghost use Rattle.std.specs.Prelude.{◌≡◌, ◌+◌, ◌-◌, ◌≤◌, ◌<◌, [], take, drop, length, IfOk, MatchOption};
-ghost use Rattle.session_text.specs.Inlets.{IsInletRead, count_of};
+ghost use Rattle.dump_pump.specs.Inlets.{count_of};
+ghost use Rattle.session_text.specs.Buffers.{IsInletRead};
 ghost use Rattle.session_text.specs.Limits.{buffer_limit};
 ghost use Rattle.session_grammar.specs.Lines.{NoLf, IsLineAt};
 ghost use Rattle.session_grammar.specs.declared.TheConstants.{LINE_LIMIT};
 
-use crate::inlet::{Inlet, Take, count_of};
+use dump_pump::inlet::{Inlet, Take, count_of};
 use memchr::memchr;
 use std::alloc::{AllocError, Global};
 use std::marker::Model;

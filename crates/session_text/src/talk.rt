@@ -8,11 +8,10 @@ ghost use Rattle.session_text.specs.declared.write.TheConstants.{TEXT_LIMIT};
 
 use crate::answer::{Flow, answer_lines};
 use crate::commands::{Commands, Local};
-use crate::inlet::{Inlet, Take};
 use crate::session::{Context, Session};
 use crate::write::{flush, write_text};
 use crate::{Ended, READ_LIMIT};
-use dump_pump::Outlet;
+use dump_pump::{Inlet, Outlet, Take};
 use std::alloc::Global;
 
 // Puts out a session's page and the line of an ending.

@@ -6,7 +6,7 @@ use Rattle.session_text.specs.declared.Ended.{Ended}
 use Rattle.session_text.specs.declared.Ended.TheVariants.{Quit, Eof, CutLine, TooLong, ReadFault, TooManyReads}
 use Rattle.session_text.specs.Answers.{AnswersCommand, Begins}
 use Rattle.session_text.specs.Endings.{EndsWith}
-use Rattle.session_text.specs.Inlets.{whole}
+use Rattle.dump_pump.specs.Inlets.{whole}
 use Rattle.session_text.specs.Talks.{EndsCleanly, IsTalk, Serves}
 use Rattle.session_text.specs.Writes.{IsTextAdded, IsTextWritten}
 use Rattle.session_text.proofs.Lists.{is_empty_of, is_some_of}

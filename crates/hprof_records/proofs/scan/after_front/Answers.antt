@@ -1,0 +1,16 @@
+use Rattle.hprof_records.proofs.Heads.{body_follows, end_came, no_end_came, head_more}
+use Rattle.hprof_records.proofs.scan.after_front.Goals as goal
+
+pub returns-then-count-lt-HEAD_ROOM : goal.returns-then-count-lt-HEAD_ROOM
+returns-then-count-lt-HEAD_ROOM c rest = head_more c.args.front c.args.byte rest _ c.if-count-lt-HEAD_ROOM.true
+
+pub returns-then-bytes-ne-END_TAG : goal.returns-then-bytes-ne-END_TAG
+returns-then-bytes-ne-END_TAG c rest = body_follows c.args.front c.args.byte c.from_be_bytes-size.result rest c.if-count-lt-HEAD_ROOM.false c.if-bytes-ne-END_TAG.true c.from_be_bytes-size.ensures
+
+pub returns-then-size-eq0 : goal.returns-then-size-eq0
+returns-then-size-eq0 c rest =
+    end_came c.args.front c.args.byte c.from_be_bytes-size.result rest c.if-count-lt-HEAD_ROOM.false c.if-bytes-ne-END_TAG.false c.from_be_bytes-size.ensures c.if-size-eq0.true
+
+pub returns-else-size-eq0 : goal.returns-else-size-eq0
+returns-else-size-eq0 c rest =
+    no_end_came c.args.front c.args.byte c.from_be_bytes-size.result rest c.if-count-lt-HEAD_ROOM.false c.if-bytes-ne-END_TAG.false c.from_be_bytes-size.ensures c.if-size-eq0.false

@@ -1,0 +1,11 @@
+//! The records of HPROF: a head that is written, and heads that are followed to the end of a dump (the format comment of
+//! OpenJDK's heapDumper.cpp).
+#![tactic(auto)]
+
+pub mod front;
+pub mod head;
+pub mod scan;
+
+pub use front::Front;
+pub use head::write_head;
+pub use scan::Scan;

@@ -8,6 +8,7 @@ pub mod Tables
 pub mod Readers
 pub mod Places
 pub mod ClassNames
+pub mod ClassNumbers
 pub mod Acceptance
 pub mod Definitions
 pub mod Front

@@ -29,7 +29,7 @@ all_reversed P xs h k d lt =
     subst P (sym (get_or-reverse (reverse xs) k d (omega arith)) ∙ ap (λ l. get_or l k d) (reverse-reverse xs))
     (h (length (reverse xs) - 1 - k) d (omega arith))
 
-all_of_front : {X : Type 0} (P : X → Type 0) (xs : List X) (x : X) → All P (xs ++ x ∷ []) → All P xs
+pub all_of_front : {X : Type 0} (P : X → Type 0) (xs : List X) (x : X) → All P (xs ++ x ∷ []) → All P xs
 all_of_front P xs x h = subst (All P) (take_at xs (x ∷ []) (length xs) refl) (All-take P (length xs) (xs ++ x ∷ []) h)
 
 front_of : {X : Type 0} (xs : List X) (x : X) (ys : List X) → ys ≡ xs ++ x ∷ [] → take (length ys - 1) ys ≡ xs
@@ -127,7 +127,7 @@ classes_less before [] c t = tt
 classes_less before (d ∷ cs) c t = (t.0, t.1, classes_less (before ++ d ∷ []) cs c t.2)
 
 module _ (names : List (List ℕ)) (es : List ClassEntry) (e : ClassEntry) (t : IsEntryTable names (es ++ e ∷ [])) where
-  popped : IsPlaced names (e ∷ reverse es)
+  pub popped : IsPlaced names (e ∷ reverse es)
   popped = subst (IsPlaced names) (reverse-append es (e ∷ [])) t.placed
 
   -- the other classes stay

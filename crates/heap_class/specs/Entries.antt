@@ -1,7 +1,8 @@
--- For proofs: how the classes are kept, as their distinct names in order of first use, and entries that give names by their
--- places.
-use Rattle.std.specs.Prelude.{◌≡◌, ℕ, ◌<◌, ◌≤◌, List, [], ◌∷◌, map, length, take, reverse, slice_index_or}
-use Rattle.std.specs.List.{All, sum_by}
+-- For proofs: how the classes are kept, as their distinct names in order of first use, each with the number of its class, and
+-- entries that give names by their places.
+use Rattle.std.specs.Prelude.{◌≡◌, ℕ, ◌<◌, ◌≤◌, ◌==◌, List, [], ◌∷◌, ◌++◌, map, length, take, reverse, slice_index_or, Option, None}
+use Rattle.std.specs.List.{All, sum_by, position_from}
+use Rattle.std.specs.Map.{keys_of, values_of}
 use Rattle.std.specs.Str.{bytes_eq}
 use Rattle.indexmap.specs.IndexSet.{insert_all}
 use Rattle.heap_class.specs.declared.Field.{Field}
@@ -71,3 +72,17 @@ pub record IsEntryTable (names : List (List ℕ)) (entries : List ClassEntry) : 
   pub sized : All (λ (e : ClassEntry). AreSizes e.slots.items e.sizes) entries
   pub short : All (λ (n : List ℕ). length n ≤ name_limit) names
   pub few : length entries ≤ class_limit
+
+-- the number of the class whose name stands at the place, if there is one
+abbrev pub class_named_at : List ClassEntry → ℕ → Option ℕ
+class_named_at entries place = position_from (λ (e : ClassEntry). e.name == place) 0 entries
+
+-- the names stand each with the number of the class that has it, and fit together with the entries
+pub record IsNumberedTable (names : List (List ℕ × Option ℕ)) (entries : List ClassEntry) : Type 0 where
+  pub table : IsEntryTable (keys_of names) entries
+  pub numbered : (place : ℕ) → slice_index_or (values_of names) place None ≡ class_named_at entries place
+
+-- `new` is `old` and then further names, which have no class
+pub record HasMoreNames (old new : List (List ℕ × Option ℕ)) : Type 0 where
+  pub added : List (List ℕ)
+  pub names_are : new ≡ old ++ map (λ n. (n, None)) added

@@ -1,6 +1,6 @@
 //! Classes in order of definition, with their slots and names.
 
-ghost use Rattle.std.specs.Prelude.{◌≡◌, ◌<◌, ◌≤◌, ◌==◌, ◌+◌, ◌-◌, [], ◌∷◌, ◌++◌, List, length, take, Some, None, IfOk, IfSome, OnErr, OnOk, slice_get, true, Bool, not, ◌||◌, map, IsTrue};
+ghost use Rattle.std.specs.Prelude.{◌≡◌, ◌<◌, ◌≤◌, ◌+◌, ◌-◌, [], ◌∷◌, ◌++◌, List, length, take, Some, None, IfOk, IfSome, OnErr, OnOk, slice_get, true, Bool, not, ◌||◌, map, IsTrue};
 ghost use Rattle.std.specs.Option.{option_map_or};
 ghost use Rattle.std.specs.List.{list_any};
 ghost use Rattle.std.specs.Str.{bytes_eq};
@@ -10,9 +10,10 @@ ghost use Rattle.heap_class.specs.Limits.{class_limit, name_limit, slot_limit, n
 ghost use Rattle.heap_class.specs.declared.Refusal.TheVariants.{NoMemory};
 ghost use Rattle.heap_class.specs.Classes.{IsClassTable, IsDefined, all_distinct, class_refusal, instance_class, array_class, is_instance_class, is_array_class, slots_of, instance_size, name_of, fields_of, sup_of, name_id, name_table};
 
-use crate::names::{are_distinct, are_valid_names, name_in, place_names, slots_over, total_width};
+use crate::names::{
+    Names, are_distinct, are_valid_names, name_in, place_names, slots_over, total_width,
+};
 use crate::{CLASS_LIMIT, ClassNo, Field, Fields, IdSize, Kind, Name, Refusal, SLOT_LIMIT};
-use indexmap::IndexSet;
 use std::alloc::Global;
 use std::marker::Model;
 
@@ -57,13 +58,6 @@ struct ClassEntry {
     names_before: usize,
 }
 
-// Tells whether one of the classes has its name at the place.
-fn has_name_at(entries: &[ClassEntry], place: usize) -> bool
-    ensures { result ≡ list_any (λ e. e.name == place) entries.now }
-{
-    entries.iter().any(|entry| entry.name == place)
-}
-
 /// An instance class that is to be defined.
 #[derive(Clone, Copy)]
 pub struct NewClass<'a> {
@@ -80,7 +74,7 @@ pub struct NewClass<'a> {
 pub struct Classes {
     alloc: Global,
     // The distinct names of classes and fields, in order of first use.
-    names: IndexSet<Name>,
+    names: Names,
     entries: Vec<ClassEntry>,
 }
 
@@ -90,11 +84,12 @@ impl Model for Classes {
 
     ghost Value = { List Class };
 
-    ghost use Rattle.heap_class.specs.Entries.{class_of_entry, IsEntryTable};
+    ghost use Rattle.indexmap.specs.IndexMap.{keys};
+    ghost use Rattle.heap_class.specs.Entries.{class_of_entry, IsNumberedTable};
 
-    ghost view = { λ a. map (class_of_entry a.names.keys) a.entries.items };
+    ghost view = { λ a. map (class_of_entry (keys a.names)) a.entries.items };
 
-    ghost invariant = { λ a. IsEntryTable a.names.keys a.entries.items };
+    ghost invariant = { λ a. IsNumberedTable a.names.entries a.entries.items };
 }
 
 impl Classes {
@@ -104,7 +99,7 @@ impl Classes {
     {
         Classes {
             alloc,
-            names: IndexSet::new(alloc),
+            names: Names::new(alloc),
             entries: Vec::new(alloc),
         }
     }
@@ -132,8 +127,8 @@ impl Classes {
     fn has_class(&self, name: &Name) -> bool
         ensures { result ≡ list_any (λ d. bytes_eq d.name name.now) self.now }
     {
-        match self.names.get_index_of(name) {
-            Some(place) => has_name_at(self.entries.as_slice(), place),
+        match self.names.get(name) {
+            Some(class) => class.is_some(),
             None => false,
         }
     }
@@ -214,6 +209,7 @@ impl Classes {
         let number = self.entries.len() as u64;
         let names_before = self.names.len();
         let (name, fields) = place_names(self.alloc, &mut self.names, name, fields)?;
+        self.names[name] = Some(number);
         self.entries.push_reserved(ClassEntry {
             name,
             sup,
@@ -250,6 +246,7 @@ impl Classes {
         ensures { self.new ≡ take (length self.old - 1) self.old }
     {
         if let Some(last) = self.entries.pop() {
+            self.names[last.name] = None;
             self.names.truncate(last.names_before);
         }
     }
@@ -330,14 +327,6 @@ impl Classes {
         ensures { IfSome (slice_get (fields_of self.now class) field) (λ f. result ≡ f.kind) }
     {
         self.entries[class as usize].fields[field as usize].kind
-    }
-
-    /// Returns the distinct names of classes and fields, in order of first use: for each class its own name, then the names of
-    /// its own fields. Takes no memory.
-    pub fn name_table(&self) -> &IndexSet<Name>
-        ensures { result.now.keys ≡ name_table self.now }
-    {
-        &self.names
     }
 
     /// Returns the number of distinct names of classes and fields.

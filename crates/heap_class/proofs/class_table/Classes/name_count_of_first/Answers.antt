@@ -14,7 +14,7 @@ returns-in-Some-clause-value c =
     let at : c.in-Some.entry.now ≡ get_or c.self.inside.entries.items c.args.count c.in-Some.entry.now
     = h.1 ∙ ap (λ l. get_or l c.args.count c.in-Some.entry.now) same in
     let within : c.args.count < length c.self.inside.entries.items = omega (arith, ap length same, ltb-true _ _ (sym h.0)) in
-    names_counted _ _ c.self.invariant _ c.self.view_is c.args.count c.in-Some.entry.now within at
+    names_counted _ _ c.self.invariant.table _ c.self.view_is c.args.count c.in-Some.entry.now within at
 
 pub returns-in-Some-clause-limit : goal.returns-in-Some-clause-limit
 returns-in-Some-clause-limit c =
@@ -22,8 +22,8 @@ returns-in-Some-clause-limit c =
       arith,
       returns-in-Some-clause-value c,
       fewer_names c.args.self.now (take c.args.count c.args.self.now) (drop c.args.count c.args.self.now) (take-append-drop c.args.count c.args.self.now),
-      ap length (table_names _ _ c.self.invariant),
+      ap length (table_names _ _ c.self.invariant.table),
       ap (λ v. length (name_table v)) c.self.view_is,
-      few_names _ _ c.self.invariant,
-      c.self.invariant.few,
+      few_names _ _ c.self.invariant.table,
+      c.self.invariant.table.few,
     )

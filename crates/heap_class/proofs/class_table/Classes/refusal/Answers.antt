@@ -11,24 +11,24 @@ returns-then-not-has_super c a = no_class c.args.self.now _ c.if-not-has_super.e
 
 pub returns-then-len-ge-CLASS_LIMIT : goal.returns-then-len-ge-CLASS_LIMIT
 returns-then-len-ge-CLASS_LIMIT c a =
-    class_limited c.args.self.now _ c.if-not-has_super.ensures (sym (le-leb class_limit (length c.args.self.now) (omega (arith, as_many _ _ c.self.invariant _ c.self.view_is, c.len.ensures, c.if-len-ge-CLASS_LIMIT.true))))
+    class_limited c.args.self.now _ c.if-not-has_super.ensures (sym (le-leb class_limit (length c.args.self.now) (omega (arith, as_many _ _ c.self.invariant.table _ c.self.view_is, c.len.ensures, c.if-len-ge-CLASS_LIMIT.true))))
 
 pub returns-then-not-are_valid_names : goal.returns-then-not-are_valid_names
 unfolding names_in
 returns-then-not-are_valid_names c a =
-    let room = sym (lt-leb class_limit (length c.args.self.now) (omega (arith, as_many _ _ c.self.invariant _ c.self.view_is, c.len.ensures, c.if-len-ge-CLASS_LIMIT.false))) in
+    let room = sym (lt-leb class_limit (length c.args.self.now) (omega (arith, as_many _ _ c.self.invariant.table _ c.self.view_is, c.len.ensures, c.if-len-ge-CLASS_LIMIT.false))) in
     bad_name c.args.self.now _ c.if-not-has_super.ensures room c.if-not-are_valid_names.ensures
 
 pub returns-then-has_duplicate : goal.returns-then-has_duplicate
 unfolding names_in
 returns-then-has_duplicate c a =
-    let room = sym (lt-leb class_limit (length c.args.self.now) (omega (arith, as_many _ _ c.self.invariant _ c.self.view_is, c.len.ensures, c.if-len-ge-CLASS_LIMIT.false))) in
+    let room = sym (lt-leb class_limit (length c.args.self.now) (omega (arith, as_many _ _ c.self.invariant.table _ c.self.view_is, c.len.ensures, c.if-len-ge-CLASS_LIMIT.false))) in
     duplicate_name c.args.self.now _ c.if-not-has_super.ensures room c.if-not-are_valid_names.ensures c.if-has_duplicate.ensures
 
 pub returns-then-fields-slots_above : goal.returns-then-fields-slots_above
 unfolding names_in
 returns-then-fields-slots_above c a =
-    let room = sym (lt-leb class_limit (length c.args.self.now) (omega (arith, as_many _ _ c.self.invariant _ c.self.view_is, c.len.ensures, c.if-len-ge-CLASS_LIMIT.false))) in
+    let room = sym (lt-leb class_limit (length c.args.self.now) (omega (arith, as_many _ _ c.self.invariant.table _ c.self.view_is, c.len.ensures, c.if-len-ge-CLASS_LIMIT.false))) in
     let class : Class = record { name = c.args.name.now; sup = c.args.sup; fields = c.args.fields.now; is_array = a } in
     let count = slot_count c.args.self.now class c.slots_above.result.now c.slots_above.ensures.value in
     field_limited c.args.self.now class c.if-not-has_super.ensures room c.if-not-are_valid_names.ensures c.if-has_duplicate.ensures
@@ -37,7 +37,7 @@ returns-then-fields-slots_above c a =
 pub returns : goal.returns
 unfolding names_in
 returns c a =
-    let room = sym (lt-leb class_limit (length c.args.self.now) (omega (arith, as_many _ _ c.self.invariant _ c.self.view_is, c.len.ensures, c.if-len-ge-CLASS_LIMIT.false))) in
+    let room = sym (lt-leb class_limit (length c.args.self.now) (omega (arith, as_many _ _ c.self.invariant.table _ c.self.view_is, c.len.ensures, c.if-len-ge-CLASS_LIMIT.false))) in
     let class : Class = record { name = c.args.name.now; sup = c.args.sup; fields = c.args.fields.now; is_array = a } in
     let count = slot_count c.args.self.now class c.slots_above.result.now c.slots_above.ensures.value in
     accepted c.args.self.now class c.if-not-has_super.ensures room c.if-not-are_valid_names.ensures c.if-has_duplicate.ensures

@@ -1,1 +1,2 @@
 pub mod SavedRuns
+pub mod ServedHeaps

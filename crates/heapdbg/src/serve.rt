@@ -4,6 +4,7 @@ ghost use Rattle.heap_server.specs.SessionSeats.{AreUsers, session_limit};
 ghost use Rattle.heap_server.specs.Tending.{AreStaff};
 ghost use Rattle.heapdbg_options.specs.CommandLine.{IsHeapWithin};
 ghost use Rattle.heapdbg.specs.declared.failure.Fault.TheVariants.{Listen, Memory};
+ghost use Rattle.heapdbg.specs.Services.{IsOpened};
 ghost use Rattle.heapdbg.specs.ServeOutcomes.{IsReportTold, IsServed, config_of, served_outcome, terms_of};
 
 use crate::failure::Fault;
@@ -72,16 +73,11 @@ where
     ensures { IsServed service.workers settings.now service.sessions (O.seen writer.old)
         (O.seen writer.new) result }
 {
-    let Ok(mut blank) = blank_for(alloc, settings, service) else {
-        return Err(Fault::Memory);
-    };
-    blank.set_rolls(settings.rolls);
-    let (ports, report) = listen(rt, alloc, service, is_terminal)?;
-    let plan = ServicePlan {
-        most: service.sessions as usize,
-        ports,
-        terms: terms(settings),
-    };
+    let Opened {
+        blank,
+        plan,
+        report,
+    } = open_service(rt, alloc, settings, service, is_terminal)?;
     if service.workers == 0 {
         match serve_heap(rt, alloc, blank, plan) {
             Ok(heap) => tell(&heap.served, report, writer),
@@ -92,6 +88,50 @@ where
             Ok(tended) => tell(&tended.heap.served, report, writer),
             Err(_) => Err(Fault::Memory),
         }
+    }
+}
+
+// A service that listens: its heap, what the heap is opened for, and an empty report with room for the lines of all sessions.
+#[derive(Drop)]
+struct Opened {
+    blank: Blank,
+    plan: ServicePlan,
+    report: Vec<u8>,
+}
+
+// Creates a heap of the settings with the seats of a service, and listens on its ports. Fails with Memory or Listen.
+fn open_service<R>(
+    rt: &R,
+    alloc: Global,
+    settings: &Settings,
+    service: Service,
+    is_terminal: bool,
+) -> Result<Opened, Fault>
+where
+    R: Net<Listener = TcpListener, Stream = TcpStream> + Eprint,
+    requires heap { IsHeapWithin settings.now }
+    requires sessions { (1 ≤ service.sessions) × (service.sessions ≤ session_limit) }
+    ensures opened { IfOk result (IsOpened service.workers settings.now service.sessions) }
+    ensures fault { IfErr result (λ f. (f ≡ Memory) ⊎ (f ≡ Listen)) }
+{
+    let Ok(mut blank) = blank_for(alloc, settings, service) else {
+        return Err(Fault::Memory);
+    };
+    blank.set_rolls(settings.rolls);
+    match listen(rt, alloc, service, is_terminal) {
+        Ok((ports, report)) => {
+            let plan = ServicePlan {
+                most: service.sessions as usize,
+                ports,
+                terms: terms(settings),
+            };
+            Ok(Opened {
+                blank,
+                plan,
+                report,
+            })
+        }
+        Err(fault) => Err(fault),
     }
 }
 

@@ -1,10 +1,11 @@
 //! An act on a machine, with its entry.
-ghost use Rattle.std.specs.Prelude.{◌≡◌, ◌≢◌, ◌<◌, ◌≤◌, false, length, IfErr, IfOk, MatchBool, MatchOption, OnErr};
+ghost use Rattle.std.specs.Prelude.{◌≡◌, ◌≢◌, ◌<◌, ◌≤◌, false, length, IfErr, IfOk, MatchBool, MatchOption, OnErr, OnOk};
 ghost use Rattle.heap_class.specs.declared.Refusal.TheVariants.{NoMemory};
 ghost use Rattle.heap_trail.specs.Limits.{last_place};
 ghost use Rattle.heap_trail.specs.Machine.{is_dump_action};
 ghost use Rattle.heap_chronicle.specs.Acts.{IsEntered, IsNotEntered};
 ghost use Rattle.heap_chronicle.specs.History.{entry, Enters};
+ghost use Rattle.heap_chronicle.specs.Limits.{entry_limit};
 
 use crate::chronicle::Chronicle;
 use crate::entry::{Entry, Outcome};
@@ -46,6 +47,28 @@ fn take_step(machine: &mut Machine, action: &Action) -> Option<Outcome>
 }
 
 impl Chronicle {
+    // Makes room for an entry, does an event or a rewind, and returns the answer; the entry is still to be pushed. Fails with
+    // ChronicleFull or NoMemory; then the machine is as before.
+    fn try_step(&mut self, machine: &mut Machine, action: &Action) -> Result<Outcome, Refusal>
+        requires deed { is_dump_action action.now ≡ false }
+        requires place { machine.old.trail.place ≤ length self.old.entries }
+        ensures moves { IfOk result (λ o. Enters machine.old action.now machine.new o) }
+        ensures room { OnOk result
+            ((0 < self.new.room) × (length self.new.entries < entry_limit self.new.rolls)) }
+        ensures entries { (self.new.entries ≡ self.old.entries) × (self.new.rolls ≡ self.old.rolls) }
+        ensures refused { IfErr result (λ e. IsNotEntered e self.old self.new) }
+        ensures unchanged { OnErr result (machine.new ≡ machine.old) }
+    {
+        if self.is_full() {
+            return Err(Refusal::ChronicleFull);
+        }
+        self.reserve()?;
+        let Some(answer) = take_step(machine, action) else {
+            return Err(Refusal::NoMemory);
+        };
+        Ok(answer)
+    }
+
     /// Does an event or a rewind of a seat on a machine, and appends the entry with its answer; a refused one is an entry too.
     /// Returns the answer, and the entry for contracts. Fails with ChronicleFull if the chronicle takes no more entries, and
     /// with NoMemory; then machine and entries are as before.
@@ -63,13 +86,7 @@ impl Chronicle {
         ensures refused { IfErr result (λ e. IsNotEntered e self.old self.new) }
         ensures unchanged { OnErr result (machine.new ≡ machine.old) }
     {
-        if self.is_full() {
-            return Err(Refusal::ChronicleFull);
-        }
-        self.reserve()?;
-        let Some(answer) = take_step(machine, &action) else {
-            return Err(Refusal::NoMemory);
-        };
+        let answer = self.try_step(machine, &action)?;
         let entry = Entry {
             seat,
             action,

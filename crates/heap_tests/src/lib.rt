@@ -8,5 +8,3 @@ mod calls;
 mod locked;
 #[cfg(test)]
 mod scripts;
-#[cfg(test)]
-mod sink;

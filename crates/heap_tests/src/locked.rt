@@ -1,13 +1,12 @@
 //! The heap under its lock: seats in one thread and in several, workers, and audits. Dumps of a shared heap's pins, through the pipe
 //! and beside the meter: outlets that are held, and streams that are cancelled.
 mod cancelling;
+mod dumps;
 mod ends;
 mod gates;
 mod live;
 mod live_tests;
 mod metered;
-mod meters;
-mod points;
 mod rolls;
 mod scenes;
 mod shared;

@@ -7,9 +7,12 @@ use std::alloc::Global;
 use std::test::Fail;
 
 // Returns whether these are the replies to the actions of a dump.
-fn are_replies(replies: &[Reply]) -> bool {
+fn are_replies(replies: &Result<Vec<Reply>, Refusal>) -> bool {
+    let Ok(replies) = replies else {
+        return false;
+    };
     matches!(
-        replies,
+        replies.as_slice(),
         [
             Reply::Pinned { pin: 1, at: 2 },
             Reply::Answered(_),
@@ -20,9 +23,21 @@ fn are_replies(replies: &[Reply]) -> bool {
     )
 }
 
-// Drives a machine through a step, a refused rewind, and what a dump asks for. Returns whether the replies are as expected, with
-// the place and the number of retained steps after them.
-fn driven(machine: &mut Machine) -> Option<(bool, u64, u64)> {
+// Makes a point. Returns whether that was answered.
+fn has_point(alloc: Global, machine: &mut Machine) -> bool {
+    let class = point(alloc);
+    match &class {
+        Ok(class) => machine.step(class).is_ok() && machine.step(&new(0)).is_ok(),
+        Err(_) => false,
+    }
+}
+
+// Makes a point, and drives a machine through a step, a refused rewind, and what a dump asks for. Returns whether the replies are
+// as expected, with the place and the number of retained steps after them.
+fn driven(alloc: Global, machine: &mut Machine) -> Option<(bool, u64, u64)> {
+    if !has_point(alloc, machine) {
+        return None;
+    }
     let actions = [
         Action::OpenPin(None),
         Action::Step(new(0)),
@@ -30,7 +45,7 @@ fn driven(machine: &mut Machine) -> Option<(bool, u64, u64)> {
         Action::NextPiece { pin: 1, time: 7 },
         Action::ClosePin(1),
     ];
-    let replies = machine.drive(actions.as_slice()).ok()?;
+    let replies = machine.drive(actions.as_slice());
     Some((
         are_replies(&replies),
         machine.place(),
@@ -38,19 +53,11 @@ fn driven(machine: &mut Machine) -> Option<(bool, u64, u64)> {
     ))
 }
 
-// Does so once there is a point.
-fn point_driven(alloc: Global, machine: &mut Machine) -> Option<(bool, u64, u64)> {
-    let class = point(alloc).ok()?;
-    machine.step(&class).ok()?;
-    machine.step(&new(0)).ok()?;
-    driven(machine)
-}
-
-// Does so on a new machine, which keeps two steps.
+// Does so with a new machine, which keeps two steps.
 fn new_driven(alloc: Global) -> Option<(bool, u64, u64)> {
     let config = Config::new(1, 1, 2)?;
     match Machine::new(alloc, config) {
-        Ok(mut machine) => point_driven(alloc, &mut machine),
+        Ok(mut machine) => driven(alloc, &mut machine),
         Err(_) => None,
     }
 }

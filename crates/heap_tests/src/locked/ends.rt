@@ -2,20 +2,16 @@
 ghost use Rattle.std.specs.Prelude.{◌≡◌, []};
 ghost use Rattle.dump_pipe.specs.Claims.{view, IsSeatAt};
 ghost use Rattle.dump_pipe.specs.Ends.{sends_on, receives_on};
-ghost use Rattle.dump_pipe.specs.Seats.{knows};
 ghost use Rattle.dump_pipe.specs.declared.end_view.EndView.TheVariants.{Sends, Gets};
 
-use super::meters::{FourSeats, new_meter};
-use super::scenes::{Scene, Setting, play_scene};
-use super::shared::{closes_pin, has_points, opened_pin};
-use super::sinks::reaches;
+use super::dumps::{Case, Noted, Seen, Wanted, Way};
+use super::scenes::{Scene, play_scene};
+use super::sinks::{Flags, Sink, reaches};
 use super::sources::Counted;
-use crate::sink::Sink;
-use dump_pipe::{
-    BothEnds, Counter, End, Knowledge, Meter, OutSeat, Receiver, Sender, drain_pipe, feed, pipe,
-};
-use dump_pump::{Ending, Pumped, WriteOutlet};
+use dump_pipe::{BothEnds, Counter, End, Knowledge, Receiver, Sender, drain_pipe, feed, pipe};
+use dump_pump::{Ending, WriteOutlet};
 use heap_lock::{Heap, LockedSource, Shared};
+use live_dump::StreamSeats;
 use std::alloc::Global;
 use std::sync::Wait;
 use std::sync::atomic::{AtomicU64, Ordering};
@@ -23,127 +19,121 @@ use std::test::*;
 use std::thread;
 use std::thread::Threads;
 
-// How feeding ended, how many parts were given, how often the source had been asked when the drain began, and how that went.
-type Went = (Ending, u64, u64, Pumped);
-
-// Feeds the parts of a pin to a pipe, and counts in a word how often the source is asked. Returns how that ended, and how many
-// parts were given.
+// Feeds the parts of a pin to a pipe, and counts in a word how often the source is asked. Returns whether all was fed, and how
+// many parts.
 fn feed_counted<L: Heap, R: Wait>(
     rt: &R,
     shared: &Shared<L>,
     pin: u64,
     sender: &Sender,
-    end: End,
+    end: &mut End,
     asked: &AtomicU64,
-) -> (Ending, u64)
-    requires { IsSeatAt (sends_on sender.now) end × (view end ≡ Sends []) }
+) -> (bool, u64)
+    requires { IsSeatAt (sends_on sender.now) end.old × (view end.old ≡ Sends []) }
 {
-    let mut end = end;
     let mut source = Counted {
         source: LockedSource::new(shared, rt, shared.witness(rt), pin, 0),
         asked,
     };
-    let ending = feed(rt, &mut source, sender, &mut end);
-    (ending, source.source.count)
+    let ending = feed(rt, &mut source, sender, end);
+    (ending == Ending::Whole, source.source.count)
 }
 
-// Drains a pipe into a sink. Returns how that went, and the sink.
-fn drain_into<'a, R: Wait>(
+// Drains a pipe into a sink once the source was asked `first` times. Returns how often it had been asked then, and how that went.
+fn drain_after<R: Wait>(
     rt: &R,
     receiver: &Receiver,
-    end: End,
-    sink: Sink<'a>,
-    meter: &Meter,
-    out: OutSeat,
-) -> (Pumped, Sink<'a>)
-    requires end { IsSeatAt (receives_on receiver.now) end × (view end ≡ Gets []) }
-    requires out { out ≡ knows meter.now 0 }
+    end: &mut End,
+    counter: &mut Counter<'_>,
+    text: &[u8],
+    first: u64,
+    asked: &AtomicU64,
+) -> (u64, Seen)
+    requires end { IsSeatAt (receives_on receiver.now) end.old × (view end.old ≡ Gets []) }
+    requires counter { counter.old.known ≡ 0 }
 {
-    let mut end = end;
-    let mut counter = Counter::new(meter.progress(), out);
-    let mut outlet = WriteOutlet::new(sink);
-    let pumped = drain_pipe(rt, receiver, &mut end, &mut outlet, &mut counter);
-    (pumped, outlet.into_writer())
+    reaches(asked, first);
+    let count = asked.load(Ordering::SeqCst);
+    let flags = Flags::new();
+    let mut outlet = WriteOutlet::new(Sink::new(text, &flags));
+    let pumped = drain_pipe(rt, receiver, end, &mut outlet, counter);
+    let sink = outlet.into_writer();
+    (count, (pumped, sink.taken, sink.is_text))
 }
 
 // Feeds the parts of a pin in one thread, and drains them into a sink in another once the source was asked `first` times.
-// Returns how all went, and the sink.
-fn by_two<'a, L: Heap + Send + Sync, R: Threads + Wait + Sync>(
+fn by_two<L: Heap + Send + Sync, R: Threads + Wait + Sync>(
     rt: &R,
     shared: &Shared<L>,
     pin: u64,
-    ends: BothEnds,
-    known: Knowledge,
-    sink: Sink<'a>,
+    ends: &BothEnds,
+    known: &mut Knowledge,
+    counter: &mut Counter<'_>,
+    text: &[u8],
     first: u64,
-    meter: &Meter,
-    out: OutSeat,
-) -> (Went, Sink<'a>)
-    requires one { IsSeatAt (sends_on ends.sender) known.one × (view known.one ≡ Sends []) }
-    requires other { IsSeatAt (receives_on ends.receiver) known.other
-        × (view known.other ≡ Gets []) }
-    requires out { out ≡ knows meter.now 0 }
+) -> (Noted, Seen)
+    requires one { IsSeatAt (sends_on ends.now.sender) known.old.one
+        × (view known.old.one ≡ Sends []) }
+    requires other { IsSeatAt (receives_on ends.now.receiver) known.old.other
+        × (view known.old.other ≡ Gets []) }
+    requires counter { counter.old.known ≡ 0 }
 {
-    let BothEnds { sender, receiver } = ends;
-    let Knowledge { one, other } = known;
-    let asked = AtomicU64::new(0);
-    let asked_now = &asked;
-    let ((ending, given), (count, pumped, sink)) = thread::join(
+    let (sender, receiver) = (&ends.sender, &ends.receiver);
+    let (one, other) = (&mut known.one, &mut known.other);
+    let asked = &AtomicU64::new(0);
+    let ((whole, given), (count, seen)) = thread::join(
         rt,
-        move || -> (Ending, u64)
-            requires { IsSeatAt (sends_on sender) one × (view one ≡ Sends []) }
-        { feed_counted(rt, shared, pin, &sender, one, asked_now) },
-        move || -> (u64, Pumped, Sink)
-            requires { IsSeatAt (receives_on receiver) other × (view other ≡ Gets [])
-                × (out ≡ knows meter.now 0) }
-        {
-            reaches(asked_now, first);
-            let count = asked_now.load(Ordering::SeqCst);
-            let (pumped, sink) = drain_into(rt, &receiver, other, sink, meter, out);
-            (count, pumped, sink)
-        },
+        move || -> (bool, u64)
+            requires { IsSeatAt (sends_on sender.now) one.now × (view one.now ≡ Sends []) }
+        { feed_counted(rt, shared, pin, sender, one, asked) },
+        move || -> (u64, Seen)
+            requires { IsSeatAt (receives_on receiver.now) other.now
+                × (view other.now ≡ Gets []) × (counter.now.known ≡ 0) }
+        { drain_after(rt, receiver, other, counter, text, first, asked) },
     );
-    ((ending, given, count, pumped), sink)
+    ((whole, given, count), seen)
 }
 
-// Does so with a new pipe and a new meter, for a new pin, which is closed. None if one of them is refused.
-fn pipe_whole<'a, L: Heap + Send + Sync, R: Threads + Wait + Sync>(
+/// Feeds the parts of a pin in one thread to a new pipe, and drains them in another once the source was asked `first` times.
+/// Notes whether all was fed, how many parts, and how often the source had been asked when the drain began. None if there is no
+/// pipe.
+pub fn piped<L: Heap + Send + Sync, R: Threads + Wait + Sync>(
     rt: &R,
     alloc: Global,
     shared: &Shared<L>,
-    sink: Sink<'a>,
+    pin: u64,
+    seats: StreamSeats<'_>,
+    text: &[u8],
     first: u64,
-) -> Option<(Went, Sink<'a>)> {
-    let pin = opened_pin(rt, shared)?;
-    let FourSeats {
-        meter,
-        out,
-        reader: _,
-        asker: _,
-        feed: _,
-    } = new_meter(alloc)?;
-    let Ok((ends, known)) = pipe(alloc) else {
-        return None;
-    };
-    let went = by_two(rt, shared, pin, ends, known, sink, first, &meter, out);
-    closes_pin(rt, shared, pin);
-    Some(went)
+) -> Option<(Noted, Seen)>
+    requires { seats.out.known ≡ 0 }
+{
+    let mut counter = Counter::new(seats.meter.progress(), seats.out);
+    match pipe(alloc) {
+        Ok((ends, mut known)) => Some(by_two(
+            rt,
+            shared,
+            pin,
+            &ends,
+            &mut known,
+            &mut counter,
+            text,
+            first,
+        )),
+        Err(_) => None,
+    }
 }
 
-/// Feeds the dump of 2,000 points, and drains none of it until the source was asked for a ninth part. Returns whether that is
-/// the most that it is asked for before, and all then comes out.
-pub fn nine_asked<L: Heap + Send + Sync, R: Threads + Wait + Sync>(
-    Setting(rt, alloc, shared, five): Setting<'_, L, R>,
-) -> Option<bool> {
-    let sink = Sink::new(&[]);
-    let made = has_points(rt, alloc, shared, &mut five.user, 2000);
-    let (went, sink) = pipe_whole(rt, alloc, shared, sink, 9)?;
-    let wanted = (Ending::Whole, 19, 9, Pumped::Done { bytes: 66412 });
-    Some(made && went == wanted && sink.taken == 66412)
-}
+// The dump of 2,000 points, none of which is drained until the source was asked for a ninth part. That is the most that it is
+// asked for before, and all then comes out.
+const NINE: &[Case] = &[Case {
+    way: Way::Piped { first: 9 },
+    noted: (true, 19, 9),
+    wanted: Wanted::Done(66412),
+}];
 
 #[test]
 fn pipe_needs_two(rt: HostRuntime) -> Result<(), Fail> {
-    assert!(rt; play_scene(&rt, rt.alloc(), Scene::NineAsked) == Some(true));
+    assert!(rt; play_scene(&rt, rt.alloc(), Scene::Dumps(2000, NINE)));
     Ok(())
 }

@@ -1,10 +1,11 @@
 //! Gates of workers: each is passed once before each act, and without the lock.
-use super::scenes::{Scene, Setting, play_scene};
+use super::scenes::{Scene, play_scene};
 use super::shared::did;
 use super::sinks::reaches;
 use super::workers::{WorkEnd, began, run_worker};
-use heap_lock::{Action, Event, Heap, Seat, Shared};
+use heap_lock::{Event, Heap, Seat, Shared};
 use heap_work::{Gate, MarkEnd, SweepEnd};
+use std::alloc::Global;
 use std::sync::Wait;
 use std::sync::atomic::{AtomicU64, Ordering};
 use std::test::*;
@@ -30,8 +31,7 @@ impl<'a> Gate for WatchedGate<'a> {
 
 // Returns the turn of an act, or 0 if it has none.
 fn clears<L: Heap, R: Wait>(rt: &R, shared: &Shared<L>, seat: &mut Seat<L>) -> u64 {
-    let clear = Action::Step(Event::Clear { m: 0, r: 5 });
-    match did(rt, shared, seat, clear) {
+    match did(rt, shared, seat, Event::Clear { m: 0, r: 5 }) {
         Some(receipt) => receipt.turn,
         None => 0,
     }
@@ -79,7 +79,10 @@ fn works<L: Heap, R: Wait>(
     };
     let ended = matches!(
         run_worker(rt, shared, seat, &mut gate, turns),
-        Some(WorkEnd::Marked(MarkEnd::TurnsOver) | WorkEnd::Swept(SweepEnd::Swept))
+        Some((
+            WorkEnd::Marked(MarkEnd::TurnsOver) | WorkEnd::Swept(SweepEnd::Swept),
+            _
+        ))
     );
     ended && gate.passes == turns
 }
@@ -107,17 +110,20 @@ fn both_go<L: Heap + Send + Sync, R: Threads + Wait + Sync>(
 /// Acts by a user at each pass of a marker, which has five turns, and then of a sweeper, which has one for each region. Returns
 /// whether both went as they must.
 pub fn watched_workers<L: Heap + Send + Sync, R: Threads + Wait + Sync>(
-    Setting(rt, alloc, shared, five): Setting<'_, L, R>,
-) -> Option<bool> {
-    Some(
-        began(rt, alloc, shared, &mut five.user)
-            && both_go(rt, shared, &mut five.marker, &mut five.user, 3, 5)
-            && both_go(rt, shared, &mut five.sweeper, &mut five.user, 13, 16),
-    )
+    rt: &R,
+    alloc: Global,
+    shared: &Shared<L>,
+    user: &mut Seat<L>,
+    marker: &mut Seat<L>,
+    sweeper: &mut Seat<L>,
+) -> bool {
+    began(rt, alloc, shared, user)
+        && both_go(rt, shared, marker, user, 3, 5)
+        && both_go(rt, shared, sweeper, user, 13, 16)
 }
 
 #[test]
 fn gates_are_passed_before_each_act(rt: HostRuntime) -> Result<(), Fail> {
-    assert!(rt; play_scene(&rt, rt.alloc(), Scene::WatchedWorkers) == Some(true));
+    assert!(rt; play_scene(&rt, rt.alloc(), Scene::WatchedWorkers));
     Ok(())
 }

@@ -1,145 +1,178 @@
-//! Dumps of a shared heap's pin: beside a mutator, and cancelled by a third thread.
+//! Streams of a shared heap's pin: alone, and beside a thread that writes to the heap, asks to cancel or reads the progress.
 ghost use Rattle.std.specs.Prelude.{◌≡◌};
 ghost use denote.Param.Send.{IsSync};
 
-use super::shared::{acts, live_pin, pump_into, put_x, stream_into};
-use super::sinks::{Gated, reaches};
-use dump_pipe::{AskSeat, Cancel};
-use dump_pump::Pumped;
-use heap_lock::{Heap, Seat, Shared};
-use live_dump::{LivePin, StreamSeats};
+use super::dumps::{Act, Noted, Seen};
+use super::shared::{acts, pump_into, put_x};
+use super::sinks::{Flags, Sink, TURNS, reaches};
+use dump_pipe::{AskSeat, Meter, Progress, ReadSeat};
+use dump_pump::WriteOutlet;
+use heap_lock::{Heap, LockedSource, Seat, Shared};
+use live_dump::{LivePin, StreamSeats, stream};
 use std::alloc::Global;
 use std::sync::Wait;
 use std::sync::atomic::{AtomicU64, Ordering};
 use std::thread;
-use std::thread::Threads;
+use std::thread::{Threads, yield_now};
 
-/// How a dump went, how many bytes are out, and whether they are the first of its text.
-pub type Seen = (Pumped, usize, bool);
-
-// Writes to the point once an outlet is held, and then opens its gate. Returns whether it was held and the write was answered.
-fn write_once_held<L: Heap, R: Wait>(
-    rt: &R,
-    shared: &Shared<L>,
-    mutator: &mut Seat<L>,
-    here: &AtomicU64,
-    gate: &AtomicU64,
-) -> bool {
-    let written = reaches(here, 1) && acts(rt, shared, mutator, put_x(9));
-    if written {
-        gate.store(1, Ordering::SeqCst);
+// Reads the progress until a dump is done. Returns what was read last, and whether nothing above it was read before.
+fn read_along(progress: &Progress<'_>, seat: &mut ReadSeat, done: &AtomicU64) -> (u64, bool)
+    requires { seat.old.meter ≡ progress.now }
+{
+    let mut most = 0;
+    for _ in 0..TURNS {
+        let is_done = done.load(Ordering::SeqCst) == 1;
+        let read = progress.read(seat);
+        most = read.max(most);
+        if is_done {
+            return (read, read == most);
+        }
+        yield_now();
     }
-    written
+    (0, false)
 }
 
-/// Pumps into an outlet whose first put is held until a write of a mutator was answered. Returns whether it was, how the pump
-/// went, and what is out.
-pub fn pumped_beside<L: Heap + Send + Sync, R: Threads + Wait + Sync>(
+// Acts once an outlet is held, and then opens its gate. Notes whether it was held, and the write answered.
+fn acts_once_held<L: Heap, R: Wait>(
     rt: &R,
     shared: &Shared<L>,
-    pin: u64,
     mutator: &mut Seat<L>,
-    text: &[u8],
-) -> (bool, Seen) {
-    let here = &AtomicU64::new(0);
-    let gate = &AtomicU64::new(0);
-    thread::join(
-        rt,
-        move || write_once_held(rt, shared, mutator, here, gate),
-        move || {
-            let writer = Gated::new(text, 0, here, gate);
-            let (pumped, writer) = pump_into(rt, shared, pin, writer);
-            (pumped, writer.sink.taken, writer.sink.is_text)
-        },
-    )
+    act: Act,
+    meter: &Meter,
+    asker: &mut AskSeat,
+    reader: &mut ReadSeat,
+    flags: &Flags,
+) -> Noted
+    requires asker { asker.old.meter ≡ meter.now }
+    requires reader { reader.old.meter ≡ meter.now }
+{
+    let held = reaches(&flags.here, 1);
+    match act {
+        Act::Writes => {
+            let answered = acts(rt, shared, mutator, put_x(9));
+            flags.gate.store(1, Ordering::SeqCst);
+            (held && answered, 0, 0)
+        }
+        Act::Asks => {
+            meter.cancel().ask(asker);
+            flags.gate.store(1, Ordering::SeqCst);
+            (held, 0, 0)
+        }
+        Act::Reads => {
+            let progress = meter.progress();
+            let first = progress.read(reader);
+            flags.gate.store(1, Ordering::SeqCst);
+            let (last, is_most) = read_along(&progress, reader, &flags.done);
+            (held && is_most, first, last)
+        }
+    }
 }
 
-// Streams the dump of a pin into a gated sink. Returns how it went, and what is out.
-fn streamed_seen<L: Heap + Send + Sync, R: Threads + Wait + Sync>(
+// Streams the dump of a pin into a sink.
+fn stream_into<L: Heap + Send + Sync, R: Threads + Wait + Sync>(
     rt: &R,
     alloc: Global,
-    live: LivePin<'_, L>,
-    writer: Gated<'_>,
+    shared: &Shared<L>,
+    pin: u64,
     seats: StreamSeats<'_>,
+    sink: Sink<'_>,
 ) -> Seen
     requires { seats.out.known ≡ 0 }
 {
-    let (pumped, writer) = stream_into(rt, alloc, live, writer, seats);
-    (pumped, writer.sink.taken, writer.sink.is_text)
+    let live = LivePin {
+        shared,
+        witness: shared.witness(rt),
+        pin,
+        time: 0,
+    };
+    let mut outlet = WriteOutlet::new(sink);
+    let (pumped, _, _) = stream(rt, alloc, live, &mut outlet, seats);
+    let sink = outlet.into_writer();
+    (pumped, sink.taken, sink.is_text)
 }
 
-/// Streams into an outlet whose first put is held until a write of a mutator was answered. Returns whether it was, how the
-/// stream went, and what is out.
+/// Streams the dump of a pin into a sink of this room, after somebody asked to cancel it if they `asked`.
+pub fn streamed_alone<L: Heap + Send + Sync, R: Threads + Wait + Sync>(
+    rt: &R,
+    alloc: Global,
+    shared: &Shared<L>,
+    pin: u64,
+    seats: StreamSeats<'_>,
+    asker: &mut AskSeat,
+    text: &[u8],
+    asked: bool,
+    room: usize,
+) -> (Noted, Seen)
+    requires out { seats.out.known ≡ 0 }
+    requires asker { asker.old.meter ≡ seats.meter.now }
+{
+    if asked {
+        seats.meter.cancel().ask(asker);
+    }
+    let flags = Flags::new();
+    let sink = Sink {
+        room,
+        ..Sink::new(text, &flags)
+    };
+    let seen = stream_into(rt, alloc, shared, pin, seats, sink);
+    ((true, 0, 0), seen)
+}
+
+// Streams, or else pumps, the dump of a pin into a sink that is held.
+fn held_into<L: Heap + Send + Sync, R: Threads + Wait + Sync>(
+    rt: &R,
+    alloc: Global,
+    shared: &Shared<L>,
+    pin: u64,
+    seats: StreamSeats<'_>,
+    streams: bool,
+    sink: Sink<'_>,
+) -> Seen
+    requires { seats.out.known ≡ 0 }
+{
+    if streams {
+        return stream_into(rt, alloc, shared, pin, seats, sink);
+    }
+    let mut source = LockedSource::new(shared, rt, shared.witness(rt), pin, 0);
+    pump_into(&mut source, sink)
+}
+
+/// Streams, or else pumps, the dump of a pin into a sink that is held once it took `held` bytes, until another thread acted.
 pub fn streamed_beside<L: Heap + Send + Sync, R: Threads + Wait + Sync>(
     rt: &R,
     alloc: Global,
     shared: &Shared<L>,
-    pin: u64,
     mutator: &mut Seat<L>,
-    text: &[u8],
-    seats: StreamSeats<'_>,
-) -> (bool, Seen)
-    requires { seats.out.known ≡ 0 }
-{
-    let here = &AtomicU64::new(0);
-    let gate = &AtomicU64::new(0);
-    thread::join(
-        rt,
-        move || write_once_held(rt, shared, mutator, here, gate),
-        move || -> (Pumped, usize, bool)
-            requires { IsSync R.row × (seats.out.known ≡ 0) }
-        {
-            let writer = Gated::new(text, 0, here, gate);
-            streamed_seen(rt, alloc, live_pin(rt, shared, pin), writer, seats)
-        },
-    )
-}
-
-// Asks to cancel once an outlet is held, and then opens its gate. Returns whether it was held.
-fn ask_once_held(
-    cancel: &Cancel<'_>,
-    seat: &mut AskSeat,
-    here: &AtomicU64,
-    gate: &AtomicU64,
-) -> bool
-    requires { seat.old.meter ≡ cancel.now }
-{
-    let held = reaches(here, 1);
-    cancel.ask(seat);
-    gate.store(1, Ordering::SeqCst);
-    held
-}
-
-/// Streams into an outlet that is held at 8,000 bytes, and has another thread ask to cancel meanwhile. Returns whether it was
-/// held, how the stream went, and what is out.
-pub fn streamed_cancelled<L: Heap + Send + Sync, R: Threads + Wait + Sync>(
-    rt: &R,
-    alloc: Global,
-    shared: &Shared<L>,
     pin: u64,
-    text: &[u8],
-    asker: AskSeat,
     seats: StreamSeats<'_>,
-) -> (bool, Seen)
-    requires asker { asker.meter ≡ seats.meter.now }
+    asker: &mut AskSeat,
+    reader: &mut ReadSeat,
+    text: &[u8],
+    streams: bool,
+    held: usize,
+    act: Act,
+) -> (Noted, Seen)
     requires out { seats.out.known ≡ 0 }
+    requires asker { asker.old.meter ≡ seats.meter.now }
+    requires reader { reader.old.meter ≡ seats.meter.now }
 {
     let meter = seats.meter;
-    let here = &AtomicU64::new(0);
-    let gate = &AtomicU64::new(0);
+    let flags = &Flags::new();
     thread::join(
         rt,
-        move || -> bool
-            requires { asker.meter ≡ meter.now }
-        {
-            let mut seat = asker;
-            ask_once_held(&meter.cancel(), &mut seat, here, gate)
-        },
-        move || -> (Pumped, usize, bool)
+        move || -> Noted
+            requires { (asker.now.meter ≡ meter.now) × (reader.now.meter ≡ meter.now) }
+        { acts_once_held(rt, shared, mutator, act, meter, asker, reader, flags) },
+        move || -> Seen
             requires { IsSync R.row × (seats.out.known ≡ 0) }
         {
-            let writer = Gated::new(text, 8000, here, gate);
-            streamed_seen(rt, alloc, live_pin(rt, shared, pin), writer, seats)
+            let sink = Sink {
+                held,
+                ..Sink::new(text, flags)
+            };
+            let seen = held_into(rt, alloc, shared, pin, seats, streams, sink);
+            flags.done.store(1, Ordering::SeqCst);
+            seen
         },
     )
 }

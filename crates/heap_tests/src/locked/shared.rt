@@ -1,47 +1,35 @@
 //! What scenes do with heaps.
-ghost use Rattle.std.specs.Prelude.{◌≡◌};
+ghost use Rattle.std.specs.Prelude.{◌<◌};
 
+use super::dumps::Seen;
+use super::sinks::Sink;
 use crate::scripts::{new, point};
-use dump_pump::{Pumped, WriteOutlet, pump};
-use heap_lock::{Action, Event, Heap, LockedSource, Receipt, Role, Seat, Shared};
-use live_dump::{LivePin, StreamSeats, stream};
+use dump_pump::{Source, WriteOutlet, pump};
+use heap_lock::{Event, Heap, LockedSource, Receipt, Seat, Shared};
 use std::alloc::Global;
-use std::io::Write;
 use std::sync::Wait;
-use std::thread::Threads;
 
-/// Does an event or a rewind, if the seat may. Returns its receipt, or None if it has no entry.
+/// Does an event, if the seat may. Returns its receipt, or None if it has no entry.
 pub fn did<L: Heap, R: Wait>(
     rt: &R,
     shared: &Shared<L>,
     seat: &mut Seat<L>,
-    action: Action,
+    event: Event,
 ) -> Option<Receipt> {
-    match action {
-        Action::Step(event) => {
-            if !seat.may(&event) {
-                return None;
-            }
-            shared.act(rt, seat, event).ok()
-        }
-        Action::Rewind(n) => {
-            if seat.role() != Role::User {
-                return None;
-            }
-            shared.rewind(rt, seat, n).ok()
-        }
-        _ => None,
+    if !seat.may(&event) {
+        return None;
     }
+    shared.act(rt, seat, event).ok()
 }
 
-/// Does an act. Returns whether it has an entry.
+/// Does an event. Returns whether it has an entry.
 pub fn acts<L: Heap, R: Wait>(
     rt: &R,
     shared: &Shared<L>,
     seat: &mut Seat<L>,
     event: Event,
 ) -> bool {
-    did(rt, shared, seat, Action::Step(event)).is_some()
+    did(rt, shared, seat, event).is_some()
 }
 
 /// Creates a write to x of the point in the first register.
@@ -90,52 +78,22 @@ pub fn closes_pin<L: Heap, R: Wait>(rt: &R, shared: &Shared<L>, pin: u64) -> boo
     shared.close_pin(rt, &mut shared.witness(rt), pin).is_ok()
 }
 
-/// Returns a pin of a heap as streams take it.
-pub fn live_pin<'a, L: Heap, R: Wait>(rt: &R, shared: &'a Shared<L>, pin: u64) -> LivePin<'a, L> {
-    LivePin {
-        shared,
-        witness: shared.witness(rt),
-        pin,
-        time: 0,
-    }
-}
-
-/// Streams the dump of a pin into a writer. Returns how it went, and the writer.
-pub fn stream_into<L: Heap + Send + Sync, W: Write + Drop, R: Threads + Wait + Sync>(
-    rt: &R,
-    alloc: Global,
-    live: LivePin<'_, L>,
-    writer: W,
-    seats: StreamSeats<'_>,
-) -> (Pumped, W)
-    requires { seats.out.known ≡ 0 }
+/// Pumps the parts of a source into a sink.
+pub fn pump_into<S: Source>(source: &mut S, sink: Sink<'_>) -> Seen
+    requires { 0 < (S.seen source.old).left }
 {
-    let mut outlet = WriteOutlet::new(writer);
-    let (pumped, _, _) = stream(rt, alloc, live, &mut outlet, seats);
-    (pumped, outlet.into_writer())
+    let mut outlet = WriteOutlet::new(sink);
+    let pumped = pump(source, &mut outlet);
+    let sink = outlet.into_writer();
+    (pumped, sink.taken, sink.is_text)
 }
 
-/// Pumps the dump of a pin into a writer. Returns how it went, and the writer.
-pub fn pump_into<L: Heap, W: Write + Drop, R: Wait>(
-    rt: &R,
-    shared: &Shared<L>,
-    pin: u64,
-    writer: W,
-) -> (Pumped, W) {
-    let mut source = LockedSource::new(shared, rt, shared.witness(rt), pin, 0);
-    let mut outlet = WriteOutlet::new(writer);
-    let pumped = pump(&mut source, &mut outlet);
-    (pumped, outlet.into_writer())
-}
-
-/// Opens a pin, pumps its dump into a writer and closes it. Returns how it went, and the writer.
-pub fn pumped_now<L: Heap, W: Write + Drop, R: Wait>(
-    rt: &R,
-    shared: &Shared<L>,
-    writer: W,
-) -> Option<(Pumped, W)> {
+/// Pumps the dump of the current state, and returns it. None if no pin is opened.
+pub fn pumped_text<L: Heap, R: Wait>(rt: &R, alloc: Global, shared: &Shared<L>) -> Option<Vec<u8>> {
     let pin = opened_pin(rt, shared)?;
-    let went = pump_into(rt, shared, pin, writer);
+    let mut source = LockedSource::new(shared, rt, shared.witness(rt), pin, 0);
+    let mut outlet = WriteOutlet::new(Vec::new(alloc));
+    pump(&mut source, &mut outlet);
     closes_pin(rt, shared, pin);
-    Some(went)
+    Some(outlet.into_writer())
 }

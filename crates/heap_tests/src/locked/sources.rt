@@ -34,9 +34,9 @@ impl<'a, S: Source> Source for Counted<'a, S> {
 pub struct AskingSource<'a, S: Source> {
     pub source: S,
     pub cancel: Cancel<'a>,
-    pub seat: AskSeat,
+    pub seat: &'a mut AskSeat,
     pub turn: u64,
-    ghost met: { seat.meter ≡ cancel },
+    ghost met: { seat.now.meter ≡ cancel },
 }
 
 impl<'a, S: Source> Source for AskingSource<'a, S> {
@@ -48,7 +48,7 @@ impl<'a, S: Source> Source for AskingSource<'a, S> {
 
     fn next(&mut self) -> Next {
         if self.turn == 1 {
-            self.cancel.ask(&mut self.seat);
+            self.cancel.ask(self.seat);
         }
         self.turn = self.turn.saturating_add(1);
         self.source.next()

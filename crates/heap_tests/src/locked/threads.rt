@@ -1,9 +1,8 @@
 //! Seats in threads of their own, whose receipts agree with one history.
-use super::scenes::{Five, Scene, Setting, play_scene};
+use super::scenes::{Actor, Scene, play_scene};
 use super::shared::did;
 use heap_class::Kind;
 use heap_lock::{Action, Event, Heap, Kept, Receipt, Role, Seat, Shared, Verdict, audit};
-use std::alloc::Global;
 use std::sync::Wait;
 use std::test::*;
 use std::thread;
@@ -65,101 +64,53 @@ fn drawn(role: Role, i: u64) -> Action {
     }
 }
 
-// Adds a seat's first thousand actions with their receipts. Returns whether memory was found.
-fn thousand<L: Heap, R: Wait>(
+// Does an event or a rewind, if the seat may. Returns its receipt, or None if it has no entry.
+fn done<L: Heap, R: Wait>(
     rt: &R,
     shared: &Shared<L>,
     seat: &mut Seat<L>,
-    claims: &mut Vec<(Action, Receipt)>,
-) -> bool {
-    let role = seat.role();
+    action: Action,
+) -> Option<Receipt> {
+    match action {
+        Action::Step(event) => did(rt, shared, seat, event),
+        Action::Rewind(n) if seat.role() == Role::User => shared.rewind(rt, seat, n).ok(),
+        _ => None,
+    }
+}
+
+// Acts a thousand times by a seat, and adds to its claims each action that has an entry, if there is memory.
+fn acts_often<L: Heap, R: Wait>(rt: &R, shared: &Shared<L>, actor: &mut Actor<L>) {
+    let role = actor.seat.role();
     for i in 0..1000u64 {
-        if let Some(receipt) = did(rt, shared, seat, drawn(role, i)) {
-            if claims.push((drawn(role, i), receipt)).is_err() {
-                return false;
-            }
+        if let Some(receipt) = done(rt, shared, &mut actor.seat, drawn(role, i)) {
+            let _ = actor.claims.push((drawn(role, i), receipt));
         }
     }
-    true
 }
 
-// Acts a thousand times by a seat, of this role. Returns its claims, or None if memory was refused.
-fn claims_of<L: Heap, R: Wait>(
-    rt: &R,
-    alloc: Global,
-    shared: &Shared<L>,
-    seat: &mut Seat<L>,
-) -> Option<Vec<(Action, Receipt)>> {
-    let mut claims = Vec::new(alloc);
-    if thousand(rt, shared, seat, &mut claims) {
-        Some(claims)
-    } else {
-        None
+// Returns whether each of four seats has a thousand claims, all of which hold, and nobody else acted.
+fn are_right<L: Heap>(kept: &Kept<L>, actors: &[Actor<L>]) -> bool {
+    for actor in actors {
+        let claims = actor.claims.as_slice();
+        if claims.len() != 1000 || audit(kept, claims) != Verdict::Holds {
+            return false;
+        }
     }
+    kept.chronicle().len() == 4000
 }
 
-// Returns whether there are a thousand claims, all of which hold.
-fn is_right<L: Heap>(kept: &Kept<L>, claims: &Option<Vec<(Action, Receipt)>>) -> bool {
-    match claims {
-        Some(claims) => claims.len() == 1000 && audit(kept, claims.as_slice()) == Verdict::Holds,
-        None => false,
-    }
-}
-
-// A thousand claims of each of two seats, or None if memory was refused.
-type TwoClaims = (
-    Option<Vec<(Action, Receipt)>>,
-    Option<Vec<(Action, Receipt)>>,
-);
-
-// Acts by two seats, each in a thread of its own.
-fn by_two<L: Heap + Send + Sync, R: Threads + Wait + Sync>(
-    rt: &R,
-    alloc: Global,
-    shared: &Shared<L>,
-    one: &mut Seat<L>,
-    other: &mut Seat<L>,
-) -> TwoClaims {
-    thread::join(
-        rt,
-        move || claims_of(rt, alloc, shared, one),
-        move || claims_of(rt, alloc, shared, other),
-    )
-}
-
-// Returns whether the receipts of four seats, each in a thread of its own, agree with the history.
-fn by_four<L: Heap + Send + Sync, R: Threads + Wait + Sync>(
-    rt: &R,
-    alloc: Global,
-    shared: &Shared<L>,
-    five: &mut Five<L>,
-) -> bool {
-    let mutator = &mut five.first;
-    let user = &mut five.user;
-    let marker = &mut five.marker;
-    let sweeper = &mut five.sweeper;
-    let ((a, b), (c, d)) = thread::join(
-        rt,
-        move || by_two(rt, alloc, shared, mutator, user),
-        move || by_two(rt, alloc, shared, marker, sweeper),
-    );
-    let kept = shared.lock(rt);
-    is_right(&*kept, &a)
-        && is_right(&*kept, &b)
-        && is_right(&*kept, &c)
-        && is_right(&*kept, &d)
-        && kept.chronicle().len() == 4000
-}
-
-/// Acts by a mutator, a user, the marker and the sweeper, each in a thread of its own. Returns whether their receipts agree.
+/// Acts by each of four seats, in a thread of its own. Returns whether their receipts agree with the history.
 pub fn four_threads<L: Heap + Send + Sync, R: Threads + Wait + Sync>(
-    Setting(rt, alloc, shared, five): Setting<'_, L, R>,
-) -> Option<bool> {
-    Some(by_four(rt, alloc, shared, five))
+    rt: &R,
+    shared: &Shared<L>,
+    actors: &mut [Actor<L>],
+) -> bool {
+    thread::for_each_mut(rt, actors, 4, &|_, actor| acts_often(rt, shared, actor));
+    are_right(&*shared.lock(rt), actors)
 }
 
 #[test]
 fn four_seats_one_history(rt: HostRuntime) -> Result<(), Fail> {
-    assert!(rt; play_scene(&rt, rt.alloc(), Scene::FourThreads) == Some(true));
+    assert!(rt; play_scene(&rt, rt.alloc(), Scene::FourThreads));
     Ok(())
 }

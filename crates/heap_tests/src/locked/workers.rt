@@ -1,6 +1,6 @@
 //! Workers in one thread: a whole cycle, and gates that let no act begin.
 
-use super::scenes::{Five, Scene, Setting, play_scene};
+use super::scenes::{Scene, play_scene};
 use super::shared::acts;
 use crate::scripts::{new, point};
 use heap_class::Refusal;
@@ -11,10 +11,9 @@ use heap_work::{Gate, MarkEnd, Open, SweepEnd, mark_worker, sweep_worker};
 use std::alloc::Global;
 use std::sync::Wait;
 use std::test::*;
-use std::thread::Threads;
 
 /// How a worker ended.
-#[derive(Clone, Copy, PartialEq, Eq)]
+#[derive(Clone, Copy)]
 pub enum WorkEnd {
     /// The end of the marker's work.
     Marked(MarkEnd),
@@ -22,19 +21,21 @@ pub enum WorkEnd {
     Swept(SweepEnd),
 }
 
-/// Runs the worker of a seat. Returns how it ended, or None if the seat is neither the marker's nor the sweeper's.
+/// Runs the worker of a seat. Returns how it ended and the number of entries then, or None if the seat is neither the marker's nor
+/// the sweeper's.
 pub fn run_worker<L: Heap, R: Wait, G: Gate>(
     rt: &R,
     shared: &Shared<L>,
     seat: &mut Seat<L>,
     gate: &mut G,
     turns: u64,
-) -> Option<WorkEnd> {
-    match seat.role() {
-        Role::Marker => Some(WorkEnd::Marked(mark_worker(shared, rt, seat, gate, turns))),
-        Role::Sweeper => Some(WorkEnd::Swept(sweep_worker(shared, rt, seat, gate, turns))),
-        _ => None,
-    }
+) -> Option<(WorkEnd, usize)> {
+    let end = match seat.role() {
+        Role::Marker => WorkEnd::Marked(mark_worker(shared, rt, seat, gate, turns)),
+        Role::Sweeper => WorkEnd::Swept(sweep_worker(shared, rt, seat, gate, turns)),
+        _ => return None,
+    };
+    Some((end, shared.lock(rt).chronicle().len()))
 }
 
 /// Defines the class of points and creates two, in the first two registers. Returns whether all was answered.
@@ -52,13 +53,10 @@ pub fn began<L: Heap, R: Wait>(
         && acts(rt, shared, user, new(1))
 }
 
-fn entries<L: Heap, R: Wait>(rt: &R, shared: &Shared<L>) -> usize {
-    shared.lock(rt).chronicle().len()
-}
-
-fn is_finished(end: Option<WorkEnd>) -> bool {
+// Returns whether the marker finished a cycle by the ninth entry, and condemned nothing.
+fn is_finished(end: Option<(WorkEnd, usize)>) -> bool {
     match end {
-        Some(WorkEnd::Marked(MarkEnd::Finished(receipt))) => {
+        Some((WorkEnd::Marked(MarkEnd::Finished(receipt)), 9)) => {
             receipt.turn == 9 && receipt.answer == Outcome::Answered(Answer::Condemned(0))
         }
         _ => false,
@@ -112,15 +110,21 @@ fn all_are_swept<L: Heap, R: Wait>(rt: &R, shared: &Shared<L>) -> bool {
 }
 
 // Returns whether six marks finish a cycle, after three entries, fifteen sweeps don't finish the heap, and sixteen do.
-fn cycle_goes<L: Heap, R: Wait>(rt: &R, shared: &Shared<L>, five: &mut Five<L>) -> bool {
-    is_finished(run_worker(rt, shared, &mut five.marker, &mut Open, 6))
-        && entries(rt, shared) == 9
-        && run_worker(rt, shared, &mut five.sweeper, &mut Open, 15)
-            == Some(WorkEnd::Swept(SweepEnd::TurnsOver))
-        && entries(rt, shared) == 24
-        && run_worker(rt, shared, &mut five.sweeper, &mut Open, 16)
-            == Some(WorkEnd::Swept(SweepEnd::Swept))
-        && entries(rt, shared) == 40
+fn cycle_goes<L: Heap, R: Wait>(
+    rt: &R,
+    shared: &Shared<L>,
+    marker: &mut Seat<L>,
+    sweeper: &mut Seat<L>,
+) -> bool {
+    is_finished(run_worker(rt, shared, marker, &mut Open, 6))
+        && matches!(
+            run_worker(rt, shared, sweeper, &mut Open, 15),
+            Some((WorkEnd::Swept(SweepEnd::TurnsOver), 24))
+        )
+        && matches!(
+            run_worker(rt, shared, sweeper, &mut Open, 16),
+            Some((WorkEnd::Swept(SweepEnd::Swept), 40))
+        )
         && all_are_swept(rt, shared)
 }
 
@@ -138,30 +142,39 @@ impl Gate for Closing {
 
 // Returns whether, after forty entries, a marker ends at a gate that closes before its third act, and a sweeper at one that
 // closes before its second.
-fn stop_at_gates<L: Heap, R: Wait>(rt: &R, shared: &Shared<L>, five: &mut Five<L>) -> bool {
+fn stop_at_gates<L: Heap, R: Wait>(
+    rt: &R,
+    shared: &Shared<L>,
+    marker: &mut Seat<L>,
+    sweeper: &mut Seat<L>,
+) -> bool {
     let mut third = Closing { turn: 3 };
     let mut second = Closing { turn: 2 };
-    run_worker(rt, shared, &mut five.marker, &mut third, 6)
-        == Some(WorkEnd::Marked(MarkEnd::Stopped))
-        && entries(rt, shared) == 42
-        && run_worker(rt, shared, &mut five.sweeper, &mut second, 16)
-            == Some(WorkEnd::Swept(SweepEnd::Stopped))
-        && entries(rt, shared) == 43
+    matches!(
+        run_worker(rt, shared, marker, &mut third, 6),
+        Some((WorkEnd::Marked(MarkEnd::Stopped), 42))
+    ) && matches!(
+        run_worker(rt, shared, sweeper, &mut second, 16),
+        Some((WorkEnd::Swept(SweepEnd::Stopped), 43))
+    )
 }
 
 /// Runs the workers through a cycle over two objects, and to gates that close in the next. Returns whether all goes as it must.
-pub fn cycles<L: Heap + Send + Sync, R: Threads + Wait + Sync>(
-    Setting(rt, alloc, shared, five): Setting<'_, L, R>,
-) -> Option<bool> {
-    Some(
-        began(rt, alloc, shared, &mut five.user)
-            && cycle_goes(rt, shared, five)
-            && stop_at_gates(rt, shared, five),
-    )
+pub fn cycles<L: Heap, R: Wait>(
+    rt: &R,
+    alloc: Global,
+    shared: &Shared<L>,
+    user: &mut Seat<L>,
+    marker: &mut Seat<L>,
+    sweeper: &mut Seat<L>,
+) -> bool {
+    began(rt, alloc, shared, user)
+        && cycle_goes(rt, shared, marker, sweeper)
+        && stop_at_gates(rt, shared, marker, sweeper)
 }
 
 #[test]
 fn workers_finish_a_cycle_and_stop_at_gates(rt: HostRuntime) -> Result<(), Fail> {
-    assert!(rt; play_scene(&rt, rt.alloc(), Scene::Cycles) == Some(true));
+    assert!(rt; play_scene(&rt, rt.alloc(), Scene::Cycles));
     Ok(())
 }

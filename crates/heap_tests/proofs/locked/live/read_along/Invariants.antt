@@ -1,5 +1,5 @@
 use Rattle.std.proofs.Common.{◌≡◌}
-use Rattle.heap_tests.proofs.locked.metered.read_along.Given as goal
+use Rattle.heap_tests.proofs.locked.live.read_along.Given as goal
 
 abbrev pub invariant-loop : goal.invariant-loop
 invariant-loop l = l.seat.meter ≡ l.progress

@@ -188,17 +188,9 @@ impl Classes {
         is_array: bool,
     ) -> Result<ClassNo, Refusal>
         requires { IsTrue is_array → (sup ≡ None) × (fields.now ≡ []) }
-        ensures answered { IsAnswered
-            (class_refusal self.old
-            (record { name = name.now; sup = sup; fields = fields.now; is_array = is_array })) true
-            result }
-        ensures defined { OnOk result
-            (self.new
-            ≡ self.old
-            ++ record { name = name.now; sup = sup; fields = fields.now; is_array = is_array }
-            ∷ []) }
-        ensures number { IfOk result (λ k. k ≡ length self.old) }
-        ensures unchanged { OnErr result (self.new ≡ self.old) }
+        ensures { IsDefined
+            (record { name = name.now; sup = sup; fields = fields.now; is_array = is_array })
+            self.old self.new result }
     {
         if let Some(refusal) = self.refusal(name, sup, fields) {
             return Err(refusal);

@@ -46,13 +46,20 @@ invariant_of-self-2 c =
     c.in_ok-name.ensures.keys refl (sym (c.in_default.ensures c.args.is_array)) c.requires c.in_ok-name.ensures.placed refl refl marked c.in_ok-slots.ensures c.slots_above.ensures.value (subst (λ l. AreSizes l c.of-sizes.result) c.as_slice.ensures.value c.of-sizes.ensures))
     (omega (arith, c.len-number.ensures, ap length c.reserve.ensures.items, c.reserve.new.self.ok)))
 
-pub returns-clause-defined : goal.returns-clause-defined
+pub returns : goal.returns
 unfolding names_in
-returns-clause-defined c =
+returns c =
     let class : Class = record { name = c.args.name.now; sup = c.args.sup; fields = c.args.fields.now; is_array = c.args.is_array } in
     let entry : ClassEntry = record { name = c.in_ok-name.name; sup = c.args.sup; fields = c.in_ok-name.fields; is_array = c.args.is_array; slots = c.in_ok-slots.slots; sizes = c.of-sizes.result; names_before = c.len-names_before.result } in
+    let accepted : class_refusal c.args.self.now class ≡ None = sym (c.in_default.ensures c.args.is_array) in
     let marked : c.len-names_before.result ≡ length (keys c.self.inside.names) = c.len-names_before.ensures.len ∙ sym (length-map c.self.inside.names.entries (λ (n : List ℕ × Option ℕ). n.0)) in
     let pushed : c.push_reserved.new.self.items ≡ c.self.inside.entries.items ++ entry ∷ [] = c.push_reserved.ensures.items ∙ ap (λ l. l ++ entry ∷ []) c.reserve.ensures.items in
-    ap (λ ks. map (class_of_entry ks) c.push_reserved.new.self.items) (keys_stay c.place_names.new.names.entries c.in_ok-name.name (Some c.len-number.result))
-    ∙ defined_view (keys c.self.inside.names) c.self.inside.entries.items c.self.invariant.table c.args.self.now c.self.view_is class entry (keys c.place_names.new.names) c.push_reserved.new.self.items c.slots_above.result.now
-    c.in_ok-name.ensures.keys pushed (sym (c.in_default.ensures c.args.is_array)) c.requires c.in_ok-name.ensures.placed refl refl marked c.in_ok-slots.ensures c.slots_above.ensures.value (subst (λ l. AreSizes l c.of-sizes.result) c.as_slice.ensures.value c.of-sizes.ensures)
+    record {
+      answered = accepted;
+      defined =
+          ap (λ ks. map (class_of_entry ks) c.push_reserved.new.self.items) (keys_stay c.place_names.new.names.entries c.in_ok-name.name (Some c.len-number.result))
+          ∙ defined_view (keys c.self.inside.names) c.self.inside.entries.items c.self.invariant.table c.args.self.now c.self.view_is class entry (keys c.place_names.new.names) c.push_reserved.new.self.items c.slots_above.result.now
+          c.in_ok-name.ensures.keys pushed accepted c.requires c.in_ok-name.ensures.placed refl refl marked c.in_ok-slots.ensures c.slots_above.ensures.value (subst (λ l. AreSizes l c.of-sizes.result) c.as_slice.ensures.value c.of-sizes.ensures);
+      number = omega (arith, c.len-number.ensures, ap length c.reserve.ensures.items, ap length c.self.view_is, length-map c.self.inside.entries.items (class_of_entry (keys c.self.inside.names)));
+      unchanged = tt;
+    }

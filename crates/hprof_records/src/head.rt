@@ -1,6 +1,7 @@
 //! The head of a record.
 ghost use Rattle.std.specs.Prelude.{◌≡◌, ◌+◌, ◌<◌, ◌≤◌, ◌^◌, length, drop};
 ghost use Rattle.hprof_records.specs.Heads.{record_of};
+ghost use Rattle.hprof_records.specs.Records.{head_size};
 
 use byteorder::{BigEndian, ByteOrder};
 
@@ -10,9 +11,9 @@ pub const HEAD_SIZE: usize = 9;
 /// Writes the head of a record over its first nine bytes: the tag, time 0, and the length of the body, which is all that stands
 /// behind the head. The body must have less than 2^32 bytes.
 pub fn write_head(bytes: &mut [u8], tag: u8)
-    requires room { 9 ≤ length bytes.old }
-    requires fits { length bytes.old < 9 + 2 ^ 32 }
-    ensures { bytes.new ≡ record_of tag (drop 9 bytes.old) }
+    requires room { head_size ≤ length bytes.old }
+    requires fits { length bytes.old < head_size + 2 ^ 32 }
+    ensures { bytes.new ≡ record_of tag (drop head_size bytes.old) }
 {
     let length = bytes.len() - HEAD_SIZE;
     let mut head = [0; HEAD_SIZE];

@@ -7,5 +7,5 @@ pub mod head;
 pub mod scan;
 
 pub use front::Front;
-pub use head::write_head;
+pub use head::{HEAD_SIZE, write_head};
 pub use scan::Scan;

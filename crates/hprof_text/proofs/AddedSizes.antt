@@ -7,7 +7,7 @@ use Rattle.hprof_text.specs.Cursors.{from_item}
 use Rattle.heap_class.specs.Classes.{Class}
 use Rattle.hprof_text.specs.declared.section.SubRecord.{SubRecord}
 use Rattle.hprof_text.specs.Image.{Image}
-use Rattle.hprof_text.specs.Records.{bytes_of}
+use Rattle.hprof_text.specs.Records.{sub_record_bytes}
 use Rattle.std.proofs.lemmas.List.{map-append}
 use Rattle.std.proofs.lemmas.List.Sums.{sum_by-cons}
 use Rattle.std.proofs.lemmas.Bool.Decides.{leb_tells}
@@ -16,7 +16,7 @@ use Rattle.hprof_text.specs.Text.{items_of, after, records_in}
 use Rattle.hprof_text.specs.Segments.{segment_limit, sizes_at, segment_sizes}
 use Rattle.hprof_text.specs.declared.measure.Measure.{Measure}
 use Rattle.hprof_text.specs.Sizes.{records_size, records_size_at, records_size_after}
-use Rattle.hprof_text.specs.SizeSums.{total_with, total, IsAdded, IsMeasured}
+use Rattle.hprof_text.specs.SizeSums.{total_with, total, AddsSizes, IsMeasured}
 use Rattle.hprof_text.proofs.Sections.{from_next, from_past}
 
 -- ---- one size
@@ -71,23 +71,23 @@ none_measured m sizes x y = let z : 0 + records_size sizes ≡ records_size size
 
 -- ---- one item of a section
 
-pub item_measured : (ids : IdSize) (image : Image) (s : Section) (n : ℕ) (item rest : List (List ℕ)) (sizes : List ℕ) (old now new : Measure) → slice_get (items_of ids image s) n ≡ Some item → map length item ≡ sizes → IsAdded sizes now new
+pub item_measured : (ids : IdSize) (image : Image) (s : Section) (n : ℕ) (item rest : List (List ℕ)) (sizes : List ℕ) (old now new : Measure) → slice_get (items_of ids image s) n ≡ Some item → map length item ≡ sizes → AddsSizes sizes now new
     → IsMeasured rest (from_item ids image s n) old now → IsMeasured rest (from_item ids image s (n + 1)) old new
 item_measured ids image s n item rest sizes old now new e m a h =
     let left = from_item ids image s (n + 1) in
     a (map length left) ∙ ap (total_with now) (ap (λ l. l ++ map length left) (sym m) ∙ sym (map-append length item left) ∙ ap (map length) (sym (from_next ids image s n item e))) ∙ h
 
 -- the sizes of an item's sub-record, if it has one
-pub sub_sized : (ids : IdSize) (classes : List Class) (given : Option SubRecord) (sub : SubRecord) (s : IdSize) (cs : List Class) (size : ℕ) → given ≡ Some sub → s ≡ ids → cs ≡ classes → size ≡ length (bytes_of s cs sub) → map length (map (bytes_of ids classes) (option_to_list given)) ≡ size ∷ []
-sub_sized ids classes given sub s cs size g x y e = ap (λ r. map length (map (bytes_of ids classes) (option_to_list r))) g ∙ ap (λ n. n ∷ []) (ap₂ (λ t ds. length (bytes_of t ds sub)) (sym x) (sym y) ∙ sym e)
+pub sub_sized : (ids : IdSize) (classes : List Class) (given : Option SubRecord) (sub : SubRecord) (s : IdSize) (cs : List Class) (size : ℕ) → given ≡ Some sub → s ≡ ids → cs ≡ classes → size ≡ length (sub_record_bytes s cs sub) → map length (map (sub_record_bytes ids classes) (option_to_list given)) ≡ size ∷ []
+sub_sized ids classes given sub s cs size g x y e = ap (λ r. map length (map (sub_record_bytes ids classes) (option_to_list r))) g ∙ ap (λ n. n ∷ []) (ap₂ (λ t ds. length (sub_record_bytes t ds sub)) (sym x) (sym y) ∙ sym e)
 
-pub none_sized : (ids : IdSize) (classes : List Class) (given : Option SubRecord) → given ≡ None → map length (map (bytes_of ids classes) (option_to_list given)) ≡ []
-none_sized ids classes given g = ap (λ r. map length (map (bytes_of ids classes) (option_to_list r))) g
+pub none_sized : (ids : IdSize) (classes : List Class) (given : Option SubRecord) → given ≡ None → map length (map (sub_record_bytes ids classes) (option_to_list given)) ≡ []
+none_sized ids classes given g = ap (λ r. map length (map (sub_record_bytes ids classes) (option_to_list r))) g
 
 pub items_measured : (ids : IdSize) (image : Image) (s : Section) (n : ℕ) (rest : List (List ℕ)) (old now : Measure) → length (items_of ids image s) ≤ n → IsMeasured rest (from_item ids image s n) old now → IsMeasured rest (records_in ids image (after s)) old now
 items_measured ids image s n rest old now l h = ap (λ left. total_with now (map length left)) (sym (from_past ids image s n l)) ∙ h
 
-pub none_added : (m : Measure) → IsAdded [] m m
+pub none_added : (m : Measure) → AddsSizes [] m m
 none_added m more = refl
 
 -- ---- all of them

@@ -12,7 +12,7 @@ use Rattle.hprof_text.specs.declared.section.Section.{Section}
 use Rattle.hprof_text.specs.declared.section.Section.TheVariants.{Numbered}
 use Rattle.hprof_text.specs.declared.section.SubRecord.{SubRecord}
 use Rattle.hprof_text.specs.Image.{Image}
-use Rattle.hprof_text.specs.Records.{bytes_of}
+use Rattle.hprof_text.specs.Records.{sub_record_bytes}
 use Rattle.heap_class.specs.Classes.{Class}
 use Rattle.hprof_text.specs.Text.{record_of, items_of, after, records_in}
 use Rattle.hprof_text.specs.Segments.{segment_limit, cut_at, segments_of, segment_records}
@@ -46,17 +46,17 @@ pub by_one : (x old new : List ℕ) (taken : Bool) → IsOffered x old new taken
 by_one x old new true o more = filled_more old x new more o
 by_one x old new false o more = filled_stop old x new more o
 
-pub sub_offered : (ids : IdSize) (image : Image) (section : NumberedSection) (k : ℕ) (given : Option SubRecord) (sub : SubRecord) (s : IdSize) (cs : List Class) (old new : List ℕ) (taken : Bool) → slice_get (items_of ids image (Numbered section)) k ≡ Some (map (bytes_of ids image.classes) (option_to_list given))
-    → given ≡ Some sub → s ≡ ids → cs ≡ image.classes → IsOffered (bytes_of s cs sub) old new taken → (item : List (List ℕ)) → slice_get (items_of ids image (Numbered section)) k ≡ Some item → IsItemOffered item old new taken
+pub sub_offered : (ids : IdSize) (image : Image) (section : NumberedSection) (k : ℕ) (given : Option SubRecord) (sub : SubRecord) (s : IdSize) (cs : List Class) (old new : List ℕ) (taken : Bool) → slice_get (items_of ids image (Numbered section)) k ≡ Some (map (sub_record_bytes ids image.classes) (option_to_list given))
+    → given ≡ Some sub → s ≡ ids → cs ≡ image.classes → IsOffered (sub_record_bytes s cs sub) old new taken → (item : List (List ℕ)) → slice_get (items_of ids image (Numbered section)) k ≡ Some item → IsItemOffered item old new taken
 sub_offered ids image section k given sub s cs old new taken a g x y o item b =
-    let one : bytes_of s cs sub ∷ [] ≡ map (bytes_of ids image.classes) (option_to_list given) = ap₂ (λ t ds. bytes_of t ds sub ∷ []) x y ∙ ap (λ r. map (bytes_of ids image.classes) (option_to_list r)) (sym g) in
-    subst (λ i. IsItemOffered i old new taken) (one ∙ same_Some _ item (sym a ∙ b)) (by_one (bytes_of s cs sub) old new taken o)
+    let one : sub_record_bytes s cs sub ∷ [] ≡ map (sub_record_bytes ids image.classes) (option_to_list given) = ap₂ (λ t ds. sub_record_bytes t ds sub ∷ []) x y ∙ ap (λ r. map (sub_record_bytes ids image.classes) (option_to_list r)) (sym g) in
+    subst (λ i. IsItemOffered i old new taken) (one ∙ same_Some _ item (sym a ∙ b)) (by_one (sub_record_bytes s cs sub) old new taken o)
 
 -- an item without a sub-record is taken
-pub none_offered : (ids : IdSize) (image : Image) (section : NumberedSection) (k : ℕ) (given : Option SubRecord) (old : List ℕ) → slice_get (items_of ids image (Numbered section)) k ≡ Some (map (bytes_of ids image.classes) (option_to_list given)) → given ≡ None
+pub none_offered : (ids : IdSize) (image : Image) (section : NumberedSection) (k : ℕ) (given : Option SubRecord) (old : List ℕ) → slice_get (items_of ids image (Numbered section)) k ≡ Some (map (sub_record_bytes ids image.classes) (option_to_list given)) → given ≡ None
     → (item : List (List ℕ)) → slice_get (items_of ids image (Numbered section)) k ≡ Some item → IsItemOffered item old old true
 none_offered ids image section k given old a g item b =
-    let none : [] ≡ map (bytes_of ids image.classes) (option_to_list given) = ap (λ r. map (bytes_of ids image.classes) (option_to_list r)) (sym g) in
+    let none : [] ≡ map (sub_record_bytes ids image.classes) (option_to_list given) = ap (λ r. map (sub_record_bytes ids image.classes) (option_to_list r)) (sym g) in
     subst (λ i. IsItemOffered i old old true) (none ∙ same_Some _ item (sym a ∙ b)) (λ more. refl)
 
 -- the item is taken, and the next one's turn has come

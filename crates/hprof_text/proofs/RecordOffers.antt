@@ -1,11 +1,9 @@
 -- A sub-record offered to a segment, which is written where there is room.
-use Rattle.std.proofs.Common.{◌≡◌, ℕ, ◌+◌, ◌%◌, ◌≤◌, ◌<◌, Bool, true, false, List, [], ◌∷◌, ◌++◌, length, take, drop, refl, sym, ap, ap₂, ◌∙◌, subst, arith, length-append, inl, inr}
+use Rattle.std.proofs.Common.{◌≡◌, ℕ, ◌+◌, ◌≤◌, Bool, true, false, List, [], ◌∷◌, ◌++◌, length, take, drop, refl, sym, ap, ◌∙◌, subst, arith, length-append, inl, inr}
 use Rattle.std.proofs.lemmas.List.{length-drop, drop-append-le, drop_all, take_all, append-nil}
 use Rattle.std.proofs.lemmas.Bool.Decides.{leb_tells}
 use Rattle.hprof_text.specs.SegmentContents.{Buffered, HasRoom}
 use Rattle.hprof_text.specs.SegmentFilling.{takes, IsOffered}
-use Rattle.byteorder.specs.Endian.{big_bytes}
-use Rattle.hprof_text.specs.Records.{record_head}
 use Rattle.hprof_text.specs.Segments.{segment_limit}
 
 -- what a segment's buffer has

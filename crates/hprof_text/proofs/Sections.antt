@@ -20,7 +20,7 @@ use Rattle.hprof_text.specs.declared.section.Section.{Section}
 use Rattle.hprof_text.specs.declared.section.Section.TheVariants.{Numbered, Objects}
 use Rattle.hprof_text.specs.Image.{Image, DumpedObject, IsDumpable}
 use Rattle.hprof_text.specs.Records.{class_at}
-use Rattle.hprof_text.specs.Text.{class_dump, root_sticky_class, root_unknown, dump_of, object_dump, items_of, joined, records_in, after, sections, sub_records, root, class_id}
+use Rattle.hprof_text.specs.Text.{class_dump, root_sticky_class, root_unknown, dump_of, object_dump, items_of, records_of_items, records_in, after, sections, sub_records, root, class_id}
 use Rattle.hprof_text.proofs.Bounds.{class_size_small, id_small, dump_size_small}
 use Rattle.hprof_text.proofs.Lengths.{class_dump_length, root_length, dump_length}
 use Rattle.hprof_text.proofs.Loops.{class_item, drop_item, numbered}
@@ -157,20 +157,20 @@ object_there ids image i o e = slice_get-map (λ p. object_dump ids image.classe
 
 pub from_next : (ids : IdSize) (image : Image) (s : Section) (n : ℕ) (item : List (List ℕ)) → slice_get (items_of ids image s) n ≡ Some item → from_item ids image s n ≡ item ++ from_item ids image s (n + 1)
 from_next ids image s n item e =
-    ap (λ l. joined l ++ records_in ids image (after s)) (drop_item (items_of ids image s) n item e)
-    ∙ append_assoc item (joined (drop (n + 1) (items_of ids image s))) (records_in ids image (after s))
+    ap (λ l. records_of_items l ++ records_in ids image (after s)) (drop_item (items_of ids image s) n item e)
+    ∙ append_assoc item (records_of_items (drop (n + 1) (items_of ids image s))) (records_in ids image (after s))
 
 pub from_past : (ids : IdSize) (image : Image) (s : Section) (n : ℕ) → length (items_of ids image s) ≤ n → from_item ids image s n ≡ records_in ids image (after s)
-from_past ids image s n h = ap (λ l. joined l ++ records_in ids image (after s)) (drop_all n (items_of ids image s) h)
+from_past ids image s n h = ap (λ l. records_of_items l ++ records_in ids image (after s)) (drop_all n (items_of ids image s) h)
 
 -- what holds of the sub-records of each item
-each_joined : (P : List ℕ → Type 0) (items : List (List (List ℕ))) → All (All P) items → All P (joined items)
+each_joined : (P : List ℕ → Type 0) (items : List (List (List ℕ))) → All (All P) items → All P (records_of_items items)
 each_joined P [] h = All-nil P
-each_joined P (i ∷ is) h = All-append P i (joined is) (All-head (All P) i is h) (each_joined P is (All-tail (All P) i is h))
+each_joined P (i ∷ is) h = All-append P i (records_of_items is) (All-head (All P) i is h) (each_joined P is (All-tail (All P) i is h))
 
 pub each_record : (P : List ℕ → Type 0) (ids : IdSize) (image : Image) → ((s : Section) → All (All P) (items_of ids image s)) → (several : List Section) → All P (records_in ids image several)
 each_record P ids image h [] = All-nil P
-each_record P ids image h (s ∷ several) = All-append P (joined (items_of ids image s)) (records_in ids image several) (each_joined P (items_of ids image s) (h s)) (each_record P ids image h several)
+each_record P ids image h (s ∷ several) = All-append P (records_of_items (items_of ids image s)) (records_in ids image several) (each_joined P (items_of ids image s) (h s)) (each_record P ids image h several)
 
 item_bytes : (item : List (List ℕ)) → IsItem item → All HasBytes item
 item_bytes [] h = All-nil HasBytes
@@ -182,7 +182,7 @@ have_bytes ids image s k i l = item_bytes (get_or (items_of ids image s) k i) (a
 
 pub from_bytes : (ids : IdSize) (image : Image) (s : Section) (n : ℕ) → All HasBytes (from_item ids image s n)
 from_bytes ids image s n =
-    All-append HasBytes (joined (drop n (items_of ids image s))) (records_in ids image (after s))
+    All-append HasBytes (records_of_items (drop n (items_of ids image s))) (records_in ids image (after s))
     (each_joined HasBytes (drop n (items_of ids image s)) (All-drop (All HasBytes) n (items_of ids image s) (have_bytes ids image s)))
     (each_record HasBytes ids image (have_bytes ids image) (after s))
 
@@ -195,14 +195,14 @@ item_small [] h = omega arith
 item_small (x ∷ []) h = omega arith
 item_small (x ∷ y ∷ more) h = absurd h
 
-joined_few : (items : List (List (List ℕ))) → All IsItem items → length (joined items) ≤ length items
+joined_few : (items : List (List (List ℕ))) → All IsItem items → length (records_of_items items) ≤ length items
 joined_few [] h = omega arith
-joined_few (i ∷ is) h = omega (arith, length-append i (joined is), item_small i (All-head IsItem i is h), joined_few is (All-tail IsItem i is h))
+joined_few (i ∷ is) h = omega (arith, length-append i (records_of_items is), item_small i (All-head IsItem i is h), joined_few is (All-tail IsItem i is h))
 
 records_few : (ids : IdSize) (image : Image) (several : List Section) → length (records_in ids image several) ≤ sum_by (count_of image) several
 records_few ids image [] = omega arith
 records_few ids image (s ∷ several) =
-    omega (arith, sum_by-cons (count_of image) s several, length-append (joined (items_of ids image s)) (records_in ids image several), joined_few (items_of ids image s) (are_items ids image s), items_counted ids image s, records_few ids image several)
+    omega (arith, sum_by-cons (count_of image) s several, length-append (records_of_items (items_of ids image s)) (records_in ids image several), joined_few (items_of ids image s) (are_items ids image s), items_counted ids image s, records_few ids image several)
 
 -- at most one for each class, its root, each object and each register
 pub subs_few : (ids : IdSize) (image : Image) → length (sub_records ids image) ≤ sum_by (count_of image) sections

@@ -7,7 +7,7 @@ use Rattle.hprof_text.specs.declared.Cursor.TheVariants.{Start, Item, Object, En
 use Rattle.hprof_text.specs.declared.section.Section.{Section}
 use Rattle.hprof_text.specs.declared.section.Section.TheVariants.{Numbered, Objects}
 use Rattle.hprof_text.specs.Image.{Image}
-use Rattle.hprof_text.specs.Text.{after, items_of, joined, records_in, sub_records}
+use Rattle.hprof_text.specs.Text.{after, items_of, records_of_items, records_in, sub_records}
 use Rattle.hprof_text.specs.Segments.{records_from}
 
 -- the sections from this one on, or none
@@ -17,7 +17,7 @@ sections_from None = []
 
 -- the sub-records from item n of a section on
 abbrev pub from_item : IdSize → Image → Section → ℕ → List (List ℕ)
-from_item ids image s n = joined (drop n (items_of ids image s)) ++ records_in ids image (after s)
+from_item ids image s n = records_of_items (drop n (items_of ids image s)) ++ records_in ids image (after s)
 
 -- these are the sub-records from the cursor on, of a view whose objects have these places
 abbrev pub IsRest : IdSize → Image → List ObjRef → Cursor → List (List ℕ) → Type 0

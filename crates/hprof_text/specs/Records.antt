@@ -42,9 +42,9 @@ opening_of ids classes time =
     ++ flat_map (load_class ids classes) (enumerate_from 0 classes) ++ trace
 
 -- the bytes of the sub-record of an item
-abbrev pub bytes_of : IdSize → List Class → SubRecord → List ℕ
-bytes_of ids classes (ClassDump k) = class_dump ids classes (k, class_at classes k)
-bytes_of ids classes (Root tag x) = root ids tag x
+abbrev pub sub_record_bytes : IdSize → List Class → SubRecord → List ℕ
+sub_record_bytes ids classes (ClassDump k) = class_dump ids classes (k, class_at classes k)
+sub_record_bytes ids classes (Root tag x) = root ids tag x
 
 -- the class of the sub-record is one of these
 abbrev pub IsOfClasses : List Class → SubRecord → Type 0

@@ -12,8 +12,8 @@ abbrev pub total : Measure → ℕ
 total m = total_with m []
 
 -- sub-records of these sizes were added
-abbrev pub IsAdded : List ℕ → Measure → Measure → Type 0
-IsAdded sizes old new = (more : List ℕ) → total_with new more ≡ total_with old (sizes ++ more)
+abbrev pub AddsSizes : List ℕ → Measure → Measure → Type 0
+AddsSizes sizes old new = (more : List ℕ) → total_with new more ≡ total_with old (sizes ++ more)
 
 -- of these sub-records all were added but those that are left
 abbrev pub IsMeasured : List (List ℕ) → List (List ℕ) → Measure → Measure → Type 0

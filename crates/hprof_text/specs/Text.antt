@@ -131,12 +131,12 @@ items_of ids image (Numbered RegisterRoots) =
     map (λ x. if x == 0 then [] else root_unknown ids x ∷ []) image.registers
 
 -- the sub-records of these items, in order
-abbrev pub joined : List (List (List ℕ)) → List (List ℕ)
-joined items = flat_map (λ item. item) items
+abbrev pub records_of_items : List (List (List ℕ)) → List (List ℕ)
+records_of_items items = flat_map (λ item. item) items
 
 -- the sub-records of these sections, in order
 abbrev pub records_in : IdSize → Image → List Section → List (List ℕ)
-records_in ids image several = flat_map (λ s. joined (items_of ids image s)) several
+records_in ids image several = flat_map (λ s. records_of_items (items_of ids image s)) several
 
 -- all sub-records, in order
 unfoldable pub sub_records : IdSize → Image → List (List ℕ)

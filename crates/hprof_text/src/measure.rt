@@ -3,7 +3,7 @@ ghost use Rattle.std.specs.Prelude.{◌≡◌, ◌+◌, ◌<◌, ◌≤◌, ◌^
 ghost use Rattle.hprof_text.specs.Cursors.{from_item};
 ghost use Rattle.hprof_text.specs.declared.section.Section.TheVariants.{Numbered, Objects};
 ghost use Rattle.hprof_text.specs.Text.{after, records_in, sub_records};
-ghost use Rattle.hprof_text.specs.SizeSums.{IsAdded, IsMeasured, section_limit, total};
+ghost use Rattle.hprof_text.specs.SizeSums.{AddsSizes, IsMeasured, section_limit, total};
 ghost use Rattle.hprof_text.specs.Sizes.{records_size};
 
 use crate::section::{NumberedSection, Section};
@@ -30,7 +30,7 @@ impl Measure {
     pub fn add(&mut self, size: u64)
         requires some { 0 < size }
         requires limit { self.old.closed + self.old.body + size < 2 ^ 40 }
-        ensures added { IsAdded (size ∷ []) self.old self.new }
+        ensures added { AddsSizes (size ∷ []) self.old self.new }
         ensures limit { self.new.closed + self.new.body
             ≤ self.old.closed + self.old.body + size + 9 }
     {

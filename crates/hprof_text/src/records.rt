@@ -5,7 +5,7 @@ ghost use Rattle.heap_class.specs.Classes.{sup_of};
 ghost use Rattle.heap_class.specs.Limits.{class_limit, name_limit, array_limit};
 ghost use Rattle.hprof_text.specs.SegmentContents.{HasRoom};
 ghost use Rattle.hprof_text.specs.Image.{IsKnown};
-ghost use Rattle.hprof_text.specs.Records.{class_at, record_head, field_bytes, class_ids, class_counts, instance_head, bytes_of, IsOfClasses};
+ghost use Rattle.hprof_text.specs.Records.{class_at, record_head, field_bytes, class_ids, class_counts, instance_head, sub_record_bytes, IsOfClasses};
 ghost use Rattle.heap_class.specs.declared.IdSize.TheVariants.{Eight};
 ghost use Rattle.heap_class.specs.declared.ObjKind.TheVariants.{Instance, Array, Prim};
 ghost use Rattle.hprof_text.specs.Text.{class_id, header, utf8, load_class, trace, class_dump, root, dump_of};
@@ -197,11 +197,11 @@ impl SegmentBytes {
 
     /// Appends the sub-record of an item. There must be room.
     pub fn sub_record(&mut self, ids: IdSize, classes: &FirstClasses<'_>, sub_record: SubRecord)
-        requires room { HasRoom self.old (bytes_of ids classes.now sub_record) }
+        requires room { HasRoom self.old (sub_record_bytes ids classes.now sub_record) }
         requires known { IsOfClasses classes.now sub_record }
         requires few { length classes.now ≤ class_limit }
         ensures written { self.new.written
-            ≡ self.old.written ++ bytes_of ids classes.now sub_record }
+            ≡ self.old.written ++ sub_record_bytes ids classes.now sub_record }
         ensures limit { self.new.limit ≡ self.old.limit }
     {
         match sub_record {

@@ -4,7 +4,7 @@ ghost use Rattle.std.specs.Option.{option_to_list};
 ghost use Rattle.heap_class.specs.Limits.{class_limit};
 ghost use Rattle.hprof_text.specs.declared.section.Section.TheVariants.{Numbered};
 ghost use Rattle.hprof_text.specs.Cursors.{sections_from};
-ghost use Rattle.hprof_text.specs.Records.{bytes_of, IsOfClasses};
+ghost use Rattle.hprof_text.specs.Records.{sub_record_bytes, IsOfClasses};
 ghost use Rattle.hprof_text.specs.Sizes.{class_size_limit};
 ghost use Rattle.hprof_text.specs.Text.{sections, after, items_of};
 
@@ -93,7 +93,7 @@ impl NumberedSection {
         requires { number < length (items_of (V.ids view.now) (V.image view.now) (Numbered self)) }
         ensures value { slice_get (items_of (V.ids view.now) (V.image view.now) (Numbered self))
             number
-            ≡ Some (map (bytes_of (V.ids view.now) (V.image view.now).classes)
+            ≡ Some (map (sub_record_bytes (V.ids view.now) (V.image view.now).classes)
             (option_to_list result)) }
         ensures known { IfSome result (IsOfClasses (V.image view.now).classes) }
     {
@@ -121,7 +121,7 @@ impl SubRecord {
     #[tactic(auto, using(crate::proofs::Lengths::class_dump_length, crate::proofs::Lengths::root_length))]
     pub fn size(self, ids: IdSize, classes: &FirstClasses<'_>) -> u64
         requires { IsOfClasses classes.now self }
-        ensures value { result ≡ length (bytes_of ids classes.now self) }
+        ensures value { result ≡ length (sub_record_bytes ids classes.now self) }
         ensures limit { (0 < result) × (result ≤ class_size_limit) }
     {
         match self {

@@ -6,7 +6,7 @@ ghost use Rattle.heap_class.specs.declared.Refusal.TheVariants.{NoMemory};
 ghost use Rattle.hprof_text.specs.declared.section.Section.TheVariants.{Numbered};
 ghost use Rattle.hprof_text.specs.SegmentFilling.{takes, IsOffered, IsItemOffered};
 ghost use Rattle.hprof_text.specs.Image.{IsKnown};
-ghost use Rattle.hprof_text.specs.Records.{bytes_of, IsOfClasses};
+ghost use Rattle.hprof_text.specs.Records.{sub_record_bytes, IsOfClasses};
 ghost use Rattle.hprof_text.specs.Sizes.{sub_record_limit};
 ghost use Rattle.hprof_text.specs.Text.{record_of, dump_of, items_of};
 
@@ -15,11 +15,9 @@ use crate::segment_bytes::SegmentBytes;
 use crate::sizes::{array_size, dump_size, prim_size};
 use crate::{Bytes, SEGMENT_LIMIT, View};
 use heap_class::{ClassNo, FirstClasses, IdSize, Kind, ObjKind, Refusal};
+use hprof_records::HEAD_SIZE;
 use std::alloc::Global;
 use std::marker::Model;
-
-// The size of a record's head in bytes.
-const HEAD: usize = 9;
 
 // The largest size of a sub-record in bytes: that of an array of 1,024 elements of 8 bytes.
 const LONGEST: usize = 8217;
@@ -49,7 +47,7 @@ impl Segment {
         ensures empty { IfOk result (λ s. s ≡ []) }
         ensures refused { IfErr result (λ e. e ≡ NoMemory) }
     {
-        match SegmentBytes::new(alloc, HEAD + LONGEST) {
+        match SegmentBytes::new(alloc, HEAD_SIZE + LONGEST) {
             Ok(mut buffer) => {
                 buffer.record_head(0, 0);
                 Ok(Segment { buffer })
@@ -63,7 +61,7 @@ impl Segment {
         ensures value { result ≡ length self.now }
         ensures limit { result ≤ sub_record_limit }
     {
-        (self.buffer.len() - HEAD) as u64
+        (self.buffer.len() - HEAD_SIZE) as u64
     }
 
     // Tells whether the body takes a sub-record of `size` bytes.
@@ -78,7 +76,7 @@ impl Segment {
     // Offers the sub-record of an item, and tells whether it was taken.
     fn offer(&mut self, ids: IdSize, classes: &FirstClasses<'_>, sub_record: SubRecord) -> bool
         requires { IsOfClasses classes.now sub_record }
-        ensures { IsOffered (bytes_of ids classes.now sub_record) self.old self.new result }
+        ensures { IsOffered (sub_record_bytes ids classes.now sub_record) self.old self.new result }
     {
         let _count = classes.len();
         let taken = self.takes(sub_record.size(ids, classes));

@@ -1,7 +1,7 @@
 use Rattle.std.proofs.Common.{◌+◌, ◌*◌, ◌≤◌, [], ◌∷◌, map, sym, subst, arith}
 use Rattle.std.specs.Option.{option_to_list}
 use Rattle.hprof_text.specs.Cursors.{from_item}
-use Rattle.hprof_text.specs.Records.{bytes_of}
+use Rattle.hprof_text.specs.Records.{sub_record_bytes}
 use Rattle.hprof_text.specs.SizeSums.{IsMeasured}
 use Rattle.hprof_text.specs.declared.measure.Measure.{Measure}
 use Rattle.hprof_text.specs.declared.section.Section.TheVariants.{Numbered}
@@ -19,7 +19,7 @@ loop-number-preserved g c =
     let now = c.loop-number.self in
     let rest = from_item ids image s 0 in
     let given = c.item.result in
-    let item = map (bytes_of ids image.classes) (option_to_list given) in
+    let item = map (sub_record_bytes ids image.classes) (option_to_list given) in
     let Kept : Measure → Type 0 = λ m. IsMeasured rest (from_item ids image s (n + 1)) old m × (m.closed + m.body ≤ old.closed + old.body + (n + 1) * 656) in
     elim c.match-item.branch [
       | in-Some w ↦

@@ -8,8 +8,7 @@ use Rattle.heap_world.specs.State.{HeapState}
 use Rattle.hprof_text.specs.Image.{Image, DumpedObject}
 
 -- the contents of a pin: the number of classes, the registers, a byte for each of 256 cells of each region, 1 for that of a
--- live
--- object, and the copies of the regions that were overwritten since
+-- live object, and the copies of the regions that were overwritten since
 pub record PinContents : Type 0 where
   pub classes : ℕ
   pub registers : List ℕ

@@ -59,9 +59,8 @@ OfFirst P n [] = Unit {0}
 OfFirst P zero (x ∷ xs) = P x
 OfFirst P (suc n) (x ∷ xs) = P x × OfFirst P n xs
 
--- the pin was taken n steps ago of the legal state u, and it shows u beside the current state and beside each state since that
--- is
--- retained; the current state is the first
+-- the pin was taken n steps ago of the legal state u, and it shows u beside the current state and beside each retained state
+-- since; the current state is the first
 pub record Holds (p : PinContents) (u : HeapState) (n : ℕ) (states : List HeapState) : Type 0 where
   pub pin : IsPinOf p u
   pub shows : OfFirst (ShowsState p u) n states

@@ -51,15 +51,14 @@ unfoldable pub classes_before : Undo → ℕ → ℕ
 classes_before Class n = n - 1
 classes_before left n = n
 
--- the copy of the touched region before the step, from one after it: the record's own, or that one with what the record has put
--- back
+-- the copy of the touched region before the step, from one after it: the record's own, or that one with the record's old
+-- contents put back
 unfoldable pub walked_copy : Undo → Option Frozen → Option Frozen
 walked_copy (Reclaim region storage) g = Some (frozen storage)
 walked_copy left g = option_map (patched left) g
 
--- the record tells of the state before its step the registers, the number of classes and the state of each cell; and a copy
--- that
--- has all of the touched region has all of what it was, once it is patched (a region that isn't touched has all that it had)
+-- the record tells the registers, the number of classes and the state of each cell before its step; a copy that covers the
+-- touched region after the step covers it before the step once it is patched; and each other region covers its old self
 pub record TellsBefore (left : Undo) (before x : HeapState) : Type 0 where
   pub registers : before.registers ≡ registers_before left x.registers
   pub classes : length before.classes ≡ classes_before left (length x.classes)

@@ -25,8 +25,7 @@ pub record IsPinAt (p : PinContents) (x : HeapState) : Type 0 where
   pub copies : length p.copies ≡ length x.regions
 
 -- the pin was walked n records back to the state x, which is the last of the first n + 1 of these, and it shows x beside each
--- of
--- them; the current state is the first
+-- of them; the current state is the first
 pub record IsWalked (p : PinContents) (x : HeapState) (n : ℕ)
     (states : List HeapState) : Type 0 where
   pub pin : IsPinAt p x
@@ -60,8 +59,8 @@ abbrev pub WalkHolds : PinContents → HeapState → Type 0
 WalkHolds p u = (n : ℕ) (states : List HeapState) → IsWalked p u n states → Holds p u n states
 
 -- a pin that was just opened on the current state w: it was walked no record back, whatever came before
-abbrev pub IsOpened : PinContents → HeapState → Type 0
-IsOpened p w = (past : List HeapState) → IsWalked p w 0 (w ∷ past)
+abbrev pub IsFreshPin : PinContents → HeapState → Type 0
+IsFreshPin p w = (past : List HeapState) → IsWalked p w 0 (w ∷ past)
 
 -- ---- its parts
 

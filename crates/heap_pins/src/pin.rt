@@ -10,7 +10,7 @@ ghost use Rattle.heap_step.specs.Laws.{IsStep};
 ghost use Rattle.heap_pins.specs.Pin.{IsPlaceAfter, object_seen, places_from};
 ghost use Rattle.heap_pins.specs.KeptCopies.{kept, kept_copy, kept_dead, kept_word, touched, with_dead};
 ghost use Rattle.heap_pins.specs.Shows.{AreFit, FitIn, IsSeen};
-ghost use Rattle.heap_pins.specs.WalkedPins.{IsOpened};
+ghost use Rattle.heap_pins.specs.WalkedPins.{IsFreshPin};
 ghost use Rattle.hprof_text.specs.Image.{object_limit};
 
 use crate::cells::cell_states;
@@ -87,7 +87,7 @@ fn first_live(bytes: &[u8]) -> Option<usize>
 impl Pin {
     /// Creates a pin on the current state, from which it can be walked back. Fails with NoMemory if an allocation fails.
     pub fn open(alloc: Global, world: &World) -> Result<Pin, Refusal>
-        ensures opened { IfOk result (λ p. IsOpened p world.now) }
+        ensures opened { IfOk result (λ p. IsFreshPin p world.now) }
         ensures refused { IfErr result (λ e. e ≡ NoMemory) }
     {
         let classes = world.classes().len();

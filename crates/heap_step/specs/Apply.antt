@@ -50,7 +50,7 @@ sweep_record region w =
     then Undo.Reclaim region (unwrap_or (used_at w.regions region) (fresh_region 4))
     else Undo.Sweep region (dead_at region (pool_of w))
 
--- what an event does that makes an object of so many slots in register r of mutator m, unless there is this refusal
+-- the effect of an event that makes an object of n slots in register r of mutator m, or the refusal if there is one
 abbrev pub creation : ℕ → ℕ → ObjKind → (HeapState → ℕ) → (HeapState → Option Refusal) → EventModel
 creation m r kind len refusal = record {
   refusal = refusal;

@@ -19,8 +19,8 @@ use heap_world::World;
 /// sheltered objects stay marked or sheltered.
 #[inline(always)]
 pub fn apply(world: &mut World, event: &Event) -> Effect
-    ensures answered { IsAnswered (refusal_of event.now world.old) (event_may_grow event.now world.old)
-        result }
+    ensures answered { IsAnswered (refusal_of event.now world.old)
+        (event_may_grow event.now world.old) result }
     ensures state { IfOk result (λ p. world.new ≡ state_after event.now world.old) }
     ensures done { IfOk result (λ p. applied event.now world.old ≡ Ok (world.new, p.0)) }
     ensures recorded { IfOk result (λ p. p.1 ≡ undo_record event.now world.old) }
@@ -37,7 +37,7 @@ pub fn apply(world: &mut World, event: &Event) -> Effect
     AnyEvent(event).apply_to(world)
 }
 
-/// Applies an event whose sort its type tells, as `apply` does.
+/// Applies an event whose sort its type tells, as `apply` does: marked and sheltered objects stay marked or sheltered.
 #[inline(always)]
 pub fn apply_sort<E: ApplyEvent>(world: &mut World, event: &E) -> Effect
     ensures legal { IsLegal world.new }
@@ -49,6 +49,7 @@ pub fn apply_sort<E: ApplyEvent>(world: &mut World, event: &E) -> Effect
         ⊎ ((refusal_of (E.event event.now) world.old ≡ None)
         × (event_may_grow (E.event event.now) world.old ≡ true)
         × (e ≡ NoMemory))) }
+    ensures found { OnOk result (StaysFound world.old world.new) }
 {
     let _phase = world.phase();
     event.apply_to(world)

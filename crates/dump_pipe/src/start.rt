@@ -11,6 +11,9 @@ pub const START_TURNS: u64 = 100;
 const TURN_LIMIT: u64 = 1;
 
 /// Whether a thread has begun, or was given up. Of the two, the first stands.
+///
+/// Its functions have no contracts: the other thread may set the word between any two calls, so no call can say what the next
+/// one finds. None is needed: `stream_parts` keeps its contract whatever `begin` and `is_begun` return.
 #[derive(Drop)]
 pub struct Start {
     word: AtomicU64,

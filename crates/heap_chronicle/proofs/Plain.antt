@@ -103,7 +103,7 @@ pub fine_enters : (m m' : Machine) (a b : Action) (r : Reply) → is_dump_action
 unfolding acted_under
 fine_enters m m' a b r deed h same is = ((Granted, tt, ap (acted m) same ∙ is), reply_enters m m' b r deed h is)
 
--- a refusal that isn't for want of memory
+-- a refusal other than NoMemory
 pub refused_enters : (m m' : Machine) (a b : Action) (r : Refusal) → is_dump_action b ≡ false → m.trail.place < last_place → a ≡ b → r ≢ NoMemory → (acted m b ≡ (m', Refused r)) ⊎ (MayStand m (b, Denied) × (r ≡ NoMemory)) → MayReply m a m' (Refused r) × MayEnter (Refused r)
 refused_enters m m' a b r deed h same ne (inl is) = fine_enters m m' a b (Refused r) deed h same is
 refused_enters m m' a b r deed h same ne (inr t) = absurd (ne t.1)

@@ -13,14 +13,14 @@ use heap_class::Refusal;
 use heap_trail::{Action, Machine};
 use std::snapshot::Snapshot;
 
-// Returns whether the refusal is for want of memory.
-fn wants_memory(refusal: Refusal) -> bool
+// Tells whether an allocation failed.
+fn is_no_memory(refusal: Refusal) -> bool
     ensures { MatchBool result (refusal ≡ NoMemory) (refusal ≢ NoMemory) }
 {
     matches!(refusal, Refusal::NoMemory)
 }
 
-// Does an event or a rewind and returns the answer, or None if it finds no memory.
+// Does an event or a rewind and returns the answer, or None if an allocation failed.
 fn take_step(machine: &mut Machine, action: &Action) -> Option<Outcome>
     requires deed { is_dump_action action.now ≡ false }
     requires place { machine.old.trail.place < last_place }
@@ -31,7 +31,7 @@ fn take_step(machine: &mut Machine, action: &Action) -> Option<Outcome>
         Action::Step(event) => match machine.step(event) {
             Ok(answer) => Some(Outcome::Answered(answer)),
             Err(refusal) => {
-                if wants_memory(refusal) {
+                if is_no_memory(refusal) {
                     None
                 } else {
                     Some(Outcome::Refused(refusal))
@@ -54,7 +54,8 @@ impl Chronicle {
         requires place { machine.old.trail.place ≤ length self.old.entries }
         ensures moves { IfOk result (λ o. Enters machine.old action.now machine.new o) }
         ensures room { OnOk result
-            ((0 < self.new.room) × (length self.new.entries < entry_limit self.new.rolls)) }
+            ((0 < self.new.room)
+            × (length self.new.entries < entry_limit self.new.rolls)) }
         ensures entries { (self.new.entries ≡ self.old.entries) × (self.new.rolls ≡ self.old.rolls) }
         ensures refused { IfErr result (λ e. IsNotEntered e self.old self.new) }
         ensures unchanged { OnErr result (machine.new ≡ machine.old) }

@@ -114,7 +114,7 @@ impl EntryBlock {
         self.packs.len()
     }
 
-    // Makes room for one more entry. Fails with AllocError if it finds no memory; the entries stay in either case.
+    // Makes room for one more entry. Fails with AllocError if an allocation fails; the entries stay in either case.
     pub(crate) fn reserve(&mut self) -> Result<(), AllocError>
         ensures entries { self.new.entries ≡ self.old.entries }
         ensures room { OnOk result (0 < self.new.room) }

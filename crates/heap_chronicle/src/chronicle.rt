@@ -131,7 +131,7 @@ impl Chronicle {
         self.len() >= most
     }
 
-    /// Makes room for one more entry. Fails with AllocError if it finds no memory; the entries stay in either case.
+    /// Makes room for one more entry. Fails with AllocError if an allocation fails; the entries stay in either case.
     pub fn reserve(&mut self) -> Result<(), AllocError>
         ensures entries { self.new ≡ record self.old { room = self.new.room } }
         ensures room { OnOk result (0 < self.new.room) }

@@ -67,7 +67,7 @@ ANSWERS = {
 # A row of the answer to a question, by its first word.
 ROWS = {
     "histogram": f"{NUMBER} {NUMBER} {NAMED}", "garbage": f"{NUMBER} {NUMBER} {NAMED}", "registers": f"[0-3] [0-7] (null|{ID} {NAMED})",
-    "path": f"([0-3] [0-7] {ID}|{ID} {NUMBER} {ID})", "history": f"{NUMBER} [a-z]+.*", "pins": f"{NUMBER} ({NUMBER} held {NUMBER}|lost Rewound)",
+    "path": f"([0-3] [0-7] {ID}|{ID} {NUMBER} {ID})", "history": f"{NUMBER} [a-z]+.*", "pins": f"{NUMBER} {NUMBER} (held {NUMBER}|lost Rewound)",
 }
 PATTERNS = {word: re.compile(f"({answer})|{REFUSED}") for word, answer in ANSWERS.items()}
 DATA = re.compile("data ([0-9a-f]{2}){1,64}")

@@ -35,7 +35,7 @@ each_numbered f p h = below_each f p.next p.open_pins h
 
 rewound_numbered : (to : ℕ) (p : Pins) → AreNumbered p → AreNumbered (after_rewind to p)
 unfolding after_rewind
-rewound_numbered to p h = each_numbered (λ number place image given. if nat_lt to place then Gone Rewound else Kept place image given) p h
+rewound_numbered to p h = each_numbered (λ number place image given. if nat_lt to place then Gone place Rewound else Kept place image given) p h
 
 given_numbered : (pin : ℕ) (p : Pins) → AreNumbered p → AreNumbered (with_piece_given pin p)
 unfolding with_piece_given
@@ -43,7 +43,7 @@ given_numbered pin p h = each_numbered (λ number place image given. Kept place 
 
 lost_numbered : (pins : List ℕ) (p : Pins) → AreNumbered p → AreNumbered (with_lost pins p)
 unfolding with_lost
-lost_numbered pins p h = each_numbered (λ number place image given. if list_any (λ n. n == number) pins then Gone Memory else Kept place image given) p h
+lost_numbered pins p h = each_numbered (λ number place image given. if list_any (λ n. n == number) pins then Gone place Memory else Kept place image given) p h
 
 closed_numbered : (pin : ℕ) (p : Pins) → AreNumbered p → AreNumbered (without_pin pin p)
 unfolding without_pin
@@ -69,7 +69,7 @@ counted_numbered false pin m h = h
 piece_numbered : (m : Machine) (pin time : ℕ) (s : Option PinState) → AreNumbered m.pins → AreNumbered (after_piece pin time m s).0.pins
 unfolding after_piece
 piece_numbered m pin time None h = h
-piece_numbered m pin time (Some (Gone cause)) h = h
+piece_numbered m pin time (Some (Gone place cause)) h = h
 piece_numbered m pin time (Some (Kept place image given)) h = counted_numbered (nat_lt given (length (pieces_of m.ids image time))) pin m h
 
 close_numbered : (m : Machine) (pin : ℕ) (s : Option PinState) → AreNumbered m.pins → AreNumbered (after_close pin m s).0.pins

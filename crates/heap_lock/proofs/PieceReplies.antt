@@ -21,7 +21,7 @@ IsPieceReply r = ⊥
 of_pin : (pin time : ℕ) (m : Machine) (s : Option PinState) → IsPieceReply (after_piece pin time m s).1
 unfolding IsPieceReply after_piece
 of_pin pin time m None = tt
-of_pin pin time m (Some (Gone cause)) = tt
+of_pin pin time m (Some (Gone place cause)) = tt
 of_pin pin time m (Some (Kept place image given)) = tt
 
 plainly : (m : Machine) (pin time : ℕ) → IsPieceReply (acted m (NextPiece pin time)).1

@@ -95,7 +95,7 @@ kept_none left v p none = ap (λ t. kept_if t left v p) none
 held_none : (left : Undo) (v : HeapState) (h : Held) → touched left ≡ None → h ≡ held_kept left v h
 unfolding held_kept
 held_none left v (Kept place pin cursor given) none = ap (λ p. Kept place p cursor given) (sym (kept_none left v pin none))
-held_none left v (Lost cause) none = refl
+held_none left v (Lost place cause) none = refl
 
 -- leaves each pin as it is
 pub none_touched : (left : Undo) (v : HeapState) (ss : List NumberedPin) → touched left ≡ None → EachMayKeep left v ss ss
@@ -106,7 +106,7 @@ none_touched left v (s ∷ ss) none = (inl (ap (λ (h : Held). (let t : Numbered
 
 held_sized : (ids : IdSize) (w : HeapState) (past : List HeapState) (place : ℕ) (h : Held) → HoldsAt ids (w ∷ past) place h → IsSizedHeld (length w.regions) h
 held_sized ids w past place (Kept at pin cursor given) h = h.2.pin.copies ∙ sym (first_of (ShowsState pin h.0) (place - at) w past h.2.shows).count
-held_sized ids w past place (Lost cause) h = tt
+held_sized ids w past place (Lost at cause) h = tt
 
 pub all_sized : (ids : IdSize) (w : HeapState) (past : List HeapState) (place next : ℕ) (ss : List NumberedPin) → AreHeld ids (w ∷ past) place next ss → EachSized (length w.regions) ss
 all_sized ids w past place next [] h = tt

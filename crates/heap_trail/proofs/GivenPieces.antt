@@ -41,7 +41,7 @@ can_give ids w past place (Kept at pin cursor given) h = (
   subst (λ (i : Image). IsGivenOf ids i (places_from 0 pin.live) cursor given) (sym (held_image pin h.0 (place - at) w past h.2))
       (subst (λ (l : List ObjRef). IsGivenOf ids (image_of h.0) l cursor given) (sym h.2.pin.live) h.3),
 )
-can_give ids w past place (Lost cause) h = tt
+can_give ids w past place (Lost at cause) h = tt
 
 gives : (ids : IdSize) (w : HeapState) (past : List HeapState) (place : ℕ) (u : HeapState) (at : ℕ) (pin : PinContents) (cursor : Cursor) (given : ℕ) → Holds pin u (place - at) (w ∷ past) → IsGivenOf ids (pin_image pin w) (places_from 0 pin.live) cursor given → IsGiven ids u cursor given
 gives ids w past place u at pin cursor given h g =
@@ -52,13 +52,13 @@ still_holds : (ids : IdSize) (w : HeapState) (past : List HeapState) (place time
 still_holds ids w past place time piece (Kept at pin cursor given) new h g =
     let more = given_after given (length (pieces_of ids (pin_image pin w) time)) in
     subst (HoldsAt ids (w ∷ past) place) (sym g.2) (h.0, h.1, h.2, gives ids w past place h.0 at pin g.1 more h.2 g.3)
-still_holds ids w past place time piece (Lost cause) new h g = absurd g
+still_holds ids w past place time piece (Lost at cause) new h g = absurd g
 
 -- what a pin gives is of the dump of its state, which is legal
 pub of_legal : (ids : IdSize) (w : HeapState) (past : List HeapState) (place time : ℕ) (piece : Piece) (h new : Held) → HoldsAt ids (w ∷ past) place h → HasGiven ids w time piece h new → IsPieceOfLegal ids time piece
 of_legal ids w past place time piece (Kept at pin cursor given) new h g =
     (h.0, h.2.pin.legal, given, g.0 ∙ ap (λ (i : Image). piece_of ids i time given) (held_image pin h.0 (place - at) w past h.2))
-of_legal ids w past place time piece (Lost cause) new h g = absurd g
+of_legal ids w past place time piece (Lost at cause) new h g = absurd g
 
 -- a pin that gave a piece, or none
 pub holds_after : (ids : IdSize) (w : HeapState) (past : List HeapState) (place time : ℕ) (s t : NumberedPin) (r : Result Piece Refusal) → HoldsAt ids (w ∷ past) place s.held → IfOk r (λ p. HasGiven ids w time p s.held t.held) → OnErr r (t ≡ s) → HoldsAt ids (w ∷ past) place t.held
@@ -97,7 +97,7 @@ one_more pin e = (e.0, if_kept (λ place image given. KeptState place image (if 
 other_pin : (pin number : ℕ) (x : PinState) → (number == pin) ≡ false → one_more pin (number, x) ≡ (number, x)
 unfolding if_kept
 other_pin pin number (KeptState place image given) e = rw e refl
-other_pin pin number (Gone cause) e = refl
+other_pin pin number (Gone place cause) e = refl
 
 others_above : (w : HeapState) (pin : ℕ) (ss : List NumberedPin) → AreAbove pin ss → map {B = ℕ × PinState} (one_more pin) (map {B = ℕ × PinState} (seen w) ss) ≡ map {B = ℕ × PinState} (seen w) ss
 others_above w pin [] a = refl
@@ -155,14 +155,14 @@ piece_done ids w ring place keep next ss i time s t piece p there same given =
         count : (b : Bool) → t.held ≡ Kept at pin g.1 (if b then given + 1 else given) → counted b s.number m ≡ machine_of ids w ring place keep next (set ss i t)
         count true is = ap (machine_with ids w ring place keep) (sym (pins_given ids (w ∷ past_of w ring.items) place next w ss i s t p.held there (given_one w s t at pin cursor g.1 given same was is)))
         count false is = ap (machine_with ids w ring place keep) (sym (pins_same w next ss i s t there (given_none w s t at pin cursor g.1 given same was is)))
-    go (Lost cause) was g = absurd g
+    go (Lost place cause) was g = absurd g
 
 pub piece_missing : (ids : IdSize) (w : HeapState) (ring : Buffer Undo) (place keep next : ℕ) (ss : List NumberedPin) (pin time : ℕ) → pin_at pin (pins_of w next ss) ≡ None
     → acted (machine_of ids w ring place keep next ss) (NextPiece pin time) ≡ (machine_of ids w ring place keep next ss, Refused NoPin)
 unfolding acted after_piece
 piece_missing ids w ring place keep next ss pin time none = ap (after_piece pin time (machine_of ids w ring place keep next ss)) none
 
--- a pin that is lost refuses, and so does one that finds no memory
+-- a pin that is lost refuses, and so does one whose allocation fails
 pub piece_refused : (ids : IdSize) (w : HeapState) (ring : Buffer Undo) (place keep next : ℕ) (ss : List NumberedPin) (i time : ℕ) (s : NumberedPin) (e : Refusal) → IsPinning ids w ring place next ss → IsThere ss i s → RefusesPiece s.held e
     → (acted (machine_of ids w ring place keep next ss) (NextPiece s.number time) ≡ (machine_of ids w ring place keep next ss, Refused e)) ⊎ (MayStand (machine_of ids w ring place keep next ss) (NextPiece s.number time, Denied) × (e ≡ NoMemory))
 unfolding acted after_piece state_of may_grow is_accepted
@@ -175,7 +175,7 @@ piece_refused ids w ring place keep next ss i time s e p there may =
 
     go : (h : Held) → RefusesPiece h e → (after_piece s.number time m (Some (state_of w h)) ≡ (m, Refused e)) ⊎ (((may_grow (NextPiece s.number time) m ≡ true) × (is_accepted (after_piece s.number time m (Some (state_of w h))).1 ≡ true)) × (e ≡ NoMemory))
     go (Kept at pin cursor given) k = inr ((refl, refl), k)
-    go (Lost cause) k = inl (ap (λ x. (m, Refused x)) (sym k))
+    go (Lost place cause) k = inl (ap (λ x. (m, Refused x)) (sym k))
 
 piece_not_given : (ids : IdSize) (w : HeapState) (ring : Buffer Undo) (place keep next : ℕ) (ss : List NumberedPin) (i time : ℕ) (s t : NumberedPin) (r : Result Piece Refusal) → IsPinning ids w ring place next ss → IsThere ss i s → IfErr r (λ e. RefusesPiece s.held e) → OnErr r (t ≡ s)
     → IfErr r (λ e. (acted (machine_of ids w ring place keep next ss) (NextPiece s.number time) ≡ (machine_of ids w ring place keep next (set ss i t), Refused e)) ⊎ (MayStand (machine_of ids w ring place keep next ss) (NextPiece s.number time, Denied) × (e ≡ NoMemory)))

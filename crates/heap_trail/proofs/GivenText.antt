@@ -91,32 +91,32 @@ NotKept x = (p : ℕ) (i : Image) (g : ℕ) → x ≡ Some (Kept p i g) → ⊥
 abbrev Fate : Option PinState → Option PinState → Type 0
 Fate x y = (y ≡ x) ⊎ NotKept y
 
-gone_not_kept : (cause : LostCause) → NotKept (Some (Gone cause))
-gone_not_kept cause p i g e = cc
+gone_not_kept : (at : ℕ) (cause : LostCause) → NotKept (Some (Gone at cause))
+gone_not_kept at cause p i g e = cc
 
 none_not_kept : NotKept None
 none_not_kept p i g e = cc
 
-lost_fate : (h : ℕ → Bool) (cause : LostCause) (x : Option PinState) → Fate x (option_map (if_kept (λ place image given. if h place then Gone cause else Kept place image given)) x)
+lost_fate : (h : ℕ → Bool) (cause : LostCause) (x : Option PinState) → Fate x (option_map (if_kept (λ place image given. if h place then Gone place cause else Kept place image given)) x)
 unfolding if_kept
 lost_fate h cause None = inl refl
-lost_fate h cause (Some (Gone c)) = inl refl
+lost_fate h cause (Some (Gone at c)) = inl refl
 lost_fate h cause (Some (Kept p i g)) = go (h p)
   where
-    go : (b : Bool) → Fate (Some (Kept p i g)) (Some (if b then Gone cause else Kept p i g))
-    go true = inr (gone_not_kept cause)
+    go : (b : Bool) → Fate (Some (Kept p i g)) (Some (if b then Gone p cause else Kept p i g))
+    go true = inr (gone_not_kept p cause)
     go false = inl refl
 
 rewound_fate : (to pin : ℕ) (ps : Pins) → Fate (pin_at pin ps) (pin_at pin (after_rewind to ps))
 unfolding after_rewind
 rewound_fate to pin ps =
-    let f : ℕ → ℕ → Image → ℕ → PinState = λ number place image given. if nat_lt to place then Gone Rewound else Kept place image given in
+    let f : ℕ → ℕ → Image → ℕ → PinState = λ number place image given. if nat_lt to place then Gone place Rewound else Kept place image given in
     subst (Fate (pin_at pin ps)) (sym (at_each f pin ps)) (lost_fate (nat_lt to) Rewound (pin_at pin ps))
 
 lost_pins_fate : (pins : List ℕ) (pin : ℕ) (ps : Pins) → Fate (pin_at pin ps) (pin_at pin (with_lost pins ps))
 unfolding with_lost
 lost_pins_fate pins pin ps =
-    let f : ℕ → ℕ → Image → ℕ → PinState = λ number place image given. if list_any (λ n. n == number) pins then Gone Memory else Kept place image given in
+    let f : ℕ → ℕ → Image → ℕ → PinState = λ number place image given. if list_any (λ n. n == number) pins then Gone place Memory else Kept place image given in
     subst (Fate (pin_at pin ps)) (sym (at_each f pin ps)) (lost_fate (λ place. list_any (λ n. n == pin) pins) Memory (pin_at pin ps))
 
 counts : ℕ → ℕ → ℕ → Image → ℕ → PinState
@@ -125,7 +125,7 @@ counts of number place image given = Kept place image (if number == of then give
 other_counts : (of pin : ℕ) → pin ≢ of → (x : Option PinState) → option_map (if_kept (counts of pin)) x ≡ x
 unfolding if_kept counts
 other_counts of pin ne None = refl
-other_counts of pin ne (Some (Gone c)) = refl
+other_counts of pin ne (Some (Gone at c)) = refl
 other_counts of pin ne (Some (Kept p i g)) = ap (λ (b : Bool). Some (Kept p i (if b then g + 1 else g))) (ne_eqb pin of ne)
 
 own_counts : (pin p : ℕ) (i : Image) (g : ℕ) → option_map (if_kept (counts pin pin)) (Some (Kept p i g)) ≡ Some (Kept p i (g + 1))
@@ -181,7 +181,7 @@ counted_goes m pin false = record { ids = refl; next = omega arith }
 piece_goes : (m : Machine) (pin time : ℕ) (s : Option PinState) → Goes m (after_piece pin time m s).0
 unfolding after_piece
 piece_goes m pin time None = record { ids = refl; next = omega arith }
-piece_goes m pin time (Some (Gone cause)) = record { ids = refl; next = omega arith }
+piece_goes m pin time (Some (Gone place cause)) = record { ids = refl; next = omega arith }
 piece_goes m pin time (Some (Kept p i g)) = counted_goes m pin (nat_lt g (length (pieces_of m.ids i time)))
 
 close_goes : (m : Machine) (pin : ℕ) (s : Option PinState) → Goes m (after_close pin m s).0
@@ -230,7 +230,7 @@ counted_fate m of pin ne false = inl refl
 piece_fate : (m : Machine) (of time pin : ℕ) → of ≢ pin → (s : Option PinState) → Fate (pin_at pin m.pins) (pin_at pin (after_piece of time m s).0.pins)
 unfolding after_piece
 piece_fate m of time pin ne None = inl refl
-piece_fate m of time pin ne (Some (Gone cause)) = inl refl
+piece_fate m of time pin ne (Some (Gone place cause)) = inl refl
 piece_fate m of time pin ne (Some (Kept p i g)) = counted_fate m of pin ne (nat_lt g (length (pieces_of m.ids i time)))
 
 close_fate : (m : Machine) (of pin : ℕ) (s : Option PinState) → Fate (pin_at pin m.pins) (pin_at pin (after_close of m s).0.pins)
@@ -389,7 +389,7 @@ Refuses pin time m r = (r.0 ≡ m) × (e : Refusal) × (r.1 ≡ Refused e)
 own_refused : (pin time : ℕ) (m : Machine) (s : Option PinState) → NotKept s → Refuses pin time m (after_piece pin time m s)
 unfolding after_piece
 own_refused pin time m None n = (refl, _, refl)
-own_refused pin time m (Some (Gone cause)) n = (refl, _, refl)
+own_refused pin time m (Some (Gone place cause)) n = (refl, _, refl)
 own_refused pin time m (Some (Kept p i g)) n = absurd (n p i g refl)
 
 refused_none : (pin time : ℕ) (r : Reply) (e : Refusal) → r ≡ Refused e → (piece_given pin (NextPiece pin time) r ≡ []) × (last_given pin (NextPiece pin time) r ≡ false)

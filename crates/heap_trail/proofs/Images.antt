@@ -44,9 +44,9 @@ if_kept_same f keeps (Kept p0 i0 g0) p q i j g h here there =
     let t : f p0 i0 g0 ≡ Kept q j h = cc there in
     let r = keeps p0 i0 g0 q j h t in
     (r.0 ∙ a, r.1 ∙ b)
-if_kept_same f keeps (Gone cause) p q i j g h here there = absurd (clash here)
+if_kept_same f keeps (Gone at cause) p q i j g h here there = absurd (clash here)
   where
-    clash : Some (Gone cause) ≡ Some (Kept p i g) → ⊥
+    clash : Some (Gone at cause) ≡ Some (Kept p i g) → ⊥
     clash e = cc
 
 from_none : (b : Option PinState) → SameImage None b
@@ -82,10 +82,10 @@ given_keeps place image a q j h e =
     let y : j ≡ image = cc in
     (x, y)
 
-lost_or_kept : (b : Bool) (cause : LostCause) (place : ℕ) (image : Image) (a q : ℕ) (j : Image) (h : ℕ) → (if b then Gone cause else Kept place image a) ≡ Kept q j h → (q ≡ place) × (j ≡ image)
+lost_or_kept : (b : Bool) (cause : LostCause) (place : ℕ) (image : Image) (a q : ℕ) (j : Image) (h : ℕ) → (if b then Gone place cause else Kept place image a) ≡ Kept q j h → (q ≡ place) × (j ≡ image)
 lost_or_kept true cause place image a q j h e = absurd (clash e)
   where
-    clash : Gone cause ≡ Kept q j h → ⊥
+    clash : Gone place cause ≡ Kept q j h → ⊥
     clash e = cc
 lost_or_kept false cause place image a q j h e = given_keeps place image a q j h e
 
@@ -174,7 +174,7 @@ counted_same m of pin false = same_self _ _ refl
 part_same : (m : Machine) (of time pin : ℕ) (s : Option PinState) → SameImage (pin_at pin m.pins) (pin_at pin (after_piece of time m s).0.pins)
 unfolding after_piece
 part_same m of time pin None = same_self _ _ refl
-part_same m of time pin (Some (Gone cause)) = same_self _ _ refl
+part_same m of time pin (Some (Gone place cause)) = same_self _ _ refl
 part_same m of time pin (Some (Kept place image given)) = counted_same m of pin _
 
 close_same : (m : Machine) (of pin : ℕ) (s : Option PinState) → SameImage (pin_at pin m.pins) (pin_at pin (after_close of m s).0.pins)
@@ -194,14 +194,14 @@ acted_same m (ClosePin of) pin = close_same m of pin (pin_at of m.pins)
 kept_before : (f : ℕ → Image → ℕ → PinState) → (s : PinState) (q : ℕ) (j : Image) (h : ℕ) → Some (if_kept f s) ≡ Some (Kept q j h) → (p : ℕ) × (i : Image) × (g : ℕ) × (Some s ≡ Some (Kept p i g))
 unfolding if_kept
 kept_before f (Kept p i g) q j h e = (p, i, g, refl)
-kept_before f (Gone cause) q j h e = absurd (clash e)
+kept_before f (Gone at cause) q j h e = absurd (clash e)
   where
-    clash : Some (Gone cause) ≡ Some (Kept q j h) → ⊥
+    clash : Some (Gone at cause) ≡ Some (Kept q j h) → ⊥
     clash e = cc
 
--- the same pins, some of them lost for want of memory
+-- the same pins, some of them lost because an allocation failed
 abbrev lose : List ℕ → ℕ → ℕ → Image → ℕ → PinState
-lose pins number place image given = if list_any (λ k. k == number) pins then Gone Memory else Kept place image given
+lose pins number place image given = if list_any (λ k. k == number) pins then Gone place Memory else Kept place image given
 
 list_before : (pins : List ℕ) (n : ℕ) (xs : List (ℕ × PinState)) (q : ℕ) (j : Image) (h : ℕ)
     → option_map (λ (e : ℕ × PinState). e.1) (find (λ e. e.0 == n) (map {B = ℕ × PinState} (λ e. (e.0, if_kept (lose pins e.0) e.1)) xs)) ≡ Some (Kept q j h)

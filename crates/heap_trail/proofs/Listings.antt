@@ -15,7 +15,7 @@ use Rattle.heap_trail.proofs.PinSearch.{seen}
 same_status : (w : HeapState) (h : Held) → held_status h ≡ status_of (state_of w h)
 unfolding held_status status_of state_of
 same_status w (Kept place pin cursor given) = refl
-same_status w (Lost cause) = refl
+same_status w (Lost place cause) = refl
 
 same_listed : (w : HeapState) (s : NumberedPin) → listed_slot s ≡ listed_pin (seen w s)
 unfolding listed_slot listed_pin

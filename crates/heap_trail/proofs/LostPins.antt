@@ -64,16 +64,16 @@ lost_all to (s ∷ ss) (t ∷ ts) e = λ i. e.0 i ∷ lost_all to ss ts e.1 i
 
 -- ---- which pins are left
 
-left_below : (to : ℕ) (s : PinState) → AreBelow (to + 1) (if_kept (λ place image given. if nat_lt to place then Gone Rewound else KeptState place image given) s)
+left_below : (to : ℕ) (s : PinState) → AreBelow (to + 1) (if_kept (λ place image given. if nat_lt to place then Gone place Rewound else KeptState place image given) s)
 unfolding if_kept
 left_below to (KeptState place image given) = go (nat_lt to place) refl
   where
-    go : (b : Bool) → nat_lt to place ≡ b → AreBelow (to + 1) (if b then Gone Rewound else KeptState place image given)
+    go : (b : Bool) → nat_lt to place ≡ b → AreBelow (to + 1) (if b then Gone place Rewound else KeptState place image given)
     go true e = tt
     go false e = grind (arith, e)
-left_below to (Gone cause) = tt
+left_below to (Gone place cause) = tt
 
-each_left : (to : ℕ) (xs : List (ℕ × PinState)) → EachBelow (to + 1) (map {B = ℕ × PinState} (λ e. (e.0, if_kept (λ place image given. if nat_lt to place then Gone Rewound else KeptState place image given) e.1)) xs)
+each_left : (to : ℕ) (xs : List (ℕ × PinState)) → EachBelow (to + 1) (map {B = ℕ × PinState} (λ e. (e.0, if_kept (λ place image given. if nat_lt to place then Gone place Rewound else KeptState place image given) e.1)) xs)
 each_left to [] = tt
 each_left to (x ∷ xs) = (left_below to x.1, each_left to xs)
 
@@ -83,7 +83,7 @@ below_after to ps = each_left to ps.open_pins
 
 one_higher : (m k : ℕ) (s : PinState) → m ≤ k → AreBelow m s → AreBelow k s
 one_higher m k (KeptState place image given) le b = omega (arith, b)
-one_higher m k (Gone cause) le b = tt
+one_higher m k (Gone place cause) le b = tt
 
 each_higher : (m k : ℕ) (xs : List (ℕ × PinState)) → m ≤ k → EachBelow m xs → EachBelow k xs
 each_higher m k [] le b = tt

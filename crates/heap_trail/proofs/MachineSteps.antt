@@ -94,7 +94,7 @@ pub step_full : (ids : IdSize) (e : Event) (w : HeapState) (ring : Buffer Undo) 
 unfolding acted after_step_at
 step_full ids e w ring place keep ps h = ap (λ b. after_step_at b e (machine_with ids w ring place keep ps)) (is_last place h)
 
--- for want of memory, where nothing else refuses it
+-- for NoMemory, where nothing else refuses it
 pub step_starved : (ids : IdSize) (e : Event) (w : HeapState) (ring : Buffer Undo) (place keep : ℕ) (ps : Pins) → place < last_place → refusal_of e w ≡ None → event_may_grow e w ≡ true
     → MayStand (machine_with ids w ring place keep ps) (Step e, Denied)
 unfolding acted after_step_at after_result applied applied_unless may_grow is_accepted

@@ -17,7 +17,7 @@ use Rattle.heap_trail.specs.declared.held.Held.TheVariants.{Kept, Lost}
 use Rattle.heap_trail.specs.declared.held.NumberedPin.{NumberedPin}
 use Rattle.heap_trail.specs.Pins.{PinState, if_kept, each_kept, with_lost}
 use Rattle.heap_trail.specs.Pins.{Kept as KeptState, Gone}
-use Rattle.heap_trail.specs.OpenPins.{state_of, pins_of, held_kept, is_kept, MayKeep, EachMayKeep, HoldsAt, AreAbove, AreHeld}
+use Rattle.heap_trail.specs.OpenPins.{state_of, pins_of, held_kept, is_kept, held_place, MayKeep, EachMayKeep, HoldsAt, AreAbove, AreHeld}
 
 -- ---- a step: each pin
 
@@ -26,7 +26,7 @@ unfolding held_kept
 held_stepped ids left v k past place (Kept at pin cursor given) h =
     let n : suc (place - at) ≡ place + 1 - at = omega (arith, h.1) in
     (h.0, omega (arith, h.1), subst (λ m. Holds (kept left v pin) h.0 m (v ∷ take k (undone left v ∷ past))) n (pin_stepped left v pin h.0 (place - at) k past h.2), h.3)
-held_stepped ids left v k past place (Lost cause) h = tt
+held_stepped ids left v k past place (Lost at cause) h = tt
 
 slot_stepped : (ids : IdSize) (left : Undo) (v : HeapState) (k : ℕ) (past : List HeapState) (place : ℕ) (s t : NumberedPin) → HoldsAt ids (undone left v ∷ past) place s.held → MayKeep left v s t → HoldsAt ids (v ∷ take k (undone left v ∷ past)) (place + 1) t.held × (t.number ≡ s.number)
 slot_stepped ids left v k past place s t h (inl e) = (subst (λ (x : NumberedPin). HoldsAt ids (v ∷ take k (undone left v ∷ past)) (place + 1) x.held) (sym e) (held_stepped ids left v k past place s.held h), ap (λ (x : NumberedPin). x.number) e)
@@ -68,7 +68,7 @@ is_in xs m = list_any (λ n. n == m) xs
 
 -- a pin is lost where b says so of its number
 abbrev lose_by : (ℕ → Bool) → ℕ → ℕ → Image → ℕ → PinState
-lose_by b number place image given = if b number then Gone Memory else KeptState place image given
+lose_by b number place image given = if b number then Gone place Memory else KeptState place image given
 
 -- the pins after the step are those before it, lost where b says so
 abbrev Agrees : (ℕ → Bool) → HeapState → HeapState → List NumberedPin → List NumberedPin → Type 0
@@ -83,7 +83,7 @@ agrees_above b c n w v [] [] same a h = tt
 agrees_above b c n w v [] (t ∷ ts) same a h = h
 agrees_above b c n w v (s ∷ ss) [] same a h = h
 agrees_above b c n w v (s ∷ ss) (t ∷ ts) same a h =
-    (h.0, h.1 ∙ ap (λ x. if_kept (λ place image given. if x then Gone Memory else KeptState place image given) (state_of w s.held)) (sym (same s.number a.0)), agrees_above b c n w v ss ts same a.1 h.2)
+    (h.0, h.1 ∙ ap (λ x. if_kept (λ place image given. if x then Gone place Memory else KeptState place image given) (state_of w s.held)) (sym (same s.number a.0)), agrees_above b c n w v ss ts same a.1 h.2)
 
 -- a number below all of those isn't among the lost ones
 not_lost : (left : Undo) (v : HeapState) (n : ℕ) (ss ts : List NumberedPin) (e : EachMayKeep left v ss ts) → AreAbove n ss → is_in (lost_in left v ss ts e) n ≡ false
@@ -97,17 +97,17 @@ not_lost left v n (s ∷ ss) (t ∷ ts) (inr e, es) a = ap (λ b. b || is_in (lo
 kept_agrees : (ids : IdSize) (left : Undo) (v : HeapState) (past : List HeapState) (place : ℕ) (h : Held) → HoldsAt ids (undone left v ∷ past) place h → state_of v (held_kept left v h) ≡ state_of (undone left v) h
 unfolding state_of held_kept
 kept_agrees ids left v past place (Kept at pin cursor given) h = ap (λ i. KeptState at i given) (stepped_image left v pin h.0 (place - at) 0 past h.2)
-kept_agrees ids left v past place (Lost cause) h = refl
+kept_agrees ids left v past place (Lost at cause) h = refl
 
-unlost : (s : PinState) (b : Bool) → b ≡ false → s ≡ if_kept (λ place image given. if b then Gone Memory else KeptState place image given) s
+unlost : (s : PinState) (b : Bool) → b ≡ false → s ≡ if_kept (λ place image given. if b then Gone place Memory else KeptState place image given) s
 unfolding if_kept
 unlost (KeptState place image given) b e = rw e refl
-unlost (Gone cause) b e = refl
+unlost (Gone place cause) b e = refl
 
-lost_there : (w : HeapState) (h : Held) (b : Bool) → b ≡ true → is_kept h ≡ true → Gone Memory ≡ if_kept (λ place image given. if b then Gone Memory else KeptState place image given) (state_of w h)
-unfolding if_kept state_of is_kept
+lost_there : (w : HeapState) (h : Held) (b : Bool) → b ≡ true → is_kept h ≡ true → Gone (held_place h) Memory ≡ if_kept (λ place image given. if b then Gone place Memory else KeptState place image given) (state_of w h)
+unfolding if_kept state_of is_kept held_place
 lost_there w (Kept at pin cursor given) b e k = rw e refl
-lost_there w (Lost cause) b e k = absurd (clash k)
+lost_there w (Lost place cause) b e k = absurd (clash k)
   where
     clash : false ≡ true → ⊥
     clash e = cc

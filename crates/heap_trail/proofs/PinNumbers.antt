@@ -30,7 +30,7 @@ numbered ids w ring place next ss p = numbered_list ids (w ∷ past_of w ring.it
 dumpable_pin : (ids : IdSize) (w : HeapState) (past : List HeapState) (place : ℕ) (h : Held) → HoldsAt ids (w ∷ past) place h → IsDumpablePin (state_of w h)
 unfolding state_of
 dumpable_pin ids w past place (Kept at pin cursor given) h = view_dumpable pin w (can_give ids w past place (Kept at pin cursor given) h).0
-dumpable_pin ids w past place (Lost cause) h = tt
+dumpable_pin ids w past place (Lost at cause) h = tt
 
 dumpable_list : (ids : IdSize) (w : HeapState) (past : List HeapState) (place next : ℕ) (ss : List NumberedPin) → AreHeld ids (w ∷ past) place next ss → All {X = ℕ × PinState} (λ e. IsDumpablePin e.1) (map {B = ℕ × PinState} (seen w) ss)
 dumpable_list ids w past place next [] h = All-nil _

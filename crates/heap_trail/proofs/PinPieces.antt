@@ -66,7 +66,7 @@ pub may_count : (ids : IdSize) (w : HeapState) (h : Held) → CanGive ids w h �
 may_count ids w (Kept place pin cursor given) can =
     let few : length (pieces_of ids (pin_image pin w) 0) ≤ piece_limit = pieces_few ids (pin_image pin w) 0 (view_dumpable pin w can.0) in
     omega (arith, few, how_many ids (pin_image pin w) 0, can.1.1)
-may_count ids w (Lost cause) can = tt
+may_count ids w (Lost place cause) can = tt
 
 -- ---- the next piece
 
@@ -98,4 +98,4 @@ has_given ids w time piece next (Kept place pin cursor given) new can is advance
     go false e a =
         let lt = within ids image places cursor given can.1.0 e in
         subst Given (one_given given (length (pieces_of ids image time)) (omega (arith, lt, how_many ids image time))) (next, a, (is.1, omega (arith, lt)))
-has_given ids w time piece next (Lost cause) new can is advanced = absurd is
+has_given ids w time piece next (Lost place cause) new can is advanced = absurd is

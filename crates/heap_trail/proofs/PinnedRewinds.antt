@@ -24,17 +24,17 @@ use Rattle.heap_trail.specs.OpenPins.{state_of, pins_of, HoldsAt, AreAbove, AreH
 
 -- ---- pins above a place are lost
 
-lost_state : (w : HeapState) (to : ℕ) (h : Held) → state_of w (held_after_rewind to h) ≡ if_kept (λ place image given. if nat_lt to place then Gone Rewound else KeptState place image given) (state_of w h)
+lost_state : (w : HeapState) (to : ℕ) (h : Held) → state_of w (held_after_rewind to h) ≡ if_kept (λ place image given. if nat_lt to place then Gone place Rewound else KeptState place image given) (state_of w h)
 unfolding state_of held_after_rewind if_kept
 lost_state w to (Kept place pin cursor given) = go (nat_lt to place)
   where
-    go : (b : Bool) → state_of w (if b then Lost Rewound else Kept place pin cursor given) ≡ (if b then Gone Rewound else KeptState place (pin_image pin w) given)
+    go : (b : Bool) → state_of w (if b then Lost place Rewound else Kept place pin cursor given) ≡ (if b then Gone place Rewound else KeptState place (pin_image pin w) given)
     go true = refl
     go false = refl
-lost_state w to (Lost cause) = refl
+lost_state w to (Lost place cause) = refl
 
 lost_list : (w : HeapState) (to : ℕ) (ss : List NumberedPin) → map {B = ℕ × PinState} (λ (s : NumberedPin). (s.number, state_of w s.held)) (map (slot_after_rewind to) ss)
-    ≡ map {B = ℕ × PinState} (λ e. (e.0, if_kept (λ place image given. if nat_lt to place then Gone Rewound else KeptState place image given) e.1)) (map {B = ℕ × PinState} (λ (s : NumberedPin). (s.number, state_of w s.held)) ss)
+    ≡ map {B = ℕ × PinState} (λ e. (e.0, if_kept (λ place image given. if nat_lt to place then Gone place Rewound else KeptState place image given) e.1)) (map {B = ℕ × PinState} (λ (s : NumberedPin). (s.number, state_of w s.held)) ss)
 lost_list w to [] = refl
 lost_list w to (s ∷ ss) = λ i. (s.number, lost_state w to s.held i) ∷ lost_list w to ss i
 
@@ -46,10 +46,10 @@ held_lost : (ids : IdSize) (states : List HeapState) (place to : ℕ) (h : Held)
 unfolding held_after_rewind
 held_lost ids states place to (Kept at pin cursor given) h = go (nat_lt to at)
   where
-    go : (b : Bool) → HoldsAt ids states place (if b then Lost Rewound else Kept at pin cursor given)
+    go : (b : Bool) → HoldsAt ids states place (if b then Lost at Rewound else Kept at pin cursor given)
     go true = tt
     go false = h
-held_lost ids states place to (Lost cause) h = tt
+held_lost ids states place to (Lost at cause) h = tt
 
 above_lost : (to n : ℕ) (ss : List NumberedPin) → AreAbove n ss → AreAbove n (map (slot_after_rewind to) ss)
 above_lost to n [] a = tt
@@ -78,7 +78,7 @@ one_back ids w v past place s some holds below = go s.held refl below
   where
     go : (h : Held) → s.held ≡ h → AreBelow place (state_of w h) → HoldsAt ids (v ∷ past) (place - 1) h × (state_of v h ≡ state_of w h)
     go (Kept at pin cursor given) is b = held_back ids w v past place s.held some holds at pin cursor given is b
-    go (Lost cause) is b = (tt, refl)
+    go (Lost place cause) is b = (tt, refl)
 
 pub all_back : (ids : IdSize) (w v : HeapState) (past : List HeapState) (place next : ℕ) (ss : List NumberedPin) → 0 < place → AreHeld ids (w ∷ v ∷ past) place next ss → AreAllBelow place (pins_of w next ss) → AreHeld ids (v ∷ past) (place - 1) next ss × (pins_of v next ss ≡ pins_of w next ss)
 unfolding pins_of

@@ -110,7 +110,7 @@ none_lost : (xs : List (ℕ × PinState)) → map {B = ℕ × PinState} (λ (e :
 unfolding if_kept
 none_lost [] = refl
 none_lost ((n, KeptState place image given) ∷ xs) = ap (λ l. (n, KeptState place image given) ∷ l) (none_lost xs)
-none_lost ((n, Gone cause) ∷ xs) = ap (λ l. (n, Gone cause) ∷ l) (none_lost xs)
+none_lost ((n, Gone place cause) ∷ xs) = ap (λ l. (n, Gone place cause) ∷ l) (none_lost xs)
 
 lose_none : (ps : Pins) → with_lost [] ps ≡ ps
 unfolding with_lost each_kept

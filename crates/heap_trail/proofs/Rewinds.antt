@@ -95,7 +95,7 @@ rewound_parts a (suc b) t few =
 
 -- a pin above a place is lost
 abbrev lost_above : ℕ → ℕ → Image → ℕ → PinState
-lost_above to place image given = if nat_lt to place then Gone Rewound else Kept place image given
+lost_above to place image given = if nat_lt to place then Gone place Rewound else Kept place image given
 
 lower_lost : (low high place : ℕ) → low ≤ high → nat_lt high place ≡ true → nat_lt low place ≡ true
 lower_lost low high place le h = grind arith
@@ -104,10 +104,10 @@ lost_parts : (low high : ℕ) → low ≤ high → (s : PinState) → if_kept (l
 unfolding if_kept
 lost_parts low high le (Kept place image given) = go (nat_lt high place) refl
   where
-    go : (b : Bool) → nat_lt high place ≡ b → if_kept (lost_above low) (if b then Gone Rewound else Kept place image given) ≡ lost_above low place image given
-    go true h = sym (ap (λ (b : Bool). if b then Gone Rewound else Kept place image given) (lower_lost low high place le h))
+    go : (b : Bool) → nat_lt high place ≡ b → if_kept (lost_above low) (if b then Gone place Rewound else Kept place image given) ≡ lost_above low place image given
+    go true h = sym (ap (λ (b : Bool). if b then Gone place Rewound else Kept place image given) (lower_lost low high place le h))
     go false h = refl
-lost_parts low high le (Gone cause) = refl
+lost_parts low high le (Gone place cause) = refl
 
 list_parts : (low high : ℕ) → low ≤ high → (xs : List (ℕ × PinState))
     → map {B = ℕ × PinState} (λ e. (e.0, if_kept (lost_above low) e.1)) (map {B = ℕ × PinState} (λ e. (e.0, if_kept (lost_above high) e.1)) xs) ≡ map {B = ℕ × PinState} (λ e. (e.0, if_kept (lost_above low) e.1)) xs

@@ -34,7 +34,7 @@ shows_ago ids w ring place keep next slots n p h =
 
 pub can_show : (ids : IdSize) (w : HeapState) (h : Held) → CanGive ids w h → CanShow w h
 can_show ids w (Kept place pin cursor given) c = c.0
-can_show ids w (Lost cause) c = tt
+can_show ids w (Lost place cause) c = tt
 
 -- the view of a pin that is found shows its image
 view_of : (m : Machine) (pin : ℕ) (h : Held) (v : PinShown) → pin_at pin m.pins ≡ Some (state_of m.trail.current h) → IsViewBeside m.ids m.trail.current h v → IsViewOf m pin v
@@ -43,12 +43,12 @@ view_of m pin (Kept place p cursor given) v found is = record {
   ids = ap (λ (v : PinShown). v.ids) is;
   image = (place, given, found ∙ ap (λ (v : PinShown). Some (KeptState place (pin_image v.pin v.state) given)) (sym is));
 }
-view_of m pin (Lost cause) v found is = absurd is
+view_of m pin (Lost place cause) v found is = absurd is
 
 lost_view : (m : Machine) (pin : ℕ) (h : Held) (e : Refusal) → pin_at pin m.pins ≡ Some (state_of m.trail.current h) → RefusesView h e → view_refusal (pin_at pin m.pins) ≡ Some e
 unfolding state_of view_refusal
 lost_view m pin (Kept place p cursor given) e found is = absurd is
-lost_view m pin (Lost cause) e found is = ap view_refusal found ∙ ap Some (sym is)
+lost_view m pin (Lost place cause) e found is = ap view_refusal found ∙ ap Some (sym is)
 
 -- what the view of a slot says, or its refusal, of the pin with the slot's number
 pub viewed : (m : Machine) (s : NumberedPin) (pin : ℕ) (r : Result PinShown Refusal) → pin_at s.number m.pins ≡ Some (state_of m.trail.current s.held) → s.number ≡ pin → IfOk r (λ v. IsViewBeside m.ids m.trail.current s.held v) → IfErr r (λ e. RefusesView s.held e)

@@ -8,10 +8,10 @@ use Rattle.heap_trail.specs.declared.listing.PinStatus.{PinStatus}
 use Rattle.heap_trail.specs.declared.listing.PinStatus.TheVariants as status
 use Rattle.heap_trail.specs.Pins.{PinState, Kept, Gone}
 
--- whether the pin is kept, with its place and the pieces given
+-- the place of the pin, and the pieces given or the cause of its loss
 unfoldable pub status_of : PinState → PinStatus
 status_of (Kept place image given) = status.Kept place given
-status_of (Gone cause) = status.Lost cause
+status_of (Gone place cause) = status.Lost place cause
 
 -- an open pin and its number
 unfoldable pub listed_pin : ℕ × PinState → ListedPin
@@ -20,7 +20,7 @@ listed_pin e = record { number = e.0; status = status_of e.1 }
 -- so it is told of a pin as it is kept
 unfoldable pub held_status : Held → PinStatus
 held_status (held.Kept place pin cursor given) = status.Kept place given
-held_status (held.Lost cause) = status.Lost cause
+held_status (held.Lost place cause) = status.Lost place cause
 
 -- and of its slot
 unfoldable pub listed_slot : NumberedPin → ListedPin

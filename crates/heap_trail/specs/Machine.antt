@@ -70,7 +70,7 @@ counted false pin m = m
 -- the next piece of a pin
 unfoldable pub after_piece : ℕ → ℕ → Machine → Option PinState → Machine × Reply
 after_piece pin time m None = (m, Refused NoPin)
-after_piece pin time m (Some (Gone cause)) = (m, Refused (Lost cause))
+after_piece pin time m (Some (Gone place cause)) = (m, Refused (Lost cause))
 after_piece pin time m (Some (Kept place image given)) = (
   counted (nat_lt given (length (pieces_of m.ids image time))) pin m,
   Part (piece_of m.ids image time given),

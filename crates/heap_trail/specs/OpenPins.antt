@@ -32,7 +32,7 @@ use Rattle.heap_trail.specs.Pins.{Kept as KeptState, Gone}
 -- the pin as the model sees it beside the current state
 unfoldable pub state_of : HeapState → Held → PinState
 state_of w (Kept place pin cursor given) = KeptState place (pin_image pin w) given
-state_of w (Lost cause) = Gone cause
+state_of w (Lost place cause) = Gone place cause
 
 -- all pins as the model sees them
 unfoldable pub pins_of : HeapState → ℕ → List NumberedPin → Pins
@@ -42,7 +42,7 @@ pins_of w next slots =
 -- the pin has a place for the copy of each of n regions, or it is lost
 abbrev pub IsSizedHeld : ℕ → Held → Type 0
 IsSizedHeld n (Kept place pin cursor given) = length pin.copies ≡ n
-IsSizedHeld n (Lost cause) = Unit {0}
+IsSizedHeld n (Lost place cause) = Unit {0}
 
 -- so has the pin of a slot
 abbrev pub IsSizedPin : ℕ → NumberedPin → Type 0
@@ -58,30 +58,35 @@ EachSized n (s ∷ slots) = IsSizedPin n s × EachSized n slots
 -- the pin once it has kept what the step that left this record overwrote; a lost one stays lost
 unfoldable pub held_kept : Undo → HeapState → Held → Held
 held_kept left v (Kept place pin cursor given) = Kept place (kept left v pin) cursor given
-held_kept left v (Lost cause) = Lost cause
+held_kept left v (Lost place cause) = Lost place cause
 
 -- whether the pin isn't lost
 unfoldable pub is_kept : Held → Bool
 is_kept (Kept place pin cursor given) = true
-is_kept (Lost cause) = false
+is_kept (Lost place cause) = false
 
 -- the slot once its pin has kept what the step overwrote
 abbrev pub slot_kept : Undo → HeapState → NumberedPin → NumberedPin
 slot_kept left v s = record s { held = held_kept left v s.held }
 
+-- the place of the pin
+unfoldable pub held_place : Held → ℕ
+held_place (Kept place pin cursor given) = place
+held_place (Lost place cause) = place
+
 -- the slot with its pin lost, for this cause
 abbrev pub slot_lost : LostCause → NumberedPin → NumberedPin
-slot_lost cause s = record s { held = Lost cause }
+slot_lost cause s = record s { held = Lost (held_place s.held) cause }
 
 -- the region is one of the heap's, unless the pin is lost
 abbrev pub IsRegionWithin : ℕ → Held → Type 0
 IsRegionWithin region (Kept place pin cursor given) = region < length pin.copies
-IsRegionWithin region (Lost cause) = Unit {0}
+IsRegionWithin region (Lost place cause) = Unit {0}
 
 -- whether a step that touches the region leaves the pin as it is: it has a copy of the region, or it is lost
 unfoldable pub is_settled : ℕ → Held → Bool
 is_settled region (Kept place pin cursor given) = is_some (slice_index_or pin.copies region None)
-is_settled region (Lost cause) = true
+is_settled region (Lost place cause) = true
 
 -- the step that left this record touched a region that the pin has no copy of
 abbrev pub NeedsCopy : Undo → Held → Type 0
@@ -99,8 +104,8 @@ MayKeep left v s t =
 -- the pin after a rewind to a place: it is lost if its own place is above
 unfoldable pub held_after_rewind : ℕ → Held → Held
 held_after_rewind to (Kept place pin cursor given) =
-    if nat_lt to place then Lost Rewound else Kept place pin cursor given
-held_after_rewind to (Lost cause) = Lost cause
+    if nat_lt to place then Lost place Rewound else Kept place pin cursor given
+held_after_rewind to (Lost place cause) = Lost place cause
 
 -- the slot after a rewind to a place
 abbrev pub slot_after_rewind : ℕ → NumberedPin → NumberedPin
@@ -121,7 +126,7 @@ IsGiven ids u cursor given = IsGivenOf ids (image_of u) (live_places u.regions) 
 abbrev pub HoldsAt : IdSize → List HeapState → ℕ → Held → Type 0
 HoldsAt ids states place (Kept at pin cursor given) =
     (u : HeapState) × (at ≤ place) × Holds pin u (place - at) states × IsGiven ids u cursor given
-HoldsAt ids states place (Lost cause) = Unit {0}
+HoldsAt ids states place (Lost at cause) = Unit {0}
 
 -- each of these has a number above n
 abbrev pub AreAbove : ℕ → List NumberedPin → Type 0
@@ -141,7 +146,7 @@ AreHeld ids states place next (s ∷ slots) =
 abbrev pub CanGive : IdSize → HeapState → Held → Type 0
 CanGive ids w (Kept place pin cursor given) =
     ShowsSome pin w × IsGivenOf ids (pin_image pin w) (places_from 0 pin.live) cursor given
-CanGive ids w (Lost cause) = Unit {0}
+CanGive ids w (Lost place cause) = Unit {0}
 
 -- the number of pieces given after one more; past the last, none is counted
 unfoldable pub given_after : ℕ → ℕ → ℕ
@@ -153,7 +158,7 @@ IsNextPiece ids w time (Kept place pin cursor given) piece next =
     let image = pin_image pin w in
     (piece ≡ piece_of ids image time given)
     × IsAt ids image (places_from 0 pin.live) next (given + 1)
-IsNextPiece ids w time (Lost cause) piece next = ⊥
+IsNextPiece ids w time (Lost place cause) piece next = ⊥
 
 -- whether the cursor is past the last piece
 abbrev pub is_past : Cursor → Bool
@@ -164,12 +169,12 @@ is_past cursor = false
 unfoldable pub held_advanced : Cursor → Held → Held
 held_advanced to (Kept place pin cursor given) =
     if is_past cursor then Kept place pin cursor given else Kept place pin to (given + 1)
-held_advanced to (Lost cause) = Lost cause
+held_advanced to (Lost place cause) = Lost place cause
 
 -- far fewer pieces were given than are counted
 abbrev pub MayCount : Held → Type 0
 MayCount (Kept place pin cursor given) = given ≤ piece_limit
-MayCount (Lost cause) = Unit {0}
+MayCount (Lost place cause) = Unit {0}
 
 -- the pin gave this piece, its next, and its cursor stands at the one after it
 abbrev pub HasGiven : IdSize → HeapState → ℕ → Piece → Held → Held → Type 0
@@ -178,12 +183,12 @@ HasGiven ids w time piece (Kept place pin cursor given) h =
     let more = given_after given (length (pieces_of ids image time)) in
     (piece ≡ piece_of ids image time given) × (next : Cursor) × (h ≡ Kept place pin next more)
     × IsGivenOf ids image (places_from 0 pin.live) next more
-HasGiven ids w time piece (Lost cause) h = ⊥
+HasGiven ids w time piece (Lost place cause) h = ⊥
 
 -- the refusal of a pin that gives no piece
 abbrev pub RefusesPiece : Held → Refusal → Type 0
 RefusesPiece (Kept place pin cursor given) e = e ≡ NoMemory
-RefusesPiece (Lost cause) e = e ≡ IsLost cause
+RefusesPiece (Lost place cause) e = e ≡ IsLost cause
 
 -- each pin keeps what it has to, or is lost
 abbrev pub EachMayKeep : Undo → HeapState → List NumberedPin → List NumberedPin → Type 0
@@ -195,7 +200,7 @@ EachMayKeep left v (s ∷ ss) (t ∷ ts) = MayKeep left v s t × EachMayKeep lef
 -- the pin is lost, or its place is below this
 abbrev pub AreBelow : ℕ → PinState → Type 0
 AreBelow place (KeptState at image given) = at < place
-AreBelow place (Gone cause) = Unit {0}
+AreBelow place (Gone at cause) = Unit {0}
 
 -- so it is with each pin of the list
 abbrev pub EachBelow : ℕ → List (ℕ × PinState) → Type 0

@@ -40,7 +40,7 @@ pub record IsViewOf (m : Machine) (pin : ℕ) (v : PinShown) : Type 0 where
 -- the reason why a pin shows nothing, if there is one
 unfoldable pub view_refusal : Option PinState → Option Refusal
 view_refusal None = Some NoPin
-view_refusal (Some (Gone cause)) = Some (IsLost cause)
+view_refusal (Some (Gone place cause)) = Some (IsLost cause)
 view_refusal (Some (KeptState place image given)) = None
 
 -- ---- one pin
@@ -48,14 +48,14 @@ view_refusal (Some (KeptState place image given)) = None
 -- a pin that isn't lost shows some state beside this one
 abbrev pub CanShow : HeapState → Held → Type 0
 CanShow w (Kept place pin cursor given) = ShowsSome pin w
-CanShow w (Lost cause) = Unit {0}
+CanShow w (Lost place cause) = Unit {0}
 
 -- the view is that of the pin beside this state
 abbrev pub IsViewBeside : IdSize → HeapState → Held → PinShown → Type 0
 IsViewBeside ids w (Kept place pin cursor given) v = v ≡ record { pin = pin; state = w; ids = ids }
-IsViewBeside ids w (Lost cause) v = ⊥
+IsViewBeside ids w (Lost place cause) v = ⊥
 
 -- the pin is lost by this refusal's cause
 abbrev pub RefusesView : Held → Refusal → Type 0
 RefusesView (Kept place pin cursor given) e = ⊥
-RefusesView (Lost cause) e = e ≡ IsLost cause
+RefusesView (Lost place cause) e = e ≡ IsLost cause

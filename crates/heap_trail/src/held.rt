@@ -5,7 +5,7 @@ ghost use Rattle.heap_world.specs.State.{HeapState};
 ghost use Rattle.heap_step.specs.declared.Event.{Event};
 ghost use Rattle.heap_step.specs.Laws.{IsStep};
 ghost use Rattle.heap_pins.specs.KeptCopies.{touched};
-ghost use Rattle.heap_trail.specs.OpenPins.{CanGive, HasGiven, IsNextPiece, IsSizedPin, IsRegionWithin, MayCount, MayKeep, NeedsCopy, RefusesPiece, held_advanced, is_settled, slot_after_rewind};
+ghost use Rattle.heap_trail.specs.OpenPins.{CanGive, HasGiven, IsNextPiece, IsSizedPin, IsRegionWithin, MayCount, MayKeep, NeedsCopy, RefusesPiece, held_advanced, is_settled, held_place, slot_after_rewind};
 ghost use Rattle.heap_trail.specs.Views.{CanShow, IsViewBeside, RefusesView};
 
 use heap_class::{IdSize, LostCause, Refusal};
@@ -25,8 +25,11 @@ pub(crate) enum Held {
         cursor: Cursor,
         given: u64,
     },
-    // A pin that is lost, for this cause.
-    Lost(LostCause),
+    // A pin on `place` that is lost, for this cause.
+    Lost {
+        place: u64,
+        cause: LostCause,
+    },
 }
 
 // An open pin with its number.
@@ -44,6 +47,17 @@ pub(crate) fn slot_of(pins: &[NumberedPin], number: u64) -> Option<usize>
 }
 
 impl NumberedPin {
+    // Returns the place of the pin.
+    #[tactic(auto, unfolding(crate::specs::OpenPins::held_place))]
+    fn place(&self) -> u64
+        ensures { result ≡ held_place self.now.held }
+    {
+        match &self.held {
+            Held::Kept { place, .. } => *place,
+            Held::Lost { place, .. } => *place,
+        }
+    }
+
     // Tells whether no write to a region matters to the pin: it has a copy of the region, or it is lost.
     #[inline(always)]
     #[tactic(auto, unfolding(crate::specs::OpenPins::is_settled))]
@@ -53,7 +67,7 @@ impl NumberedPin {
     {
         match &self.held {
             Held::Kept { pin, .. } => pin.has_copy(region),
-            Held::Lost(_) => true,
+            Held::Lost { .. } => true,
         }
     }
 
@@ -80,12 +94,16 @@ impl NumberedPin {
         requires needed { NeedsCopy left.now self.old.held }
         ensures { MayKeep left.now world.now self.old self.new }
     {
+        let place = self.place();
         let lost = match &mut self.held {
             Held::Kept { pin, .. } => pin.keep(world, left).is_err(),
-            Held::Lost(_) => false,
+            Held::Lost { .. } => false,
         };
         if lost {
-            self.held = Held::Lost(LostCause::Memory);
+            self.held = Held::Lost {
+                place,
+                cause: LostCause::Memory,
+            };
         }
     }
 
@@ -93,12 +111,16 @@ impl NumberedPin {
     pub(crate) fn rewind(&mut self, to: u64)
         ensures { self.new ≡ slot_after_rewind to self.old }
     {
+        let place = self.place();
         let lost = match &self.held {
-            Held::Kept { place, .. } => *place > to,
-            Held::Lost(_) => false,
+            Held::Kept { .. } => place > to,
+            Held::Lost { .. } => false,
         };
         if lost {
-            self.held = Held::Lost(LostCause::Rewound);
+            self.held = Held::Lost {
+                place,
+                cause: LostCause::Rewound,
+            };
         }
     }
 
@@ -110,7 +132,7 @@ impl NumberedPin {
     {
         match &self.held {
             Held::Kept { pin, .. } => Ok(PinView::new(pin, world, ids)),
-            Held::Lost(cause) => Err(Refusal::Lost { cause: *cause }),
+            Held::Lost { cause, .. } => Err(Refusal::Lost { cause: *cause }),
         }
     }
 
@@ -153,7 +175,7 @@ impl NumberedPin {
             Held::Kept { pin, cursor, .. } => {
                 piece_from(alloc, &PinView::new(pin, world, ids), *cursor, time)
             }
-            Held::Lost(cause) => Err(Refusal::Lost { cause: *cause }),
+            Held::Lost { cause, .. } => Err(Refusal::Lost { cause: *cause }),
         }
     }
 

@@ -7,16 +7,16 @@ use crate::Machine;
 use crate::held::{Held, NumberedPin};
 use heap_class::LostCause;
 
-/// Whether a pin is kept.
+/// The place of a pin, and whether it is kept.
 #[derive(Clone, Copy)]
 pub enum PinStatus {
     /// The pin shows the state at `place`, and `given` pieces of its dump were given.
     Kept { place: u64, given: u64 },
-    /// The pin is lost, for this cause.
-    Lost(LostCause),
+    /// The pin on `place` is lost, for this cause.
+    Lost { place: u64, cause: LostCause },
 }
 
-/// An open pin: its number and whether it is kept.
+/// An open pin: its number, its place, and whether it is kept.
 #[derive(Clone, Copy)]
 pub struct ListedPin {
     pub number: u64,
@@ -24,7 +24,7 @@ pub struct ListedPin {
 }
 
 impl NumberedPin {
-    // Tells the pin's number and whether it is kept.
+    // Tells the pin's number, its place, and whether it is kept.
     fn describe(&self) -> ListedPin
         ensures { result ≡ listed_slot self.now }
     {
@@ -33,7 +33,10 @@ impl NumberedPin {
                 place: *place,
                 given: *given,
             },
-            Held::Lost(cause) => PinStatus::Lost(*cause),
+            Held::Lost { place, cause } => PinStatus::Lost {
+                place: *place,
+                cause: *cause,
+            },
         };
         ListedPin {
             number: self.number,

@@ -46,7 +46,7 @@ gave pin time m m' p is = go (pin_at pin m.pins) refl is
       where
         clash : Refused Why.NoPin ≡ Part p → ⊥
         clash e = cc
-    go (Some (Gone cause)) here is = absurd (clash (ap (λ r. r.1) is))
+    go (Some (Gone place cause)) here is = absurd (clash (ap (λ r. r.1) is))
       where
         clash : Refused (Why.Lost cause) ≡ Part p → ⊥
         clash e = cc
@@ -100,12 +100,12 @@ refused pin time m m' e (inl is) = go (pin_at pin m.pins) is
       where
         why : Refused Why.NoPin ≡ Refused e → e ≡ Why.NoPin
         why e = cc
-    go (Some (Gone cause)) is = ap (λ w. may_lose (Some (Gone cause)) (cause_of w)) (why (ap (λ r. r.1) is)) ∙ own cause
+    go (Some (Gone place cause)) is = ap (λ w. may_lose (Some (Gone place cause)) (cause_of w)) (why (ap (λ r. r.1) is)) ∙ own cause
       where
         why : Refused (Why.Lost cause) ≡ Refused e → e ≡ Why.Lost cause
         why e = cc
 
-        own : (c : LostCause) → may_lose (Some (Gone c)) c ≡ true
+        own : (c : LostCause) → may_lose (Some (Gone place c)) c ≡ true
         own Rewound = refl
         own Memory = refl
         own Closed = refl
@@ -120,7 +120,7 @@ refused pin time m m' e (inr (stands, memory)) = go (pin_at pin m.pins) stands.1
       where
         clash : false ≡ true → ⊥
         clash e = cc
-    go (Some (Gone cause)) accepted = absurd (clash accepted)
+    go (Some (Gone place cause)) accepted = absurd (clash accepted)
       where
         clash : false ≡ true → ⊥
         clash e = cc

@@ -20,7 +20,7 @@ use Rattle.pin_dump.proofs.UngivenMachines.{ungiven_ids, zero_alike, zero_pieces
 
 none_handed : (ids : IdSize) (time first : ℕ) (s : Option PinState) → pieces_at ids time first 0 s ≡ []
 none_handed ids time first None = refl
-none_handed ids time first (Some (Gone cause)) = refl
+none_handed ids time first (Some (Gone place cause)) = refl
 none_handed ids time first (Some (Kept place image given)) = refl
 
 -- the same pieces, whatever the pin gave since

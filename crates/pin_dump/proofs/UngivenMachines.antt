@@ -56,7 +56,7 @@ at_ungiven pin m = at_each (zeroed pin) pin m.pins
 
 once : (pin n : ℕ) (s : PinState) → if_kept (zeroed pin n) (if_kept (raised pin n) s) ≡ if_kept (zeroed pin n) s
 unfolding if_kept
-once pin n (Gone cause) = refl
+once pin n (Gone place cause) = refl
 once pin n (Kept place image given) = go (n == pin)
   where
     go : (b : Bool) → Kept place image (if b then 0 else (if b then given + 1 else given)) ≡ Kept place image (if b then 0 else given)
@@ -84,13 +84,13 @@ zero_alike pin m n same = sym (at_ungiven pin n) ∙ ap (λ (k : Machine). pin_a
 pub zero_pieces : (pin : ℕ) (ids : IdSize) (time first count : ℕ) (s : Option PinState) → pieces_at ids time first count (zero_state pin s) ≡ pieces_at ids time first count s
 unfolding if_kept
 zero_pieces pin ids time first count None = refl
-zero_pieces pin ids time first count (Some (Gone cause)) = refl
+zero_pieces pin ids time first count (Some (Gone place cause)) = refl
 zero_pieces pin ids time first count (Some (Kept place image given)) = refl
 
 pub zero_lose : (pin : ℕ) (s : Option PinState) (cause : LostCause) → may_lose (zero_state pin s) cause ≡ may_lose s cause
 unfolding if_kept
 zero_lose pin None cause = refl
-zero_lose pin (Some (Gone c)) cause = refl
+zero_lose pin (Some (Gone place c)) cause = refl
 zero_lose pin (Some (Kept place image given)) cause = refl
 
 -- a pin that is open stays so
@@ -105,7 +105,7 @@ zero_some pin (Some y) x e = (y, refl)
 
 other_zeroed : (pin n : ℕ) (s : PinState) → (n == pin) ≡ false → if_kept (zeroed pin n) s ≡ s
 unfolding if_kept
-other_zeroed pin n (Gone cause) ne = refl
+other_zeroed pin n (Gone place cause) ne = refl
 other_zeroed pin n (Kept place image given) ne = ap (λ (b : Bool). Kept place image (if b then 0 else given)) ne
 
 others_zeroed : (pin : ℕ) (xs : List (ℕ × PinState)) → filter (λ (e : ℕ × PinState). not (e.0 == pin)) (map {B = ℕ × PinState} (changed (zeroed pin)) xs) ≡ filter (λ (e : ℕ × PinState). not (e.0 == pin)) xs

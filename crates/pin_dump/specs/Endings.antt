@@ -35,10 +35,10 @@ abbrev pub may_lose : Option PinState → LostCause → Bool
 may_lose None Closed = true
 may_lose None Rewound = false
 may_lose None Memory = false
-may_lose (Some (Gone Rewound)) Rewound = true
-may_lose (Some (Gone Memory)) Memory = true
-may_lose (Some (Gone Closed)) Closed = true
-may_lose (Some (Gone cause)) said = false
+may_lose (Some (Gone place Rewound)) Rewound = true
+may_lose (Some (Gone place Memory)) Memory = true
+may_lose (Some (Gone place Closed)) Closed = true
+may_lose (Some (Gone place cause)) said = false
 may_lose (Some (Kept place image given)) Memory = true
 may_lose (Some (Kept place image given)) Rewound = false
 may_lose (Some (Kept place image given)) Closed = false

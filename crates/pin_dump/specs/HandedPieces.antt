@@ -11,13 +11,13 @@ use Rattle.heap_trail.specs.Machine.{Machine}
 -- the number of pieces that a pin gave
 abbrev pub given_of : Option PinState → ℕ
 given_of None = 0
-given_of (Some (Gone cause)) = 0
+given_of (Some (Gone place cause)) = 0
 given_of (Some (Kept place image given)) = given
 
 -- `count` pieces of a pin's dump, from this number on
 abbrev pub pieces_at : IdSize → ℕ → ℕ → ℕ → Option PinState → List Piece
 pieces_at ids time first count None = []
-pieces_at ids time first count (Some (Gone cause)) = []
+pieces_at ids time first count (Some (Gone place cause)) = []
 pieces_at ids time first count (Some (Kept place image given)) =
     map (piece_of ids image time) (range_with_len first count)
 

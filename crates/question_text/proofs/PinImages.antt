@@ -19,7 +19,7 @@ use Rattle.question_text.specs.Moments.{IsRefusedAt, image_at, image_of_pin}
 pub no_image : (o : Option PinState) (e : Refusal) → view_refusal o ≡ Some e → image_of_pin o ≡ Err e
 unfolding view_refusal image_of_pin
 no_image None e h = cc
-no_image (Some (Gone cause)) e h = cc
+no_image (Some (Gone place cause)) e h = cc
 no_image (Some (Kept place image given)) e h = cc
 
 pub has_image : (m : Machine) (pin : ℕ) (v : PinShown) → IsViewOf m pin v → image_of_pin (pin_at pin m.pins) ≡ Ok (pin_image v.pin v.state)

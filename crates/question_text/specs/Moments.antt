@@ -23,7 +23,7 @@ use Rattle.question_text.specs.declared.at.Moment.TheVariants.{Own, Open}
 -- what an open pin shows, or the refusal of a dump of it
 unfoldable pub image_of_pin : Option PinState → Result Image Refusal
 image_of_pin None = Err NoPin
-image_of_pin (Some (Gone cause)) = Err (LostPin cause)
+image_of_pin (Some (Gone place cause)) = Err (LostPin cause)
 image_of_pin (Some (Kept place image given)) = Ok image
 
 -- the image that a question is about, or why there is none

@@ -9,10 +9,10 @@ use Rattle.session_text.specs.Replies.{and_number, cause_text, line}
 use Rattle.question_text.specs.Places.{IsTextOrNoMemory}
 use Rattle.question_text.specs.Referrers.{count_text}
 
--- a kept pin's place and the number of the pieces given, or why the pin is lost
+-- a pin's place, and the number of the pieces given or why the pin is lost
 unfoldable pub status_words : PinStatus → List ℕ
 status_words (Kept place given) = (and_number place ++ codes " held") ++ and_number given
-status_words (Lost cause) = codes " lost " ++ cause_text cause
+status_words (Lost place cause) = (and_number place ++ codes " lost ") ++ cause_text cause
 
 -- the line of an open pin
 unfoldable pub pin_text : ListedPin → List ℕ

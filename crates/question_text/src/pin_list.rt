@@ -12,7 +12,7 @@ use heap_trail::{ListedPin, Machine, PinStatus};
 use session_text::cause_word;
 use std::alloc::{AllocError, Global};
 
-// Appends a kept pin's place and the number of the pieces given, or why the pin is lost. Fails if an allocation fails.
+// Appends a pin's place, and the number of the pieces given or why the pin is lost. Fails if an allocation fails.
 #[tactic(auto, unfolding(crate::specs::PinLists::status_words))]
 fn push_status(text: &mut Vec<u8>, status: PinStatus) -> Result<(), AllocError>
     ensures { Appends (status_words status) text.old.items text.new.items result }
@@ -23,7 +23,8 @@ fn push_status(text: &mut Vec<u8>, status: PinStatus) -> Result<(), AllocError>
             push_words(text, b" held")?;
             push_number(text, given)
         }
-        PinStatus::Lost(cause) => {
+        PinStatus::Lost { place, cause } => {
+            push_number(text, place)?;
             push_words(text, b" lost ")?;
             push_words(text, cause_word(cause))
         }

@@ -7,7 +7,7 @@ use Rattle.heap_trail.proofs.held.NumberedPin.copy_region.Goals as goal
 pub returns-then-lost : goal.returns-then-lost
 returns-then-lost c = elim c.match-self.branch [
   | in-Kept w ↦ loses c.args.left.now c.args.world.now c.args.self.now c.match-self.self.number w.in-Kept.place w.in-Kept.pin w.in-Kept.cursor w.in-Kept.given (ap (λ (s : NumberedPin). s.number) w.self-is) w.in-Kept.is
-      c.requires.needed
+      c.requires.needed c.place-place.result c.place-place.ensures
   | in-Lost w ↦ is_clash c.match-self.lost w.lost-is c.if-lost.true
 ]
 
@@ -15,5 +15,5 @@ pub returns-else-lost : goal.returns-else-lost
 returns-else-lost c = elim c.match-self.branch [
   | in-Kept w ↦ keeps c.args.left.now c.args.world.now c.args.self.now c.match-self.self w.in-Kept.place w.in-Kept.pin w.keep.new.self w.in-Kept.cursor w.in-Kept.given w.self-is w.in-Kept.is
       (at_ok w.keep.result (sym w.is_err-lost.ensures.value ∙ sym w.lost-is ∙ c.if-lost.false) w.keep.ensures.kept)
-  | in-Lost w ↦ stays_lost c.args.left.now c.args.world.now c.args.self.now c.match-self.self w.in-Lost.field-0 w.self-is w.in-Lost.is
+  | in-Lost w ↦ stays_lost c.args.left.now c.args.world.now c.args.self.now c.match-self.self w.in-Lost.place w.in-Lost.cause w.self-is w.in-Lost.is
 ]

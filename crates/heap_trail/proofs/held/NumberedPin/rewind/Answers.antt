@@ -6,14 +6,14 @@ use Rattle.heap_trail.proofs.held.NumberedPin.rewind.Goals as goal
 
 pub returns-then-lost : goal.returns-then-lost
 returns-then-lost c = elim c.match-self.branch [
-  | in-Kept w ↦ above_lost c.args.self.now c.match-self.self.number c.args.to w.in-Kept.place w.in-Kept.pin w.in-Kept.cursor w.in-Kept.given (ap (λ (s : NumberedPin). s.number) w.self-is) w.in-Kept.is
+  | in-Kept w ↦ above_lost c.args.self.now c.match-self.self.number c.args.to w.in-Kept.place w.in-Kept.pin w.in-Kept.cursor w.in-Kept.given (ap (λ (s : NumberedPin). s.number) w.self-is) w.in-Kept.is c.place-place.result c.place-place.ensures
       (let t = sym w.lost-is ∙ c.if-lost.true in grind (arith, t))
   | in-Lost w ↦ is_clash c.match-self.lost w.lost-is c.if-lost.true
 ]
 
 pub returns-else-lost : goal.returns-else-lost
 returns-else-lost c = elim c.match-self.branch [
-  | in-Kept w ↦ below_stays c.args.self.now c.match-self.self c.args.to w.in-Kept.place w.in-Kept.pin w.in-Kept.cursor w.in-Kept.given w.self-is w.in-Kept.is
+  | in-Kept w ↦ below_stays c.args.self.now c.match-self.self c.args.to w.in-Kept.place w.in-Kept.pin w.in-Kept.cursor w.in-Kept.given w.self-is w.in-Kept.is c.place-place.result c.place-place.ensures
       (let t = sym w.lost-is ∙ c.if-lost.false in grind (arith, t))
-  | in-Lost w ↦ lost_stays c.args.self.now c.match-self.self c.args.to w.in-Lost.field-0 w.self-is w.in-Lost.is
+  | in-Lost w ↦ lost_stays c.args.self.now c.match-self.self c.args.to w.in-Lost.place w.in-Lost.cause w.self-is w.in-Lost.is
 ]

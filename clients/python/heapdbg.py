@@ -301,7 +301,7 @@ class Calls:
         return self.send(f"history {count}", rows)
 
     def pins(self) -> Any:
-        """Returns rows (pin, place, "held", pieces) or (pin, "lost", cause) of the open pins."""
+        """Returns rows (pin, place, "held", pieces) or (pin, place, "lost", cause) of the open pins."""
         return self.send("pins", rows)
 
     def collect(self) -> Any:

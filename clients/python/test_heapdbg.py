@@ -93,10 +93,10 @@ class Replies(unittest.TestCase):
         self.assertEqual(heap.writer.getvalue(), b"show - 0x10000000\ndropped 0x10000000\nborn 0x10000000\n")
 
     def test_classes_pins_and_collect(self):
-        lines = "row 0 Node - next:object v:long", "row 1 Nodes array", "ok 2", "row 1 3 held 2", "row 4 lost Rewound", "ok 2"
+        lines = "row 0 Node - next:object v:long", "row 1 Nodes array", "ok 2", "row 1 3 held 2", "row 4 9 lost Rewound", "ok 2"
         heap = canned(*lines, "ok condemned 3 swept 5")
         self.assertEqual(heap.classes("@3"), [(0, "Node", "-", "next:object", "v:long"), (1, "Nodes", "array")])
-        self.assertEqual(heap.pins(), [(1, 3, "held", 2), (4, "lost", "Rewound")])
+        self.assertEqual(heap.pins(), [(1, 3, "held", 2), (4, 9, "lost", "Rewound")])
         self.assertEqual(heap.collect(), Collected(condemned=3, swept=5))
         self.assertEqual(heap.writer.getvalue(), b"classes @3\npins\ncollect\n")
 

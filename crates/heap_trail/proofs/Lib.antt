@@ -6,6 +6,8 @@ pub mod RecordedPast
 pub mod RetainedStates
 pub mod SnapshotFindings
 pub mod ReachedObjects
+pub mod ReachedSteps
+pub mod KeptTrails
 pub mod MachineSteps
 pub mod RewoundMachines
 pub mod Back
@@ -19,6 +21,7 @@ pub mod ActionLists
 pub mod ClosedPins
 pub mod PastWalks
 pub mod ComputedExamples
+pub mod ComputedDumps
 pub mod Whole
 pub mod PinPieces
 pub mod PinSearch

@@ -7,6 +7,7 @@ use Rattle.heap_world.specs.State.{HeapState}
 use Rattle.heap_world.specs.Reach.{Reaches}
 use Rattle.heap_world.specs.Legal.{IsLegal, IsLive, NamesOne}
 use Rattle.heap_step.specs.declared.Event.{Event}
+use Rattle.heap_step.specs.declared.Event.TheVariants.{Finish, Sweep}
 use Rattle.heap_step.specs.Apply.{refusal_of, state_after}
 use Rattle.heap_step.specs.declared.Answer.{Answer}
 use Rattle.hprof_text.specs.declared.Piece.{Piece}
@@ -56,6 +57,18 @@ FindsSnapshot past v =
     (w : HeapState) → find (λ u. not (is_marking u.phase)) past ≡ Some w → (x : ℕ) (o : Object)
     → Reaches w x → object_of w.regions x ≡ Some o
     → NamesOne v (λ p. (p.kind ≡ o.kind) × (length p.words ≡ length o.words) × (p.live ≡ true)) x
+
+-- the event led from the trail's current state to v. If it is a sweep, it left what the registers reach as it was; if it is a
+-- finish, what they reach is live, and so is what they reached when the cycle began
+pub record KeepsReached (e : Event) (t : Trail) (v : HeapState) : Type 0 where
+  pub spares : (region : ℕ) → e ≡ Sweep region → SparesReached t.current v
+  pub live : e ≡ Finish → ReachesLive v
+  pub finds : e ≡ Finish → FindsSnapshot t.past v
+
+-- a legal trail is legal after all actions of the list
+abbrev pub KeepsTrail : Machine → List (Action × Allocation) → Type 0
+KeepsTrail m actions =
+    IsTrail m.keep m.trail → let n = machine_after m actions in IsTrail n.keep n.trail
 
 -- a dump leaves the trail as without it
 abbrev pub LeavesTrail : Machine → List (Action × Allocation) → Type 0

@@ -7,6 +7,7 @@ pub mod Laws
 pub mod Records
 pub mod Past
 pub mod Examples
+pub mod DumpExamples
 pub mod Functions
 pub mod Headline
 pub mod Views

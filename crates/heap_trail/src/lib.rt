@@ -17,7 +17,7 @@ ghost use Rattle.heap_trail.specs.declared.Action.TheVariants.{OpenPin, Step, Re
 ghost use Rattle.heap_trail.specs.declared.Reply.TheVariants.{Answered, Pinned, Place, Refused};
 ghost use Rattle.heap_trail.specs.Headline.{Headline};
 ghost use Rattle.heap_trail.specs.Limits.{pin_limit};
-ghost use Rattle.heap_trail.specs.Laws.{FindsSnapshot, IsTrail, GivesText, KeepsImage, DumpIsWhole, LeadsBack, LeavesTrail, ReachesLive, SparesReached};
+ghost use Rattle.heap_trail.specs.Laws.{FindsSnapshot, IsTrail, GivesText, KeepsImage, DumpIsWhole, KeepsReached, KeepsTrail, LeadsBack, LeavesTrail, ReachesLive, SparesReached};
 ghost use Rattle.heap_trail.specs.Machine.{IsSmall, Machine, Allocation, MayFail, MayReply, acted, opening_machine};
 ghost use Rattle.heap_trail.specs.OpenPins.{AreAllBelow, EachMayKeep, EachSized, slot_after_rewind};
 ghost use Rattle.heap_trail.specs.Records.{IsRemembered};
@@ -35,7 +35,7 @@ mod records;
 mod ring;
 mod views;
 
-pub use examples::worked_examples;
+pub use examples::{worked_dumps, worked_examples};
 use heap_class::{IdSize, Refusal};
 use heap_pins::touched_region;
 use heap_step::step::undo;
@@ -398,6 +398,19 @@ pub fn pins_keep_images()
 /// States that a step that is answered and then a rewind of one lead back to the state and the place before.
 pub fn step_leads_back()
     ensures { (m : Machine) (e : Event) (n : Machine) (a : Answer) → LeadsBack m e n a }
+{}
+
+/// States what each answered step of a machine whose trail is legal keeps, as `step` does: a sweep leaves each object that the
+/// registers reach as it was; after a finish all that they reach is live, and so is what they reached when the cycle began, if
+/// that state is still retained.
+pub fn steps_keep_reached()
+    ensures { (m : Machine) (e : Event) (n : Machine) (a : Answer) → IsTrail m.keep m.trail
+        → MayReply m (Step e) n (Answered a) → KeepsReached e m.trail n.trail.current }
+{}
+
+/// States that a legal trail is legal after every list of actions, so that `steps_keep_reached` speaks of each of its steps.
+pub fn trails_stay_legal()
+    ensures { (m : Machine) (actions : List (Action × Allocation)) → KeepsTrail m actions }
 {}
 
 /// States that nothing in the dump of a legal heap is cut off, whatever the size of identifiers.

@@ -18,8 +18,8 @@ pub record Writing (W : Type 0) : Type 0 where
   pub failures : ℕ
 
 -- the bytes of a ghost log
-abbrev pub bytes_of : List (ℕ × Unit {0}) → List ℕ
-bytes_of entries = map (λ e. e.0) entries
+abbrev pub log_bytes : List (ℕ × Unit {0}) → List ℕ
+log_bytes entries = map (λ e. e.0) entries
 
 -- the bytes that a writer told when its outlet was made, if any, and then those that were put out
 abbrev pub out_of : Option (List ℕ) → List ℕ → List ℕ

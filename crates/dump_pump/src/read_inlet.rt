@@ -21,7 +21,7 @@ pub struct ReadInlet<R: Read> {
 
 impl<R: Read> Model for ReadInlet<R> {
     ghost use Rattle.std.specs.Prelude.{length, map};
-    ghost use Rattle.dump_pump.specs.Outlets.{bytes_of};
+    ghost use Rattle.dump_pump.specs.Outlets.{log_bytes};
     ghost use Rattle.dump_pump.specs.Inlets.{InletState};
 
     ghost Value = { InletState R };
@@ -29,7 +29,7 @@ impl<R: Read> Model for ReadInlet<R> {
     ghost view = { λ i.
         record {
           reader = i.reader;
-          taken = bytes_of i.taken.items;
+          taken = log_bytes i.taken.items;
           reads = map (λ e. e.0) i.asked.items;
           failures = length i.failed.items;
         } };

@@ -26,7 +26,7 @@ pub struct WriteOutlet<W: Write> {
 impl<W: Write> Model for WriteOutlet<W> {
     ghost use Rattle.std.specs.Prelude.{length};
     ghost use Rattle.std.specs.Io.KnownBytes.{Appends};
-    ghost use Rattle.dump_pump.specs.Outlets.{Writing, bytes_of};
+    ghost use Rattle.dump_pump.specs.Outlets.{Writing, log_bytes};
 
     ghost Value = { Writing W };
 
@@ -34,12 +34,12 @@ impl<W: Write> Model for WriteOutlet<W> {
         record {
           writer = o.writer;
           held = W.contents o.start.value;
-          put = bytes_of o.written.items;
+          put = log_bytes o.written.items;
           failures = length o.failed.items;
         } };
 
     ghost invariant = { λ o. Appends (W.contents o.start.value) (W.contents o.writer)
-        (bytes_of o.written.items) };
+        (log_bytes o.written.items) };
 }
 
 impl<W: Write> WriteOutlet<W> {

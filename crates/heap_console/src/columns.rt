@@ -27,11 +27,11 @@ pub struct ColumnOutlet<O: Outlet + Drop> {
 
 impl<O: Outlet + Drop> Model for ColumnOutlet<O> {
     ghost use Rattle.std.specs.Prelude.{length};
-    ghost use Rattle.dump_pump.specs.Outlets.{Outgoing, bytes_of};
+    ghost use Rattle.dump_pump.specs.Outlets.{Outgoing, log_bytes};
 
     ghost Value = { Outgoing };
 
-    ghost view = { λ o. record { out = bytes_of o.put.items; failures = length o.failed.items } };
+    ghost view = { λ o. record { out = log_bytes o.put.items; failures = length o.failed.items } };
 }
 
 // The width of each column of some rows.

@@ -13,11 +13,11 @@ pub(crate) struct Discard {
 
 impl Model for Discard {
     ghost use Rattle.std.specs.Prelude.{ℕ, List};
-    ghost use Rattle.dump_pump.specs.Outlets.{bytes_of};
+    ghost use Rattle.dump_pump.specs.Outlets.{log_bytes};
 
     ghost Value = { List ℕ };
 
-    ghost view = { λ d. bytes_of d.put.items };
+    ghost view = { λ d. log_bytes d.put.items };
 }
 
 impl Discard {

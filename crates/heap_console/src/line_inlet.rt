@@ -30,14 +30,14 @@ pub(crate) struct LineInlet<'a, F: Read + Drop, R> {
 
 impl<'a, F: Read + Drop, R> Model for LineInlet<'a, F, R> {
     ghost use Rattle.std.specs.Prelude.{None, length, map};
-    ghost use Rattle.dump_pump.specs.Outlets.{bytes_of};
+    ghost use Rattle.dump_pump.specs.Outlets.{log_bytes};
     ghost use Rattle.dump_pump.specs.Inlets.{Incoming};
 
     ghost Value = { Incoming };
 
     ghost view = { λ i.
         record {
-          taken = bytes_of i.taken.items;
+          taken = log_bytes i.taken.items;
           left = None;
           reads = map (λ e. e.0) i.asked.items;
           failures = length i.failed.items;

@@ -54,9 +54,9 @@ impl Chronicle {
         requires place { machine.old.trail.place ≤ length self.old.entries }
         ensures moves { IfOk result (λ o. Enters machine.old action.now machine.new o) }
         ensures room { OnOk result
-            ((0 < self.new.room)
-            × (length self.new.entries < entry_limit self.new.rolls)) }
-        ensures entries { (self.new.entries ≡ self.old.entries) × (self.new.rolls ≡ self.old.rolls) }
+            ((0 < self.new.room) × (length self.new.entries < entry_limit self.new.rolls)) }
+        ensures entries { (self.new.entries ≡ self.old.entries)
+            × (self.new.rolls ≡ self.old.rolls) }
         ensures refused { IfErr result (λ e. IsNotEntered e self.old self.new) }
         ensures unchanged { OnErr result (machine.new ≡ machine.old) }
     {

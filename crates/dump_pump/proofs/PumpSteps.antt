@@ -5,7 +5,6 @@ use Rattle.std.proofs.Math.Seq.{take-add}
 use Rattle.hprof_text.specs.declared.Piece.{Piece}
 use Rattle.dump_pump.specs.declared.source.Ending.{Ending}
 use Rattle.dump_pump.specs.declared.transfer.Pumped.{Pumped}
-use Rattle.dump_pump.specs.declared.transfer.Pumped.TheVariants as Pumped
 use Rattle.dump_pump.specs.Outlets.{Outgoing}
 use Rattle.dump_pump.specs.Sources.{Supply, more, part_size_limit}
 use Rattle.dump_pump.specs.Pumps.{joined, ends, FitsPump, IsPumped, PumpsOn}

@@ -17,7 +17,7 @@ BAD_LINES = [
     *(b"class A 99 x:foo", b"class A 99 x:int", b"class A - x:Int", b"class a:b -", b"class - -", b"class A+ -", b"array", b"array A B"),
     *(b"array a:b", b"array -", b"newprim 0 0 Long 3", b"newprim 0 0 object 3", b"newprim 0 0 3 long", b"newprim 0 0 long", b"new 0 0"),
     *(b"newarray 0 0 0", b"snap 0", b"mark -", b"drain drain", b"finish 1", b"sweep", b"sweep -", b"sweep 0 0", b"rewind", b"rewind -"),
-    *(b"open", b"open x", b"open 0 0", b"piece", b"piece -", b"piece 1 0", b"dump", b"dump x", b"dump - -", b"close", b"close -", b"end 0"),
+    *(b"open", b"open x", b"open 0 0", b"open @", b"open @-", b"open @@0", b"open 0@", b"dump @0", b"close @1", b"rewind @0", b"piece", b"piece -", b"piece 1 0", b"dump", b"dump x", b"dump - -", b"close", b"close -", b"end 0"),
     *(b"END", b"e", b"en", b"ends", b"mark\r0", b"ma\rrk", b"a" * 4096, b"clear 0 0" + b" " * 4087, b"sweep " + b"1" * 4090),
 ]
 
@@ -254,7 +254,7 @@ class Draw:
             place = lots.pick([max(0, oldest - 1), machine.place + 1, lots.near(0, 100)])
         elif machine.pins and lots.once_in(2):
             place = lots.pick(list(machine.pins.values())).place
-        return self.say("open", lots.pick(["-", place, place, place]))
+        return self.say("open", lots.pick(["-", place, place, f"@{place}"]))
 
     def pin(self):
         """Returns the number of a pin, mostly of an open one."""

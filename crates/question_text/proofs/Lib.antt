@@ -12,5 +12,6 @@ pub mod FieldNames
 pub mod FieldRows
 pub mod NamedObjects
 pub mod PinRows
+pub mod WaitingRegions
 pub mod CycleSteps
 pub mod KeptPins

@@ -141,7 +141,7 @@ def of_arrays(name, kind, code, width, lengths, bodies, total):
 
 
 def of_points(name, ids, opening, klass, values, counts, total):
-    """Returns the case of 2,000 points in one register and a dump. `counts` tells how many points each segment has."""
+    """Returns the case of 2,000 points in one register and a dump, with the points of `counts` in its segments."""
     points = [0x10000000 + 0x20 * index for index in range(2000)]
     answers = "ok class 0\n" + "".join(f"ok object 0x{point:08x}\n" for point in points)
     bodies, at = [], 0

@@ -1,4 +1,4 @@
-"""Random sessions with questions among their lines."""
+"""Sessions at random with questions among their lines."""
 from draws import Draw
 from heap import FIRST_OBJECT, REGION_WORDS
 from questions import FORMS, QUESTIONS, Asking
@@ -27,7 +27,7 @@ LEAST = 3
 
 
 class AskingDraw(Draw):
-    """A random session, a third of whose lines are questions."""
+    """A session at random, a third of whose lines are questions."""
 
     def __init__(self, seed, **settings):
         super().__init__(seed, **settings)

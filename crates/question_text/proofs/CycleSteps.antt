@@ -15,7 +15,7 @@ use Rattle.heap_mark.proofs.Calls.{snap_free, mark_free, drain_free}
 use Rattle.heap_mark.proofs.Finishes.{finish_free, pending_number}
 use Rattle.heap_world.specs.Events.{after_snap, after_mark, after_drain, after_finish, after_sweep}
 use Rattle.heap_world.specs.Live.{cells_of}
-use Rattle.heap_world.specs.Regions.{Region, UsedRegion, used_at}
+use Rattle.heap_world.specs.Regions.{UsedRegion, used_at}
 use Rattle.heap_world.specs.Legal.{IsLegal}
 use Rattle.heap_world.specs.State.{HeapState, marking_of, pool_of}
 use Rattle.heap_world.specs.Sweep.{dead_at, sweep_refusal}
@@ -384,3 +384,42 @@ runs_cycle D m n (Err e) whole refused = refused
 -- the answer about a whole cycle
 pub cycle_told : (cycle : Result CycleCounts Refusal) (c : CycleCounts) (text : List ℕ) → cycle ≡ Ok c → IsTextOrNoMemory (λ text. text ≡ collected_text c.condemned c.swept) text → IsCycleAnswer cycle text
 cycle_told cycle c text is h = subst (λ (x : Result CycleCounts Refusal). IsCycleAnswer x text) (sym is) h
+
+-- ---- one list of steps
+
+abbrev pub now : Machine → HeapState
+now m = m.trail.current
+
+same_steps : (b c d : Bool) (m k n l : Machine) (xs ys : List TakenStep) → now m ≡ now k → AreNext b m xs c n → AreNext b k ys d l → next_step c (now n) ≡ None → next_step d (now l) ≡ None → (xs ≡ ys) × (now n ≡ now l)
+same_steps b c d m k n l [] [] same h j hn jn = (refl, ap now h.1 ∙ same ∙ sym (ap now j.1))
+same_steps b c d m k n l [] (y ∷ ys) same h j hn jn =
+    let there : next_step c (now n) ≡ next_step b (now k) = ap₂ next_step h.0 (ap now h.1 ∙ same) in
+    let clash : None ≡ Some y.0 = sym hn ∙ there ∙ j.0 in
+    absurd (cc clash)
+same_steps b c d m k n l (x ∷ xs) [] same h j hn jn =
+    let there : next_step d (now l) ≡ next_step b (now m) = ap₂ next_step j.0 (ap now j.1 ∙ sym same) in
+    let clash : None ≡ Some x.0 = sym jn ∙ there ∙ h.0 in
+    absurd (cc clash)
+same_steps b c d m k n l (x ∷ xs) (y ∷ ys) same h j hn jn =
+    let both : Some x.0 ≡ Some y.0 = sym h.0 ∙ ap (next_step b) same ∙ j.0 in
+    let event : x.0 ≡ y.0 = cc both in
+    let t = taken m h.1.0 x.0 x.1 h.1.1 in
+    let u = taken k j.1.0 y.0 y.1 j.1.1 in
+    let answer : x.1 ≡ y.1 = t.answer ∙ ap₂ (λ (e : Event) (w : HeapState). answer_of e w (state_after e w)) event same ∙ sym u.answer in
+    let state : now h.1.0 ≡ now j.1.0 = t.state ∙ ap₂ state_after event same ∙ sym u.state in
+    let others = subst (λ (e : Event). AreNext (ends_cycle e || b) h.1.0 xs c n) event h.1.2 in
+    let rest = same_steps (ends_cycle y.0 || b) c d h.1.0 j.1.0 n l xs ys state others j.1.2 hn jn in
+    (λ i. (event i, answer i) ∷ rest.0 i, rest.1)
+
+none_next : (w : HeapState) → pending_regions w.regions ≡ [] → next_step true w ≡ None
+unfolding next_step
+none_next w h = ap (λ (p : List ℕ). option_map_or (λ r. Some (Sweep r)) (slice_get p 0) None) h
+
+-- from one state two whole cycles do the same
+pub one_cycle : (m k n l : Machine) (condemned swept others removed : ℕ) → now m ≡ now k → IsWholeCycle m condemned swept n → IsWholeCycle k others removed l → (condemned ≡ others) × (swept ≡ removed) × (now n ≡ now l)
+one_cycle m k n l condemned swept others removed same h j =
+    let s = same_steps false true true m k n l h.0.0 j.0.0 same h.0.1 j.0.1 (none_next (now n) h.1.1) (none_next (now l) j.1.1) in (
+      h.0.2 ∙ ap (λ (steps : List TakenStep). sum_by (λ (z : TakenStep). condemned_of z.1) steps) s.0 ∙ sym j.0.2,
+      h.0.3 ∙ ap (λ (steps : List TakenStep). sum_by (λ (z : TakenStep). swept_of z.1) steps) s.0 ∙ sym j.0.3,
+      s.1,
+    )

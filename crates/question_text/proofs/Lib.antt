@@ -15,3 +15,4 @@ pub mod PinRows
 pub mod WaitingRegions
 pub mod CycleSteps
 pub mod KeptPins
+pub mod QuestionsLeftOut
